@@ -1,0 +1,157 @@
+-- What is written as a header is read as it, and what is read as a header was written so.
+use Rattle.std.proofs.Common.{◌≡◌, ℕ, suc, ◌+◌, ◌*◌, ◌/◌, ◌%◌, ◌^◌, ◌<◌, ◌≤◌, inl, inr, List, [], ◌∷◌, ◌++◌, append-nil, length, get_or, drop, take, Some, None, true, false, Bool, refl, sym, ap, subst, ◌∙◌, arith, bit_and}
+use Rattle.std.specs.Prelude.{nat_le, All, if◌then◌else◌, ◌&&◌, ◌==◌}
+use Rattle.std.specs.Int.Bits.{and_zero_r}
+use Rattle.std.proofs.lemmas.Bool.{le-leb, cases_lt}
+use Rattle.std.specs.Int.{w16, w32, to_be_bytes, from_be_bytes}
+use Rattle.std.proofs.Math.Seq.{drop-cons, take-add}
+use Rattle.std.proofs.lemmas.List.Elements.{All-get_or, All-take, All-drop}
+use Rattle.std.proofs.lemmas.List.{get_or_past}
+use Rattle.std.proofs.Math.ListN.{drop_of_length-le}
+use Rattle.std.proofs.lemmas.Nat.{and_block, div-mul-add, from_be_bytes-to_be_bytes_2, from_be_bytes-to_be_bytes_4, be_bytes_2, be_bytes_4}
+use Rattle.aoe_frame.specs.declared.header.Header.{Header}
+use Rattle.aoe_frame.specs.Header.{Fits, IsFlags, fields, head, header_bytes}
+
+-- a list of six is its six elements
+six-is : (l : List ℕ) → length l ≡ 6 → l ≡ get_or l 0 0 ∷ get_or l 1 0 ∷ get_or l 2 0 ∷ get_or l 3 0 ∷ get_or l 4 0 ∷ get_or l 5 0 ∷ []
+six-is l h =
+    drop-cons l 0 0 (omega arith)
+    ∙ ap (λ (t : List ℕ). get_or l 0 0 ∷ t) (drop-cons l 1 0 (omega arith)
+    ∙ ap (λ (t : List ℕ). get_or l 1 0 ∷ t) (drop-cons l 2 0 (omega arith)
+    ∙ ap (λ (t : List ℕ). get_or l 2 0 ∷ t) (drop-cons l 3 0 (omega arith)
+    ∙ ap (λ (t : List ℕ). get_or l 3 0 ∷ t) (drop-cons l 4 0 (omega arith)
+    ∙ ap (λ (t : List ℕ). get_or l 4 0 ∷ t) (drop-cons l 5 0 (omega arith)
+    ∙ ap (λ (t : List ℕ). get_or l 5 0 ∷ t) (drop_of_length-le l {i = 6} (omega arith)))))))
+
+-- a flag comes back from the byte that it shares with the version
+flags-back : (v f : ℕ) → IsFlags f → bit_and (v * 16 + f) 12 ≡ f
+flags-back v f h =
+    let below : f < 2 ^ 4 = elim h [ inl e ↦ omega arith | inr (inl e) ↦ omega arith | inr (inr (inl e)) ↦ omega arith | inr (inr (inr e)) ↦ omega arith ] in
+    let split : bit_and (v * 16 + f) 12 ≡ bit_and v 0 * 16 + bit_and f 12 = and_block 4 v 0 f 12 below (omega arith) in
+    let front : bit_and v 0 ≡ 0 = and_zero_r v in
+    let back : bit_and f 12 ≡ f = elim h [ inl e ↦ rw e refl | inr (inl e) ↦ rw e refl | inr (inr (inl e)) ↦ rw e refl | inr (inr (inr e)) ↦ rw e refl ] in
+    split ∙ rw (front, back) (omega arith)
+
+-- a header of which each byte of an address is named
+header_of : (a0 a1 a2 a3 a4 a5 b0 b1 b2 b3 b4 b5 v f e major minor command tag : ℕ) → Header
+header_of a0 a1 a2 a3 a4 a5 b0 b1 b2 b3 b4 b5 v f e major minor command tag = record {
+  dst = record { 0 = a0 ∷ a1 ∷ a2 ∷ a3 ∷ a4 ∷ a5 ∷ [] };
+  src = record { 0 = b0 ∷ b1 ∷ b2 ∷ b3 ∷ b4 ∷ b5 ∷ [] };
+  version = v;
+  flags = f;
+  error = e;
+  id = record { major = major; minor = minor };
+  command = command;
+  tag = tag;
+}
+
+spelled : (a0 a1 a2 a3 a4 a5 b0 b1 b2 b3 b4 b5 v f e major minor command tag : ℕ) (rest : List ℕ)
+    → v < 16 → IsFlags f → major < 65536 → tag < 4294967296
+    → head (header_bytes (header_of a0 a1 a2 a3 a4 a5 b0 b1 b2 b3 b4 b5 v f e major minor command tag) ++ rest) ≡ Some (header_of a0 a1 a2 a3 a4 a5 b0 b1 b2 b3 b4 b5 v f e major minor command tag)
+unfolding header_of
+spelled a0 a1 a2 a3 a4 a5 b0 b1 b2 b3 b4 b5 v f e major minor command tag rest sv sf sm st =
+    let h : Header = header_of a0 a1 a2 a3 a4 a5 b0 b1 b2 b3 b4 b5 v f e major minor command tag in
+    let below : f < 16 = elim sf [ inl e ↦ omega arith | inr (inl e) ↦ omega arith | inr (inr (inl e)) ↦ omega arith | inr (inr (inr e)) ↦ omega arith ] in
+    let long : nat_le 24 (length (header_bytes h ++ rest)) ≡ true = le-leb 24 (length (header_bytes h ++ rest)) (omega arith) in
+    let version-back : (v * 16 + f) / 16 ≡ v = div-mul-add v 16 f below in
+    let flags-same = flags-back v f sf in
+    let major-back = from_be_bytes-to_be_bytes_2 major sm in
+    let tag-back = from_be_bytes-to_be_bytes_4 tag st in
+    rw (long, version-back, flags-same, major-back, tag-back) refl
+
+pub head-header_bytes : (h : Header) (rest : List ℕ) → Fits h → head (header_bytes h ++ rest) ≡ Some h
+unfolding header_of
+head-header_bytes h rest fits =
+    let same = spelled (get_or h.dst.0 0 0) (get_or h.dst.0 1 0) (get_or h.dst.0 2 0) (get_or h.dst.0 3 0) (get_or h.dst.0 4 0) (get_or h.dst.0 5 0)
+    (get_or h.src.0 0 0) (get_or h.src.0 1 0) (get_or h.src.0 2 0) (get_or h.src.0 3 0) (get_or h.src.0 4 0) (get_or h.src.0 5 0)
+    h.version h.flags h.error h.id.major h.id.minor h.command h.tag rest fits.version fits.flags fits.major fits.tag in
+    let P : List ℕ → List ℕ → Type 0 = λ d s. head (header_bytes (record h { dst = record { 0 = d }; src = record { 0 = s } }) ++ rest) ≡ Some (record h { dst = record { 0 = d }; src = record { 0 = s } }) in
+    subst (λ (d : List ℕ). P d h.src.0) (sym (six-is h.dst.0 fits.dst)) (subst (λ (s : List ℕ). P (get_or h.dst.0 0 0 ∷ get_or h.dst.0 1 0 ∷ get_or h.dst.0 2 0 ∷ get_or h.dst.0 3 0 ∷ get_or h.dst.0 4 0 ∷ get_or h.dst.0 5 0 ∷ []) s) (sym (six-is h.src.0 fits.src)) same)
+
+pub head-spelled : (h : Header) (f : List ℕ) → f ≡ header_bytes h → Fits h → head f ≡ Some h
+head-spelled h f e fits = let P : List ℕ → Type 0 = λ g. head g ≡ Some h in subst P (append-nil (header_bytes h) ∙ sym e) (head-header_bytes h [] fits)
+
+-- what a frame that is read as a header has
+record Read (h : Header) (f : List ℕ) : Type 0 where
+  long : 24 ≤ length f
+  first : get_or f 12 0 ≡ 136
+  second : get_or f 13 0 ≡ 162
+  same : fields f ≡ h
+
+read : (h : Header) (f : List ℕ) → head f ≡ Some h → Read h f
+read h f is =
+    let P : Bool → Type 0 = λ b. (if b then Some (fields f) else None) ≡ Some h → b ≡ true in
+    let tests : nat_le 24 (length f) && (get_or f 12 0 == 136) && (get_or f 13 0 == 162) ≡ true =
+    elim (nat_le 24 (length f) && (get_or f 12 0 == 136) && (get_or f 13 0 == 162)) as P [ true ↦ λ _. refl | false ↦ λ e. cc ] is in
+    let Q : Bool → Type 0 = λ b. (if b then Some (fields f) else None) ≡ Some h in
+    let some : Some (fields f) ≡ Some h = subst Q tests is in
+    let the_fields : fields f ≡ h = cc in
+    record { long = grind arith; first = grind arith; second = grind arith; same = the_fields }
+
+two-at : (f : List ℕ) (k : ℕ) → suc k < length f → take 2 (drop k f) ≡ get_or f k 0 ∷ get_or f (suc k) 0 ∷ []
+two-at f k inside = let before : k < length f = omega arith in rw (drop-cons f k 0 before, drop-cons f (suc k) 0 inside) refl
+
+four-at : (f : List ℕ) (k : ℕ) → suc (suc (suc k)) < length f → take 4 (drop k f) ≡ get_or f k 0 ∷ get_or f (suc k) 0 ∷ get_or f (suc (suc k)) 0 ∷ get_or f (suc (suc (suc k))) 0 ∷ []
+four-at f k inside =
+    let zeroth : k < length f = omega arith in
+    let first : suc k < length f = omega arith in
+    let second : suc (suc k) < length f = omega arith in
+    rw (drop-cons f k 0 zeroth, drop-cons f (suc k) 0 first, drop-cons f (suc (suc k)) 0 second, drop-cons f (suc (suc (suc k))) 0 inside) refl
+
+-- each element of a part of a list is small where all of the list are
+part-small : (f : List ℕ) (n k : ℕ) → All (λ b. b < 2 ^ 8) f → (i : ℕ) → get_or (take n (drop k f)) i 0 < 256
+part-small f n k small i =
+    let part : List ℕ = take n (drop k f) in
+    elim (cases_lt i (length part)) [
+      | inl inside ↦ All-get_or (λ b. b < 2 ^ 8) part i 0 inside (All-take (λ b. b < 2 ^ 8) n (drop k f) (All-drop (λ b. b < 2 ^ 8) k f small))
+      | inr past ↦ rw (get_or_past part i 0 past) (omega arith)
+    ]
+
+four-multiples : (f : ℕ) → f < 16 → f % 4 ≡ 0 → IsFlags f
+four-multiples f low clear =
+    elim (cases_lt f 4) [
+      | inl first ↦ inl (omega arith)
+      | inr four ↦ elim (cases_lt f 8) [
+        | inl second ↦ inr (inl (omega arith))
+        | inr eight ↦ elim (cases_lt f 12) [ inl third ↦ inr (inr (inl (omega arith))) | inr fourth ↦ inr (inr (inr (omega arith))) ]
+      ]
+    ]
+
+-- the byte of version and flags, without reserved flags
+shared-byte : (b : ℕ) → b % 4 ≡ 0 → b / 16 * 16 + bit_and b 12 ≡ b
+shared-byte b clear =
+    let flags : IsFlags (b % 16) = four-multiples (b % 16) (omega arith) (omega arith) in
+    let whole : b / 16 * 16 + b % 16 ≡ b = omega arith in
+    let P : ℕ → Type 0 = λ n. bit_and n 12 ≡ b % 16 in
+    let back : bit_and b 12 ≡ b % 16 = subst P whole (flags-back (b / 16) (b % 16) flags) in
+    rw back whole
+
+-- pieces of a list that are other words for others
+joined : (a b t t' g g' m m' n n' u u' x : List ℕ) → x ≡ a ++ b ++ t ++ g ++ m ++ n ++ u → t ≡ t' → g ≡ g' → m ≡ m' → n ≡ n' → u ≡ u' → x ≡ a ++ b ++ t' ++ g' ++ m' ++ n' ++ u'
+joined a b t t' g g' m m' n n' u u' x split t_is g_is m_is n_is u_is = cc
+
+-- the pieces of the first 24 bytes
+pieces : (f : List ℕ) → take 24 f ≡ take 6 f ++ take 6 (drop 6 f) ++ take 2 (drop 12 f) ++ take 2 (drop 14 f) ++ take 2 (drop 16 f) ++ take 2 (drop 18 f) ++ take 4 (drop 20 f)
+pieces f =
+    let twelve : take 12 f ≡ take 6 f ++ take 6 (drop 6 f) = take-add 6 6 f in
+    let fourteen : take 14 f ≡ take 12 f ++ take 2 (drop 12 f) = take-add 12 2 f in
+    let sixteen : take 16 f ≡ take 14 f ++ take 2 (drop 14 f) = take-add 14 2 f in
+    let eighteen : take 18 f ≡ take 16 f ++ take 2 (drop 16 f) = take-add 16 2 f in
+    let twenty : take 20 f ≡ take 18 f ++ take 2 (drop 18 f) = take-add 18 2 f in
+    let all : take 24 f ≡ take 20 f ++ take 4 (drop 20 f) = take-add 20 4 f in
+    cc
+
+pub one-spelling : (h : Header) (f : List ℕ) → All (λ b. b < 2 ^ 8) f → get_or f 14 0 % 4 ≡ 0 → head f ≡ Some h → take 24 f ≡ header_bytes h
+one-spelling h f small clear is =
+    let r = read h f is in
+    let P : Header → Type 0 = λ g. take 24 f ≡ header_bytes g in
+    let long : 24 ≤ length f = r.long in
+    let type_is : take 2 (drop 12 f) ≡ 136 ∷ 162 ∷ [] = two-at f 12 (omega arith) ∙ (rw (r.first, r.second) refl) in
+    let flags_are : take 2 (drop 14 f) ≡ (get_or f 14 0 / 16 * 16 + bit_and (get_or f 14 0) 12) ∷ get_or f 15 0 ∷ [] = two-at f 14 (omega arith) ∙ (rw (shared-byte (get_or f 14 0) clear) refl) in
+    let two : length (take 2 (drop 16 f)) ≡ 2 = ap length (two-at f 16 (omega arith)) in
+    let four : length (take 4 (drop 20 f)) ≡ 4 = ap length (four-at f 20 (omega arith)) in
+    let major_is : to_be_bytes w16 (from_be_bytes w16 (take 2 (drop 16 f))) ≡ take 2 (drop 16 f) = be_bytes_2 (take 2 (drop 16 f)) (from_be_bytes w16 (take 2 (drop 16 f))) two (part-small f 2 16 small) refl in
+    let tag_is : to_be_bytes w32 (from_be_bytes w32 (take 4 (drop 20 f))) ≡ take 4 (drop 20 f) = be_bytes_4 (take 4 (drop 20 f)) (from_be_bytes w32 (take 4 (drop 20 f))) four (part-small f 4 20 small) refl in
+    let minor_is : take 2 (drop 18 f) ≡ get_or f 18 0 ∷ get_or f 19 0 ∷ [] = two-at f 18 (omega arith) in
+    subst P r.same (joined (take 6 f) (take 6 (drop 6 f)) (take 2 (drop 12 f)) _ (take 2 (drop 14 f)) _ (take 2 (drop 16 f)) _ (take 2 (drop 18 f)) _ (take 4 (drop 20 f)) _ (take 24 f)
+    (pieces f) type_is flags_are (sym major_is) minor_is (sym tag_is))

@@ -1,0 +1,139 @@
+//! The header of a frame (AoEr11, "Common AoE header").
+ghost use Rattle.aoe_frame.specs.declared.header.Header.{Header};
+ghost use Rattle.std.specs.Prelude.{List, ℕ, ◌≡◌, ◌+◌, ◌%◌, ◌^◌, ◌<◌, ◌≤◌, ◌++◌, All, length, slice_index, slice_range, take};
+ghost use Rattle.aoe_frame.specs.Header.{head, header_bytes, reply_header, Fits, IsFlags};
+
+use crate::Frame;
+use crate::frame::append;
+use aoe_base::{Mac, TargetId};
+
+/// The EtherType of AoE.
+pub const AOE_TYPE: [u8; 2] = [0x88, 0xa2];
+
+/// How many bytes the header has.
+pub const HEADER_LEN: usize = 24;
+
+/// The flag of a response.
+pub const RESPONSE_FLAG: u8 = 0x8;
+
+/// The flag of a response that bears an error.
+pub const ERROR_FLAG: u8 = 0x4;
+
+/// What the first 24 bytes of a frame say.
+///
+/// | Offset | Size | Field |
+/// |---|---|---|
+/// | 0 | 6 | destination |
+/// | 6 | 6 | source |
+/// | 12 | 2 | type, 0x88A2 |
+/// | 14 | 1 | version (high 4 bits), flags (low 4 bits, of which two are reserved) |
+/// | 15 | 1 | error |
+/// | 16 | 2 | major |
+/// | 18 | 1 | minor |
+/// | 19 | 1 | command |
+/// | 20 | 4 | tag |
+///
+/// Numbers of several bytes have the greatest first.
+#[derive(Clone, Copy, Debug, PartialEq, Eq)]
+pub struct Header {
+    pub dst: Mac,
+    pub src: Mac,
+    pub version: u8,
+    pub flags: u8,
+    pub error: u8,
+    pub id: TargetId,
+    pub command: u8,
+    pub tag: u32,
+}
+
+/// The `N` bytes from `at` on.
+fn array_at<const N: usize>(bytes: &[u8], at: usize) -> [u8; N]
+    requires { at + N ≤ length bytes.now }
+    ensures { result ≡ slice_range bytes.now at (at + N) }
+{
+    match bytes[at..at + N].first_chunk::<N>() {
+        Some(array) => *array,
+        None => unreachable!(),
+    }
+}
+
+/// The header, or `None` where there are fewer than 24 bytes or the type is another one. Reserved
+/// flags are read as zero.
+pub fn read_header(bytes: &[u8]) -> Option<Header>
+    ensures { result ≡ head bytes.now }
+{
+    if bytes.len() < HEADER_LEN || bytes[12] != AOE_TYPE[0] || bytes[13] != AOE_TYPE[1] {
+        return None;
+    }
+    Some(Header {
+        dst: Mac(array_at::<6>(bytes, 0)),
+        src: Mac(array_at::<6>(bytes, 6)),
+        version: bytes[14] / 16,
+        flags: bytes[14] & (RESPONSE_FLAG | ERROR_FLAG),
+        error: bytes[15],
+        id: TargetId {
+            major: u16::from_be_bytes(array_at::<2>(bytes, 16)),
+            minor: bytes[18],
+        },
+        command: bytes[19],
+        tag: u32::from_be_bytes(array_at::<4>(bytes, 20)),
+    })
+}
+
+fn spell(header: &Header, out: &mut Frame)
+    requires version { header.now.version < 16 }
+    requires flags { IsFlags header.now.flags }
+    ensures bytes { out.new.items ≡ header_bytes header.now }
+    ensures fits { Fits header.now }
+    ensures len { length out.new.items ≡ 24 }
+{
+    out.clear();
+    append(out, &header.dst.0);
+    append(out, &header.src.0);
+    append(out, &AOE_TYPE);
+    append(out, &[header.version * 16 + header.flags, header.error]);
+    append(out, &header.id.major.to_be_bytes());
+    append(out, &[header.id.minor, header.command]);
+    append(out, &header.tag.to_be_bytes());
+}
+
+/// Makes `out` the 24 bytes of the header.
+pub fn write_header(header: &Header, out: &mut Frame)
+    requires version { header.now.version < 16 }
+    requires flags { IsFlags header.now.flags }
+    ensures bytes { out.new.items ≡ header_bytes header.now }
+    ensures read { head out.new.items ≡ Some header.now }
+    ensures len { length out.new.items ≡ 24 }
+{
+    spell(header, out);
+}
+
+/// The header of the reply that the target `id` gives to a request, with `port` as its source.
+pub fn turn_round(request: &Header, id: TargetId, port: Mac, error: Option<u8>) -> Header
+    ensures { result ≡ reply_header request.now id port error }
+{
+    Header {
+        dst: request.src,
+        src: port,
+        version: 1,
+        flags: if error.is_some() {
+            RESPONSE_FLAG | ERROR_FLAG
+        } else {
+            RESPONSE_FLAG
+        },
+        error: error.unwrap_or(0),
+        id,
+        command: request.command,
+        tag: request.tag,
+    }
+}
+
+/// A law: what is written as a header is read as it, whatever follows.
+pub fn header_reads_back()
+    ensures { (h : Header) (rest : List ℕ) → Fits h → head (header_bytes h ++ rest) ≡ Some h }
+{}
+
+/// A law: a frame that is read as a header begins with its one spelling, reserved flags aside.
+pub fn header_spelling_is_one()
+    ensures { (h : Header) (f : List ℕ) → All (λ b. b < 2 ^ 8) f → slice_index f 14 % 4 ≡ 0 → head f ≡ Some h → take 24 f ≡ header_bytes h }
+{}
