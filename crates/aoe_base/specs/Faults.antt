@@ -1,0 +1,6 @@
+-- Counts of faults. Each object of the outside (a source, a sink, a disk, a link) has one that never falls.
+use Rattle.std.specs.Prelude.{ℕ, ◌-◌, ◌^◌, ◌<◌}
+
+-- the count rose, where it didn't stand at its type's end
+abbrev pub Rose : ℕ → ℕ → Type 0
+Rose before after = before < 2 ^ 64 - 1 → before < after
