@@ -13,8 +13,8 @@ pub type Frame = ArrayVec<u8, 9018>;
 pub const MIN_FRAME: usize = 60;
 
 /// Appends bytes, for which there is room.
-pub fn append(out: &mut Frame, bytes: &[u8])
-    requires { array_vec_len out.old + length bytes.now ≤ 9018 }
+pub fn append<const CAP: usize>(out: &mut ArrayVec<u8, CAP>, bytes: &[u8])
+    requires { array_vec_len out.old + length bytes.now ≤ CAP }
     ensures { out.new.items ≡ out.old.items ++ bytes.now }
 {
     let _ = out.try_extend_from_slice(bytes);
