@@ -196,3 +196,8 @@ pub fn give_frame<K: Sink>(sink: &mut K, frame: &[u8]) -> Result<(), Failed>
 pub fn frame_begins_no_broken_stream()
     ensures { (f rest : List ℕ) → IsFrame f → (framed f ++ rest ≢ []) × (IsBroken (framed f ++ rest) → ⊥) }
 {}
+
+/// A law: bytes are the stream of frames in one way only, since no two frames begin them.
+pub fn stream_begins_with_one_frame()
+    ensures { (f g rest other : List ℕ) → IsFrame f → IsFrame g → framed f ++ rest ≡ framed g ++ other → (f ≡ g) × (rest ≡ other) }
+{}

@@ -1,0 +1,5 @@
+pub mod Arrivals
+pub mod Ending
+pub mod Run
+pub mod Target
+pub mod Words

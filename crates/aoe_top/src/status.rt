@@ -1,0 +1,74 @@
+//! How a run ends.
+ghost use Rattle.std.specs.Prelude.{◌≡◌, IfOk};
+ghost use Rattle.aoe_top.specs.Ending.{code_of, text_of};
+
+use aoe_base::{Blob, NoMemory};
+use std::alloc::Global;
+
+/// How a run ended.
+#[derive(Clone, Copy, Debug, PartialEq, Eq)]
+pub enum Status {
+    /// All that was asked for was done.
+    Ok,
+    /// The words are no command.
+    Usage,
+    /// The source failed.
+    SourceFault,
+    /// The sink failed.
+    SinkFault,
+    /// An allocation was refused.
+    NoMemory,
+    /// The input isn't a stream of frames: the length of the first frame that isn't whole, or that
+    /// is too short or too long, stands behind `offset` bytes.
+    Stream { offset: u64 },
+    /// A limit of the program was reached.
+    Limit(What),
+}
+
+/// What there was too much of.
+#[derive(Clone, Copy, Debug, PartialEq, Eq)]
+pub enum What {
+    Frames,
+}
+
+impl Status {
+    /// The exit status of the program.
+    pub fn code(&self) -> u8
+        ensures { result ≡ code_of self.now }
+    {
+        match self {
+            Status::Ok => 0,
+            Status::Usage => 1,
+            Status::SourceFault => 3,
+            Status::SinkFault => 4,
+            Status::NoMemory => 7,
+            Status::Stream { .. } => 11,
+            Status::Limit(_) => 12,
+        }
+    }
+
+    /// What the program says on standard error, without a line feed; nothing where all went well.
+    pub fn text(&self, alloc: Global) -> Result<Blob, NoMemory>
+        ensures { IfOk result (λ text. text ≡ text_of self.now) }
+    {
+        match *self {
+            Status::Ok => Blob::of(alloc, b""),
+            Status::Usage => Blob::of(alloc, b"aoe: usage"),
+            Status::SourceFault => Blob::of(alloc, b"aoe: source fault"),
+            Status::SinkFault => Blob::of(alloc, b"aoe: sink fault"),
+            Status::NoMemory => Blob::of(alloc, b"aoe: no memory"),
+            Status::Stream { offset } => stream_text(alloc, offset),
+            Status::Limit(What::Frames) => Blob::of(alloc, b"aoe: limit: frames"),
+        }
+    }
+}
+
+/// The text for a bad stream.
+fn stream_text(alloc: Global, offset: u64) -> Result<Blob, NoMemory>
+    ensures { IfOk result (λ text. text ≡ text_of (Status.Stream offset)) }
+{
+    match format!(in alloc; "aoe: bad stream at byte {offset}") {
+        Ok(text) => Blob::of(alloc, text.as_bytes()),
+        Err(_) => Err(NoMemory),
+    }
+}
