@@ -12,6 +12,9 @@ pub type Frame = ArrayVec<u8, 9018>;
 /// The least length that a frame is sent with: Ethernet's 64 bytes without their check sequence.
 pub const MIN_FRAME: usize = 60;
 
+/// The longest padding.
+static ZEROS: [u8; MIN_FRAME] = [0; MIN_FRAME];
+
 /// Appends bytes, for which there is room.
 pub fn append<const CAP: usize>(out: &mut ArrayVec<u8, CAP>, bytes: &[u8])
     requires { array_vec_len out.old + length bytes.now ≤ CAP }
@@ -26,6 +29,6 @@ pub fn pad(out: &mut Frame)
 {
     if out.len() < MIN_FRAME {
         let missing = MIN_FRAME - out.len();
-        append(out, &[0; MIN_FRAME][..missing]);
+        append(out, &ZEROS[..missing]);
     }
 }

@@ -15,63 +15,69 @@ const REPLY: [u8; 34] = [
     0, 1, 2, 16, 0, 0,
 ];
 
-fn strings(alloc: Global, words: &[&str]) -> Result<Vec<String>, AllocError> {
-    let mut strings = Vec::new(alloc);
-    for word in words {
-        strings.push(String::from_str(alloc, word)?)?;
+/// The words that single spaces part.
+fn words_of(alloc: Global, line: &str) -> Result<Vec<String>, AllocError> {
+    let mut words = Vec::new(alloc);
+    for word in line.split(' ') {
+        words.push(String::from_str(alloc, word)?)?;
     }
-    Ok(strings)
+    Ok(words)
 }
 
-fn status_of(alloc: Global, words: &[&str]) -> Result<Status, Fail> {
+fn status_of(alloc: Global, line: &str) -> Result<Status, Fail> {
     let mut source = MemSource::of(alloc, b"")?;
     let mut sink = MemSink::new(alloc, 0)?;
-    let words = strings(alloc, words)?;
+    let words = words_of(alloc, line)?;
     Ok(aoe(alloc, words.as_slice(), &mut source, &mut sink))
 }
 
 #[test]
 fn reads_words(rt: HostRuntime) -> Result<(), Fail> {
-    let mut long = String::new(rt.alloc());
-    for _ in 0..4096 {
-        long.push('d')?;
-    }
-    let mut longer = long.clone()?;
-    longer.push('d')?;
-    let commands: [&[&str]; 3] = [
-        &["answer", "1", "0", "disk", "keep"],
-        &["answer", "65534", "254", long.as_str(), "k"],
-        &["answer", "00001", "0", "a-b", "k"],
+    let cases = [
+        ("answer 1 0 disk keep", 0),
+        ("answer 65534 254 d k", 0),
+        ("answer 00001 0 a-b k", 0),
+        ("", 1),
+        ("answer 1", 1),
+        ("answer 1 0 disk", 1),
+        ("answer 1 0 disk keep more", 1),
+        ("answer 70000 0 d k", 1),
+        ("answer 65535 0 d k", 1),
+        ("answer 1 255 d k", 1),
+        ("answer 1 0x0 d k", 1),
+        ("answer 1 0  k", 1),
+        ("answer 1 0 d -k", 1),
+        ("serve 1 0 d k", 1),
     ];
-    for words in commands {
-        assert_eq!(rt; status_of(rt.alloc(), words)?, Status::Ok);
+    for (line, code) in cases {
+        assert_eq!(rt; status_of(rt.alloc(), line)?.code(), code, "{line}");
     }
-    let others: [&[&str]; 12] = [
+    let status = aoe(
+        rt.alloc(),
         &[],
-        &["answer", "1"],
-        &["answer", "1", "0", "disk"],
-        &["answer", "1", "0", "disk", "keep", "more"],
-        &["answer", "70000", "0", "d", "k"],
-        &["answer", "65535", "0", "d", "k"],
-        &["answer", "1", "255", "d", "k"],
-        &["answer", "1", "0x0", "d", "k"],
-        &["answer", "1", "0", "", "k"],
-        &["answer", "1", "0", "d", longer.as_str()],
-        &["answer", "1", "0", "d", "-k"],
-        &["serve", "1", "0", "d", "k"],
-    ];
-    for words in others {
-        let status = status_of(rt.alloc(), words)?;
-        assert_eq!(rt; status, Status::Usage);
-        assert_eq!(rt; status.code(), 1);
-        assert_eq!(rt; status.text(rt.alloc())?.bytes(), b"aoe: usage".as_slice());
+        &mut MemSource::of(rt.alloc(), b"")?,
+        &mut MemSink::new(rt.alloc(), 0)?,
+    );
+    assert_eq!(rt; status, Status::Usage);
+    assert_eq!(rt; status.text(rt.alloc())?.bytes(), b"aoe: usage".as_slice());
+    Ok(())
+}
+
+#[test]
+fn refuses_a_name_that_is_too_long(rt: HostRuntime) -> Result<(), Fail> {
+    let mut line = String::from_str(rt.alloc(), "answer 1 0 disk k")?;
+    for _ in 0..4095 {
+        line.push('k')?;
     }
+    assert_eq!(rt; status_of(rt.alloc(), line.as_str())?, Status::Ok);
+    line.push('k')?;
+    assert_eq!(rt; status_of(rt.alloc(), line.as_str())?, Status::Usage);
     Ok(())
 }
 
 /// Runs `answer 1 0 disk keep`: its status and what it wrote.
 fn run(alloc: Global, input: &[u8]) -> Result<(Status, MemSink), Fail> {
-    let words = strings(alloc, &["answer", "1", "0", "disk", "keep"])?;
+    let words = words_of(alloc, "answer 1 0 disk keep")?;
     let mut source = MemSource::of(alloc, input)?;
     let mut sink = MemSink::new(alloc, 1000)?;
     let status = aoe(alloc, words.as_slice(), &mut source, &mut sink);
@@ -170,7 +176,7 @@ fn repeats_the_arguments_of_what_it_refuses(rt: HostRuntime) -> Result<(), Fail>
 
 #[test]
 fn stops_at_a_fault(rt: HostRuntime) -> Result<(), Fail> {
-    let words = strings(rt.alloc(), &["answer", "1", "0", "disk", "keep"])?;
+    let words = words_of(rt.alloc(), "answer 1 0 disk keep")?;
     for k in 1..4 {
         let mut source = MemSource::of(rt.alloc(), &QUERY)?;
         source.fail_at(k);
