@@ -1,0 +1,2 @@
+mod ArgsLemmas
+pub mod PageLemmas

@@ -1,0 +1,63 @@
+-- The commands that have an answer, and their sectors (ATA/ATAPI Command Set, "Command descriptions").
+use Rattle.std.specs.Prelude.{ℕ, ◌%◌, ◌^◌, List, [], ◌∷◌, ◌==◌, Option, Some, None, if◌then◌else◌, find}
+use Rattle.aoe_base.specs.declared.sectors.Span.{Span}
+use Rattle.aoe_ata.specs.declared.args.AtaArgs.{AtaArgs}
+use Rattle.aoe_ata.specs.declared.command.CommandCode.{CommandCode}
+use Rattle.aoe_ata.specs.declared.command.CommandCode.TheVariants.{ReadSectors, ReadSectorsExt, WriteSectors, WriteSectorsExt, ReadVerifySectors, ReadVerifySectorsExt, CheckPowerMode, FlushCache, FlushCacheExt, IdentifyDevice}
+use Rattle.aoe_ata.specs.declared.command.AtaCommand.{AtaCommand}
+use Rattle.aoe_ata.specs.declared.command.AtaCommand.TheVariants.{Read, Write, Verify, Flush, Identify, PowerMode, Unknown}
+
+abbrev pub code_of : CommandCode → ℕ
+code_of ReadSectors = 0x20
+code_of ReadSectorsExt = 0x24
+code_of WriteSectors = 0x30
+code_of WriteSectorsExt = 0x34
+code_of ReadVerifySectors = 0x40
+code_of ReadVerifySectorsExt = 0x42
+code_of CheckPowerMode = 0xe5
+code_of FlushCache = 0xe7
+code_of FlushCacheExt = 0xea
+code_of IdentifyDevice = 0xec
+
+abbrev pub commands : List CommandCode
+commands = ReadSectors ∷ ReadSectorsExt ∷ WriteSectors ∷ WriteSectorsExt ∷ ReadVerifySectors ∷ ReadVerifySectorsExt
+    ∷ CheckPowerMode ∷ FlushCache ∷ FlushCacheExt ∷ IdentifyDevice ∷ []
+
+-- the command that has a code
+abbrev pub command_with : ℕ → Option CommandCode
+command_with code = find (λ c. code_of c == code) commands
+
+-- the sectors of a command with an address of 28 bits, in which a count of 0 stands for 256
+abbrev pub short_span : AtaArgs → Span
+short_span a = record { at = a.lba % 2 ^ 28; count = if a.count == 0 then 256 else a.count }
+
+-- the sectors of a command with an address of 48 bits, in which a count of 0 stands for 65,536
+abbrev pub long_span : AtaArgs → Span
+long_span a = record { at = a.lba; count = if a.count == 0 then 65536 else a.count }
+
+-- what a command asks for with these registers
+abbrev pub asked : AtaArgs → Option CommandCode → AtaCommand
+asked a (Some ReadSectors) = Read (short_span a)
+asked a (Some ReadSectorsExt) = Read (long_span a)
+asked a (Some WriteSectors) = Write (short_span a)
+asked a (Some WriteSectorsExt) = Write (long_span a)
+asked a (Some ReadVerifySectors) = Verify (short_span a)
+asked a (Some ReadVerifySectorsExt) = Verify (long_span a)
+asked a (Some CheckPowerMode) = PowerMode
+asked a (Some FlushCache) = Flush
+asked a (Some FlushCacheExt) = Flush
+asked a (Some IdentifyDevice) = Identify
+asked a None = Unknown
+
+abbrev pub command_of : AtaArgs → AtaCommand
+command_of a = asked a (command_with a.code)
+
+-- the sectors of a command that has some
+abbrev pub span_of : AtaCommand → Option Span
+span_of (Read span) = Some span
+span_of (Write span) = Some span
+span_of (Verify span) = Some span
+span_of Flush = None
+span_of Identify = None
+span_of PowerMode = None
+span_of Unknown = None

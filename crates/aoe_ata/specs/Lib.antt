@@ -1,0 +1,5 @@
+pub mod Args
+pub mod Command
+pub mod Decision
+pub mod Identify
+pub mod Reply
