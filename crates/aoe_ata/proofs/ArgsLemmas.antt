@@ -1,7 +1,7 @@
--- Numbers of six bytes, and registers with one spelling.
-use Rattle.std.proofs.Common.{◌≡◌, ℕ, zero, suc, ◌+◌, ◌-◌, ◌^◌, ◌<◌, ◌≤◌, inl, inr, List, [], ◌∷◌, ◌++◌, length, get_or, drop, take, Some, None, true, false, Bool, refl, sym, ap, subst, ◌∙◌, arith, lit<}
+-- Addresses of six bytes, and registers with one spelling.
+use Rattle.std.proofs.Common.{◌≡◌, ℕ, zero, suc, ◌-◌, ◌^◌, ◌<◌, ◌≤◌, inl, inr, List, [], ◌∷◌, ◌++◌, length, get_or, drop, take, Some, None, true, false, Bool, refl, sym, ap, subst, ◌∙◌, arith, lit<}
 use Rattle.std.specs.Prelude.{nat_le, All, if◌then◌else◌}
-use Rattle.std.specs.Int.{w64, to_le_bytes, from_le_bytes}
+use Rattle.std.specs.Int.{w64, to_le_bytes}
 use Rattle.std.proofs.Math.Seq.{drop-cons, take-add}
 use Rattle.std.proofs.Math.ListN.{drop_of_length-le}
 use Rattle.std.proofs.lemmas.Bool.{cases_lt}
@@ -9,7 +9,7 @@ use Rattle.std.proofs.lemmas.List.{get_or_past, get_or_append_left, get_or-appen
 use Rattle.std.proofs.lemmas.List.Elements.{All-get_or, All-take, All-drop}
 use Rattle.std.proofs.lemmas.Nat.{le_bytes_8}
 use Rattle.aoe_ata.specs.declared.args.AtaArgs.{AtaArgs}
-use Rattle.aoe_ata.specs.Args.{number_of_six, registers, args_of, args_bytes}
+use Rattle.aoe_ata.specs.Args.{address_of, registers, args_of, args_bytes}
 
 -- a list of six is its six elements
 six-is : (l : List ℕ) → length l ≡ 6 → l ≡ get_or l 0 0 ∷ get_or l 1 0 ∷ get_or l 2 0 ∷ get_or l 3 0 ∷ get_or l 4 0 ∷ get_or l 5 0 ∷ []
@@ -22,13 +22,13 @@ six-is l h =
     ∙ ap (λ (t : List ℕ). get_or l 4 0 ∷ t) (drop-cons l 5 0 (omega arith)
     ∙ ap (λ (t : List ℕ). get_or l 5 0 ∷ t) (drop_of_length-le l {i = 6} (omega arith)))))))
 
-six-below : (a b c d e f : ℕ) → a < 256 → b < 256 → c < 256 → d < 256 → e < 256 → f < 256 → number_of_six (a ∷ b ∷ c ∷ d ∷ e ∷ f ∷ []) < 2 ^ 48
+six-below : (a b c d e f : ℕ) → a < 256 → b < 256 → c < 256 → d < 256 → e < 256 → f < 256 → address_of (a ∷ b ∷ c ∷ d ∷ e ∷ f ∷ []) < 2 ^ 48
 six-below a b c d e f sa sb sc sd se sf = omega arith
 
--- six bytes hold a number below 2^48
-pub number_of_six-below : (l : List ℕ) (n : ℕ) → n ≡ number_of_six l → length l ≡ 6 → ((i : ℕ) → get_or l i 0 < 256) → n < 2 ^ 48
-number_of_six-below l n value six small =
-    let P : List ℕ → Type 0 = λ m. number_of_six m < 2 ^ 48 in
+-- an address is below 2^48
+pub address_of-below : (l : List ℕ) (n : ℕ) → n ≡ address_of l → length l ≡ 6 → ((i : ℕ) → get_or l i 0 < 256) → n < 2 ^ 48
+address_of-below l n value six small =
+    let P : List ℕ → Type 0 = λ m. address_of m < 2 ^ 48 in
     rw value (subst P (sym (six-is l six)) (six-below (get_or l 0 0) (get_or l 1 0) (get_or l 2 0) (get_or l 3 0) (get_or l 4 0) (get_or l 5 0) (small 0) (small 1) (small 2) (small 3) (small 4) (small 5)))
 
 -- what registers have that bytes are read as
@@ -78,10 +78,10 @@ part-small f n k small i =
     ]
 
 -- six bytes are written as they were read
-six-back : (l : List ℕ) → length l ≡ 6 → ((i : ℕ) → get_or l i 0 < 256) → take 6 (to_le_bytes w64 (number_of_six l)) ≡ l
+six-back : (l : List ℕ) → length l ≡ 6 → ((i : ℕ) → get_or l i 0 < 256) → take 6 (to_le_bytes w64 (address_of l)) ≡ l
 six-back l six small =
-    let all : to_le_bytes w64 (number_of_six l) ≡ l ++ 0 ∷ 0 ∷ [] =
-    le_bytes_8 (l ++ 0 ∷ 0 ∷ []) (number_of_six l) (simp length-append (omega arith)) (small-behind l six small) refl in
+    let all : to_le_bytes w64 (address_of l) ≡ l ++ 0 ∷ 0 ∷ [] =
+    le_bytes_8 (l ++ 0 ∷ 0 ∷ []) (address_of l) (simp length-append (omega arith)) (small-behind l six small) refl in
     ap (λ (m : List ℕ). take 6 m) all ∙ take_at l (0 ∷ 0 ∷ []) 6 six
 
 -- pieces of a list that are other words for others
@@ -97,5 +97,5 @@ one-spelling a b small ten eleven is =
     let split : take 12 b ≡ take 4 b ++ take 6 (drop 4 b) ++ take 2 (drop 10 b) = take-add 10 2 b ∙ ap (λ (m : List ℕ). m ++ take 2 (drop 10 b)) (take-add 4 6 b) in
     let front : take 4 b ≡ get_or b 0 0 ∷ get_or b 1 0 ∷ get_or b 2 0 ∷ get_or b 3 0 ∷ [] = four-first b (omega arith) in
     let reserved : take 2 (drop 10 b) ≡ 0 ∷ 0 ∷ [] = two-at b 10 (omega arith) ∙ (rw (ten, eleven) refl) in
-    let address : take 6 (to_le_bytes w64 (number_of_six (take 6 (drop 4 b)))) ≡ take 6 (drop 4 b) = six-back (take 6 (drop 4 b)) six-long (part-small b 6 4 small) in
+    let address : take 6 (to_le_bytes w64 (address_of (take 6 (drop 4 b)))) ≡ take 6 (drop 4 b) = six-back (take 6 (drop 4 b)) six-long (part-small b 6 4 small) in
     subst P r.same (joined (take 12 b) (take 4 b) _ (take 6 (drop 4 b)) _ (take 2 (drop 10 b)) _ split front (sym address) reserved)

@@ -84,9 +84,9 @@ pub record HasWords (bytes ws : List ℕ) : Type 0 where
 pub laid-step : (before after piece ws vs : List ℕ) (n : ℕ) → HasWords before ws → piece ≡ word_bytes vs → after ≡ laid before (2 * n) piece → HasWords after (laid ws n vs)
 laid-step before after piece ws vs n words piece-is after-is = record {
   are = after-is
-    ∙ ap (λ (l : List ℕ). laid l (2 * n) piece) words.are
-    ∙ ap (λ (l : List ℕ). laid (word_bytes ws) (2 * n) l) piece-is
-    ∙ word_bytes-laid ws vs n;
+      ∙ ap (λ (l : List ℕ). laid l (2 * n) piece) words.are
+      ∙ ap (λ (l : List ℕ). laid (word_bytes ws) (2 * n) l) piece-is
+      ∙ word_bytes-laid ws vs n;
 }
 
 -- one more pair of a text
@@ -135,6 +135,7 @@ record Declares (ws : List ℕ) (total : ℕ) : Type 0 where
   high : get_or ws 102 0 ≡ total / 2 ^ 16 / 2 ^ 16 % 2 ^ 16
 
 declared-word_bytes : (ws : List ℕ) (total : ℕ) → total ≤ 2 ^ 40 → Declares ws total → declared (word_bytes ws) ≡ Some total
+unfolding declared
 declared-word_bytes ws total small d =
     let supported : word (word_bytes ws) 83 ≡ 0x7400 = word-word_bytes ws 83 ∙ d.supported in
     let low : word (word_bytes ws) 100 ≡ total % 2 ^ 16 = word-word_bytes ws 100 ∙ d.low in
@@ -178,10 +179,10 @@ to_le_bytes-8 n =
     let second : n / 2 ^ 32 ≡ n / 2 ^ 16 / 2 ^ 16 = omega arith in
     let third : n / 2 ^ 48 ≡ n / 2 ^ 16 / 2 ^ 16 / 2 ^ 16 = omega arith in
     rw (second, third) (
-      word-same n (n / 2 ^ 8) _ _ refl (
-      word-same (n / 2 ^ 16) (n / 2 ^ 24) _ _ (omega arith) (
-      word-same (n / 2 ^ 16 / 2 ^ 16) (n / 2 ^ 40) _ _ (omega arith) (
-      word-same (n / 2 ^ 16 / 2 ^ 16 / 2 ^ 16) (n / 2 ^ 56) _ _ (omega arith) refl))))
+    word-same n (n / 2 ^ 8) _ _ refl (
+    word-same (n / 2 ^ 16) (n / 2 ^ 24) _ _ (omega arith) (
+    word-same (n / 2 ^ 16 / 2 ^ 16) (n / 2 ^ 40) _ _ (omega arith) (
+    word-same (n / 2 ^ 16 / 2 ^ 16 / 2 ^ 16) (n / 2 ^ 56) _ _ (omega arith) refl))))
 
 record IsPageLong (ws : List ℕ) : Type 0 where
   long : length ws ≡ 256
@@ -209,9 +210,9 @@ last-declare first total first-long =
     let two-long : length (laid (laid first 83 (0x7400 ∷ [])) 86 (0x3400 ∷ [])) ≡ 256 = length-laid (laid first 83 (0x7400 ∷ [])) (0x3400 ∷ []) 86 (omega arith) ∙ one-long in
     record {
       supported =
-        get-laid_before two (number_words 4 total) 100 83 (omega arith) (omega arith)
-        ∙ get-laid_before one (0x3400 ∷ []) 86 83 (omega arith) (omega arith)
-        ∙ get-laid_in first (0x7400 ∷ []) 83 0 (omega arith) (omega arith);
+          get-laid_before two (number_words 4 total) 100 83 (omega arith) (omega arith)
+          ∙ get-laid_before one (0x3400 ∷ []) 86 83 (omega arith) (omega arith)
+          ∙ get-laid_in first (0x7400 ∷ []) 83 0 (omega arith) (omega arith);
       low = get-laid_in two (number_words 4 total) 100 0 (omega arith) (omega arith);
       middle = get-laid_in two (number_words 4 total) 100 1 (omega arith) (omega arith);
       high = get-laid_in two (number_words 4 total) 100 2 (omega arith) (omega arith);

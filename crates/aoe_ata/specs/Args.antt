@@ -3,9 +3,9 @@ use Rattle.std.specs.Prelude.{ℕ, List, [], ◌∷◌, ◌++◌, length, nat_le
 use Rattle.std.specs.Int.{w64, to_le_bytes, from_le_bytes}
 use Rattle.aoe_ata.specs.declared.args.AtaArgs.{AtaArgs}
 
--- the number that six bytes hold, the least significant first
-abbrev pub number_of_six : List ℕ → ℕ
-number_of_six bytes = from_le_bytes w64 (bytes ++ 0 ∷ 0 ∷ [])
+-- the address in six bytes, the least significant first
+abbrev pub address_of : List ℕ → ℕ
+address_of bytes = from_le_bytes w64 (bytes ++ 0 ∷ 0 ∷ [])
 
 -- the registers, of at least 12 bytes
 abbrev pub registers : List ℕ → AtaArgs
@@ -14,7 +14,7 @@ registers b = record {
   feature = slice_index b 1;
   count = slice_index b 2;
   code = slice_index b 3;
-  lba = number_of_six (slice_range b 4 10);
+  lba = address_of (slice_range b 4 10);
 }
 
 -- the registers that the bytes begin with, or nothing where there are fewer than 12 bytes

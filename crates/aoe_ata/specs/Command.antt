@@ -51,13 +51,3 @@ asked a None = Unknown
 
 abbrev pub command_of : AtaArgs → AtaCommand
 command_of a = asked a (command_with a.code)
-
--- the sectors of a command that has some
-abbrev pub span_of : AtaCommand → Option Span
-span_of (Read span) = Some span
-span_of (Write span) = Some span
-span_of (Verify span) = Some span
-span_of Flush = None
-span_of Identify = None
-span_of PowerMode = None
-span_of Unknown = None

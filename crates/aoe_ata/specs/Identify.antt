@@ -58,7 +58,7 @@ has_bit w k = bit_at w k == 1
 
 -- the number of sectors that a page declares: 48 bits where word 83 is valid (its bits 15 and 14 are 0 and 1) and has bit 10,
 -- else the words 60 and 61 where word 49 has bit 9
-abbrev pub declared : List ℕ → Option ℕ
+unfoldable pub declared : List ℕ → Option ℕ
 declared bytes =
     if not (has_bit (word bytes 83) 15) && has_bit (word bytes 83) 14 && has_bit (word bytes 83) 10
     then Some (word bytes 100 + 2 ^ 16 * word bytes 101 + 2 ^ 32 * word bytes 102)

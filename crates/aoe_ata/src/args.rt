@@ -2,9 +2,8 @@
 ghost use Rattle.aoe_ata.specs.declared.args.AtaArgs.{AtaArgs};
 ghost use Rattle.std.specs.Prelude.{List, ℕ, ◌≡◌, ◌+◌, ◌^◌, ◌<◌, ◌≤◌, ◌++◌, All, IfSome, Some, length, slice_index, take};
 ghost use Rattle.arrayvec.specs.ArrayVec.{array_vec_len};
-ghost use Rattle.aoe_ata.specs.Args.{args_of, args_bytes};
+ghost use Rattle.aoe_ata.specs.Args.{address_of, args_of, args_bytes};
 
-use crate::address::read_six;
 use aoe_frame::{Frame, append};
 
 /// How many bytes the registers have, from byte 24 of a frame on.
@@ -43,6 +42,17 @@ pub struct AtaArgs {
     pub lba: u64,
 }
 
+/// The address in the six bytes lba0 to lba5.
+fn read_address(bytes: &[u8]) -> u64
+    requires { length bytes.now ≡ 6 }
+    ensures value { result ≡ address_of bytes.now }
+    ensures bound { result < 2 ^ 48 }
+{
+    let mut wide = [0; 8];
+    wide[..6].copy_from_slice(bytes);
+    u64::from_le_bytes(wide)
+}
+
 /// The registers that the bytes begin with, or `None` where there are fewer than 12 bytes. The
 /// reserved bytes may have any value.
 pub fn read_args(bytes: &[u8]) -> Option<AtaArgs>
@@ -57,7 +67,7 @@ pub fn read_args(bytes: &[u8]) -> Option<AtaArgs>
         feature: bytes[1],
         count: bytes[2],
         code: bytes[3],
-        lba: read_six(&bytes[4..10]),
+        lba: read_address(&bytes[4..10]),
     })
 }
 

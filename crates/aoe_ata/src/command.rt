@@ -1,6 +1,6 @@
 //! The commands of the ATA command set that a target knows.
 ghost use Rattle.std.specs.Prelude.{◌≡◌};
-ghost use Rattle.aoe_ata.specs.Command.{code_of, command_with, command_of, short_span, long_span, span_of};
+ghost use Rattle.aoe_ata.specs.Command.{code_of, command_with, command_of, short_span, long_span};
 
 use crate::AtaArgs;
 use aoe_base::Span;
@@ -66,23 +66,6 @@ pub enum AtaCommand {
     PowerMode,
     /// A command that isn't known here.
     Unknown,
-}
-
-impl AtaCommand {
-    /// The sectors of a command that has some.
-    pub fn span(&self) -> Option<Span>
-        ensures { result ≡ span_of self.now }
-    {
-        match *self {
-            AtaCommand::Read(span) | AtaCommand::Write(span) | AtaCommand::Verify(span) => {
-                Some(span)
-            }
-            AtaCommand::Flush
-            | AtaCommand::Identify
-            | AtaCommand::PowerMode
-            | AtaCommand::Unknown => None,
-        }
-    }
 }
 
 /// The sectors of a command with an address of 28 bits. The bits above belong to the device

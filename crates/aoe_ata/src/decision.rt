@@ -1,5 +1,5 @@
 //! What a target does with the arguments of an ATA command, before it calls its device.
-ghost use Rattle.std.specs.Prelude.{◌≡◌, ◌+◌, ◌*◌, ◌≤◌, IfOk, length, nat_le};
+ghost use Rattle.std.specs.Prelude.{◌≡◌, ◌+◌, ◌*◌, ◌^◌, ◌<◌, ◌≤◌, IfOk, length, nat_le};
 ghost use Rattle.aoe_ata.specs.Decision.{is_taken, answer_of, decision, CanServe, written};
 
 use crate::args::{ARGS_LEN, AtaArgs, read_args};
@@ -48,10 +48,8 @@ fn takes(command: &AtaCommand, max: u8, room: usize) -> bool
             span.count <= u32::from(max) && SECTOR_LEN * span.count as usize <= room
         }
         AtaCommand::Read(span) | AtaCommand::Verify(span) => span.count <= u32::from(max),
-        AtaCommand::Flush
-        | AtaCommand::Identify
-        | AtaCommand::PowerMode
-        | AtaCommand::Unknown => true,
+        AtaCommand::Flush | AtaCommand::Identify | AtaCommand::PowerMode | AtaCommand::Unknown =>
+            true,
     }
 }
 
@@ -84,6 +82,7 @@ fn answer(command: &AtaCommand, total: u64) -> AtaAnswer
 #[tactic(auto, unfolding(crate::specs::Decision::decision))]
 pub fn decide(total: u64, max: u8, bytes: &[u8]) -> Result<AtaDecision, AoeError>
     ensures decision { result ≡ decision total max bytes.now }
+    ensures address { IfOk result (λ d. d.args.lba < 2 ^ 48) }
     ensures can_serve { IfOk result (λ d. CanServe total max bytes.now d.answer) }
 {
     let Some(args) = read_args(bytes) else {

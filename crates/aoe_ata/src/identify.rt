@@ -104,12 +104,15 @@ fn bit_is_set(word: u16, bit: u32) -> bool
 /// The number of sectors that a page declares: of the words 100 to 102 where word 83 is valid and
 /// says that addresses have 48 bits, else of the words 60 and 61 where word 49 says that there are
 /// addresses, else `None`.
+#[tactic(auto, unfolding(crate::specs::Identify::declared))]
 pub fn read_identify(page: &[u8; 512]) -> Option<u64>
     ensures declared { result ≡ declared page.now }
     ensures bound { IfSome result (λ total. total < 2 ^ 48) }
 {
     let supported = word_at(page, SUPPORTED);
-    if !bit_is_set(supported, 15) && bit_is_set(supported, 14) && bit_is_set(supported, HAS_48_BITS)
+    if !bit_is_set(supported, 15)
+        && bit_is_set(supported, 14)
+        && bit_is_set(supported, HAS_48_BITS)
     {
         let low = u64::from(word_at(page, SECTORS_48));
         let middle = u64::from(word_at(page, SECTORS_48 + 1));

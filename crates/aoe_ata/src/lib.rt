@@ -2,7 +2,6 @@
 //! device tells of itself.
 #![tactic(auto)]
 
-mod address;
 mod args;
 mod command;
 mod decision;

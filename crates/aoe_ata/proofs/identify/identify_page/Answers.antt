@@ -1,5 +1,4 @@
-use Rattle.std.proofs.Common.{rules, ◌≡◌, Some, subst, sym}
-use Rattle.aoe_ata.specs.Identify.{declared, page}
+use Rattle.std.proofs.Common.{rules}
 use Rattle.aoe_ata.proofs.PageLemmas.{page-is, declared-page}
 use Rattle.aoe_ata.proofs.identify.identify_page.Goals as goal
 
