@@ -52,19 +52,19 @@ impl CommandCode {
 /// What the registers of a request ask for.
 #[derive(Clone, Copy, Debug, PartialEq, Eq, Hash)]
 pub enum AtaCommand {
-    /// The sectors, from the device.
+    /// To read sectors.
     Read(Span),
-    /// Data for the sectors, to the device.
+    /// To write sectors.
     Write(Span),
-    /// That the sectors can be read.
+    /// To read sectors and give none.
     Verify(Span),
-    /// That what was written is kept.
+    /// To bring to the medium what was written.
     Flush,
-    /// The identify page.
+    /// To tell of the device.
     Identify,
-    /// The power mode.
+    /// To tell the power mode.
     PowerMode,
-    /// A command that isn't known here.
+    /// A command that has no answer here.
     Unknown,
 }
 
@@ -113,5 +113,89 @@ pub fn classify(args: &AtaArgs) -> AtaCommand
         Some(CommandCode::FlushCache | CommandCode::FlushCacheExt) => AtaCommand::Flush,
         Some(CommandCode::IdentifyDevice) => AtaCommand::Identify,
         None => AtaCommand::Unknown,
+    }
+}
+
+#[cfg(test)]
+mod tests {
+    use super::*;
+
+    #[test]
+    fn commands_by_their_codes(rt: HostRuntime) {
+        let at = 0x0e00_0005;
+        let cases = [
+            (
+                0x20,
+                2,
+                AtaCommand::Read(Span {
+                    at: 0x0e00_0005,
+                    count: 2,
+                }),
+            ),
+            (
+                0x20,
+                0,
+                AtaCommand::Read(Span {
+                    at: 0x0e00_0005,
+                    count: 256,
+                }),
+            ),
+            (
+                0x24,
+                0,
+                AtaCommand::Read(Span {
+                    at: 0xa5e0_0e00_0005,
+                    count: 65536,
+                }),
+            ),
+            (
+                0x30,
+                1,
+                AtaCommand::Write(Span {
+                    at: 0x0e00_0005,
+                    count: 1,
+                }),
+            ),
+            (
+                0x34,
+                1,
+                AtaCommand::Write(Span {
+                    at: 0xa5e0_0e00_0005,
+                    count: 1,
+                }),
+            ),
+            (
+                0x40,
+                1,
+                AtaCommand::Verify(Span {
+                    at: 0x0e00_0005,
+                    count: 1,
+                }),
+            ),
+            (
+                0x42,
+                1,
+                AtaCommand::Verify(Span {
+                    at: 0xa5e0_0e00_0005,
+                    count: 1,
+                }),
+            ),
+            (0xe5, 0, AtaCommand::PowerMode),
+            (0xe7, 0, AtaCommand::Flush),
+            (0xea, 0, AtaCommand::Flush),
+            (0xec, 1, AtaCommand::Identify),
+            (0x25, 1, AtaCommand::Unknown),
+            (0x00, 1, AtaCommand::Unknown),
+        ];
+        for (code, count, command) in cases {
+            let args = AtaArgs {
+                aflags: 0,
+                feature: 0,
+                count,
+                code,
+                lba: 0xa5e0_0000_0000 + at,
+            };
+            assert_eq!(rt; classify(&args), command, "code {code}");
+        }
     }
 }

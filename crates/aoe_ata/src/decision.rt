@@ -10,24 +10,24 @@ use aoe_frame::AoeError;
 /// How many bytes a sector has.
 const SECTOR_LEN: usize = 512;
 
-/// What is answered to registers that are taken.
+/// What is answered to registers that are taken. The last four call the device.
 #[derive(Clone, Copy, Debug, PartialEq, Eq, Hash)]
 pub enum AtaAnswer {
-    /// That the command isn't known: ABRT.
+    /// ABRT, since the command isn't known.
     Abort,
-    /// That a sector isn't within the device: IDNF.
+    /// IDNF, since a sector isn't within the device.
     NotFound,
     /// The identify page.
     Page,
     /// The power mode.
     Mode,
-    /// The sectors, from the device.
+    /// The sectors, once they are read.
     Give(Span),
-    /// That the sectors were written to the device, with the data behind the registers.
+    /// No data, once the data behind the registers is written to the sectors.
     Put(Span),
-    /// That the device can read the sectors.
+    /// No data, once the sectors are read.
     Verify(Span),
-    /// That the device keeps what was written.
+    /// No data, once the device is synced.
     Sync,
 }
 
@@ -38,18 +38,24 @@ pub struct AtaDecision {
     pub answer: AtaAnswer,
 }
 
-/// Whether the span has at most `max` sectors, and a write its data among the `room` bytes behind
+/// How many bytes the sectors have.
+fn data_len(span: Span) -> usize
+    ensures { result ≡ 512 * span.count }
+{
+    SECTOR_LEN * span.count as usize
+}
+
+/// Whether a command has at most `max` sectors, and a write its data among the `room` bytes behind
 /// the registers.
 fn takes(command: &AtaCommand, max: u8, room: usize) -> bool
     ensures { result ≡ is_taken max room command.now }
 {
     match *command {
-        AtaCommand::Write(span) => {
-            span.count <= u32::from(max) && SECTOR_LEN * span.count as usize <= room
-        }
         AtaCommand::Read(span) | AtaCommand::Verify(span) => span.count <= u32::from(max),
-        AtaCommand::Flush | AtaCommand::Identify | AtaCommand::PowerMode | AtaCommand::Unknown =>
-            true,
+        AtaCommand::Write(span) => span.count <= u32::from(max) && data_len(span) <= room,
+        AtaCommand::Flush | AtaCommand::Identify | AtaCommand::PowerMode | AtaCommand::Unknown => {
+            true
+        }
     }
 }
 
@@ -77,8 +83,8 @@ fn answer(command: &AtaCommand, total: u64) -> AtaAnswer
 }
 
 /// What a device of `total` sectors, with at most `max` sectors in one command, answers to the
-/// bytes of a frame from byte 24 on. The error is that of bytes that aren't taken: too few for the
-/// registers, more sectors than `max`, or fewer data than a write has sectors.
+/// bytes of a frame from byte 24 on. `BadArgument` is the error of bytes that aren't taken: too few
+/// for the registers, more sectors than `max`, or a write with less data than its sectors have.
 #[tactic(auto, unfolding(crate::specs::Decision::decision))]
 pub fn decide(total: u64, max: u8, bytes: &[u8]) -> Result<AtaDecision, AoeError>
     ensures decision { result ≡ decision total max bytes.now }
@@ -98,11 +104,74 @@ pub fn decide(total: u64, max: u8, bytes: &[u8]) -> Result<AtaDecision, AoeError
     })
 }
 
-/// The data of a write: so many bytes behind the registers as its sectors have.
+/// The data of a write: as many bytes behind the registers as its sectors have.
 pub fn put_data(bytes: &[u8], span: Span) -> &[u8]
     requires { 12 + 512 * span.count ≤ length bytes.now }
     ensures data { result.now ≡ written bytes.now span }
     ensures len { length result.now ≡ 512 * span.count }
 {
-    &bytes[ARGS_LEN..ARGS_LEN + SECTOR_LEN * span.count as usize]
+    &bytes[ARGS_LEN..ARGS_LEN + data_len(span)]
+}
+
+#[cfg(test)]
+mod tests {
+    use super::*;
+
+    /// What 16 sectors, at most 2 in a command, answer to twelve bytes and `len` zeros of data.
+    fn answer_to(args: &[u8; 12], len: usize) -> Result<AtaAnswer, AoeError>
+        requires { len ≤ 1024 }
+    {
+        let mut bytes = [0; 1036];
+        bytes[..12].copy_from_slice(args);
+        Ok(decide(16, 2, &bytes[..12 + len])?.answer)
+    }
+
+    #[test]
+    fn the_last_sector_and_behind_it(rt: HostRuntime) {
+        let one = b"\x41\x00\x01\x34\x0f\x00\x00\x00\x00\x00\x00\x00";
+        let two = b"\x41\x00\x02\x34\x0f\x00\x00\x00\x00\x00\x00\x00";
+        let last = Span { at: 15, count: 1 };
+        assert_eq!(rt; answer_to(one, 512), Ok(AtaAnswer::Put(last)));
+        assert_eq!(rt; answer_to(two, 1024), Ok(AtaAnswer::NotFound));
+        assert_eq!(rt; answer_to(two, 1023), Err(AoeError::BadArgument));
+        assert_eq!(rt; put_data(&[7; 1036], last), [7; 512].as_slice());
+    }
+
+    #[test]
+    fn counts_that_are_taken(rt: HostRuntime) {
+        for (count, taken) in [(0, false), (1, true), (2, true), (3, false)] {
+            for code in [0x20, 0x24, 0x40, 0x42] {
+                let args = [0x40, 0, count, code, 0, 0, 0, 0, 0, 0, 0, 0];
+                assert_eq!(rt;
+                    answer_to(&args, 0).is_ok(),
+                    taken,
+                    "count {count}, code {code}"
+                );
+            }
+        }
+    }
+
+    #[test]
+    fn low_28_bits_of_an_address(rt: HostRuntime) {
+        let read = b"\x00\x00\x02\x20\x05\x00\x00\xe0\x00\x00\x00\x00";
+        let span = Span { at: 5, count: 2 };
+        assert_eq!(rt; answer_to(read, 24), Ok(AtaAnswer::Give(span)));
+        let verify = b"\x00\x00\x02\x40\x05\x00\x00\xe0\x00\x00\x00\x00";
+        assert_eq!(rt; answer_to(verify, 24), Ok(AtaAnswer::Verify(span)));
+    }
+
+    #[test]
+    fn other_commands(rt: HostRuntime) {
+        let cases = [
+            (0xec, AtaAnswer::Page),
+            (0xe5, AtaAnswer::Mode),
+            (0xe7, AtaAnswer::Sync),
+            (0xea, AtaAnswer::Sync),
+            (0xb0, AtaAnswer::Abort),
+        ];
+        for (code, answer) in cases {
+            let args = [0, 0, 0, code, 0xff, 0xff, 0xff, 0xff, 0xff, 0xff, 0, 0];
+            assert_eq!(rt; answer_to(&args, 0), Ok(answer), "code {code}");
+        }
+    }
 }

@@ -131,3 +131,58 @@ pub fn read_identify(page: &[u8; 512]) -> Option<u64>
 pub fn page_reads_back()
     ensures { (total : ℕ) (serial : List ℕ) → total ≤ 2 ^ 40 → length serial ≡ 20 → declared (page total serial) ≡ Some total }
 {}
+
+#[cfg(test)]
+mod tests {
+    use super::*;
+
+    #[test]
+    fn page_of_16_sectors(rt: HostRuntime) {
+        let mut page = [0xff; 512];
+        identify_page(16, b"e1.0                ", &mut page);
+        let mut expected = [0; 512];
+        expected[20..40].copy_from_slice(b"1e0.                ");
+        expected[46..54].copy_from_slice(b"OA1E    ");
+        expected[54..94].copy_from_slice(b"oA Ehsle f                              ");
+        expected[98..100].copy_from_slice(&[0x00, 0x02]);
+        expected[120..124].copy_from_slice(&[0x10, 0, 0, 0]);
+        expected[166..168].copy_from_slice(&[0x00, 0x74]);
+        expected[172..174].copy_from_slice(&[0x00, 0x34]);
+        expected[200..208].copy_from_slice(&[0x10, 0, 0, 0, 0, 0, 0, 0]);
+        assert!(rt; page == expected);
+        assert_eq!(rt; read_identify(&page), Some(16));
+    }
+
+    #[test]
+    fn page_of_300000000_sectors(rt: HostRuntime) {
+        let mut page = [0; 512];
+        identify_page(300_000_000, b"e1.0                ", &mut page);
+        assert_eq!(rt; &page[120..124], [0xff, 0xff, 0xff, 0x0f].as_slice());
+        assert_eq!(rt;
+            &page[200..208],
+            [0x00, 0xa3, 0xe1, 0x11, 0, 0, 0, 0].as_slice()
+        );
+        assert_eq!(rt; read_identify(&page), Some(300_000_000));
+    }
+
+    #[test]
+    fn pages_of_others(rt: HostRuntime) {
+        let mut page = [0; 512];
+        page[120..124].copy_from_slice(&[1, 2, 3, 4]);
+        page[200..208].copy_from_slice(&[1, 2, 3, 4, 5, 6, 7, 8]);
+        let cases = [
+            (0x0200u16, 0x4400u16, Some(0x0605_0403_0201)),
+            (0x0000, 0x4400, Some(0x0605_0403_0201)),
+            (0x0200, 0xc400, Some(0x0403_0201)),
+            (0x0200, 0x0400, Some(0x0403_0201)),
+            (0x0200, 0x4000, Some(0x0403_0201)),
+            (0x0000, 0x0400, None),
+            (0xfdff, 0xbbff, None),
+        ];
+        for (capabilities, supported, total) in cases {
+            page[98..100].copy_from_slice(&capabilities.to_le_bytes());
+            page[166..168].copy_from_slice(&supported.to_le_bytes());
+            assert_eq!(rt; read_identify(&page), total, "{capabilities}, {supported}");
+        }
+    }
+}

@@ -99,3 +99,48 @@ pub fn is_failed(reply: &AtaArgs) -> bool
 {
     reply.code & STATUS_ERR != 0 || reply.code & STATUS_DF != 0
 }
+
+#[cfg(test)]
+mod tests {
+    use super::*;
+
+    #[test]
+    fn replies(rt: HostRuntime) {
+        let request = AtaArgs {
+            aflags: 0x41,
+            feature: 9,
+            count: 2,
+            code: 0x34,
+            lba: 15,
+        };
+        let cases = [
+            (AtaOutcome::Done, 0x40, 0, 0, false),
+            (AtaOutcome::Active, 0x40, 0, 0xff, false),
+            (AtaOutcome::Aborted, 0x41, 0x04, 0, true),
+            (AtaOutcome::NotFound, 0x41, 0x10, 0, true),
+            (AtaOutcome::Uncorrectable, 0x41, 0x40, 0, true),
+        ];
+        for (outcome, code, feature, count, failed) in cases {
+            let reply = reply_args(&request, outcome);
+            let expected = AtaArgs {
+                aflags: 0x41,
+                feature,
+                count,
+                code,
+                lba: 15,
+            };
+            assert_eq!(rt; reply, expected, "{outcome:?}");
+            assert_eq!(rt; is_failed(&reply), failed, "{outcome:?}");
+        }
+        let faulty = AtaArgs {
+            code: STATUS_DRDY | STATUS_DF,
+            ..request
+        };
+        assert!(rt; is_failed(&faulty));
+        let waiting = AtaArgs {
+            code: STATUS_DRDY | STATUS_DRQ,
+            ..request
+        };
+        assert!(rt; !is_failed(&waiting));
+    }
+}
