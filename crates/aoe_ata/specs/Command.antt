@@ -27,13 +27,17 @@ commands = ReadSectors ∷ ReadSectorsExt ∷ WriteSectors ∷ WriteSectorsExt �
 abbrev pub command_with : ℕ → Option CommandCode
 command_with code = find (λ c. code_of c == code) commands
 
--- the sectors of a command with an address of 28 bits, in which a count of 0 stands for 256
-abbrev pub short_span : AtaArgs → Span
-short_span a = record { at = a.lba % 2 ^ 28; count = if a.count == 0 then 256 else a.count }
+-- how many sectors a count register stands for, in which 0 stands for the most
+abbrev pub sector_count : ℕ → ℕ → ℕ
+sector_count most register = if register == 0 then most else register
 
--- the sectors of a command with an address of 48 bits, in which a count of 0 stands for 65,536
+-- the sectors of a command with an address of 28 bits
+abbrev pub short_span : AtaArgs → Span
+short_span a = record { at = a.lba % 2 ^ 28; count = sector_count 256 a.count }
+
+-- the sectors of a command with an address of 48 bits
 abbrev pub long_span : AtaArgs → Span
-long_span a = record { at = a.lba; count = if a.count == 0 then 65536 else a.count }
+long_span a = record { at = a.lba; count = sector_count 65536 a.count }
 
 -- what a command asks for with these registers
 abbrev pub asked : AtaArgs → Option CommandCode → AtaCommand

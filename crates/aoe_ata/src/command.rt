@@ -1,6 +1,6 @@
 //! The commands of the ATA command set that a target knows.
 ghost use Rattle.std.specs.Prelude.{◌≡◌};
-ghost use Rattle.aoe_ata.specs.Command.{code_of, command_with, command_of, short_span, long_span};
+ghost use Rattle.aoe_ata.specs.Command.{code_of, command_with, command_of, sector_count, short_span, long_span};
 
 use crate::AtaArgs;
 use aoe_base::Span;
@@ -68,6 +68,17 @@ pub enum AtaCommand {
     Unknown,
 }
 
+/// How many sectors a count register stands for, in which 0 stands for the most.
+fn sectors_of(most: u32, register: u8) -> u32
+    ensures { result ≡ sector_count most register }
+{
+    if register == 0 {
+        most
+    } else {
+        u32::from(register)
+    }
+}
+
 /// The sectors of a command with an address of 28 bits. The bits above belong to the device
 /// register.
 fn short_span_of(args: &AtaArgs) -> Span
@@ -75,11 +86,7 @@ fn short_span_of(args: &AtaArgs) -> Span
 {
     Span {
         at: args.lba & 0x0fff_ffff,
-        count: if args.count == 0 {
-            256
-        } else {
-            u32::from(args.count)
-        },
+        count: sectors_of(256, args.count),
     }
 }
 
@@ -89,11 +96,7 @@ fn long_span_of(args: &AtaArgs) -> Span
 {
     Span {
         at: args.lba,
-        count: if args.count == 0 {
-            65536
-        } else {
-            u32::from(args.count)
-        },
+        count: sectors_of(65536, args.count),
     }
 }
 
@@ -120,66 +123,30 @@ pub fn classify(args: &AtaArgs) -> AtaCommand
 mod tests {
     use super::*;
 
+    fn short(count: u32) -> Span {
+        Span {
+            at: 0x0e00_0005,
+            count,
+        }
+    }
+
+    fn long(count: u32) -> Span {
+        Span {
+            at: 0xa5e0_0e00_0005,
+            count,
+        }
+    }
+
     #[test]
     fn commands_by_their_codes(rt: HostRuntime) {
-        let at = 0x0e00_0005;
         let cases = [
-            (
-                0x20,
-                2,
-                AtaCommand::Read(Span {
-                    at: 0x0e00_0005,
-                    count: 2,
-                }),
-            ),
-            (
-                0x20,
-                0,
-                AtaCommand::Read(Span {
-                    at: 0x0e00_0005,
-                    count: 256,
-                }),
-            ),
-            (
-                0x24,
-                0,
-                AtaCommand::Read(Span {
-                    at: 0xa5e0_0e00_0005,
-                    count: 65536,
-                }),
-            ),
-            (
-                0x30,
-                1,
-                AtaCommand::Write(Span {
-                    at: 0x0e00_0005,
-                    count: 1,
-                }),
-            ),
-            (
-                0x34,
-                1,
-                AtaCommand::Write(Span {
-                    at: 0xa5e0_0e00_0005,
-                    count: 1,
-                }),
-            ),
-            (
-                0x40,
-                1,
-                AtaCommand::Verify(Span {
-                    at: 0x0e00_0005,
-                    count: 1,
-                }),
-            ),
-            (
-                0x42,
-                1,
-                AtaCommand::Verify(Span {
-                    at: 0xa5e0_0e00_0005,
-                    count: 1,
-                }),
-            ),
+            (0x20, 2, AtaCommand::Read(short(2))),
+            (0x20, 0, AtaCommand::Read(short(256))),
+            (0x24, 0, AtaCommand::Read(long(65536))),
+            (0x30, 1, AtaCommand::Write(short(1))),
+            (0x34, 1, AtaCommand::Write(long(1))),
+            (0x40, 1, AtaCommand::Verify(short(1))),
+            (0x42, 1, AtaCommand::Verify(long(1))),
             (0xe5, 0, AtaCommand::PowerMode),
             (0xe7, 0, AtaCommand::Flush),
             (0xea, 0, AtaCommand::Flush),
@@ -193,7 +160,7 @@ mod tests {
                 feature: 0,
                 count,
                 code,
-                lba: 0xa5e0_0000_0000 + at,
+                lba: 0xa5e0_0e00_0005,
             };
             assert_eq!(rt; classify(&args), command, "code {code}");
         }
