@@ -1,2 +1,3 @@
 mod ArgsLemmas
 pub mod PageLemmas
+mod SerialLemmas

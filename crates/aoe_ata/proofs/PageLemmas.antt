@@ -5,7 +5,8 @@ use Rattle.std.specs.Int.{w16, w32, w64, to_le_bytes}
 use Rattle.std.proofs.Math.Seq.{drop-append-add}
 use Rattle.std.proofs.lemmas.List.{take-append-drop, take_at, drop-drop, length-append, length-take-le, length-drop, get_or_append_left, get_or-take, get_or-append-add}
 use Rattle.std.proofs.lemmas.Nat.{div-mul-add, mod-mul-add}
-use Rattle.aoe_ata.specs.Identify.{word_bytes, text_words, filled, number_words, laid, page_words, page, word, declared}
+use Rattle.aoe_ata.specs.Serial.{filled}
+use Rattle.aoe_ata.specs.Identify.{word_bytes, text_words, number_words, laid, page_words, page, word, declared}
 
 pub laid-nothing : (under : List ℕ) (n : ℕ) → laid under n [] ≡ under
 laid-nothing under n = rw (append-nil, add-zero) (take-append-drop n under)

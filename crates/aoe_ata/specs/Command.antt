@@ -7,6 +7,7 @@ use Rattle.aoe_ata.specs.declared.command.CommandCode.TheVariants.{ReadSectors, 
 use Rattle.aoe_ata.specs.declared.command.AtaCommand.{AtaCommand}
 use Rattle.aoe_ata.specs.declared.command.AtaCommand.TheVariants.{Read, Write, Verify, Flush, Identify, PowerMode, Unknown}
 
+-- the code of a command
 abbrev pub code_of : CommandCode → ℕ
 code_of ReadSectors = 0x20
 code_of ReadSectorsExt = 0x24

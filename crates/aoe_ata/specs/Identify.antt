@@ -1,6 +1,7 @@
 -- The identify page (ATA/ATAPI Command Set, "IDENTIFY DEVICE data"): 256 words, each with its low byte first.
-use Rattle.std.specs.Prelude.{ℕ, zero, suc, ◌+◌, ◌-◌, ◌*◌, ◌/◌, ◌%◌, ◌^◌, min, Bool, not, ◌&&◌, ◌==◌, List, [], ◌∷◌, ◌++◌, length, take, drop, replicate, codes, Option, Some, None, if◌then◌else◌, slice_index}
+use Rattle.std.specs.Prelude.{ℕ, zero, suc, ◌+◌, ◌*◌, ◌/◌, ◌%◌, ◌^◌, min, Bool, not, ◌&&◌, ◌==◌, List, [], ◌∷◌, ◌++◌, length, take, drop, replicate, codes, Option, Some, None, if◌then◌else◌, slice_index}
 use Rattle.std.specs.Int.{bit_at}
+use Rattle.aoe_ata.specs.Serial.{filled}
 
 -- the bytes of words
 abbrev pub word_bytes : List ℕ → List ℕ
@@ -12,16 +13,13 @@ abbrev pub text_words : List ℕ → List ℕ
 text_words (high ∷ low ∷ text) = (high * 256 + low) ∷ text_words text
 text_words _ = []
 
--- a text, filled with spaces on the right
-abbrev pub filled : ℕ → List ℕ → List ℕ
-filled len text = text ++ replicate (len - length text) 32
-
 -- the n words of a number, the low one first
 abbrev pub number_words : ℕ → ℕ → List ℕ
 number_words zero x = []
 number_words (suc n) x = x % 2 ^ 16 ∷ number_words n (x / 2 ^ 16)
 
--- the words that say something: the first one's number, and what stands from there on
+-- the words that say something, each with the number of the first: the names of the serial, the firmware and the model; that
+-- sectors have addresses; how many of them 28 bits reach; the feature sets that are there, and on; how many sectors there are
 abbrev pub named_words : ℕ → List ℕ → List (ℕ × List ℕ)
 named_words total serial =
     (10, text_words serial)
@@ -46,6 +44,7 @@ all_laid under (piece ∷ pieces) = all_laid (laid under piece.0 piece.1) pieces
 abbrev pub page_words : ℕ → List ℕ → List ℕ
 page_words total serial = all_laid (replicate 256 0) (named_words total serial)
 
+-- the bytes of the page
 unfoldable pub page : ℕ → List ℕ → List ℕ
 page total serial = word_bytes (page_words total serial)
 

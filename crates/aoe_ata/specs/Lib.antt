@@ -3,3 +3,4 @@ pub mod Command
 pub mod Decision
 pub mod Identify
 pub mod Reply
+pub mod Serial

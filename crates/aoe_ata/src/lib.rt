@@ -7,6 +7,7 @@ mod command;
 mod decision;
 mod identify;
 mod reply;
+mod serial;
 
 pub use args::{
     AFLAG_ASYNC, AFLAG_DEVICE, AFLAG_EXTENDED, AFLAG_WRITE, ARGS_LEN, AtaArgs, args_read_back,
@@ -19,3 +20,4 @@ pub use reply::{
     AtaOutcome, ERROR_ABRT, ERROR_IDNF, ERROR_UNC, STATUS_DF, STATUS_DRDY, STATUS_DRQ, STATUS_ERR,
     is_failed, reply_args,
 };
+pub use serial::serial_number;
