@@ -1,3 +1,4 @@
 mod ArgsLemmas
-pub mod PageLemmas
+mod LaidLemmas
+mod PageLemmas
 mod SerialLemmas

@@ -1,54 +1,13 @@
--- Pieces laid over a list, and the words of a page.
-use Rattle.std.proofs.Common.{◌≡◌, ℕ, zero, suc, ◌+◌, ◌-◌, ◌*◌, ◌/◌, ◌%◌, ◌^◌, ◌<◌, ◌≤◌, add-zero, List, [], ◌∷◌, ◌++◌, append-nil, append_assoc, length, get_or, drop, take, replicate, Some, refl, sym, ap, subst, ◌∙◌, arith, lit≤}
+-- The words of a page, and their bytes.
+use Rattle.std.proofs.Common.{◌≡◌, ℕ, zero, suc, ◌+◌, ◌*◌, ◌/◌, ◌%◌, ◌^◌, ◌<◌, ◌≤◌, List, [], ◌∷◌, ◌++◌, length, get_or, drop, take, replicate, Some, refl, sym, ap, ◌∙◌, arith, lit≤}
 use Rattle.std.specs.Prelude.{min, codes}
 use Rattle.std.specs.Int.{w16, w32, w64, to_le_bytes}
-use Rattle.std.proofs.Math.Seq.{drop-append-add}
-use Rattle.std.proofs.lemmas.List.{take-append-drop, take_at, drop-drop, length-append, length-take-le, length-drop, get_or_append_left, get_or-take, get_or-append-add}
 use Rattle.std.proofs.lemmas.Nat.{div-mul-add, mod-mul-add}
 use Rattle.aoe_ata.specs.Serial.{filled}
+use Rattle.aoe_ata.proofs.LaidLemmas.{length-laid, laid-more, get-laid_before, get-laid_in}
 use Rattle.aoe_ata.specs.Identify.{word_bytes, text_words, number_words, laid, page_words, page, word, declared}
 
-pub laid-nothing : (under : List ℕ) (n : ℕ) → laid under n [] ≡ under
-laid-nothing under n = rw (append-nil, add-zero) (take-append-drop n under)
-
-length-front : (under piece : List ℕ) (n : ℕ) → n ≤ length under → length (take n under ++ piece) ≡ n + length piece
-length-front under piece n inside = length-append (take n under) piece ∙ ap (λ (k : ℕ). k + length piece) (length-take-le n under inside)
-
-pub length-laid : (under piece : List ℕ) (n : ℕ) → n + length piece ≤ length under → length (laid under n piece) ≡ length under
-length-laid under piece n inside =
-    let front : length (take n under ++ piece) ≡ n + length piece = length-front under piece n (omega arith) in
-    let back : length (drop (n + length piece) under) ≡ length under - (n + length piece) = length-drop (n + length piece) under in
-    length-append (take n under ++ piece) (drop (n + length piece) under) ∙ omega arith
-
--- a piece laid right behind another is one piece with it
-pub laid-more : (under xs ys : List ℕ) (n m : ℕ) → n + length xs ≤ length under → m ≡ n + length xs → laid (laid under n xs) m ys ≡ laid under n (xs ++ ys)
-laid-more under xs ys n m inside behind =
-    let front : List ℕ = take n under ++ xs in
-    let front-long : length (take n under ++ xs) ≡ m = length-front under xs n (omega arith) ∙ sym behind in
-    let kept : take m (laid under n xs) ≡ take n under ++ xs = take_at (take n under ++ xs) (drop (n + length xs) under) m front-long in
-    let left : drop (m + length ys) (laid under n xs) ≡ drop (length ys) (drop (n + length xs) under) =
-    subst (λ (k : ℕ). drop (k + length ys) (laid under n xs) ≡ drop (length ys) (drop (n + length xs) under)) front-long (drop-append-add (take n under ++ xs) (drop (n + length xs) under) (length ys)) in
-    let rest : drop (length ys) (drop (n + length xs) under) ≡ drop (n + length (xs ++ ys)) under =
-    drop-drop (length ys) (n + length xs) under ∙ ap (λ (k : ℕ). drop k under) (omega (arith, length-append xs ys)) in
-    ap (λ (l : List ℕ). l ++ ys ++ drop (m + length ys) (laid under n xs)) kept
-    ∙ ap (λ (l : List ℕ). take n under ++ xs ++ ys ++ l) (left ∙ rest)
-    ∙ ap (λ (l : List ℕ). l ++ drop (n + length (xs ++ ys)) under) (append_assoc (take n under) xs ys)
-
-get-laid_before : (under piece : List ℕ) (n k : ℕ) → n ≤ length under → k < n → get_or (laid under n piece) k 0 ≡ get_or under k 0
-get-laid_before under piece n k inside before =
-    let front : length (take n under ++ piece) ≡ n + length piece = length-front under piece n inside in
-    let long : length (take n under) ≡ n = length-take-le n under inside in
-    get_or_append_left (take n under ++ piece) (drop (n + length piece) under) 0 k (omega arith)
-    ∙ get_or_append_left (take n under) piece 0 k (omega arith)
-    ∙ get_or-take n under k 0 before
-
-get-laid_in : (under piece : List ℕ) (n i : ℕ) → n ≤ length under → i < length piece → get_or (laid under n piece) (n + i) 0 ≡ get_or piece i 0
-get-laid_in under piece n i inside within =
-    let front : length (take n under ++ piece) ≡ n + length piece = length-front under piece n inside in
-    let long : length (take n under) ≡ n = length-take-le n under inside in
-    get_or_append_left (take n under ++ piece) (drop (n + length piece) under) 0 (n + i) (omega arith)
-    ∙ subst (λ (k : ℕ). get_or (take n under ++ piece) (k + i) 0 ≡ get_or piece i 0) long (get_or-append-add (take n under) piece i 0)
-
+-- a word is two bytes
 take-word_bytes : (n : ℕ) (ws : List ℕ) → take (2 * n) (word_bytes ws) ≡ word_bytes (take n ws)
 take-word_bytes zero ws = refl
 take-word_bytes (suc n) [] = let e : 2 * suc n ≡ suc (suc (2 * n)) = omega arith in rw e refl
@@ -78,11 +37,11 @@ word_bytes-laid ws vs n =
     ∙ sym (word_bytes-append (take n ws ++ vs) (drop (n + length vs) ws))
 
 -- the bytes of a page are those of its words
-pub record HasWords (bytes ws : List ℕ) : Type 0 where
-  pub are : bytes ≡ word_bytes ws
+record HasWords (bytes ws : List ℕ) : Type 0 where
+  are : bytes ≡ word_bytes ws
 
 -- one more piece on a page
-pub laid-step : (before after piece ws vs : List ℕ) (n : ℕ) → HasWords before ws → piece ≡ word_bytes vs → after ≡ laid before (2 * n) piece → HasWords after (laid ws n vs)
+laid-step : (before after piece ws vs : List ℕ) (n : ℕ) → HasWords before ws → piece ≡ word_bytes vs → after ≡ laid before (2 * n) piece → HasWords after (laid ws n vs)
 laid-step before after piece ws vs n words piece-is after-is = record {
   are = after-is
       ∙ ap (λ (l : List ℕ). laid l (2 * n) piece) words.are
@@ -91,7 +50,7 @@ laid-step before after piece ws vs n words piece-is after-is = record {
 }
 
 -- one more pair of a text
-pub text-pair : (i : ℕ) (text : List ℕ) → 2 * i + 1 < length text → ((k : ℕ) → get_or text k 0 < 256)
+text-pair : (i : ℕ) (text : List ℕ) → 2 * i + 1 < length text → ((k : ℕ) → get_or text k 0 < 256)
     → word_bytes (text_words (take (2 * (i + 1)) text)) ≡ word_bytes (text_words (take (2 * i) text)) ++ get_or text (2 * i + 1) 0 ∷ get_or text (2 * i) 0 ∷ []
 text-pair i [] inside small = absurd (omega arith)
 text-pair i (a ∷ []) inside small = absurd (omega arith)
@@ -103,7 +62,7 @@ text-pair (suc i) (a ∷ b ∷ text) inside small =
     let rest = text-pair i text (omega arith) (λ k. small (suc (suc k))) in
     rw (more, here, odd) (ap (λ (l : List ℕ). (a * 256 + b) % 256 ∷ (a * 256 + b) / 256 ∷ l) rest)
 
-pub length-text : (i : ℕ) (text : List ℕ) → 2 * i ≤ length text → length (word_bytes (text_words (take (2 * i) text))) ≡ 2 * i
+length-text : (i : ℕ) (text : List ℕ) → 2 * i ≤ length text → length (word_bytes (text_words (take (2 * i) text))) ≡ 2 * i
 length-text zero text inside = refl
 length-text (suc i) [] inside = absurd (omega arith)
 length-text (suc i) (a ∷ []) inside = absurd (omega arith)
@@ -150,7 +109,6 @@ pub pair-laid : (page before after text : List ℕ) (n i : ℕ) → 2 * n + leng
     → after ≡ laid before (2 * (n + i)) (get_or text (2 * i + 1) 0 ∷ get_or text (2 * i) 0 ∷ [])
     → after ≡ laid page (2 * n) (word_bytes (text_words (take (2 * (i + 1)) text)))
 pair-laid page before after text n i room inside small before-is after-is =
-    let pair : List ℕ = get_or text (2 * i + 1) 0 ∷ get_or text (2 * i) 0 ∷ [] in
     let long : length (word_bytes (text_words (take (2 * i) text))) ≡ 2 * i = length-text i text (omega arith) in
     after-is
     ∙ ap (λ (l : List ℕ). laid l (2 * (n + i)) (get_or text (2 * i + 1) 0 ∷ get_or text (2 * i) 0 ∷ [])) before-is
@@ -172,10 +130,10 @@ word-same n m xs ys next rest =
     cons-same _ _ _ _ (sym (low-byte n)) (cons-same _ _ _ _ (ap (λ (k : ℕ). k % 256) next ∙ sym (high-byte n)) rest)
 
 -- the bytes of a number are those of its words
-pub to_le_bytes-4 : (n : ℕ) → to_le_bytes w32 n ≡ word_bytes (number_words 2 n)
+to_le_bytes-4 : (n : ℕ) → to_le_bytes w32 n ≡ word_bytes (number_words 2 n)
 to_le_bytes-4 n = word-same n (n / 2 ^ 8) _ _ refl (word-same (n / 2 ^ 16) (n / 2 ^ 24) _ _ (omega arith) refl)
 
-pub to_le_bytes-8 : (n : ℕ) → to_le_bytes w64 n ≡ word_bytes (number_words 4 n)
+to_le_bytes-8 : (n : ℕ) → to_le_bytes w64 n ≡ word_bytes (number_words 4 n)
 to_le_bytes-8 n =
     let second : n / 2 ^ 32 ≡ n / 2 ^ 16 / 2 ^ 16 = omega arith in
     let third : n / 2 ^ 48 ≡ n / 2 ^ 16 / 2 ^ 16 / 2 ^ 16 = omega arith in

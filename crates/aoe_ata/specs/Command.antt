@@ -54,5 +54,6 @@ asked a (Some FlushCacheExt) = Flush
 asked a (Some IdentifyDevice) = Identify
 asked a None = Unknown
 
+-- what registers ask for
 abbrev pub command_of : AtaArgs → AtaCommand
 command_of a = asked a (command_with a.code)

@@ -25,6 +25,7 @@ is_taken max room Unknown = true
 abbrev pub within : ℕ → Span → AtaAnswer → AtaAnswer
 within total span answer = if nat_le (span.at + span.count) total then answer else NotFound
 
+-- the answer to a command that is taken
 abbrev pub answer_of : ℕ → AtaCommand → AtaAnswer
 answer_of total (Read span) = within total span (Give span)
 answer_of total (Write span) = within total span (Put span)

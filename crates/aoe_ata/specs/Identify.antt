@@ -18,8 +18,8 @@ abbrev pub number_words : ℕ → ℕ → List ℕ
 number_words zero x = []
 number_words (suc n) x = x % 2 ^ 16 ∷ number_words n (x / 2 ^ 16)
 
--- the words that say something, each with the number of the first: the names of the serial, the firmware and the model; that
--- sectors have addresses; how many of them 28 bits reach; the feature sets that are there, and on; how many sectors there are
+-- the words that say something, each with the number of the first: serial number, firmware, model, sectors have addresses,
+-- the sectors that 28 bits reach, the feature sets that are there, those that are on, all sectors
 abbrev pub named_words : ℕ → List ℕ → List (ℕ × List ℕ)
 named_words total serial =
     (10, text_words serial)
