@@ -1,2 +1,3 @@
 pub mod HeaderLemmas
 mod Padding
+pub mod PieceLemmas

@@ -1,0 +1,4 @@
+mod ArgsLemmas
+mod LaidLemmas
+mod PageLemmas
+mod SerialLemmas
