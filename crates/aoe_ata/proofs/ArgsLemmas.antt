@@ -3,10 +3,8 @@ use Rattle.std.proofs.Common.{◌≡◌, ℕ, zero, suc, ◌-◌, ◌^◌, ◌<�
 use Rattle.std.specs.Prelude.{nat_le, All, if◌then◌else◌}
 use Rattle.std.specs.Int.{w64, to_le_bytes}
 use Rattle.std.proofs.Math.Seq.{drop-cons, take-add}
-use Rattle.std.proofs.Math.ListN.{drop_of_length-le}
 use Rattle.std.proofs.lemmas.Bool.{cases_lt}
-use Rattle.std.proofs.lemmas.List.{get_or_past, get_or_append_left, get_or-append_right, take_at, length-take-le, length-drop, length-append}
-use Rattle.std.proofs.lemmas.List.Elements.{All-get_or, All-take, All-drop}
+use Rattle.std.proofs.lemmas.List.{get_or_append_left, get_or-append_right, take_at, length-take-le, length-drop, length-append}
 use Rattle.std.proofs.lemmas.Nat.{le_bytes_8}
 use Rattle.aoe_frame.proofs.PieceLemmas.{six-is, two-at, part-small}
 use Rattle.aoe_ata.specs.declared.args.AtaArgs.{AtaArgs}

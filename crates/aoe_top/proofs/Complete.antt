@@ -1,7 +1,6 @@
 -- A stream of frames is answered to its end.
-use Rattle.std.proofs.Common.{◌≡◌, ◌≤◌, ◌<◌, ◌+◌, ◌-◌, suc, ℕ, List, [], ◌∷◌, ◌++◌, length, drop, Option, Some, None, refl, sym, ap, subst, ◌∙◌, append_assoc, arith, add-one}
+use Rattle.std.proofs.Common.{◌≡◌, ◌≤◌, ◌<◌, ℕ, List, [], ◌∷◌, ◌++◌, length, drop, Option, Some, None, refl, sym, ap, subst, ◌∙◌, append_assoc, arith, add-one}
 use Rattle.std.specs.Prelude.{All, IfSome}
-use Rattle.std.specs.Option.{option_map}
 use Rattle.std.proofs.lemmas.List.{length-drop, drop-drop}
 use Rattle.std.proofs.lemmas.List.Elements.{All-drop}
 use Rattle.aoe_base.specs.declared.address.TargetId.{TargetId}

@@ -1,5 +1,5 @@
 -- Turns make runs.
-use Rattle.std.proofs.Common.{◌≡◌, ◌≤◌, ◌<◌, ◌+◌, ◌*◌, ℕ, List, [], ◌∷◌, ◌++◌, length, length-append, Option, Some, None, refl, sym, ap, subst, ◌∙◌, append-nil, append_assoc, arith}
+use Rattle.std.proofs.Common.{◌≡◌, ◌≤◌, ◌<◌, ◌+◌, ◌*◌, ℕ, List, [], ◌∷◌, ◌++◌, length, length-append, Option, Some, None, refl, sym, ap, subst, ◌∙◌, append-nil, arith}
 use Rattle.std.specs.Prelude.{option_to_list}
 use Rattle.std.proofs.lemmas.Grind.{flat_map-append}
 use Rattle.aoe_base.specs.declared.address.TargetId.{TargetId}
@@ -8,7 +8,7 @@ use Rattle.aoe_io.specs.Bytes.{Gave, Took, TookSome, IsEnded}
 use Rattle.aoe_io.specs.Stream.{framed, stream, IsFrame}
 use Rattle.aoe_top.specs.Target.{reply_to}
 use Rattle.aoe_top.specs.Arrivals.{Arrived, IsLawful, frames, replies, sent}
-use Rattle.aoe_top.specs.Run.{Stops, Writes, Ran, Ends}
+use Rattle.aoe_top.specs.Run.{Ran, Ends}
 use Rattle.aoe_top.specs.declared.status.Status.{Status}
 use Rattle.aoe_top.specs.declared.status.Status.TheVariants as status
 

@@ -1,5 +1,5 @@
 -- What a run of answer takes and gives, by its status.
-use Rattle.std.specs.Prelude.{ℕ, ◌<◌, ◌≤◌, ◌≡◌, List, [], ◌∷◌, ◌++◌, length, Option, Some, None, IfSome}
+use Rattle.std.specs.Prelude.{ℕ, ◌<◌, ◌≤◌, ◌≡◌, List, length, Option, IfSome}
 use Rattle.aoe_io.specs.Bytes.{Gave, GaveSome, Took, TookSome, IsEnded}
 use Rattle.aoe_io.specs.Stream.{framed, stream, IsFrame, IsBroken}
 use Rattle.aoe_base.specs.declared.address.TargetId.{TargetId}

@@ -1,11 +1,10 @@
 -- What a target answers to a frame.
-use Rattle.std.specs.Prelude.{ℕ, Bool, ◌+◌, ◌*◌, List, [], ◌∷◌, ◌++◌, ◌&&◌, ◌||◌, ◌==◌, not, length, nat_lt, Option, Some, None, if◌then◌else◌, slice_index, slice_range, bit_and}
+use Rattle.std.specs.Prelude.{ℕ, Bool, ◌+◌, List, [], ◌∷◌, ◌++◌, ◌&&◌, ◌||◌, ◌==◌, not, length, nat_lt, Option, Some, None, if◌then◌else◌, slice_index, slice_range, bit_and}
 use Rattle.std.specs.Int.{w16, to_be_bytes}
 use Rattle.std.specs.Str.{bytes_eq}
 use Rattle.aoe_base.specs.declared.address.TheConstants.{BROADCAST}
 use Rattle.aoe_base.specs.declared.address.TargetId.{TargetId}
 use Rattle.aoe_frame.specs.declared.header.Header.{Header}
-use Rattle.aoe_frame.specs.declared.refusal.AoeError.{AoeError}
 use Rattle.aoe_frame.specs.declared.refusal.AoeError.TheVariants.{UnrecognizedCommand, BadArgument, UnsupportedVersion}
 use Rattle.aoe_frame.specs.Header.{head, header_bytes, reply_header, padded}
 use Rattle.aoe_frame.specs.Refusal.{code_of_error}

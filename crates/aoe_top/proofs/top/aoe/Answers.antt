@@ -1,4 +1,4 @@
-use Rattle.std.proofs.Common.{◌≡◌, ℕ, List, Option, subst, arith}
+use Rattle.std.proofs.Common.{ℕ, List, Option, subst, arith}
 use Rattle.aoe_top.specs.Run.{Ran}
 use Rattle.aoe_top.proofs.Complete.{complete}
 use Rattle.aoe_top.proofs.top.aoe.Goals as goal
