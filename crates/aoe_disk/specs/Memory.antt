@@ -1,5 +1,5 @@
 -- A disk in memory, as contracts see it.
-use Rattle.std.specs.Prelude.{◌≡◌, ◌≤◌, ◌<◌, ◌*◌, ◌/◌, ◌-◌, ◌^◌, ℕ, Bool, true, false, Option, None, Some, List, length, replicate}
+use Rattle.std.specs.Prelude.{◌≡◌, ◌≤◌, ◌<◌, ◌+◌, ◌*◌, min, ◌/◌, ◌-◌, ◌^◌, ℕ, Bool, true, false, Option, None, Some, List, length, replicate}
 use Rattle.std.specs.Option.{option_map}
 use Rattle.aoe_disk.specs.State.{Contents, Schedule, DiskState, sector, is_loose}
 use Rattle.aoe_disk.specs.Arming.{number_of}
@@ -49,6 +49,10 @@ fresh image = record {
   faults = 0;
   calls = 0;
 }
+
+-- a count of calls after one more: it stands still at its type's end
+abbrev pub next_count : ℕ → ℕ
+next_count calls = min (calls + 1) (2 ^ 64 - 1)
 
 -- two images agree in every sector that isn't loose
 abbrev pub AgreesWhereKept : List Bool → List ℕ → List ℕ → Type 0

@@ -1,7 +1,5 @@
 //! A disk in memory.
-ghost use Rattle.std.specs.Prelude.{◌≡◌, ◌≤◌, ◌<◌, ◌+◌, ◌*◌, ◌^◌, length, min, IfOk};
-ghost use Rattle.aoe_disk.specs.State.{with_piece, sector};
-ghost use Rattle.aoe_disk.specs.Calls.{Reads, WritesTo, SyncsTo};
+ghost use Rattle.std.specs.Prelude.{◌≡◌, ◌≤◌, ◌*◌, ◌^◌, length};
 ghost use Rattle.aoe_disk.specs.Memory.{AgreesWhereKept};
 
 use crate::bytes::{SECTOR, mark, spoil_at, write_at};
@@ -175,7 +173,9 @@ impl MemDisk {
 }
 
 impl Disk for MemDisk {
-    ghost use Rattle.aoe_disk.specs.Memory.{state_of};
+    ghost use Rattle.std.specs.Prelude.{◌≡◌, length};
+    ghost use Rattle.aoe_disk.specs.Calls.{IsRange, Reads, WritesTo, SyncsTo};
+    ghost use Rattle.aoe_disk.specs.Memory.{state_of, next_count};
 
     ghost state = { state_of };
 
@@ -183,7 +183,11 @@ impl Disk for MemDisk {
         self.loose.len() as u64
     }
 
-    fn read(&mut self, at: u64, out: &mut [u8]) -> Result<(), Failed> {
+    fn read(&mut self, at: u64, out: &mut [u8]) -> Result<(), Failed>
+        requires { IsRange at (length out.old) (length self.old.loose) }
+        ensures reads { Reads at (length out.old) result out.new (state_of self.old) (state_of self.new) }
+        ensures calls { self.new.calls ≡ next_count self.old.calls }
+    {
         if self.meter.fails() {
             return Err(Failed);
         }
@@ -192,7 +196,11 @@ impl Disk for MemDisk {
         Ok(())
     }
 
-    fn write(&mut self, at: u64, piece: &[u8]) -> Result<(), Failed> {
+    fn write(&mut self, at: u64, piece: &[u8]) -> Result<(), Failed>
+        requires { IsRange at (length piece.now) (length self.old.loose) }
+        ensures writes { WritesTo at piece.now result (state_of self.old) (state_of self.new) }
+        ensures calls { self.new.calls ≡ next_count self.old.calls }
+    {
         let fails = self.meter.fails();
         let start = SECTOR * at as usize;
         mark(&mut self.loose, at as usize, piece.len() / SECTOR);
@@ -204,7 +212,10 @@ impl Disk for MemDisk {
         Ok(())
     }
 
-    fn sync(&mut self) -> Result<(), Failed> {
+    fn sync(&mut self) -> Result<(), Failed>
+        ensures syncs { SyncsTo result (state_of self.old) (state_of self.new) }
+        ensures calls { self.new.calls ≡ next_count self.old.calls }
+    {
         if self.meter.fails() {
             return Err(Failed);
         }

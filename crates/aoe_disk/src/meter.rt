@@ -1,9 +1,9 @@
 //! The device calls of a disk: how many were made, how many failed, and which are to fail.
-ghost use Rattle.std.specs.Prelude.{◌≡◌, ◌≤◌, ◌+◌, ◌-◌, ◌^◌, None, false, min};
+ghost use Rattle.std.specs.Prelude.{◌≡◌, ◌≤◌, None, false};
 ghost use Rattle.std.specs.Bool.{OnTrue};
 ghost use Rattle.aoe_base.specs.Faults.{Rose};
 ghost use Rattle.aoe_disk.specs.Calls.{MovesOn};
-ghost use Rattle.aoe_disk.specs.Memory.{schedule_of, IsArming, IsAdvance};
+ghost use Rattle.aoe_disk.specs.Memory.{schedule_of, next_count, IsArming, IsAdvance};
 
 use crate::Arm;
 
@@ -67,7 +67,7 @@ impl Meter {
         ensures moves { MovesOn 1 result self.old.faults self.new.faults (schedule_of self.old.arming self.old.out) (schedule_of self.new.arming self.new.out) }
         ensures later { self.old.faults ≤ self.new.faults }
         ensures cause { OnTrue result (Rose self.old.faults self.new.faults) }
-        ensures calls { self.new.calls ≡ min (self.old.calls + 1) (2 ^ 64 - 1) }
+        ensures calls { self.new.calls ≡ next_count self.old.calls }
     {
         self.calls = self.calls.saturating_add(1);
         let fails = self.advance();

@@ -16,8 +16,8 @@ invariant_of-self c =
     let bytes = stored_piece c.self.inside.bytes.items c.spoil_at.new.bytes c.deref_mut-then-fails.result.now spoiled_sector c.self.inside.bytes.len (512 * c.args.at) c.self.inside.bytes.ok.0 c.deref_mut-then-fails.ensures.value c.spoil_at.ensures (sector_fits c.self.inside.bytes.items c.self.inside.settled.items c.self.inside.loose.items c.self.inside.meter.arming c.self.inside.meter.out c.self.invariant c.args.at c.args.piece.now range c.fails-fails.new.self.arming c.fails-fails.new.self.out c.fails-fails.ensures.arming) in
     rw (loose, bytes) (memory_spoiled c.self.inside.bytes.items c.self.inside.settled.items c.self.inside.loose.items c.self.inside.meter.arming c.self.inside.meter.out c.self.invariant c.args.at c.args.piece.now range c.fails-fails.new.self.arming c.fails-fails.new.self.out c.fails-fails.ensures.arming)
 
-pub returns-then-fails : goal.returns-then-fails
-returns-then-fails c =
+pub returns-then-fails-clause-writes : goal.returns-then-fails-clause-writes
+returns-then-fails-clause-writes c =
     let count : length c.self.inside.loose.items ≡ length c.args.self.now.loose = ap (λ m. length m.loose) c.self.view_is in
     let range : IsRange c.args.at (length c.args.piece.now) (length c.self.inside.loose.items) = subst (λ (n : ℕ). IsRange c.args.at (length c.args.piece.now) n) (sym count) c.requires in
     let loose = stored_marks c.self.inside.loose.items c.mark.new.loose c.deref_mut.result.now c.self.inside.loose.len c.args.at (length c.args.piece.now / 512) c.self.inside.loose.ok.0 c.deref_mut.ensures.value c.mark.ensures range.within in
@@ -34,8 +34,8 @@ invariant_of-self-2 c =
     let bytes = stored_piece c.self.inside.bytes.items c.write_at.new.bytes c.deref_mut-2.result.now c.args.piece.now c.self.inside.bytes.len (512 * c.args.at) c.self.inside.bytes.ok.0 c.deref_mut-2.ensures.value c.write_at.ensures (piece_fits c.self.inside.bytes.items c.self.inside.settled.items c.self.inside.loose.items c.self.inside.meter.arming c.self.inside.meter.out c.self.invariant c.args.at c.args.piece.now range c.fails-fails.new.self.arming c.fails-fails.new.self.out c.fails-fails.ensures.arming) in
     rw (loose, bytes) (memory_put c.self.inside.bytes.items c.self.inside.settled.items c.self.inside.loose.items c.self.inside.meter.arming c.self.inside.meter.out c.self.invariant c.args.at c.args.piece.now range c.fails-fails.new.self.arming c.fails-fails.new.self.out c.fails-fails.ensures.arming)
 
-pub returns : goal.returns
-returns c =
+pub returns-clause-writes : goal.returns-clause-writes
+returns-clause-writes c =
     let count : length c.self.inside.loose.items ≡ length c.args.self.now.loose = ap (λ m. length m.loose) c.self.view_is in
     let range : IsRange c.args.at (length c.args.piece.now) (length c.self.inside.loose.items) = subst (λ (n : ℕ). IsRange c.args.at (length c.args.piece.now) n) (sym count) c.requires in
     let loose = stored_marks c.self.inside.loose.items c.mark.new.loose c.deref_mut.result.now c.self.inside.loose.len c.args.at (length c.args.piece.now / 512) c.self.inside.loose.ok.0 c.deref_mut.ensures.value c.mark.ensures range.within in
