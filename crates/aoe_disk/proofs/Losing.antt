@@ -1,9 +1,9 @@
 -- A crash and a sync of a disk in memory, sector by sector.
-use Rattle.std.proofs.Common.{◌≡◌, ◌≢◌, ◌≤◌, ◌<◌, ◌+◌, ◌-◌, ◌*◌, ◌/◌, ◌==◌, ◌%◌, ◌^◌, ℕ, Bool, true, false, List, ◌++◌, length, take, drop, refl, arith, sym, ◌∙◌, ap, subst, inl, inr, length-append, length-drop}
-use Rattle.std.proofs.lemmas.Bool.{cases_eq, cases_Bool, both_ways, cond_both, ne_eqb}
+use Rattle.std.proofs.Common.{◌≡◌, ◌≢◌, ◌≤◌, ◌<◌, ◌+◌, ◌*◌, ◌==◌, ◌%◌, ◌^◌, ℕ, Bool, true, false, List, ◌++◌, length, take, drop, refl, arith, sym, ◌∙◌, ap, subst, inl, inr, length-append, length-drop}
+use Rattle.std.proofs.lemmas.Bool.{cases_eq, both_ways, cond_both, ne_eqb}
 use Rattle.std.proofs.lemmas.List.{length-take-le, drop_all, append-nil}
 use Rattle.aoe_disk.specs.State.{with_piece, sector, is_loose, spoiled_sector}
-use Rattle.aoe_disk.specs.Loss.{mixed, left_of, IsLeft, torn}
+use Rattle.aoe_disk.specs.Loss.{mixed, left_of, torn}
 use Rattle.aoe_disk.specs.Memory.{AgreesWhereKept}
 use Rattle.aoe_disk.specs.declared.loss.Loss.{Loss}
 use Rattle.aoe_disk.specs.declared.loss.Loss.TheVariants.{Keep, Old, Torn, Mix}
@@ -28,7 +28,7 @@ length-torn now settled en es = omega (arith, length-append (take 256 now) (drop
 length-mixed : (choice : ℕ) (now settled : List ℕ) → length now ≡ 512 → length settled ≡ 512 → length (mixed choice now settled) ≡ 512
 length-mixed choice now settled en es =
     cond_both (choice == 0) now _ (λ l. length l ≡ 512) (λ _. en) (λ _. cond_both (choice == 1) settled _ (λ l. length l ≡ 512) (λ _. es) (λ _. cond_both (choice == 2) (torn now settled) spoiled_sector (λ l. length l ≡ 512)
-      (λ _. length-torn now settled en es) (λ _. length-spoiled_sector)))
+    (λ _. length-torn now settled en es) (λ _. length-spoiled_sector)))
 
 pub mixed_spoils : (choice : ℕ) (now settled : List ℕ) → choice ≢ 0 → choice ≢ 1 → choice ≢ 2 → mixed choice now settled ≡ spoiled_sector
 mixed_spoils choice now settled a b c = rw (ne_eqb choice 0 a, ne_eqb choice 1 b, ne_eqb choice 2 c) refl

@@ -1,16 +1,16 @@
 -- The calls of a disk in memory, over its fields.
-use Rattle.std.proofs.Common.{◌≡◌, ◌≤◌, ◌<◌, ◌+◌, ◌*◌, ◌/◌, ℕ, Bool, true, false, Option, Some, None, Result, Ok, Err, List, length, refl, arith, ◌∙◌, ap, subst, sym, inl, inr, lit≤, if◌then◌else◌}
+use Rattle.std.proofs.Common.{◌≡◌, ◌≤◌, ◌+◌, ◌*◌, ◌/◌, ℕ, Bool, true, false, Option, Some, None, Ok, Err, List, length, refl, arith, ◌∙◌, ap, sym, inl, inr, lit≤, if◌then◌else◌}
 use Rattle.std.specs.Bool.{OnTrue}
 use Rattle.std.proofs.lemmas.Bool.{cases_lt, both_ways}
 use Rattle.aoe_base.specs.Faults.{Rose}
-use Rattle.aoe_disk.specs.State.{Contents, Schedule, DiskState, IsDisk, IsSchedule, with_piece, with_marks, spoiled_sector, is_loose, sector}
+use Rattle.aoe_disk.specs.State.{IsDisk, IsSchedule, with_piece, with_marks, spoiled_sector, is_loose, sector}
 use Rattle.aoe_disk.specs.Calls.{IsRange, IsRun, MovesOn, SameOutside, WritesTo}
 use Rattle.aoe_disk.specs.Arming.{IsArmedBy, ArmsTo}
 use Rattle.aoe_disk.specs.Sectors.{IsOutside}
-use Rattle.aoe_disk.specs.Memory.{Memory, contents_of, state_of, schedule_of, armed_of, IsArming, IsAdvance, IsMemory}
+use Rattle.aoe_disk.specs.Memory.{Memory, state_of, schedule_of, armed_of, IsArming, IsAdvance, IsMemory}
 use Rattle.aoe_disk.specs.declared.armed.Arm.{Arm}
 use Rattle.aoe_disk.specs.declared.armed.Arm.TheVariants.{Fail, Stop}
-use Rattle.aoe_disk.proofs.Pieces.{length-with_piece, with_piece_outside, length-with_marks, is_loose-with_marks_outside, is_loose-with_marks_inside, length-spoiled_sector}
+use Rattle.aoe_disk.proofs.Pieces.{with_piece_outside, length-with_marks, is_loose-with_marks_outside, is_loose-with_marks_inside, length-spoiled_sector}
 use Rattle.aoe_disk.proofs.Touching.{sector_outside}
 
 abbrev pub memory : List ℕ → List ℕ → List Bool → Option Arm → Bool → ℕ → ℕ → Memory
@@ -51,9 +51,9 @@ memory_written b b' s l a o a' o' at n m from_one fits same =
       agrees = λ t kept. elim (cases_lt t at) [
         | inl below ↦ agree t (inl below) kept
         | inr past ↦ elim (cases_lt t (at + n)) [
-            | inl inside ↦ absurd (both_ways (is_loose (with_marks l at n) t) kept (is_loose-with_marks_inside l at n fits t past inside))
-            | inr above ↦ agree t (inr above) kept
-          ]
+          | inl inside ↦ absurd (both_ways (is_loose (with_marks l at n) t) kept (is_loose-with_marks_inside l at n fits t past inside))
+          | inr above ↦ agree t (inr above) kept
+        ]
       ];
       arming = from_one;
     }

@@ -1,5 +1,5 @@
 -- Lists with a piece in the place of another, and marks that are set.
-use Rattle.std.proofs.Common.{◌≡◌, ◌≤◌, ◌<◌, ◌+◌, ◌-◌, ◌*◌, ◌/◌, ℕ, Bool, true, false, List, ◌++◌, length, take, drop, get_or, replicate, refl, arith, sym, ◌∙◌, ap, inl, inr, length-append, length-drop, append_assoc}
+use Rattle.std.proofs.Common.{◌≡◌, ◌≤◌, ◌<◌, ◌+◌, ◌-◌, ℕ, Bool, true, false, List, ◌++◌, length, take, drop, get_or, replicate, refl, arith, sym, ◌∙◌, ap, inl, inr, length-append, length-drop, append_assoc}
 use borrow.Rule.Slice.PartMut.{put_mid}
 use Rattle.std.proofs.lemmas.List.{length-take-le, take_at, drop_at, drop-drop, length-replicate, get_or_append_left, get_or-append_right, get_or-take, get_or-drop, get_or-replicate, get_or_past, drop_all, append-nil}
 use Rattle.std.proofs.lemmas.Grind.{common_steps}

@@ -1,12 +1,12 @@
 -- What device calls leave of single sectors, for those who know only some of them.
-use Rattle.std.proofs.Common.{◌≡◌, ◌≢◌, ◌⊎◌, ◌≤◌, ◌<◌, ◌+◌, ◌-◌, ◌*◌, ◌/◌, ℕ, zero, suc, Bool, true, false, Option, Some, None, IfSome, List, ◌++◌, length, take, drop, replicate, refl, arith, sym, ◌∙◌, ap, inl, inr, length-append, length-drop, append_assoc, take-append-drop}
+use Rattle.std.proofs.Common.{◌≡◌, ◌≢◌, ◌≤◌, ◌<◌, ◌+◌, ◌-◌, ◌*◌, ◌/◌, ℕ, zero, suc, Bool, false, List, ◌++◌, length, take, drop, refl, arith, sym, ◌∙◌, ap, inl, inr, length-drop, take-append-drop}
 use Rattle.std.proofs.lemmas.List.{length-take-le, take_at, drop-drop, drop-take, take-take, length-replicate, take_all}
 use Rattle.std.proofs.Math.Seq.{take-length}
 use Rattle.std.proofs.lemmas.Bool.{cases_lt}
-use Rattle.aoe_disk.specs.State.{Contents, CanLeave, HasShape, with_piece, with_marks, spoiled_sector, is_loose, sector}
+use Rattle.aoe_disk.specs.State.{Contents, CanLeave, HasShape, with_piece, is_loose, sector}
 use Rattle.aoe_disk.specs.Calls.{Puts, Spoils, Settles, MaySettle, IsRange, SameOutside}
 use Rattle.aoe_disk.specs.Sectors.{IsOutside, Touches, Calms}
-use Rattle.aoe_disk.proofs.Pieces.{length-with_piece, take-with_piece, drop-with_piece, drop_start-with_piece, with_piece_outside, length-with_marks, is_loose-with_marks_outside, is_loose-replicate, length-spoiled_sector}
+use Rattle.aoe_disk.proofs.Pieces.{drop_start-with_piece, with_piece_outside, length-with_marks, is_loose-with_marks_outside, is_loose-replicate}
 
 take_add : {A : Type 0} (a b : ℕ) (xs : List A) → take (a + b) xs ≡ take a xs ++ take b (drop a xs)
 take_add a b xs =
@@ -24,10 +24,10 @@ range_same (suc n) lo x y same =
     let size : 512 * suc n ≡ 512 + 512 * n = omega arith in
     let next : 512 * lo + 512 ≡ 512 * (lo + 1) = omega arith in
     let rest : take (512 * n) (drop (512 * lo + 512) x) ≡ take (512 * n) (drop (512 * lo + 512) y) =
-      rw next (range_same n (lo + 1) x y (λ s l h. same s (omega arith) (omega arith))) in
+    rw next (range_same n (lo + 1) x y (λ s l h. same s (omega arith) (omega arith))) in
     let one : take 512 (drop (512 * lo) x) ≡ take 512 (drop (512 * lo) y) = same lo (omega arith) (omega arith) in
     let split : (z : List ℕ) → take (512 * suc n) (drop (512 * lo) z) ≡ take 512 (drop (512 * lo) z) ++ take (512 * n) (drop (512 * lo + 512) z) =
-      λ z. ap (λ (m : ℕ). take m (drop (512 * lo) z)) size ∙ take_add 512 (512 * n) (drop (512 * lo) z) ∙ ap (λ (l : List ℕ). take 512 (drop (512 * lo) z) ++ take (512 * n) l) (drop-drop 512 (512 * lo) z) in
+    λ z. ap (λ (m : ℕ). take m (drop (512 * lo) z)) size ∙ take_add 512 (512 * n) (drop (512 * lo) z) ∙ ap (λ (l : List ℕ). take 512 (drop (512 * lo) z) ++ take (512 * n) l) (drop-drop 512 (512 * lo) z) in
     split x ∙ ap (λ (l : List ℕ). l ++ take (512 * n) (drop (512 * lo + 512) x)) one ∙ ap (λ (l : List ℕ). take 512 (drop (512 * lo) y) ++ l) rest ∙ sym (split y)
 
 -- images that agree sector by sector are one
@@ -40,7 +40,7 @@ image_same n x y lx ly same =
 pub sector_front : (x y : List ℕ) (s n : ℕ) → 512 * s + 512 ≤ n → take n x ≡ take n y → sector x s ≡ sector y s
 sector_front x y s n le e =
     let cut : (z : List ℕ) → take 512 (drop (512 * s) z) ≡ drop (512 * s) (take (512 * s + 512) (take n z)) =
-      λ z. sym (drop-take (512 * s) 512 z) ∙ ap (drop (512 * s)) (sym (take-take (512 * s + 512) n z le)) in
+    λ z. sym (drop-take (512 * s) 512 z) ∙ ap (drop (512 * s)) (sym (take-take (512 * s + 512) n z le)) in
     cut x ∙ ap (λ (l : List ℕ). drop (512 * s) (take (512 * s + 512) l)) e ∙ sym (cut y)
 
 -- a sector that begins at byte n or later
@@ -48,7 +48,7 @@ pub sector_back : (x y : List ℕ) (s n : ℕ) → n ≤ 512 * s → drop n x �
 sector_back x y s n le e =
     let split : 512 * s ≡ n + (512 * s - n) = omega arith in
     let cut : (z : List ℕ) → take 512 (drop (512 * s) z) ≡ take 512 (drop (512 * s - n) (drop n z)) =
-      λ z. ap (λ (m : ℕ). take 512 (drop m z)) split ∙ ap (take 512) (sym (drop-drop (512 * s - n) n z)) in
+    λ z. ap (λ (m : ℕ). take 512 (drop m z)) split ∙ ap (take 512) (sym (drop-drop (512 * s - n) n z)) in
     cut x ∙ ap (λ (l : List ℕ). take 512 (drop (512 * s - n) l)) e ∙ sym (cut y)
 
 -- a sector outside a range of n whole sectors, in whose bytes alone two images differ
@@ -119,3 +119,11 @@ may_settle_calm old new e = record { bytes = e.bytes; marks = e.marks; kept = e.
 -- after an Ok sync no sector is loose
 pub settles_kept : (old new : Contents) → Settles old new → (s : ℕ) → is_loose new.loose s ≡ false
 settles_kept old new e s = ap (λ (l : List Bool). is_loose l s) e.loose ∙ is_loose-replicate (length old.loose) s
+
+-- where no sector is loose, a crash leaves the bytes
+pub can_leave_settled : (sectors : ℕ) (c : Contents) (image : List ℕ) → HasShape sectors c → ((s : ℕ) → is_loose c.loose s ≡ false) → CanLeave c image → image ≡ c.bytes
+can_leave_settled sectors c image shape kept leaves = image_same sectors image c.bytes (leaves.size ∙ shape.bytes) shape.bytes (λ s _. leaves.kept s (kept s))
+
+-- what a crash can leave after a call that leaves all but a range, outside that range, it could leave before
+pub can_leave_outside : (at n : ℕ) (old new : Contents) (image : List ℕ) (s : ℕ) → Touches at n old new → IsOutside at n s → is_loose old.loose s ≡ false → CanLeave new image → sector image s ≡ sector old.bytes s
+can_leave_outside at n old new image s touches out kept leaves = leaves.kept s (touches.kept s out kept) ∙ touches.same s out

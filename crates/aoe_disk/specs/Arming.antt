@@ -1,6 +1,6 @@
 -- Which calls are to fail.
-use Rattle.std.specs.Prelude.{◌≡◌, ◌≤◌, ◌<◌, ℕ, true, false, Option, None, Some, IsSomeAnd, IfSome, Bool}
-use Rattle.aoe_disk.specs.State.{Contents, Schedule, DiskState, BothTell}
+use Rattle.std.specs.Prelude.{◌≡◌, ◌≤◌, ℕ, false, Option, None, Some, IsSomeAnd}
+use Rattle.aoe_disk.specs.State.{Schedule, DiskState, BothTell}
 use Rattle.aoe_disk.specs.declared.armed.Arm.{Arm}
 use Rattle.aoe_disk.specs.declared.armed.Arm.TheVariants.{Fail, Stop}
 

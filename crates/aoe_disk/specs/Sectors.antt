@@ -1,5 +1,5 @@
 -- Which sectors device calls leave as they were.
-use Rattle.std.specs.Prelude.{◌≡◌, ◌⊎◌, ◌≤◌, ◌<◌, ◌+◌, ℕ, false, List, length}
+use Rattle.std.specs.Prelude.{◌≡◌, ◌⊎◌, ◌≤◌, ◌<◌, ◌+◌, ℕ, false, length}
 use Rattle.aoe_disk.specs.State.{Contents, is_loose, sector}
 
 abbrev pub IsOutside : ℕ → ℕ → ℕ → Type 0

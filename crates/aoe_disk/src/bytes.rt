@@ -1,6 +1,7 @@
 //! Sectors in a list of bytes, and their marks.
-ghost use Rattle.std.specs.Prelude.{◌≡◌, ◌≤◌, ◌+◌, ◌*◌, length};
-ghost use Rattle.aoe_disk.specs.State.{with_piece, with_marks, sector, spoiled_sector};
+ghost use Rattle.std.specs.Prelude.{◌≡◌, ◌≤◌, ◌+◌, ◌*◌, ◌^◌, length};
+ghost use Rattle.aoe_disk.specs.State.{with_piece, with_marks, spoiled_sector};
+ghost use Rattle.aoe_disk.specs.Memory.{AgreesWhereKept};
 
 /// The length of a sector in bytes.
 pub const SECTOR: usize = 512;
@@ -30,4 +31,20 @@ pub fn mark(loose: &mut [bool], first: usize, count: usize)
     ensures { loose.new ≡ with_marks loose.old first count }
 {
     loose[first..first + count].fill(true);
+}
+
+/// Copies the sectors that are loose to the settled image. The others agree already.
+pub fn settle_loose(settled: &mut [u8], now: &[u8], loose: &[bool])
+    requires now { length now.now ≡ 512 * length loose.now }
+    requires settled { length settled.old ≡ 512 * length loose.now }
+    requires bound { length loose.now ≤ 2 ^ 40 }
+    requires agrees { AgreesWhereKept loose.now now.now settled.old }
+    ensures { settled.new ≡ now.now }
+{
+    'sectors: for s in 0..loose.len() {
+        if loose[s] {
+            let start = SECTOR * s;
+            write_at(settled, start, &now[start..start + SECTOR]);
+        }
+    }
 }

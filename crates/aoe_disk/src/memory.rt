@@ -1,8 +1,5 @@
 //! A disk in memory.
-ghost use Rattle.std.specs.Prelude.{◌≡◌, ◌≤◌, ◌*◌, ◌^◌, length};
-ghost use Rattle.aoe_disk.specs.Memory.{AgreesWhereKept};
-
-use crate::bytes::{SECTOR, mark, spoil_at, write_at};
+use crate::bytes::{SECTOR, mark, settle_loose, spoil_at, write_at};
 use crate::loss::lose_loose;
 use crate::meter::Meter;
 use crate::{Arm, Armed, Disk, Loss};
@@ -32,32 +29,16 @@ impl Model for MemDisk {
     ghost Value = { Memory };
 
     ghost view = { λ d. record {
-        bytes = d.bytes.items;
-        settled = d.settled.items;
-        loose = d.loose.items;
-        arming = d.meter.arming;
-        out = d.meter.out;
-        faults = d.meter.faults;
-        calls = d.meter.calls;
+      bytes = d.bytes.items;
+      settled = d.settled.items;
+      loose = d.loose.items;
+      arming = d.meter.arming;
+      out = d.meter.out;
+      faults = d.meter.faults;
+      calls = d.meter.calls;
     } };
 
     ghost invariant = { λ d. IsMemory d.bytes.items d.settled.items d.loose.items d.meter.arming d.meter.out };
-}
-
-/// Copies the sectors that are loose. The others agree already.
-fn settle_loose(settled: &mut [u8], now: &[u8], loose: &[bool])
-    requires now { length now.now ≡ 512 * length loose.now }
-    requires settled { length settled.old ≡ 512 * length loose.now }
-    requires bound { length loose.now ≤ 2 ^ 40 }
-    requires agrees { AgreesWhereKept loose.now now.now settled.old }
-    ensures { settled.new ≡ now.now }
-{
-    'sectors: for s in 0..loose.len() {
-        if loose[s] {
-            let start = SECTOR * s;
-            write_at(settled, start, &now[start..start + SECTOR]);
-        }
-    }
 }
 
 impl MemDisk {
@@ -78,7 +59,7 @@ impl MemDisk {
         let Ok(settled) = Vec::from_elem(alloc, 0, length) else {
             return Err(NoMemory);
         };
-        MemDisk::settled(alloc, bytes, settled)
+        MemDisk::from_images(alloc, bytes, settled)
     }
 
     /// A disk with this image.
@@ -93,11 +74,11 @@ impl MemDisk {
         let Ok(settled) = Vec::from_slice(alloc, image) else {
             return Err(NoMemory);
         };
-        MemDisk::settled(alloc, bytes, settled)
+        MemDisk::from_images(alloc, bytes, settled)
     }
 
-    // A disk with an image twice.
-    fn settled(alloc: Global, bytes: Vec<u8>, settled: Vec<u8>) -> Result<MemDisk, NoMemory>
+    // A disk with the same image now and at the last sync.
+    fn from_images(alloc: Global, bytes: Vec<u8>, settled: Vec<u8>) -> Result<MemDisk, NoMemory>
         requires same { settled.items ≡ bytes.items }
         requires whole { length bytes.items % 512 ≡ 0 }
         requires bound { length bytes.items ≤ 512 * 2 ^ 40 }
@@ -201,10 +182,10 @@ impl Disk for MemDisk {
         ensures writes { WritesTo at piece.now result (state_of self.old) (state_of self.new) }
         ensures calls { self.new.calls ≡ next_count self.old.calls }
     {
-        let fails = self.meter.fails();
+        let spoils = self.meter.fails();
         let start = SECTOR * at as usize;
         mark(&mut self.loose, at as usize, piece.len() / SECTOR);
-        if fails {
+        if spoils {
             spoil_at(&mut self.bytes, start);
             return Err(Failed);
         }
@@ -216,7 +197,8 @@ impl Disk for MemDisk {
         ensures syncs { SyncsTo result (state_of self.old) (state_of self.new) }
         ensures calls { self.new.calls ≡ next_count self.old.calls }
     {
-        if self.meter.fails() {
+        let fails = self.meter.fails();
+        if fails {
             return Err(Failed);
         }
         settle_loose(&mut self.settled, &self.bytes, &self.loose);
@@ -237,3 +219,6 @@ impl Armed for MemDisk {
         self.is_out()
     }
 }
+
+#[cfg(test)]
+mod tests;

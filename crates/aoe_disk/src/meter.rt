@@ -37,7 +37,8 @@ impl Meter {
         requires { IsArming self.old.arming self.old.out }
         ensures arming { IsArming self.new.arming self.new.out }
         ensures advance { IsAdvance result self.old.arming self.old.out self.new.arming self.new.out }
-        ensures counts { (self.new.faults ≡ self.old.faults) × (self.new.calls ≡ self.old.calls) }
+        ensures faults { self.new.faults ≡ self.old.faults }
+        ensures calls { self.new.calls ≡ self.old.calls }
     {
         match self.arming {
             None => false,

@@ -1,4 +1,4 @@
-use Rattle.std.proofs.Common.{arith, rules, ◌∙◌, sym, ◌+◌, ◌%◌, ◌^◌}
+use Rattle.std.proofs.Common.{arith, ◌∙◌, sym, ◌+◌, ◌%◌, ◌^◌}
 use Rattle.aoe_disk.proofs.Pieces.{with_piece-whole}
 use Rattle.aoe_disk.proofs.Losing.{mixed_spoils}
 use Rattle.aoe_disk.proofs.loss.lose.Goals as goal

@@ -1,6 +1,5 @@
 use Rattle.std.proofs.Common.{◌≡◌, ◌∙◌, ◌≤◌, ◌+◌, ◌*◌, ℕ, List, true, false, length, arith, rules, sym, subst}
-use Rattle.aoe_disk.specs.State.{with_piece, sector, is_loose}
-use Rattle.aoe_disk.specs.Loss.{left_of}
+use Rattle.aoe_disk.specs.State.{is_loose}
 use Rattle.aoe_disk.proofs.Losing.{LeftTo, left_more, left_past}
 use Rattle.aoe_disk.proofs.loss.lose_loose.Goals as goal
 use Rattle.aoe_disk.proofs.loss.lose_loose.Goals.{then-loose-s, else-loose-s}
