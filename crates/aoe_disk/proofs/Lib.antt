@@ -3,3 +3,4 @@ pub mod Touching
 pub mod Runs
 pub mod Losing
 pub mod MemoryCalls
+pub mod ArmedCalls

@@ -98,7 +98,7 @@ some_from None y k h = cc
 some_from (Some x) None k h = cc
 some_from (Some x) (Some y) k h = refl
 
-is_none_same : {A : Type 0} (x y : Option A) → is_some y ≡ is_some x → is_none y ≡ is_none x
+pub is_none_same : {A : Type 0} (x y : Option A) → is_some y ≡ is_some x → is_none y ≡ is_none x
 is_none_same None None k = refl
 is_none_same None (Some y) k = cc
 is_none_same (Some x) None k = cc

@@ -1,4 +1,9 @@
 //! A disk whose failures can be planned.
+ghost use Rattle.std.specs.Prelude.{◌<◌, Bool, List};
+ghost use Rattle.aoe_disk.specs.State.{DiskState};
+ghost use Rattle.aoe_disk.specs.Arming.{number_of, IsArmed, Calls, FailsFrom};
+ghost use Rattle.aoe_disk.specs.declared.armed.Arm.{Arm};
+
 use crate::Disk;
 
 /// Which coming device call is to fail, counted from 1.
@@ -23,4 +28,12 @@ pub trait Armed: Disk {
     /// Whether a stop was reached.
     fn is_out(&self) -> bool
         ensures { IfSome (Self.state self.now).schedule (λ schedule. result ≡ schedule.out) };
+}
+
+/// An armed disk fails the calls that it is armed to fail, and no others: after `Fail(k)` the k-th
+/// call alone, after `Stop(k)` the k-th and all later ones.
+pub fn armed_calls_fail()
+    ensures { (arm : Arm) (calls : List Bool) (old new : DiskState) → 0 < number_of arm → IsArmed arm old
+        → Calls calls old new → FailsFrom 1 arm calls }
+{
 }

@@ -11,7 +11,7 @@ mod loss;
 mod memory;
 mod meter;
 
-pub use armed::{Arm, Armed};
+pub use armed::{Arm, Armed, armed_calls_fail};
 pub use disk::Disk;
 pub use loss::Loss;
 pub use memory::MemDisk;
