@@ -1,9 +1,9 @@
 -- Which calls of an armed disk fail.
 use Rattle.std.proofs.Common.{◌≡◌, ◌⊎◌, ◌≤◌, ◌<◌, ◌+◌, ◌-◌, ◌==◌, ℕ, nat_le, Bool, true, false, Option, Some, None, IsSomeAnd, is_none, List, [], ◌∷◌, refl, arith, sym, ◌∙◌, ap, subst, inl, inr}
-use Rattle.std.proofs.lemmas.Bool.{eq-eqb, ne_eqb, le-leb, lt-leb, cases_lt}
+use Rattle.std.proofs.lemmas.Bool.{eq-eqb, ne_eqb, le-leb, lt-leb}
 use Rattle.aoe_disk.specs.State.{Schedule, DiskState, BothTell}
-use Rattle.aoe_disk.specs.Calls.{DueMoves, MovesDue, MovesOn, IsRun}
-use Rattle.aoe_disk.specs.Arming.{IsArmed, Calls, is_to_fail, FailsFrom, number_of}
+use Rattle.aoe_disk.specs.Calls.{DueMoves, MovesDue, MovesOn}
+use Rattle.aoe_disk.specs.Arming.{IsArmed, Calls, FailsFrom, number_of}
 use Rattle.aoe_disk.specs.declared.armed.Arm.{Arm}
 use Rattle.aoe_disk.specs.declared.armed.Arm.TheVariants.{Fail, Stop}
 use Rattle.aoe_disk.proofs.Runs.{is_none_same}

@@ -1,12 +1,12 @@
 -- A failed write to a store.
-use Rattle.std.proofs.Common.{◌≡◌, ◌+◌, ◌-◌, ◌*◌, ◌/◌, ℕ, Bool, false, List, drop, get_or, arith, ◌∙◌, ap, sym, inl, inr}
+use Rattle.std.proofs.Common.{◌≡◌, ◌+◌, ◌-◌, ◌*◌, ◌/◌, ℕ, Bool, false, Option, Some, None, IfSome, Result, Ok, Err, List, length, drop, get_or, arith, ◌∙◌, ap, sym, inl, inr}
 use Rattle.std.proofs.lemmas.List.{get_or-take, get_or-drop}
-use Rattle.aoe_disk.specs.State.{Contents, HasShape, is_loose}
-use Rattle.aoe_disk.specs.Calls.{IsRange, Spoils, SameOutside}
+use Rattle.aoe_disk.specs.State.{Contents, DiskState, HasShape, BothTell, is_loose}
+use Rattle.aoe_disk.specs.Calls.{IsRange, Spoils, SameOutside, Writes, WritesTo}
 use Rattle.aoe_disk.specs.Sectors.{IsOutside, Touches}
 use Rattle.aoe_disk.proofs.Pieces.{with_marks_outside}
 use Rattle.aoe_disk.proofs.Touching.{sector_outside}
-use Rattle.aoe_store.specs.Store.{MaySpoil}
+use Rattle.aoe_store.specs.Store.{MaySpoil, Stores, StoresTo}
 
 -- what a disk does when a write fails is what a store may do
 pub spoils_may_spoil : (at n : ℕ) (old new : Contents) (sectors : ℕ) → HasShape sectors old → IsRange at n sectors → Spoils at n old new → MaySpoil at n old new
@@ -36,3 +36,18 @@ may_spoil_touch at n old new sectors range spoils =
       same = λ s out. sector_outside old.bytes new.bytes at (n / 512) s same out;
       kept = λ s out e. is_loose_outside old.loose new.loose at (n / 512) s spoils.loose out ∙ e;
     }
+
+stores_contents : {T E : Type 0} (at : ℕ) (piece : List ℕ) (result : Result T E) (old new : Option Contents) (sectors : ℕ) → IfSome old (HasShape sectors) → IsRange at (length piece) sectors
+    → BothTell (Writes at piece result) old new → BothTell (Stores at piece result) old new
+stores_contents at piece r None None sectors shape range told = tt
+stores_contents at piece r None (Some y) sectors shape range told = told
+stores_contents at piece r (Some x) None sectors shape range told = told
+stores_contents at piece (Ok v) (Some x) (Some y) sectors shape range told = told
+stores_contents at piece (Err e) (Some x) (Some y) sectors shape range told = spoils_may_spoil at (length piece) x y sectors shape range told
+
+-- a write to a disk is one to a store
+pub writes_store : {T E : Type 0} (at : ℕ) (piece : List ℕ) (result : Result T E) (old new : DiskState) → IsRange at (length piece) old.sectors → WritesTo at piece result old new → StoresTo at piece result old new
+writes_store at piece result old new range writes = record {
+  call = writes.call;
+  contents = stores_contents at piece result old.contents new.contents old.sectors writes.call.before.shape range writes.contents;
+}

@@ -10,6 +10,7 @@ use aoe_disk::Arm;
 /// Exported sectors of 512 bytes, numbered from 0, over a disk: its calls are those of a
 /// [`Disk`](aoe_disk::Disk), and fail only where the faults of that disk rose.
 pub trait Store {
+    // Its size and faults, and its contents and its schedule of failures where it tells them.
     ghost state: { Self → DiskState };
 
     /// How many sectors are exported, which never changes. This is no device call: it can't fail.
