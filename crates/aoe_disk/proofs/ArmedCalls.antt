@@ -2,7 +2,7 @@
 use Rattle.std.proofs.Common.{◌≡◌, ◌⊎◌, ◌≤◌, ◌<◌, ◌+◌, ◌-◌, ◌==◌, ℕ, nat_le, Bool, true, false, Option, Some, None, IsSomeAnd, is_none, List, [], ◌∷◌, refl, arith, sym, ◌∙◌, ap, subst, inl, inr}
 use Rattle.std.proofs.lemmas.Bool.{eq-eqb, ne_eqb, le-leb, lt-leb}
 use Rattle.aoe_disk.specs.State.{Schedule, DiskState, BothTell}
-use Rattle.aoe_disk.specs.Calls.{DueMoves, MovesDue, MovesOn}
+use Rattle.aoe_disk.specs.Calls.{MovesDueCall, MovesDue, MovesOn}
 use Rattle.aoe_disk.specs.Arming.{IsArmed, Calls, FailsFrom, number_of}
 use Rattle.aoe_disk.specs.declared.armed.Arm.{Arm}
 use Rattle.aoe_disk.specs.declared.armed.Arm.TheVariants.{Fail, Stop}
@@ -33,10 +33,10 @@ FailStage k i due = ((i ≤ k) × (due ≡ Some (k + 1 - i))) ⊎ ((k < i) × (d
 fail_step : (failed : Bool) (k i : ℕ) (due next : Option ℕ) → FailStage k i due → MovesDue 1 failed false due next → (failed ≡ (i == k)) × FailStage k (i + 1) next
 unfolding FailStage
 fail_step false k i due next (inl (le, e)) moves =
-    let v : DueMoves 1 false false (k + 1 - i) next = subst (λ d. MovesDue 1 false false d next) e moves in
+    let v : MovesDueCall 1 false false (k + 1 - i) next = subst (λ d. MovesDue 1 false false d next) e moves in
     (sym (ne_eqb i k (omega (arith, v.0))), inl (omega (arith, v.0), v.1 ∙ ap Some (omega arith)))
 fail_step true k i due next (inl (le, e)) moves =
-    let v : DueMoves 1 true false (k + 1 - i) next = subst (λ d. MovesDue 1 true false d next) e moves in
+    let v : MovesDueCall 1 true false (k + 1 - i) next = subst (λ d. MovesDue 1 true false d next) e moves in
     (sym (eq-eqb i k (omega (arith, v.0))), inr (omega (arith, v.0), v.1))
 fail_step failed k i due next (inr (lt, e)) moves =
     let v : (failed ≡ false) × (next ≡ None) = subst (λ d. MovesDue 1 failed false d next) e moves in
@@ -49,16 +49,16 @@ StopStage k i due = ((i ≤ k) × (due ≡ Some (k + 1 - i))) ⊎ ((k < i) × (d
 stop_step : (failed : Bool) (k i : ℕ) (due next : Option ℕ) → StopStage k i due → MovesDue 1 failed true due next → (failed ≡ nat_le k i) × StopStage k (i + 1) next
 unfolding StopStage
 stop_step false k i due next (inl (le, e)) moves =
-    let v : DueMoves 1 false true (k + 1 - i) next = subst (λ d. MovesDue 1 false true d next) e moves in
+    let v : MovesDueCall 1 false true (k + 1 - i) next = subst (λ d. MovesDue 1 false true d next) e moves in
     (sym (lt-leb k i (omega (arith, v.0))), inl (omega (arith, v.0), v.1 ∙ ap Some (omega arith)))
 stop_step true k i due next (inl (le, e)) moves =
-    let v : DueMoves 1 true true (k + 1 - i) next = subst (λ d. MovesDue 1 true true d next) e moves in
+    let v : MovesDueCall 1 true true (k + 1 - i) next = subst (λ d. MovesDue 1 true true d next) e moves in
     (sym (le-leb k i (omega (arith, v.0))), inr (omega (arith, v.0), v.1))
 stop_step false k i due next (inr (lt, e)) moves =
-    let v : DueMoves 1 false true 1 next = subst (λ d. MovesDue 1 false true d next) e moves in
+    let v : MovesDueCall 1 false true 1 next = subst (λ d. MovesDue 1 false true d next) e moves in
     absurd (omega (arith, v.0))
 stop_step true k i due next (inr (lt, e)) moves =
-    let v : DueMoves 1 true true 1 next = subst (λ d. MovesDue 1 true true d next) e moves in
+    let v : MovesDueCall 1 true true 1 next = subst (λ d. MovesDue 1 true true d next) e moves in
     (sym (le-leb k i (omega arith)), inr (omega arith, v.1))
 
 fails_from : (k i : ℕ) (calls : List Bool) (old new : DiskState) (due : Option ℕ) → FailStage k i due → Tells old.schedule false due → Calls calls old new → FailsFrom i (Fail k) calls

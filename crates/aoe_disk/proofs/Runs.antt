@@ -4,7 +4,7 @@ use Rattle.std.specs.Bool.{OnTrue}
 use Rattle.std.proofs.lemmas.Bool.{cases_lt, cases_Bool}
 use Rattle.aoe_base.specs.Faults.{Rose}
 use Rattle.aoe_disk.specs.State.{Schedule, DiskState, IsDisk, IsSchedule, BothTell}
-use Rattle.aoe_disk.specs.Calls.{DueMoves, MovesDue, MovesOn, IsRun}
+use Rattle.aoe_disk.specs.Calls.{MovesDueCall, MovesDue, MovesOn, IsRun}
 use Rattle.std.proofs.Common.{inl, inr}
 
 -- no call
@@ -60,10 +60,10 @@ run_stop m n old new le run = record { before = run.before; after = run.after; s
 due_more : (m n : ℕ) (failed i : Bool) (a b c : Option ℕ) → MovesDue m false i a b → MovesDue n failed i b c → MovesDue (m + n) failed i a c
 due_more m n failed i None b c t u = subst (λ w. MovesDue n failed i w c) t.1 u
 due_more m n false i (Some k) b c t u =
-    let v : DueMoves n false i (k - m) c = subst (λ w. MovesDue n false i w c) t.1 u in
+    let v : MovesDueCall n false i (k - m) c = subst (λ w. MovesDue n false i w c) t.1 u in
     (omega (arith, t.0, v.0), v.1 ∙ ap Some (omega arith))
 due_more m n true i (Some k) b c t u =
-    let v : DueMoves n true i (k - m) c = subst (λ w. MovesDue n true i w c) t.1 u in
+    let v : MovesDueCall n true i (k - m) c = subst (λ w. MovesDue n true i w c) t.1 u in
     (omega (arith, t.0, v.0), v.1)
 
 due_then : (m n : ℕ) (failed i j : Bool) (a b c : Option (Option ℕ)) → j ≡ i → BothTell (MovesDue m false i) a b → BothTell (MovesDue n failed j) b c → BothTell (MovesDue (m + n) failed i) a c

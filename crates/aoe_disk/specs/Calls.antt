@@ -12,14 +12,14 @@ pub record IsRange (at n sectors : ℕ) : Type 0 where
 
 -- the call that was due was none of m calls, and is so much nearer; or it was one of them, which failed,
 -- and after it the next call is due while a stop is armed, and else none
-abbrev pub DueMoves : ℕ → Bool → Bool → ℕ → Option ℕ → Type 0
-DueMoves m false is_stop due new = (m < due) × (new ≡ Some (due - m))
-DueMoves m true is_stop due new = (due ≤ m) × (new ≡ (if is_stop then Some 1 else None))
+abbrev pub MovesDueCall : ℕ → Bool → Bool → ℕ → Option ℕ → Type 0
+MovesDueCall m false is_stop due new = (m < due) × (new ≡ Some (due - m))
+MovesDueCall m true is_stop due new = (due ≤ m) × (new ≡ (if is_stop then Some 1 else None))
 
 -- how m calls move the failure that is due; none fails where none is due
 abbrev pub MovesDue : ℕ → Bool → Bool → Option ℕ → Option ℕ → Type 0
 MovesDue m failed is_stop None new = (failed ≡ false) × (new ≡ None)
-MovesDue m failed is_stop (Some due) new = DueMoves m failed is_stop due new
+MovesDue m failed is_stop (Some due) new = MovesDueCall m failed is_stop due new
 
 -- how m calls, in which the count of faults went from before to after, move the schedule
 pub record MovesOn (m : ℕ) (failed : Bool) (before after : ℕ) (old new : Schedule) : Type 0 where

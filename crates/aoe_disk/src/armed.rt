@@ -30,8 +30,8 @@ pub trait Armed: Disk {
         ensures { IfSome (Self.state self.now).schedule (λ schedule. result ≡ schedule.out) };
 }
 
-/// A law: an armed disk fails the calls that it is armed to fail, and no others: after `Fail(k)` the k-th
-/// call alone, after `Stop(k)` the k-th and all later ones.
+/// A law: an armed disk fails the calls that it is armed to fail, and no others. After `Fail(k)` that
+/// is the k-th call alone, after `Stop(k)` the k-th and all later ones.
 pub fn armed_calls_fail()
     ensures { (arm : Arm) (calls : List Bool) (old new : DiskState) → 0 < number_of arm → IsArmed arm old
         → Calls calls old new → FailsFrom 1 arm calls }

@@ -54,7 +54,8 @@ fn lose(now: &mut [u8], settled: &[u8], how: Loss, s: u64)
 fn lose_at(now: &mut [u8], settled: &[u8], how: Loss, s: usize)
     requires now { 512 * s + 512 ≤ length now.old }
     requires settled { 512 * s + 512 ≤ length settled.now }
-    ensures { now.new ≡ with_piece now.old (512 * s) (left_of how s (sector now.old s) (sector settled.now s)) }
+    ensures { now.new ≡ with_piece now.old (512 * s)
+        (left_of how s (sector now.old s) (sector settled.now s)) }
 {
     let start = SECTOR * s;
     let end = start + SECTOR;

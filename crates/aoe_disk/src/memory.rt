@@ -38,7 +38,8 @@ impl Model for MemDisk {
       calls = d.meter.calls;
     } };
 
-    ghost invariant = { λ d. IsMemory d.bytes.items d.settled.items d.loose.items d.meter.arming d.meter.out };
+    ghost invariant = { λ d.
+        IsMemory d.bytes.items d.settled.items d.loose.items d.meter.arming d.meter.out };
 }
 
 impl MemDisk {

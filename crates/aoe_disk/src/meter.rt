@@ -65,7 +65,8 @@ impl Meter {
     pub fn fails(&mut self) -> bool
         requires { IsArming self.old.arming self.old.out }
         ensures arming { IsArming self.new.arming self.new.out }
-        ensures moves { MovesOn 1 result self.old.faults self.new.faults (schedule_of self.old.arming self.old.out) (schedule_of self.new.arming self.new.out) }
+        ensures moves { MovesOn 1 result self.old.faults self.new.faults
+            (schedule_of self.old.arming self.old.out) (schedule_of self.new.arming self.new.out) }
         ensures later { self.old.faults ≤ self.new.faults }
         ensures cause { OnTrue result (Rose self.old.faults self.new.faults) }
         ensures calls { self.new.calls ≡ next_count self.old.calls }
