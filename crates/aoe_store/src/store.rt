@@ -1,0 +1,50 @@
+//! What a store does.
+ghost use Rattle.std.specs.Prelude.{◌≡◌, length};
+ghost use Rattle.aoe_disk.specs.State.{DiskState, IsDisk};
+ghost use Rattle.aoe_disk.specs.Calls.{IsRange, Reads, SyncsTo};
+ghost use Rattle.aoe_store.specs.Store.{StoresTo};
+
+use aoe_base::Failed;
+use aoe_disk::Arm;
+
+/// Exported sectors of 512 bytes, numbered from 0, over a disk: its calls are those of a
+/// [`Disk`](aoe_disk::Disk), and fail only where the faults of that disk rose.
+pub trait Store {
+    // Its size and faults, and its contents and its schedule of failures where it tells them.
+    ghost state: { Self → DiskState };
+
+    /// How many sectors are exported, which never changes. This is no device call: it can't fail.
+    fn sectors(&self) -> u64
+        ensures count { result ≡ (state self.now).sectors }
+        ensures disk { IsDisk (state self.now) };
+
+    /// Fills `out`, whole sectors, with those from `at` on. Where the read fails `out` has any bytes.
+    fn read(&mut self, at: u64, out: &mut [u8]) -> Result<(), Failed>
+        requires { IsRange at (length out.old) (state self.old).sectors }
+        ensures { Reads at (length out.old) result out.new (state self.old) (state self.new) };
+
+    /// Writes `piece`, whole sectors, to those from `at` on. Where the write fails they have any
+    /// bytes, and all others are as they were.
+    fn write(&mut self, at: u64, piece: &[u8]) -> Result<(), Failed>
+        requires { IsRange at (length piece.now) (state self.old).sectors }
+        ensures { StoresTo at piece.now result (state self.old) (state self.new) };
+
+    /// Brings what was written to the medium. Where the sync fails it may have done so in part.
+    fn sync(&mut self) -> Result<(), Failed>
+        ensures { SyncsTo result (state self.old) (state self.new) };
+}
+
+/// A store whose disk can be armed to fail.
+pub trait ArmedStore: Store {
+    ghost use Rattle.std.specs.Prelude.{◌≡◌, ◌<◌, IfSome};
+    ghost use Rattle.aoe_disk.specs.Arming.{number_of, ArmsTo};
+
+    /// Arms the disk, in place of what was armed before.
+    fn arm(&mut self, arm: Arm)
+        requires { 0 < number_of arm }
+        ensures { ArmsTo arm (Self.state self.old) (Self.state self.new) };
+
+    /// Whether a stop was reached.
+    fn is_out(&self) -> bool
+        ensures { IfSome (Self.state self.now).schedule (λ schedule. result ≡ schedule.out) };
+}
