@@ -1,14 +1,14 @@
 -- Frames that lie one after another in one string of bytes.
-use Rattle.std.proofs.Common.{ℕ, zero, suc, ◌≡◌, ◌+◌, ◌-◌, ◌<◌, ◌≤◌, List, [], ◌∷◌, ◌++◌, length, map, reverse, take, drop, get_or, Option, Some, None, Bool, true, false, refl, sym, ap, subst, ◌∙◌, arith, inl, inr}
-use Rattle.std.specs.Prelude.{sum_by, slice_range, slice_get, option_map, option_and_then, nat_le, All, IsTrue, if◌then◌else◌, ◌==◌}
-use Rattle.std.proofs.lemmas.List.{reverse-reverse, reverse-append, length-reverse, length-append, length-take-le, length-drop, length-map, map-append, take-append-le, drop-append-le, append-nil, drop_at, take_all, length_push}
+use Rattle.std.proofs.Common.{ℕ, zero, suc, ◌≡◌, ◌+◌, ◌-◌, ◌<◌, ◌≤◌, List, [], ◌∷◌, ◌++◌, length, map, reverse, drop, get_or, Option, Some, None, Bool, true, false, refl, sym, ap, subst, ◌∙◌, arith, inl, inr}
+use Rattle.std.specs.Prelude.{sum_by, slice_range, slice_get, option_map, option_and_then, nat_le, All, IsSomeAnd, IsTrue, if◌then◌else◌, ◌==◌}
+use Rattle.std.proofs.lemmas.List.{reverse-reverse, reverse-append, length-reverse, length-append, length-take-le, length-drop, length-map, map-append, take-append-le, drop-append-le, drop_at, take_all, length_push}
 use Rattle.std.proofs.lemmas.List.Elements.{All-head, All-tail, All-push, All-weaker}
-use Rattle.std.proofs.lemmas.Bool.{cases_lt, le-leb, lt-leb}
+use Rattle.std.proofs.lemmas.Bool.{cases_eq, cases_lt, le-leb, lt-leb, ne_eqb}
 use Rattle.std.proofs.lemmas.List.Sums.{sum_by-append, sum_by-cons}
 use Rattle.std.proofs.lemmas.Option.{slice_get-map, slice_get_past, slice_get_read}
-use Rattle.std.proofs.lemmas.Grind.{reverse_onto, common_steps}
+use Rattle.std.proofs.lemmas.Grind.{reverse_onto}
 use Rattle.aoe_net.specs.declared.net.Place.{Place}
-use Rattle.aoe_net.specs.Network.{Network, SentFrame, numbered, total_bytes, fresh_bytes, deliverable, IsFull}
+use Rattle.aoe_net.specs.Network.{Network, SentFrame, numbered, total_bytes, fresh_bytes, deliverable, IsFull, IsNumberOf}
 use Rattle.aoe_net.specs.Store.{frame_at, frames_at, IsStore}
 
 -- what a list with one more element at its end has at an index
@@ -60,7 +60,7 @@ pub frames_at-push : (bytes more : List ℕ) (places : List Place) (place : Plac
     → frames_at (bytes ++ more) (places ++ place ∷ []) ≡ record { bytes = more; birth = place.birth.0 } ∷ frames_at bytes places
 frames_at-push bytes more places place within start len =
     let all : map (frame_at (bytes ++ more)) (places ++ place ∷ []) ≡ map (frame_at bytes) places ++ frame_at (bytes ++ more) place ∷ [] =
-        map-append (frame_at (bytes ++ more)) places (place ∷ []) ∙ ap (λ (xs : List SentFrame). xs ++ frame_at (bytes ++ more) place ∷ []) (same-before bytes more places within) in
+    map-append (frame_at (bytes ++ more)) places (place ∷ []) ∙ ap (λ (xs : List SentFrame). xs ++ frame_at (bytes ++ more) place ∷ []) (same-before bytes more places within) in
     let last : slice_range (bytes ++ more) place.start (place.start + place.len) ≡ more = rw (start, len) (range-rest bytes more) in
     ap (λ (xs : List SentFrame). reverse xs) all
     ∙ reverse-append (map (frame_at bytes) places) (frame_at (bytes ++ more) place ∷ [])
@@ -162,3 +162,35 @@ fresh net number now frame is young =
     let early : nat_le (now - frame.birth) net.life ≡ true = le-leb (now - frame.birth) net.life young in
     let here : Some frame.bytes ≡ fresh_bytes net now frame = rw early refl in
     here ∙ something net number now frame is
+
+-- whose number a number is
+pub is-number : (net : Network) (bytes : List ℕ) (number : ℕ) (frame : SentFrame) → numbered net.sent number ≡ Some frame → frame.bytes ≡ bytes → IsNumberOf net bytes number
+is-number net bytes number frame is same = let P : Option SentFrame → Type 0 = λ f. IsSomeAnd f (λ g. g.bytes ≡ bytes) in subst P (sym is) same
+
+not-number : (net : Network) (bytes : List ℕ) (number : ℕ) (frame : SentFrame) → numbered net.sent number ≡ Some frame → (frame.bytes ≡ bytes → ⊥) → IsNumberOf net bytes number → ⊥
+not-number net bytes number frame is other claim = let P : Option SentFrame → Type 0 = λ f. IsSomeAnd f (λ g. g.bytes ≡ bytes) in let same : frame.bytes ≡ bytes = subst P is claim in other same
+
+number-within : (sent : List SentFrame) (bytes : List ℕ) (number : ℕ) → IsSomeAnd (numbered sent number) (λ f. f.bytes ≡ bytes) → (1 ≤ number) × (number ≤ length sent)
+number-within [] bytes number claim = absurd claim
+number-within (frame ∷ sent) bytes number claim =
+    elim (cases_eq number (suc (length sent))) [
+      | inl latest ↦ (omega arith, omega arith)
+      | inr earlier ↦
+          let P : Bool → Type 0 = λ b. IsSomeAnd (if b then Some frame else numbered sent number) (λ f. f.bytes ≡ bytes) in
+          let other : (number == suc (length sent)) ≡ false = ne_eqb number (suc (length sent)) earlier in
+          let inside = number-within sent bytes number (subst P other claim) in
+          (inside.0, omega (arith, inside.1))
+    ]
+
+pub within-count : (net : Network) (bytes : List ℕ) (number : ℕ) → IsNumberOf net bytes number → (1 ≤ number) × (number ≤ length net.sent)
+within-count net bytes number claim = number-within net.sent bytes number claim
+
+-- a search from the latest frame down, one frame on
+pub not-here : (net : Network) (bytes : List ℕ) (top : ℕ) (frame : SentFrame) → numbered net.sent top ≡ Some frame → (frame.bytes ≡ bytes → ⊥)
+    → ((k : ℕ) → IsNumberOf net bytes k → k ≤ top) → (k : ℕ) → IsNumberOf net bytes k → k ≤ top - 1
+not-here net bytes top frame is other below k claim =
+    let at_most : k ≤ top = below k claim in
+    elim (cases_eq k top) [
+      | inl here ↦ let P : ℕ → Type 0 = λ n. IsNumberOf net bytes n in absurd (not-number net bytes top frame is other (subst P here claim))
+      | inr lower ↦ omega arith
+    ]

@@ -18,7 +18,7 @@ empty_network life = record { life = life; latest = 0; sent = [] }
 
 -- the network after these bytes were sent
 abbrev pub with_frame : Network → ℕ → List ℕ → Network
-with_frame net now bytes = record { life = net.life; latest = now; sent = record { bytes = bytes; birth = now } ∷ net.sent }
+with_frame net now bytes = record net { latest = now; sent = record { bytes = bytes; birth = now } ∷ net.sent }
 
 -- how many bytes the frames have together
 abbrev pub total_bytes : Network → ℕ

@@ -5,5 +5,5 @@
 mod net;
 mod refusal;
 
-pub use net::{MAX_BYTES, MAX_FRAMES, MAX_FRAME_LEN, Net};
+pub use net::{MAX_BYTES, MAX_FRAME_LEN, MAX_FRAMES, Net};
 pub use refusal::NetRefusal;

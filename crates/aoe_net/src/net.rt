@@ -1,5 +1,5 @@
 //! The frames of a network, each with the time of its sending.
-ghost use Rattle.std.specs.Prelude.{◌≡◌, ℕ, ◌+◌, ◌<◌, ◌≤◌, ◌↔◌, [], ◌∷◌, ◌++◌, false, length, option_map, IfNone, IfOk, IfSome, IsOkUnless, IsTrue, OnErr, OnOk};
+ghost use Rattle.std.specs.Prelude.{◌≡◌, ℕ, ◌+◌, ◌-◌, ◌≤◌, ◌↔◌, [], ◌∷◌, ◌++◌, length, nat_lt, option_map, IfNone, IfOk, IfSome, IsOkUnless, IsTrue, OnErr, OnOk};
 ghost use Rattle.aoe_net.specs.Network.{deliverable, empty_network, total_bytes, with_frame, IsFull, IsNumberOf};
 ghost use Rattle.aoe_net.specs.Store.{frame_at};
 
@@ -107,7 +107,7 @@ impl Net {
         requires len { length frame.now ≤ MAX_FRAME_LEN }
         requires time { self.old.latest ≤ now.0 }
         ensures sent { OnOk result (self.new ≡ with_frame self.old now.0 frame.now) }
-        ensures number { IfOk result (λ no. no.0 ≡ length self.new.sent) }
+        ensures number { IfOk result (λ number. number.0 ≡ length self.new.sent) }
 
         // Want of memory is found last, so a full network is always reported as such.
         ensures full { (result ≡ Err NetRefusal.Full) ↔ IsFull self.old frame.now }
@@ -126,13 +126,19 @@ impl Net {
         Ok(FrameNo(self.places.len() as u32))
     }
 
+    fn has_expired(&self, place: &Place, now: Millis) -> bool
+        ensures { result ≡ nat_lt self.now.life (now.0 - place.now.birth.0) }
+    {
+        now.0.saturating_sub(place.birth.0) > self.life.0
+    }
+
     /// The frame with a number, or `None` where no frame has it or the one that has it has expired.
     pub fn fetch(&self, no: FrameNo, now: Millis) -> Option<&[u8]>
         ensures { option_map (λ frame. frame.now) result ≡ deliverable self.now no.0 now.0 }
     {
         let index = (no.0 as usize).checked_sub(1)?;
         let place = self.places.get(index)?;
-        if now.0.saturating_sub(place.birth.0) > self.life.0 {
+        if self.has_expired(place, now) {
             return None;
         }
         Some(bytes_at(&self.bytes, place))
@@ -156,8 +162,8 @@ impl Net {
 
     /// The number of the latest frame with these bytes, expired or not.
     pub fn newest_equal(&self, frame: &[u8]) -> Option<FrameNo>
-        ensures equal { IfSome result (λ no. IsNumberOf self.now frame.now no.0) }
-        ensures newest { IfSome result (λ no. (k : ℕ) → IsNumberOf self.now frame.now k → k ≤ no.0) }
+        ensures equal { IfSome result (λ number. IsNumberOf self.now frame.now number.0) }
+        ensures newest { IfSome result (λ number. (k : ℕ) → IsNumberOf self.now frame.now k → k ≤ number.0) }
         ensures none { IfNone result ((k : ℕ) → ¬ IsNumberOf self.now frame.now k) }
     {
         for index in (0..self.places.len()).rev() {
@@ -166,5 +172,59 @@ impl Net {
             }
         }
         None
+    }
+}
+
+#[cfg(test)]
+mod tests {
+    use super::*;
+    use std::test::Fail;
+
+    #[test]
+    fn hands_over_within_the_lifetime(rt: HostRuntime) -> Result<(), Fail> {
+        let mut net = Net::new(rt.alloc(), Millis(2000));
+        assert_eq!(rt; net.send(Millis(5), b"first"), Ok(FrameNo(1)));
+        assert_eq!(rt; net.send(Millis(7), b""), Ok(FrameNo(2)));
+        assert_eq!(rt; net.count(), 2);
+        assert_eq!(rt; net.total_bytes(), 5);
+        for now in [5, 2005] {
+            let frame = net.fetch(FrameNo(1), Millis(now)).unwrap_or(b"none");
+            assert_eq!(rt; frame, b"first".as_slice());
+        }
+        assert!(rt; net.fetch(FrameNo(1), Millis(2006)).is_none());
+        assert!(rt; net.fetch(FrameNo(2), Millis(2006)).is_some());
+        assert!(rt; net.fetch(FrameNo(0), Millis(7)).is_none());
+        assert!(rt; net.fetch(FrameNo(3), Millis(7)).is_none());
+        Ok(())
+    }
+
+    #[test]
+    fn finds_the_latest_of_equal_frames(rt: HostRuntime) -> Result<(), Fail> {
+        let mut net = Net::new(rt.alloc(), Millis(0));
+        assert_eq!(rt; net.send(Millis(1), b"ask"), Ok(FrameNo(1)));
+        assert_eq!(rt; net.send(Millis(2), b"ask"), Ok(FrameNo(2)));
+        assert_eq!(rt; net.send(Millis(9), b"answer"), Ok(FrameNo(3)));
+        assert_eq!(rt; net.newest_equal(b"ask"), Some(FrameNo(2)));
+        assert_eq!(rt; net.newest_equal(b"answer"), Some(FrameNo(3)));
+        assert_eq!(rt; net.newest_equal(b"as"), None);
+        Ok(())
+    }
+
+    #[test]
+    fn is_full_at_the_limit(rt: HostRuntime) -> Result<(), Fail> {
+        let mut net = Net::new(rt.alloc(), Millis(2000));
+        for _ in 0..MAX_FRAMES {
+            assert!(rt; net.send(Millis(0), b"x").is_ok());
+        }
+        assert_eq!(rt; net.send(Millis(0), b"x"), Err(NetRefusal::Full));
+        assert_eq!(rt; net.count(), 200_000);
+        Ok(())
+    }
+
+    #[test]
+    fn says_why(rt: HostRuntime) -> Result<(), Fail> {
+        let full = format!(in rt.alloc(); "{}", NetRefusal::Full)?;
+        assert_eq!(rt; full.as_str(), "the network is full");
+        Ok(())
     }
 }

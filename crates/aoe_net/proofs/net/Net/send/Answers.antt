@@ -1,6 +1,5 @@
-use Rattle.std.proofs.Common.{◌≡◌, ◌+◌, ◌<◌, ◌≤◌, ◌∷◌, List, length, refl, ap, sym, subst, ◌∙◌, arith}
-use Rattle.aoe_net.specs.Network.{Network, SentFrame, with_frame, total_bytes}
-use Rattle.aoe_net.specs.Store.{IsStore}
+use Rattle.std.proofs.Common.{List, refl, ap, sym, subst, ◌∙◌, arith}
+use Rattle.aoe_net.specs.Network.{Network, SentFrame}
 use Rattle.aoe_net.proofs.StoreLemmas.{HasRoom, room-left, store-push, frames_at-push, measures}
 use Rattle.aoe_net.proofs.net.Net.send.Goals as goal
 
