@@ -1,0 +1,4 @@
+pub mod Choice
+pub mod Path
+pub mod PathTable
+pub mod Timeout
