@@ -1,7 +1,7 @@
 -- The choice of a path, over the marks of the paths.
-use Rattle.std.proofs.Common.{ℕ, zero, suc, ◌≡◌, ◌+◌, ◌%◌, ◌<◌, ◌≤◌, List, [], ◌∷◌, ◌++◌, length, map, take, drop, get_or, Bool, true, false, not, Option, refl, sym, ap, ◌∙◌, arith}
-use Rattle.std.specs.Prelude.{position, cond, nat_lt, unwrap_or}
-use Rattle.std.specs.List.{prefix_len, position_or_len}
+use Rattle.std.proofs.Common.{ℕ, zero, suc, ◌≡◌, ◌+◌, ◌%◌, List, [], ◌∷◌, length, map, take, drop, Bool, not, Option, refl, sym, ap, ◌∙◌}
+use Rattle.std.specs.Prelude.{position, unwrap_or}
+use Rattle.std.specs.List.{prefix_len}
 use Rattle.std.proofs.lemmas.List.{length-map, map-append, take-map}
 use Rattle.aoe_paths.specs.Path.{PathState}
 use Rattle.aoe_paths.specs.PathTable.{in_turn, path_after, next_path}
@@ -35,5 +35,5 @@ next-is paths chosen count start steps next count_is start_is steps_is next_is =
     let marks = length-map paths (λ (path : PathState). path.missed) in
     let len : length (map (λ (path : PathState). path.missed) paths) ≡ count = marks ∙ sym count_is in
     let same : position (λ mark. not mark) (in_turn start (map (λ (path : PathState). path.missed) paths)) ≡ position (λ path. not path.missed) (in_turn start paths) =
-        ap (position (λ mark. not mark)) (in_turn-map start paths) ∙ position-map (in_turn start paths) in
+    ap (position (λ mark. not mark)) (in_turn-map start paths) ∙ position-map (in_turn start paths) in
     rw (len, ← start_is, same, ← steps_is) next_is

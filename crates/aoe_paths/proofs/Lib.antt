@@ -1,4 +1,4 @@
 mod ChoiceLemmas
 mod PairLemmas
 mod PathLemmas
-mod TimeoutLemmas
+pub mod TimeoutLemmas

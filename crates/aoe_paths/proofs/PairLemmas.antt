@@ -1,6 +1,6 @@
 -- The number of a path and its pair of ports.
-use Rattle.std.proofs.Common.{ℕ, ◌≡◌, ◌+◌, ◌*◌, ◌/◌, ◌%◌, ◌<◌, ◌≤◌, ◌⊎◌, List, length, get_or, Option, Some, None, Bool, true, false, inl, inr, refl, sym, ap, subst, ◌∙◌, arith}
-use Rattle.std.specs.Prelude.{slice_get, position, option_map, option_and_then, bytes_eq, AllPairs}
+use Rattle.std.proofs.Common.{ℕ, zero, suc, ◌≡◌, ◌≢◌, ◌+◌, ◌*◌, ◌/◌, ◌%◌, ◌<◌, List, [], ◌∷◌, length, get_or, Option, Some, None, inl, inr, refl, sym, ap, ◌∙◌, arith}
+use Rattle.std.specs.Prelude.{slice_get, position, option_map, option_and_then, bytes_eq}
 use Rattle.std.specs.List.{position_or_len}
 use Rattle.std.proofs.lemmas.Bool.{cases_lt, lt-ltb}
 use Rattle.std.proofs.lemmas.Bool.Decides.{not_from_Decides}
@@ -50,8 +50,8 @@ port-missing ports port i is at =
     elim (cases_lt (position_or_len (λ (other : Mac). bytes_eq other.0 port.0) ports) (length ports)) [
       | inl found ↦ let yes_found = lt-ltb (position_or_len (λ (other : Mac). bytes_eq other.0 port.0) ports) (length ports) found in let impossible = rw yes_found at is in cc
       | inr past ↦
-        let other = fails_before_first (λ (m : Mac). bytes_eq m.0 port.0) ports i port (omega arith) in
-        not_from_Decides (bytes_eq (get_or ports i port).0 port.0) (bytes_eq-Decides (get_or ports i port).0 port.0) other (ap (λ (m : Mac). m.0) there)
+          let other = fails_before_first (λ (m : Mac). bytes_eq m.0 port.0) ports i port (omega arith) in
+          not_from_Decides (bytes_eq (get_or ports i port).0 port.0) (bytes_eq-Decides (get_or ports i port).0 port.0) other (ap (λ (m : Mac). m.0) there)
     ]
 
 -- an address that stands once has one place
@@ -95,3 +95,12 @@ pair-read table p n locals remotes d locals_are remotes_are n_is some inside =
     rw (locals_are, remotes_are, n_is)
     (pair-at table p (get_or table.locals (p / length table.remotes) d) (get_or table.remotes (p % length table.remotes) d)
     (slice_get-get_or table.locals (p / length table.remotes) d first) (slice_get-get_or table.remotes (p % length table.remotes) d second))
+
+-- two addresses that differ
+pub distinct-two : (a b : Mac) → a ≢ b → IsDistinct (a ∷ b ∷ [])
+distinct-two a b differ zero zero d before inside = absurd (omega arith)
+distinct-two a b differ zero (suc zero) d before inside = differ
+distinct-two a b differ zero (suc (suc j)) d before inside = absurd (omega arith)
+distinct-two a b differ (suc i) zero d before inside = absurd (omega arith)
+distinct-two a b differ (suc i) (suc zero) d before inside = absurd (omega arith)
+distinct-two a b differ (suc i) (suc (suc j)) d before inside = absurd (omega arith)

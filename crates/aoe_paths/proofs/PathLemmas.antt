@@ -1,6 +1,6 @@
 -- What one path is says what the lists of marks and of trips are.
-use Rattle.std.proofs.Common.{ℕ, zero, suc, ◌≡◌, ◌<◌, List, [], ◌∷◌, length, map, set, replicate, get_or, Bool, false, Option, refl, sym, ap, ◌∙◌, arith}
-use Rattle.std.proofs.lemmas.List.{map-set, get_or-map, get_or_default}
+use Rattle.std.proofs.Common.{ℕ, zero, suc, ◌≡◌, ◌<◌, List, [], ◌∷◌, length, map, set, replicate, get_or, Bool, false, Option, refl, sym, ap, ◌∙◌}
+use Rattle.std.proofs.lemmas.List.{map-set, get_or-map}
 use Rattle.std.proofs.Math.Seq.{map-set_same}
 use Rattle.aoe_base.specs.declared.counted.Millis.{Millis}
 use Rattle.aoe_paths.specs.Path.{PathState, after_trip, new_path}

@@ -1,7 +1,7 @@
 -- The timeout of a path by its greatest trip.
-use Rattle.std.proofs.Common.{ℕ, zero, suc, get_or, ◌≡◌, ◌*◌, ◌^◌, ◌-◌, ◌<◌, ◌≤◌, List, [], ◌∷◌, length, min, max, inl, inr, refl, sym, ap, ◌∙◌, arith}
-use Rattle.std.specs.Prelude.{fold, All, Contains, ◌⊎◌}
-use Rattle.std.proofs.lemmas.List.{take_all}
+use Rattle.std.proofs.Common.{ℕ, zero, suc, get_or, ◌≡◌, ◌*◌, ◌^◌, ◌-◌, ◌<◌, ◌≤◌, List, [], ◌∷◌, length, min, max, refl, ap, ◌∙◌, arith}
+use Rattle.std.specs.Prelude.{fold, All, Contains}
+use Rattle.std.proofs.lemmas.List.{take_all, take-take}
 use Rattle.std.proofs.lemmas.List.Elements.{All-head, All-tail}
 use Rattle.aoe_paths.specs.Timeout.{greatest, last_trips, timeout_of}
 
@@ -35,3 +35,11 @@ timeout-is (trip ∷ trips) m timeout clamped few all one is clamp =
     let kept : last_trips (trip ∷ trips) ≡ trip ∷ trips = take_all 8 (trip ∷ trips) few in
     let most : greatest (last_trips (trip ∷ trips)) ≡ m = ap greatest kept ∙ greatest-is m (trip ∷ trips) all one in
     rw most (omega (arith, is, clamp))
+
+-- what came before the last eight trips is of no account
+pub last_trips-cons : (trip : ℕ) (trips : List ℕ) → last_trips (trip ∷ last_trips trips) ≡ last_trips (trip ∷ trips)
+last_trips-cons trip trips = ap (λ (earlier : List ℕ). trip ∷ earlier) (take-take 7 8 trips (omega arith))
+
+pub timeout_of-last_trips : (trips : List ℕ) → timeout_of (last_trips trips) ≡ timeout_of trips
+timeout_of-last_trips [] = refl
+timeout_of-last_trips (trip ∷ trips) = ap (λ (kept : List ℕ). min 60000 (max 100 (4 * greatest kept))) (take-take 8 8 (trip ∷ trips) (omega arith))

@@ -1,5 +1,5 @@
 -- The paths between a host and a device, and which of them is taken next.
-use Rattle.std.specs.Prelude.{ℕ, ◌≡◌, ◌≢◌, ◌+◌, ◌*◌, ◌/◌, ◌%◌, List, [], ◌++◌, length, take, drop, replicate, position, AllPairs, Bool, false, true, not, Option, Some, None, option_and_then, option_map, unwrap_or, slice_get, slice_index_or, slice_set}
+use Rattle.std.specs.Prelude.{ℕ, ◌≢◌, ◌+◌, ◌*◌, ◌/◌, ◌%◌, List, [], ◌++◌, length, take, drop, replicate, position, AllPairs, Bool, false, true, not, Option, Some, None, option_and_then, option_map, unwrap_or, slice_get, slice_index_or, slice_set}
 use Rattle.aoe_base.specs.declared.address.Mac.{Mac}
 use Rattle.aoe_base.specs.declared.counted.Millis.{Millis}
 use Rattle.aoe_paths.specs.Path.{after_trip}

@@ -87,11 +87,11 @@ impl Model for Paths {
     ghost Value = { PathTable };
 
     ghost view = { λ table. record {
-        locals = table.locals.items;
-        remotes = table.remotes.items;
-        chosen = option_map (λ p. p.0) table.chosen;
-        marks = map (λ path. path.missed) table.paths.items;
-        trips = map (λ path. path.trips) table.paths.items
+      locals = table.locals.items;
+      remotes = table.remotes.items;
+      chosen = option_map (λ p. p.0) table.chosen;
+      marks = map (λ path. path.missed) table.paths.items;
+      trips = map (λ path. path.trips) table.paths.items;
     } };
 
     ghost invariant = { λ table. IsTable table.locals.items table.remotes.items (option_map (λ p. p.0) table.chosen) table.paths.items };
@@ -140,6 +140,7 @@ impl Paths {
 
     /// The path between a local and a remote port.
     pub fn find(&self, local: Mac, remote: Mac) -> Option<PathNo>
+        ensures within { IfSome result (λ p. p.0 < path_count self.now) }
         ensures pair { IfSome result (λ p. pair_of self.now p.0 ≡ Some (local, remote)) }
         ensures only { IfSome result (λ p. (q : ℕ) → pair_of self.now q ≡ Some (local, remote) → q ≡ p.0) }
         ensures none { IfNone result ((q : ℕ) → pair_of self.now q ≢ Some (local, remote)) }
@@ -175,3 +176,6 @@ impl Paths {
         self.paths[p.0 as usize].timeout()
     }
 }
+
+#[cfg(test)]
+mod tests;

@@ -1,5 +1,5 @@
-use Rattle.std.proofs.Common.{◌≡◌, ◌*◌, ◌<◌, length, ap, sym, refl, ◌∙◌, arith}
-use Rattle.aoe_paths.specs.PathTable.{PathTable, path_count}
+use Rattle.std.proofs.Common.{◌≡◌, ◌*◌, ◌<◌, length, ap, refl, arith}
+use Rattle.aoe_paths.specs.PathTable.{path_count}
 use Rattle.aoe_paths.proofs.PathLemmas.{marks-set, trips-answered}
 use Rattle.aoe_paths.proofs.paths.Paths.answered.Goals as goal
 

@@ -1,7 +1,6 @@
-use Rattle.std.proofs.Common.{ℕ, ◌≡◌, ◌+◌, ◌*◌, List, length, Some, None, ap, sym, ◌∙◌, refl}
+use Rattle.std.proofs.Common.{ℕ, ◌≡◌, ◌+◌, ◌*◌, length, Some, None, ap, sym, ◌∙◌}
 use Rattle.std.specs.Prelude.{position, slice_get, bytes_eq}
-use Rattle.aoe_base.specs.declared.address.Mac.{Mac}
-use Rattle.aoe_paths.specs.PathTable.{PathTable, pair_of, IsDistinct}
+use Rattle.aoe_paths.specs.PathTable.{PathTable, IsDistinct}
 use Rattle.aoe_paths.proofs.PairLemmas.{pair-split, port-found, port-missing, pair-of-number, one-number}
 use Rattle.aoe_paths.proofs.paths.Paths.find.Goals as goal
 

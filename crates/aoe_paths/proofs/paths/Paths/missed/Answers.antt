@@ -1,4 +1,4 @@
-use Rattle.std.proofs.Common.{◌≡◌, ap, sym, refl, ◌∙◌}
+use Rattle.std.proofs.Common.{ap, refl}
 use Rattle.aoe_paths.specs.Path.{PathState}
 use Rattle.aoe_paths.proofs.PathLemmas.{marks-set, trips-missed}
 use Rattle.aoe_paths.proofs.paths.Paths.missed.Goals as goal

@@ -1,4 +1,4 @@
-use Rattle.std.proofs.Common.{◌≡◌, ◌<◌, List, [], length, ap, sym, ◌∙◌, arith}
+use Rattle.std.proofs.Common.{◌≡◌, ◌<◌, List, [], length, ap, ◌∙◌}
 use Rattle.aoe_base.specs.declared.address.Mac.{Mac}
 use Rattle.aoe_paths.specs.PathTable.{PathTable}
 use Rattle.aoe_paths.proofs.PairLemmas.{pair-read}
