@@ -33,9 +33,9 @@ abbrev pub numbered : List SentFrame → ℕ → Option SentFrame
 numbered [] number = None
 numbered (frame ∷ earlier) number = if number == suc (length earlier) then Some frame else numbered earlier number
 
--- how long a frame can be handed over after its sending
+-- how long a frame can be handed over after its sending: the same for all frames
 abbrev pub lifetime : Network → List ℕ → ℕ
-lifetime net bytes = net.life
+lifetime net _ = net.life
 
 -- the bytes of a frame that can still be handed over: its age is at most its lifetime
 abbrev pub fresh_bytes : Network → ℕ → SentFrame → Option (List ℕ)

@@ -1,4 +1,3 @@
-pub mod Choice
 pub mod Path
 pub mod PathTable
 pub mod Timeout

@@ -1,8 +1,9 @@
 -- The paths between a host and a device, and which of them is taken next.
-use Rattle.std.specs.Prelude.{ℕ, ◌≢◌, ◌+◌, ◌*◌, ◌/◌, ◌%◌, List, [], ◌++◌, length, take, drop, replicate, position, AllPairs, Bool, false, true, not, Option, Some, None, option_and_then, option_map, unwrap_or, slice_get, slice_index_or, slice_set}
+use Rattle.std.specs.Prelude.{ℕ, ◌≡◌, ◌≢◌, ◌+◌, ◌*◌, ◌/◌, ◌%◌, ◌<◌, ◌≤◌, List, [], ◌++◌, length, take, drop, replicate, position, AllPairs, Bool, false, true, not, Option, Some, None, option_and_then, option_map, unwrap_or, slice_get, slice_index_or, slice_set}
+use Rattle.std.specs.Option.{ForSome}
 use Rattle.aoe_base.specs.declared.address.Mac.{Mac}
 use Rattle.aoe_base.specs.declared.counted.Millis.{Millis}
-use Rattle.aoe_paths.specs.Path.{after_trip}
+use Rattle.aoe_paths.specs.Path.{PathState, after_trip}
 
 -- the ports at both ends, the path that was chosen last, and for each path whether it is marked as
 -- missed and the last trips on it in milliseconds, the latest first
@@ -65,3 +66,15 @@ after_answer table p trip = record table {
 -- an answer on path p was missed: it has a mark
 abbrev pub after_miss : PathTable → ℕ → PathTable
 after_miss table p = record table { marks = slice_set table.marks p true }
+
+-- what holds of a table at all times: it has one path for each pair of the ports at both ends, where
+-- each end has one to four of them and none twice, and the path that was chosen last is one of them
+pub record IsTable (locals remotes : List Mac) (chosen : Option ℕ) (paths : List PathState) : Type 0 where
+  pub count : length paths ≡ length locals * length remotes
+  pub local : 0 < length locals
+  pub remote : 0 < length remotes
+  pub few_locals : length locals ≤ 4
+  pub few_remotes : length remotes ≤ 4
+  pub locals_differ : IsDistinct locals
+  pub remotes_differ : IsDistinct remotes
+  pub inside : ForSome chosen (λ p. p < length paths)

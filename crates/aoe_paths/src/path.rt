@@ -23,8 +23,10 @@ pub const MIN_TIMEOUT: Millis = Millis(100);
 /// The greatest timeout.
 pub const MAX_TIMEOUT: Millis = Millis(60_000);
 
+/// A path: a mark, and the round trips that its timeout goes by.
 #[derive(Drop)]
 pub struct Path {
+    /// No answer came since one was missed.
     missed: bool,
 
     /// The last round trips, the latest first.
@@ -56,18 +58,21 @@ impl Path {
         }
     }
 
+    /// Whether the path is marked.
     pub fn is_missed(&self) -> bool
         ensures { result ≡ self.now.missed }
     {
         self.missed
     }
 
+    /// Marks the path.
     pub fn miss(&mut self)
         ensures { self.new ≡ record self.old { missed = true } }
     {
         self.missed = true;
     }
 
+    /// Takes the mark away, and keeps the round trip where it is known.
     pub fn answer(&mut self, trip: Option<Millis>)
         ensures { self.new ≡ record { missed = false; trips = after_trip self.old.trips trip } }
     {
@@ -86,6 +91,7 @@ impl Path {
         self.trips.iter().map(|trip| trip.0).max()
     }
 
+    /// How long an answer is waited for.
     pub fn timeout(&self) -> Millis
         ensures { result.0 ≡ timeout_of self.now.trips }
     {

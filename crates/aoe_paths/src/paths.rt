@@ -1,5 +1,5 @@
 //! The paths of a host to one device, and the choice among them.
-ghost use Rattle.std.specs.Prelude.{◌≡◌, ◌≢◌, ℕ, ◌<◌, ◌≤◌, [], bytes_eq, length, not, option_map, position, replicate, IfNone, IfOk, IfSome};
+ghost use Rattle.std.specs.Prelude.{◌≡◌, ◌≢◌, ℕ, ◌<◌, ◌≤◌, [], bytes_eq, false, length, not, option_map, position, replicate, slice_get, Contains, IfNone, IfOk, IfSome};
 ghost use Rattle.aoe_paths.specs.Path.{new_path};
 ghost use Rattle.aoe_paths.specs.PathTable.{after_answer, after_miss, in_turn, new_paths, next_path, pair_of, path_after, path_count, trips_of, IsDistinct};
 ghost use Rattle.aoe_paths.specs.Timeout.{timeout_of};
@@ -81,8 +81,7 @@ pub struct Paths {
 
 impl Model for Paths {
     ghost use Rattle.std.specs.Prelude.{map, option_map};
-    ghost use Rattle.aoe_paths.specs.PathTable.{PathTable};
-    ghost use Rattle.aoe_paths.specs.Choice.{IsTable};
+    ghost use Rattle.aoe_paths.specs.PathTable.{PathTable, IsTable};
 
     ghost Value = { PathTable };
 
@@ -114,10 +113,12 @@ impl Paths {
         })
     }
 
-    /// Chooses the path of the next frame.
+    /// Chooses the path of the next frame: after the path chosen last, in cyclic order, the first
+    /// without a mark, or the very next where all have one.
     pub fn choose(&mut self) -> PathNo
         ensures next { result.0 ≡ next_path self.old.marks self.old.chosen }
         ensures within { result.0 < path_count self.new }
+        ensures unmarked { Contains self.old.marks false → slice_get self.old.marks result.0 ≡ Some false }
         ensures same { self.new ≡ record self.old { chosen = Some result.0 } }
     {
         let count = self.paths.len();
