@@ -1,0 +1,51 @@
+-- What a network is: its frames, and which of them it still hands over.
+use Rattle.std.specs.Prelude.{ℕ, suc, ◌≡◌, ◌+◌, ◌-◌, ◌<◌, ◌≤◌, ◌==◌, ◌⊎◌, List, [], ◌∷◌, length, sum_by, nat_le, Option, Some, None, option_and_then, IsSomeAnd, if◌then◌else◌}
+
+-- a frame that was sent: its bytes, and the time of its sending
+pub record SentFrame : Type 0 where
+  pub bytes : List ℕ
+  pub birth : ℕ
+
+-- the lifetime of its frames, the time of the latest sending (0 before the first), and the frames
+-- that were sent, the latest first; times in milliseconds
+pub record Network : Type 0 where
+  pub life : ℕ
+  pub latest : ℕ
+  pub sent : List SentFrame
+
+abbrev pub empty_network : ℕ → Network
+empty_network life = record { life = life; latest = 0; sent = [] }
+
+-- the network after these bytes were sent
+abbrev pub with_frame : Network → ℕ → List ℕ → Network
+with_frame net now bytes = record net { latest = now; sent = record { bytes = bytes; birth = now } ∷ net.sent }
+
+-- how many bytes the frames have together
+abbrev pub total_bytes : Network → ℕ
+total_bytes net = sum_by (λ frame. length frame.bytes) net.sent
+
+-- no room for these bytes: 200,000 frames stand there, or the bytes would be more than 536,870,912
+abbrev pub IsFull : Network → List ℕ → Type 0
+IsFull net bytes = (200000 ≤ length net.sent) ⊎ (536870912 < total_bytes net + length bytes)
+
+-- the frame with a number: they are numbered from 1 in the order of their sending
+abbrev pub numbered : List SentFrame → ℕ → Option SentFrame
+numbered [] number = None
+numbered (frame ∷ earlier) number = if number == suc (length earlier) then Some frame else numbered earlier number
+
+-- how long a frame can be handed over after its sending: the same for all frames
+abbrev pub lifetime : Network → List ℕ → ℕ
+lifetime net _ = net.life
+
+-- the bytes of a frame that can still be handed over: its age is at most its lifetime
+abbrev pub fresh_bytes : Network → ℕ → SentFrame → Option (List ℕ)
+fresh_bytes net now frame = if nat_le (now - frame.birth) (lifetime net frame.bytes) then Some frame.bytes else None
+
+-- the bytes that the network hands over for a number, or nothing where no frame has the number or
+-- the one that has it has expired
+abbrev pub deliverable : Network → ℕ → ℕ → Option (List ℕ)
+deliverable net number now = option_and_then (fresh_bytes net now) (numbered net.sent number)
+
+-- a frame with these bytes has the number
+abbrev pub IsNumberOf : Network → List ℕ → ℕ → Type 0
+IsNumberOf net bytes number = IsSomeAnd (numbered net.sent number) (λ frame. frame.bytes ≡ bytes)

@@ -1,0 +1,13 @@
+//! Why a network takes no further frame.
+use thiserror::Error;
+
+/// Why a frame wasn't sent.
+#[derive(Clone, Copy, Debug, PartialEq, Eq, Error)]
+pub enum NetRefusal {
+    /// The network keeps as many frames as it can, or as many bytes.
+    #[error("the network is full")]
+    Full,
+    /// An allocation was refused.
+    #[error("no memory")]
+    NoMemory,
+}

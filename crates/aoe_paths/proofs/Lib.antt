@@ -1,0 +1,4 @@
+mod ChoiceLemmas
+mod PairLemmas
+mod PathLemmas
+pub mod TimeoutLemmas
