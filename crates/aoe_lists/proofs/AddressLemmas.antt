@@ -1,12 +1,12 @@
 -- Lists of addresses, of which none stands twice.
-use Rattle.std.proofs.Common.{◌≡◌, ◌≢◌, ◌≤◌, ◌+◌, ◌&&◌, ◌||◌, not, cond, ℕ, Bool, true, false, List, [], ◌∷◌, ◌++◌, append-nil, length, filter, refl, sym, ap, subst, ◌∙◌, arith}
+use Rattle.std.proofs.Common.{◌≡◌, ◌&&◌, ◌||◌, not, cond, ℕ, Bool, true, false, List, [], ◌∷◌, ◌++◌, append-nil, refl, sym, ap, subst, ◌∙◌}
 use Rattle.std.specs.Bool.{Decides}
 use Rattle.std.proofs.lemmas.Bool.Decides.{same_from_decides}
 use Rattle.std.proofs.lemmas.Slice.Eq.{bytes_eq-Decides}
 use Rattle.std.proofs.lemmas.List.Elements.{filter-append}
 use Rattle.std.proofs.lemmas.List.Folds.{list_any-append}
 use Rattle.aoe_base.specs.declared.address.Mac.{Mac}
-use Rattle.aoe_lists.specs.Addresses.{same_address, holds, each_once, without, first_places}
+use Rattle.aoe_lists.specs.Addresses.{same_address, holds, all_unique, without, first_places}
 
 pub same_address-Decides : (a b : Mac) → Decides (same_address a b) (a ≡ b)
 same_address-Decides a b =
@@ -52,7 +52,7 @@ holds-without_other [] a b other = refl
 holds-without_other (x ∷ list) a b other =
     without_head x list a b (λ l. holds l b ≡ (same_address x b || holds list b))
     (λ same. let P : Mac → Type 0 = λ y. holds (without list a) b ≡ (same_address y b || holds list b) in
-        subst P (sym (is_same x a same)) (rw other (holds-without_other list a b other)))
+    subst P (sym (is_same x a same)) (rw other (holds-without_other list a b other)))
     (λ _. ap (λ t. same_address x b || t) (holds-without_other list a b other))
 
 holds-without_self : (list : List Mac) (a : Mac) → holds (without list a) a ≡ false
@@ -64,24 +64,24 @@ not_true : (x : Bool) → not x ≡ true → x ≡ false
 not_true true e = absurd (cc)
 not_true false e = refl
 
-pub each_once-without : (list : List Mac) (a : Mac) → each_once list ≡ true → each_once (without list a) ≡ true
-each_once-without [] a e = refl
-each_once-without (x ∷ list) a e =
-    let parts = and_true (not (holds list x)) (each_once list) e in
-    without_head x list a a (λ l. each_once l ≡ true) (λ _. each_once-without list a parts.1)
-    (λ _. rw (holds-without list a x (not_true (holds list x) parts.0)) (each_once-without list a parts.1))
+pub all_unique-without : (list : List Mac) (a : Mac) → all_unique list ≡ true → all_unique (without list a) ≡ true
+all_unique-without [] a e = refl
+all_unique-without (x ∷ list) a e =
+    let parts = and_true (not (holds list x)) (all_unique list) e in
+    without_head x list a a (λ l. all_unique l ≡ true) (λ _. all_unique-without list a parts.1)
+    (λ _. rw (holds-without list a x (not_true (holds list x) parts.0)) (all_unique-without list a parts.1))
 
-pub each_once-append : (list : List Mac) (a : Mac) → each_once list ≡ true → holds list a ≡ false → each_once (list ++ a ∷ []) ≡ true
-each_once-append [] a e new = refl
-each_once-append (x ∷ list) a e new =
-    let parts = and_true (not (holds list x)) (each_once list) e in
+pub all_unique-append : (list : List Mac) (a : Mac) → all_unique list ≡ true → holds list a ≡ false → all_unique (list ++ a ∷ []) ≡ true
+all_unique-append [] a e new = refl
+all_unique-append (x ∷ list) a e new =
+    let parts = and_true (not (holds list x)) (all_unique list) e in
     let other = or_false (same_address x a) (holds list a) new in
     let back : same_address a x ≡ false = same_address-comm a x ∙ other.0 in
-    rw (list_any-append (λ b. same_address b x) list (a ∷ []), not_true (holds list x) parts.0, back) (each_once-append list a parts.1 other.1)
+    rw (list_any-append (λ b. same_address b x) list (a ∷ []), not_true (holds list x) parts.0, back) (all_unique-append list a parts.1 other.1)
 
-pub each_once-first_places : (list : List Mac) → each_once (first_places list) ≡ true
-each_once-first_places [] = refl
-each_once-first_places (x ∷ list) = rw (holds-without_self (first_places list) x) (each_once-without (first_places list) x (each_once-first_places list))
+pub all_unique-first_places : (list : List Mac) → all_unique (first_places list) ≡ true
+all_unique-first_places [] = refl
+all_unique-first_places (x ∷ list) = rw (holds-without_self (first_places list) x) (all_unique-without (first_places list) x (all_unique-first_places list))
 
 pub holds-first_places : (list : List Mac) (b : Mac) → holds (first_places list) b ≡ holds list b
 holds-first_places [] b = refl

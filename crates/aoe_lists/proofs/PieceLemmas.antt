@@ -1,5 +1,5 @@
 -- Pieces of a list, of one length each.
-use Rattle.std.proofs.Common.{◌≡◌, ◌+◌, ◌*◌, ◌≤◌, ℕ, zero, suc, List, [], ◌∷◌, length, take, drop, refl, ap, arith}
+use Rattle.std.proofs.Common.{◌≡◌, ◌≤◌, ℕ, zero, suc, List, ◌∷◌, take, drop, refl, ap, arith}
 use Rattle.std.specs.Simd.{first_chunks}
 
 pub take-first_chunks : {X : Type 0} (n k count : ℕ) (xs : List X) → count ≤ k → take count (first_chunks n k xs) ≡ first_chunks n count xs

@@ -1,5 +1,5 @@
 -- Lists of addresses.
-use Rattle.std.specs.Prelude.{ℕ, Bool, true, not, ◌&&◌, List, [], ◌∷◌, filter}
+use Rattle.std.specs.Prelude.{Bool, true, not, ◌&&◌, List, [], ◌∷◌, filter}
 use Rattle.std.specs.List.{list_any}
 use Rattle.std.specs.Str.{bytes_eq}
 use Rattle.aoe_base.specs.declared.address.Mac.{Mac}
@@ -13,9 +13,9 @@ abbrev pub holds : List Mac → Mac → Bool
 holds list a = list_any (λ b. same_address b a) list
 
 -- no address stands twice
-abbrev pub each_once : List Mac → Bool
-each_once [] = true
-each_once (a ∷ list) = not (holds list a) && each_once list
+abbrev pub all_unique : List Mac → Bool
+all_unique [] = true
+all_unique (a ∷ list) = not (holds list a) && all_unique list
 
 -- the list without an address
 abbrev pub without : List Mac → Mac → List Mac

@@ -1,6 +1,7 @@
 -- Mask lists (AoEr11, "MAC Mask List"). The bytes are those of the frame from byte 24 on.
-use Rattle.std.specs.Prelude.{ℕ, ◌+◌, ◌*◌, Bool, ◌&&◌, ◌==◌, nat_le, List, [], ◌∷◌, ◌++◌, length, map, drop, Option, Some, None, Result, Ok, Err, if◌then◌else◌, slice_index}
+use Rattle.std.specs.Prelude.{ℕ, ◌*◌, ◌==◌, nat_le, List, [], ◌∷◌, ◌++◌, length, map, drop, Option, Some, None, Result, Ok, Err, if◌then◌else◌, slice_index}
 use Rattle.std.specs.List.{flat_map}
+use Rattle.std.specs.Option.{option_and_then, option_map_or}
 use Rattle.std.specs.Simd.{first_chunks}
 use Rattle.aoe_base.specs.declared.address.Mac.{Mac}
 use Rattle.aoe_frame.specs.declared.refusal.AoeError.TheVariants.{BadArgument}
@@ -14,7 +15,7 @@ use Rattle.aoe_lists.specs.declared.masks.Directive.TheVariants.{Nothing, Add, D
 use Rattle.aoe_lists.specs.declared.step.Step.{Step}
 use Rattle.aoe_lists.specs.Addresses.{holds, without}
 use Rattle.aoe_lists.specs.Settings.{Settings}
-use Rattle.aoe_lists.specs.Step.{replied, refused, succeeded}
+use Rattle.aoe_lists.specs.Step.{reply_of, refusal_of, success_of}
 
 -- the values of MCmd
 abbrev pub mask_code : MaskCommand → ℕ
@@ -42,14 +43,14 @@ directive_of bytes =
     else Unknown
 
 -- what one directive makes of a list
-abbrev pub applied : List Mac → Directive → Result (List Mac) MaskError
-applied masks Nothing = Ok masks
-applied masks (Add a) =
+abbrev pub after_directive : List Mac → Directive → Result (List Mac) MaskError
+after_directive masks Nothing = Ok masks
+after_directive masks (Add a) =
     if holds masks a then Ok masks
     else if length masks == MAX_ADDRESSES then Err ListFull
     else Ok (masks ++ a ∷ [])
-applied masks (Delete a) = Ok (without masks a)
-applied masks Unknown = Err BadDirective
+after_directive masks (Delete a) = Ok (without masks a)
+after_directive masks Unknown = Err BadDirective
 
 -- what is made of a result, unless it is an error
 abbrev pub and_then : {A E : Type 0} → Result A E → (A → Result A E) → Result A E
@@ -57,9 +58,9 @@ and_then (Ok a) f = f a
 and_then (Err e) f = Err e
 
 -- what directives make of a list, one after another, up to the first that can't be applied
-abbrev pub edited : List Mac → List Directive → Result (List Mac) MaskError
-edited masks [] = Ok masks
-edited masks (d ∷ directives) = and_then (applied masks d) (λ changed. edited changed directives)
+abbrev pub after_directives : List Mac → List Directive → Result (List Mac) MaskError
+after_directives masks [] = Ok masks
+after_directives masks (d ∷ directives) = and_then (after_directive masks d) (λ changed. after_directives changed directives)
 
 -- a reply's arguments: the list, as directives that do nothing
 abbrev pub mask_args : MaskCommand → List Mac → List ℕ
@@ -69,13 +70,10 @@ mask_args command masks = (0 ∷ mask_code command ∷ 0 ∷ length masks ∷ []
 abbrev pub mask_failure : MaskError → List ℕ
 mask_failure error = 0 ∷ 1 ∷ mask_error_code error ∷ 0 ∷ []
 
-abbrev pub mask_outcome : Settings → Result (List Mac) MaskError → Step
-mask_outcome s (Ok masks) = succeeded s (record s { masks = masks }) (mask_args Edit masks)
-mask_outcome s (Err error) = replied (mask_failure error)
-
 -- an edit is done whole or not at all
-abbrev pub mask_edit : Settings → List Directive → Step
-mask_edit s directives = mask_outcome s (edited s.masks directives)
+abbrev pub mask_edit : Settings → Result (List Mac) MaskError → Step
+mask_edit s (Ok masks) = success_of s (record s { masks = masks }) (mask_args Edit masks)
+mask_edit s (Err error) = reply_of (mask_failure error)
 
 -- the directives of an edit, as many as it says; a read has none
 abbrev pub mask_directives : MaskCommand → ℕ → List ℕ → Option (MaskCommand × List Directive)
@@ -83,24 +81,19 @@ mask_directives Read count rest = Some (Read, [])
 mask_directives Edit count rest =
     if nat_le (8 * count) (length rest) then Some (Edit, map directive_of (first_chunks 8 count rest)) else None
 
-abbrev pub mask_named : Option MaskCommand → ℕ → List ℕ → Option (MaskCommand × List Directive)
-mask_named None count rest = None
-mask_named (Some command) count rest = mask_directives command count rest
-
 -- the command and the directives of a request, or nothing where a field is missing or has a value that isn't taken
 abbrev pub mask_request : List ℕ → Option (MaskCommand × List Directive)
 mask_request bytes =
-    if nat_le 4 (length bytes) then mask_named (mask_command_of (slice_index bytes 1)) (slice_index bytes 3) (drop 4 bytes) else None
+    if nat_le 4 (length bytes)
+    then option_and_then (λ command. mask_directives command (slice_index bytes 3) (drop 4 bytes)) (mask_command_of (slice_index bytes 1))
+    else None
 
--- what each command does with its directives
-abbrev pub mask_does : Settings → MaskCommand → List Directive → Step
-mask_does s Read directives = replied (mask_args Read s.masks)
-mask_does s Edit directives = mask_edit s directives
-
-abbrev pub mask_reply : Settings → Option (MaskCommand × List Directive) → Step
-mask_reply s None = refused BadArgument []
-mask_reply s (Some request) = mask_does s request.0 request.1
+-- what each command comes to
+abbrev pub mask_result : Settings → MaskCommand → List Directive → Step
+mask_result s Read directives = reply_of (mask_args Read s.masks)
+mask_result s Edit directives = mask_edit s (after_directives s.masks directives)
 
 -- the written answer to a mask list request
-abbrev pub mask_answer : Settings → List ℕ → Step
-mask_answer s bytes = mask_reply s (mask_request bytes)
+unfoldable pub mask_answer : Settings → List ℕ → Step
+mask_answer s bytes =
+    option_map_or (λ request. mask_result s request.0 request.1) (mask_request bytes) (refusal_of BadArgument [])

@@ -1,6 +1,7 @@
 -- Reserve lists (AoEr11, "Reserve / Release"). The bytes are those of the frame from byte 24 on.
-use Rattle.std.specs.Prelude.{ℕ, ◌+◌, ◌*◌, Bool, ◌&&◌, ◌==◌, nat_le, List, [], ◌∷◌, ◌++◌, length, map, drop, Option, Some, None, if◌then◌else◌, slice_index}
+use Rattle.std.specs.Prelude.{ℕ, ◌*◌, Bool, true, false, not, ◌&&◌, ◌==◌, nat_le, List, [], ◌∷◌, ◌++◌, length, map, drop, Option, Some, None, if◌then◌else◌, slice_index}
 use Rattle.std.specs.List.{flat_map}
+use Rattle.std.specs.Option.{option_and_then, option_map_or}
 use Rattle.std.specs.Simd.{first_chunks}
 use Rattle.aoe_base.specs.declared.address.Mac.{Mac}
 use Rattle.aoe_frame.specs.declared.refusal.AoeError.TheVariants.{BadArgument, TargetIsReserved}
@@ -10,7 +11,7 @@ use Rattle.aoe_lists.specs.declared.reserves.ReserveCommand.TheVariants.{Read, S
 use Rattle.aoe_lists.specs.declared.step.Step.{Step}
 use Rattle.aoe_lists.specs.Addresses.{first_places}
 use Rattle.aoe_lists.specs.Settings.{Settings, may_use}
-use Rattle.aoe_lists.specs.Step.{replied, refused, succeeded}
+use Rattle.aoe_lists.specs.Step.{reply_of, refusal_of, success_of}
 
 -- the values of RCmd
 abbrev pub reserve_code : ReserveCommand → ℕ
@@ -33,36 +34,36 @@ reserve_args command reserves = (reserve_code command ∷ length reserves ∷ []
 abbrev pub addresses : List (List ℕ) → List Mac
 addresses sixes = map (λ six. record { 0 = six }) sixes
 
--- the addresses of a set, as many as it says, at most a full list; a read has none
+-- every command but a read has addresses
+abbrev pub has_addresses : ReserveCommand → Bool
+has_addresses Read = false
+has_addresses command = true
+
+-- the addresses of a set, as many as it says and at most a full list
 abbrev pub reserve_given : ReserveCommand → ℕ → List ℕ → Option (ReserveCommand × List Mac)
 reserve_given command count rest =
-    if reserve_code command == 0 then Some (command, [])
+    if not (has_addresses command) then Some (command, [])
     else if nat_le count MAX_ADDRESSES && nat_le (6 * count) (length rest) then Some (command, addresses (first_chunks 6 count rest))
     else None
-
-abbrev pub reserve_named : Option ReserveCommand → ℕ → List ℕ → Option (ReserveCommand × List Mac)
-reserve_named None count rest = None
-reserve_named (Some command) count rest = reserve_given command count rest
 
 -- the command and the addresses of a request, or nothing where a field is missing or has a value that isn't taken
 abbrev pub reserve_request : List ℕ → Option (ReserveCommand × List Mac)
 reserve_request bytes =
-    if nat_le 2 (length bytes) then reserve_named (reserve_command_of (slice_index bytes 0)) (slice_index bytes 1) (drop 2 bytes) else None
+    if nat_le 2 (length bytes)
+    then option_and_then (λ command. reserve_given command (slice_index bytes 1) (drop 2 bytes)) (reserve_command_of (slice_index bytes 0))
+    else None
 
 -- the list is set to the given one, in which the first of equal addresses counts
 abbrev pub reserve_set : Settings → ReserveCommand → List Mac → Step
-reserve_set s command given = succeeded s (record s { reserves = first_places given }) (reserve_args command (first_places given))
+reserve_set s command given = success_of s (record s { reserves = first_places given }) (reserve_args command (first_places given))
 
--- what each command does with its addresses
-abbrev pub reserve_does : Settings → Mac → ReserveCommand → List Mac → Step
-reserve_does s source Read given = replied (reserve_args Read s.reserves)
-reserve_does s source Set given = if may_use s source then reserve_set s Set given else refused TargetIsReserved []
-reserve_does s source ForceSet given = reserve_set s ForceSet given
-
-abbrev pub reserve_reply : Settings → Mac → Option (ReserveCommand × List Mac) → Step
-reserve_reply s source None = refused BadArgument []
-reserve_reply s source (Some request) = reserve_does s source request.0 request.1
+-- what each command comes to
+abbrev pub reserve_result : Settings → Mac → ReserveCommand → List Mac → Step
+reserve_result s source Read given = reply_of (reserve_args Read s.reserves)
+reserve_result s source Set given = if may_use s source then reserve_set s Set given else refusal_of TargetIsReserved []
+reserve_result s source ForceSet given = reserve_set s ForceSet given
 
 -- the written answer to a reserve request
-abbrev pub reserve_answer : Settings → Mac → List ℕ → Step
-reserve_answer s source bytes = reserve_reply s source (reserve_request bytes)
+unfoldable pub reserve_answer : Settings → Mac → List ℕ → Step
+reserve_answer s source bytes =
+    option_map_or (λ request. reserve_result s source request.0 request.1) (reserve_request bytes) (refusal_of BadArgument [])

@@ -12,20 +12,20 @@ pub record Settings : Type 0 where
   pub reserves : List Mac
 
 -- those of a new device
-abbrev pub no_settings : Settings
-no_settings = record { config = []; masks = []; reserves = [] }
+abbrev pub empty_settings : Settings
+empty_settings = record { config = []; masks = []; reserves = [] }
 
 -- a list that lets in whom it names, and everyone where it names nobody
-abbrev pub lets_in : List Mac → Mac → Bool
-lets_in list a = length list == 0 || holds list a
+abbrev pub is_open_to : List Mac → Mac → Bool
+is_open_to list a = length list == 0 || holds list a
 
 -- the station is answered
 abbrev pub admits : Settings → Mac → Bool
-admits s source = lets_in s.masks source
+admits s source = is_open_to s.masks source
 
 -- the station's ATA commands are done
 abbrev pub may_use : Settings → Mac → Bool
-may_use s source = lets_in s.reserves source
+may_use s source = is_open_to s.reserves source
 
 -- both are the same in all parts
 abbrev pub same_settings : Settings → Settings → Bool

@@ -1,23 +1,21 @@
 -- What a request comes to.
-use Rattle.std.specs.Prelude.{ℕ, List, [], ◌∷◌, Option, Some, None, if◌then◌else◌, ⊤}
-use Rattle.arrayvec.specs.ArrayVec.{ArrayVec}
+use Rattle.std.specs.Prelude.{ℕ, List, Some, None, if◌then◌else◌, ⊤}
 use Rattle.aoe_frame.specs.declared.refusal.AoeError.{AoeError}
-use Rattle.aoe_frame.specs.declared.refusal.AoeError.TheVariants.{BadArgument}
 use Rattle.aoe_lists.specs.declared.step.Step.{Step}
 use Rattle.aoe_lists.specs.declared.step.Step.TheVariants.{Silent, Reply, Change}
 use Rattle.aoe_lists.specs.Settings.{Settings, same_settings}
 
 -- a reply without an error
-abbrev pub replied : List ℕ → Step
-replied args = Reply None (record { items = args })
+abbrev pub reply_of : List ℕ → Step
+reply_of args = Reply None (record { items = args })
 
 -- a reply with an error
-abbrev pub refused : AoeError → List ℕ → Step
-refused error args = Reply (Some error) (record { items = args })
+abbrev pub refusal_of : AoeError → List ℕ → Step
+refusal_of error args = Reply (Some error) (record { items = args })
 
 -- a request that succeeds: a change exactly where the settings become others
-abbrev pub succeeded : Settings → Settings → List ℕ → Step
-succeeded old next args = if same_settings next old then replied args else Change next (record { items = args })
+abbrev pub success_of : Settings → Settings → List ℕ → Step
+success_of old next args = if same_settings next old then reply_of args else Change next (record { items = args })
 
 -- what is true of the settings that a step makes
 abbrev pub IfChange : Step → (Settings → Type 0) → Type 0

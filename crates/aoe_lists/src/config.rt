@@ -10,8 +10,8 @@
 //! | 8 | | string |
 ghost use Rattle.std.specs.Prelude.{◌≡◌, ◌≢◌, ◌≤◌, IfSome, length};
 ghost use Rattle.std.specs.Option.{option_map};
-ghost use Rattle.aoe_lists.specs.Config.{config_answer, config_args, config_code, config_command_of, config_does, config_request};
-ghost use Rattle.aoe_lists.specs.Step.{IfChange, succeeded};
+ghost use Rattle.aoe_lists.specs.Config.{config_answer, config_args, config_code, config_command_of, config_result, config_request};
+ghost use Rattle.aoe_lists.specs.Step.{IfChange, success_of};
 
 use crate::args::append;
 use crate::step::{refuse, reply};
@@ -72,9 +72,8 @@ impl ConfigCommand {
     }
 
     /// Its value of CCmd.
-    fn code(self) -> u8
-        ensures value { result ≡ config_code self }
-        ensures small { result ≤ 4 }
+    pub fn code(self) -> u8
+        ensures { result ≡ config_code self }
     {
         match self {
             ConfigCommand::Read => 0,
@@ -97,7 +96,7 @@ fn read_request(bytes: &[u8]) -> Option<(ConfigCommand, &[u8])>
     }
     let command = ConfigCommand::of(bytes[5] % 16)?;
     if command == ConfigCommand::Read {
-        return Some((command, &bytes[..0]));
+        return Some((command, &[]));
     }
     let len = usize::from(u16::from_be_bytes([bytes[6], bytes[7]]));
     let rest = &bytes[STRING_AT..];
@@ -124,7 +123,7 @@ fn write_args(facts: &Facts, command: ConfigCommand, string: &[u8]) -> Args
 /// Sets the string.
 fn set(lists: &Lists, facts: &Facts, command: ConfigCommand, string: &[u8]) -> Step
     requires { length string.now ≤ 1024 }
-    ensures { result ≡ succeeded lists.now (record lists.now { config = string.now }) (config_args facts.now command string.now) }
+    ensures { result ≡ success_of lists.now (record lists.now { config = string.now }) (config_args facts.now command string.now) }
 {
     let args = write_args(facts, command, string);
     if string == lists.config.as_slice() {
@@ -139,7 +138,7 @@ fn set(lists: &Lists, facts: &Facts, command: ConfigCommand, string: &[u8]) -> S
 /// What a command does with its string.
 fn act(lists: &Lists, facts: &Facts, command: ConfigCommand, string: &[u8]) -> Step
     requires { length string.now ≤ 1024 }
-    ensures { result ≡ config_does lists.now facts.now command string.now }
+    ensures { result ≡ config_result lists.now facts.now command string.now }
 {
     let current = lists.config.as_slice();
     match command {
@@ -158,6 +157,7 @@ fn act(lists: &Lists, facts: &Facts, command: ConfigCommand, string: &[u8]) -> S
 }
 
 /// What a query config request comes to. `bytes` are those of its frame from byte 24 on.
+#[tactic(auto, unfolding(crate::specs::Config::config_answer))]
 pub fn config_step(lists: &Lists, facts: &Facts, bytes: &[u8]) -> Step
     ensures answer { result ≡ config_answer lists.now facts.now bytes.now }
     ensures changes { IfChange result (λ next. next ≢ lists.now) }

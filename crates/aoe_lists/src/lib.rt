@@ -11,7 +11,12 @@ mod step;
 
 pub use args::Args;
 pub use config::{ConfigCommand, Facts, config_step};
-pub use lists::{AddressList, Lists, MAX_ADDRESSES, MAX_CONFIG, admits, may_use};
+pub use lists::{
+    AddressList, Lists, MAX_ADDRESSES, MAX_CONFIG, admits, may_use, settings_are_compared,
+};
 pub use masks::{Directive, MaskCommand, MaskError, mask_step};
 pub use reserves::{ReserveCommand, reserve_step};
 pub use step::Step;
+
+#[cfg(test)]
+mod tests;

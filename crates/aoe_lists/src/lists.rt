@@ -1,7 +1,6 @@
 //! A config string, the mask list and the reserve list of one device.
-ghost use Rattle.std.specs.Prelude.{◌≡◌, ◌⊎◌, ◌↔◌, ◌≤◌, [], IsTrue, Contains, length};
-ghost use Rattle.aoe_lists.specs.Settings.{admits as is_admitted, may_use as is_user, no_settings};
-ghost use Rattle.aoe_lists.specs.Addresses.{each_once};
+ghost use Rattle.std.specs.Prelude.{◌≡◌, ◌⊎◌, ◌↔◌, ◌≤◌, [], true, IsTrue, Contains, length};
+ghost use Rattle.aoe_lists.specs.Settings.{Settings, admits as is_admitted, empty_settings, may_use as is_user, same_settings};
 
 use aoe_base::Mac;
 use arrayvec::ArrayVec;
@@ -17,7 +16,7 @@ pub const MAX_CONFIG: usize = 1024;
 pub type AddressList = ArrayVec<Mac, MAX_ADDRESSES>;
 
 /// What a device keeps for its hosts. No address stands twice in a list.
-#[derive(Debug, Drop, PartialEq, Eq)]
+#[derive(Debug, Default, Drop, PartialEq, Eq)]
 pub struct Lists {
     /// The config string: bytes of which the device knows no meaning.
     pub config: ArrayVec<u8, MAX_CONFIG>,
@@ -32,19 +31,21 @@ pub struct Lists {
 impl Model for Lists {
     ghost use Rattle.std.specs.Prelude.{◌≡◌, true};
     ghost use Rattle.aoe_lists.specs.Settings.{Settings};
-    ghost use Rattle.aoe_lists.specs.Addresses.{each_once};
+    ghost use Rattle.aoe_lists.specs.Addresses.{all_unique};
 
     ghost Value = { Settings };
 
     ghost view = { λ l. record { config = l.config.items; masks = l.masks.items; reserves = l.reserves.items } };
 
-    ghost invariant = { λ l. (each_once l.masks.items ≡ true) × (each_once l.reserves.items ≡ true) };
+    ghost invariant = { λ l. (all_unique l.masks.items ≡ true) × (all_unique l.reserves.items ≡ true) };
 
     ghost inverse = { λ s. record { config = record { items = s.config }; masks = record { items = s.masks }; reserves = record { items = s.reserves } } };
 }
 
 /// A copy of a list in fixed room, which takes no memory.
-pub(crate) fn copied<T: Copy + Default + Drop, const N: usize>(list: &ArrayVec<T, N>) -> ArrayVec<T, N>
+pub(crate) fn copied<T: Copy + Default + Drop, const N: usize>(
+    list: &ArrayVec<T, N>,
+) -> ArrayVec<T, N>
     ensures { result.items ≡ list.now.items }
 {
     let mut copy = ArrayVec::new();
@@ -55,7 +56,7 @@ pub(crate) fn copied<T: Copy + Default + Drop, const N: usize>(list: &ArrayVec<T
 impl Lists {
     /// The lists of a new device: no config string and no address.
     pub fn new() -> Self
-        ensures { result ≡ no_settings }
+        ensures { result ≡ empty_settings }
     {
         Lists {
             config: ArrayVec::new(),
@@ -91,3 +92,8 @@ pub fn may_use(lists: &Lists, source: Mac) -> bool
 {
     lists.reserves.is_empty() || lists.reserves.contains(&source)
 }
+
+/// A law: what the steps compare lists by is equality.
+pub fn settings_are_compared()
+    ensures { (one other : Settings) → (same_settings one other ≡ true) ↔ (one ≡ other) }
+{}

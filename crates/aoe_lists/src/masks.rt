@@ -9,9 +9,9 @@
 //! | 4 | 8 each | directives: reserved, DCmd, address |
 ghost use Rattle.std.specs.Prelude.{◌≡◌, ◌≢◌, ◌≤◌, ◌*◌, ◌++◌, Ok, Err, true, MatchResult, length, map};
 ghost use Rattle.std.specs.Option.{option_map};
-ghost use Rattle.aoe_lists.specs.Addresses.{each_once, without};
-ghost use Rattle.aoe_lists.specs.Masks.{directive_of, applied, edited, mask_answer, mask_args, mask_code, mask_command_of, mask_does, mask_edit, mask_error_code, mask_failure, mask_request};
-ghost use Rattle.aoe_lists.specs.Step.{IfChange, succeeded};
+ghost use Rattle.aoe_lists.specs.Addresses.{all_unique, without};
+ghost use Rattle.aoe_lists.specs.Masks.{directive_of, after_directive, after_directives, mask_answer, mask_args, mask_code, mask_command_of, mask_result, mask_edit, mask_error_code, mask_failure, mask_request};
+ghost use Rattle.aoe_lists.specs.Step.{IfChange, success_of};
 
 use crate::args::{append, pieces};
 use crate::lists::copied;
@@ -140,8 +140,8 @@ fn read_directive(bytes: &[u8; 8]) -> Directive
 /// Adds an address at the end, where it isn't in the list.
 fn add(masks: &mut AddressList, address: Mac) -> Result<(), MaskError>
     ensures { MatchResult result
-        (λ _. applied masks.old.items (Directive.Add address) ≡ Ok masks.new.items)
-        (λ e. applied masks.old.items (Directive.Add address) ≡ Err e) }
+        (λ _. after_directive masks.old.items (Directive.Add address) ≡ Ok masks.new.items)
+        (λ e. after_directive masks.old.items (Directive.Add address) ≡ Err e) }
 {
     if masks.contains(&address) {
         return Ok(());
@@ -162,8 +162,8 @@ fn delete(masks: &mut AddressList, address: Mac)
 /// Applies one directive, or says why it can't be applied.
 fn apply(masks: &mut AddressList, directive: Directive) -> Result<(), MaskError>
     ensures { MatchResult result
-        (λ _. applied masks.old.items directive ≡ Ok masks.new.items)
-        (λ e. applied masks.old.items directive ≡ Err e) }
+        (λ _. after_directive masks.old.items directive ≡ Ok masks.new.items)
+        (λ e. after_directive masks.old.items directive ≡ Err e) }
 {
     match directive {
         Directive::Nothing => Ok(()),
@@ -179,8 +179,8 @@ fn apply(masks: &mut AddressList, directive: Directive) -> Result<(), MaskError>
 /// Applies directives in their order, up to the first that can't be applied.
 fn edit(masks: &mut AddressList, directives: &[[u8; 8]]) -> Result<(), MaskError>
     ensures { MatchResult result
-        (λ _. edited masks.old.items (map directive_of directives.now) ≡ Ok masks.new.items)
-        (λ e. edited masks.old.items (map directive_of directives.now) ≡ Err e) }
+        (λ _. after_directives masks.old.items (map directive_of directives.now) ≡ Ok masks.new.items)
+        (λ e. after_directives masks.old.items (map directive_of directives.now) ≡ Err e) }
 {
     for bytes in directives {
         apply(masks, read_directive(bytes))?;
@@ -212,8 +212,8 @@ fn write_failure(error: MaskError) -> Args
 
 /// Makes `masks` the list.
 fn set(lists: &Lists, masks: AddressList) -> Step
-    requires { each_once masks.items ≡ true }
-    ensures { result ≡ succeeded lists.now (record lists.now { masks = masks.items }) (mask_args MaskCommand.Edit masks.items) }
+    requires { all_unique masks.items ≡ true }
+    ensures { result ≡ success_of lists.now (record lists.now { masks = masks.items }) (mask_args MaskCommand.Edit masks.items) }
 {
     let args = write_args(MaskCommand::Edit, &masks);
     if masks == lists.masks {
@@ -226,7 +226,7 @@ fn set(lists: &Lists, masks: AddressList) -> Step
 
 /// Edits the list: all directives are applied, or none.
 fn change(lists: &Lists, directives: &[[u8; 8]]) -> Step
-    ensures { result ≡ mask_edit lists.now (map directive_of directives.now) }
+    ensures { result ≡ mask_edit lists.now (after_directives lists.now.masks (map directive_of directives.now)) }
 {
     let mut masks = copied(&lists.masks);
     match edit(&mut masks, directives) {
@@ -237,7 +237,7 @@ fn change(lists: &Lists, directives: &[[u8; 8]]) -> Step
 
 /// What a command does with its directives.
 fn act(lists: &Lists, command: MaskCommand, directives: &[[u8; 8]]) -> Step
-    ensures { result ≡ mask_does lists.now command (map directive_of directives.now) }
+    ensures { result ≡ mask_result lists.now command (map directive_of directives.now) }
 {
     match command {
         MaskCommand::Read => reply(write_args(command, &lists.masks)),
@@ -246,6 +246,7 @@ fn act(lists: &Lists, command: MaskCommand, directives: &[[u8; 8]]) -> Step
 }
 
 /// What a mask list request comes to. `bytes` are those of its frame from byte 24 on.
+#[tactic(auto, unfolding(crate::specs::Masks::mask_answer))]
 pub fn mask_step(lists: &Lists, bytes: &[u8]) -> Step
     ensures answer { result ≡ mask_answer lists.now bytes.now }
     ensures changes { IfChange result (λ next. next ≢ lists.now) }

@@ -7,9 +7,9 @@
 //! | 2 | 6 each | addresses |
 ghost use Rattle.std.specs.Prelude.{◌≡◌, ◌≢◌, ◌≤◌, IfSome, true, length};
 ghost use Rattle.std.specs.Option.{option_map};
-ghost use Rattle.aoe_lists.specs.Addresses.{each_once, first_places};
-ghost use Rattle.aoe_lists.specs.Reserves.{addresses, reserve_answer, reserve_args, reserve_code, reserve_command_of, reserve_does, reserve_request};
-ghost use Rattle.aoe_lists.specs.Step.{IfChange, succeeded};
+ghost use Rattle.aoe_lists.specs.Addresses.{all_unique, first_places};
+ghost use Rattle.aoe_lists.specs.Reserves.{addresses, reserve_answer, reserve_args, reserve_code, reserve_command_of, reserve_result, reserve_request};
+ghost use Rattle.aoe_lists.specs.Step.{IfChange, success_of};
 
 use crate::args::{append, pieces};
 use crate::step::{refuse, reply};
@@ -83,7 +83,7 @@ fn read_request(bytes: &[u8]) -> Option<(ReserveCommand, &[[u8; 6]])>
 fn first_of_each(given: &[[u8; 6]]) -> AddressList
     requires { length given.now ≤ MAX_ADDRESSES }
     ensures value { result.items ≡ first_places (addresses given.now) }
-    ensures once { each_once result.items ≡ true }
+    ensures once { all_unique result.items ≡ true }
 {
     let mut list = AddressList::new();
     for six in given {
@@ -109,8 +109,8 @@ fn write_args(command: ReserveCommand, reserves: &AddressList) -> Args
 
 /// Makes `reserves` the list.
 fn set(lists: &Lists, command: ReserveCommand, reserves: AddressList) -> Step
-    requires { each_once reserves.items ≡ true }
-    ensures { result ≡ succeeded lists.now (record lists.now { reserves = reserves.items }) (reserve_args command reserves.items) }
+    requires { all_unique reserves.items ≡ true }
+    ensures { result ≡ success_of lists.now (record lists.now { reserves = reserves.items }) (reserve_args command reserves.items) }
 {
     let args = write_args(command, &reserves);
     if reserves == lists.reserves {
@@ -124,7 +124,7 @@ fn set(lists: &Lists, command: ReserveCommand, reserves: AddressList) -> Step
 /// What a command does with its addresses.
 fn act(lists: &Lists, source: Mac, command: ReserveCommand, given: &[[u8; 6]]) -> Step
     requires { length given.now ≤ MAX_ADDRESSES }
-    ensures { result ≡ reserve_does lists.now source command (addresses given.now) }
+    ensures { result ≡ reserve_result lists.now source command (addresses given.now) }
 {
     match command {
         ReserveCommand::Read => reply(write_args(command, &lists.reserves)),
@@ -134,6 +134,7 @@ fn act(lists: &Lists, source: Mac, command: ReserveCommand, given: &[[u8; 6]]) -
 }
 
 /// What a reserve request comes to. `bytes` are those of its frame from byte 24 on.
+#[tactic(auto, unfolding(crate::specs::Reserves::reserve_answer))]
 pub fn reserve_step(lists: &Lists, source: Mac, bytes: &[u8]) -> Step
     ensures answer { result ≡ reserve_answer lists.now source bytes.now }
     ensures changes { IfChange result (λ next. next ≢ lists.now) }

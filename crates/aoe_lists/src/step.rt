@@ -1,6 +1,6 @@
 //! What a request that reads or changes the lists comes to.
 ghost use Rattle.std.specs.Prelude.{◌≡◌, []};
-ghost use Rattle.aoe_lists.specs.Step.{refused, replied};
+ghost use Rattle.aoe_lists.specs.Step.{refusal_of, reply_of};
 
 use crate::{Args, Lists};
 use aoe_frame::AoeError;
@@ -22,14 +22,14 @@ pub enum Step {
 
 /// A reply without an error.
 pub(crate) fn reply(args: Args) -> Step
-    ensures { result ≡ replied args.items }
+    ensures { result ≡ reply_of args.items }
 {
     Step::Reply { error: None, args }
 }
 
 /// A reply to a request whose arguments can't be taken.
 pub(crate) fn refuse(error: AoeError) -> Step
-    ensures { result ≡ refused error [] }
+    ensures { result ≡ refusal_of error [] }
 {
     Step::Reply {
         error: Some(error),

@@ -1,4 +1,4 @@
-use Rattle.std.proofs.Common.{◌≡◌, ◌≤◌, ◌*◌, ◌/◌, length, take, mul_comm, ap, ◌∙◌}
+use Rattle.std.proofs.Common.{◌≤◌, ◌/◌, length, take, mul_comm, ap, ◌∙◌}
 use Rattle.std.proofs.Math.Nat.{le-div_iff_mul-le}
 use Rattle.aoe_lists.proofs.PieceLemmas.{take-first_chunks}
 use Rattle.aoe_lists.proofs.args.pieces.Goals as goal

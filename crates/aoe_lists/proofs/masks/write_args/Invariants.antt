@@ -1,4 +1,4 @@
-use Rattle.std.proofs.Common.{◌≡◌, ◌++◌, ◌+◌, ◌*◌, take, length, List, [], ◌∷◌, ℕ}
+use Rattle.std.proofs.Common.{◌≡◌, ◌++◌, ◌+◌, ◌*◌, take, length, ◌∷◌}
 use Rattle.std.specs.List.{flat_map}
 use Rattle.aoe_lists.proofs.masks.write_args.Given as goal
 

@@ -1,4 +1,4 @@
-use Rattle.std.proofs.Common.{◌≡◌, ◌≤◌, ◌++◌, ◌+◌, ◌*◌, take, length, map, List, [], ◌∷◌, ℕ}
+use Rattle.std.proofs.Common.{◌≡◌, ◌≤◌, take, length}
 use Rattle.aoe_lists.specs.Addresses.{first_places}
 use Rattle.aoe_lists.specs.Reserves.{addresses}
 use Rattle.aoe_lists.proofs.reserves.first_of_each.Given as goal
