@@ -89,7 +89,7 @@ impl ConfigCommand {
 /// its length isn't looked at.
 fn read_request(bytes: &[u8]) -> Option<(ConfigCommand, &[u8])>
     ensures request { option_map (λ r. (r.0, r.1.now)) result ≡ config_request bytes.now }
-    ensures bound { IfSome result (λ r. length r.1.now ≤ 1024) }
+    ensures bound { IfSome result (λ r. length r.1.now ≤ MAX_CONFIG) }
 {
     if bytes.len() < STRING_AT {
         return None;
@@ -108,7 +108,7 @@ fn read_request(bytes: &[u8]) -> Option<(ConfigCommand, &[u8])>
 
 /// The arguments of a reply, with the string that stands after the request.
 fn write_args(facts: &Facts, command: ConfigCommand, string: &[u8]) -> Args
-    requires { length string.now ≤ 1024 }
+    requires { length string.now ≤ MAX_CONFIG }
     ensures { result.items ≡ config_args facts.now command string.now }
 {
     let mut args = Args::new();
@@ -122,8 +122,9 @@ fn write_args(facts: &Facts, command: ConfigCommand, string: &[u8]) -> Args
 
 /// Sets the string.
 fn set(lists: &Lists, facts: &Facts, command: ConfigCommand, string: &[u8]) -> Step
-    requires { length string.now ≤ 1024 }
-    ensures { result ≡ success_of lists.now (record lists.now { config = string.now }) (config_args facts.now command string.now) }
+    requires { length string.now ≤ MAX_CONFIG }
+    ensures { result ≡ success_of lists.now (record lists.now { config = string.now })
+        (config_args facts.now command string.now) }
 {
     let args = write_args(facts, command, string);
     if string == lists.config.as_slice() {
@@ -137,7 +138,7 @@ fn set(lists: &Lists, facts: &Facts, command: ConfigCommand, string: &[u8]) -> S
 
 /// What a command does with its string.
 fn act(lists: &Lists, facts: &Facts, command: ConfigCommand, string: &[u8]) -> Step
-    requires { length string.now ≤ 1024 }
+    requires { length string.now ≤ MAX_CONFIG }
     ensures { result ≡ config_result lists.now facts.now command string.now }
 {
     let current = lists.config.as_slice();

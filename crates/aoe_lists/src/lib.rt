@@ -9,13 +9,13 @@ mod masks;
 mod reserves;
 mod step;
 
-pub use args::Args;
+pub use args::{Args, MAX_ARGS};
 pub use config::{ConfigCommand, Facts, config_step};
 pub use lists::{
-    AddressList, Lists, MAX_ADDRESSES, MAX_CONFIG, admits, may_use, settings_are_compared,
+    AddressList, Lists, MAX_ADDRESSES, MAX_CONFIG, admits, may_use, same_settings_is_equality,
 };
 pub use masks::{Directive, MaskCommand, MaskError, mask_step};
-pub use reserves::{ReserveCommand, reserve_step};
+pub use reserves::{ReserveCommand, reserve_step, reserves_are_the_given_stations};
 pub use step::Step;
 
 #[cfg(test)]

@@ -39,7 +39,11 @@ impl Model for Lists {
 
     ghost invariant = { λ l. (all_unique l.masks.items ≡ true) × (all_unique l.reserves.items ≡ true) };
 
-    ghost inverse = { λ s. record { config = record { items = s.config }; masks = record { items = s.masks }; reserves = record { items = s.reserves } } };
+    ghost inverse = { λ s. record {
+      config = record { items = s.config };
+      masks = record { items = s.masks };
+      reserves = record { items = s.reserves };
+    } };
 }
 
 /// A copy of a list in fixed room, which takes no memory.
@@ -94,6 +98,6 @@ pub fn may_use(lists: &Lists, source: Mac) -> bool
 }
 
 /// A law: what the steps compare lists by is equality.
-pub fn settings_are_compared()
+pub fn same_settings_is_equality()
     ensures { (one other : Settings) → (same_settings one other ≡ true) ↔ (one ≡ other) }
 {}

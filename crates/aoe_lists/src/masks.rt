@@ -24,7 +24,7 @@ use thiserror::Error;
 /// Why a mask edit was refused, as its reply's field MError says.
 #[derive(Clone, Copy, Debug, PartialEq, Eq, Error)]
 pub enum MaskError {
-    /// 1. It is read from replies, and never written by this crate.
+    /// 1: no reason is given. No edit here ends with it.
     #[error("unspecified error")]
     Unspecified,
 
@@ -178,9 +178,9 @@ fn apply(masks: &mut AddressList, directive: Directive) -> Result<(), MaskError>
 
 /// Applies directives in their order, up to the first that can't be applied.
 fn edit(masks: &mut AddressList, directives: &[[u8; 8]]) -> Result<(), MaskError>
-    ensures { MatchResult result
-        (λ _. after_directives masks.old.items (map directive_of directives.now) ≡ Ok masks.new.items)
-        (λ e. after_directives masks.old.items (map directive_of directives.now) ≡ Err e) }
+    ensures { let changes = map directive_of directives.now in MatchResult result
+        (λ _. after_directives masks.old.items changes ≡ Ok masks.new.items)
+        (λ e. after_directives masks.old.items changes ≡ Err e) }
 {
     for bytes in directives {
         apply(masks, read_directive(bytes))?;
@@ -213,7 +213,8 @@ fn write_failure(error: MaskError) -> Args
 /// Makes `masks` the list.
 fn set(lists: &Lists, masks: AddressList) -> Step
     requires { all_unique masks.items ≡ true }
-    ensures { result ≡ success_of lists.now (record lists.now { masks = masks.items }) (mask_args MaskCommand.Edit masks.items) }
+    ensures { result ≡ success_of lists.now (record lists.now { masks = masks.items })
+        (mask_args MaskCommand.Edit masks.items) }
 {
     let args = write_args(MaskCommand::Edit, &masks);
     if masks == lists.masks {
@@ -226,7 +227,8 @@ fn set(lists: &Lists, masks: AddressList) -> Step
 
 /// Edits the list: all directives are applied, or none.
 fn change(lists: &Lists, directives: &[[u8; 8]]) -> Step
-    ensures { result ≡ mask_edit lists.now (after_directives lists.now.masks (map directive_of directives.now)) }
+    ensures { result ≡ mask_edit lists.now
+        (after_directives lists.now.masks (map directive_of directives.now)) }
 {
     let mut masks = copied(&lists.masks);
     match edit(&mut masks, directives) {

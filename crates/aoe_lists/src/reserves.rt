@@ -5,9 +5,9 @@
 //! | 0 | 1 | RCmd |
 //! | 1 | 1 | NMacs |
 //! | 2 | 6 each | addresses |
-ghost use Rattle.std.specs.Prelude.{◌≡◌, ◌≢◌, ◌≤◌, IfSome, true, length};
+ghost use Rattle.std.specs.Prelude.{◌≡◌, ◌≢◌, ◌≤◌, IfSome, List, true, length};
 ghost use Rattle.std.specs.Option.{option_map};
-ghost use Rattle.aoe_lists.specs.Addresses.{all_unique, first_places};
+ghost use Rattle.aoe_lists.specs.Addresses.{all_unique, first_places, holds};
 ghost use Rattle.aoe_lists.specs.Reserves.{addresses, reserve_answer, reserve_args, reserve_code, reserve_command_of, reserve_result, reserve_request};
 ghost use Rattle.aoe_lists.specs.Step.{IfChange, success_of};
 
@@ -110,7 +110,8 @@ fn write_args(command: ReserveCommand, reserves: &AddressList) -> Args
 /// Makes `reserves` the list.
 fn set(lists: &Lists, command: ReserveCommand, reserves: AddressList) -> Step
     requires { all_unique reserves.items ≡ true }
-    ensures { result ≡ success_of lists.now (record lists.now { reserves = reserves.items }) (reserve_args command reserves.items) }
+    ensures { result ≡ success_of lists.now (record lists.now { reserves = reserves.items })
+        (reserve_args command reserves.items) }
 {
     let args = write_args(command, &reserves);
     if reserves == lists.reserves {
@@ -144,3 +145,9 @@ pub fn reserve_step(lists: &Lists, source: Mac, bytes: &[u8]) -> Step
         None => refuse(AoeError::BadArgument),
     }
 }
+
+/// A law: a set reserves the device for the given stations and no others, and names none twice.
+pub fn reserves_are_the_given_stations()
+    ensures given { (list : List Mac) (a : Mac) → holds (first_places list) a ≡ holds list a }
+    ensures once { (list : List Mac) → all_unique (first_places list) ≡ true }
+{}
