@@ -43,7 +43,8 @@ pub enum ConfigCommand {
     /// 2: is answered only where it begins with the argument.
     TestPrefix,
 
-    /// 3: sets it where it is empty or equals the argument.
+    /// 3: sets it where it is empty. A set of the string that stands succeeds too, so that a host may
+    /// repeat its request.
     Set,
 
     /// 4: sets it in any case.

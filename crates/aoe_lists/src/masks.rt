@@ -19,21 +19,17 @@ use crate::step::{refuse, reply};
 use crate::{AddressList, Args, Lists, Step};
 use aoe_base::Mac;
 use aoe_frame::AoeError;
-use thiserror::Error;
 
 /// Why a mask edit was refused, as its reply's field MError says.
-#[derive(Clone, Copy, Debug, PartialEq, Eq, Error)]
+#[derive(Clone, Copy, Debug, PartialEq, Eq)]
 pub enum MaskError {
     /// 1: no reason is given. No edit here ends with it.
-    #[error("unspecified error")]
     Unspecified,
 
     /// 2: a directive has an unknown DCmd.
-    #[error("bad directive")]
     BadDirective,
 
     /// 3: the list has no room for an address.
-    #[error("mask list full")]
     ListFull,
 }
 

@@ -96,6 +96,8 @@ fn a_string_is_set_once(rt: HostRuntime) {
     let (args, lists) = changed(config_step(&Lists::new(), &FACTS, set)).expect(&rt, "a change");
     assert_eq!(rt; args.as_slice(), reply.as_slice());
     assert_eq!(rt; lists.config.as_slice(), b"ab".as_slice());
+    assert_eq!(rt; lists.copy(), lists);
+    assert_eq!(rt; Lists::default(), Lists::new());
     assert_eq!(rt; config_step(&lists, &FACTS, set), replied(reply));
     let other = b"\x00\x00\x00\x00\x00\x03\x00\x02cd";
     assert_eq!(rt;
@@ -107,6 +109,7 @@ fn a_string_is_set_once(rt: HostRuntime) {
     assert_eq!(rt; config_step(&lists, &FACTS, prefix), replied(told));
     let test = b"\x00\x00\x00\x00\x00\x01\x00\x01a";
     assert_eq!(rt; config_step(&lists, &FACTS, test), Step::Silent);
+    assert_eq!(rt; ConfigCommand::TestPrefix.code(), 2);
     let read = b"\x00\x00\x00\x00\x00\xf0\xff\xff";
     let whole = b"\x00\x10\x00\x01\x02\x10\x00\x02ab";
     assert_eq!(rt; config_step(&lists, &FACTS, read), replied(whole));
@@ -129,6 +132,8 @@ fn an_edit_is_done_whole_or_not_at_all(rt: HostRuntime) {
     let edit =
         b"\x00\x01\x00\x03\x00\x02\x02\x00\x00\x00\x00\x0b\x00\x01\x02\x00\x00\x00\x01\x00\x00\x01\x02\x00\x00\x00\x01\x01";
     assert_eq!(rt; mask_step(&lists, edit), replied(b"\x00\x01\x03\x00"));
+    assert_eq!(rt; MaskError::ListFull.code(), 3);
+    assert_eq!(rt; MaskCommand::Edit.code(), 1);
     assert!(rt; admits(&lists, B));
     let unknown = b"\x00\x01\x00\x01\x00\x03\x02\x00\x00\x00\x00\x0a";
     assert_eq!(rt;
@@ -160,6 +165,7 @@ fn a_reservation_is_taken_by_force(rt: HostRuntime) {
     let force = b"\x02\x01\x02\x00\x00\x00\x00\x0b";
     let (args, lists) = changed(reserve_step(&lists, B, force)).expect(&rt, "a change");
     assert_eq!(rt; args.as_slice(), force.as_slice());
+    assert_eq!(rt; ReserveCommand::ForceSet.code(), 2);
     assert!(rt; !may_use(&lists, A));
     assert!(rt; admits(&lists, A));
     let twice = b"\x01\x03\x02\x00\x00\x00\x00\x0b\x02\x00\x00\x00\x00\x0c\x02\x00\x00\x00\x00\x0b";
