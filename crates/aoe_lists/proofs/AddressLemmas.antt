@@ -13,10 +13,7 @@ same_address-Decides a b =
     let bytes = bytes_eq-Decides a.0 b.0 in
     ((λ e. ap (λ (x : List ℕ). let m : Mac = record { 0 = x } in m) (bytes.0 e)), (λ e. bytes.1 (ap (λ (m : Mac). m.0) e)))
 
-pub same_address-refl : (a : Mac) → same_address a a ≡ true
-same_address-refl a = (same_address-Decides a a).1 refl
-
-pub is_same : (a b : Mac) → same_address a b ≡ true → a ≡ b
+is_same : (a b : Mac) → same_address a b ≡ true → a ≡ b
 is_same a b e = (same_address-Decides a b).0 e
 
 same_address-comm : (a b : Mac) → same_address a b ≡ same_address b a
@@ -32,8 +29,8 @@ and_true true y e = (refl, e)
 and_true false y e = absurd (cc)
 
 -- the head of a list is taken out, or stays
-without_head : (x : Mac) (list : List Mac) (a : Mac) (b : Mac) (P : List Mac → Type 0) → (same_address x a ≡ true → P (without list a)) → (same_address x a ≡ false → P (x ∷ without list a)) → P (without (x ∷ list) a)
-without_head x list a b P out stays = at (same_address x a) out stays
+without_head : (x : Mac) (list : List Mac) (a : Mac) (P : List Mac → Type 0) → (same_address x a ≡ true → P (without list a)) → (same_address x a ≡ false → P (x ∷ without list a)) → P (without (x ∷ list) a)
+without_head x list a P out stays = at (same_address x a) out stays
   where
     at : (t : Bool) → (t ≡ true → P (without list a)) → (t ≡ false → P (x ∷ without list a)) → P (cond (not t) (x ∷ without list a) (without list a))
     at true o s = o refl
@@ -44,13 +41,13 @@ holds-without : (list : List Mac) (a b : Mac) → holds list b ≡ false → hol
 holds-without [] a b e = refl
 holds-without (x ∷ list) a b e =
     let parts = or_false (same_address x b) (holds list b) e in
-    without_head x list a b (λ l. holds l b ≡ false) (λ _. holds-without list a b parts.1) (λ _. rw parts.0 (holds-without list a b parts.1))
+    without_head x list a (λ l. holds l b ≡ false) (λ _. holds-without list a b parts.1) (λ _. rw parts.0 (holds-without list a b parts.1))
 
 -- an address is another than those that are taken out
 holds-without_other : (list : List Mac) (a b : Mac) → same_address a b ≡ false → holds (without list a) b ≡ holds list b
 holds-without_other [] a b other = refl
 holds-without_other (x ∷ list) a b other =
-    without_head x list a b (λ l. holds l b ≡ (same_address x b || holds list b))
+    without_head x list a (λ l. holds l b ≡ (same_address x b || holds list b))
     (λ same. let P : Mac → Type 0 = λ y. holds (without list a) b ≡ (same_address y b || holds list b) in
     subst P (sym (is_same x a same)) (rw other (holds-without_other list a b other)))
     (λ _. ap (λ t. same_address x b || t) (holds-without_other list a b other))
@@ -58,7 +55,7 @@ holds-without_other (x ∷ list) a b other =
 holds-without_self : (list : List Mac) (a : Mac) → holds (without list a) a ≡ false
 holds-without_self [] a = refl
 holds-without_self (x ∷ list) a =
-    without_head x list a a (λ l. holds l a ≡ false) (λ _. holds-without_self list a) (λ other. rw other (holds-without_self list a))
+    without_head x list a (λ l. holds l a ≡ false) (λ _. holds-without_self list a) (λ other. rw other (holds-without_self list a))
 
 not_true : (x : Bool) → not x ≡ true → x ≡ false
 not_true true e = absurd (cc)
@@ -68,7 +65,7 @@ pub all_unique-without : (list : List Mac) (a : Mac) → all_unique list ≡ tru
 all_unique-without [] a e = refl
 all_unique-without (x ∷ list) a e =
     let parts = and_true (not (holds list x)) (all_unique list) e in
-    without_head x list a a (λ l. all_unique l ≡ true) (λ _. all_unique-without list a parts.1)
+    without_head x list a (λ l. all_unique l ≡ true) (λ _. all_unique-without list a parts.1)
     (λ _. rw (holds-without list a x (not_true (holds list x) parts.0)) (all_unique-without list a parts.1))
 
 pub all_unique-append : (list : List Mac) (a : Mac) → all_unique list ≡ true → holds list a ≡ false → all_unique (list ++ a ∷ []) ≡ true

@@ -18,7 +18,7 @@ same_addresses-refl list = (slice_eq-Decides same_address-Decides list list (poi
 same_bytes-refl : (bytes : List ℕ) → bytes_eq bytes bytes ≡ true
 same_bytes-refl bytes = (bytes_eq-Decides bytes bytes).1 refl
 
-pub same_settings-refl : (s : Settings) → same_settings s s ≡ true
+same_settings-refl : (s : Settings) → same_settings s s ≡ true
 same_settings-refl s = rw (same_bytes-refl s.config, same_addresses-refl s.masks, same_addresses-refl s.reserves) refl
 
 and_true : (t : Bool) → (t && true) ≡ t
