@@ -1,0 +1,5 @@
+pub mod AddressLemmas
+mod AnswerLemmas
+pub mod ChangeLemmas
+mod EditLemmas
+mod PieceLemmas

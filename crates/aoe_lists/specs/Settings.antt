@@ -1,0 +1,32 @@
+-- What a device keeps for its hosts, as contracts see it.
+use Rattle.std.specs.Prelude.{ℕ, Bool, ◌||◌, ◌&&◌, ◌==◌, List, [], length}
+use Rattle.std.specs.Str.{bytes_eq}
+use Rattle.std.specs.Cmp.Lexicographic.{pointwise}
+use Rattle.aoe_base.specs.declared.address.Mac.{Mac}
+use Rattle.aoe_lists.specs.Addresses.{same_address, holds}
+
+-- the config string, the mask list and the reserve list
+pub record Settings : Type 0 where
+  pub config : List ℕ
+  pub masks : List Mac
+  pub reserves : List Mac
+
+-- those of a new device
+abbrev pub empty_settings : Settings
+empty_settings = record { config = []; masks = []; reserves = [] }
+
+-- a list that lets in whom it names, and everyone where it names nobody
+abbrev pub is_open_to : List Mac → Mac → Bool
+is_open_to list a = length list == 0 || holds list a
+
+-- the station is answered
+abbrev pub admits : Settings → Mac → Bool
+admits s source = is_open_to s.masks source
+
+-- the station's ATA commands are done
+abbrev pub may_use : Settings → Mac → Bool
+may_use s source = is_open_to s.reserves source
+
+-- both are the same in all parts
+abbrev pub same_settings : Settings → Settings → Bool
+same_settings a b = bytes_eq a.config b.config && pointwise same_address a.masks b.masks && pointwise same_address a.reserves b.reserves

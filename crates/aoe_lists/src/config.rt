@@ -1,0 +1,171 @@
+//! The config string (AoEr11, "Query Config Information", command 1).
+//!
+//! | Byte | Size | Field |
+//! |---|---|---|
+//! | 0 | 2 | buffer count |
+//! | 2 | 2 | firmware version |
+//! | 4 | 1 | sector count |
+//! | 5 | 1 | AoE version (high 4 bits), CCmd (low 4 bits) |
+//! | 6 | 2 | length of the string |
+//! | 8 | | string |
+ghost use Rattle.std.specs.Prelude.{◌≡◌, ◌≢◌, ◌≤◌, IfSome, length};
+ghost use Rattle.std.specs.Option.{option_map};
+ghost use Rattle.aoe_lists.specs.Config.{config_answer, config_args, config_code, config_command_of, config_result, config_request};
+ghost use Rattle.aoe_lists.specs.Step.{IfChange, success_of};
+
+use crate::args::append;
+use crate::step::{refuse, reply};
+use crate::{Args, Lists, MAX_CONFIG, Step};
+use aoe_frame::AoeError;
+
+/// What a device says of itself in each config reply.
+#[derive(Clone, Copy, Debug, PartialEq, Eq)]
+pub struct Facts {
+    /// How many requests the device can hold while it works.
+    pub buffers: u16,
+
+    /// The version of its firmware.
+    pub firmware: u16,
+
+    /// The most sectors of one ATA command.
+    pub max: u8,
+}
+
+/// What is done with the config string, by the request's field CCmd.
+#[derive(Clone, Copy, Debug, PartialEq, Eq)]
+pub enum ConfigCommand {
+    /// 0: reads it.
+    Read,
+
+    /// 1: is answered only where it equals the argument.
+    Test,
+
+    /// 2: is answered only where it begins with the argument.
+    TestPrefix,
+
+    /// 3: sets it where it is empty. A set of the string that stands succeeds too, so that a host may
+    /// repeat its request.
+    Set,
+
+    /// 4: sets it in any case.
+    ForceSet,
+}
+
+/// The version of AoE in the high bits of byte 5.
+const AOE_VERSION: u8 = 1;
+
+/// How many bytes stand before the string.
+const STRING_AT: usize = 8;
+
+impl ConfigCommand {
+    /// The command of a value of CCmd.
+    fn of(code: u8) -> Option<ConfigCommand>
+        ensures { result ≡ config_command_of code }
+    {
+        match code {
+            0 => Some(ConfigCommand::Read),
+            1 => Some(ConfigCommand::Test),
+            2 => Some(ConfigCommand::TestPrefix),
+            3 => Some(ConfigCommand::Set),
+            4 => Some(ConfigCommand::ForceSet),
+            _ => None,
+        }
+    }
+
+    /// Its value of CCmd.
+    pub fn code(self) -> u8
+        ensures { result ≡ config_code self }
+    {
+        match self {
+            ConfigCommand::Read => 0,
+            ConfigCommand::Test => 1,
+            ConfigCommand::TestPrefix => 2,
+            ConfigCommand::Set => 3,
+            ConfigCommand::ForceSet => 4,
+        }
+    }
+}
+
+/// The command of a request and its string, where the request has both. A read has no string, and
+/// its length isn't looked at.
+fn read_request(bytes: &[u8]) -> Option<(ConfigCommand, &[u8])>
+    ensures request { option_map (λ r. (r.0, r.1.now)) result ≡ config_request bytes.now }
+    ensures bound { IfSome result (λ r. length r.1.now ≤ MAX_CONFIG) }
+{
+    if bytes.len() < STRING_AT {
+        return None;
+    }
+    let command = ConfigCommand::of(bytes[5] % 16)?;
+    if command == ConfigCommand::Read {
+        return Some((command, &[]));
+    }
+    let len = usize::from(u16::from_be_bytes([bytes[6], bytes[7]]));
+    let rest = &bytes[STRING_AT..];
+    if len > MAX_CONFIG || len > rest.len() {
+        return None;
+    }
+    Some((command, &rest[..len]))
+}
+
+/// The arguments of a reply, with the string that stands after the request.
+fn write_args(facts: &Facts, command: ConfigCommand, string: &[u8]) -> Args
+    requires { length string.now ≤ MAX_CONFIG }
+    ensures { result.items ≡ config_args facts.now command string.now }
+{
+    let mut args = Args::new();
+    append(&mut args, &facts.buffers.to_be_bytes());
+    append(&mut args, &facts.firmware.to_be_bytes());
+    append(&mut args, &[facts.max, AOE_VERSION * 16 + command.code()]);
+    append(&mut args, &(string.len() as u16).to_be_bytes());
+    append(&mut args, string);
+    args
+}
+
+/// Sets the string.
+fn set(lists: &Lists, facts: &Facts, command: ConfigCommand, string: &[u8]) -> Step
+    requires { length string.now ≤ MAX_CONFIG }
+    ensures { result ≡ success_of lists.now (record lists.now { config = string.now })
+        (config_args facts.now command string.now) }
+{
+    let args = write_args(facts, command, string);
+    if string == lists.config.as_slice() {
+        return reply(args);
+    }
+    let mut next = lists.copy();
+    next.config.clear();
+    let _ = next.config.try_extend_from_slice(string);
+    Step::Change { next, args }
+}
+
+/// What a command does with its string.
+fn act(lists: &Lists, facts: &Facts, command: ConfigCommand, string: &[u8]) -> Step
+    requires { length string.now ≤ MAX_CONFIG }
+    ensures { result ≡ config_result lists.now facts.now command string.now }
+{
+    let current = lists.config.as_slice();
+    match command {
+        ConfigCommand::Read => reply(write_args(facts, command, current)),
+        ConfigCommand::Test if current == string => reply(write_args(facts, command, current)),
+        ConfigCommand::TestPrefix if current.starts_with(string) => {
+            reply(write_args(facts, command, current))
+        }
+        ConfigCommand::Test | ConfigCommand::TestPrefix => Step::Silent,
+        ConfigCommand::Set if !current.is_empty() && current != string => Step::Reply {
+            error: Some(AoeError::ConfigStringPresent),
+            args: write_args(facts, command, current),
+        },
+        ConfigCommand::Set | ConfigCommand::ForceSet => set(lists, facts, command, string),
+    }
+}
+
+/// What a query config request comes to. `bytes` are those of its frame from byte 24 on.
+#[tactic(auto, unfolding(crate::specs::Config::config_answer))]
+pub fn config_step(lists: &Lists, facts: &Facts, bytes: &[u8]) -> Step
+    ensures answer { result ≡ config_answer lists.now facts.now bytes.now }
+    ensures changes { IfChange result (λ next. next ≢ lists.now) }
+{
+    match read_request(bytes) {
+        Some((command, string)) => act(lists, facts, command, string),
+        None => refuse(AoeError::BadArgument),
+    }
+}

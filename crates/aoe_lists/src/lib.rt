@@ -1,0 +1,22 @@
+//! What a device keeps for its hosts (a config string and two lists of addresses), and the written
+//! answers to the requests that read and change it.
+#![tactic(auto)]
+
+mod args;
+mod config;
+mod lists;
+mod masks;
+mod reserves;
+mod step;
+
+pub use args::{Args, MAX_ARGS};
+pub use config::{ConfigCommand, Facts, config_step};
+pub use lists::{
+    AddressList, Lists, MAX_ADDRESSES, MAX_CONFIG, admits, may_use, same_settings_is_equality,
+};
+pub use masks::{Directive, MaskCommand, MaskError, mask_step};
+pub use reserves::{ReserveCommand, reserve_step, reserves_are_the_given_stations};
+pub use step::Step;
+
+#[cfg(test)]
+mod tests;

@@ -1,0 +1,103 @@
+//! A config string, the mask list and the reserve list of one device.
+ghost use Rattle.std.specs.Prelude.{◌≡◌, ◌⊎◌, ◌↔◌, ◌≤◌, [], true, IsTrue, Contains, length};
+ghost use Rattle.aoe_lists.specs.Settings.{Settings, admits as is_admitted, empty_settings, may_use as is_user, same_settings};
+
+use aoe_base::Mac;
+use arrayvec::ArrayVec;
+use std::marker::Model;
+
+/// The most addresses that a mask list or a reserve list has.
+pub const MAX_ADDRESSES: usize = 64;
+
+/// The most bytes that a config string has (AoEr11, "Query Config Information").
+pub const MAX_CONFIG: usize = 1024;
+
+/// A mask list or a reserve list, in the order in which the addresses came.
+pub type AddressList = ArrayVec<Mac, MAX_ADDRESSES>;
+
+/// What a device keeps for its hosts. No address stands twice in a list.
+#[derive(Debug, Default, Drop, PartialEq, Eq)]
+pub struct Lists {
+    /// The config string: bytes of which the device knows no meaning.
+    pub config: ArrayVec<u8, MAX_CONFIG>,
+
+    /// The stations that are answered; every station where it is empty.
+    pub masks: AddressList,
+
+    /// The stations whose ATA commands are done; those of every station where it is empty.
+    pub reserves: AddressList,
+}
+
+impl Model for Lists {
+    ghost use Rattle.std.specs.Prelude.{◌≡◌, true};
+    ghost use Rattle.aoe_lists.specs.Settings.{Settings};
+    ghost use Rattle.aoe_lists.specs.Addresses.{all_unique};
+
+    ghost Value = { Settings };
+
+    ghost view = { λ l. record { config = l.config.items; masks = l.masks.items; reserves = l.reserves.items } };
+
+    ghost invariant = { λ l. (all_unique l.masks.items ≡ true) × (all_unique l.reserves.items ≡ true) };
+
+    ghost inverse = { λ s. record {
+      config = record { items = s.config };
+      masks = record { items = s.masks };
+      reserves = record { items = s.reserves };
+    } };
+}
+
+/// A copy of a list in fixed room, which takes no memory.
+pub(crate) fn copied<T: Copy + Default + Drop, const N: usize>(
+    list: &ArrayVec<T, N>,
+) -> ArrayVec<T, N>
+    ensures { result.items ≡ list.now.items }
+{
+    let mut copy = ArrayVec::new();
+    let _ = copy.try_extend_from_slice(list.as_slice());
+    copy
+}
+
+impl Lists {
+    /// The lists of a new device: no config string and no address.
+    pub fn new() -> Self
+        ensures { result ≡ empty_settings }
+    {
+        Lists {
+            config: ArrayVec::new(),
+            masks: ArrayVec::new(),
+            reserves: ArrayVec::new(),
+        }
+    }
+
+    /// A copy, which takes no memory.
+    pub fn copy(&self) -> Self
+        ensures { result ≡ self.now }
+    {
+        Lists {
+            config: copied(&self.config),
+            masks: copied(&self.masks),
+            reserves: copied(&self.reserves),
+        }
+    }
+}
+
+/// Whether a station is answered at all: the mask list is empty or has it.
+pub fn admits(lists: &Lists, source: Mac) -> bool
+    ensures value { result ≡ is_admitted lists.now source }
+    ensures means { IsTrue result ↔ ((lists.now.masks ≡ []) ⊎ Contains lists.now.masks source) }
+{
+    lists.masks.is_empty() || lists.masks.contains(&source)
+}
+
+/// Whether a station's ATA commands are done: the reserve list is empty or has it.
+pub fn may_use(lists: &Lists, source: Mac) -> bool
+    ensures value { result ≡ is_user lists.now source }
+    ensures means { IsTrue result ↔ ((lists.now.reserves ≡ []) ⊎ Contains lists.now.reserves source) }
+{
+    lists.reserves.is_empty() || lists.reserves.contains(&source)
+}
+
+/// A law: what the steps compare lists by is equality.
+pub fn same_settings_is_equality()
+    ensures { (one other : Settings) → (same_settings one other ≡ true) ↔ (one ≡ other) }
+{}
