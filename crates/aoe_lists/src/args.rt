@@ -1,7 +1,6 @@
 //! The bytes behind a frame's header.
-ghost use Rattle.std.specs.Prelude.{◌≡◌, ◌+◌, ◌*◌, ◌≤◌, ◌<◌, ◌++◌, length};
+ghost use Rattle.std.specs.Prelude.{◌≡◌, ◌*◌, ◌≤◌, ◌<◌, length};
 ghost use Rattle.std.specs.Simd.{first_chunks};
-ghost use Rattle.arrayvec.specs.ArrayVec.{array_vec_len};
 
 use arrayvec::ArrayVec;
 
@@ -11,14 +10,6 @@ pub const MAX_ARGS: usize = 2048;
 
 /// The arguments of a reply: the bytes of its frame from byte 24 on.
 pub type Args = ArrayVec<u8, MAX_ARGS>;
-
-/// Appends bytes, for which there is room.
-pub(crate) fn append(args: &mut Args, bytes: &[u8])
-    requires { array_vec_len args.old + length bytes.now ≤ MAX_ARGS }
-    ensures { args.new.items ≡ args.old.items ++ bytes.now }
-{
-    let _ = args.try_extend_from_slice(bytes);
-}
 
 /// The first `count` pieces of `N` bytes each.
 pub(crate) fn pieces<const N: usize>(bytes: &[u8], count: usize) -> &[[u8; N]]

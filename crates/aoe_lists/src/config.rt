@@ -13,10 +13,9 @@ ghost use Rattle.std.specs.Option.{option_map};
 ghost use Rattle.aoe_lists.specs.Config.{config_answer, config_args, config_code, config_command_of, config_result, config_request};
 ghost use Rattle.aoe_lists.specs.Step.{IfChange, success_of};
 
-use crate::args::append;
 use crate::step::{refuse, reply};
 use crate::{Args, Lists, MAX_CONFIG, Step};
-use aoe_frame::AoeError;
+use aoe_frame::{AoeError, append};
 
 /// What a device says of itself in each config reply.
 #[derive(Clone, Copy, Debug, PartialEq, Eq)]

@@ -13,12 +13,12 @@ ghost use Rattle.aoe_lists.specs.Addresses.{all_unique, without};
 ghost use Rattle.aoe_lists.specs.Masks.{directive_of, after_directive, after_directives, mask_answer, mask_args, mask_code, mask_command_of, mask_result, mask_edit, mask_error_code, mask_failure, mask_request};
 ghost use Rattle.aoe_lists.specs.Step.{IfChange, success_of};
 
-use crate::args::{append, pieces};
+use crate::args::pieces;
 use crate::lists::copied;
 use crate::step::{refuse, reply};
 use crate::{AddressList, Args, Lists, Step};
 use aoe_base::Mac;
-use aoe_frame::AoeError;
+use aoe_frame::{AoeError, append};
 
 /// Why a mask edit was refused, as its reply's field MError says.
 #[derive(Clone, Copy, Debug, PartialEq, Eq)]

@@ -11,11 +11,11 @@ ghost use Rattle.aoe_lists.specs.Addresses.{all_unique, first_places, holds};
 ghost use Rattle.aoe_lists.specs.Reserves.{addresses, reserve_answer, reserve_args, reserve_code, reserve_command_of, reserve_result, reserve_request};
 ghost use Rattle.aoe_lists.specs.Step.{IfChange, success_of};
 
-use crate::args::{append, pieces};
+use crate::args::pieces;
 use crate::step::{refuse, reply};
 use crate::{AddressList, Args, Lists, MAX_ADDRESSES, Step, may_use};
 use aoe_base::Mac;
-use aoe_frame::AoeError;
+use aoe_frame::{AoeError, append};
 
 /// What is done with the reserve list, by the request's field RCmd.
 #[derive(Clone, Copy, Debug, PartialEq, Eq)]
