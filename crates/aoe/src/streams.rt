@@ -1,5 +1,5 @@
 //! A reader as a source, and a writer as a sink. They tell nothing of what they give and take.
-ghost use Rattle.std.specs.Prelude.{None};
+ghost use Rattle.std.specs.Prelude.{◌≡◌, None};
 
 use aoe_base::Failed;
 use aoe_io::{Sink, Source};
@@ -13,7 +13,9 @@ pub struct Input<R> {
 }
 
 impl<R: Read> Input<R> {
-    pub fn new(reader: R) -> Input<R> {
+    pub fn new(reader: R) -> Input<R>
+        ensures { result.faults ≡ 0 }
+    {
         Input { reader, faults: 0 }
     }
 }
@@ -42,7 +44,9 @@ pub struct Output<W> {
 }
 
 impl<W: Write> Output<W> {
-    pub fn new(writer: W) -> Output<W> {
+    pub fn new(writer: W) -> Output<W>
+        ensures { result.faults ≡ 0 }
+    {
         Output { writer, faults: 0 }
     }
 }
