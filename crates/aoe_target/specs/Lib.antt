@@ -1,0 +1,5 @@
+pub mod Verdict
+pub mod Reply
+pub mod Sectors
+pub mod Law
+pub mod Mounted

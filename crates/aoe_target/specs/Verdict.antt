@@ -1,0 +1,76 @@
+-- What a target does with a frame: the first check that applies decides (AoEr11, "Common AoE header" and the four commands).
+use Rattle.std.specs.Prelude.{ℕ, ◌^◌, ◌<◌, Bool, ◌&&◌, ◌||◌, ◌==◌, not, List, drop, nat_lt, Option, Result, Ok, Err, if◌then◌else◌, is_some}
+use Rattle.std.specs.Str.{bytes_eq}
+use Rattle.aoe_base.specs.declared.address.TheConstants.{BROADCAST}
+use Rattle.aoe_base.specs.declared.address.Mac.{Mac}
+use Rattle.aoe_frame.specs.Header.{head, fields}
+use Rattle.aoe_frame.specs.declared.header.Header.{Header}
+use Rattle.aoe_frame.specs.declared.refusal.AoeError.{AoeError}
+use Rattle.aoe_frame.specs.declared.refusal.AoeError.TheVariants.{UnrecognizedCommand, UnsupportedVersion, TargetIsReserved}
+use Rattle.aoe_ata.specs.declared.decision.AtaDecision.{AtaDecision}
+use Rattle.aoe_ata.specs.Decision.{decision, CanServe}
+use Rattle.aoe_lists.specs.declared.config.Facts.{Facts}
+use Rattle.aoe_lists.specs.declared.step.Step.{Step}
+use Rattle.aoe_lists.specs.Addresses.{holds}
+use Rattle.aoe_lists.specs.Settings.{Settings, admits, may_use}
+use Rattle.aoe_lists.specs.Config.{config_answer}
+use Rattle.aoe_lists.specs.Masks.{mask_answer}
+use Rattle.aoe_lists.specs.Reserves.{reserve_answer}
+use Rattle.aoe_target.specs.declared.station.Station.{Station}
+use Rattle.aoe_target.specs.declared.station.TheConstants.{BUFFER_COUNT, FIRMWARE_VERSION}
+use Rattle.aoe_target.specs.declared.verdict.ListCommand.{ListCommand}
+use Rattle.aoe_target.specs.declared.verdict.ListCommand.TheVariants.{Config, Masks, Reserves}
+use Rattle.aoe_target.specs.declared.verdict.Verdict.{Verdict}
+use Rattle.aoe_target.specs.declared.verdict.Verdict.TheVariants.{Ignored, Silent, Refused, Lists, Ata}
+
+-- the request is for the target: to a port of its shelf or to all stations, no response, to its shelf or all, to its slot or all
+abbrev pub is_heard : Station → Header → Bool
+is_heard station h = (holds station.ports.items h.dst || bytes_eq h.dst.0 BROADCAST.0)
+    && nat_lt h.flags 8
+    && (h.id.major == station.id.major || h.id.major == 65535)
+    && (h.id.minor == station.id.minor || h.id.minor == 255)
+
+-- the registers are taken, or there is an error
+abbrev pub decided : Result AtaDecision AoeError → Verdict
+decided (Ok d) = Ata d
+decided (Err error) = Refused error
+
+-- an ATA command: its source may be kept out by the reserve list, before its arguments are looked at
+abbrev pub ata_verdict : Station → Settings → Mac → List ℕ → Verdict
+ata_verdict station lists source args =
+    if not (may_use lists source) then Refused TargetIsReserved
+    else decided (decision station.sectors station.max args)
+
+-- a request with this header and these bytes behind it
+abbrev pub judged : Station → Settings → Header → List ℕ → Verdict
+judged station lists h args =
+    if not (is_heard station h) then Ignored
+    else if not (admits lists h.src) then Silent
+    else if not (h.version == 1) then Refused UnsupportedVersion
+    else if h.command == 0 then ata_verdict station lists h.src args
+    else if h.command == 1 then Lists Config
+    else if h.command == 2 then Lists Masks
+    else if h.command == 3 then Lists Reserves
+    else Refused UnrecognizedCommand
+
+-- a frame, which is ignored where it has no header
+unfoldable pub verdict : Station → Settings → List ℕ → Verdict
+verdict station lists f = if is_some (head f) then judged station lists (fields f) (drop 24 f) else Ignored
+
+-- what the target says of itself
+abbrev pub facts : Station → Facts
+facts station = record { buffers = BUFFER_COUNT; firmware = FIRMWARE_VERSION; max = station.max }
+
+-- the written answer to a request that reads or changes the lists
+abbrev pub list_step : Station → Settings → Mac → List ℕ → ListCommand → Step
+list_step station lists source args Config = config_answer lists (facts station) args
+list_step station lists source args Masks = mask_answer lists args
+list_step station lists source args Reserves = reserve_answer lists source args
+
+-- whatever the store is called with is in range, and the address has its 48 bits
+abbrev pub CanAct : Station → List ℕ → Verdict → Type 0
+CanAct station args Ignored = Unit {0}
+CanAct station args Silent = Unit {0}
+CanAct station args (Refused error) = Unit {0}
+CanAct station args (Lists command) = Unit {0}
+CanAct station args (Ata d) = (d.args.lba < 2 ^ 48) × CanServe station.sectors station.max args d.answer

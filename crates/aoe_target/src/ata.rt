@@ -1,0 +1,211 @@
+//! What the ATA commands that reach the store do to it.
+ghost use Rattle.std.specs.Prelude.{◌≡◌, ◌+◌, ◌*◌, ◌^◌, ◌<◌, ◌≤◌, true, false, length, take, drop};
+ghost use Rattle.std.specs.Bool.{OnTrue};
+ghost use Rattle.std.specs.Option.{option_map};
+ghost use Rattle.aoe_base.specs.Faults.{Rose};
+ghost use Rattle.aoe_disk.specs.Calls.{IsRange, IsRun, Reads};
+ghost use Rattle.aoe_ata.specs.Decision.{InRange, CanServe};
+ghost use Rattle.aoe_ata.specs.declared.decision.AtaAnswer.{AtaAnswer};
+ghost use Rattle.aoe_target.specs.Sectors.{sectors_of};
+ghost use Rattle.aoe_target.specs.Law.{AllowsAta, Gives, Leaves, Syncs, Verifies, Writes, calls_for, is_fault, replied};
+ghost use Rattle.aoe_target.specs.Mounted.{IsMounted};
+
+use crate::reply::{begin_ata, reply_ata, reply_page};
+use crate::verdict::args_of;
+use crate::{Effect, Station};
+use aoe_ata::{ARGS_LEN, AtaAnswer, AtaArgs, AtaDecision, AtaOutcome, put_data};
+use aoe_base::{Failed, Span};
+use aoe_frame::{Frame, HEADER_LEN, Header, append, pad};
+use aoe_store::Store;
+
+/// How many bytes a sector has.
+const SECTOR_LEN: usize = 512;
+
+/// Where the data of a reply stand.
+const DATA_AT: usize = HEADER_LEN + ARGS_LEN;
+
+/// What stands in the place of a sector before it is read.
+static ZEROS: [u8; SECTOR_LEN] = [0; SECTOR_LEN];
+
+/// Appends room for sectors.
+fn append_room(out: &mut Frame, count: u32)
+    requires { length out.old.items + 512 * count ≤ 9018 }
+    ensures len { length out.new.items ≡ length out.old.items + 512 * count }
+    ensures front { take (length out.old.items) out.new.items ≡ out.old.items }
+{
+    'sectors: for _sector in 0..count {
+        append(out, &ZEROS);
+    }
+}
+
+/// Reads sectors into a frame, behind its header and registers.
+fn read_into<S: Store>(store: &mut S, span: Span, out: &mut Frame) -> Result<(), Failed>
+    requires range { IsRange span.at (512 * span.count) (S.state store.old).sectors }
+    requires len { length out.old.items ≡ 36 + 512 * span.count }
+    ensures reads { Reads span.at (512 * span.count) result (drop 36 out.new.items) (S.state store.old) (S.state store.new) }
+    ensures front { take 36 out.new.items ≡ take 36 out.old.items }
+    ensures len { length out.new.items ≡ 36 + 512 * span.count }
+{
+    store.read(span.at, &mut out.as_mut_slice()[DATA_AT..])
+}
+
+/// Reads sectors into the reply.
+fn give<S: Store>(
+    store: &mut S,
+    station: &Station,
+    header: &Header,
+    args: &AtaArgs,
+    span: Span,
+    out: &mut Frame,
+) -> Effect
+    requires mounted { IsMounted station.now (S.state store.old) }
+    requires range { InRange station.now.sectors station.now.max span }
+    requires address { args.now.lba < 2 ^ 48 }
+    ensures gives { Gives station.now (option_map sectors_of (S.state store.old).contents) header.now args.now span result out.new.items }
+    ensures same { (S.state store.new).contents ≡ (S.state store.old).contents }
+    ensures call { IsRun 1 (is_fault result) (S.state store.old) (S.state store.new) }
+{
+    begin_ata(station, header, args, AtaOutcome::Done, out);
+    append_room(out, span.count);
+    match read_into(store, span, out) {
+        Ok(()) => {
+            pad(out);
+            Effect::None
+        }
+        Err(Failed) => {
+            reply_ata(station, header, args, AtaOutcome::Uncorrectable, out);
+            Effect::ReadFault
+        }
+    }
+}
+
+/// Reads sectors, and replies without them. The frame serves as the place to read them into.
+fn verify<S: Store>(
+    store: &mut S,
+    station: &Station,
+    header: &Header,
+    args: &AtaArgs,
+    span: Span,
+    out: &mut Frame,
+) -> Effect
+    requires mounted { IsMounted station.now (S.state store.old) }
+    requires range { InRange station.now.sectors station.now.max span }
+    requires address { args.now.lba < 2 ^ 48 }
+    ensures verifies { Verifies station.now header.now args.now result out.new.items }
+    ensures same { (S.state store.new).contents ≡ (S.state store.old).contents }
+    ensures call { IsRun 1 (is_fault result) (S.state store.old) (S.state store.new) }
+{
+    begin_ata(station, header, args, AtaOutcome::Done, out);
+    append_room(out, span.count);
+    match read_into(store, span, out) {
+        Ok(()) => {
+            reply_ata(station, header, args, AtaOutcome::Done, out);
+            Effect::None
+        }
+        Err(Failed) => {
+            reply_ata(station, header, args, AtaOutcome::Uncorrectable, out);
+            Effect::ReadFault
+        }
+    }
+}
+
+/// Writes the data of a frame.
+fn put<S: Store>(
+    store: &mut S,
+    station: &Station,
+    header: &Header,
+    frame: &[u8],
+    args: &AtaArgs,
+    span: Span,
+    out: &mut Frame,
+) -> Effect
+    requires mounted { IsMounted station.now (S.state store.old) }
+    requires range { InRange station.now.sectors station.now.max span }
+    requires data { 12 + 512 * span.count ≤ length (drop 24 frame.now) }
+    requires address { args.now.lba < 2 ^ 48 }
+    requires len { 24 ≤ length frame.now }
+    ensures writes { Writes station.now header.now args.now span result out.new.items }
+    ensures leaves { Leaves frame.now (AtaAnswer.Put span) result out.new.items (S.state store.old).contents (S.state store.new).contents }
+    ensures call { IsRun 1 (is_fault result) (S.state store.old) (S.state store.new) }
+{
+    match store.write(span.at, put_data(args_of(frame), span)) {
+        Ok(()) => {
+            reply_ata(station, header, args, AtaOutcome::Done, out);
+            Effect::Wrote(span)
+        }
+        Err(Failed) => {
+            reply_ata(station, header, args, AtaOutcome::Aborted, out);
+            Effect::WriteFault(span)
+        }
+    }
+}
+
+/// Syncs the store.
+fn sync<S: Store>(
+    store: &mut S,
+    station: &Station,
+    header: &Header,
+    frame: &[u8],
+    args: &AtaArgs,
+    out: &mut Frame,
+) -> Effect
+    requires { args.now.lba < 2 ^ 48 }
+    ensures syncs { Syncs station.now header.now args.now result out.new.items }
+    ensures leaves { Leaves frame.now AtaAnswer.Sync result out.new.items (S.state store.old).contents (S.state store.new).contents }
+    ensures call { IsRun 1 (is_fault result) (S.state store.old) (S.state store.new) }
+{
+    match store.sync() {
+        Ok(()) => {
+            reply_ata(station, header, args, AtaOutcome::Done, out);
+            Effect::Synced
+        }
+        Err(Failed) => {
+            reply_ata(station, header, args, AtaOutcome::Aborted, out);
+            Effect::SyncFault
+        }
+    }
+}
+
+/// Does what is decided on an ATA command, and makes `out` its reply.
+pub(crate) fn serve<S: Store>(
+    store: &mut S,
+    station: &Station,
+    header: &Header,
+    frame: &[u8],
+    decision: AtaDecision,
+    out: &mut Frame,
+) -> Effect
+    requires mounted { IsMounted station.now (S.state store.old) }
+    requires range { CanServe station.now.sectors station.now.max (drop 24 frame.now) decision.answer }
+    requires address { decision.args.lba < 2 ^ 48 }
+    requires len { 24 ≤ length frame.now }
+    ensures allowed { AllowsAta station.now (option_map sectors_of (S.state store.old).contents) header.now decision.args decision.answer (replied result out.new.items) }
+    ensures leaves { Leaves frame.now decision.answer result out.new.items (S.state store.old).contents (S.state store.new).contents }
+    ensures call { OnTrue (calls_for decision.answer) (IsRun 1 (is_fault result) (S.state store.old) (S.state store.new)) }
+    ensures idle { calls_for decision.answer ≡ false → store.new ≡ store.old }
+    ensures fault { is_fault result ≡ true → Rose (S.state store.old).faults (S.state store.new).faults }
+{
+    let args = &decision.args;
+    match decision.answer {
+        AtaAnswer::Abort => {
+            reply_ata(station, header, args, AtaOutcome::Aborted, out);
+            Effect::None
+        }
+        AtaAnswer::NotFound => {
+            reply_ata(station, header, args, AtaOutcome::NotFound, out);
+            Effect::None
+        }
+        AtaAnswer::Page => {
+            reply_page(station, header, args, out);
+            Effect::None
+        }
+        AtaAnswer::Mode => {
+            reply_ata(station, header, args, AtaOutcome::Active, out);
+            Effect::None
+        }
+        AtaAnswer::Give(span) => give(store, station, header, args, span, out),
+        AtaAnswer::Put(span) => put(store, station, header, frame, args, span, out),
+        AtaAnswer::Verify(span) => verify(store, station, header, args, span, out),
+        AtaAnswer::Sync => sync(store, station, header, frame, args, out),
+    }
+}

@@ -1,0 +1,18 @@
+//! One device of a shelf: which frames it hears, what it does with each, and what it replies.
+//!
+//! [`Target::receive`] decides first, by a [`Verdict`], and then acts on its lists or its store. Its
+//! contract is one line of the shelf law, which stands in specs/Law.antt.
+#![tactic(auto)]
+
+mod ata;
+mod heard;
+mod reply;
+mod station;
+mod target;
+mod verdict;
+
+pub use heard::{Effect, Heard};
+pub use station::Station;
+pub use target::{Target, steps_agree};
+pub use verdict::{ListCommand, Verdict};
+

@@ -1,0 +1,74 @@
+//! What of a target never changes.
+ghost use Rattle.std.specs.Prelude.{◌≡◌};
+ghost use Rattle.aoe_target.specs.Verdict.{is_heard, facts};
+ghost use Rattle.aoe_target.specs.Reply.{reply_port};
+
+use aoe_base::{BROADCAST, Mac, Ports, TargetId};
+use aoe_frame::{Header, RESPONSE_FLAG};
+use aoe_lists::Facts;
+
+/// The major that stands for every shelf (AoEr11, "Major").
+const ANY_SHELF: u16 = 0xffff;
+
+/// The minor that stands for every slot (AoEr11, "Minor").
+const ANY_SLOT: u8 = 0xff;
+
+/// How many requests a target holds at a time, as it announces (AoEr11, "Buffer Count").
+const BUFFER_COUNT: u16 = 16;
+
+/// The version of a target's firmware, as it announces.
+const FIRMWARE_VERSION: u16 = 1;
+
+/// What of a target never changes.
+#[derive(Debug, Drop)]
+pub struct Station {
+    /// Its name.
+    pub id: TargetId,
+
+    /// The addresses of its shelf. The first is the source of replies to frames for all stations.
+    pub ports: Ports,
+
+    /// The most sectors of one command.
+    pub max: u8,
+
+    /// How many sectors its store has.
+    pub sectors: u64,
+}
+
+impl Station {
+    /// Whether a request is for the target: it went to a port of the shelf or to all stations, is no
+    /// response, and names the target, its shelf or its slot with every other, or all targets.
+    pub(crate) fn hears(&self, header: &Header) -> bool
+        ensures { result ≡ is_heard self.now header.now }
+    {
+        (self.ports.contains(&header.dst) || header.dst == BROADCAST)
+            && header.flags < RESPONSE_FLAG
+            && (header.id.major == self.id.major || header.id.major == ANY_SHELF)
+            && (header.id.minor == self.id.minor || header.id.minor == ANY_SLOT)
+    }
+
+    /// The port that a reply comes from: the one that the request went to, and the first where it
+    /// went to all stations.
+    pub(crate) fn reply_port(&self, header: &Header) -> Mac
+        ensures { result ≡ reply_port self.now header.now }
+    {
+        if self.ports.contains(&header.dst) {
+            return header.dst;
+        }
+        match self.ports.first() {
+            Some(port) => *port,
+            None => header.dst,
+        }
+    }
+
+    /// What the target says of itself in each config reply.
+    pub(crate) fn facts(&self) -> Facts
+        ensures { result ≡ facts self.now }
+    {
+        Facts {
+            buffers: BUFFER_COUNT,
+            firmware: FIRMWARE_VERSION,
+            max: self.max,
+        }
+    }
+}

@@ -1,0 +1,124 @@
+//! What a target does with a frame: the checks in their order, of which the first that applies
+//! decides.
+ghost use Rattle.std.specs.Prelude.{◌≡◌, ◌≤◌, IfSome, drop, is_some, length};
+ghost use Rattle.aoe_frame.specs.Header.{fields, head};
+ghost use Rattle.aoe_target.specs.Verdict.{ata_verdict, judged, list_step, CanAct};
+
+use crate::Station;
+use aoe_ata::{AtaDecision, decide};
+use aoe_base::Mac;
+use aoe_frame::{AoeError, HEADER_LEN, Header, read_header};
+use aoe_lists::{Lists, Step, admits, config_step, mask_step, may_use, reserve_step};
+
+/// The command "ATA" (AoEr11, "Command").
+const ATA: u8 = 0;
+
+/// The command "Query Config Information".
+const QUERY_CONFIG: u8 = 1;
+
+/// The command "MAC Mask List".
+const MASK_LIST: u8 = 2;
+
+/// The command "Reserve / Release".
+const RESERVE_RELEASE: u8 = 3;
+
+/// The one version of the protocol.
+const AOE_VERSION: u8 = 1;
+
+/// The part of the lists that a request reads or changes.
+#[derive(Clone, Copy, Debug, PartialEq, Eq, Hash)]
+pub enum ListCommand {
+    Config,
+    Masks,
+    Reserves,
+}
+
+/// What a target does with a frame.
+#[derive(Clone, Copy, Debug, PartialEq, Eq, Hash)]
+pub enum Verdict {
+    /// Nothing: it isn't for this target.
+    Ignored,
+
+    /// Nothing: the target doesn't answer its source.
+    Silent,
+
+    /// The reply bears an error and repeats the arguments.
+    Refused(AoeError),
+
+    /// What the step of the lists says.
+    Lists(ListCommand),
+
+    /// What is decided on an ATA command.
+    Ata(AtaDecision),
+}
+
+/// The header of a frame, where it has one.
+pub(crate) fn header_of(frame: &[u8]) -> Option<Header>
+    ensures there { is_some result ≡ is_some (head frame.now) }
+    ensures fields { IfSome result (λ h. h ≡ fields frame.now) }
+    ensures len { IfSome result (λ h. 24 ≤ length frame.now) }
+{
+    read_header(frame)
+}
+
+/// The bytes behind the header of a frame.
+pub(crate) fn args_of(frame: &[u8]) -> &[u8]
+    requires { 24 ≤ length frame.now }
+    ensures { result.now ≡ drop 24 frame.now }
+{
+    &frame[HEADER_LEN..]
+}
+
+/// What a target does with an ATA command of a station.
+fn judge_ata(station: &Station, lists: &Lists, source: Mac, args: &[u8]) -> Verdict
+    ensures verdict { result ≡ ata_verdict station.now lists.now source args.now }
+    ensures can_act { CanAct station.now args.now result }
+{
+    if !may_use(lists, source) {
+        return Verdict::Refused(AoeError::TargetIsReserved);
+    }
+    match decide(station.sectors, station.max, args) {
+        Ok(decision) => Verdict::Ata(decision),
+        Err(error) => Verdict::Refused(error),
+    }
+}
+
+/// What a target does with a frame that has this header and these bytes behind it.
+pub(crate) fn judge(station: &Station, lists: &Lists, header: &Header, args: &[u8]) -> Verdict
+    ensures verdict { result ≡ judged station.now lists.now header.now args.now }
+    ensures can_act { CanAct station.now args.now result }
+{
+    if !station.hears(header) {
+        return Verdict::Ignored;
+    }
+    if !admits(lists, header.src) {
+        return Verdict::Silent;
+    }
+    if header.version != AOE_VERSION {
+        return Verdict::Refused(AoeError::UnsupportedVersion);
+    }
+    match header.command {
+        ATA => judge_ata(station, lists, header.src, args),
+        QUERY_CONFIG => Verdict::Lists(ListCommand::Config),
+        MASK_LIST => Verdict::Lists(ListCommand::Masks),
+        RESERVE_RELEASE => Verdict::Lists(ListCommand::Reserves),
+        _ => Verdict::Refused(AoeError::UnrecognizedCommand),
+    }
+}
+
+/// What a request comes to that reads or changes the lists.
+pub(crate) fn step(
+    station: &Station,
+    lists: &Lists,
+    source: Mac,
+    args: &[u8],
+    command: ListCommand,
+) -> Step
+    ensures { result ≡ list_step station.now lists.now source args.now command }
+{
+    match command {
+        ListCommand::Config => config_step(lists, &station.facts(), args),
+        ListCommand::Masks => mask_step(lists, args),
+        ListCommand::Reserves => reserve_step(lists, source, args),
+    }
+}
