@@ -1,16 +1,17 @@
 //! A target: what it is told and what becomes of each frame.
-ghost use Rattle.std.specs.Prelude.{List, ℕ, ◌≡◌, ◌≤◌, [], false, length};
+ghost use Rattle.std.specs.Prelude.{List, ℕ, ◌≡◌, ◌≢◌, ◌≤◌, [], false, length};
 ghost use Rattle.aoe_frame.specs.Header.{fields};
-ghost use Rattle.aoe_target.specs.Law.{AllowsStep, Fate, IsStep, State, StateAgrees, fate_of, is_faulty, next_lists, step_of};
+ghost use Rattle.aoe_target.specs.Law.{AllowsStep, Fate, IsStep, State, StateAgrees, step_of};
+ghost use Rattle.aoe_target.specs.Receive.{fate_of, is_faulty, next_lists};
 ghost use Rattle.aoe_target.specs.declared.station.Station.{Station};
 
 use crate::ata::serve;
-use crate::reply::{refuse, reply};
+use crate::reply::{refuse, reply, reply_step};
 use crate::verdict::{args_of, header_of, judge, step};
 use crate::{Effect, Heard, ListCommand, Station, Verdict};
 use aoe_base::{Failed, Ports, TargetId};
 use aoe_disk::Arm;
-use aoe_frame::{AoeError, Frame, Header};
+use aoe_frame::{Frame, Header};
 use aoe_lists::{Lists, Step};
 use aoe_store::{ArmedStore, Store};
 use std::marker::Model;
@@ -46,9 +47,11 @@ fn tell(
 ) -> Heard
     requires header { header.now ≡ fields frame.now }
     requires len { 24 ≤ length frame.now }
-    ensures allowed { AllowsStep station.now frame.now (step_of station.now lists.old frame.now command) (fate_of result out.new.items) }
+    ensures allowed { AllowsStep station.now frame.now (step_of station.now lists.old frame.now command)
+        (fate_of result out.new.items) }
     ensures lists { lists.new ≡ next_lists (step_of station.now lists.old frame.now command) lists.old }
     ensures no_fault { is_faulty result ≡ false }
+    ensures heard { result ≢ Heard.Ignored }
     ensures empty { result ≡ Heard.Silent → out.new.items ≡ [] }
 {
     match step(station, lists, header.src, args_of(frame), command) {
@@ -56,26 +59,8 @@ fn tell(
             out.clear();
             Heard::Silent
         }
-        Step::Reply { error: None, args } => {
-            reply(station, header, None, args.as_slice(), out);
-            Heard::Replied {
-                effect: Effect::None,
-            }
-        }
-        Step::Reply {
-            error: Some(AoeError::ConfigStringPresent),
-            args,
-        } => {
-            let error = Some(AoeError::ConfigStringPresent);
-            reply(station, header, error, args.as_slice(), out);
-            Heard::Replied {
-                effect: Effect::None,
-            }
-        }
-        Step::Reply {
-            error: Some(error), ..
-        } => {
-            refuse(station, header, frame, error, out);
+        Step::Reply { error, args } => {
+            reply_step(station, header, frame, error, args.as_slice(), out);
             Heard::Replied {
                 effect: Effect::None,
             }
@@ -96,7 +81,8 @@ impl<S: Store> Target<S> {
     ghost use Rattle.aoe_base.specs.Faults.{Rose};
     ghost use Rattle.aoe_disk.specs.Calls.{IsRun, SyncsTo};
     ghost use Rattle.aoe_lists.specs.Settings.{empty_settings};
-    ghost use Rattle.aoe_target.specs.Law.{IsStep, calls_store, fate_of, is_faulty, state_of};
+    ghost use Rattle.aoe_target.specs.Law.{IsStep};
+    ghost use Rattle.aoe_target.specs.Receive.{calls_store, fate_of, is_faulty, state_of};
     ghost use Rattle.aoe_target.specs.Mounted.{station_of};
     ghost use Rattle.aoe_target.specs.Verdict.{verdict};
 
@@ -108,7 +94,11 @@ impl<S: Store> Target<S> {
         requires longest { mtu ≤ 9000 }
         requires shelf { id.major < 65535 }
         requires slot { id.minor < 255 }
-        ensures { result ≡ record { station = station_of id ports.items mtu (S.state store).sectors; lists = empty_settings; store = store } }
+        ensures { result ≡ record {
+          station = station_of id ports.items mtu (S.state store).sectors;
+          lists = empty_settings;
+          store = store;
+        } }
     {
         let sectors = store.sectors();
         Target {
@@ -137,14 +127,18 @@ impl<S: Store> Target<S> {
     /// 7. The answer of the lists, or of the registers; or the store is called, once. A read that
     ///    fails is answered by UNC, a write or a sync that fails by ABRT.
     pub fn receive(&mut self, frame: &[u8], out: &mut Frame) -> Heard
-        ensures step { IsStep self.old.station (state_of self.old.lists (S.state self.old.store).contents) frame.now (fate_of result out.new.items) (state_of self.new.lists (S.state self.new.store).contents) }
+        ensures step { let old_state = state_of self.old.lists (S.state self.old.store).contents in
+            let new_state = state_of self.new.lists (S.state self.new.store).contents in
+            IsStep self.old.station old_state frame.now (fate_of result out.new.items) new_state }
         ensures station { self.new.station ≡ self.old.station }
         ensures silent { result ≡ Heard.Silent → out.new.items ≡ [] }
         ensures ignored { result ≡ Heard.Ignored → out.new.items ≡ [] }
 
         // The store is called where the verdict says so, and then once.
-        ensures call { OnTrue (calls_store (verdict self.old.station self.old.lists frame.now)) (IsRun 1 (is_faulty result) (S.state self.old.store) (S.state self.new.store)) }
-        ensures idle { calls_store (verdict self.old.station self.old.lists frame.now) ≡ false → self.new.store ≡ self.old.store }
+        ensures call { OnTrue (calls_store (verdict self.old.station self.old.lists frame.now))
+            (IsRun 1 (is_faulty result) (S.state self.old.store) (S.state self.new.store)) }
+        ensures idle { calls_store (verdict self.old.station self.old.lists frame.now) ≡ false
+            → self.new.store ≡ self.old.store }
         ensures fault { is_faulty result ≡ true → Rose (S.state self.old.store).faults (S.state self.new.store).faults }
     {
         let Some(header) = header_of(frame) else {
@@ -170,7 +164,14 @@ impl<S: Store> Target<S> {
                 tell(&self.station, &mut self.lists, &header, frame, command, out)
             }
             Verdict::Ata(decision) => {
-                let effect = serve(&mut self.store, &self.station, &header, frame, decision, out);
+                let effect = serve(
+                    &mut self.store,
+                    &self.station,
+                    &header,
+                    frame,
+                    decision,
+                    out,
+                );
                 Heard::Replied { effect }
             }
         }
@@ -222,5 +223,6 @@ impl<S: ArmedStore> Target<S> {
 
 /// A law: a step of a target is one of every state that it agrees with, which may know less of it.
 pub fn steps_agree()
-    ensures { (station : Station) (k b k' : State) (f : List ℕ) (fate : Fate) → StateAgrees k b → IsStep station k f fate k' → IsStep station b f fate k' }
+    ensures { (station : Station) (k b k' : State) (f : List ℕ) (fate : Fate) → StateAgrees k b
+        → IsStep station k f fate k' → IsStep station b f fate k' }
 {}

@@ -1,3 +1,3 @@
 mod Complete
 mod Runs
-mod Replies
+mod TurnLemmas

@@ -1,5 +1,4 @@
 pub mod Arrivals
 pub mod Ending
 pub mod Run
-pub mod Target
 pub mod Words

@@ -1,5 +1,5 @@
 -- The words of a command.
-use Rattle.std.specs.Prelude.{ℕ, Bool, List, [], ◌∷◌, ◌&&◌, ◌==◌, not, length, nat_lt, nat_le, Option, Some, None, if◌then◌else◌, option_and_then, slice_index, codes}
+use Rattle.std.specs.Prelude.{ℕ, Bool, List, [], ◌∷◌, ◌&&◌, ◌==◌, not, length, nat_lt, nat_le, Option, Some, None, if◌then◌else◌, option_and_then, slice_index, codes, is_some}
 use Rattle.std.specs.Str.{bytes_eq}
 use Rattle.aoe_base.specs.Decimal.{number_of}
 use Rattle.aoe_top.specs.declared.command.Answer.{Answer}
@@ -19,3 +19,8 @@ answer_of name shelf slot file keep =
 abbrev pub command : List (List ℕ) → Option Answer
 command (name ∷ shelf ∷ slot ∷ file ∷ keep ∷ []) = answer_of name shelf slot file keep
 command _ = None
+
+-- the files that the command works on: FILE and KEEP
+abbrev pub file_names : List (List ℕ) → List (List ℕ)
+file_names (name ∷ shelf ∷ slot ∷ file ∷ keep ∷ []) = if is_some (answer_of name shelf slot file keep) then file ∷ keep ∷ [] else []
+file_names _ = []

@@ -1,22 +1,23 @@
 //! The loop of `answer`: a frame from the source, its reply to the sink.
-ghost use Rattle.std.specs.Prelude.{◌≡◌, ◌≢◌, ◌≤◌, IfErr};
+ghost use Rattle.std.specs.Prelude.{◌≡◌, ◌≤◌, IfErr};
 ghost use Rattle.aoe_base.specs.Faults.{Rose};
 ghost use Rattle.aoe_io.specs.Bytes.{Gave, Took, IsEnded};
 ghost use Rattle.aoe_io.specs.Stream.{framed, IsFrame};
-ghost use Rattle.aoe_top.specs.Target.{reply_to};
-ghost use Rattle.aoe_top.specs.Arrivals.{sent};
-ghost use Rattle.aoe_top.specs.Run.{Ends, Ran};
+ghost use Rattle.aoe_target.specs.Law.{Fate};
+ghost use Rattle.aoe_top.specs.Arrivals.{IsTurn, sent};
+ghost use Rattle.aoe_top.specs.Run.{Ends, Answered};
 
-use crate::target::{Heard, Target};
 use crate::{Status, What};
 use aoe_base::Failed;
 use aoe_frame::Frame;
 use aoe_io::{Next, Sink, Source, StreamRefusal, give_frame, next_frame};
+use aoe_store::Store;
+use aoe_target::{Heard, Target};
 
 /// Takes one frame of the source, in front of which `offset` bytes stood, and gives the reply to it.
 /// An error is the status that ends the run.
-fn turn<S: Source, K: Sink>(
-    target: &Target,
+fn turn<T: Store, S: Source, K: Sink>(
+    target: &mut Target<T>,
     source: &mut S,
     sink: &mut K,
     offset: u64,
@@ -25,9 +26,13 @@ fn turn<S: Source, K: Sink>(
 ) -> Result<Next, Status>
     ensures frame { result ≡ Ok Next.Frame → IsFrame request.new.items }
     ensures gave { result ≡ Ok Next.Frame → Gave (S.left source.old) (S.left source.new) (framed request.new.items) }
-    ensures took { result ≡ Ok Next.Frame → Took (K.held sink.old) (K.held sink.new) (sent (reply_to target.now.id request.new.items)) }
-    ensures ended { result ≡ Ok Next.End → IsEnded (S.left source.old) × (S.left source.new ≡ S.left source.old) × (K.held sink.new ≡ K.held sink.old) }
-    ensures ends { IfErr result (λ status. Ends target.now.id status offset (S.left source.old) (S.left source.new) (K.held sink.old) (K.held sink.new)) }
+    ensures turn { result ≡ Ok Next.Frame → (fate : Fate)
+        × IsTurn target.old.station record { lists = target.old.lists; disk = T.state target.old.store } record { lists = target.new.lists; disk = T.state target.new.store } request.new.items fate
+        × Took (K.held sink.old) (K.held sink.new) (sent fate) }
+    ensures station { target.new.station ≡ target.old.station }
+    ensures ended { result ≡ Ok Next.End → IsEnded (S.left source.old) × (S.left source.new ≡ S.left source.old) × (K.held sink.new ≡ K.held sink.old) × (target.new ≡ target.old) }
+    ensures ends { IfErr result (λ status. Ends target.old.station status offset (S.left source.old) (S.left source.new) (K.held sink.old) (K.held sink.new)
+        record { lists = target.old.lists; disk = T.state target.old.store } record { lists = target.new.lists; disk = T.state target.new.store }) }
     ensures source_count { S.faults source.old ≤ S.faults source.new }
     ensures sink_count { K.faults sink.old ≤ K.faults sink.new }
     ensures source_fault { result ≡ Err Status.SourceFault → Rose (S.faults source.old) (S.faults source.new) }
@@ -40,8 +45,8 @@ fn turn<S: Source, K: Sink>(
         Err(StreamRefusal::Stream { offset }) => return Err(Status::Stream { offset }),
     }
     match target.receive(request.as_slice(), reply) {
-        Heard::Ignored => return Ok(Next::Frame),
-        Heard::Replied => {}
+        Heard::Ignored | Heard::Silent => return Ok(Next::Frame),
+        Heard::Replied { .. } => {}
     }
     match give_frame(sink, reply.as_slice()) {
         Ok(()) => Ok(Next::Frame),
@@ -50,8 +55,13 @@ fn turn<S: Source, K: Sink>(
 }
 
 /// Answers the frames of the source on the sink until the source ends.
-pub(crate) fn answer<S: Source, K: Sink>(target: &Target, source: &mut S, sink: &mut K) -> Status
-    ensures run { Ran target.now.id result (S.left source.old) (S.left source.new) (K.held sink.old) (K.held sink.new) }
+pub(crate) fn answer<T: Store, S: Source, K: Sink>(
+    target: &mut Target<T>,
+    source: &mut S,
+    sink: &mut K,
+) -> Status
+    ensures run { Answered target.old.station result (S.left source.old) (S.left source.new) (K.held sink.old) (K.held sink.new)
+        record { lists = target.old.lists; disk = T.state target.old.store } record { lists = target.new.lists; disk = T.state target.new.store } }
     ensures source_count { S.faults source.old ≤ S.faults source.new }
     ensures sink_count { K.faults sink.old ≤ K.faults sink.new }
     ensures source_fault { result ≡ Status.SourceFault → Rose (S.faults source.old) (S.faults source.new) }

@@ -1,8 +1,9 @@
 //! The words of a command.
-ghost use Rattle.std.specs.Prelude.{◌≡◌, map, string_bytes};
-ghost use Rattle.aoe_top.specs.Words.{answer_of, command, is_name};
+ghost use Rattle.std.specs.Prelude.{◌≡◌, [], ◌∷◌, map, string_bytes, IfOk};
+ghost use Rattle.aoe_top.specs.Words.{answer_of, command, file_names, is_name};
 
-use aoe_base::{TargetId, read_number};
+use aoe_base::{NoMemory, TargetId, read_number};
+use std::alloc::Global;
 
 /// The greatest length of a word that names a file, in bytes.
 const LONGEST_NAME: usize = 4096;
@@ -56,5 +57,39 @@ pub fn read_words(words: &[String]) -> Option<Answer>
             keep.as_bytes(),
         ),
         _ => None,
+    }
+}
+
+/// A copy of a word.
+fn copy_of(alloc: Global, word: &String) -> Result<String, NoMemory>
+    ensures { IfOk result (λ copy. string_bytes copy ≡ string_bytes word.now) }
+{
+    match String::from_str(alloc, word.as_str()) {
+        Ok(copy) => Ok(copy),
+        Err(_) => Err(NoMemory),
+    }
+}
+
+/// A copy of two words.
+fn both_of(alloc: Global, file: &String, keep: &String) -> Result<Vec<String>, NoMemory>
+    ensures { IfOk result (λ names. map string_bytes names.items ≡ string_bytes file.now ∷ string_bytes keep.now ∷ []) }
+{
+    let file = copy_of(alloc, file)?;
+    let keep = copy_of(alloc, keep)?;
+    let mut names = Vec::new(alloc);
+    if names.push(file).is_err() || names.push(keep).is_err() {
+        return Err(NoMemory);
+    }
+    Ok(names)
+}
+
+/// The names of the files that the command works on, in their order; none where the words spell no
+/// command.
+pub fn files_of(alloc: Global, words: &[String]) -> Result<Vec<String>, NoMemory>
+    ensures { IfOk result (λ names. map string_bytes names.items ≡ file_names (map string_bytes words.now)) }
+{
+    match words {
+        [_, _, _, file, keep] if read_words(words).is_some() => both_of(alloc, file, keep),
+        _ => Ok(Vec::new(alloc)),
     }
 }

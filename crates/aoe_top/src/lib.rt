@@ -3,11 +3,11 @@
 
 mod answer;
 mod command;
+mod device;
 mod status;
-mod target;
 mod top;
 
-pub use command::{Answer, read_words};
+pub use command::{Answer, files_of, read_words};
 pub use status::{Status, What};
 pub use top::aoe;
 

@@ -16,6 +16,9 @@ pub enum Status {
     SourceFault,
     /// The sink failed.
     SinkFault,
+    /// The disk with that number, in the order of the files' names, failed when its store was synced
+    /// at the end.
+    DiskFault { disk: u32 },
     /// An allocation was refused.
     NoMemory,
     /// The input isn't a stream of frames: the length of the first frame that isn't whole, or that
@@ -41,6 +44,7 @@ impl Status {
             Status::Usage => 1,
             Status::SourceFault => 3,
             Status::SinkFault => 4,
+            Status::DiskFault { .. } => 5,
             Status::NoMemory => 7,
             Status::Stream { .. } => 11,
             Status::Limit(_) => 12,
@@ -56,6 +60,7 @@ impl Status {
             Status::Usage => Blob::of(alloc, b"aoe: usage"),
             Status::SourceFault => Blob::of(alloc, b"aoe: source fault"),
             Status::SinkFault => Blob::of(alloc, b"aoe: sink fault"),
+            Status::DiskFault { disk } => disk_text(alloc, disk),
             Status::NoMemory => Blob::of(alloc, b"aoe: no memory"),
             Status::Stream { offset } => stream_text(alloc, offset),
             Status::Limit(What::Frames) => Blob::of(alloc, b"aoe: limit: frames"),
@@ -68,6 +73,16 @@ fn stream_text(alloc: Global, offset: u64) -> Result<Blob, NoMemory>
     ensures { IfOk result (λ text. text ≡ text_of (Status.Stream offset)) }
 {
     match format!(in alloc; "aoe: bad stream at byte {offset}") {
+        Ok(text) => Blob::of(alloc, text.as_bytes()),
+        Err(_) => Err(NoMemory),
+    }
+}
+
+/// The text for a disk that failed.
+fn disk_text(alloc: Global, disk: u32) -> Result<Blob, NoMemory>
+    ensures { IfOk result (λ text. text ≡ text_of (Status.DiskFault disk)) }
+{
+    match format!(in alloc; "aoe: disk fault on file {disk}") {
         Ok(text) => Blob::of(alloc, text.as_bytes()),
         Err(_) => Err(NoMemory),
     }

@@ -1,4 +1,5 @@
-use crate::{Status, aoe};
+use crate::{Status, aoe, files_of};
+use aoe_disk::MemDisk;
 use aoe_io::{MemSink, MemSource};
 use std::alloc::{AllocError, Global};
 use std::test::Fail;
@@ -24,11 +25,29 @@ fn words_of(alloc: Global, line: &str) -> Result<Vec<String>, AllocError> {
     Ok(words)
 }
 
+/// Runs a command over two disks of 16 zero sectors where it names files, and over none where it spells nothing.
+fn run_line(
+    alloc: Global,
+    line: &str,
+    source: &mut MemSource,
+    sink: &mut MemSink,
+) -> Result<Status, Fail> {
+    let words = words_of(alloc, line)?;
+    let names = files_of(alloc, words.as_slice())?;
+    if names.is_empty() {
+        return Ok(aoe::<_, _, MemDisk>(alloc, words.as_slice(), source, sink, &mut []));
+    }
+    let mut disks = [
+        Some(MemDisk::new(alloc, 16)?),
+        Some(MemDisk::new(alloc, 16)?),
+    ];
+    Ok(aoe(alloc, words.as_slice(), source, sink, &mut disks))
+}
+
 fn status_of(alloc: Global, line: &str) -> Result<Status, Fail> {
     let mut source = MemSource::of(alloc, b"")?;
     let mut sink = MemSink::new(alloc, 0)?;
-    let words = words_of(alloc, line)?;
-    Ok(aoe(alloc, words.as_slice(), &mut source, &mut sink))
+    run_line(alloc, line, &mut source, &mut sink)
 }
 
 #[test]
@@ -52,12 +71,9 @@ fn reads_words(rt: HostRuntime) -> Result<(), Fail> {
     for (line, code) in cases {
         assert_eq!(rt; status_of(rt.alloc(), line)?.code(), code, "{line}");
     }
-    let status = aoe(
-        rt.alloc(),
-        &[],
-        &mut MemSource::of(rt.alloc(), b"")?,
-        &mut MemSink::new(rt.alloc(), 0)?,
-    );
+    let mut source = MemSource::of(rt.alloc(), b"")?;
+    let mut sink = MemSink::new(rt.alloc(), 0)?;
+    let status = aoe::<_, _, MemDisk>(rt.alloc(), &[], &mut source, &mut sink, &mut []);
     assert_eq!(rt; status, Status::Usage);
     assert_eq!(rt; status.text(rt.alloc())?.bytes(), b"aoe: usage".as_slice());
     Ok(())
@@ -77,10 +93,9 @@ fn refuses_a_name_that_is_too_long(rt: HostRuntime) -> Result<(), Fail> {
 
 /// Runs `answer 1 0 disk keep`: its status and what it wrote.
 fn run(alloc: Global, input: &[u8]) -> Result<(Status, MemSink), Fail> {
-    let words = words_of(alloc, "answer 1 0 disk keep")?;
     let mut source = MemSource::of(alloc, input)?;
     let mut sink = MemSink::new(alloc, 1000)?;
-    let status = aoe(alloc, words.as_slice(), &mut source, &mut sink);
+    let status = run_line(alloc, "answer 1 0 disk keep", &mut source, &mut sink)?;
     Ok((status, sink))
 }
 
@@ -135,11 +150,11 @@ fn answers_by_the_checks(rt: HostRuntime) -> Result<(), Fail> {
         (18, 0, 255),
         (20, 0, 0),
         (20, 1, 255),
-        (21, 0, 1),
-        (21, 3, 1),
+        (21, 0, 2),
+        (21, 4, 1),
         (21, 255, 1),
         (31, 0xf0, 0),
-        (31, 0x01, 2),
+        (31, 0x05, 2),
     ];
     for (at, byte, error) in cases {
         let mut query = QUERY;
@@ -161,12 +176,12 @@ fn answers_by_the_checks(rt: HostRuntime) -> Result<(), Fail> {
 #[test]
 fn repeats_the_arguments_of_what_it_refuses(rt: HostRuntime) -> Result<(), Fail> {
     let mut query = QUERY;
-    query[21] = 3;
+    query[21] = 4;
     query[26..34].copy_from_slice(&[1, 2, 3, 4, 5, 6, 7, 8]);
     let mut reply = [0u8; 62];
     reply[..34].copy_from_slice(&REPLY);
     reply[16..18].copy_from_slice(&[0x1c, 1]);
-    reply[21] = 3;
+    reply[21] = 4;
     reply[26..34].copy_from_slice(&[1, 2, 3, 4, 5, 6, 7, 8]);
     let (status, sink) = run(rt.alloc(), &query)?;
     assert_eq!(rt; status, Status::Ok);
@@ -176,12 +191,11 @@ fn repeats_the_arguments_of_what_it_refuses(rt: HostRuntime) -> Result<(), Fail>
 
 #[test]
 fn stops_at_a_fault(rt: HostRuntime) -> Result<(), Fail> {
-    let words = words_of(rt.alloc(), "answer 1 0 disk keep")?;
     for k in 1..4 {
         let mut source = MemSource::of(rt.alloc(), &QUERY)?;
         source.fail_at(k);
         let mut sink = MemSink::new(rt.alloc(), 1000)?;
-        let status = aoe(rt.alloc(), words.as_slice(), &mut source, &mut sink);
+        let status = run_line(rt.alloc(), "answer 1 0 disk keep", &mut source, &mut sink)?;
         assert_eq!(rt; status.code(), 3);
         assert_eq!(rt;
             status.text(rt.alloc())?.bytes(),
@@ -191,7 +205,7 @@ fn stops_at_a_fault(rt: HostRuntime) -> Result<(), Fail> {
     let mut source = MemSource::of(rt.alloc(), &QUERY)?;
     let mut sink = MemSink::new(rt.alloc(), 1000)?;
     sink.fail_at(1);
-    let status = aoe(rt.alloc(), words.as_slice(), &mut source, &mut sink);
+    let status = run_line(rt.alloc(), "answer 1 0 disk keep", &mut source, &mut sink)?;
     assert_eq!(rt; status.code(), 4);
     assert_eq!(rt;
         status.text(rt.alloc())?.bytes(),
