@@ -1,0 +1,4 @@
+pub mod LawLemmas
+mod PieceLemmas
+mod ReplyLemmas
+pub mod SectorLemmas

@@ -1,11 +1,14 @@
 //! What the ATA commands that reach the store do to it.
-ghost use Rattle.std.specs.Prelude.{◌≡◌, ◌+◌, ◌*◌, ◌^◌, ◌<◌, ◌≤◌, true, false, length, take, drop};
+ghost use Rattle.std.specs.Prelude.{◌≡◌, ◌+◌, ◌*◌, ◌^◌, ◌<◌, ◌≤◌, ◌++◌, None, true, false, length, take, drop};
 ghost use Rattle.std.specs.Bool.{OnTrue};
 ghost use Rattle.std.specs.Option.{option_map};
 ghost use Rattle.aoe_base.specs.Faults.{Rose};
 ghost use Rattle.aoe_disk.specs.Calls.{IsRange, IsRun, Reads};
+ghost use Rattle.aoe_ata.specs.Args.{args_bytes};
 ghost use Rattle.aoe_ata.specs.Decision.{InRange, CanServe};
+ghost use Rattle.aoe_ata.specs.Reply.{reply_of};
 ghost use Rattle.aoe_ata.specs.declared.decision.AtaAnswer.{AtaAnswer};
+ghost use Rattle.aoe_target.specs.Reply.{reply_head};
 ghost use Rattle.aoe_target.specs.Sectors.{sectors_of};
 ghost use Rattle.aoe_target.specs.Law.{AllowsAta, Gives, Leaves, Syncs, Verifies, Writes, calls_for, is_fault, replied};
 ghost use Rattle.aoe_target.specs.Mounted.{IsMounted};
@@ -24,18 +27,19 @@ const SECTOR_LEN: usize = 512;
 /// Where the data of a reply stand.
 const DATA_AT: usize = HEADER_LEN + ARGS_LEN;
 
-/// What stands in the place of a sector before it is read.
-static ZEROS: [u8; SECTOR_LEN] = [0; SECTOR_LEN];
+/// What stands in the place of the data before they are read, for as many sectors as a frame has
+/// room for.
+static BLANK: [u8; 17 * SECTOR_LEN] = [0; 17 * SECTOR_LEN];
 
-/// Appends room for sectors.
-fn append_room(out: &mut Frame, count: u32)
-    requires { length out.old.items + 512 * count ≤ 9018 }
-    ensures len { length out.new.items ≡ length out.old.items + 512 * count }
-    ensures front { take (length out.old.items) out.new.items ≡ out.old.items }
+/// Makes `out` the header and the registers of a reply with sectors, and room for these.
+fn begin_data(station: &Station, header: &Header, args: &AtaArgs, count: u32, out: &mut Frame)
+    requires address { args.now.lba < 2 ^ 48 }
+    requires room { count ≤ 17 }
+    ensures front { take 36 out.new.items ≡ reply_head station.now header.now None ++ args_bytes (reply_of args.now AtaOutcome.Done) }
+    ensures len { length out.new.items ≡ 36 + 512 * count }
 {
-    'sectors: for _sector in 0..count {
-        append(out, &ZEROS);
-    }
+    begin_ata(station, header, args, AtaOutcome::Done, out);
+    append(out, &BLANK[..SECTOR_LEN * count as usize]);
 }
 
 /// Reads sectors into a frame, behind its header and registers.
@@ -65,8 +69,7 @@ fn give<S: Store>(
     ensures same { (S.state store.new).contents ≡ (S.state store.old).contents }
     ensures call { IsRun 1 (is_fault result) (S.state store.old) (S.state store.new) }
 {
-    begin_ata(station, header, args, AtaOutcome::Done, out);
-    append_room(out, span.count);
+    begin_data(station, header, args, span.count, out);
     match read_into(store, span, out) {
         Ok(()) => {
             pad(out);
@@ -95,8 +98,7 @@ fn verify<S: Store>(
     ensures same { (S.state store.new).contents ≡ (S.state store.old).contents }
     ensures call { IsRun 1 (is_fault result) (S.state store.old) (S.state store.new) }
 {
-    begin_ata(station, header, args, AtaOutcome::Done, out);
-    append_room(out, span.count);
+    begin_data(station, header, args, span.count, out);
     match read_into(store, span, out) {
         Ok(()) => {
             reply_ata(station, header, args, AtaOutcome::Done, out);
