@@ -84,6 +84,7 @@ spoils_agree span a b ab = at b.exact refl
     unknown true true x y own g = tt
     unknown true false x y own g = tt
     unknown false first x y own g = g
+
     at : (t : Bool) → b.exact ≡ t → Agrees (spoils span a) (spoils span b)
     at true e = agrees_same (spoils span a) (spoils span b) (spoils_same span a b (ab.exact e))
     at false e = record {

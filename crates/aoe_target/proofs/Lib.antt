@@ -1,4 +1,5 @@
 pub mod LawLemmas
 mod PieceLemmas
+mod ReceiveLemmas
 mod ReplyLemmas
 pub mod SectorLemmas

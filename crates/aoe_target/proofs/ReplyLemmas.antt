@@ -53,7 +53,7 @@ pub put_leaves : (span : Span) (piece bytes : List ℕ) (sectors : ℕ) (old new
 put_leaves span piece bytes sectors old new same size some end shape told =
     let P : List ℕ → Type 0 = λ l. BothTell Agrees (option_map sectors_of new) (option_map (puts span l) (option_map sectors_of old)) in
     subst P same (both_agree (puts span piece) (Puts span.at piece) sectors old new shape told
-      (λ x y whole put. agrees_same (sectors_of y) (puts span piece (sectors_of x)) (put_same span piece x y sectors size some end whole put)))
+    (λ x y whole put. agrees_same (sectors_of y) (puts span piece (sectors_of x)) (put_same span piece x y sectors size some end whole put)))
 
 pub spoil_leaves : (span : Span) (n sectors : ℕ) (old new : Option Contents) → n ≡ 512 * span.count → 1 ≤ span.count → span.at + span.count ≤ sectors
     → IfSome old (HasShape sectors) → BothTell (MaySpoil span.at n) old new → BothTell Agrees (option_map sectors_of new) (option_map (spoils span) (option_map sectors_of old))

@@ -125,10 +125,13 @@ spoil_agrees span n old new sectors size some end shape may = at (is_some old.se
   where
     m : n / 512 ≡ span.count
     m = omega (arith, size)
+
     touch : Touches span.at (n / 512) old new
     touch = may_spoil_touch span.at n old new sectors (is_range span.at n span.count sectors size some end) may
+
     outside : (s : ℕ) → IsOutside span.at span.count s → IsOutside span.at (n / 512) s
     outside s out = let Q : ℕ → Type 0 = λ k. IsOutside span.at k s in subst Q (sym m) out
+
     at : (t : Bool) → is_some old.settled ≡ t → Agrees (sectors_of new) (spoils span (sectors_of old))
     at true told = agrees_same (sectors_of new) (spoils span (sectors_of old)) (spoil_same span n old new sectors size some end shape told may)
     at false untold = record {

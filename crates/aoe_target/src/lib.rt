@@ -16,3 +16,5 @@ pub use station::Station;
 pub use target::{Target, steps_agree};
 pub use verdict::{ListCommand, Verdict};
 
+#[cfg(test)]
+mod tests;

@@ -1,5 +1,5 @@
 //! A target: what it is told and what becomes of each frame.
-ghost use Rattle.std.specs.Prelude.{List, ℕ, ◌≡◌, ◌≤◌, [], false, length};
+ghost use Rattle.std.specs.Prelude.{List, ℕ, ◌≡◌, ◌≢◌, ◌≤◌, [], false, length};
 ghost use Rattle.aoe_frame.specs.Header.{fields};
 ghost use Rattle.aoe_target.specs.Law.{AllowsStep, Fate, IsStep, State, StateAgrees, fate_of, is_faulty, next_lists, step_of};
 ghost use Rattle.aoe_target.specs.declared.station.Station.{Station};
@@ -49,6 +49,7 @@ fn tell(
     ensures allowed { AllowsStep station.now frame.now (step_of station.now lists.old frame.now command) (fate_of result out.new.items) }
     ensures lists { lists.new ≡ next_lists (step_of station.now lists.old frame.now command) lists.old }
     ensures no_fault { is_faulty result ≡ false }
+    ensures heard { result ≢ Heard.Ignored }
     ensures empty { result ≡ Heard.Silent → out.new.items ≡ [] }
 {
     match step(station, lists, header.src, args_of(frame), command) {
@@ -73,7 +74,8 @@ fn tell(
             }
         }
         Step::Reply {
-            error: Some(error), ..
+            error: Some(error),
+            ..
         } => {
             refuse(station, header, frame, error, out);
             Heard::Replied {
@@ -170,7 +172,14 @@ impl<S: Store> Target<S> {
                 tell(&self.station, &mut self.lists, &header, frame, command, out)
             }
             Verdict::Ata(decision) => {
-                let effect = serve(&mut self.store, &self.station, &header, frame, decision, out);
+                let effect = serve(
+                    &mut self.store,
+                    &self.station,
+                    &header,
+                    frame,
+                    decision,
+                    out,
+                );
                 Heard::Replied { effect }
             }
         }

@@ -1,0 +1,269 @@
+use crate::{Effect, Heard, Target};
+use aoe_base::{Mac, Ports, Span, TargetId};
+use aoe_disk::{Arm, MemDisk};
+use aoe_frame::{Frame, pad};
+use aoe_store::Direct;
+use std::alloc::Global;
+use std::test::Fail;
+
+const PORT: [u8; 6] = [2, 0, 0, 0, 0, 1];
+
+const A: [u8; 6] = [2, 0, 0, 0, 0, 0x0a];
+
+const B: [u8; 6] = [2, 0, 0, 0, 0, 0x0b];
+
+const C: [u8; 6] = [2, 0, 0, 0, 0, 0x0c];
+
+const DONE: Heard = Heard::Replied {
+    effect: Effect::None,
+};
+
+const EDITED: Heard = Heard::Replied {
+    effect: Effect::Edited,
+};
+
+/// The target 1.0 of 16 zero sectors, behind one port.
+fn target(alloc: Global) -> Result<Target<Direct<MemDisk>>, Fail> {
+    let disk = MemDisk::new(alloc, 16)?;
+    let mut ports = Ports::new();
+    ports.push(Mac(PORT));
+    let id = TargetId { major: 1, minor: 0 };
+    Ok(Target::mount(Direct::new(disk), id, ports, 1500))
+}
+
+fn joined(pieces: &[&[u8]]) -> Frame {
+    let mut frame = Frame::new();
+    for piece in pieces {
+        let _ = frame.try_extend_from_slice(piece);
+    }
+    frame
+}
+
+/// A frame of the station to the target, with the tag 7. `version` is byte 14.
+fn request(station: &[u8; 6], version: u8, command: u8, args: &[u8]) -> Frame {
+    let middle = [0x88, 0xa2, version, 0, 0, 1, 0, command, 0, 0, 0, 7];
+    joined(&[&PORT, station, &middle, args])
+}
+
+/// The reply to it. `flags` is byte 14, and `error` byte 15.
+fn reply(station: &[u8; 6], flags: u8, error: u8, command: u8, args: &[u8]) -> Frame {
+    let middle = [0x88, 0xa2, flags, error, 0, 1, 0, command, 0, 0, 0, 7];
+    let mut frame = joined(&[station, &PORT, &middle, args]);
+    pad(&mut frame);
+    frame
+}
+
+/// What becomes of a request of version 1, and its reply.
+fn exchange(
+    target: &mut Target<Direct<MemDisk>>,
+    station: &[u8; 6],
+    command: u8,
+    args: &[u8],
+) -> (Heard, Frame) {
+    let mut out = Frame::new();
+    let heard = target.receive(request(station, 0x10, command, args).as_slice(), &mut out);
+    (heard, out)
+}
+
+#[test]
+fn the_last_sector_and_behind_it(rt: HostRuntime) -> Result<(), Fail> {
+    let mut target = target(rt.alloc())?;
+    let one = joined(&[b"\x41\0\x01\x34\x0f\0\0\0\0\0\0\0", &[7; 512]]);
+    let (heard, out) = exchange(&mut target, &A, 0, one.as_slice());
+    let effect = Effect::Wrote(Span { at: 15, count: 1 });
+    assert_eq!(rt; heard, Heard::Replied { effect });
+    let done = reply(&A, 0x18, 0, 0, b"\x41\0\0\x40\x0f\0\0\0\0\0\0\0");
+    assert_eq!(rt; out.as_slice(), done.as_slice());
+
+    let two = joined(&[b"\x41\0\x02\x34\x0f\0\0\0\0\0\0\0", &[8; 1024]]);
+    let (heard, out) = exchange(&mut target, &A, 0, two.as_slice());
+    assert_eq!(rt; heard, DONE);
+    let behind = reply(&A, 0x18, 0, 0, b"\x41\x10\0\x41\x0f\0\0\0\0\0\0\0");
+    assert_eq!(rt; out.as_slice(), behind.as_slice());
+
+    let (heard, out) = exchange(&mut target, &A, 0, b"\x40\0\x01\x24\x0f\0\0\0\0\0\0\0");
+    assert_eq!(rt; heard, DONE);
+    let read = joined(&[b"\x40\0\0\x40\x0f\0\0\0\0\0\0\0", &[7; 512]]);
+    let read = reply(&A, 0x18, 0, 0, read.as_slice());
+    assert_eq!(rt; out.as_slice(), read.as_slice());
+    assert_eq!(rt; target.close().close().calls(), 2);
+    Ok(())
+}
+
+#[test]
+fn counts_that_are_not_taken(rt: HostRuntime) -> Result<(), Fail> {
+    let mut target = target(rt.alloc())?;
+    for count in [0, 3] {
+        let args = [0x40, 0, count, 0x24, 1, 2, 3, 4, 5, 6, 7, 8];
+        let (heard, out) = exchange(&mut target, &A, 0, &args);
+        assert_eq!(rt; heard, DONE);
+        assert_eq!(rt; out.as_slice(), reply(&A, 0x1c, 2, 0, &args).as_slice());
+    }
+    Ok(())
+}
+
+#[test]
+fn checks_in_their_order(rt: HostRuntime) -> Result<(), Fail> {
+    let mut target = target(rt.alloc())?;
+    let edit = joined(&[&[0, 1, 0, 1, 0, 1], &C]);
+    let (heard, out) = exchange(&mut target, &C, 2, edit.as_slice());
+    assert_eq!(rt; heard, EDITED);
+    let told = joined(&[&[0, 1, 0, 1, 0, 0], &C]);
+    assert_eq!(rt;
+        out.as_slice(),
+        reply(&C, 0x18, 0, 2, told.as_slice()).as_slice()
+    );
+
+    let version_2 = [
+        request(&A, 0x10, 2, &[0; 4]),
+        request(&A, 0x10, 0, b"\x40\0\x01\x24\0\0\0\0\0\0\0\0"),
+        request(&A, 0x20, 1, &[0; 8]),
+    ];
+    let mut out = Frame::new();
+    for frame in &version_2 {
+        assert_eq!(rt; target.receive(frame.as_slice(), &mut out), Heard::Silent);
+        assert_eq!(rt; out.len(), 0);
+    }
+    let heard = target.receive(request(&C, 0x20, 1, &[0; 8]).as_slice(), &mut out);
+    assert_eq!(rt; heard, DONE);
+    assert_eq!(rt; out.as_slice(), reply(&C, 0x1c, 5, 1, &[0; 8]).as_slice());
+    Ok(())
+}
+
+#[test]
+fn reservations(rt: HostRuntime) -> Result<(), Fail> {
+    let mut target = target(rt.alloc())?;
+    let read = b"\x40\0\x01\x24\0\0\0\0\0\0\0\0";
+    let to_a = joined(&[&[1, 1], &A]);
+    let to_b = joined(&[&[1, 1], &B]);
+    let by_force = joined(&[&[2, 1], &B]);
+
+    let (heard, out) = exchange(&mut target, &A, 3, to_a.as_slice());
+    assert_eq!(rt; heard, EDITED);
+    assert_eq!(rt;
+        out.as_slice(),
+        reply(&A, 0x18, 0, 3, to_a.as_slice()).as_slice()
+    );
+    let (_, out) = exchange(&mut target, &B, 0, read);
+    assert_eq!(rt; out.as_slice(), reply(&B, 0x1c, 6, 0, read).as_slice());
+    let (_, out) = exchange(&mut target, &B, 3, to_b.as_slice());
+    assert_eq!(rt;
+        out.as_slice(),
+        reply(&B, 0x1c, 6, 3, to_b.as_slice()).as_slice()
+    );
+    let (heard, out) = exchange(&mut target, &B, 3, by_force.as_slice());
+    assert_eq!(rt; heard, EDITED);
+    assert_eq!(rt;
+        out.as_slice(),
+        reply(&B, 0x18, 0, 3, by_force.as_slice()).as_slice()
+    );
+    let (_, out) = exchange(&mut target, &A, 0, read);
+    assert_eq!(rt; out.as_slice(), reply(&A, 0x1c, 6, 0, read).as_slice());
+    Ok(())
+}
+
+#[test]
+fn config_strings(rt: HostRuntime) -> Result<(), Fail> {
+    let mut target = target(rt.alloc())?;
+    let set = b"\0\0\0\0\0\x03\0\x02ab";
+    let told = b"\0\x10\0\x01\x02\x13\0\x02ab";
+    for effect in [Effect::Edited, Effect::None] {
+        let (heard, out) = exchange(&mut target, &A, 1, set);
+        assert_eq!(rt; heard, Heard::Replied { effect });
+        assert_eq!(rt; out.as_slice(), reply(&A, 0x18, 0, 1, told).as_slice());
+    }
+    let (heard, out) = exchange(&mut target, &A, 1, b"\0\0\0\0\0\x03\0\x02cd");
+    assert_eq!(rt; heard, DONE);
+    assert_eq!(rt; out.as_slice(), reply(&A, 0x1c, 4, 1, told).as_slice());
+    assert_eq!(rt; target.lists().config.as_slice(), b"ab".as_slice());
+    Ok(())
+}
+
+#[test]
+fn an_edit_that_does_not_fit(rt: HostRuntime) -> Result<(), Fail> {
+    let mut target = target(rt.alloc())?;
+    let mut edit = joined(&[&[0, 1, 0, 64, 0, 1], &A]);
+    for last in 0x10..0x4f {
+        let _ = edit.try_extend_from_slice(&[0, 1, 2, 0, 0, 0, 0, last]);
+    }
+    let (heard, _) = exchange(&mut target, &A, 2, edit.as_slice());
+    assert_eq!(rt; heard, EDITED);
+    let too_many = [
+        0, 1, 0, 3, 0, 2, 2, 0, 0, 0, 0, 0x10, 0, 1, 2, 0, 0, 0, 0, 0x0b, 0, 1, 2, 0, 0, 0, 0, 0x0c,
+    ];
+    let (heard, out) = exchange(&mut target, &A, 2, &too_many);
+    assert_eq!(rt; heard, DONE);
+    assert_eq!(rt;
+        out.as_slice(),
+        reply(&A, 0x18, 0, 2, &[0, 1, 3, 0]).as_slice()
+    );
+    assert_eq!(rt; target.lists().masks.len(), 64);
+    assert!(rt; target.lists().masks.contains(&Mac([2, 0, 0, 0, 0, 0x10])));
+    Ok(())
+}
+
+#[test]
+fn identify_and_short_addresses(rt: HostRuntime) -> Result<(), Fail> {
+    let mut target = target(rt.alloc())?;
+    let (heard, out) = exchange(&mut target, &A, 0, b"\0\0\x01\xec\0\0\0\xa0\0\0\0\0");
+    assert_eq!(rt; heard, DONE);
+    let page = out.as_slice().get(36..548).unwrap_or(&[]);
+    assert_eq!(rt; page.get(20..24), Some(b"1e0.".as_slice()));
+    assert_eq!(rt; page.get(120..124), Some(b"\x10\0\0\0".as_slice()));
+    assert_eq!(rt; out.len(), 548);
+
+    let write = joined(&[b"\0\0\x02\x30\x05\0\0\xe0\0\0\0\0", &[5; 512], &[6; 512]]);
+    let (_, _) = exchange(&mut target, &A, 0, write.as_slice());
+    let (heard, out) = exchange(&mut target, &A, 0, b"\0\0\x02\x20\x05\0\0\xe0\0\0\0\0");
+    assert_eq!(rt; heard, DONE);
+    let read = joined(&[b"\0\0\0\x40\x05\0\0\xe0\0\0\0\0", &[5; 512], &[6; 512]]);
+    assert_eq!(rt;
+        out.as_slice(),
+        reply(&A, 0x18, 0, 0, read.as_slice()).as_slice()
+    );
+    Ok(())
+}
+
+#[test]
+fn failed_calls(rt: HostRuntime) -> Result<(), Fail> {
+    let mut target = target(rt.alloc())?;
+    let span = Span { at: 3, count: 1 };
+    let write = joined(&[b"\x41\0\x01\x34\x03\0\0\0\0\0\0\0", &[7; 512]]);
+    let read = b"\x40\0\x01\x24\x03\0\0\0\0\0\0\0".as_slice();
+    let verify = b"\x40\0\x01\x42\x03\0\0\0\0\0\0\0".as_slice();
+    let flush = b"\x40\0\0\xea\0\0\0\0\0\0\0\0".as_slice();
+    let cases = [
+        (read, Effect::ReadFault, b"\x40\x40\0\x41\x03\0\0\0\0\0\0\0"),
+        (
+            verify,
+            Effect::ReadFault,
+            b"\x40\x40\0\x41\x03\0\0\0\0\0\0\0",
+        ),
+        (
+            write.as_slice(),
+            Effect::WriteFault(span),
+            b"\x41\x04\0\x41\x03\0\0\0\0\0\0\0",
+        ),
+        (flush, Effect::SyncFault, b"\x40\x04\0\x41\0\0\0\0\0\0\0\0"),
+    ];
+    for (args, effect, told) in cases {
+        target.arm_store(Arm::Fail(1));
+        let (heard, out) = exchange(&mut target, &A, 0, args);
+        assert_eq!(rt; heard, Heard::Replied { effect });
+        assert_eq!(rt; out.as_slice(), reply(&A, 0x18, 0, 0, told).as_slice());
+    }
+    let (heard, out) = exchange(&mut target, &A, 0, flush);
+    assert_eq!(rt;
+        heard,
+        Heard::Replied {
+            effect: Effect::Synced
+        }
+    );
+    let done = b"\x40\0\0\x40\0\0\0\0\0\0\0\0";
+    assert_eq!(rt; out.as_slice(), reply(&A, 0x18, 0, 0, done).as_slice());
+
+    target.arm_store(Arm::Stop(1));
+    assert!(rt; target.sync().is_err());
+    assert!(rt; target.store_is_out());
+    Ok(())
+}
