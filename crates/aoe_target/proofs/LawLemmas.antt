@@ -1,9 +1,9 @@
 -- A step of a target, and of those who know less of it.
-use Rattle.std.proofs.Common.{◌≡◌, ◌≤◌, ◌<◌, ◌+◌, ◌-◌, ◌*◌, ◌&&◌, ◌||◌, ◌==◌, cond, ℕ, Bool, true, false, List, ◌∷◌, length, drop, Option, Some, None, refl, sym, ap, subst, ◌∙◌, arith}
+use Rattle.std.proofs.Common.{◌≡◌, ◌+◌, ◌-◌, ◌||◌, ◌==◌, cond, ℕ, Bool, true, false, List, ◌∷◌, drop, Option, Some, None, refl, sym, ap, subst, ◌∙◌, arith}
 use Rattle.std.specs.Prelude.{IfSome}
 use Rattle.std.specs.Option.{option_map, option_or}
 use Rattle.aoe_base.specs.declared.sectors.Span.{Span}
-use Rattle.aoe_disk.specs.State.{BothTell, sector, spoiled_sector}
+use Rattle.aoe_disk.specs.State.{BothTell, sector}
 use Rattle.aoe_frame.specs.Header.{fields}
 use Rattle.aoe_frame.specs.declared.header.Header.{Header}
 use Rattle.aoe_ata.specs.Decision.{written}

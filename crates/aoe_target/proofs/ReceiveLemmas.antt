@@ -22,7 +22,8 @@ use Rattle.aoe_target.specs.declared.verdict.Verdict.TheVariants.{Ignored, Refus
 use Rattle.aoe_target.specs.Verdict.{verdict, judged}
 use Rattle.aoe_target.specs.Reply.{spelled, repeated}
 use Rattle.aoe_target.specs.Sectors.{sectors_of}
-use Rattle.aoe_target.specs.Law.{Fate, replied, fate_of, State, state_of, StateAgrees, IsStep, AllowsAta, AllowsStep, Leaves, step_of, after_step, next_lists, calls_store}
+use Rattle.aoe_target.specs.Law.{Fate, replied, State, StateAgrees, IsStep, AllowsAta, AllowsStep, step_of, after_step}
+use Rattle.aoe_target.specs.Receive.{fate_of, state_of, Leaves, next_lists, calls_store}
 use Rattle.aoe_target.specs.Mounted.{Mounted}
 use Rattle.aoe_target.proofs.LawLemmas.{state_self, step_by}
 

@@ -1,5 +1,5 @@
 -- The bytes of a reply with data, and what a write leaves.
-use Rattle.std.proofs.Common.{◌≡◌, ◌≤◌, ◌+◌, ◌-◌, ◌*◌, ℕ, List, ◌++◌, length, take, drop, Option, Some, None, refl, sym, ap, subst, ◌∙◌, arith, append_assoc, length-drop}
+use Rattle.std.proofs.Common.{◌≡◌, ◌≤◌, ◌+◌, ◌-◌, ◌*◌, ℕ, List, ◌++◌, length, take, drop, Option, Some, None, sym, ap, subst, ◌∙◌, arith, append_assoc, length-drop}
 use Rattle.std.specs.Prelude.{IfSome}
 use Rattle.std.specs.Option.{option_map}
 use Rattle.std.proofs.lemmas.List.{take-append-drop}
@@ -17,7 +17,7 @@ use Rattle.aoe_ata.specs.declared.reply.AtaOutcome.TheVariants.{Done}
 use Rattle.aoe_target.specs.declared.station.Station.{Station}
 use Rattle.aoe_target.specs.declared.heard.Effect.TheVariants as effect
 use Rattle.aoe_target.specs.Reply.{reply_head, spelled, data_reply, data_of}
-use Rattle.aoe_target.specs.Sectors.{Sectors, Agrees, Tells, sectors_of, puts, spoils}
+use Rattle.aoe_target.specs.Sectors.{Agrees, Tells, sectors_of, puts, spoils}
 use Rattle.aoe_target.specs.Law.{Gives}
 use Rattle.aoe_target.proofs.PieceLemmas.{data_in}
 use Rattle.aoe_target.proofs.SectorLemmas.{agrees_same, both_agree, put_same, spoil_agrees}

@@ -1,8 +1,8 @@
 -- The shelf law: what may become of a frame that a target is handed, and what it leaves.
-use Rattle.std.specs.Prelude.{ℕ, ◌*◌, ◌≡◌, Bool, true, false, List, [], ◌∷◌, drop, length, Option, Some, None, IfSome}
+use Rattle.std.specs.Prelude.{ℕ, ◌*◌, ◌≡◌, List, [], ◌∷◌, drop, length, Option, Some, None, IfSome}
 use Rattle.std.specs.Option.{option_map}
 use Rattle.aoe_base.specs.declared.sectors.Span.{Span}
-use Rattle.aoe_disk.specs.State.{Contents, BothTell}
+use Rattle.aoe_disk.specs.State.{BothTell}
 use Rattle.aoe_frame.specs.Header.{fields}
 use Rattle.aoe_frame.specs.declared.header.Header.{Header}
 use Rattle.aoe_ata.specs.Decision.{written}
@@ -16,14 +16,12 @@ use Rattle.aoe_lists.specs.declared.step.Step.TheVariants as step
 use Rattle.aoe_target.specs.declared.station.Station.{Station}
 use Rattle.aoe_target.specs.declared.heard.Effect.{Effect}
 use Rattle.aoe_target.specs.declared.heard.Effect.TheVariants as effect
-use Rattle.aoe_target.specs.declared.heard.Heard.{Heard}
-use Rattle.aoe_target.specs.declared.heard.Heard.TheVariants as heard
 use Rattle.aoe_target.specs.declared.verdict.ListCommand.{ListCommand}
 use Rattle.aoe_target.specs.declared.verdict.Verdict.{Verdict}
 use Rattle.aoe_target.specs.declared.verdict.Verdict.TheVariants.{Ignored, Silent, Refused, Lists, Ata}
 use Rattle.aoe_target.specs.Verdict.{verdict, list_step}
 use Rattle.aoe_target.specs.Reply.{spelled, repeated, step_reply, ata_reply, data_reply, data_of, identity}
-use Rattle.aoe_target.specs.Sectors.{Sectors, Agrees, Tells, puts, spoils, learns, settles, sectors_of}
+use Rattle.aoe_target.specs.Sectors.{Sectors, Agrees, Tells, puts, spoils, learns, settles}
 
 -- what becomes of a frame: no reply, since it isn't for the target or its source isn't answered; the power was lost
 -- in the call; or a reply with these bytes
@@ -33,20 +31,11 @@ pub data Fate : Type 0 where
   cut : Fate
   replied : Effect → List ℕ → Fate
 
-abbrev pub fate_of : Heard → List ℕ → Fate
-fate_of heard.Ignored out = ignored
-fate_of heard.Silent out = silent
-fate_of (heard.Replied e) out = replied e out
-
 -- a target: its lists, those that a crash may leave in their place, and its sectors where they are told
 pub record State : Type 0 where
   pub lists : Settings
   pub offers : List Settings
   pub sectors : Option Sectors
-
--- a target with these lists over a store with these contents
-abbrev pub state_of : Settings → Option Contents → State
-state_of lists contents = record { lists = lists; offers = []; sectors = option_map sectors_of contents }
 
 -- a reply of which this is true, or a loss of power
 abbrev pub RepliesOrCut : (Effect → List ℕ → Type 0) → Fate → Type 0
@@ -158,35 +147,3 @@ pub record StateAgrees (a b : State) : Type 0 where
 pub record IsStep (station : Station) (k : State) (f : List ℕ) (fate : Fate) (k' : State) : Type 0 where
   pub allowed : Allows station k f (verdict station k.lists f) fate
   pub agrees : StateAgrees k' (after station f (verdict station k.lists f) fate k)
-
--- the store is called, once
-abbrev pub calls_for : AtaAnswer → Bool
-calls_for (Give span) = true
-calls_for (Put span) = true
-calls_for (Verify span) = true
-calls_for Sync = true
-calls_for answer = false
-
-abbrev pub calls_store : Verdict → Bool
-calls_store (Ata d) = calls_for d.answer
-calls_store v = false
-
--- the effects that a failed call of the store has
-abbrev pub is_fault : Effect → Bool
-is_fault (effect.WriteFault span) = true
-is_fault effect.ReadFault = true
-is_fault effect.SyncFault = true
-is_fault e = false
-
-abbrev pub is_faulty : Heard → Bool
-is_faulty (heard.Replied e) = is_fault e
-is_faulty h = false
-
--- what a reply to an ATA command leaves of a store's contents, where they are told
-abbrev pub Leaves : List ℕ → AtaAnswer → Effect → List ℕ → Option Contents → Option Contents → Type 0
-Leaves f answer e reply old new = BothTell Agrees (option_map sectors_of new) (option_map (after_ata f answer (replied e reply)) (option_map sectors_of old))
-
--- the lists that stand after a step that was done
-abbrev pub next_lists : Step → Settings → Settings
-next_lists (step.Change next args) lists = next
-next_lists s lists = lists

@@ -10,7 +10,8 @@ ghost use Rattle.aoe_ata.specs.Reply.{reply_of};
 ghost use Rattle.aoe_ata.specs.declared.decision.AtaAnswer.{AtaAnswer};
 ghost use Rattle.aoe_target.specs.Reply.{reply_head};
 ghost use Rattle.aoe_target.specs.Sectors.{sectors_of};
-ghost use Rattle.aoe_target.specs.Law.{AllowsAta, Gives, Leaves, Syncs, Verifies, Writes, calls_for, is_fault, replied};
+ghost use Rattle.aoe_target.specs.Law.{AllowsAta, Gives, Syncs, Verifies, Writes, replied};
+ghost use Rattle.aoe_target.specs.Receive.{Leaves, calls_for, is_fault};
 ghost use Rattle.aoe_target.specs.Mounted.{IsMounted};
 
 use crate::reply::{begin_ata, reply_ata, reply_page};

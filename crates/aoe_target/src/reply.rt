@@ -1,11 +1,12 @@
 //! The bytes of replies.
 ghost use Rattle.std.specs.Prelude.{◌≡◌, ◌^◌, ◌<◌, ◌≤◌, ◌++◌, Some, None, length, slice_range};
 ghost use Rattle.std.specs.Option.{option_map};
+ghost use Rattle.aoe_frame.specs.Header.{fields};
 ghost use Rattle.aoe_frame.specs.Refusal.{code_of_error};
 ghost use Rattle.aoe_ata.specs.Args.{args_bytes};
 ghost use Rattle.aoe_ata.specs.Reply.{reply_of};
 ghost use Rattle.aoe_ata.specs.declared.reply.AtaOutcome.{AtaOutcome};
-ghost use Rattle.aoe_target.specs.Reply.{reply_head, spelled, ata_reply, data_reply, identity};
+ghost use Rattle.aoe_target.specs.Reply.{reply_head, spelled, step_reply, ata_reply, data_reply, identity};
 
 use crate::Station;
 use aoe_ata::{AtaArgs, AtaOutcome, identify_page, reply_args, serial_number, write_args};
@@ -64,6 +65,27 @@ pub(crate) fn refuse(
     ensures { out.new.items ≡ spelled station.now header.now (Some error) (slice_range frame.now 24 60) }
 {
     reply(station, header, Some(error), repeated(frame), out);
+}
+
+/// Makes `out` the reply of a step of the lists. One that bears an error repeats the arguments of the
+/// request, but for the error that tells the config string.
+pub(crate) fn reply_step(
+    station: &Station,
+    header: &Header,
+    frame: &[u8],
+    error: Option<AoeError>,
+    args: &[u8],
+    out: &mut Frame,
+)
+    requires header { header.now ≡ fields frame.now }
+    requires len { 24 ≤ length frame.now }
+    requires room { length args.now ≤ 2048 }
+    ensures { out.new.items ≡ step_reply station.now frame.now error args.now }
+{
+    match error {
+        None | Some(AoeError::ConfigStringPresent) => reply(station, header, error, args, out),
+        Some(error) => refuse(station, header, frame, error, out),
+    }
 }
 
 /// Makes `out` what a reply to an ATA command has before its data.

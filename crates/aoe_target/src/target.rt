@@ -1,16 +1,17 @@
 //! A target: what it is told and what becomes of each frame.
 ghost use Rattle.std.specs.Prelude.{List, ℕ, ◌≡◌, ◌≢◌, ◌≤◌, [], false, length};
 ghost use Rattle.aoe_frame.specs.Header.{fields};
-ghost use Rattle.aoe_target.specs.Law.{AllowsStep, Fate, IsStep, State, StateAgrees, fate_of, is_faulty, next_lists, step_of};
+ghost use Rattle.aoe_target.specs.Law.{AllowsStep, Fate, IsStep, State, StateAgrees, step_of};
+ghost use Rattle.aoe_target.specs.Receive.{fate_of, is_faulty, next_lists};
 ghost use Rattle.aoe_target.specs.declared.station.Station.{Station};
 
 use crate::ata::serve;
-use crate::reply::{refuse, reply};
+use crate::reply::{refuse, reply, reply_step};
 use crate::verdict::{args_of, header_of, judge, step};
 use crate::{Effect, Heard, ListCommand, Station, Verdict};
 use aoe_base::{Failed, Ports, TargetId};
 use aoe_disk::Arm;
-use aoe_frame::{AoeError, Frame, Header};
+use aoe_frame::{Frame, Header};
 use aoe_lists::{Lists, Step};
 use aoe_store::{ArmedStore, Store};
 use std::marker::Model;
@@ -57,27 +58,8 @@ fn tell(
             out.clear();
             Heard::Silent
         }
-        Step::Reply { error: None, args } => {
-            reply(station, header, None, args.as_slice(), out);
-            Heard::Replied {
-                effect: Effect::None,
-            }
-        }
-        Step::Reply {
-            error: Some(AoeError::ConfigStringPresent),
-            args,
-        } => {
-            let error = Some(AoeError::ConfigStringPresent);
-            reply(station, header, error, args.as_slice(), out);
-            Heard::Replied {
-                effect: Effect::None,
-            }
-        }
-        Step::Reply {
-            error: Some(error),
-            ..
-        } => {
-            refuse(station, header, frame, error, out);
+        Step::Reply { error, args } => {
+            reply_step(station, header, frame, error, args.as_slice(), out);
             Heard::Replied {
                 effect: Effect::None,
             }
@@ -98,7 +80,8 @@ impl<S: Store> Target<S> {
     ghost use Rattle.aoe_base.specs.Faults.{Rose};
     ghost use Rattle.aoe_disk.specs.Calls.{IsRun, SyncsTo};
     ghost use Rattle.aoe_lists.specs.Settings.{empty_settings};
-    ghost use Rattle.aoe_target.specs.Law.{IsStep, calls_store, fate_of, is_faulty, state_of};
+    ghost use Rattle.aoe_target.specs.Law.{IsStep};
+    ghost use Rattle.aoe_target.specs.Receive.{calls_store, fate_of, is_faulty, state_of};
     ghost use Rattle.aoe_target.specs.Mounted.{station_of};
     ghost use Rattle.aoe_target.specs.Verdict.{verdict};
 

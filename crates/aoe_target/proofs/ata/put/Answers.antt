@@ -1,4 +1,4 @@
-use Rattle.std.proofs.Common.{◌≤◌, ◌+◌, List, ℕ, ap, ◌∙◌, arith, length, drop}
+use Rattle.std.proofs.Common.{List, ℕ, ap, ◌∙◌, arith, length, drop}
 use Rattle.aoe_ata.specs.Decision.{written}
 use Rattle.aoe_target.proofs.ReplyLemmas.{put_leaves, spoil_leaves}
 use Rattle.aoe_target.proofs.ata.put.Goals as goal

@@ -1,6 +1,7 @@
 use Rattle.std.proofs.Common.{false, refl, subst}
 use Rattle.aoe_disk.specs.Calls.{IsRun}
-use Rattle.aoe_target.specs.Law.{Fate, ignored, silent, replied, fate_of, is_fault, is_faulty, state_of, IsStep}
+use Rattle.aoe_target.specs.Law.{ignored, silent, replied, IsStep}
+use Rattle.aoe_target.specs.Receive.{fate_of, is_fault, is_faulty, state_of}
 use Rattle.aoe_target.specs.Mounted.{Mounted}
 use Rattle.aoe_target.specs.declared.heard.Effect.TheVariants as effect
 use Rattle.aoe_target.specs.declared.verdict.Verdict.TheVariants.{Ignored, Silent, Refused, Lists, Ata}
