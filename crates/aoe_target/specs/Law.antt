@@ -47,7 +47,8 @@ RepliesOrCut P (replied e reply) = P e reply
 -- a read: the sectors, of which each that is known is as it is known, or UNC
 abbrev pub Gives : Station → Option Sectors → Header → AtaArgs → Span → Effect → List ℕ → Type 0
 Gives station k h args span effect.None reply =
-    (length (data_of span reply) ≡ 512 * span.count) × (reply ≡ data_reply station h args (data_of span reply)) × IfSome k (Tells span (data_of span reply))
+    (length (data_of span reply) ≡ 512 * span.count) × (reply ≡ data_reply station h args (data_of span reply))
+    × IfSome k (Tells span (data_of span reply))
 Gives station k h args span effect.ReadFault reply = reply ≡ ata_reply station h args Uncorrectable
 Gives station k h args span e reply = ⊥
 

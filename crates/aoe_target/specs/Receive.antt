@@ -51,7 +51,8 @@ is_faulty h = false
 
 -- what a reply to an ATA command leaves of a store's contents, where they are told
 abbrev pub Leaves : List ℕ → AtaAnswer → Effect → List ℕ → Option Contents → Option Contents → Type 0
-Leaves f answer e reply old new = BothTell Agrees (option_map sectors_of new) (option_map (after_ata f answer (replied e reply)) (option_map sectors_of old))
+Leaves f answer e reply old new =
+    BothTell Agrees (option_map sectors_of new) (option_map (after_ata f answer (replied e reply)) (option_map sectors_of old))
 
 -- the lists that stand after a step that was done
 abbrev pub next_lists : Step → Settings → Settings

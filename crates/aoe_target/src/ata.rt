@@ -36,7 +36,8 @@ static BLANK: [u8; 17 * SECTOR_LEN] = [0; 17 * SECTOR_LEN];
 fn begin_data(station: &Station, header: &Header, args: &AtaArgs, count: u32, out: &mut Frame)
     requires address { args.now.lba < 2 ^ 48 }
     requires room { count ≤ 17 }
-    ensures front { take 36 out.new.items ≡ reply_head station.now header.now None ++ args_bytes (reply_of args.now AtaOutcome.Done) }
+    ensures front { take 36 out.new.items
+        ≡ reply_head station.now header.now None ++ args_bytes (reply_of args.now AtaOutcome.Done) }
     ensures len { length out.new.items ≡ 36 + 512 * count }
 {
     begin_ata(station, header, args, AtaOutcome::Done, out);
@@ -66,7 +67,8 @@ fn give<S: Store>(
     requires mounted { IsMounted station.now (S.state store.old) }
     requires range { InRange station.now.sectors station.now.max span }
     requires address { args.now.lba < 2 ^ 48 }
-    ensures gives { Gives station.now (option_map sectors_of (S.state store.old).contents) header.now args.now span result out.new.items }
+    ensures gives { Gives station.now (option_map sectors_of (S.state store.old).contents) header.now args.now span
+        result out.new.items }
     ensures same { (S.state store.new).contents ≡ (S.state store.old).contents }
     ensures call { IsRun 1 (is_fault result) (S.state store.old) (S.state store.new) }
 {
@@ -128,7 +130,8 @@ fn put<S: Store>(
     requires address { args.now.lba < 2 ^ 48 }
     requires len { 24 ≤ length frame.now }
     ensures writes { Writes station.now header.now args.now span result out.new.items }
-    ensures leaves { Leaves frame.now (AtaAnswer.Put span) result out.new.items (S.state store.old).contents (S.state store.new).contents }
+    ensures leaves { Leaves frame.now (AtaAnswer.Put span) result out.new.items
+        (S.state store.old).contents (S.state store.new).contents }
     ensures call { IsRun 1 (is_fault result) (S.state store.old) (S.state store.new) }
 {
     match store.write(span.at, put_data(args_of(frame), span)) {
@@ -154,7 +157,8 @@ fn sync<S: Store>(
 ) -> Effect
     requires { args.now.lba < 2 ^ 48 }
     ensures syncs { Syncs station.now header.now args.now result out.new.items }
-    ensures leaves { Leaves frame.now AtaAnswer.Sync result out.new.items (S.state store.old).contents (S.state store.new).contents }
+    ensures leaves { Leaves frame.now AtaAnswer.Sync result out.new.items
+        (S.state store.old).contents (S.state store.new).contents }
     ensures call { IsRun 1 (is_fault result) (S.state store.old) (S.state store.new) }
 {
     match store.sync() {
@@ -182,9 +186,12 @@ pub(crate) fn serve<S: Store>(
     requires range { CanServe station.now.sectors station.now.max (drop 24 frame.now) decision.answer }
     requires address { decision.args.lba < 2 ^ 48 }
     requires len { 24 ≤ length frame.now }
-    ensures allowed { AllowsAta station.now (option_map sectors_of (S.state store.old).contents) header.now decision.args decision.answer (replied result out.new.items) }
-    ensures leaves { Leaves frame.now decision.answer result out.new.items (S.state store.old).contents (S.state store.new).contents }
-    ensures call { OnTrue (calls_for decision.answer) (IsRun 1 (is_fault result) (S.state store.old) (S.state store.new)) }
+    ensures allowed { AllowsAta station.now (option_map sectors_of (S.state store.old).contents) header.now
+        decision.args decision.answer (replied result out.new.items) }
+    ensures leaves { Leaves frame.now decision.answer result out.new.items
+        (S.state store.old).contents (S.state store.new).contents }
+    ensures call { OnTrue (calls_for decision.answer)
+        (IsRun 1 (is_fault result) (S.state store.old) (S.state store.new)) }
     ensures idle { calls_for decision.answer ≡ false → store.new ≡ store.old }
     ensures fault { is_fault result ≡ true → Rose (S.state store.old).faults (S.state store.new).faults }
 {

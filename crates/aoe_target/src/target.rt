@@ -47,7 +47,8 @@ fn tell(
 ) -> Heard
     requires header { header.now ≡ fields frame.now }
     requires len { 24 ≤ length frame.now }
-    ensures allowed { AllowsStep station.now frame.now (step_of station.now lists.old frame.now command) (fate_of result out.new.items) }
+    ensures allowed { AllowsStep station.now frame.now (step_of station.now lists.old frame.now command)
+        (fate_of result out.new.items) }
     ensures lists { lists.new ≡ next_lists (step_of station.now lists.old frame.now command) lists.old }
     ensures no_fault { is_faulty result ≡ false }
     ensures heard { result ≢ Heard.Ignored }
@@ -93,7 +94,11 @@ impl<S: Store> Target<S> {
         requires longest { mtu ≤ 9000 }
         requires shelf { id.major < 65535 }
         requires slot { id.minor < 255 }
-        ensures { result ≡ record { station = station_of id ports.items mtu (S.state store).sectors; lists = empty_settings; store = store } }
+        ensures { result ≡ record {
+          station = station_of id ports.items mtu (S.state store).sectors;
+          lists = empty_settings;
+          store = store;
+        } }
     {
         let sectors = store.sectors();
         Target {
@@ -122,14 +127,18 @@ impl<S: Store> Target<S> {
     /// 7. The answer of the lists, or of the registers; or the store is called, once. A read that
     ///    fails is answered by UNC, a write or a sync that fails by ABRT.
     pub fn receive(&mut self, frame: &[u8], out: &mut Frame) -> Heard
-        ensures step { IsStep self.old.station (state_of self.old.lists (S.state self.old.store).contents) frame.now (fate_of result out.new.items) (state_of self.new.lists (S.state self.new.store).contents) }
+        ensures step { let old_state = state_of self.old.lists (S.state self.old.store).contents in
+            let new_state = state_of self.new.lists (S.state self.new.store).contents in
+            IsStep self.old.station old_state frame.now (fate_of result out.new.items) new_state }
         ensures station { self.new.station ≡ self.old.station }
         ensures silent { result ≡ Heard.Silent → out.new.items ≡ [] }
         ensures ignored { result ≡ Heard.Ignored → out.new.items ≡ [] }
 
         // The store is called where the verdict says so, and then once.
-        ensures call { OnTrue (calls_store (verdict self.old.station self.old.lists frame.now)) (IsRun 1 (is_faulty result) (S.state self.old.store) (S.state self.new.store)) }
-        ensures idle { calls_store (verdict self.old.station self.old.lists frame.now) ≡ false → self.new.store ≡ self.old.store }
+        ensures call { OnTrue (calls_store (verdict self.old.station self.old.lists frame.now))
+            (IsRun 1 (is_faulty result) (S.state self.old.store) (S.state self.new.store)) }
+        ensures idle { calls_store (verdict self.old.station self.old.lists frame.now) ≡ false
+            → self.new.store ≡ self.old.store }
         ensures fault { is_faulty result ≡ true → Rose (S.state self.old.store).faults (S.state self.new.store).faults }
     {
         let Some(header) = header_of(frame) else {
@@ -214,5 +223,6 @@ impl<S: ArmedStore> Target<S> {
 
 /// A law: a step of a target is one of every state that it agrees with, which may know less of it.
 pub fn steps_agree()
-    ensures { (station : Station) (k b k' : State) (f : List ℕ) (fate : Fate) → StateAgrees k b → IsStep station k f fate k' → IsStep station b f fate k' }
+    ensures { (station : Station) (k b k' : State) (f : List ℕ) (fate : Fate) → StateAgrees k b
+        → IsStep station k f fate k' → IsStep station b f fate k' }
 {}
