@@ -1,0 +1,12 @@
+mod Told
+mod Runs
+mod Slots
+mod Steps
+mod Writes
+mod Replacing
+mod Calls
+mod Mounting
+mod Keeping
+mod Uniqueness
+mod Spelling
+mod Reading
