@@ -1,5 +1,5 @@
 -- A disk with no loose sector, whose slots were read.
-use Rattle.std.proofs.Common.{◌≡◌, ◌≢◌, ◌⊎◌, ◌≤◌, ◌<◌, ◌+◌, ◌-◌, ◌*◌, ◌%◌, ◌==◌, ◌&&◌, cond, ℕ, zero, suc, Bool, true, false, Option, Some, None, IfSome, Result, Ok, Err, MatchResult, List, length, drop, refl, arith, sym, ◌∙◌, ap, subst, inl, inr, slice_index, nat_eq}
+use Rattle.std.proofs.Common.{◌≡◌, ◌≢◌, ◌⊎◌, ◌≤◌, ◌<◌, ◌+◌, ◌-◌, ◌*◌, ◌%◌, ◌==◌, ◌&&◌, cond, ℕ, zero, suc, Bool, true, false, Option, Some, None, IfSome, Result, Ok, Err, MatchResult, List, length, drop, refl, arith, sym, ◌∙◌, ap, subst, inl, inr, slice_index, nat_eq, nat_lt}
 use Rattle.std.specs.List.{starts_with}
 use Rattle.std.proofs.lemmas.Bool.{eqb-true, and_parts, ltb-true}
 use Rattle.aoe_lists.specs.Settings.{Settings, empty_settings}
@@ -7,18 +7,15 @@ use Rattle.aoe_disk.specs.State.{Contents, CanLeave, BothTell, is_loose}
 use Rattle.aoe_disk.specs.Calls.{Settles}
 use Rattle.aoe_disk.specs.Sectors.{Calms}
 use Rattle.aoe_disk.proofs.Touching.{settles_calm, settles_kept}
-use Rattle.aoe_keep.specs.Body.{mark, decode, is_valid, config_len, fields_of}
+use Rattle.aoe_keep.specs.Body.{mark, decode, is_valid, sizes_fit, config_len, fields_of}
 use Rattle.aoe_keep.specs.Found.{slot, body, is_open, next_turn, choice, found, Finds}
 use Rattle.aoe_keep.specs.Stages.{StaysClosed, StaysBody, StaysOpen, IsKept, placement}
 use Rattle.aoe_keep.specs.Keep.{ReadsSlots}
 use Rattle.aoe_keep.specs.declared.place.Place.{Place}
 use Rattle.aoe_keep.specs.declared.mount.Present.{Present}
 use Rattle.aoe_keep.proofs.Slots.{gate_same, body_same, left_same}
+use Rattle.aoe_keep.proofs.Reading.{some_when}
 use Rattle.aoe_keep.proofs.Told.{both_map, told_last}
-
-some_when : {X : Type 0} (t : Bool) (x y : X) → cond t (Some x) None ≡ Some y → (t ≡ true) × (x ≡ y)
-some_when true x y e = (refl, cc)
-some_when false x y e = absurd cc
 
 -- a turn that was read is one of three
 turn_small : (bytes : List ℕ) (b : ℕ × Settings) → decode bytes ≡ Some b → b.0 < 3
@@ -26,8 +23,8 @@ unfolding decode is_valid
 turn_small bytes b e =
     let n = config_len bytes in
     let w = some_when (starts_with nat_eq bytes mark && is_valid (slice_index bytes 5) n (slice_index bytes 8) (slice_index bytes 9) (drop 10 bytes)) (slice_index bytes 5, fields_of n (slice_index bytes 8) (slice_index bytes 9) (drop 10 bytes)) b e in
-    let valid = (and_parts _ _ w.0).1 in
-    let less : slice_index bytes 5 < 3 = ltb-true (slice_index bytes 5) 3 (and_parts _ _ (and_parts _ _ valid).0).0 in
+    let valid : is_valid (slice_index bytes 5) n (slice_index bytes 8) (slice_index bytes 9) (drop 10 bytes) ≡ true = (and_parts _ _ w.0).1 in
+    let less : slice_index bytes 5 < 3 = ltb-true (slice_index bytes 5) 3 (and_parts (nat_lt (slice_index bytes 5) 3) _ (and_parts (sizes_fit (slice_index bytes 5) n (slice_index bytes 8) (slice_index bytes 9)) _ valid).0).0 in
     let same : slice_index bytes 5 ≡ b.0 = ap (λ (p : ℕ × Settings). p.0) w.1 in
     omega (arith, less, same)
 

@@ -1,10 +1,10 @@
 -- A body that spells lists is their spelling, and why a body spells none.
-use Rattle.std.proofs.Common.{◌≡◌, ◌↔◌, ◌⊎◌, inl, inr, ◌≤◌, ◌<◌, ◌+◌, ◌-◌, ◌*◌, ◌==◌, ◌&&◌, cond, ℕ, zero, suc, Bool, true, false, Option, Some, None, List, [], ◌∷◌, ◌++◌, length, take, drop, get_or, map, replicate, slice_index, slice_range, nat_eq, refl, arith, sym, ◌∙◌, ap, subst, length-append, length-drop, append_assoc, take-append-drop}
+use Rattle.std.proofs.Common.{◌≡◌, ◌↔◌, ◌⊎◌, inl, inr, ◌≤◌, ◌<◌, ◌+◌, ◌-◌, ◌*◌, ◌==◌, ◌&&◌, cond, ℕ, zero, suc, Bool, true, false, Option, Some, None, List, [], ◌∷◌, ◌++◌, length, take, drop, get_or, map, replicate, slice_index, slice_range, nat_eq, nat_lt, nat_le, refl, arith, sym, ◌∙◌, ap, subst, length-append, length-drop, append_assoc, take-append-drop}
 use Rattle.std.specs.Int.{w16, to_be_bytes, from_be_bytes}
 use Rattle.std.specs.List.{All, flat_map, list_all, starts_with}
 use Rattle.std.specs.Simd.{first_chunks}
 use Rattle.std.proofs.Math.Seq.{take-add}
-use Rattle.std.proofs.lemmas.List.{drop_more, length-take-le}
+use Rattle.std.proofs.lemmas.List.{drop_more, length-take-le, length-replicate}
 use Rattle.std.proofs.lemmas.Bool.{eqb-true, ltb-true, leb-true, and_parts, and_left, and_right, and_from, cond-true, cond-false, cases_Bool}
 use Rattle.std.proofs.lemmas.Nat.{be_bytes_2}
 use Rattle.std.proofs.lemmas.Slice.Eq.{starts_is}
@@ -37,6 +37,10 @@ whole n m r rest =
     let two : take (n + 6 * m) rest ≡ take n rest ++ take (6 * m) (drop n rest) = take-add n (6 * m) rest in
     let three : take (n + 6 * m + 6 * r) rest ≡ take n rest ++ take (6 * m) (drop n rest) ++ take (6 * r) (drop (n + 6 * m) rest) = take-add (n + 6 * m) (6 * r) rest ∙ ap (λ (l : List ℕ). l ++ take (6 * r) (drop (n + 6 * m) rest)) two in
     sym (take-append-drop (n + 6 * m + 6 * r) rest) ∙ ap (λ (l : List ℕ). l ++ drop (n + 6 * m + 6 * r) rest) three
+
+pub some_when : {X : Type 0} (t : Bool) (x y : X) → cond t (Some x) None ≡ Some y → (t ≡ true) × (x ≡ y)
+some_when true x y e = (refl, cc)
+some_when false x y e = absurd cc
 
 -- why the fields after the numbers aren't valid, and that they are
 
@@ -93,9 +97,103 @@ module _ (body rest : List ℕ) (n m r : ℕ) (en : n ≡ config_len body) (em :
 
 -- a body that spells lists is their spelling
 
-fields_whole : (turn n m r : ℕ) (rest : List ℕ) → n + 6 * m + 6 * r ≤ length rest → list_all (λ b. b == 0) (drop (n + 6 * m + 6 * r) rest) ≡ true
+fields_whole : (n m r : ℕ) (rest : List ℕ) → n + 6 * m + 6 * r ≤ length rest → list_all (λ b. b == 0) (drop (n + 6 * m + 6 * r) rest) ≡ true
     → rest ≡ (fields_of n m r rest).config ++ flat_map (λ a. a.0) (fields_of n m r rest).masks ++ flat_map (λ a. a.0) (fields_of n m r rest).reserves ++ replicate (length rest - (n + 6 * m + 6 * r)) 0
 unfolding fields_of
-fields_whole turn n m r rest fits zeros =
+fields_whole n m r rest fits zeros =
     let tail : drop (n + 6 * m + 6 * r) rest ≡ replicate (length rest - (n + 6 * m + 6 * r)) 0 = only_zeros _ zeros ∙ ap (λ (k : ℕ). replicate k 0) (length-drop (n + 6 * m + 6 * r) rest) in
-    whole n m r rest ∙ (λ i. take n rest ++ joined_pieces m (drop n rest) (~ i) ++ joined_pieces r (drop (n + 6 * m) rest) (~ i) ++ tail i)
+    whole n m r rest ∙ (λ i. take n rest ++ sym (joined_pieces m (drop n rest)) i ++ sym (joined_pieces r (drop (n + 6 * m) rest)) i ++ tail i)
+
+length-config : (n m r : ℕ) (rest : List ℕ) → n ≤ length rest → length (fields_of n m r rest).config ≡ n
+unfolding fields_of
+length-config n m r rest le = length-take-le n rest le
+
+length-masks : (n m r : ℕ) (rest : List ℕ) → length (fields_of n m r rest).masks ≡ m
+unfolding fields_of
+length-masks n m r rest = length-pieces m (drop n rest)
+
+length-reserves : (n m r : ℕ) (rest : List ℕ) → length (fields_of n m r rest).reserves ≡ r
+unfolding fields_of
+length-reserves n m r rest = length-pieces r (drop (n + 6 * m) rest)
+
+assembled : (body : List ℕ) (turn high low m r : ℕ) (rest : List ℕ) (s : Settings) (k : ℕ) → length body ≡ 3584 → body ≡ mark ++ (turn ∷ high ∷ low ∷ m ∷ r ∷ rest) → to_be_bytes w16 (length s.config) ≡ high ∷ low ∷ [] → length s.masks ≡ m → length s.reserves ≡ r
+    → rest ≡ s.config ++ flat_map (λ a. a.0) s.masks ++ flat_map (λ a. a.0) s.reserves ++ replicate k 0 → body ≡ spelling turn s
+unfolding spelling
+assembled body turn high low m r rest s k size is eb em er fields =
+    let all : body ≡ written turn s ++ replicate k 0 = is ∙ (λ i. mark ++ (turn ∷ (sym eb i ++ (sym em i ∷ sym er i ∷ fields i)))) in
+    let pad : k ≡ 3584 - length (written turn s) = omega (arith, ap length all, size, length-append (written turn s) (replicate k 0), length-replicate {A = ℕ} k 0) in
+    all ∙ ap (λ (j : ℕ). written turn s ++ replicate j 0) pad
+
+two_bytes : (high low : ℕ) → high < 256 → low < 256 → (i : ℕ) → get_or (high ∷ low ∷ []) i 0 < 256
+two_bytes high low lh ll zero = lh
+two_bytes high low lh ll (suc zero) = ll
+two_bytes high low lh ll (suc (suc i)) = omega arith
+
+numbers : (body : List ℕ) → length body ≡ 3584 → drop 5 body ≡ get_or body 5 0 ∷ get_or body 6 0 ∷ get_or body 7 0 ∷ get_or body 8 0 ∷ get_or body 9 0 ∷ drop 10 body
+numbers body size =
+    let at : (k : ℕ) → k < 10 → drop k body ≡ get_or body k 0 ∷ drop (k + 1) body = λ k l. drop_more body k 0 (omega (arith, size, l)) in
+    at 5 (omega arith) ∙ ap (λ (l : List ℕ). get_or body 5 0 ∷ l) (at 6 (omega arith) ∙ ap (λ (l : List ℕ). get_or body 6 0 ∷ l) (at 7 (omega arith)
+    ∙ ap (λ (l : List ℕ). get_or body 7 0 ∷ l) (at 8 (omega arith) ∙ ap (λ (l : List ℕ). get_or body 8 0 ∷ l) (at 9 (omega arith)))))
+
+spelling_of : (body : List ℕ) (n m r : ℕ) → length body ≡ 3584 → All (λ b. b < 256) body → n ≡ config_len body → m ≡ get_or body 8 0 → r ≡ get_or body 9 0 → starts_with nat_eq body mark ≡ true → is_valid (get_or body 5 0) n m r (drop 10 body) ≡ true
+    → body ≡ spelling (get_or body 5 0) (fields_of n m r (drop 10 body))
+unfolding is_valid
+spelling_of body n m r size bytes en em er starts valid =
+    let rest = drop 10 body in
+    let f = fields_of n m r rest in
+    let parts = and_parts (sizes_fit (get_or body 5 0) n m r) (is_sound f (drop (n + 6 * m + 6 * r) rest)) valid in
+    let turn_parts = and_parts (nat_lt (get_or body 5 0) 3) (nat_le n 1024 && (nat_le m 64 && nat_le r 64)) parts.0 in
+    let config_parts = and_parts (nat_le n 1024) (nat_le m 64 && nat_le r 64) turn_parts.1 in
+    let list_parts = and_parts (nat_le m 64) (nat_le r 64) config_parts.1 in
+    let zeros = (and_parts (all_unique f.reserves) _ (and_parts (all_unique f.masks) _ parts.1).1).1 in
+    let ln : n ≤ 1024 = leb-true n 1024 config_parts.0 in
+    let lm : m ≤ 64 = leb-true m 64 list_parts.0 in
+    let lr : r ≤ 64 = leb-true r 64 list_parts.1 in
+    let long : length rest ≡ 3574 = omega (arith, size, length-drop 10 body) in
+    let high : get_or body 6 0 < 256 = bytes 6 0 (omega (arith, size)) in
+    let low : get_or body 7 0 < 256 = bytes 7 0 (omega (arith, size)) in
+    let config : length f.config ≡ n = length-config n m r rest (omega (arith, long, ln)) in
+    let written_len : to_be_bytes w16 (length f.config) ≡ get_or body 6 0 ∷ get_or body 7 0 ∷ [] =
+        be_bytes_2 (get_or body 6 0 ∷ get_or body 7 0 ∷ []) (length f.config) refl (two_bytes _ _ high low) (config ∙ en ∙ sym (config_read body size)) in
+    let begins : body ≡ mark ++ drop 5 body = (starts_is {E = nat_eq} Decides-eqb body mark true (sym starts)).0 refl in
+    assembled body (get_or body 5 0) (get_or body 6 0) (get_or body 7 0) (get_or body 8 0) (get_or body 9 0) rest f (length rest - (n + 6 * m + 6 * r)) size
+      (begins ∙ ap (λ (l : List ℕ). mark ++ l) (numbers body size)) written_len (length-masks n m r rest ∙ em) (length-reserves n m r rest ∙ er)
+      (fields_whole n m r rest (omega (arith, long, ln, lm, lr)) zeros)
+
+pub one_spelling : (body : List ℕ) (turn : ℕ) (lists : Settings) → length body ≡ 3584 → All (λ b. b < 256) body → decode body ≡ Some (turn, lists) → body ≡ spelling turn lists
+unfolding decode
+one_spelling body turn lists size bytes e =
+    let n = config_len body in
+    let m = slice_index body 8 in
+    let r = slice_index body 9 in
+    let w = some_when (starts_with nat_eq body mark && is_valid (slice_index body 5) n m r (drop 10 body)) (slice_index body 5, fields_of n m r (drop 10 body)) (turn, lists) e in
+    let both = and_parts (starts_with nat_eq body mark) (is_valid (slice_index body 5) n m r (drop 10 body)) w.0 in
+    spelling_of body n m r size bytes refl refl refl both.0 both.1 ∙ ap (λ (p : ℕ × Settings). spelling p.0 p.1) w.1
+
+-- why a body spells no lists
+
+all_true : {X : Type 0} (a b c d e : Bool) (x : X) → cond (a && (b && (c && (d && e)))) (Some x) None ≡ None → (a ≡ false) ⊎ ((b ≡ false) ⊎ ((c ≡ false) ⊎ ((d ≡ false) ⊎ (e ≡ false))))
+all_true false b c d e x is = inl refl
+all_true true false c d e x is = inr (inl refl)
+all_true true true false d e x is = inr (inr (inl refl))
+all_true true true true false e x is = inr (inr (inr (inl refl)))
+all_true true true true true false x is = inr (inr (inr (inr refl)))
+all_true true true true true true x is = absurd cc
+
+one_false : {X : Type 0} (a b c d e : Bool) (x : X) → (a ≡ false) ⊎ ((b ≡ false) ⊎ ((c ≡ false) ⊎ ((d ≡ false) ⊎ (e ≡ false)))) → cond (a && (b && (c && (d && e)))) (Some x) None ≡ None
+one_false a b c d e x (inl is) = cond-false _ (Some x) None (and_left a _ is)
+one_false a b c d e x (inr (inl is)) = cond-false _ (Some x) None (and_right a _ (and_left b _ is))
+one_false a b c d e x (inr (inr (inl is))) = cond-false _ (Some x) None (and_right a _ (and_right b _ (and_left c _ is)))
+one_false a b c d e x (inr (inr (inr (inl is)))) = cond-false _ (Some x) None (and_right a _ (and_right b _ (and_right c _ (and_left d e is))))
+one_false a b c d e x (inr (inr (inr (inr is)))) = cond-false _ (Some x) None (and_right a _ (and_right b _ (and_right c _ (and_right d e is))))
+
+pub faults : (body : List ℕ) → (decode body ≡ None) ↔ HasFault body
+unfolding decode is_valid
+faults body =
+    let n = config_len body in
+    let m = slice_index body 8 in
+    let r = slice_index body 9 in
+    let f = fields_of n m r (drop 10 body) in
+    let end = drop (n + 6 * m + 6 * r) (drop 10 body) in
+    (all_true (starts_with nat_eq body mark) (sizes_fit (slice_index body 5) n m r) (all_unique f.masks) (all_unique f.reserves) (list_all (λ b. b == 0) end) (slice_index body 5, f),
+     one_false (starts_with nat_eq body mark) (sizes_fit (slice_index body 5) n m r) (all_unique f.masks) (all_unique f.reserves) (list_all (λ b. b == 0) end) (slice_index body 5, f))
