@@ -1,15 +1,15 @@
 -- The same calls over a disk that may tell nothing.
-use Rattle.std.proofs.Common.{◌≡◌, ◌≤◌, ◌+◌, ◌*◌, ℕ, Bool, true, false, Option, Some, None, IfSome, is_some, Result, Ok, Err, OnOk, OnErr, is_ok, List, refl, arith, sym, ◌∙◌, ap, subst}
+use Rattle.std.proofs.Common.{◌≡◌, ◌≤◌, ℕ, Bool, true, false, Option, Some, None, IfSome, is_some, Result, Ok, Err, OnOk, OnErr, is_ok, List, sym, ◌∙◌, ap, subst}
 use Rattle.aoe_lists.specs.Settings.{Settings}
-use Rattle.aoe_disk.specs.State.{Contents, HasShape, BothTell}
+use Rattle.aoe_disk.specs.State.{Contents, BothTell}
 use Rattle.aoe_disk.specs.Calls.{Syncs}
 use Rattle.aoe_disk.specs.Sectors.{Calms}
 use Rattle.aoe_disk.proofs.Touching.{settles_calm, may_settle_calm}
 use Rattle.aoe_keep.specs.Body.{decode}
-use Rattle.aoe_keep.specs.Found.{Finds, body}
+use Rattle.aoe_keep.specs.Found.{body}
 use Rattle.aoe_keep.specs.Stages.{spare, turn_after, IsKept, IsCleared, IsStaged, IsInterrupted, IsOpened, IsReplaced, WritesGate, WritesBody}
 use Rattle.aoe_keep.specs.declared.place.Place.{Place}
-use Rattle.aoe_keep.proofs.Told.{both_map, told_then, told_both, both_then, told_link, told_last, told_also}
+use Rattle.aoe_keep.proofs.Told.{told_then, told_both, both_then, told_link, told_last}
 use Rattle.aoe_keep.proofs.Replacing.{still_closed, close_failed, close_done, clear_failed, clear_done, cleared_finds, body_touched, cleared_calm, stage_done, open_failed, opened, last_failed, replaced}
 
 pub syncs_calm : {T E : Type 0} (result : Result T E) (c d : Contents) → Syncs result c d → Calms c d

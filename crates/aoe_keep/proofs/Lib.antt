@@ -6,6 +6,7 @@ mod Writes
 mod Replacing
 mod Calls
 mod Mounting
+mod Others
 mod Keeping
 mod Uniqueness
 mod Spelling

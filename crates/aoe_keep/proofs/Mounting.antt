@@ -1,5 +1,5 @@
 -- A disk with no loose sector, whose slots were read.
-use Rattle.std.proofs.Common.{◌≡◌, ◌≢◌, ◌⊎◌, ◌≤◌, ◌<◌, ◌+◌, ◌-◌, ◌*◌, ◌%◌, ◌==◌, ◌&&◌, cond, ℕ, zero, suc, Bool, true, false, Option, Some, None, IfSome, Result, Ok, Err, MatchResult, List, length, drop, refl, arith, sym, ◌∙◌, ap, subst, inl, inr, slice_index, nat_eq, nat_lt}
+use Rattle.std.proofs.Common.{◌≡◌, ◌≢◌, ◌⊎◌, ◌<◌, ◌+◌, ◌*◌, ◌==◌, ◌&&◌, cond, ℕ, zero, suc, Bool, true, false, Option, Some, None, IfSome, Result, Ok, Err, MatchResult, List, drop, refl, arith, sym, ◌∙◌, ap, subst, inl, inr, slice_index, nat_eq, nat_lt}
 use Rattle.std.specs.List.{starts_with}
 use Rattle.std.proofs.lemmas.Bool.{eqb-true, and_parts, ltb-true}
 use Rattle.aoe_lists.specs.Settings.{Settings, empty_settings}
@@ -9,7 +9,7 @@ use Rattle.aoe_disk.specs.Sectors.{Calms}
 use Rattle.aoe_disk.proofs.Touching.{settles_calm, settles_kept}
 use Rattle.aoe_keep.specs.Body.{mark, decode, is_valid, sizes_fit, config_len, fields_of}
 use Rattle.aoe_keep.specs.Found.{slot, body, is_open, next_turn, choice, found, Finds}
-use Rattle.aoe_keep.specs.Stages.{StaysClosed, StaysBody, StaysOpen, IsKept, placement}
+use Rattle.aoe_keep.specs.Stages.{StaysClosed, StaysOpen, IsKept, placement}
 use Rattle.aoe_keep.specs.Keep.{ReadsSlots}
 use Rattle.aoe_keep.specs.declared.place.Place.{Place}
 use Rattle.aoe_keep.specs.declared.mount.Present.{Present}
@@ -23,7 +23,7 @@ unfolding decode is_valid
 turn_small bytes b e =
     let n = config_len bytes in
     let w = some_when (starts_with nat_eq bytes mark && is_valid (slice_index bytes 5) n (slice_index bytes 8) (slice_index bytes 9) (drop 10 bytes)) (slice_index bytes 5, fields_of n (slice_index bytes 8) (slice_index bytes 9) (drop 10 bytes)) b e in
-    let valid : is_valid (slice_index bytes 5) n (slice_index bytes 8) (slice_index bytes 9) (drop 10 bytes) ≡ true = (and_parts _ _ w.0).1 in
+    let valid : is_valid (slice_index bytes 5) n (slice_index bytes 8) (slice_index bytes 9) (drop 10 bytes) ≡ true = (and_parts (starts_with nat_eq bytes mark) (is_valid (slice_index bytes 5) n (slice_index bytes 8) (slice_index bytes 9) (drop 10 bytes)) w.0).1 in
     let less : slice_index bytes 5 < 3 = ltb-true (slice_index bytes 5) 3 (and_parts (nat_lt (slice_index bytes 5) 3) _ (and_parts (sizes_fit (slice_index bytes 5) n (slice_index bytes 8) (slice_index bytes 9)) _ valid).0).0 in
     let same : slice_index bytes 5 ≡ b.0 = ap (λ (p : ℕ × Settings). p.0) w.1 in
     omega (arith, less, same)
@@ -112,9 +112,11 @@ Chooses o p r = MatchResult r (λ f. (choice o p ≡ Ok f.lists) × (placement o
 
 read_told : (r : Result Present ℕ) (o p : Option (Option (ℕ × Settings))) (a b : Contents) → Settles a b → slot b.bytes 0 ≡ o → slot b.bytes 1 ≡ p → Chooses o p r → ReadsSlots r a b
 read_told (Ok f) o p a b settles e g h =
-    let there : found b.bytes ≡ Ok f.lists = (λ i. choice (e i) (g i)) ∙ h.0 in
-    (ap found (sym settles.bytes) ∙ there, settles,
-    subst (λ (q : Option Place × Bool). IsKept q.0 q.1 f.lists b) h.1 (kept_from b (settles_kept a b settles) o p f.lists e g h.0))
+    let there : found b.bytes ≡ Ok f.lists = (λ i. choice (e i) (g i)) ∙ h.0 in (
+      ap found (sym settles.bytes) ∙ there,
+      settles,
+      subst (λ (q : Option Place × Bool). IsKept q.0 q.1 f.lists b) h.1 (kept_from b (settles_kept a b settles) o p f.lists e g h.0),
+    )
 read_told (Err k) o p a b settles e g h = (ap found (sym settles.bytes) ∙ (λ i. choice (e i) (g i)) ∙ h, settles)
 
 at_once : (r : Result Present ℕ) (o p : Option (Option (ℕ × Settings))) (a b : Option Contents) → BothTell Settles a b → IfSome b (λ x. slot x.bytes 0 ≡ o) → IfSome b (λ x. slot x.bytes 1 ≡ p) → Chooses o p r → BothTell (ReadsSlots r) a b

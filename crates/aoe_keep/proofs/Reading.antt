@@ -1,19 +1,18 @@
 -- A body that spells lists is their spelling, and why a body spells none.
-use Rattle.std.proofs.Common.{◌≡◌, ◌↔◌, ◌⊎◌, inl, inr, ◌≤◌, ◌<◌, ◌+◌, ◌-◌, ◌*◌, ◌==◌, ◌&&◌, cond, ℕ, zero, suc, Bool, true, false, Option, Some, None, List, [], ◌∷◌, ◌++◌, length, take, drop, get_or, map, replicate, slice_index, slice_range, nat_eq, nat_lt, nat_le, refl, arith, sym, ◌∙◌, ap, subst, length-append, length-drop, append_assoc, take-append-drop}
+use Rattle.std.proofs.Common.{◌≡◌, ◌↔◌, ◌⊎◌, inl, inr, ◌≤◌, ◌<◌, ◌+◌, ◌-◌, ◌*◌, ◌==◌, ◌&&◌, cond, ℕ, zero, suc, Bool, true, false, Some, None, List, [], ◌∷◌, ◌++◌, length, take, drop, get_or, replicate, slice_index, nat_eq, nat_lt, nat_le, refl, arith, sym, ◌∙◌, ap, length-append, length-drop, take-append-drop}
 use Rattle.std.specs.Int.{w16, to_be_bytes, from_be_bytes}
 use Rattle.std.specs.List.{All, flat_map, list_all, starts_with}
 use Rattle.std.specs.Simd.{first_chunks}
 use Rattle.std.proofs.Math.Seq.{take-add}
 use Rattle.std.proofs.lemmas.List.{drop_more, length-take-le, length-replicate}
-use Rattle.std.proofs.lemmas.Bool.{eqb-true, ltb-true, leb-true, and_parts, and_left, and_right, and_from, cond-true, cond-false, cases_Bool}
+use Rattle.std.proofs.lemmas.Bool.{eqb-true, leb-true, and_parts, and_left, and_right, and_from, cond-true, cond-false}
 use Rattle.std.proofs.lemmas.Nat.{be_bytes_2}
 use Rattle.std.proofs.lemmas.Slice.Eq.{starts_is}
 use Rattle.std.proofs.lemmas.Bool.Decides.{Decides-eqb}
-use Rattle.aoe_base.specs.declared.address.Mac.{Mac}
 use Rattle.aoe_lists.specs.Addresses.{all_unique}
 use Rattle.aoe_lists.specs.Reserves.{addresses}
 use Rattle.aoe_lists.specs.Settings.{Settings}
-use Rattle.aoe_keep.specs.Body.{mark, Fits, fields_of, is_valid, is_sound, sizes_fit, config_len, decode, spelling, written, head_of, HasFault}
+use Rattle.aoe_keep.specs.Body.{mark, fields_of, is_valid, is_sound, sizes_fit, config_len, decode, spelling, written, HasFault}
 
 joined_pieces : (m : ℕ) (xs : List ℕ) → flat_map (λ a. a.0) (addresses (first_chunks 6 m xs)) ≡ take (6 * m) xs
 joined_pieces zero xs = refl
@@ -154,11 +153,11 @@ spelling_of body n m r size bytes en em er starts valid =
     let low : get_or body 7 0 < 256 = bytes 7 0 (omega (arith, size)) in
     let config : length f.config ≡ n = length-config n m r rest (omega (arith, long, ln)) in
     let written_len : to_be_bytes w16 (length f.config) ≡ get_or body 6 0 ∷ get_or body 7 0 ∷ [] =
-        be_bytes_2 (get_or body 6 0 ∷ get_or body 7 0 ∷ []) (length f.config) refl (two_bytes _ _ high low) (config ∙ en ∙ sym (config_read body size)) in
+    be_bytes_2 (get_or body 6 0 ∷ get_or body 7 0 ∷ []) (length f.config) refl (two_bytes _ _ high low) (config ∙ en ∙ sym (config_read body size)) in
     let begins : body ≡ mark ++ drop 5 body = (starts_is {E = nat_eq} Decides-eqb body mark true (sym starts)).0 refl in
     assembled body (get_or body 5 0) (get_or body 6 0) (get_or body 7 0) (get_or body 8 0) (get_or body 9 0) rest f (length rest - (n + 6 * m + 6 * r)) size
-      (begins ∙ ap (λ (l : List ℕ). mark ++ l) (numbers body size)) written_len (length-masks n m r rest ∙ em) (length-reserves n m r rest ∙ er)
-      (fields_whole n m r rest (omega (arith, long, ln, lm, lr)) zeros)
+    (begins ∙ ap (λ (l : List ℕ). mark ++ l) (numbers body size)) written_len (length-masks n m r rest ∙ em) (length-reserves n m r rest ∙ er)
+    (fields_whole n m r rest (omega (arith, long, ln, lm, lr)) zeros)
 
 pub one_spelling : (body : List ℕ) (turn : ℕ) (lists : Settings) → length body ≡ 3584 → All (λ b. b < 256) body → decode body ≡ Some (turn, lists) → body ≡ spelling turn lists
 unfolding decode
@@ -194,6 +193,7 @@ faults body =
     let m = slice_index body 8 in
     let r = slice_index body 9 in
     let f = fields_of n m r (drop 10 body) in
-    let end = drop (n + 6 * m + 6 * r) (drop 10 body) in
-    (all_true (starts_with nat_eq body mark) (sizes_fit (slice_index body 5) n m r) (all_unique f.masks) (all_unique f.reserves) (list_all (λ b. b == 0) end) (slice_index body 5, f),
-     one_false (starts_with nat_eq body mark) (sizes_fit (slice_index body 5) n m r) (all_unique f.masks) (all_unique f.reserves) (list_all (λ b. b == 0) end) (slice_index body 5, f))
+    let end = drop (n + 6 * m + 6 * r) (drop 10 body) in (
+      all_true (starts_with nat_eq body mark) (sizes_fit (slice_index body 5) n m r) (all_unique f.masks) (all_unique f.reserves) (list_all (λ b. b == 0) end) (slice_index body 5, f),
+      one_false (starts_with nat_eq body mark) (sizes_fit (slice_index body 5) n m r) (all_unique f.masks) (all_unique f.reserves) (list_all (λ b. b == 0) end) (slice_index body 5, f),
+    )

@@ -1,5 +1,5 @@
 -- The six device calls of a replacement, over contents that are told.
-use Rattle.std.proofs.Common.{◌≡◌, ◌≢◌, ◌⊎◌, ◌≤◌, ◌<◌, ◌+◌, ◌-◌, ◌*◌, ◌%◌, ◌==◌, cond, ℕ, zero, suc, Bool, true, false, Option, Some, None, Result, Ok, Err, List, refl, arith, sym, ◌∙◌, ap, subst, inl, inr}
+use Rattle.std.proofs.Common.{◌≡◌, ◌≢◌, ◌⊎◌, ◌≤◌, ◌<◌, ◌+◌, ◌-◌, ◌*◌, ℕ, zero, suc, true, false, Option, Some, None, Result, Ok, List, refl, arith, sym, ◌∙◌, ap, subst, inl, inr}
 use Rattle.std.proofs.lemmas.Bool.{eq-eqb}
 use Rattle.aoe_lists.specs.Settings.{Settings}
 use Rattle.aoe_disk.specs.State.{Contents, HasShape, is_loose}
@@ -7,8 +7,8 @@ use Rattle.aoe_disk.specs.Calls.{Settles}
 use Rattle.aoe_disk.specs.Sectors.{Touches, Calms}
 use Rattle.aoe_disk.proofs.Touching.{settles_calm, settles_kept}
 use Rattle.aoe_keep.specs.Body.{decode}
-use Rattle.aoe_keep.specs.Found.{body, is_open, next_turn, found, CanFind, Finds, IsOffered}
-use Rattle.aoe_keep.specs.Stages.{NoneLoose, StaysClosed, StaysBody, StaysOpen, spare, turn_after, is_unplaced, next_place, IsSteady, IsOtherTurn, IsReady, IsSpare, IsKept, IsCleared, IsStaged, IsOpened, IsInterrupted, IsReplaced}
+use Rattle.aoe_keep.specs.Found.{body, is_open, next_turn, CanFind, Finds, IsOffered}
+use Rattle.aoe_keep.specs.Stages.{NoneLoose, StaysBody, StaysOpen, spare, turn_after, is_unplaced, next_place, IsSteady, IsOtherTurn, IsReady, IsSpare, IsKept, IsCleared, IsStaged, IsOpened, IsInterrupted, IsReplaced}
 use Rattle.aoe_keep.specs.declared.place.Place.{Place}
 use Rattle.aoe_keep.proofs.Slots.{outcome, spare_small, found_by, open_after}
 use Rattle.aoe_keep.proofs.Steps.{IsWithin, closed_touch, body_touch, steady_touch, gate_calm, closed_calm, body_calm, steady_calm, kept_calm, finds_calm, finds_closed, finds_ready, could, weaker, kept_finds}
@@ -68,7 +68,7 @@ module _ (place : Option Place) (lists next : Settings) where
 
     finds : Finds (IsOffered lists next c) d
     finds = weaker _ _ d
-        (λ l o. elim o [ | inl e ↦ inl e | inr e ↦ inr (inr (subst (CanFind c) (sym e) (could place lists c kept.steady sectors kept.spare.0 shape room kept.spare.1 kept.spare.2))) ])
+        (λ l o. elim o [ inl e ↦ inl e | inr e ↦ inr (inr (subst (CanFind c) (sym e) (could place lists c kept.steady sectors kept.spare.0 shape room kept.spare.1 kept.spare.2))) ])
         (finds_ready place lists d steady kept.spare.0 ready)
 
     pub close_failed : is_loose d.loose (8 * spare place) ≡ true → IsInterrupted place false lists next c d
@@ -120,7 +120,7 @@ module _ (place : Option Place) (lists next : Settings) where
       record {
         kept = record { steady = steady; spare = ((turn_after place, next), ready, gate) };
         finds = weaker _ _ d
-            (λ l o. elim o [ | inl e ↦ inl e | inr e ↦ inr (inl (e ∙ outcome_next place lists next)) ])
+            (λ l o. elim o [ inl e ↦ inl e | inr e ↦ inr (inl (e ∙ outcome_next place lists next)) ])
             (finds_ready place lists d steady (turn_after place, next) ready);
       }
 
@@ -152,6 +152,10 @@ module _ (place : Option Place) (lists next : Settings) where
       let small : spare place < 2 = omega (arith, spare_small place) in
       record {
         kept = record { steady = (small, turn_after_small place lists d steady, holds); spare = spare_after place lists d steady };
-        finds = λ image left. (next, found_by place lists d image (Some (turn_after place, next)) steady left (open_after d (spare place) (turn_after place, next) image holds left) (other_turn place lists d steady)
-            ∙ ap (λ (x : Settings). let r : Result Settings ℕ = Ok x in r) (outcome_next place lists next), refl);
+        finds = λ image left. (
+          next,
+          found_by place lists d image (Some (turn_after place, next)) steady left (open_after d (spare place) (turn_after place, next) image holds left) (other_turn place lists d steady)
+              ∙ ap (λ (x : Settings). let r : Result Settings ℕ = Ok x in r) (outcome_next place lists next),
+          refl,
+        );
       }

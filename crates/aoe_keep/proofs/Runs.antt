@@ -1,5 +1,5 @@
 -- Device calls one after another, at the exits of a function.
-use Rattle.std.proofs.Common.{◌≡◌, ◌∙◌, ◌≤◌, ◌+◌, ℕ, Bool, true, false, Result, Ok, Err, is_err, refl, arith, subst, sym, ap}
+use Rattle.std.proofs.Common.{◌≡◌, ◌≤◌, ◌+◌, ℕ, Bool, true, false, Result, Ok, Err, is_err, arith, subst, sym, ap}
 use Rattle.aoe_disk.specs.State.{DiskState}
 use Rattle.aoe_disk.specs.Calls.{IsRun}
 use Rattle.aoe_disk.proofs.Runs.{run_then, run_stop}

@@ -1,8 +1,8 @@
 -- What a crash leaves of the two slots.
-use Rattle.std.proofs.Common.{◌≡◌, ◌≢◌, ◌⊎◌, ◌≤◌, ◌<◌, ◌+◌, ◌-◌, ◌*◌, ◌%◌, ◌==◌, cond, ℕ, zero, suc, Bool, true, false, Option, Some, None, Result, Ok, Err, List, length, take, drop, get_or, set, refl, arith, sym, ◌∙◌, ap, inl, inr}
+use Rattle.std.proofs.Common.{◌≡◌, ◌≢◌, ◌⊎◌, ◌≤◌, ◌<◌, ◌+◌, ◌-◌, ◌*◌, ◌==◌, cond, ℕ, zero, suc, true, false, Option, Some, None, Result, Ok, List, length, take, drop, get_or, set, refl, arith, sym, ◌∙◌, ap, inl, inr}
 use Rattle.std.proofs.lemmas.Bool.{cases_eq, cases_lt, eq-eqb, ne_eqb, cases_Bool, both_ways, cond-true, cond-false}
 use Rattle.std.proofs.lemmas.List.{length-set, drop-set-lt, get_or-set_same, get_or-take, get_or-drop, take-set-le}
-use Rattle.aoe_lists.specs.Settings.{Settings, empty_settings}
+use Rattle.aoe_lists.specs.Settings.{Settings}
 use Rattle.aoe_disk.specs.State.{Contents, CanLeave, HasShape, sector, is_loose}
 use Rattle.aoe_disk.proofs.Touching.{range_same, sector_front, sector_back}
 use Rattle.aoe_keep.specs.Body.{decode}

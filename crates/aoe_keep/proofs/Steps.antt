@@ -1,12 +1,12 @@
 -- What device calls leave of what a keep knows.
-use Rattle.std.proofs.Common.{◌≡◌, ◌≢◌, ◌⊎◌, ◌≤◌, ◌<◌, ◌+◌, ◌-◌, ◌*◌, ◌%◌, ◌==◌, cond, ℕ, zero, suc, Bool, true, false, Option, Some, None, Result, Ok, Err, List, length, refl, arith, sym, ◌∙◌, ap, inl, inr}
+use Rattle.std.proofs.Common.{◌≡◌, ◌⊎◌, ◌≤◌, ◌<◌, ◌+◌, ◌-◌, ◌*◌, ℕ, Bool, true, false, Option, Some, None, List, length, refl, arith, ◌∙◌, ap, inl, inr}
 use Rattle.std.proofs.lemmas.Bool.{cases_lt}
 use Rattle.aoe_lists.specs.Settings.{Settings}
 use Rattle.aoe_disk.specs.State.{Contents, CanLeave, HasShape, sector, is_loose}
 use Rattle.aoe_disk.specs.Sectors.{Touches, IsOutside, Calms}
 use Rattle.aoe_keep.specs.Body.{decode}
-use Rattle.aoe_keep.specs.Found.{slot, body, is_open, found, CanFind, Finds}
-use Rattle.aoe_keep.specs.Stages.{NoneLoose, StaysClosed, StaysBody, StaysOpen, spare, IsSteady, IsOtherTurn, IsReady, IsSpare, IsKept}
+use Rattle.aoe_keep.specs.Found.{body, is_open, CanFind, Finds}
+use Rattle.aoe_keep.specs.Stages.{NoneLoose, StaysClosed, StaysBody, spare, IsSteady, IsReady, IsKept}
 use Rattle.aoe_keep.specs.declared.place.Place.{Place}
 use Rattle.aoe_keep.proofs.Slots.{Agree, gate_same, body_same, closed_after, body_after, outcome, found_by, spare_small, reopened}
 
@@ -38,12 +38,15 @@ apart k lo n s lk low high l h = elim (cases_lt s lo) [
 pub steady_touch : (place : Option Place) (lists : Settings) (lo n : ℕ) (old new : Contents) → IsWithin place lo n → Touches lo n old new → IsSteady place lists old → IsSteady place lists new
 steady_touch None lists lo n old new within touch steady = (steady.0, closed_touch lo n old new touch 1 (λ s l h. inr (omega (arith, within.high))) steady.1)
 steady_touch (Some p) lists lo n old new within touch steady =
-    let out : (s : ℕ) → 8 * p.slot ≤ s → s < 8 * p.slot + 8 → IsOutside lo n s = λ s l h. apart p.slot lo n s steady.0 within.low within.high l h in
-    (steady.0, steady.1, record {
-      gate = gate_same new.bytes old.bytes p.slot (same_touch lo n old new touch (8 * p.slot) 1 (λ s l h. out s (omega arith) (omega arith))) ∙ steady.2.gate;
-      kept = kept_touch lo n old new touch (8 * p.slot) 1 (λ s l h. out s (omega arith) (omega arith)) steady.2.kept;
-      body = body_touch lo n old new touch p.slot (p.turn, lists) (λ s l h. out s (omega arith) (omega arith)) steady.2.body;
-    })
+    let out : (s : ℕ) → 8 * p.slot ≤ s → s < 8 * p.slot + 8 → IsOutside lo n s = λ s l h. apart p.slot lo n s steady.0 within.low within.high l h in (
+      steady.0,
+      steady.1,
+      record {
+        gate = gate_same new.bytes old.bytes p.slot (same_touch lo n old new touch (8 * p.slot) 1 (λ s l h. out s (omega arith) (omega arith))) ∙ steady.2.gate;
+        kept = kept_touch lo n old new touch (8 * p.slot) 1 (λ s l h. out s (omega arith) (omega arith)) steady.2.kept;
+        body = body_touch lo n old new touch p.slot (p.turn, lists) (λ s l h. out s (omega arith) (omega arith)) steady.2.body;
+      },
+    )
 
 -- a sync, failed or not
 module _ (old new : Contents) (calm : Calms old new) where
@@ -64,20 +67,27 @@ module _ (old new : Contents) (calm : Calms old new) where
 
   pub steady_calm : (place : Option Place) (lists : Settings) → IsSteady place lists old → IsSteady place lists new
   steady_calm None lists steady = (steady.0, closed_calm 1 steady.1)
-  steady_calm (Some p) lists steady = (steady.0, steady.1, record {
-    gate = gate_calm p.slot true steady.2.gate;
-    kept = λ s l h. calm.kept s (steady.2.kept s l h);
-    body = body_calm p.slot (p.turn, lists) steady.2.body;
-  })
+  steady_calm (Some p) lists steady = (
+    steady.0,
+    steady.1,
+    record {
+      gate = gate_calm p.slot true steady.2.gate;
+      kept = λ s l h. calm.kept s (steady.2.kept s l h);
+      body = body_calm p.slot (p.turn, lists) steady.2.body;
+    },
+  )
 
   -- what is known of a closed gate stays known
   pub kept_calm : (place : Option Place) (lists : Settings) → IsKept place true lists old → IsKept place true lists new
   kept_calm place lists kept = record {
     steady = steady_calm place lists kept.steady;
-    spare = (gate_calm (spare place) false kept.spare.0, elim kept.spare.1 [
-      | inl closed ↦ inl (closed_calm (spare place) closed)
-      | inr ready ↦ inr (ready.0, record { body = body_calm (spare place) ready.0 ready.1.body; turn = ready.1.turn })
-    ]);
+    spare = (
+      gate_calm (spare place) false kept.spare.0,
+      elim kept.spare.1 [
+        | inl closed ↦ inl (closed_calm (spare place) closed)
+        | inr ready ↦ inr (ready.0, record { body = body_calm (spare place) ready.0 ready.1.body; turn = ready.1.turn })
+      ],
+    );
   }
 
 pub weaker : (P Q : Settings → Type 0) (c : Contents) → ((l : Settings) → P l → Q l) → Finds P c → Finds Q c

@@ -1,12 +1,12 @@
 -- Writes of gates and of bodies.
-use Rattle.std.proofs.Common.{◌≡◌, ◌≤◌, ◌<◌, ◌+◌, ◌*◌, ◌/◌, ◌==◌, ℕ, Bool, true, false, Option, Some, None, IfSome, Result, Ok, Err, List, length, take, drop, get_or, refl, arith, sym, ◌∙◌, ap, subst}
+use Rattle.std.proofs.Common.{◌≡◌, ◌≤◌, ◌+◌, ◌*◌, ◌/◌, ◌==◌, ℕ, Bool, Result, Ok, Err, List, length, take, drop, get_or, refl, arith, sym, ◌∙◌, ap, subst}
 use Rattle.std.proofs.lemmas.List.{take_at}
-use Rattle.aoe_disk.specs.State.{Contents, DiskState, HasShape, BothTell, sector, is_loose, with_piece}
+use Rattle.aoe_disk.specs.State.{Contents, DiskState, HasShape, BothTell, sector, is_loose}
 use Rattle.aoe_disk.specs.Calls.{Writes, WritesTo, IsRange}
 use Rattle.aoe_disk.specs.Sectors.{Touches}
 use Rattle.aoe_disk.proofs.Pieces.{drop_start-with_piece, is_loose-with_marks_inside}
 use Rattle.aoe_disk.proofs.Touching.{puts_touch, spoils_touch, sector-with_sector}
-use Rattle.aoe_keep.specs.Found.{body, is_open}
+use Rattle.aoe_keep.specs.Found.{body}
 use Rattle.aoe_keep.specs.Stages.{WritesGate, WritesBody}
 use Rattle.aoe_keep.proofs.Told.{told_both}
 

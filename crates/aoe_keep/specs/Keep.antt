@@ -1,12 +1,11 @@
 -- A keep, and what its calls come to.
-use Rattle.std.specs.Prelude.{◌≡◌, ◌≤◌, ◌<◌, ℕ, Bool, true, false, Option, IfSome, List, Result, Ok, Err}
+use Rattle.std.specs.Prelude.{◌≡◌, ◌≤◌, ◌<◌, ℕ, Bool, true, false, IfSome, Result, Ok, Err}
 use Rattle.aoe_lists.specs.Settings.{Settings}
 use Rattle.aoe_disk.specs.State.{DiskState, Contents, BothTell}
 use Rattle.aoe_disk.specs.Calls.{IsRun, Settles}
-use Rattle.aoe_disk.specs.Sectors.{Calms}
+use Rattle.aoe_disk.specs.Sectors.{Calms, Touches}
 use Rattle.aoe_keep.specs.Found.{found, AlwaysFinds}
 use Rattle.aoe_keep.specs.Stages.{IsKept, IsCleared, IsStaged, IsInterrupted, IsReplaced}
-use Rattle.aoe_keep.specs.declared.place.Place.{Place}
 use Rattle.aoe_keep.specs.declared.mounted.Mounted.{Mounted}
 use Rattle.aoe_keep.specs.declared.mount.Present.{Present}
 use Rattle.aoe_keep.specs.declared.refusal.MountRefusal.{MountRefusal}
@@ -16,6 +15,10 @@ use Rattle.aoe_keep.specs.declared.refusal.MountRefusal.TheVariants.{Failed, Too
 pub record Kept (D : Type 0) : Type 0 where
   pub disk : D
   pub lists : Settings
+
+-- of a disk that tells its contents: all but the 16 sectors of a keep are as they were, and none of them is newly loose
+pub record KeepsOthers (old new : DiskState) : Type 0 where
+  pub contents : BothTell (Touches 0 16) old.contents new.contents
 
 -- what a keep knows of its disk between two replacements
 pub record IsMounted {D : Type 0} (state : D → DiskState) (k : Mounted D) : Type 0 where

@@ -2,11 +2,11 @@
 ghost use Rattle.std.specs.Prelude.{◌≡◌, ◌≤◌, OnOk, OnErr, IfOk, IfErr, is_err};
 ghost use Rattle.aoe_disk.specs.Calls.{IsRun};
 ghost use Rattle.aoe_keep.specs.Found.{AlwaysFinds, FindsOffered};
-ghost use Rattle.aoe_keep.specs.Keep.{Mounts, IsRefused};
+ghost use Rattle.aoe_keep.specs.Keep.{Mounts, IsRefused, KeepsOthers};
 
+use crate::MountRefusal;
 use crate::mount::mount;
 use crate::mounted::Mounted;
-use crate::MountRefusal;
 use aoe_base::Failed;
 use aoe_disk::{Arm, Armed, Disk};
 use aoe_lists::Lists;
@@ -56,6 +56,7 @@ impl<D: Disk> Keep<D> {
         ensures finds { OnOk result (AlwaysFinds (D.state self.new.disk) next.now) }
         ensures stays { OnErr result (self.new.lists ≡ self.old.lists) }
         ensures offered { OnErr result (FindsOffered (D.state self.old.disk) (D.state self.new.disk) self.old.lists next.now) }
+        ensures others { KeepsOthers (D.state self.old.disk) (D.state self.new.disk) }
         ensures run { IsRun 6 (is_err result) (D.state self.old.disk) (D.state self.new.disk) }
     {
         self.mounted.replace(next)

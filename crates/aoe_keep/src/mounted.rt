@@ -3,7 +3,7 @@ ghost use Rattle.std.specs.Prelude.{◌≡◌, ◌≤◌, ◌<◌, ◌+◌, ◌*
 ghost use Rattle.aoe_disk.specs.State.{BothTell};
 ghost use Rattle.aoe_disk.specs.Calls.{IsRun};
 ghost use Rattle.aoe_keep.specs.Stages.{WritesGate, WritesBody};
-ghost use Rattle.aoe_keep.specs.Keep.{IsMounted, HasCleared, HasStaged, HasOpened, HasHalfOpened, HasReplaced, HasFailed};
+ghost use Rattle.aoe_keep.specs.Keep.{IsMounted, HasCleared, HasStaged, HasOpened, HasHalfOpened, HasReplaced, HasFailed, KeepsOthers};
 
 use crate::body::spell;
 use crate::place::{Place, spare_slot, spare_turn};
@@ -44,6 +44,7 @@ fn write_gate<D: Disk>(disk: &mut D, slot: u8, opens: bool) -> Result<(), Failed
     ensures call { IsRun 1 (is_err result) (D.state disk.old) (D.state disk.new) }
     ensures gate { BothTell (WritesGate (D.state disk.old).sectors slot opens result)
         (D.state disk.old).contents (D.state disk.new).contents }
+    ensures others { KeepsOthers (D.state disk.old) (D.state disk.new) }
 {
     let gate = gate_of(opens);
     disk.write(8 * u64::from(slot), &gate)
@@ -57,6 +58,7 @@ fn write_body<D: Disk>(disk: &mut D, slot: u8, body: &[u8]) -> Result<(), Failed
     ensures call { IsRun 1 (is_err result) (D.state disk.old) (D.state disk.new) }
     ensures body { BothTell (WritesBody slot body.now result)
         (D.state disk.old).contents (D.state disk.new).contents }
+    ensures others { KeepsOthers (D.state disk.old) (D.state disk.new) }
 {
     disk.write(8 * u64::from(slot) + 1, body)
 }
@@ -69,6 +71,7 @@ impl<D: Disk> Mounted<D> {
         ensures closed { OnOk result (self.new.is_closed ≡ true) }
         ensures kept { HasFailed D.state next.now self.old self.new }
         ensures place { self.new.place ≡ self.old.place }
+        ensures others { KeepsOthers (D.state self.old.disk) (D.state self.new.disk) }
         ensures run { IsRun 1 (is_err result) (D.state self.old.disk) (D.state self.new.disk) }
     {
         if self.is_closed {
@@ -86,6 +89,7 @@ impl<D: Disk> Mounted<D> {
         ensures err { OnErr result (HasFailed D.state next.now self.old self.new) }
         ensures lists { self.new.lists ≡ self.old.lists }
         ensures place { self.new.place ≡ self.old.place }
+        ensures others { KeepsOthers (D.state self.old.disk) (D.state self.new.disk) }
         ensures run { IsRun 2 (is_err result) (D.state self.old.disk) (D.state self.new.disk) }
     {
         self.close_gate(next)?;
@@ -99,6 +103,7 @@ impl<D: Disk> Mounted<D> {
         ensures err { OnErr result (HasCleared D.state self.new) }
         ensures lists { self.new.lists ≡ self.old.lists }
         ensures place { self.new.place ≡ self.old.place }
+        ensures others { KeepsOthers (D.state self.old.disk) (D.state self.new.disk) }
         ensures run { IsRun 2 (is_err result) (D.state self.old.disk) (D.state self.new.disk) }
     {
         let body = spell(spare_turn(self.place), next);
@@ -113,6 +118,7 @@ impl<D: Disk> Mounted<D> {
         ensures err { OnErr result (HasHalfOpened D.state next.now self.new) }
         ensures lists { self.new.lists ≡ self.old.lists }
         ensures place { self.new.place ≡ self.old.place }
+        ensures others { KeepsOthers (D.state self.old.disk) (D.state self.new.disk) }
         ensures run { IsRun 2 (is_err result) (D.state self.old.disk) (D.state self.new.disk) }
     {
         self.is_closed = false;
@@ -125,6 +131,7 @@ impl<D: Disk> Mounted<D> {
         requires { IsMounted D.state self.old }
         ensures ok { OnOk result (HasReplaced D.state next.now self.new) }
         ensures err { OnErr result (HasFailed D.state next.now self.old self.new) }
+        ensures others { KeepsOthers (D.state self.old.disk) (D.state self.new.disk) }
         ensures run { IsRun 6 (is_err result) (D.state self.old.disk) (D.state self.new.disk) }
     {
         self.clear(next)?;

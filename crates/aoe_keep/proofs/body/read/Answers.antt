@@ -1,4 +1,4 @@
-use Rattle.std.proofs.Common.{◌≡◌, ◌∙◌, sym, length, take, drop, ◌-◌}
+use Rattle.std.proofs.Common.{◌∙◌, sym}
 use Rattle.std.proofs.lemmas.List.{take_rest}
 use Rattle.aoe_keep.proofs.Reading.{config_read, decode_no_mark, decode_invalid, decode_valid}
 use Rattle.aoe_keep.proofs.body.read.Goals as goal

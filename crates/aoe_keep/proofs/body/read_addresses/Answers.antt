@@ -1,4 +1,4 @@
-use Rattle.std.proofs.Common.{◌≡◌, ◌∙◌, ℕ, List, [], get_or, ap, sym, arith, rules}
+use Rattle.std.proofs.Common.{◌∙◌, ℕ, List, [], get_or, ap, sym, arith, rules}
 use Rattle.std.proofs.lemmas.Grind.{common_steps}
 use Rattle.std.proofs.lemmas.List.{map_push}
 use Rattle.aoe_lists.specs.Addresses.{holds, all_unique}

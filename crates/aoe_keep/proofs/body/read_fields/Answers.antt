@@ -1,4 +1,4 @@
-use Rattle.std.proofs.Common.{◌≡◌, ◌∙◌, ℕ, List, rules, ap, sym, length, take, drop, ◌+◌, ◌*◌, ◌-◌}
+use Rattle.std.proofs.Common.{◌≡◌, ◌∙◌, ℕ, List, rules, ap, sym, ◌+◌, ◌*◌}
 use Rattle.std.specs.Simd.{first_chunks}
 use Rattle.std.proofs.lemmas.List.{take_rest}
 use Rattle.aoe_lists.specs.Reserves.{addresses}
@@ -23,7 +23,9 @@ pub returns : goal.returns
 returns c =
     let s : Settings = record { config = c.try_extend_from_slice.new.self.items; masks = c.in_ok-masks.masks.items; reserves = c.in_ok-reserves.reserves.items } in
     let is : s ≡ fields_of c.args.config c.args.masks c.args.reserves c.args.rest.now = all_fields c.args.turn c.args.config c.args.masks c.args.reserves c.args.rest.now s (search rules)
-        (c.in_ok-masks.ensures.0 ∙ ap (λ (l : List ℕ). addresses (first_chunks 6 c.args.masks l)) (take_rest c.args.rest.now c.args.config))
-        (c.in_ok-reserves.ensures.0 ∙ ap (λ (l : List ℕ). addresses (first_chunks 6 c.args.reserves l)) (take_rest c.args.rest.now (c.args.config + 6 * c.args.masks))) in
-    (all_valid c.args.turn c.args.config c.args.masks c.args.reserves c.args.rest.now s _ is (take_rest c.args.rest.now (c.args.config + 6 * c.args.masks + 6 * c.args.reserves)) (search rules) c.in_ok-masks.ensures.1 c.in_ok-reserves.ensures.1
-        (sym c.are_zeros.ensures ∙ c.if-not-are_zeros.false), is)
+    (c.in_ok-masks.ensures.0 ∙ ap (λ (l : List ℕ). addresses (first_chunks 6 c.args.masks l)) (take_rest c.args.rest.now c.args.config))
+    (c.in_ok-reserves.ensures.0 ∙ ap (λ (l : List ℕ). addresses (first_chunks 6 c.args.reserves l)) (take_rest c.args.rest.now (c.args.config + 6 * c.args.masks))) in (
+      all_valid c.args.turn c.args.config c.args.masks c.args.reserves c.args.rest.now s _ is (take_rest c.args.rest.now (c.args.config + 6 * c.args.masks + 6 * c.args.reserves)) (search rules) c.in_ok-masks.ensures.1 c.in_ok-reserves.ensures.1
+          (sym c.are_zeros.ensures ∙ c.if-not-are_zeros.false),
+      is,
+    )

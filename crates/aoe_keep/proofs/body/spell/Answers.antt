@@ -1,5 +1,5 @@
-use Rattle.std.proofs.Common.{◌≡◌, ◌∙◌, ap, rules}
-use Rattle.aoe_keep.specs.Body.{decode, spelling}
+use Rattle.std.proofs.Common.{◌∙◌, ap, rules}
+use Rattle.aoe_keep.specs.Body.{decode}
 use Rattle.aoe_keep.proofs.Spelling.{spelled, reads_back}
 use Rattle.aoe_keep.proofs.body.spell.Goals as goal
 

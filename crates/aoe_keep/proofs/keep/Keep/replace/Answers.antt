@@ -1,4 +1,3 @@
-use Rattle.std.proofs.Common.{◌≡◌}
 use Rattle.std.proofs.lemmas.Result.{on_err_weaker}
 use Rattle.aoe_keep.proofs.Keeping.{offered_of}
 use Rattle.aoe_keep.proofs.keep.Keep.replace.Goals as goal

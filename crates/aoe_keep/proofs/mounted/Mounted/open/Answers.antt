@@ -1,7 +1,8 @@
-use Rattle.std.proofs.Common.{◌≡◌, arith}
-use Rattle.std.proofs.lemmas.Result.{on_err_weaker, on_ok_weaker}
+use Rattle.std.proofs.Common.{arith}
+use Rattle.std.proofs.lemmas.Result.{on_ok_weaker}
 use Rattle.aoe_keep.proofs.Calls.{open_err, opened_err, opened_ok, err_now, err_at}
 use Rattle.aoe_keep.proofs.Runs.{run_ends}
+use Rattle.aoe_keep.proofs.Others.{sync_others, others_then}
 use Rattle.aoe_keep.proofs.mounted.Mounted.open.Goals as goal
 
 pub returns-in_err-write_gate-clause-err : goal.returns-in_err-write_gate-clause-err
@@ -23,3 +24,6 @@ returns-clause-ok g c =
 
 pub returns-in_err-write_gate-clause-run : goal.returns-in_err-write_gate-clause-run
 returns-in_err-write_gate-clause-run g c = run_ends 1 2 c.write_gate.result _ _ _ _ c.in_err-write_gate.was c.from_residual.ensures.0 (omega arith) c.write_gate.ensures.call
+
+pub returns-clause-others : goal.returns-clause-others
+returns-clause-others g c = others_then _ _ _ c.write_gate.ensures.others (sync_others c.sync.result _ _ c.sync.ensures.contents)
