@@ -1,3 +1,4 @@
+pub mod Offers
 mod Told
 mod Runs
 mod Slots
