@@ -1,0 +1,138 @@
+-- A disk with no loose sector, whose slots were read.
+use Rattle.std.proofs.Common.{◌≡◌, ◌≢◌, ◌⊎◌, ◌<◌, ◌+◌, ◌*◌, ◌==◌, ◌&&◌, cond, ℕ, zero, suc, Bool, true, false, Option, Some, None, IfSome, Result, Ok, Err, MatchResult, List, drop, refl, arith, sym, ◌∙◌, ap, subst, inl, inr, slice_index, nat_eq, nat_lt}
+use Rattle.std.specs.List.{starts_with}
+use Rattle.std.proofs.lemmas.Bool.{eqb-true, and_parts, ltb-true}
+use Rattle.aoe_lists.specs.Settings.{Settings, empty_settings}
+use Rattle.aoe_disk.specs.State.{Contents, CanLeave, BothTell, is_loose}
+use Rattle.aoe_disk.specs.Calls.{Settles}
+use Rattle.aoe_disk.specs.Sectors.{Calms}
+use Rattle.aoe_disk.proofs.Touching.{settles_calm, settles_kept}
+use Rattle.aoe_keep.specs.Body.{mark, decode, is_valid, sizes_fit, config_len, fields_of}
+use Rattle.aoe_keep.specs.Found.{slot, body, is_open, next_turn, choice, found, Finds}
+use Rattle.aoe_keep.specs.Stages.{StaysClosed, StaysOpen, IsKept, placement}
+use Rattle.aoe_keep.specs.Keep.{ReadsSlots}
+use Rattle.aoe_keep.specs.declared.place.Place.{Place}
+use Rattle.aoe_keep.specs.declared.mount.Present.{Present}
+use Rattle.aoe_keep.proofs.Slots.{gate_same, body_same, left_same}
+use Rattle.aoe_keep.proofs.Reading.{some_when}
+use Rattle.aoe_keep.proofs.Told.{both_map, told_last}
+
+-- a turn that was read is one of three
+turn_small : (bytes : List ℕ) (b : ℕ × Settings) → decode bytes ≡ Some b → b.0 < 3
+unfolding decode is_valid
+turn_small bytes b e =
+    let n = config_len bytes in
+    let w = some_when (starts_with nat_eq bytes mark && is_valid (slice_index bytes 5) n (slice_index bytes 8) (slice_index bytes 9) (drop 10 bytes)) (slice_index bytes 5, fields_of n (slice_index bytes 8) (slice_index bytes 9) (drop 10 bytes)) b e in
+    let valid : is_valid (slice_index bytes 5) n (slice_index bytes 8) (slice_index bytes 9) (drop 10 bytes) ≡ true = (and_parts (starts_with nat_eq bytes mark) (is_valid (slice_index bytes 5) n (slice_index bytes 8) (slice_index bytes 9) (drop 10 bytes)) w.0).1 in
+    let less : slice_index bytes 5 < 3 = ltb-true (slice_index bytes 5) 3 (and_parts (nat_lt (slice_index bytes 5) 3) _ (and_parts (sizes_fit (slice_index bytes 5) n (slice_index bytes 8) (slice_index bytes 9)) _ valid).0).0 in
+    let same : slice_index bytes 5 ≡ b.0 = ap (λ (p : ℕ × Settings). p.0) w.1 in
+    omega (arith, less, same)
+
+chosen : {X : Type 0} (t : Bool) (x y z : X) → cond t x y ≡ z → ((t ≡ true) × (x ≡ z)) ⊎ ((t ≡ false) × (y ≡ z))
+chosen true x y z e = inl (refl, e)
+chosen false x y z e = inr (refl, e)
+
+-- the later of two open slots
+abbrev later : Bool → ℕ × Settings → ℕ × Settings → Option Place × Bool
+later t a b = cond t (Some (record { slot = 0; turn = a.0 }), false) (Some (record { slot = 1; turn = b.0 }), false)
+
+turn_back : (a b : ℕ) → a < 3 → b < 3 → a ≡ next_turn b → b ≢ a
+turn_back a zero la lb e = λ f. cc
+turn_back a (suc zero) la lb e = λ f. cc
+turn_back a (suc (suc zero)) la lb e = λ f. cc
+turn_back a (suc (suc (suc b))) la lb e = absurd (omega (arith, lb))
+
+module _ (c : Contents) (kept : (s : ℕ) → is_loose c.loose s ≡ false) where
+  open_from : (k : ℕ) (b : ℕ × Settings) → slot c.bytes k ≡ Some (Some b) → StaysOpen c k b
+  open_from k b e = elim (chosen (is_open c.bytes k) (Some (decode (body c.bytes k))) None (Some (Some b)) e) [
+    | inl t ↦ let r : decode (body c.bytes k) ≡ Some b = cc in record { gate = t.0; kept = λ s l h. kept s; body = record { spells = r; kept = λ s l h. kept s } }
+    | inr t ↦ absurd cc
+  ]
+
+  closed_from : (k : ℕ) → slot c.bytes k ≡ None → StaysClosed c k
+  closed_from k e = elim (chosen (is_open c.bytes k) (Some (decode (body c.bytes k))) None None e) [
+    | inl t ↦ absurd cc
+    | inr t ↦ record { gate = t.0; kept = λ s l h. kept s }
+  ]
+
+  slot_left : (image : List ℕ) (k : ℕ) → CanLeave c image → slot image k ≡ slot c.bytes k
+  slot_left image k left =
+      let g = gate_same image c.bytes k (left_same c image (8 * k) 1 left (λ s l h. kept s)) in
+      let b = body_same image c.bytes k (left_same c image (8 * k + 1) 7 left (λ s l h. kept s)) in
+      λ i. cond (g i) (Some (decode (b i))) None
+
+  finds_kept : (lists : Settings) → found c.bytes ≡ Ok lists → Finds (λ l. l ≡ lists) c
+  finds_kept lists e = λ image left.
+      let s0 = slot_left image 0 left in
+      let s1 = slot_left image 1 left in
+      let same : found image ≡ found c.bytes = λ i. choice (s0 i) (s1 i) in
+      (lists, same ∙ e, refl)
+
+  turn_of : (k : ℕ) (b : ℕ × Settings) → StaysOpen c k b → b.0 < 3
+  turn_of k b h = turn_small (body c.bytes k) b h.body.spells
+
+  both_open : (a b : ℕ × Settings) (lists : Settings) → StaysOpen c 0 a → StaysOpen c 1 b → (t : Bool) → (a.0 == next_turn b.0) ≡ t → cond {A = Result Settings ℕ} t (Ok a.1) (cond {A = Result Settings ℕ} (b.0 == next_turn a.0) (Ok b.1) (Err 1)) ≡ Ok lists
+      → IsKept (later t a b).0 (later t a b).1 lists c
+  both_open a b lists ha hb true e is =
+      let l : a.1 ≡ lists = cc in
+      let la = turn_of 0 a ha in let lb = turn_of 1 b hb in
+      record {
+        steady = (omega arith, la, subst (λ x. StaysOpen c 0 (a.0, x)) l ha);
+        spare = (b, record { body = hb.body; turn = (lb, turn_back a.0 b.0 la lb (eqb-true a.0 (next_turn b.0) e)) }, inr hb.gate);
+      }
+  both_open a b lists ha hb false e is = elim (chosen {X = Result Settings ℕ} (b.0 == next_turn a.0) (Ok b.1) (Err 1) (Ok lists) is) [
+    | inl t ↦
+        let l : b.1 ≡ lists = cc in
+        let la = turn_of 0 a ha in let lb = turn_of 1 b hb in
+        record {
+          steady = (omega arith, lb, subst (λ x. StaysOpen c 1 (b.0, x)) l hb);
+          spare = (a, record { body = ha.body; turn = (la, turn_back b.0 a.0 lb la (eqb-true b.0 (next_turn a.0) t.0)) }, inr ha.gate);
+        }
+    | inr t ↦ absurd cc
+  ]
+
+  kept_from : (o p : Option (Option (ℕ × Settings))) (lists : Settings) → slot c.bytes 0 ≡ o → slot c.bytes 1 ≡ p → choice o p ≡ Ok lists → IsKept (placement o p).0 (placement o p).1 lists c
+  kept_from None None lists e f is =
+      let s0 = closed_from 0 e in let s1 = closed_from 1 f in let l : lists ≡ empty_settings = cc in
+      record { steady = (l, s1); spare = (s0.gate, inl s0) }
+  kept_from None (Some None) lists e f is = absurd cc
+  kept_from None (Some (Some b)) lists e f is =
+      let s0 = closed_from 0 e in let h = open_from 1 b f in let l : b.1 ≡ lists = cc in
+      record { steady = (omega arith, turn_of 1 b h, subst (λ x. StaysOpen c 1 (b.0, x)) l h); spare = (s0.gate, inl s0) }
+  kept_from (Some None) p lists e f is = absurd cc
+  kept_from (Some (Some a)) None lists e f is =
+      let s1 = closed_from 1 f in let h = open_from 0 a e in let l : a.1 ≡ lists = cc in
+      record { steady = (omega arith, turn_of 0 a h, subst (λ x. StaysOpen c 0 (a.0, x)) l h); spare = (s1.gate, inl s1) }
+  kept_from (Some (Some a)) (Some None) lists e f is = absurd cc
+  kept_from (Some (Some a)) (Some (Some b)) lists e f is = both_open a b lists (open_from 0 a e) (open_from 1 b f) (a.0 == next_turn b.0) refl is
+
+-- what was read of slots is what was chosen of them
+abbrev pub Chooses : Option (Option (ℕ × Settings)) → Option (Option (ℕ × Settings)) → Result Present ℕ → Type 0
+Chooses o p r = MatchResult r (λ f. (choice o p ≡ Ok f.lists) × (placement o p ≡ (f.place, f.is_closed))) (λ k. choice o p ≡ Err k)
+
+read_told : (r : Result Present ℕ) (o p : Option (Option (ℕ × Settings))) (a b : Contents) → Settles a b → slot b.bytes 0 ≡ o → slot b.bytes 1 ≡ p → Chooses o p r → ReadsSlots r a b
+read_told (Ok f) o p a b settles e g h =
+    let there : found b.bytes ≡ Ok f.lists = (λ i. choice (e i) (g i)) ∙ h.0 in (
+      ap found (sym settles.bytes) ∙ there,
+      settles,
+      subst (λ (q : Option Place × Bool). IsKept q.0 q.1 f.lists b) h.1 (kept_from b (settles_kept a b settles) o p f.lists e g h.0),
+    )
+read_told (Err k) o p a b settles e g h = (ap found (sym settles.bytes) ∙ (λ i. choice (e i) (g i)) ∙ h, settles)
+
+at_once : (r : Result Present ℕ) (o p : Option (Option (ℕ × Settings))) (a b : Option Contents) → BothTell Settles a b → IfSome b (λ x. slot x.bytes 0 ≡ o) → IfSome b (λ x. slot x.bytes 1 ≡ p) → Chooses o p r → BothTell (ReadsSlots r) a b
+at_once r o p None None settles e f h = tt
+at_once r o p None (Some y) settles e f h = settles
+at_once r o p (Some x) None settles e f h = settles
+at_once r o p (Some x) (Some y) settles e f h = read_told r o p x y settles e f h
+
+pub slots_told : (r : Result Present ℕ) (o p : Option (Option (ℕ × Settings))) (a b c d : Option Contents) → BothTell Settles a b → c ≡ b → d ≡ c → IfSome b (λ x. slot x.bytes 0 ≡ o) → IfSome c (λ x. slot x.bytes 1 ≡ p) → Chooses o p r
+    → BothTell (ReadsSlots r) a d
+slots_told r o p a b c d settles cb dc e f h = subst (BothTell (ReadsSlots r) a) (sym (dc ∙ cb)) (at_once r o p a b settles e (subst (λ (y : Option Contents). IfSome y (λ x. slot x.bytes 1 ≡ p)) cb f) h)
+
+pub calm_told : (a b c : Option Contents) → BothTell Settles a b → c ≡ b → BothTell Calms a c
+calm_told a b c settles e = subst (BothTell Calms a) (sym e) (both_map Settles Calms a b (λ x y s. settles_calm x y s) settles)
+
+-- after a mounting every crash finds the lists that stand
+pub always_found : (lists : Settings) (a b : Option Contents) → BothTell (λ x y. (found x.bytes ≡ Ok lists) × Settles x y) a b → IfSome b (Finds (λ l. l ≡ lists))
+always_found lists a b told = told_last (λ x y. (found x.bytes ≡ Ok lists) × Settles x y) (Finds (λ l. l ≡ lists)) a b
+    (λ x y (h : (found x.bytes ≡ Ok lists) × Settles x y). finds_kept y (settles_kept x y h.1) lists (ap found h.1.bytes ∙ h.0)) told

@@ -1,0 +1,199 @@
+-- A body that spells lists is their spelling, and why a body spells none.
+use Rattle.std.proofs.Common.{◌≡◌, ◌↔◌, ◌⊎◌, inl, inr, ◌≤◌, ◌<◌, ◌+◌, ◌-◌, ◌*◌, ◌==◌, ◌&&◌, cond, ℕ, zero, suc, Bool, true, false, Some, None, List, [], ◌∷◌, ◌++◌, length, take, drop, get_or, replicate, slice_index, nat_eq, nat_lt, nat_le, refl, arith, sym, ◌∙◌, ap, length-append, length-drop, take-append-drop}
+use Rattle.std.specs.Int.{w16, to_be_bytes, from_be_bytes}
+use Rattle.std.specs.List.{All, flat_map, list_all, starts_with}
+use Rattle.std.specs.Simd.{first_chunks}
+use Rattle.std.proofs.Math.Seq.{take-add}
+use Rattle.std.proofs.lemmas.List.{drop_more, length-take-le, length-replicate}
+use Rattle.std.proofs.lemmas.Bool.{eqb-true, leb-true, and_parts, and_left, and_right, and_from, cond-true, cond-false}
+use Rattle.std.proofs.lemmas.Nat.{be_bytes_2}
+use Rattle.std.proofs.lemmas.Slice.Eq.{starts_is}
+use Rattle.std.proofs.lemmas.Bool.Decides.{Decides-eqb}
+use Rattle.aoe_lists.specs.Addresses.{all_unique}
+use Rattle.aoe_lists.specs.Reserves.{addresses}
+use Rattle.aoe_lists.specs.Settings.{Settings}
+use Rattle.aoe_keep.specs.Body.{mark, fields_of, is_valid, is_sound, sizes_fit, config_len, decode, spelling, written, HasFault}
+
+joined_pieces : (m : ℕ) (xs : List ℕ) → flat_map (λ a. a.0) (addresses (first_chunks 6 m xs)) ≡ take (6 * m) xs
+joined_pieces zero xs = refl
+joined_pieces (suc m) xs =
+    let size : 6 * suc m ≡ 6 + 6 * m = omega arith in
+    ap (λ (l : List ℕ). take 6 xs ++ l) (joined_pieces m (drop 6 xs)) ∙ sym (take-add 6 (6 * m) xs) ∙ ap (λ (n : ℕ). take n xs) (sym size)
+
+length-pieces : (m : ℕ) (xs : List ℕ) → length (addresses (first_chunks 6 m xs)) ≡ m
+length-pieces zero xs = refl
+length-pieces (suc m) xs = ap suc (length-pieces m (drop 6 xs))
+
+only_zeros : (xs : List ℕ) → list_all (λ b. b == 0) xs ≡ true → xs ≡ replicate (length xs) 0
+only_zeros [] e = refl
+only_zeros (x ∷ xs) e =
+    let parts = and_parts (x == 0) (list_all (λ b. b == 0) xs) e in
+    λ i. eqb-true x 0 parts.0 i ∷ only_zeros xs parts.1 i
+
+-- the bytes after the numbers are the three fields and what follows them
+whole : (n m r : ℕ) (rest : List ℕ) → rest ≡ take n rest ++ take (6 * m) (drop n rest) ++ take (6 * r) (drop (n + 6 * m) rest) ++ drop (n + 6 * m + 6 * r) rest
+whole n m r rest =
+    let two : take (n + 6 * m) rest ≡ take n rest ++ take (6 * m) (drop n rest) = take-add n (6 * m) rest in
+    let three : take (n + 6 * m + 6 * r) rest ≡ take n rest ++ take (6 * m) (drop n rest) ++ take (6 * r) (drop (n + 6 * m) rest) = take-add (n + 6 * m) (6 * r) rest ∙ ap (λ (l : List ℕ). l ++ take (6 * r) (drop (n + 6 * m) rest)) two in
+    sym (take-append-drop (n + 6 * m + 6 * r) rest) ∙ ap (λ (l : List ℕ). l ++ drop (n + 6 * m + 6 * r) rest) three
+
+pub some_when : {X : Type 0} (t : Bool) (x y : X) → cond t (Some x) None ≡ Some y → (t ≡ true) × (x ≡ y)
+some_when true x y e = (refl, cc)
+some_when false x y e = absurd cc
+
+-- why the fields after the numbers aren't valid, and that they are
+
+module _ (turn n m r : ℕ) (rest : List ℕ) where
+  pub no_sizes : sizes_fit turn n m r ≡ false → is_valid turn n m r rest ≡ false
+  unfolding is_valid
+  no_sizes e = and_left _ _ e
+
+  pub no_masks : (bytes : List ℕ) → bytes ≡ drop n rest → all_unique (addresses (first_chunks 6 m bytes)) ≡ false → is_valid turn n m r rest ≡ false
+  unfolding is_valid fields_of
+  no_masks bytes is e = and_right _ _ (and_left _ _ (ap (λ (l : List ℕ). all_unique (addresses (first_chunks 6 m l))) (sym is) ∙ e))
+
+  pub no_reserves : (bytes : List ℕ) → bytes ≡ drop (n + 6 * m) rest → all_unique (addresses (first_chunks 6 r bytes)) ≡ false → is_valid turn n m r rest ≡ false
+  unfolding is_valid fields_of
+  no_reserves bytes is e = and_right _ _ (and_right _ _ (and_left _ _ (ap (λ (l : List ℕ). all_unique (addresses (first_chunks 6 r l))) (sym is) ∙ e)))
+
+  pub no_zeros : (bytes : List ℕ) → bytes ≡ drop (n + 6 * m + 6 * r) rest → list_all (λ b. b == 0) bytes ≡ false → is_valid turn n m r rest ≡ false
+  unfolding is_valid
+  no_zeros bytes is e =
+      let f = fields_of n m r rest in
+      and_right (sizes_fit turn n m r) _ (and_right (all_unique f.masks) _ (and_right (all_unique f.reserves) _ (ap (list_all (λ b. b == 0)) (sym is) ∙ e)))
+
+  pub all_fields : (s : Settings) → s.config ≡ take n rest → s.masks ≡ addresses (first_chunks 6 m (drop n rest)) → s.reserves ≡ addresses (first_chunks 6 r (drop (n + 6 * m) rest)) → s ≡ fields_of n m r rest
+  unfolding fields_of
+  all_fields s c ms rs = λ i. record { config = c i; masks = ms i; reserves = rs i }
+
+  pub all_valid : (s : Settings) (bytes : List ℕ) → s ≡ fields_of n m r rest → bytes ≡ drop (n + 6 * m + 6 * r) rest → sizes_fit turn n m r ≡ true → all_unique s.masks ≡ true → all_unique s.reserves ≡ true → list_all (λ b. b == 0) bytes ≡ true → is_valid turn n m r rest ≡ true
+  unfolding is_valid
+  all_valid s bytes is end sizes ms rs zeros = and_from _ _ sizes (ap (λ (x : Settings). is_sound x (drop (n + 6 * m + 6 * r) rest)) (sym is) ∙ and_from _ _ ms (and_from _ _ rs (ap (list_all (λ b. b == 0)) (sym end) ∙ zeros)))
+
+-- the length of the config string as it is read
+pub config_read : (body : List ℕ) → length body ≡ 3584 → from_be_bytes w16 (get_or body 6 0 ∷ get_or body 7 0 ∷ []) ≡ config_len body
+config_read body size =
+    let two : drop 6 body ≡ get_or body 6 0 ∷ get_or body 7 0 ∷ drop 8 body = drop_more body 6 0 (omega (arith, size)) ∙ ap (λ (l : List ℕ). get_or body 6 0 ∷ l) (drop_more body 7 0 (omega (arith, size))) in
+    ap (from_be_bytes w16) (ap (take 2) (sym two))
+
+pub decode_no_mark : (body : List ℕ) → starts_with nat_eq body mark ≡ false → None ≡ decode body
+unfolding decode
+decode_no_mark body e = sym (cond-false _ _ None (and_left _ _ e))
+
+module _ (body rest : List ℕ) (n m r : ℕ) (en : n ≡ config_len body) (em : m ≡ slice_index body 8) (er : r ≡ slice_index body 9) (is : rest ≡ drop 10 body) where
+  valid_same : (b : Bool) → is_valid (slice_index body 5) n m r rest ≡ b → is_valid (slice_index body 5) (config_len body) (slice_index body 8) (slice_index body 9) (drop 10 body) ≡ b
+  valid_same b e = (λ i. is_valid (slice_index body 5) (sym en i) (sym em i) (sym er i) (sym is i)) ∙ e
+
+  pub decode_invalid : is_valid (slice_index body 5) n m r rest ≡ false → None ≡ decode body
+  unfolding decode
+  decode_invalid e = sym (cond-false _ _ None (and_right _ _ (valid_same false e)))
+
+  pub decode_valid : (x : Settings) → starts_with nat_eq body mark ≡ true → is_valid (slice_index body 5) n m r rest ≡ true → x ≡ fields_of n m r rest → Some (slice_index body 5, x) ≡ decode body
+  unfolding decode
+  decode_valid x s e ex =
+      ap (λ (y : Settings). Some (slice_index body 5, y)) (ex ∙ (λ i. fields_of (en i) (em i) (er i) (is i)))
+      ∙ sym (cond-true _ _ None (and_from _ _ s (valid_same true e)))
+
+-- a body that spells lists is their spelling
+
+fields_whole : (n m r : ℕ) (rest : List ℕ) → n + 6 * m + 6 * r ≤ length rest → list_all (λ b. b == 0) (drop (n + 6 * m + 6 * r) rest) ≡ true
+    → rest ≡ (fields_of n m r rest).config ++ flat_map (λ a. a.0) (fields_of n m r rest).masks ++ flat_map (λ a. a.0) (fields_of n m r rest).reserves ++ replicate (length rest - (n + 6 * m + 6 * r)) 0
+unfolding fields_of
+fields_whole n m r rest fits zeros =
+    let tail : drop (n + 6 * m + 6 * r) rest ≡ replicate (length rest - (n + 6 * m + 6 * r)) 0 = only_zeros _ zeros ∙ ap (λ (k : ℕ). replicate k 0) (length-drop (n + 6 * m + 6 * r) rest) in
+    whole n m r rest ∙ (λ i. take n rest ++ sym (joined_pieces m (drop n rest)) i ++ sym (joined_pieces r (drop (n + 6 * m) rest)) i ++ tail i)
+
+length-config : (n m r : ℕ) (rest : List ℕ) → n ≤ length rest → length (fields_of n m r rest).config ≡ n
+unfolding fields_of
+length-config n m r rest le = length-take-le n rest le
+
+length-masks : (n m r : ℕ) (rest : List ℕ) → length (fields_of n m r rest).masks ≡ m
+unfolding fields_of
+length-masks n m r rest = length-pieces m (drop n rest)
+
+length-reserves : (n m r : ℕ) (rest : List ℕ) → length (fields_of n m r rest).reserves ≡ r
+unfolding fields_of
+length-reserves n m r rest = length-pieces r (drop (n + 6 * m) rest)
+
+assembled : (body : List ℕ) (turn high low m r : ℕ) (rest : List ℕ) (s : Settings) (k : ℕ) → length body ≡ 3584 → body ≡ mark ++ (turn ∷ high ∷ low ∷ m ∷ r ∷ rest) → to_be_bytes w16 (length s.config) ≡ high ∷ low ∷ [] → length s.masks ≡ m → length s.reserves ≡ r
+    → rest ≡ s.config ++ flat_map (λ a. a.0) s.masks ++ flat_map (λ a. a.0) s.reserves ++ replicate k 0 → body ≡ spelling turn s
+unfolding spelling
+assembled body turn high low m r rest s k size is eb em er fields =
+    let all : body ≡ written turn s ++ replicate k 0 = is ∙ (λ i. mark ++ (turn ∷ (sym eb i ++ (sym em i ∷ sym er i ∷ fields i)))) in
+    let pad : k ≡ 3584 - length (written turn s) = omega (arith, ap length all, size, length-append (written turn s) (replicate k 0), length-replicate {A = ℕ} k 0) in
+    all ∙ ap (λ (j : ℕ). written turn s ++ replicate j 0) pad
+
+two_bytes : (high low : ℕ) → high < 256 → low < 256 → (i : ℕ) → get_or (high ∷ low ∷ []) i 0 < 256
+two_bytes high low lh ll zero = lh
+two_bytes high low lh ll (suc zero) = ll
+two_bytes high low lh ll (suc (suc i)) = omega arith
+
+numbers : (body : List ℕ) → length body ≡ 3584 → drop 5 body ≡ get_or body 5 0 ∷ get_or body 6 0 ∷ get_or body 7 0 ∷ get_or body 8 0 ∷ get_or body 9 0 ∷ drop 10 body
+numbers body size =
+    let at : (k : ℕ) → k < 10 → drop k body ≡ get_or body k 0 ∷ drop (k + 1) body = λ k l. drop_more body k 0 (omega (arith, size, l)) in
+    at 5 (omega arith) ∙ ap (λ (l : List ℕ). get_or body 5 0 ∷ l) (at 6 (omega arith) ∙ ap (λ (l : List ℕ). get_or body 6 0 ∷ l) (at 7 (omega arith)
+    ∙ ap (λ (l : List ℕ). get_or body 7 0 ∷ l) (at 8 (omega arith) ∙ ap (λ (l : List ℕ). get_or body 8 0 ∷ l) (at 9 (omega arith)))))
+
+spelling_of : (body : List ℕ) (n m r : ℕ) → length body ≡ 3584 → All (λ b. b < 256) body → n ≡ config_len body → m ≡ get_or body 8 0 → r ≡ get_or body 9 0 → starts_with nat_eq body mark ≡ true → is_valid (get_or body 5 0) n m r (drop 10 body) ≡ true
+    → body ≡ spelling (get_or body 5 0) (fields_of n m r (drop 10 body))
+unfolding is_valid
+spelling_of body n m r size bytes en em er starts valid =
+    let rest = drop 10 body in
+    let f = fields_of n m r rest in
+    let parts = and_parts (sizes_fit (get_or body 5 0) n m r) (is_sound f (drop (n + 6 * m + 6 * r) rest)) valid in
+    let turn_parts = and_parts (nat_lt (get_or body 5 0) 3) (nat_le n 1024 && (nat_le m 64 && nat_le r 64)) parts.0 in
+    let config_parts = and_parts (nat_le n 1024) (nat_le m 64 && nat_le r 64) turn_parts.1 in
+    let list_parts = and_parts (nat_le m 64) (nat_le r 64) config_parts.1 in
+    let zeros = (and_parts (all_unique f.reserves) _ (and_parts (all_unique f.masks) _ parts.1).1).1 in
+    let ln : n ≤ 1024 = leb-true n 1024 config_parts.0 in
+    let lm : m ≤ 64 = leb-true m 64 list_parts.0 in
+    let lr : r ≤ 64 = leb-true r 64 list_parts.1 in
+    let long : length rest ≡ 3574 = omega (arith, size, length-drop 10 body) in
+    let high : get_or body 6 0 < 256 = bytes 6 0 (omega (arith, size)) in
+    let low : get_or body 7 0 < 256 = bytes 7 0 (omega (arith, size)) in
+    let config : length f.config ≡ n = length-config n m r rest (omega (arith, long, ln)) in
+    let written_len : to_be_bytes w16 (length f.config) ≡ get_or body 6 0 ∷ get_or body 7 0 ∷ [] =
+    be_bytes_2 (get_or body 6 0 ∷ get_or body 7 0 ∷ []) (length f.config) refl (two_bytes _ _ high low) (config ∙ en ∙ sym (config_read body size)) in
+    let begins : body ≡ mark ++ drop 5 body = (starts_is {E = nat_eq} Decides-eqb body mark true (sym starts)).0 refl in
+    assembled body (get_or body 5 0) (get_or body 6 0) (get_or body 7 0) (get_or body 8 0) (get_or body 9 0) rest f (length rest - (n + 6 * m + 6 * r)) size
+    (begins ∙ ap (λ (l : List ℕ). mark ++ l) (numbers body size)) written_len (length-masks n m r rest ∙ em) (length-reserves n m r rest ∙ er)
+    (fields_whole n m r rest (omega (arith, long, ln, lm, lr)) zeros)
+
+pub one_spelling : (body : List ℕ) (turn : ℕ) (lists : Settings) → length body ≡ 3584 → All (λ b. b < 256) body → decode body ≡ Some (turn, lists) → body ≡ spelling turn lists
+unfolding decode
+one_spelling body turn lists size bytes e =
+    let n = config_len body in
+    let m = slice_index body 8 in
+    let r = slice_index body 9 in
+    let w = some_when (starts_with nat_eq body mark && is_valid (slice_index body 5) n m r (drop 10 body)) (slice_index body 5, fields_of n m r (drop 10 body)) (turn, lists) e in
+    let both = and_parts (starts_with nat_eq body mark) (is_valid (slice_index body 5) n m r (drop 10 body)) w.0 in
+    spelling_of body n m r size bytes refl refl refl both.0 both.1 ∙ ap (λ (p : ℕ × Settings). spelling p.0 p.1) w.1
+
+-- why a body spells no lists
+
+all_true : {X : Type 0} (a b c d e : Bool) (x : X) → cond (a && (b && (c && (d && e)))) (Some x) None ≡ None → (a ≡ false) ⊎ ((b ≡ false) ⊎ ((c ≡ false) ⊎ ((d ≡ false) ⊎ (e ≡ false))))
+all_true false b c d e x is = inl refl
+all_true true false c d e x is = inr (inl refl)
+all_true true true false d e x is = inr (inr (inl refl))
+all_true true true true false e x is = inr (inr (inr (inl refl)))
+all_true true true true true false x is = inr (inr (inr (inr refl)))
+all_true true true true true true x is = absurd cc
+
+one_false : {X : Type 0} (a b c d e : Bool) (x : X) → (a ≡ false) ⊎ ((b ≡ false) ⊎ ((c ≡ false) ⊎ ((d ≡ false) ⊎ (e ≡ false)))) → cond (a && (b && (c && (d && e)))) (Some x) None ≡ None
+one_false a b c d e x (inl is) = cond-false _ (Some x) None (and_left a _ is)
+one_false a b c d e x (inr (inl is)) = cond-false _ (Some x) None (and_right a _ (and_left b _ is))
+one_false a b c d e x (inr (inr (inl is))) = cond-false _ (Some x) None (and_right a _ (and_right b _ (and_left c _ is)))
+one_false a b c d e x (inr (inr (inr (inl is)))) = cond-false _ (Some x) None (and_right a _ (and_right b _ (and_right c _ (and_left d e is))))
+one_false a b c d e x (inr (inr (inr (inr is)))) = cond-false _ (Some x) None (and_right a _ (and_right b _ (and_right c _ (and_right d e is))))
+
+pub faults : (body : List ℕ) → (decode body ≡ None) ↔ HasFault body
+unfolding decode is_valid
+faults body =
+    let n = config_len body in
+    let m = slice_index body 8 in
+    let r = slice_index body 9 in
+    let f = fields_of n m r (drop 10 body) in
+    let end = drop (n + 6 * m + 6 * r) (drop 10 body) in (
+      all_true (starts_with nat_eq body mark) (sizes_fit (slice_index body 5) n m r) (all_unique f.masks) (all_unique f.reserves) (list_all (λ b. b == 0) end) (slice_index body 5, f),
+      one_false (starts_with nat_eq body mark) (sizes_fit (slice_index body 5) n m r) (all_unique f.masks) (all_unique f.reserves) (list_all (λ b. b == 0) end) (slice_index body 5, f),
+    )

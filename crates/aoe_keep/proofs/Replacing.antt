@@ -1,0 +1,161 @@
+-- The six device calls of a replacement, over contents that are told.
+use Rattle.std.proofs.Common.{◌≡◌, ◌≢◌, ◌⊎◌, ◌≤◌, ◌<◌, ◌+◌, ◌-◌, ◌*◌, ℕ, zero, suc, true, false, Option, Some, None, Result, Ok, List, refl, arith, sym, ◌∙◌, ap, subst, inl, inr}
+use Rattle.std.proofs.lemmas.Bool.{eq-eqb}
+use Rattle.aoe_lists.specs.Settings.{Settings}
+use Rattle.aoe_disk.specs.State.{Contents, HasShape, is_loose}
+use Rattle.aoe_disk.specs.Calls.{Settles}
+use Rattle.aoe_disk.specs.Sectors.{Touches, Calms}
+use Rattle.aoe_disk.proofs.Touching.{settles_calm, settles_kept}
+use Rattle.aoe_keep.specs.Body.{decode}
+use Rattle.aoe_keep.specs.Found.{body, is_open, next_turn, CanFind, Finds, IsOffered}
+use Rattle.aoe_keep.specs.Stages.{NoneLoose, StaysBody, StaysOpen, spare, turn_after, is_unplaced, next_place, IsSteady, IsOtherTurn, IsReady, IsSpare, IsKept, IsCleared, IsStaged, IsOpened, IsInterrupted, IsReplaced}
+use Rattle.aoe_keep.specs.declared.place.Place.{Place}
+use Rattle.aoe_keep.proofs.Slots.{outcome, spare_small, found_by, open_after}
+use Rattle.aoe_keep.proofs.Steps.{IsWithin, closed_touch, body_touch, steady_touch, gate_calm, closed_calm, body_calm, steady_calm, kept_calm, finds_calm, finds_closed, finds_ready, could, weaker, kept_finds}
+
+none_loose : (old new : Contents) → Settles old new → (lo n : ℕ) → NoneLoose new lo n
+none_loose old new settles lo n = λ s l h. settles_kept old new settles s
+
+turn_small : (t : ℕ) → t < 3 → (next_turn t < 3) × (next_turn t ≢ t) × (t ≢ next_turn t)
+turn_small zero l = (omega arith, λ e. cc, λ e. cc)
+turn_small (suc zero) l = (omega arith, λ e. cc, λ e. cc)
+turn_small (suc (suc zero)) l = (omega arith, λ e. cc, λ e. cc)
+turn_small (suc (suc (suc t))) l = absurd (omega (arith, l))
+
+other_turn : (place : Option Place) (lists : Settings) (c : Contents) → IsSteady place lists c → IsOtherTurn place (turn_after place)
+other_turn None lists c steady = tt
+other_turn (Some p) lists c steady = let t = turn_small p.turn steady.1 in (t.0, t.1)
+
+turn_after_small : (place : Option Place) (lists : Settings) (c : Contents) → IsSteady place lists c → turn_after place < 3
+turn_after_small None lists c steady = omega arith
+turn_after_small (Some p) lists c steady = let t = turn_small p.turn steady.1 in t.0
+
+outcome_next : (place : Option Place) (lists next : Settings) → outcome place lists (Some (turn_after place, next)) ≡ next
+outcome_next None lists next = refl
+outcome_next (Some p) lists next = rw (eq-eqb (next_turn p.turn) (next_turn p.turn) refl) refl
+
+-- the slot that is spare from now on holds the lists before, behind an open gate
+spare_some : (k t : ℕ) (lists : Settings) (c : Contents) → k < 2 → t < 3 → StaysOpen c k (t, lists) → IsSpare (Some (record { slot = 1 - k; turn = next_turn t })) false c
+spare_some zero t lists c lk lt holds = let turns = turn_small t lt in ((t, lists), record { body = holds.body; turn = (lt, turns.2) }, inr holds.gate)
+spare_some (suc zero) t lists c lk lt holds = let turns = turn_small t lt in ((t, lists), record { body = holds.body; turn = (lt, turns.2) }, inr holds.gate)
+spare_some (suc (suc k)) t lists c lk lt holds = absurd (omega (arith, lk))
+
+spare_after : (place : Option Place) (lists : Settings) (c : Contents) → IsSteady place lists c → IsSpare (next_place place) (is_unplaced place) c
+spare_after None lists c steady = (steady.1.gate, inl steady.1)
+spare_after (Some p) lists c steady = spare_some p.slot p.turn lists c steady.0 steady.1 steady.2
+
+module _ (place : Option Place) (lists next : Settings) where
+  gate_within : IsWithin place (8 * spare place) 1
+  gate_within = record { low = omega arith; high = omega arith }
+
+  body_within : IsWithin place (8 * spare place + 1) 7
+  body_within = record { low = omega arith; high = omega arith }
+
+  -- call 1
+
+  pub still_closed : (c d : Contents) → IsKept place true lists c → Calms c d → IsInterrupted place true lists next c d
+  still_closed c d kept calm = record {
+    kept = kept_calm c d calm place lists kept;
+    finds = weaker _ _ d (λ l can. inr (inr can)) (finds_calm c d calm _ (kept_finds place lists true c kept));
+  }
+
+  module _ (sectors : ℕ) (room : 16 ≤ sectors) (c d : Contents) (shape : HasShape sectors c) (kept : IsKept place false lists c) (touch : Touches (8 * spare place) 1 c d) where
+    ready : IsReady place d kept.spare.0
+    ready = record { body = body_touch (8 * spare place) 1 c d touch (spare place) kept.spare.0 (λ s l h. inr (omega arith)) kept.spare.1.body; turn = kept.spare.1.turn }
+
+    steady : IsSteady place lists d
+    steady = steady_touch place lists (8 * spare place) 1 c d gate_within touch kept.steady
+
+    finds : Finds (IsOffered lists next c) d
+    finds = weaker _ _ d
+        (λ l o. elim o [ inl e ↦ inl e | inr e ↦ inr (inr (subst (CanFind c) (sym e) (could place lists c kept.steady sectors kept.spare.0 shape room kept.spare.1 kept.spare.2))) ])
+        (finds_ready place lists d steady kept.spare.0 ready)
+
+    pub close_failed : is_loose d.loose (8 * spare place) ≡ true → IsInterrupted place false lists next c d
+    close_failed loose = record { kept = record { steady = steady; spare = (kept.spare.0, ready, inl loose) }; finds = finds }
+
+    pub close_done : is_open d.bytes (spare place) ≡ false → IsInterrupted place true lists next c d
+    close_done gate = record { kept = record { steady = steady; spare = (gate, inr (kept.spare.0, ready)) }; finds = finds }
+
+  -- call 2
+
+  pub clear_failed : (before c d : Contents) → IsInterrupted place true lists next before c → Calms c d → IsInterrupted place true lists next before d
+  clear_failed before c d so_far calm = record { kept = kept_calm c d calm place lists so_far.kept; finds = finds_calm c d calm _ so_far.finds }
+
+  pub clear_done : (c d : Contents) → IsKept place true lists c → Settles c d → IsCleared place lists d
+  clear_done c d kept settles = record {
+    steady = steady_calm c d (settles_calm c d settles) place lists kept.steady;
+    closed = record { gate = gate_calm c d (settles_calm c d settles) (spare place) false kept.spare.0; kept = none_loose c d settles (8 * spare place) 1 };
+  }
+
+  -- while the spare slot stays closed a crash finds the present lists alone
+  pub cleared_finds : (before c : Contents) → IsCleared place lists c → IsInterrupted place true lists next before c
+  cleared_finds before c cleared = record {
+    kept = record { steady = cleared.steady; spare = (cleared.closed.gate, inl cleared.closed) };
+    finds = weaker _ _ c (λ l e. inl e) (finds_closed place lists c cleared.steady cleared.closed);
+  }
+
+  -- calls 3 and 4
+
+  pub body_touched : (c d : Contents) → IsCleared place lists c → Touches (8 * spare place + 1) 7 c d → IsCleared place lists d
+  body_touched c d cleared touch = record {
+    steady = steady_touch place lists (8 * spare place + 1) 7 c d body_within touch cleared.steady;
+    closed = closed_touch (8 * spare place + 1) 7 c d touch (spare place) (λ s l h. inl (omega arith)) cleared.closed;
+  }
+
+  pub cleared_calm : (c d : Contents) → IsCleared place lists c → Calms c d → IsCleared place lists d
+  cleared_calm c d cleared calm = record { steady = steady_calm c d calm place lists cleared.steady; closed = closed_calm c d calm (spare place) cleared.closed }
+
+  pub stage_done : (c d : Contents) → IsCleared place lists c → decode (body c.bytes (spare place)) ≡ Some (turn_after place, next) → Settles c d → IsStaged place lists next d
+  stage_done c d cleared spells settles = record {
+    cleared = cleared_calm c d cleared (settles_calm c d settles);
+    body = record { spells = ap (λ (l : List ℕ). decode (body l (spare place))) settles.bytes ∙ spells; kept = none_loose c d settles (8 * spare place + 1) 7 };
+  }
+
+  -- calls 5 and 6
+
+  half_open : (before d : Contents) → IsSteady place lists d → StaysBody d (spare place) (turn_after place, next) → (is_loose d.loose (8 * spare place) ≡ true) ⊎ (is_open d.bytes (spare place) ≡ true) → IsInterrupted place false lists next before d
+  half_open before d steady has gate =
+      let ready : IsReady place d (turn_after place, next) = record { body = has; turn = other_turn place lists d steady } in
+      record {
+        kept = record { steady = steady; spare = ((turn_after place, next), ready, gate) };
+        finds = weaker _ _ d
+            (λ l o. elim o [ inl e ↦ inl e | inr e ↦ inr (inl (e ∙ outcome_next place lists next)) ])
+            (finds_ready place lists d steady (turn_after place, next) ready);
+      }
+
+  module _ (c d : Contents) (staged : IsStaged place lists next c) (touch : Touches (8 * spare place) 1 c d) where
+    steady_staged : IsSteady place lists d
+    steady_staged = steady_touch place lists (8 * spare place) 1 c d gate_within touch staged.cleared.steady
+
+    body_staged : StaysBody d (spare place) (turn_after place, next)
+    body_staged = body_touch (8 * spare place) 1 c d touch (spare place) (turn_after place, next) (λ s l h. inr (omega arith)) staged.body
+
+    pub open_failed : (before : Contents) → is_loose d.loose (8 * spare place) ≡ true → IsInterrupted place false lists next before d
+    open_failed before loose = half_open before d steady_staged body_staged (inl loose)
+
+    pub opened : is_open d.bytes (spare place) ≡ true → IsOpened place lists next d
+    opened gate = record { steady = steady_staged; gate = gate; body = body_staged }
+
+  pub last_failed : (before c d : Contents) → IsOpened place lists next c → Calms c d → IsInterrupted place false lists next before d
+  last_failed before c d o calm = half_open before d (steady_calm c d calm place lists o.steady) (body_calm c d calm (spare place) (turn_after place, next) o.body) (inr (gate_calm c d calm (spare place) true o.gate))
+
+  pub replaced : (c d : Contents) → IsOpened place lists next c → Settles c d → IsReplaced place next d
+  replaced c d o settles =
+      let calm : Calms c d = settles_calm c d settles in
+      let steady : IsSteady place lists d = steady_calm c d calm place lists o.steady in
+      let holds : StaysOpen d (spare place) (turn_after place, next) = record {
+        gate = gate_calm c d calm (spare place) true o.gate;
+        kept = none_loose c d settles (8 * spare place) 1;
+        body = body_calm c d calm (spare place) (turn_after place, next) o.body;
+      } in
+      let small : spare place < 2 = omega (arith, spare_small place) in
+      record {
+        kept = record { steady = (small, turn_after_small place lists d steady, holds); spare = spare_after place lists d steady };
+        finds = λ image left. (
+          next,
+          found_by place lists d image (Some (turn_after place, next)) steady left (open_after d (spare place) (turn_after place, next) image holds left) (other_turn place lists d steady)
+              ∙ ap (λ (x : Settings). let r : Result Settings ℕ = Ok x in r) (outcome_next place lists next),
+          refl,
+        );
+      }

@@ -1,0 +1,132 @@
+-- What a crash leaves of the two slots.
+use Rattle.std.proofs.Common.{◌≡◌, ◌≢◌, ◌⊎◌, ◌≤◌, ◌<◌, ◌+◌, ◌-◌, ◌*◌, ◌==◌, cond, ℕ, zero, suc, true, false, Option, Some, None, Result, Ok, List, length, take, drop, get_or, set, refl, arith, sym, ◌∙◌, ap, inl, inr}
+use Rattle.std.proofs.lemmas.Bool.{cases_eq, cases_lt, eq-eqb, ne_eqb, cases_Bool, both_ways, cond-true, cond-false}
+use Rattle.std.proofs.lemmas.List.{length-set, drop-set-lt, get_or-set_same, get_or-take, get_or-drop, take-set-le}
+use Rattle.aoe_lists.specs.Settings.{Settings}
+use Rattle.aoe_disk.specs.State.{Contents, CanLeave, HasShape, sector, is_loose}
+use Rattle.aoe_disk.proofs.Touching.{range_same, sector_front, sector_back}
+use Rattle.aoe_keep.specs.Body.{decode}
+use Rattle.aoe_keep.specs.Found.{slot, body, is_open, next_turn, choice, found}
+use Rattle.aoe_keep.specs.Stages.{NoneLoose, StaysClosed, StaysBody, StaysOpen, spare, IsSteady, IsOtherTurn}
+use Rattle.aoe_keep.specs.declared.place.Place.{Place}
+
+-- images with the same sectors have the same slots
+abbrev pub Agree : List ℕ → List ℕ → ℕ → ℕ → Type 0
+Agree x y lo n = (s : ℕ) → lo ≤ s → s < lo + n → sector x s ≡ sector y s
+
+pub gate_same : (x y : List ℕ) (k : ℕ) → Agree x y (8 * k) 1 → is_open x k ≡ is_open y k
+gate_same x y k same = ap (λ (s : List ℕ). get_or s 0 0 == 167) (same (8 * k) (omega arith) (omega arith))
+
+pub body_same : (x y : List ℕ) (k : ℕ) → Agree x y (8 * k + 1) 7 → body x k ≡ body y k
+body_same x y k same = range_same 7 (8 * k + 1) x y same
+
+pub left_same : (c : Contents) (image : List ℕ) (lo n : ℕ) → CanLeave c image → NoneLoose c lo n → Agree image c.bytes lo n
+left_same c image lo n left kept = λ s l h. left.kept s (kept s l h)
+
+pub closed_slot : (image : List ℕ) (k : ℕ) → is_open image k ≡ false → slot image k ≡ None
+closed_slot image k e = cond-false (is_open image k) (Some (decode (body image k))) None e
+
+pub open_slot : (image : List ℕ) (k : ℕ) (o : Option (ℕ × Settings)) → is_open image k ≡ true → decode (body image k) ≡ o → slot image k ≡ Some o
+open_slot image k o e r = cond-true (is_open image k) (Some (decode (body image k))) None e ∙ ap (λ (x : Option (ℕ × Settings)). Some x) r
+
+pub closed_after : (c : Contents) (k : ℕ) (image : List ℕ) → StaysClosed c k → CanLeave c image → slot image k ≡ None
+closed_after c k image closed left = closed_slot image k (gate_same image c.bytes k (left_same c image (8 * k) 1 left closed.kept) ∙ closed.gate)
+
+body_read : (c : Contents) (k : ℕ) (b : ℕ × Settings) (image : List ℕ) → StaysBody c k b → CanLeave c image → decode (body image k) ≡ Some b
+body_read c k b image has left = ap decode (body_same image c.bytes k (left_same c image (8 * k + 1) 7 left has.kept)) ∙ has.spells
+
+pub open_after : (c : Contents) (k : ℕ) (b : ℕ × Settings) (image : List ℕ) → StaysOpen c k b → CanLeave c image → slot image k ≡ Some (Some b)
+open_after c k b image holds left =
+    open_slot image k (Some b) (gate_same image c.bytes k (left_same c image (8 * k) 1 left holds.kept) ∙ holds.gate) (body_read c k b image holds.body left)
+
+pub body_after : (c : Contents) (k : ℕ) (b : ℕ × Settings) (image : List ℕ) → StaysBody c k b → CanLeave c image → (slot image k ≡ None) ⊎ (slot image k ≡ Some (Some b))
+body_after c k b image has left = elim (cases_Bool (is_open image k)) [
+  | inl opened ↦ inr (open_slot image k (Some b) opened (body_read c k b image has left))
+  | inr closed ↦ inl (closed_slot image k closed)
+]
+
+-- of two turns that differ one follows the other, and not the other way round
+rivals : (a b : ℕ) → a < 3 → b < 3 → a ≢ b → ((a ≡ next_turn b) × (b ≢ next_turn a)) ⊎ ((b ≡ next_turn a) × (a ≢ next_turn b))
+rivals zero zero la lb ne = absurd (ne refl)
+rivals zero (suc zero) la lb ne = inr (refl, λ e. cc)
+rivals zero (suc (suc zero)) la lb ne = inl (refl, λ e. cc)
+rivals (suc zero) zero la lb ne = inl (refl, λ e. cc)
+rivals (suc zero) (suc zero) la lb ne = absurd (ne refl)
+rivals (suc zero) (suc (suc zero)) la lb ne = inr (refl, λ e. cc)
+rivals (suc (suc zero)) zero la lb ne = inr (refl, λ e. cc)
+rivals (suc (suc zero)) (suc zero) la lb ne = inl (refl, λ e. cc)
+rivals (suc (suc zero)) (suc (suc zero)) la lb ne = absurd (ne refl)
+rivals (suc (suc (suc a))) b la lb ne = absurd (omega (arith, la))
+rivals a (suc (suc (suc b))) la lb ne = absurd (omega (arith, lb))
+
+-- the lists that are found, by what the spare slot holds
+abbrev pub outcome : Option Place → Settings → Option (ℕ × Settings) → Settings
+outcome place lists None = lists
+outcome None lists (Some b) = b.1
+outcome (Some p) lists (Some b) = cond (b.0 == next_turn p.turn) b.1 lists
+
+first_holds : (t : ℕ) (lists : Settings) (b : ℕ × Settings) → t < 3 → b.0 < 3 → b.0 ≢ t → choice (Some (Some (t, lists))) (Some (Some b)) ≡ Ok (cond (b.0 == next_turn t) b.1 lists)
+first_holds t lists b lt lb ne = elim (rivals b.0 t lb lt ne) [
+  | inl r ↦ rw (ne_eqb t (next_turn b.0) r.1, eq-eqb b.0 (next_turn t) r.0) refl
+  | inr r ↦ rw (eq-eqb t (next_turn b.0) r.0, ne_eqb b.0 (next_turn t) r.1) refl
+]
+
+second_holds : (t : ℕ) (lists : Settings) (b : ℕ × Settings) → t < 3 → b.0 < 3 → b.0 ≢ t → choice (Some (Some b)) (Some (Some (t, lists))) ≡ Ok (cond (b.0 == next_turn t) b.1 lists)
+second_holds t lists b lt lb ne = elim (rivals b.0 t lb lt ne) [
+  | inl r ↦ rw (eq-eqb b.0 (next_turn t) r.0) refl
+  | inr r ↦ rw (ne_eqb b.0 (next_turn t) r.1, eq-eqb t (next_turn b.0) r.0) refl
+]
+
+-- a slot that isn't bad
+abbrev pub seen : Option (ℕ × Settings) → Option (Option (ℕ × Settings))
+seen None = None
+seen (Some b) = Some (Some b)
+
+abbrev pub IsRival : Option Place → Option (ℕ × Settings) → Type 0
+IsRival place None = Unit {0}
+IsRival place (Some b) = IsOtherTurn place b.0
+
+found_of : (image : List ℕ) (a b : Option (Option (ℕ × Settings))) → slot image 0 ≡ a → slot image 1 ≡ b → found image ≡ choice a b
+found_of image a b ea eb = λ i. choice (ea i) (eb i)
+
+found_some : (k t : ℕ) (lists : Settings) (c : Contents) (image : List ℕ) (o : Option (ℕ × Settings)) → k < 2 → t < 3 → StaysOpen c k (t, lists) → CanLeave c image
+    → slot image (1 - k) ≡ seen o → IsRival (Some (record { slot = k; turn = t })) o → found image ≡ Ok (outcome (Some (record { slot = k; turn = t })) lists o)
+found_some zero t lists c image None lk lt holds left e rival = found_of image _ _ (open_after c 0 (t, lists) image holds left) e
+found_some zero t lists c image (Some b) lk lt holds left e rival = found_of image _ _ (open_after c 0 (t, lists) image holds left) e ∙ first_holds t lists b lt rival.0 rival.1
+found_some (suc zero) t lists c image None lk lt holds left e rival = found_of image _ _ e (open_after c 1 (t, lists) image holds left)
+found_some (suc zero) t lists c image (Some b) lk lt holds left e rival = found_of image _ _ e (open_after c 1 (t, lists) image holds left) ∙ second_holds t lists b lt rival.0 rival.1
+found_some (suc (suc k)) t lists c image o lk lt holds left e rival = absurd (omega (arith, lk))
+
+pub found_by : (place : Option Place) (lists : Settings) (c : Contents) (image : List ℕ) (o : Option (ℕ × Settings)) → IsSteady place lists c → CanLeave c image
+    → slot image (spare place) ≡ seen o → IsRival place o → found image ≡ Ok (outcome place lists o)
+found_by None lists c image None steady left e rival = found_of image _ _ e (closed_after c 1 image steady.1 left) ∙ ap (λ (x : Settings). let r : Result Settings ℕ = Ok x in r) (sym steady.0)
+found_by None lists c image (Some b) steady left e rival = found_of image _ _ e (closed_after c 1 image steady.1 left)
+found_by (Some p) lists c image o steady left e rival = found_some p.slot p.turn lists c image o steady.0 steady.1 steady.2 left e rival
+
+pub spare_small : (place : Option Place) → spare place ≤ 1
+spare_small None = omega arith
+spare_small (Some p) = omega arith
+
+-- a crash can leave a gate open that is loose, or that is open
+pub reopened : (c : Contents) (k sectors : ℕ) (b : ℕ × Settings) → HasShape sectors c → 16 ≤ sectors → k ≤ 1 → StaysBody c k b → (is_loose c.loose (8 * k) ≡ true) ⊎ (is_open c.bytes k ≡ true)
+    → (image : List ℕ) × CanLeave c image × (slot image k ≡ Some (Some b))
+reopened c k sectors b shape room lk has (inr opened) = (c.bytes, record { size = refl; kept = λ s e. refl }, open_slot c.bytes k (Some b) opened has.spells)
+reopened c k sectors b shape room lk has (inl loose) =
+    let image : List ℕ = set c.bytes (512 * (8 * k)) 167 in
+    let more : 512 * (8 * k) + 0 ≡ 512 * (8 * k) = omega arith in
+    let inside : 512 * (8 * k) < length c.bytes = omega (arith, shape.bytes) in
+    let left : CanLeave c (set c.bytes (512 * (8 * k)) 167) = record {
+      size = length-set c.bytes (512 * (8 * k)) 167;
+      kept = λ s e. elim (cases_lt s (8 * k)) [
+        | inl below ↦ sector_front (set c.bytes (512 * (8 * k)) 167) c.bytes s (512 * (8 * k)) (omega arith) (take-set-le (512 * (8 * k)) c.bytes (512 * (8 * k)) 167 (omega arith))
+        | inr above ↦ elim (cases_eq s (8 * k)) [
+          | inl same ↦ absurd (both_ways (is_loose c.loose s) e (ap (is_loose c.loose) same ∙ loose))
+          | inr other ↦ sector_back (set c.bytes (512 * (8 * k)) 167) c.bytes s (512 * (8 * k) + 1) (omega arith) (drop-set-lt (512 * (8 * k) + 1) c.bytes (512 * (8 * k)) 167 (omega arith))
+        ]
+      ];
+    } in
+    let gate : is_open (set c.bytes (512 * (8 * k)) 167) k ≡ true =
+    eq-eqb _ 167 (get_or-take 512 (drop (512 * (8 * k)) image) 0 0 (omega arith) ∙ get_or-drop (512 * (8 * k)) image 0 0 ∙ ap (λ (i : ℕ). get_or image i 0) more ∙ get_or-set_same c.bytes (512 * (8 * k)) 167 0 inside) in
+    let spells : decode (body (set c.bytes (512 * (8 * k)) 167) k) ≡ Some b =
+    ap (λ (l : List ℕ). decode (take 3584 l)) (drop-set-lt (512 * (8 * k + 1)) c.bytes (512 * (8 * k)) 167 (omega arith)) ∙ has.spells in
+    (set c.bytes (512 * (8 * k)) 167, left, open_slot (set c.bytes (512 * (8 * k)) 167) k (Some b) gate spells)

@@ -1,0 +1,87 @@
+-- What is spelled is read again.
+use Rattle.std.proofs.Common.{◌≡◌, ◌+◌, ◌-◌, ◌*◌, ◌==◌, ◌&&◌, cond, ℕ, zero, suc, true, Option, Some, None, List, [], ◌∷◌, ◌++◌, length, take, drop, replicate, refl, arith, sym, ◌∙◌, ap, length-append, append_assoc}
+use Rattle.std.specs.Int.{w16, to_be_bytes, from_be_bytes}
+use Rattle.std.specs.List.{All, flat_map, list_all}
+use Rattle.std.specs.Simd.{first_chunks}
+use Rattle.std.proofs.lemmas.List.{take_at, drop_at, drop-drop, length-replicate}
+use Rattle.std.proofs.lemmas.Bool.{lt-ltb, le-leb, and_from, cond-true}
+use Rattle.std.proofs.lemmas.Nat.{from_be_bytes-to_be_bytes_2}
+use Rattle.aoe_base.specs.declared.address.Mac.{Mac}
+use Rattle.aoe_lists.specs.Addresses.{all_unique}
+use Rattle.aoe_lists.specs.Reserves.{addresses}
+use Rattle.aoe_lists.specs.Settings.{Settings}
+use Rattle.aoe_keep.specs.Body.{Fits, fields_of, is_valid, decode, spelling, written, head_of}
+
+six_head : (a : Mac) (list : List Mac) → All (λ b. length b.0 ≡ 6) (a ∷ list) → length a.0 ≡ 6
+six_head a list six = six 0 a (omega arith)
+
+six_tail : (a : Mac) (list : List Mac) → All (λ b. length b.0 ≡ 6) (a ∷ list) → All (λ b. length b.0 ≡ 6) list
+six_tail a list six = λ k d l. six (suc k) d (omega (arith, l))
+
+pub length_joined : (list : List Mac) → All (λ a. length a.0 ≡ 6) list → length (flat_map (λ a. a.0) list) ≡ 6 * length list
+length_joined [] six = refl
+length_joined (a ∷ list) six = omega (arith, length-append a.0 (flat_map (λ b. b.0) list), six_head a list six, length_joined list (six_tail a list six))
+
+addresses_back : (list : List Mac) (rest : List ℕ) → All (λ a. length a.0 ≡ 6) list → addresses (first_chunks 6 (length list) (flat_map (λ a. a.0) list ++ rest)) ≡ list
+addresses_back [] rest six = refl
+addresses_back (a ∷ list) rest six =
+    let split : a.0 ++ flat_map (λ b. b.0) list ++ rest ≡ a.0 ++ (flat_map (λ b. b.0) list ++ rest) = append_assoc a.0 (flat_map (λ b. b.0) list) rest in
+    let first : take 6 (a.0 ++ flat_map (λ b. b.0) list ++ rest) ≡ a.0 = ap (take 6) split ∙ take_at a.0 _ 6 (six_head a list six) in
+    let after : drop 6 (a.0 ++ flat_map (λ b. b.0) list ++ rest) ≡ flat_map (λ b. b.0) list ++ rest = ap (drop 6) split ∙ drop_at a.0 _ 6 (six_head a list six) in
+    let others : addresses (first_chunks 6 (length list) (drop 6 (a.0 ++ flat_map (λ b. b.0) list ++ rest))) ≡ list = ap (λ (l : List ℕ). addresses (first_chunks 6 (length list) l)) after ∙ addresses_back list rest (six_tail a list six) in
+    λ i. (let m : Mac = record { 0 = first i } in m) ∷ others i
+
+zeros : (k : ℕ) → list_all (λ b. b == 0) (replicate k 0) ≡ true
+zeros zero = refl
+zeros (suc k) = zeros k
+
+module _ (turn : ℕ) (s : Settings) (fits : Fits turn s) (pad : ℕ) where
+  part : (c m r z : List ℕ) (n k : ℕ) → length c ≡ n → length m ≡ k → (drop n (c ++ m ++ r ++ z) ≡ m ++ (r ++ z)) × (drop (n + k) (c ++ m ++ r ++ z) ≡ r ++ z) × (take n (c ++ m ++ r ++ z) ≡ c)
+  part c m r z n k lc lm =
+      let f : c ++ m ++ r ++ z ≡ c ++ (m ++ (r ++ z)) = append_assoc (c ++ m) r z ∙ append_assoc c m (r ++ z) in
+      let d : drop n (c ++ m ++ r ++ z) ≡ m ++ (r ++ z) = ap (drop n) f ∙ drop_at c _ n lc in
+      (d, sym (drop-drop k n (c ++ m ++ r ++ z)) ∙ ap (drop k) d ∙ drop_at m (r ++ z) k lm, ap (take n) f ∙ take_at c _ n lc)
+
+  fields_back : fields_of (length s.config) (length s.masks) (length s.reserves) (s.config ++ flat_map (λ a. a.0) s.masks ++ flat_map (λ a. a.0) s.reserves ++ replicate pad 0) ≡ s
+  unfolding fields_of
+  fields_back =
+      let p = part s.config (flat_map (λ a. a.0) s.masks) (flat_map (λ a. a.0) s.reserves) (replicate pad 0) (length s.config) (6 * length s.masks) refl (length_joined s.masks fits.six_masks) in
+      let m = ap (λ (l : List ℕ). addresses (first_chunks 6 (length s.masks) l)) p.0 ∙ addresses_back s.masks _ fits.six_masks in
+      let r = ap (λ (l : List ℕ). addresses (first_chunks 6 (length s.reserves) l)) p.1 ∙ addresses_back s.reserves _ fits.six_reserves in
+      λ i. record { config = p.2 i; masks = m i; reserves = r i }
+
+  end_back : drop (length s.config + 6 * length s.masks + 6 * length s.reserves) (s.config ++ flat_map (λ a. a.0) s.masks ++ flat_map (λ a. a.0) s.reserves ++ replicate pad 0) ≡ replicate pad 0
+  end_back = drop_at (s.config ++ flat_map (λ a. a.0) s.masks ++ flat_map (λ a. a.0) s.reserves) (replicate pad 0) _
+      (omega (arith, length-append (s.config ++ flat_map (λ a. a.0) s.masks) (flat_map (λ a. a.0) s.reserves), length-append s.config (flat_map (λ a. a.0) s.masks), length_joined s.masks fits.six_masks, length_joined s.reserves fits.six_reserves))
+
+  valid_back : is_valid turn (length s.config) (length s.masks) (length s.reserves) (s.config ++ flat_map (λ a. a.0) s.masks ++ flat_map (λ a. a.0) s.reserves ++ replicate pad 0) ≡ true
+  unfolding is_valid
+  valid_back =
+      and_from _ _ (and_from _ _ (lt-ltb turn 3 fits.known_turn) (and_from _ _ (le-leb _ 1024 fits.config) (and_from _ _ (le-leb _ 64 fits.masks) (le-leb _ 64 fits.reserves))))
+      (and_from _ _ (ap (λ (x : Settings). all_unique x.masks) fields_back ∙ fits.unique_masks) (and_from _ _ (ap (λ (x : Settings). all_unique x.reserves) fields_back ∙ fits.unique_reserves) (ap (list_all (λ b. b == 0)) end_back ∙ zeros pad)))
+
+pub reads_back : (turn : ℕ) (s : Settings) → Fits turn s → decode (spelling turn s) ≡ Some (turn, s)
+unfolding decode spelling
+reads_back turn s fits =
+    let pad = 3584 - length (written turn s) in
+    let rest = s.config ++ flat_map (λ a. a.0) s.masks ++ flat_map (λ a. a.0) s.reserves ++ replicate pad 0 in
+    let n : from_be_bytes w16 (to_be_bytes w16 (length s.config)) ≡ length s.config = from_be_bytes-to_be_bytes_2 (length s.config) (omega (arith, fits.config)) in
+    let at : (k : ℕ) → Option (ℕ × Settings) = λ k. cond (true && is_valid turn k (length s.masks) (length s.reserves) rest) (Some (turn, fields_of k (length s.masks) (length s.reserves) rest)) None in
+    let here : decode (spelling turn s) ≡ at (from_be_bytes w16 (to_be_bytes w16 (length s.config))) = refl in
+    here ∙ ap at n ∙ cond-true _ _ None (valid_back turn s fits pad) ∙ ap (λ (x : Settings). Some (turn, x)) (fields_back turn s fits pad)
+
+pub length-written : (turn : ℕ) (s : Settings) → All (λ a. length a.0 ≡ 6) s.masks → All (λ a. length a.0 ≡ 6) s.reserves → length (written turn s) ≡ 10 + length s.config + 6 * length s.masks + 6 * length s.reserves
+length-written turn s sm sr =
+    omega (arith, length-append (head_of turn s ++ s.config ++ flat_map (λ a. a.0) s.masks) (flat_map (λ a. a.0) s.reserves), length-append (head_of turn s ++ s.config) (flat_map (λ a. a.0) s.masks), length-append (head_of turn s) s.config, length_joined s.masks sm, length_joined s.reserves sr)
+
+pub length-spelling : (turn : ℕ) (s : Settings) → Fits turn s → length (spelling turn s) ≡ 3584
+unfolding spelling
+length-spelling turn s fits =
+    omega (arith, length-append (written turn s) (replicate (3584 - length (written turn s)) 0), length-replicate {A = ℕ} (3584 - length (written turn s)) 0, length-written turn s fits.six_masks fits.six_reserves, fits.config, fits.masks, fits.reserves)
+
+-- what was appended, piece by piece, is the spelling
+pub spelled : (turn : ℕ) (s : Settings) (a b c d e : List ℕ) → a ≡ head_of turn s → b ≡ a ++ s.config → c ≡ b ++ flat_map (λ a. a.0) s.masks → d ≡ c ++ flat_map (λ a. a.0) s.reserves → e ≡ d ++ replicate (3584 - length d) 0 → e ≡ spelling turn s
+unfolding spelling
+spelled turn s a b c d e ea eb ec ed ee =
+    let all : d ≡ written turn s = ed ∙ ap (λ (l : List ℕ). l ++ flat_map (λ a. a.0) s.reserves) (ec ∙ ap (λ (l : List ℕ). l ++ flat_map (λ a. a.0) s.masks) (eb ∙ ap (λ (l : List ℕ). l ++ s.config) ea)) in
+    ee ∙ ap (λ (l : List ℕ). l ++ replicate (3584 - length l) 0) all

@@ -1,0 +1,41 @@
+-- Addresses that are read one by one.
+use Rattle.std.proofs.Common.{◌≡◌, ◌≤◌, ◌<◌, ◌+◌, ◌&&◌, ◌||◌, not, ℕ, zero, suc, Bool, true, false, List, [], ◌∷◌, ◌++◌, length, take, drop, get_or, refl, arith, sym, ◌∙◌, ap, take-append-drop}
+use Rattle.std.specs.Simd.{first_chunks}
+use Rattle.std.proofs.lemmas.List.{drop_more, map-append}
+use Rattle.std.proofs.lemmas.List.Folds.{list_any-append}
+use Rattle.std.proofs.lemmas.Bool.{and_right}
+use Rattle.std.proofs.lemmas.Bool.Decides.{same_from_decides}
+use Rattle.aoe_base.specs.declared.address.Mac.{Mac}
+use Rattle.aoe_lists.specs.Addresses.{same_address, holds, all_unique}
+use Rattle.aoe_lists.specs.Reserves.{addresses}
+use Rattle.aoe_lists.proofs.AddressLemmas.{same_address-Decides}
+
+pub take-first_chunks : (k count : ℕ) (xs : List ℕ) → count ≤ k → take count (first_chunks 6 k xs) ≡ first_chunks 6 count xs
+take-first_chunks k zero xs h = refl
+take-first_chunks zero (suc count) xs h = absurd (omega arith)
+take-first_chunks (suc k) (suc count) xs h = ap (λ (l : List (List ℕ)). take 6 xs ∷ l) (take-first_chunks k count (drop 6 xs) (omega arith))
+
+same_back : (a b : Mac) → same_address a b ≡ same_address b a
+same_back a b = same_from_decides (same_address a b) (same_address b a) (same_address-Decides a b)
+    ((λ e. sym ((same_address-Decides b a).0 e)), (λ e. (same_address-Decides b a).1 (sym e)))
+
+or_true : (x : Bool) → (x || true) ≡ true
+or_true true = refl
+or_true false = refl
+
+-- an address that stands in a list and again behind it
+twice : (list : List Mac) (a : Mac) (rest : List Mac) → holds list a ≡ true → all_unique (list ++ a ∷ rest) ≡ false
+twice [] a rest e = cc
+twice (x ∷ list) a rest e = at (same_address x a) refl e (λ h. twice list a rest h)
+  where
+    at : (t : Bool) → same_address x a ≡ t → (t || holds list a) ≡ true → (holds list a ≡ true → all_unique (list ++ a ∷ rest) ≡ false) → (not (holds (list ++ a ∷ rest) x) && all_unique (list ++ a ∷ rest)) ≡ false
+    at true same e later =
+        let again : holds (list ++ a ∷ rest) x ≡ true = list_any-append (λ b. same_address b x) list (a ∷ rest) ∙ ap (λ t. holds list x || (t || holds rest x)) (same_back a x ∙ same) ∙ or_true (holds list x) in
+        ap (λ t. not t && all_unique (list ++ a ∷ rest)) again
+    at false same e later = and_right _ _ (later e)
+
+pub twice_at : (sixes : List (List ℕ)) (i : ℕ) (d : List ℕ) → i < length sixes → holds (addresses (take i sixes)) (record { 0 = get_or sixes i d }) ≡ true → all_unique (addresses sixes) ≡ false
+twice_at sixes i d l e =
+    let split : sixes ≡ take i sixes ++ get_or sixes i d ∷ drop (i + 1) sixes = sym (take-append-drop i sixes) ∙ ap (λ (r : List (List ℕ)). take i sixes ++ r) (drop_more sixes i d l) in
+    let a : Mac = record { 0 = get_or sixes i d } in
+    ap (λ (r : List (List ℕ)). all_unique (addresses r)) split ∙ ap all_unique (map-append _ (take i sixes) (get_or sixes i d ∷ drop (i + 1) sixes)) ∙ twice (addresses (take i sixes)) a (addresses (drop (i + 1) sixes)) e

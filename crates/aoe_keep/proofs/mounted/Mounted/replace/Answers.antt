@@ -1,0 +1,41 @@
+use Rattle.std.proofs.Common.{◌∙◌}
+use Rattle.aoe_keep.proofs.Told.{told_link}
+use Rattle.aoe_keep.proofs.Keeping.{kept_replaced, finds_replaced, unplaced}
+use Rattle.aoe_keep.proofs.Calls.{stage_interrupted, err_now}
+use Rattle.aoe_keep.proofs.Others.{others_then}
+use Rattle.aoe_keep.proofs.mounted.Mounted.replace.Goals as goal
+
+pub returns-in_err-stage-clause-err : goal.returns-in_err-stage-clause-err
+returns-in_err-stage-clause-err g c = err_now c.from_residual-in_err-stage.result (record {
+  lists = c.stage.ensures.lists ∙ c.clear.ensures.lists;
+  room = c.in_err-stage.ensures.err.room;
+  disk = stage_interrupted c.stage.new.self.place c.stage.new.self.lists c.args.next.now c.stage.new.self.is_closed _ _
+      c.in_err-stage.ensures.err.closed (c.stage.ensures.run.tells ∙ c.clear.ensures.run.tells) c.in_err-stage.ensures.err.disk;
+})
+
+pub returns-in_err-open-clause-err : goal.returns-in_err-open-clause-err
+returns-in_err-open-clause-err g c = err_now c.from_residual-in_err-open.result (record {
+  lists = c.open.ensures.lists ∙ c.stage.ensures.lists ∙ c.clear.ensures.lists;
+  room = c.in_err-open.ensures.err.room;
+  disk = told_link _ _ _ _ (c.open.ensures.run.tells ∙ c.stage.ensures.run.tells ∙ c.clear.ensures.run.tells) (λ x y h. h x) c.in_err-open.ensures.err.disk;
+})
+
+pub returns-clause-ok : goal.returns-clause-ok
+returns-clause-ok g c = record {
+  lists = c.copy-self.ensures;
+  mounted = record {
+    room = c.in_ok-open.ensures.ok.room;
+    disk = kept_replaced c.open.new.self.place c.spare_slot-slot.result c.spare_turn-turn.result c.is_none-self.result c.copy-self.result c.args.next.now _
+        c.spare_slot-slot.ensures.slot c.spare_turn-turn.ensures.turn (unplaced c.open.new.self.place c.is_none-self.result c.is_none-self.ensures) c.copy-self.ensures c.in_ok-open.ensures.ok.disk;
+  };
+  finds = finds_replaced c.open.new.self.place c.args.next.now _ c.in_ok-open.ensures.ok.disk;
+}
+
+pub returns-in_err-stage-clause-others : goal.returns-in_err-stage-clause-others
+returns-in_err-stage-clause-others g c = others_then _ _ _ c.clear.ensures.others c.stage.ensures.others
+
+pub returns-in_err-open-clause-others : goal.returns-in_err-open-clause-others
+returns-in_err-open-clause-others g c = others_then _ _ _ (others_then _ _ _ c.clear.ensures.others c.stage.ensures.others) c.open.ensures.others
+
+pub returns-clause-others : goal.returns-clause-others
+returns-clause-others g c = others_then _ _ _ (others_then _ _ _ c.clear.ensures.others c.stage.ensures.others) c.open.ensures.others

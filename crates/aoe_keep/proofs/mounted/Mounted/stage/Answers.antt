@@ -1,0 +1,34 @@
+use Rattle.std.proofs.Common.{◌∙◌, ℕ, Some, arith, ap}
+use Rattle.std.proofs.lemmas.Result.{on_ok_weaker}
+use Rattle.aoe_keep.specs.Body.{decode}
+use Rattle.aoe_keep.proofs.Calls.{body_step, sync_step, staged_ok, err_now}
+use Rattle.aoe_keep.proofs.Runs.{run_ends}
+use Rattle.aoe_keep.proofs.Others.{sync_others, others_then}
+use Rattle.aoe_keep.proofs.mounted.Mounted.stage.Goals as goal
+
+pub returns-in_err-write_body-clause-err : goal.returns-in_err-write_body-clause-err
+returns-in_err-write_body-clause-err g c = err_now c.from_residual.result (record {
+  room = omega (arith, c.requires.room, c.write_body.ensures.call.sectors);
+  closed = c.requires.closed;
+  disk = body_step c.args.self.now.place c.args.self.now.lists c.args.next.now c.spare_slot.result c.as_slice.result.now c.write_body.result _ _ c.spare_slot.ensures.slot c.requires.disk c.write_body.ensures.body;
+})
+
+pub returns-clause-err : goal.returns-clause-err
+returns-clause-err g c = err_now c.sync.result (record {
+  room = omega (arith, c.requires.room, c.write_body.ensures.call.sectors, c.sync.ensures.call.sectors);
+  closed = c.requires.closed;
+  disk = sync_step c.args.self.now.place c.args.self.now.lists c.args.next.now c.sync.result _ _
+      (body_step c.args.self.now.place c.args.self.now.lists c.args.next.now c.spare_slot.result c.as_slice.result.now c.write_body.result _ _ c.spare_slot.ensures.slot c.requires.disk c.write_body.ensures.body) c.sync.ensures.contents;
+})
+
+pub returns-clause-ok : goal.returns-clause-ok
+returns-clause-ok g c =
+    on_ok_weaker c.sync.result (λ told. record { room = omega (arith, c.requires.room, c.write_body.ensures.call.sectors, c.sync.ensures.call.sectors); disk = told })
+    (staged_ok c.args.self.now.place c.args.self.now.lists c.args.next.now c.spare_slot.result c.as_slice.result.now c.write_body.result _ c.sync.result _ _ _ c.in_ok-write_body.was c.spare_slot.ensures.slot
+    (ap decode c.as_slice.ensures.value ∙ c.spell-body.ensures.read ∙ ap (λ (t : ℕ). Some (t, c.args.next.now)) c.spare_turn.ensures.turn) c.requires.disk c.write_body.ensures.body c.sync.ensures.contents)
+
+pub returns-in_err-write_body-clause-run : goal.returns-in_err-write_body-clause-run
+returns-in_err-write_body-clause-run g c = run_ends 1 2 c.write_body.result _ _ _ _ c.in_err-write_body.was c.from_residual.ensures.0 (omega arith) c.write_body.ensures.call
+
+pub returns-clause-others : goal.returns-clause-others
+returns-clause-others g c = others_then _ _ _ c.write_body.ensures.others (sync_others c.sync.result _ _ c.sync.ensures.contents)

@@ -1,0 +1,4 @@
+pub mod Body
+pub mod Found
+pub mod Stages
+pub mod Keep

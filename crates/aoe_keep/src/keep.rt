@@ -1,0 +1,92 @@
+//! A keep: lists on a disk.
+ghost use Rattle.std.specs.Prelude.{◌≡◌, ◌≤◌, OnOk, OnErr, IfOk, IfErr, is_err};
+ghost use Rattle.aoe_disk.specs.Calls.{IsRun};
+ghost use Rattle.aoe_keep.specs.Found.{AlwaysFinds, FindsOffered};
+ghost use Rattle.aoe_keep.specs.Keep.{Mounts, IsRefused, KeepsOthers};
+
+use crate::MountRefusal;
+use crate::mount::mount;
+use crate::mounted::Mounted;
+use aoe_base::Failed;
+use aoe_disk::{Arm, Armed, Disk};
+use aoe_lists::Lists;
+use std::marker::Model;
+
+/// The lists of a device, on a disk where they outlive a loss of power.
+#[derive(Drop)]
+pub struct Keep<D: Disk> {
+    mounted: Mounted<D>,
+}
+
+impl<D: Disk> Model for Keep<D> {
+    ghost use Rattle.aoe_keep.specs.Keep.{Kept, IsMounted};
+
+    ghost Value = { Kept D };
+
+    ghost view = { λ k. record { disk = k.mounted.disk; lists = k.mounted.lists } };
+
+    ghost invariant = { λ k. IsMounted D.state k.mounted };
+}
+
+impl<D: Disk> Keep<D> {
+    /// The keep of a disk of at least 16 sectors. The disk is synced and then read, and nothing is
+    /// written to it.
+    pub fn mount(disk: D) -> Result<Keep<D>, (MountRefusal, D)>
+        ensures lists { IfOk result (λ keep. Mounts (D.state disk) (D.state keep.disk) keep.lists) }
+        ensures finds { IfOk result (λ keep. AlwaysFinds (D.state keep.disk) keep.lists) }
+        ensures refused { IfErr result (λ e. IsRefused D.state disk e.0 e.1) }
+    {
+        Ok(Keep {
+            mounted: mount(disk)?,
+        })
+    }
+
+    /// The lists that the keep holds.
+    pub fn lists(&self) -> &Lists
+        ensures { result.now ≡ self.now.lists }
+    {
+        &self.mounted.lists
+    }
+
+    /// Makes `next` the lists, by six device calls: from then on every crash finds them. Where one
+    /// of the calls fails the lists stay, and a crash finds them, or `next`, or what a crash just
+    /// before could find.
+    pub fn replace(&mut self, next: &Lists) -> Result<(), Failed>
+        ensures lists { OnOk result (self.new.lists ≡ next.now) }
+        ensures finds { OnOk result (AlwaysFinds (D.state self.new.disk) next.now) }
+        ensures stays { OnErr result (self.new.lists ≡ self.old.lists) }
+        ensures offered { OnErr result (FindsOffered (D.state self.old.disk) (D.state self.new.disk) self.old.lists next.now) }
+        ensures others { KeepsOthers (D.state self.old.disk) (D.state self.new.disk) }
+        ensures run { IsRun 6 (is_err result) (D.state self.old.disk) (D.state self.new.disk) }
+    {
+        self.mounted.replace(next)
+    }
+
+    /// The disk.
+    pub fn close(self) -> D
+        ensures { result ≡ self.disk }
+    {
+        self.mounted.disk
+    }
+}
+
+impl<D: Armed> Keep<D> {
+    ghost use Rattle.std.specs.Prelude.{◌≡◌, ◌<◌, IfSome};
+    ghost use Rattle.aoe_disk.specs.Arming.{number_of, ArmsTo};
+
+    /// Arms the disk, in place of what was armed before.
+    pub fn arm(&mut self, arm: Arm)
+        requires { 0 < number_of arm }
+        ensures lists { self.new.lists ≡ self.old.lists }
+        ensures armed { ArmsTo arm (D.state self.old.disk) (D.state self.new.disk) }
+    {
+        self.mounted.disk.arm(arm);
+    }
+
+    /// Whether the disk reached a stop.
+    pub fn is_out(&self) -> bool
+        ensures { IfSome (D.state self.now.disk).schedule (λ schedule. result ≡ schedule.out) }
+    {
+        self.mounted.disk.is_out()
+    }
+}

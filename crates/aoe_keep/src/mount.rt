@@ -1,0 +1,141 @@
+//! The lists that stand on a disk.
+ghost use Rattle.std.specs.Prelude.{◌≡◌, ◌≤◌, ◌<◌, ◌+◌, ◌*◌, ℕ, length, IfSome, IfOk, IfErr, OnOk, OnErr, MatchResult, Some, true, false, Ok, Err, is_err};
+ghost use Rattle.std.specs.Bool.{OnTrue};
+ghost use Rattle.aoe_disk.specs.State.{BothTell};
+ghost use Rattle.aoe_disk.specs.Calls.{IsRun, Settles};
+ghost use Rattle.aoe_disk.specs.Sectors.{Calms};
+ghost use Rattle.aoe_keep.specs.Found.{slot, choice};
+ghost use Rattle.aoe_keep.specs.Stages.{placement};
+ghost use Rattle.aoe_keep.specs.Keep.{IsMounted, Mounts, IsRefused, RunsBetween, ReadsSlots};
+
+use crate::MountRefusal;
+use crate::body::{BODY, read};
+use crate::mounted::{Mounted, OPEN};
+use crate::place::{Place, turn_following};
+use aoe_base::Failed;
+use aoe_disk::Disk;
+use aoe_lists::Lists;
+
+/// How many sectors a keep has.
+const SECTORS: u64 = 16;
+
+/// What a slot holds: nothing where its gate is closed, else what its body spells.
+type Slot = Option<Option<(u8, Lists)>>;
+
+/// The present lists, the slot that holds them, and whether the other one is closed.
+#[derive(Drop)]
+pub(crate) struct Present {
+    lists: Lists,
+    place: Option<Place>,
+    is_closed: bool,
+}
+
+/// The lists of one slot, of which the other is closed.
+fn only(lists: Lists, slot: u8, turn: u8) -> Present
+    ensures lists { result.lists ≡ lists }
+    ensures place { result.place ≡ Some (record { slot = slot; turn = turn }) }
+    ensures closed { result.is_closed ≡ true }
+{
+    Present {
+        lists,
+        place: Some(Place { slot, turn }),
+        is_closed: true,
+    }
+}
+
+/// The lists of one of two open slots.
+fn later(lists: Lists, slot: u8, turn: u8) -> Present
+    ensures lists { result.lists ≡ lists }
+    ensures place { result.place ≡ Some (record { slot = slot; turn = turn }) }
+    ensures closed { result.is_closed ≡ false }
+{
+    Present {
+        lists,
+        place: Some(Place { slot, turn }),
+        is_closed: false,
+    }
+}
+
+/// The lists of the two slots, or the slot that is bad.
+fn choose(first: Slot, second: Slot) -> Result<Present, u8>
+    ensures { MatchResult result
+        (λ p. (choice first second ≡ Ok p.lists) × (placement first second ≡ (p.place, p.is_closed)))
+        (λ k. choice first second ≡ Err k) }
+{
+    match (first, second) {
+        (None, None) => Ok(Present {
+            lists: Lists::new(),
+            place: None,
+            is_closed: true,
+        }),
+        (None, Some(Some((turn, lists)))) => Ok(only(lists, 1, turn)),
+        (Some(Some((turn, lists))), None) => Ok(only(lists, 0, turn)),
+        (Some(None), _) => Err(0),
+        (_, Some(None)) => Err(1),
+        (Some(Some((turn, lists))), Some(Some((other_turn, other_lists)))) => {
+            if turn == turn_following(other_turn) {
+                Ok(later(lists, 0, turn))
+            } else if other_turn == turn_following(turn) {
+                Ok(later(other_lists, 1, other_turn))
+            } else {
+                Err(1)
+            }
+        }
+    }
+}
+
+/// Reads a slot: its gate, and where that is open its body.
+fn read_slot<D: Disk>(disk: &mut D, k: u8) -> Result<Slot, Failed>
+    requires room { 16 ≤ (D.state disk.old).sectors }
+    requires slot { k ≤ 1 }
+    ensures slot { IfOk result (λ held. IfSome (D.state disk.old).contents (λ c. slot c.bytes k ≡ held)) }
+    ensures same { (D.state disk.new).contents ≡ (D.state disk.old).contents }
+    ensures run { RunsBetween 1 2 (is_err result) (D.state disk.old) (D.state disk.new) }
+{
+    let start = 8 * u64::from(k);
+    let mut gate = [0; 512];
+    disk.read(start, &mut gate)?;
+    if gate[0] != OPEN {
+        return Ok(None);
+    }
+    let mut body = [0; BODY];
+    disk.read(start + 1, &mut body)?;
+    Ok(Some(read(&body)))
+}
+
+/// Reads the lists that stand on a disk, or the slot that is bad, after a sync.
+fn read_slots<D: Disk>(disk: &mut D) -> Result<Result<Present, u8>, Failed>
+    requires { 16 ≤ (D.state disk.old).sectors }
+    ensures found { IfOk result (λ read. BothTell (ReadsSlots read) (D.state disk.old).contents (D.state disk.new).contents) }
+    ensures calm { BothTell Calms (D.state disk.old).contents (D.state disk.new).contents }
+    ensures err { OnErr result (RunsBetween 1 5 true (D.state disk.old) (D.state disk.new)) }
+    ensures ok { OnOk result (RunsBetween 3 5 false (D.state disk.old) (D.state disk.new)) }
+{
+    disk.sync()?;
+    let first = read_slot(disk, 0)?;
+    let second = read_slot(disk, 1)?;
+    Ok(choose(first, second))
+}
+
+/// A disk with the lists that stand on it.
+pub(crate) fn mount<D: Disk>(disk: D) -> Result<Mounted<D>, (MountRefusal, D)>
+    ensures mounted { IfOk result (λ k. IsMounted D.state k) }
+    ensures ok { IfOk result (λ k. Mounts (D.state disk) (D.state k.disk) k.lists) }
+    ensures refused { IfErr result (λ e. IsRefused D.state disk e.0 e.1) }
+{
+    let mut disk = disk;
+    let sectors = disk.sectors();
+    if sectors < SECTORS {
+        return Err((MountRefusal::TooSmall { sectors }, disk));
+    }
+    match read_slots(&mut disk) {
+        Err(Failed) => Err((MountRefusal::Failed, disk)),
+        Ok(Err(slot)) => Err((MountRefusal::BadKeep { slot }, disk)),
+        Ok(Ok(present)) => Ok(Mounted {
+            disk,
+            lists: present.lists,
+            place: present.place,
+            is_closed: present.is_closed,
+        }),
+    }
+}
