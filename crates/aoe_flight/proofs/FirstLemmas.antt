@@ -1,0 +1,176 @@
+-- The best of a list in an order.
+use Rattle.std.proofs.Common.{ℕ, ◌≡◌, ◌-◌, ◌<◌, ◌≤◌, ◌&&◌, not, Bool, true, false, List, [], ◌∷◌, Option, Some, None, ◌⊎◌, inl, inr, refl, sym, subst, ◌∙◌, arith, nat_eq, nat_lt, nat_le}
+use Rattle.std.specs.Prelude.{option_map, Contains, All, IfNone, IfSome}
+use Rattle.std.proofs.lemmas.Bool.{and_cases, and_left, and_parts, and_right, cases_eq, eqb-false, eqb-true, not-true, or_cases, or_from, le-ltb, ltb-true, ltb-false, ne_eqb, or_parts, cases_Bool}
+use Rattle.std.proofs.lemmas.List.Elements.{All-cons, All-filter, All-nil}
+use Rattle.slab.proofs.SlabLemmas.{Contains-cons}
+use Rattle.aoe_base.specs.declared.counted.Ticket.{Ticket}
+use Rattle.aoe_flight.specs.declared.outstanding.Outstanding.{Outstanding}
+use Rattle.aoe_flight.specs.Outstanding.{best, deadline, is_better, is_due, is_expired, is_over, live, lower, precedes, IsFirst}
+use Rattle.aoe_flight.proofs.LiveLemmas.{Contains-live}
+
+pub record IsOrder (before : Outstanding → Outstanding → Bool) : Type 0 where
+  pub same : (a : Outstanding) → before a a ≡ false
+  pub past : (a b c : Outstanding) → before a b ≡ true → before a c ≡ false → before b c ≡ false
+  pub neither : (a b c : Outstanding) → before a b ≡ false → before b c ≡ false → before a c ≡ false
+
+pub lower-order : IsOrder lower
+lower-order = record {
+  same = λ a. le-ltb a.ticket.0 a.ticket.0 (omega arith);
+  past = λ a b c is out. le-ltb b.ticket.0 c.ticket.0 (omega (arith, ltb-true a.ticket.0 b.ticket.0 is, ltb-false a.ticket.0 c.ticket.0 out));
+  neither = λ a b c first second. le-ltb a.ticket.0 c.ticket.0 (omega (arith, ltb-false a.ticket.0 b.ticket.0 first, ltb-false b.ticket.0 c.ticket.0 second));
+}
+
+precedes-false : (a b : Outstanding) → precedes a b ≡ false → (deadline b ≤ deadline a) × (deadline a ≡ deadline b → b.ticket.0 ≤ a.ticket.0)
+precedes-false a b out =
+    let parts = or_parts (nat_lt (deadline a) (deadline b)) (nat_eq (deadline a) (deadline b) && nat_lt a.ticket.0 b.ticket.0) out in (
+      ltb-false (deadline a) (deadline b) parts.0,
+      λ same. elim (and_cases (nat_eq (deadline a) (deadline b)) (nat_lt a.ticket.0 b.ticket.0) parts.1) [
+        | inl other ↦ absurd (eqb-false (deadline a) (deadline b) other same)
+        | inr higher ↦ ltb-false a.ticket.0 b.ticket.0 higher
+      ],
+    )
+
+precedes-from : (a b : Outstanding) → deadline b ≤ deadline a → (deadline a ≡ deadline b → b.ticket.0 ≤ a.ticket.0) → precedes a b ≡ false
+precedes-from a b later higher =
+    or_from (nat_lt (deadline a) (deadline b)) (nat_eq (deadline a) (deadline b) && nat_lt a.ticket.0 b.ticket.0) (le-ltb (deadline a) (deadline b) later)
+    (elim (cases_eq (deadline a) (deadline b)) [
+      | inl same ↦ and_right (nat_eq (deadline a) (deadline b)) (nat_lt a.ticket.0 b.ticket.0) (le-ltb a.ticket.0 b.ticket.0 (higher same))
+      | inr other ↦ and_left (nat_eq (deadline a) (deadline b)) (nat_lt a.ticket.0 b.ticket.0) (ne_eqb (deadline a) (deadline b) other)
+    ])
+
+precedes-true : (a b : Outstanding) → precedes a b ≡ true → (deadline a < deadline b) ⊎ ((deadline a ≡ deadline b) × (a.ticket.0 < b.ticket.0))
+precedes-true a b is = elim (or_cases (nat_lt (deadline a) (deadline b)) (nat_eq (deadline a) (deadline b) && nat_lt a.ticket.0 b.ticket.0) is) [
+  | inl earlier ↦ inl (ltb-true (deadline a) (deadline b) earlier)
+  | inr both ↦
+      let parts = and_parts (nat_eq (deadline a) (deadline b)) (nat_lt a.ticket.0 b.ticket.0) both in
+      inr (eqb-true (deadline a) (deadline b) parts.0, ltb-true a.ticket.0 b.ticket.0 parts.1)
+]
+
+pub precedes-order : IsOrder precedes
+precedes-order = record {
+  same = λ a. precedes-from a a (omega arith) (λ _. omega arith);
+  past = λ a b c is out.
+      let after = precedes-false a c out in
+      elim (precedes-true a b is) [
+        | inl earlier ↦ precedes-from b c (omega (arith, earlier, after.0)) (λ same. absurd (omega (arith, earlier, after.0, same)))
+        | inr tied ↦ precedes-from b c (omega (arith, tied.0, after.0)) (λ same. omega (arith, tied.1, after.1 (tied.0 ∙ same)))
+      ];
+  neither = λ a b c first second.
+      let one = precedes-false a b first in
+      let two = precedes-false b c second in
+      precedes-from a c (omega (arith, one.0, two.0)) (λ same.
+      let tied : deadline a ≡ deadline b = omega (arith, one.0, two.0, same) in
+      omega (arith, one.1 tied, two.1 (sym tied ∙ same)));
+}
+
+-- what the best of a list and of the best so far has
+pub record Best (test : Outstanding → Bool) (before : Outstanding → Outstanding → Bool) (so_far : Option Outstanding) (commands : List Outstanding) (c : Outstanding) : Type 0 where
+  pub from : (so_far ≡ Some c) ⊎ (Contains commands c × (test c ≡ true))
+  pub first : (b : Outstanding) → so_far ≡ Some b → before b c ≡ false
+  pub least : All (λ d. test d ≡ true → before d c ≡ false) commands
+
+better-than : (before : Outstanding → Outstanding → Bool) (d b : Outstanding) (so_far : Option Outstanding) (t : Bool) → is_better before d so_far ≡ t → so_far ≡ Some b → before d b ≡ t
+better-than before d b so_far t is at = let P : Option Outstanding → Type 0 = λ o. is_better before d o ≡ t in subst P at is
+
+pub best-is : (test : Outstanding → Bool) (before : Outstanding → Outstanding → Bool) → IsOrder before → (commands : List Outstanding) (so_far : Option Outstanding) (c : Outstanding)
+    → best test before so_far commands ≡ Some c → Best test before so_far commands c
+best-is test before order [] so_far c is = record {
+  from = inl is;
+  first = λ b at. let some : Some b ≡ Some c = sym at ∙ is in let same : b ≡ c = cc in rw same (order.same c);
+  least = All-nil (λ d. test d ≡ true → before d c ≡ false);
+}
+best-is test before order (d ∷ commands) so_far c is = elim (cases_Bool (test d && is_better before d so_far)) [
+  | inl taken ↦
+      let parts = and_parts (test d) (is_better before d so_far) taken in
+      let next : best test before (Some d) commands ≡ Some c = rw taken at is in
+      let rest = best-is test before order commands (Some d) c next in
+      let behind : before d c ≡ false = rest.first d refl in
+      record {
+        from = inr (elim rest.from [
+          | inl here ↦ let same : d ≡ c = cc in ((0, omega arith, same), rw (← same) parts.0)
+          | inr there ↦ (Contains-cons d c commands there.0, there.1)
+        ]);
+        first = λ b at. order.past d b c (better-than before d b so_far true parts.1 at) behind;
+        least = All-cons (λ e. test e ≡ true → before e c ≡ false) d commands (λ _. behind) rest.least;
+      }
+  | inr left ↦
+      let next : best test before so_far commands ≡ Some c = rw left at is in
+      let rest = best-is test before order commands so_far c next in
+      record {
+        from = elim rest.from [ inl here ↦ inl here | inr there ↦ inr (Contains-cons d c commands there.0, there.1) ];
+        first = rest.first;
+        least = All-cons (λ e. test e ≡ true → before e c ≡ false) d commands (λ passes. worse so_far rest left passes refl) rest.least;
+      }
+]
+  where
+    worse : (so : Option Outstanding) → Best test before so_far commands c → (test d && is_better before d so_far) ≡ false → test d ≡ true → so_far ≡ so → before d c ≡ false
+    worse None rest left passes at =
+        let P : Option Outstanding → Type 0 = λ o. (test d && is_better before d o) ≡ false in
+        let here = subst P at left in
+        let impossible = rw passes at here in
+        absurd cc
+    worse (Some b) rest left passes at =
+        let P : Option Outstanding → Type 0 = λ o. (test d && is_better before d o) ≡ false in
+        let here = subst P at left in
+        let not_before : before d b ≡ false = rw passes at here in
+        order.neither d b c not_before (rest.first b at)
+
+pub best-none : (test : Outstanding → Bool) (before : Outstanding → Outstanding → Bool) (commands : List Outstanding) (so_far : Option Outstanding)
+    → best test before so_far commands ≡ None → (so_far ≡ None) × All (λ c. test c ≡ false) commands
+best-none test before [] so_far is = (is, All-nil (λ c. test c ≡ false))
+best-none test before (d ∷ commands) so_far is = elim (cases_Bool (test d && is_better before d so_far)) [
+  | inl taken ↦
+      let next : best test before (Some d) commands ≡ None = rw taken at is in
+      let impossible = (best-none test before commands (Some d) next).0 in
+      absurd cc
+  | inr left ↦
+      let next : best test before so_far commands ≡ None = rw left at is in
+      let rest = best-none test before commands so_far next in
+      let P : Option Outstanding → Type 0 = λ o. (test d && is_better before d o) ≡ false in
+      let here = subst P rest.0 left in
+      (rest.0, All-cons (λ c. test c ≡ false) d commands (no_and (test d) here) rest.1)
+]
+  where
+    no_and : (b : Bool) → (b && true) ≡ false → b ≡ false
+    no_and true both = both
+    no_and false both = refl
+
+-- among those that fly or rest
+pub first-live : (test : Outstanding → Bool) (before : Outstanding → Outstanding → Bool) (rest latest : ℕ) → IsOrder before → ((c : Outstanding) → test c ≡ true → c.finished ≡ false) → (commands : List Outstanding)
+    → (result : Option Ticket) → result ≡ option_map (λ c. c.ticket) (best test before None commands)
+    → IfSome result (λ ticket. (c : Outstanding) × (c.ticket ≡ ticket) × IsFirst test before (live rest latest commands) c)
+first-live test before rest latest order flying commands None is = tt
+first-live test before rest latest order flying commands (Some ticket) is = at (best test before None commands) refl is
+  where
+    at : (o : Option Outstanding) → best test before None commands ≡ o → Some ticket ≡ option_map (λ c. c.ticket) o
+        → (c : Outstanding) × (c.ticket ≡ ticket) × IsFirst test before (live rest latest commands) c
+    at None found named = absurd cc
+    at (Some c) found named =
+        let b = best-is test before order commands None c found in
+        let same : ticket ≡ c.ticket = cc in
+        let there : Contains commands c × (test c ≡ true) = elim b.from [ inl none ↦ absurd cc | inr one ↦ one ] in (
+          c,
+          sym same,
+          record {
+            there = Contains-live rest latest commands c (flying c there.1) there.0;
+            passes = there.1;
+            least = All-filter (λ (d : Outstanding). not (is_over rest latest d)) (λ d. test d ≡ true → before d c ≡ false) commands b.least;
+          },
+        )
+
+pub none-live : (test : Outstanding → Bool) (before : Outstanding → Outstanding → Bool) (rest latest : ℕ) (commands : List Outstanding)
+    → (result : Option Ticket) → result ≡ option_map (λ c. c.ticket) (best test before None commands)
+    → IfNone result (All (λ c. test c ≡ false) (live rest latest commands))
+none-live test before rest latest commands (Some ticket) is = tt
+none-live test before rest latest commands None is = at (best test before None commands) refl is
+  where
+    at : (o : Option Outstanding) → best test before None commands ≡ o → None ≡ option_map (λ c. c.ticket) o → All (λ c. test c ≡ false) (live rest latest commands)
+    at (Some c) found named = absurd cc
+    at None found named = All-filter (λ (d : Outstanding). not (is_over rest latest d)) (λ c. test c ≡ false) commands (best-none test before commands None found).1
+
+pub due-flies : (now : ℕ) (c : Outstanding) → is_due now c ≡ true → c.finished ≡ false
+due-flies now c due = not-true c.finished (and_parts (not c.finished) (nat_le c.wait.0 (now - c.flying.last.0)) due).0
+
+pub expired-flies : (dead now : ℕ) (c : Outstanding) → is_expired dead now c ≡ true → c.finished ≡ false
+expired-flies dead now c expired = not-true c.finished (and_parts (not c.finished) (nat_le dead (now - c.flying.first.0)) expired).0

@@ -1,0 +1,6 @@
+mod FirstLemmas
+mod InsertLemmas
+mod LiveLemmas
+mod SlotLemmas
+mod SoundLemmas
+mod TagLemmas

@@ -1,0 +1,100 @@
+-- The next tag, and tags that stand once.
+use Rattle.std.proofs.Common.{ℕ, ◌≡◌, ◌+◌, ◌-◌, ◌<◌, ◌≤◌, cond, Bool, true, false, List, [], ◌∷◌, length, inl, inr, refl, ap, ◌∙◌, arith, zero-add, nat_lt, if◌then◌else◌}
+use Rattle.std.specs.List.{count_by, list_any}
+use Rattle.std.proofs.lemmas.Bool.{cases_lt, eqb-true, lt-ltb, le-ltb, ltb-true}
+use Rattle.std.proofs.lemmas.List.Sums.{count_by-le-length, sum_by-cons, sum_by-le-sum_by}
+use Rattle.aoe_flight.specs.declared.outstanding.Outstanding.{Outstanding}
+use Rattle.aoe_flight.specs.Outstanding.{has_tag, is_taken, tag_after, IsNextTag}
+
+-- how many steps after the next of `last` a tag comes
+distance : ℕ → ℕ → ℕ
+distance last tag = if nat_lt last tag then tag - last - 1 else tag + 4294967295 - last - 1
+
+distance-after : (last steps : ℕ) → last ≤ 4294967295 → steps < 4294967295 → distance last (tag_after last steps) ≡ steps
+unfolding distance
+distance-after last steps most few = elim (cases_lt (last + steps) 4294967295) [
+  | inl low ↦
+      let here : tag_after last steps ≡ last + steps + 1 = rw (lt-ltb (last + steps) 4294967295 low) refl in
+      let above : nat_lt last (last + steps + 1) ≡ true = lt-ltb last (last + steps + 1) (omega arith) in
+      rw (here, above) (omega arith)
+  | inr high ↦
+      let here : tag_after last steps ≡ last + steps + 1 - 4294967295 = rw (le-ltb (last + steps) 4294967295 high) refl in
+      let below : nat_lt last (last + steps + 1 - 4294967295) ≡ false = le-ltb last (last + steps + 1 - 4294967295) (omega arith) in
+      rw (here, below) (omega arith)
+]
+
+-- the command has one of the first tags after `last`
+pub passed : ℕ → ℕ → Outstanding → Bool
+passed last steps c = nat_lt (distance last c.flying.tag) steps
+
+cond-le : (a b : Bool) → (a ≡ true → b ≡ true) → cond a 1 0 ≤ cond b 1 0
+cond-le true true both = omega arith
+cond-le true false both = absurd (let impossible = both refl in cc)
+cond-le false b both = omega arith
+
+-- where one element passes the wider test alone, more pass it
+count-more : (p q r : Outstanding → Bool) → ((c : Outstanding) → p c ≡ true → q c ≡ true) → ((c : Outstanding) → r c ≡ true → (p c ≡ false) × (q c ≡ true)) → (commands : List Outstanding)
+    → list_any r commands ≡ true → count_by p commands + 1 ≤ count_by q commands
+count-more p q r wider one [] some = absurd cc
+count-more p q r wider one (c ∷ commands) some = at (r c) refl (λ there. count-more p q r wider one commands there)
+  where
+    at : (b : Bool) → r c ≡ b → (list_any r commands ≡ true → count_by p commands + 1 ≤ count_by q commands) → count_by p (c ∷ commands) + 1 ≤ count_by q (c ∷ commands)
+    at true is rest =
+        let here = one c is in
+        let fewer : count_by p commands ≤ count_by q commands = sum_by-le-sum_by (λ (d : Outstanding). cond (p d) 1 0) (λ (d : Outstanding). cond (q d) 1 0) commands (λ d. cond-le (p d) (q d) (wider d)) in
+        let first : count_by p (c ∷ commands) ≡ count_by p commands = sum_by-cons (λ (d : Outstanding). cond (p d) 1 0) c commands ∙ rw (here.0) (zero-add (count_by p commands)) in
+        let second : count_by q (c ∷ commands) ≡ 1 + count_by q commands = sum_by-cons (λ (d : Outstanding). cond (q d) 1 0) c commands ∙ rw (here.1) refl in
+        omega (arith, fewer, first, second)
+    at false is rest =
+        let there : list_any r commands ≡ true = rw is at some in
+        let more = rest there in
+        let first = sum_by-cons (λ (d : Outstanding). cond (p d) 1 0) c commands in
+        let second = sum_by-cons (λ (d : Outstanding). cond (q d) 1 0) c commands in
+        let le = cond-le (p c) (q c) (wider c) in
+        omega (arith, more, first, second, le)
+
+-- each tag that was passed is the tag of another command
+pub passed-more : (last steps : ℕ) (commands : List Outstanding) → last ≤ 4294967295 → steps < 4294967295 → is_taken commands (tag_after last steps) ≡ true
+    → count_by (passed last steps) commands + 1 ≤ count_by (passed last (steps + 1)) commands
+unfolding passed
+passed-more last steps commands most few taken =
+    count-more (passed last steps) (passed last (steps + 1)) (has_tag (tag_after last steps))
+    (λ c before. lt-ltb (distance last c.flying.tag) (steps + 1) (omega (arith, ltb-true (distance last c.flying.tag) steps before)))
+    (λ c has.
+    let tag : c.flying.tag ≡ tag_after last steps = eqb-true c.flying.tag (tag_after last steps) has in
+    let place : distance last c.flying.tag ≡ steps = ap (distance last) tag ∙ distance-after last steps most few in
+    (le-ltb (distance last c.flying.tag) steps (omega (arith, place)), lt-ltb (distance last c.flying.tag) (steps + 1) (omega (arith, place))))
+    commands taken
+
+-- the tags passed so far
+pub record Passes (commands : List Outstanding) (last steps tag : ℕ) : Type 0 where
+  pub place : tag ≡ tag_after last steps
+  pub taken : (k : ℕ) → k < steps → is_taken commands (tag_after last k) ≡ true
+  pub counted : steps ≤ count_by (passed last steps) commands
+
+pub passes-none : (commands : List Outstanding) (last tag : ℕ) → tag ≡ tag_after last 0 → Passes commands last 0 tag
+passes-none commands last tag is = record { place = is; taken = λ k below. absurd (omega arith); counted = omega arith }
+
+pub passes-few : (commands : List Outstanding) (last steps tag : ℕ) → Passes commands last steps tag → steps ≤ length commands
+passes-few commands last steps tag p = omega (arith, p.counted, count_by-le-length (passed last steps) commands)
+
+pub passes-more : (commands : List Outstanding) (last steps tag next : ℕ) → Passes commands last steps tag → last ≤ 4294967295 → length commands < 4294967295 → is_taken commands tag ≡ true → next ≡ tag_after last (steps + 1)
+    → Passes commands last (steps + 1) next × (steps + 1 ≤ length commands)
+passes-more commands last steps tag next p most few taken is =
+    let here : is_taken commands (tag_after last steps) ≡ true = rw (← p.place) taken in
+    let at_most = passes-few commands last steps tag p in
+    let more = passed-more last steps commands most (omega arith) here in
+    let counted : steps + 1 ≤ count_by (passed last (steps + 1)) commands = omega (arith, more, p.counted) in (
+      record {
+        place = is;
+        taken = λ k below. elim (cases_lt k steps) [
+          | inl before ↦ p.taken k before
+          | inr same ↦ let equal : k ≡ steps = omega arith in rw equal here
+        ];
+        counted = counted;
+      },
+      omega (arith, counted, count_by-le-length (passed last (steps + 1)) commands),
+    )
+
+pub passes-end : (commands : List Outstanding) (last steps tag : ℕ) → Passes commands last steps tag → is_taken commands tag ≡ false → IsNextTag commands last tag
+passes-end commands last steps tag p free = record { steps = steps; place = p.place; free = free; passed = p.taken }

@@ -1,0 +1,19 @@
+use Rattle.std.proofs.Common.{◌≡◌, ap, ◌∙◌, rules}
+use Rattle.std.specs.Prelude.{option_map}
+use Rattle.slab.specs.Slab.{values}
+use Rattle.aoe_flight.specs.declared.outstanding.Outstanding.{Outstanding}
+use Rattle.aoe_flight.specs.Outstanding.{is_due, precedes}
+use Rattle.aoe_flight.proofs.FirstLemmas.{due-flies, first-live, none-live, precedes-order}
+use Rattle.aoe_flight.proofs.flight.Flight.due.Goals as goal
+
+pub returns-clause-first : goal.returns-clause-first
+returns-clause-first c =
+    let mapped : c.map.result ≡ option_map (λ (d : Outstanding). d.ticket) c.first_due.result = search rules in
+    let is = mapped ∙ ap (option_map (λ (d : Outstanding). d.ticket)) c.first_due.ensures in
+    rw (← c.self.view_is) (first-live (is_due c.args.now.0) precedes c.self.inside.rest.0 c.self.inside.latest.0 precedes-order (due-flies c.args.now.0) (values c.self.inside.commands) c.map.result is)
+
+pub returns-clause-none : goal.returns-clause-none
+returns-clause-none c =
+    let mapped : c.map.result ≡ option_map (λ (d : Outstanding). d.ticket) c.first_due.result = search rules in
+    let is = mapped ∙ ap (option_map (λ (d : Outstanding). d.ticket)) c.first_due.ensures in
+    rw (← c.self.view_is) (none-live (is_due c.args.now.0) precedes c.self.inside.rest.0 c.self.inside.latest.0 (values c.self.inside.commands) c.map.result is)

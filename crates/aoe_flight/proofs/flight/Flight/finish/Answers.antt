@@ -1,0 +1,11 @@
+use Rattle.std.proofs.Common.{refl}
+use Rattle.slab.specs.Slab.{values}
+use Rattle.aoe_flight.specs.Outstanding.{after_finish}
+use Rattle.aoe_flight.proofs.SoundLemmas.{finish-value, sound-changed}
+use Rattle.aoe_flight.proofs.flight.Flight.finish.Goals as goal
+
+pub invariant_of-self : goal.invariant_of-self
+invariant_of-self c = sound-changed _ _ c.args.ticket.0 after_finish (values c.self.inside.commands) _ _ (λ d. refl) c.finish.ensures.values c.finish.ensures.capacity c.self.invariant
+
+pub returns : goal.returns
+returns c = finish-value _ _ _ _ _ c.args.ticket.0 after_finish (values c.self.inside.commands) _ c.args.self.now c.self.view_is c.finish.ensures.values

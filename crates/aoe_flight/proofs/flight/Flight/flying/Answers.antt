@@ -1,0 +1,22 @@
+use Rattle.std.proofs.Common.{◌≡◌, Option, Some, ap, refl, sym, subst, ◌∙◌, rules}
+use Rattle.std.specs.Prelude.{option_map, IsSome}
+use Rattle.std.specs.List.{find}
+use Rattle.slab.specs.Slab.{values}
+use Rattle.aoe_flight.specs.declared.outstanding.Outstanding.{Outstanding}
+use Rattle.aoe_flight.specs.FlightTable.{FlightTable}
+use Rattle.aoe_flight.specs.Outstanding.{flies_as}
+use Rattle.aoe_flight.proofs.LiveLemmas.{find-live}
+use Rattle.aoe_flight.proofs.flight.Flight.flying.Goals as goal
+
+pub unwrap-requires : goal.unwrap-requires
+unwrap-requires c =
+    let live = find-live (flies_as c.args.ticket.0) c.self.inside.rest.0 c.self.inside.latest.0 (λ d is. rw is refl) (values c.self.inside.commands) in
+    let P : FlightTable → Type 0 = λ t. IsSome (find (flies_as c.args.ticket.0) t.commands) in
+    let Q : Option Outstanding → Type 0 = λ o. IsSome o in
+    subst Q (live ∙ sym c.find_ticket.ensures) (subst P (sym c.self.view_is) c.requires)
+
+pub returns : goal.returns
+returns c =
+    let live = find-live (flies_as c.args.ticket.0) c.self.inside.rest.0 c.self.inside.latest.0 (λ d is. rw is refl) (values c.self.inside.commands) in
+    let opened : c.find_ticket.result ≡ Some c.unwrap.result = search rules in
+    rw (← c.self.view_is) (ap (option_map (λ (d : Outstanding). d.flying)) (live ∙ sym c.find_ticket.ensures ∙ opened))

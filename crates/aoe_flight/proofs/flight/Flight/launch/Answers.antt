@@ -1,0 +1,91 @@
+use Rattle.std.proofs.Common.{◌≡◌, List, ◌∷◌, ap, length, refl, subst, sym, ◌∙◌, arith}
+use Rattle.std.specs.List.Sorted.{IsPermutation}
+use Rattle.std.proofs.lemmas.Bool.{eq-eqb}
+use Rattle.slab.specs.Slab.{values}
+use Rattle.aoe_flight.specs.declared.outstanding.Outstanding.{Outstanding}
+use Rattle.aoe_flight.specs.FlightTable.{FlightTable}
+use Rattle.aoe_flight.specs.Outstanding.{is_taken, launched, live}
+use Rattle.aoe_flight.proofs.SlotLemmas.{length-held}
+use Rattle.aoe_flight.proofs.SoundLemmas.{count-live, flies-new, forget-value, live-new, live-view, sound-live, sound-new}
+use Rattle.aoe_flight.proofs.flight.Flight.launch.Goals as goal
+
+pub invariant_of-self : goal.invariant_of-self
+invariant_of-self c = sound-live _ _ c.self.inside.rest.0 c.args.now.0 (values c.self.inside.commands) (values c.forget.new.commands) c.forget.new.commands.capacity c.forget.ensures.values c.forget.ensures.capacity c.self.invariant
+
+pub returns-then-len-self-clause-full : goal.returns-then-len-self-clause-full
+returns-then-len-self-clause-full c =
+    let live = live-view _ _ _ _ _ c.args.now.0 (values c.self.inside.commands) c.args.self.now c.self.view_is c.requires in
+    let kept = live ∙ sym c.forget.ensures.values in
+    let room = ap (λ (t : FlightTable). t.room) c.self.view_is in
+    let count : c.len.result ≡ length (values c.forget.new.commands) = c.len.ensures ∙ length-held c.forget.new.commands.slots in
+    rw kept (omega (arith, room, count, c.if-len-self.true))
+
+pub returns-then-len-self-clause-unchanged : goal.returns-then-len-self-clause-unchanged
+returns-then-len-self-clause-unchanged c = forget-value _ _ _ _ _ c.args.now.0 (values c.self.inside.commands) _ c.args.self.now c.self.view_is c.requires c.forget.ensures.values
+
+pub returns-then-len-self-clause-distinct : goal.returns-then-len-self-clause-distinct
+returns-then-len-self-clause-distinct c =
+    let sound = sound-live _ _ c.self.inside.rest.0 c.args.now.0 (values c.self.inside.commands) (values c.forget.new.commands) c.forget.new.commands.capacity c.forget.ensures.values c.forget.ensures.capacity c.self.invariant in
+    λ tag. count-live c.self.inside.rest.0 c.args.now.0 (values c.forget.new.commands) tag (sound.distinct tag)
+
+pub next_tag-tag-requires : goal.next_tag-tag-requires
+next_tag-tag-requires c =
+    let sound = sound-live _ _ c.self.inside.rest.0 c.args.now.0 (values c.self.inside.commands) (values c.forget.new.commands) c.forget.new.commands.capacity c.forget.ensures.values c.forget.ensures.capacity c.self.invariant in
+    omega (arith, sound.fits, sound.few)
+
+pub insert-requires : goal.insert-requires
+insert-requires c =
+    let sound = sound-live _ _ c.self.inside.rest.0 c.args.now.0 (values c.self.inside.commands) (values c.forget.new.commands) c.forget.new.commands.capacity c.forget.ensures.values c.forget.ensures.capacity c.self.invariant in
+    let count : c.len.result ≡ length (values c.forget.new.commands) = c.len.ensures ∙ length-held c.forget.new.commands.slots in
+    omega (arith, count, c.if-len-self.false, sound.reserved)
+
+pub invariant_of-self-2 : goal.invariant_of-self-2
+invariant_of-self-2 c =
+    let count : c.len.result ≡ length (values c.forget.new.commands) = c.len.ensures ∙ length-held c.forget.new.commands.slots in
+    let sound = sound-live _ _ c.self.inside.rest.0 c.args.now.0 (values c.self.inside.commands) (values c.forget.new.commands) c.forget.new.commands.capacity c.forget.ensures.values c.forget.ensures.capacity c.self.invariant in
+    let free = ap (λ (d : Outstanding). is_taken (values c.forget.new.commands) d.flying.tag) c.launched.ensures ∙ c.next_tag-tag.ensures.free in
+    let after = sound-new _ _ c.launched.result (values c.forget.new.commands) (values c.insert.new.commands) c.insert.new.commands.capacity c.insert.ensures.values free c.insert.ensures.capacity (omega (arith, count, c.if-len-self.false)) sound in
+    after
+
+pub returns-clause-room : goal.returns-clause-room
+returns-clause-room c =
+    let live = live-view _ _ _ _ _ c.args.now.0 (values c.self.inside.commands) c.args.self.now c.self.view_is c.requires in
+    let kept = live ∙ sym c.forget.ensures.values in
+    let room = ap (λ (t : FlightTable). t.room) c.self.view_is in
+    let count : c.len.result ≡ length (values c.forget.new.commands) = c.len.ensures ∙ length-held c.forget.new.commands.slots in
+    rw kept (omega (arith, room, count, c.if-len-self.false))
+
+pub returns-clause-tag : goal.returns-clause-tag
+returns-clause-tag c =
+    let live = live-view _ _ _ _ _ c.args.now.0 (values c.self.inside.commands) c.args.self.now c.self.view_is c.requires in
+    let kept = live ∙ sym c.forget.ensures.values in
+    let room = ap (λ (t : FlightTable). t.room) c.self.view_is in
+    let last = ap (λ (t : FlightTable). t.last_tag) c.self.view_is in
+    rw (kept, ← last) c.next_tag-tag.ensures
+
+pub returns-clause-command : goal.returns-clause-command
+returns-clause-command c =
+    let old = live-view _ _ _ _ _ c.args.now.0 (values c.self.inside.commands) c.args.self.now c.self.view_is c.requires in
+    let new = launched c.args.ticket c.next_tag-tag.result c.args.now c.args.path c.args.wait in
+    let P : Outstanding → Type 0 = λ d. IsPermutation (d ∷ values c.forget.new.commands) (values c.insert.new.commands) in
+    let Q : List Outstanding → Type 0 = λ l. IsPermutation (new ∷ l) (values c.insert.new.commands) in
+    let all : IsPermutation (new ∷ live c.self.inside.rest.0 c.args.now.0 (values c.self.inside.commands)) (values c.insert.new.commands) = subst Q c.forget.ensures.values (subst P c.launched.ensures c.insert.ensures.values) in
+    let alive = live-new c.self.inside.rest.0 c.args.now.0 new (values c.self.inside.commands) (values c.insert.new.commands) refl all in
+    rw (old, alive) all
+
+pub returns-clause-flies : goal.returns-clause-flies
+returns-clause-flies c =
+    let new = launched c.args.ticket c.next_tag-tag.result c.args.now c.args.path c.args.wait in
+    let P : Outstanding → Type 0 = λ d. IsPermutation (d ∷ values c.forget.new.commands) (values c.insert.new.commands) in
+    let Q : List Outstanding → Type 0 = λ l. IsPermutation (new ∷ l) (values c.insert.new.commands) in
+    let all : IsPermutation (new ∷ live c.self.inside.rest.0 c.args.now.0 (values c.self.inside.commands)) (values c.insert.new.commands) = subst Q c.forget.ensures.values (subst P c.launched.ensures c.insert.ensures.values) in
+    let alive = live-new c.self.inside.rest.0 c.args.now.0 new (values c.self.inside.commands) (values c.insert.new.commands) refl all in
+    rw alive (flies-new c.args.ticket.0 new (live c.self.inside.rest.0 c.args.now.0 (values c.self.inside.commands)) (values c.insert.new.commands) all (eq-eqb c.args.ticket.0 c.args.ticket.0 refl))
+
+pub returns-clause-distinct : goal.returns-clause-distinct
+returns-clause-distinct c =
+    let count : c.len.result ≡ length (values c.forget.new.commands) = c.len.ensures ∙ length-held c.forget.new.commands.slots in
+    let sound = sound-live _ _ c.self.inside.rest.0 c.args.now.0 (values c.self.inside.commands) (values c.forget.new.commands) c.forget.new.commands.capacity c.forget.ensures.values c.forget.ensures.capacity c.self.invariant in
+    let free = ap (λ (d : Outstanding). is_taken (values c.forget.new.commands) d.flying.tag) c.launched.ensures ∙ c.next_tag-tag.ensures.free in
+    let after = sound-new _ _ c.launched.result (values c.forget.new.commands) (values c.insert.new.commands) c.insert.new.commands.capacity c.insert.ensures.values free c.insert.ensures.capacity (omega (arith, count, c.if-len-self.false)) sound in
+    λ tag. count-live c.self.inside.rest.0 c.args.now.0 (values c.insert.new.commands) tag (after.distinct tag)

@@ -1,0 +1,28 @@
+-- What a host keeps of the commands that it sent.
+use Rattle.std.specs.Prelude.{ℕ, ◌≤◌, List, [], length}
+use Rattle.aoe_flight.specs.declared.outstanding.Outstanding.{Outstanding}
+use Rattle.aoe_flight.specs.Outstanding.{live, rest_time, tag_count}
+
+-- the most commands, how long a finished command rests, how long a command is waited for, the latest time that was told, the tag given last,
+-- and the commands that fly or rest at that time, in no particular order
+pub record FlightTable : Type 0 where
+  pub room : ℕ
+  pub rest : ℕ
+  pub dead : ℕ
+  pub latest : ℕ
+  pub last_tag : ℕ
+  pub commands : List Outstanding
+
+abbrev pub no_commands : ℕ → ℕ → ℕ → FlightTable
+no_commands room life dead = record { room = room; rest = rest_time life; dead = dead; latest = 0; last_tag = 0; commands = [] }
+
+-- the table at a later time
+abbrev pub at_time : FlightTable → ℕ → FlightTable
+at_time table now = record table { latest = now; commands = live table.rest now table.commands }
+
+-- all fit in the room and in the memory, and no two have one tag
+pub record IsSound (room capacity : ℕ) (commands : List Outstanding) : Type 0 where
+  pub fits : length commands ≤ room
+  pub reserved : room ≤ capacity
+  pub few : room ≤ 16384
+  pub distinct : (tag : ℕ) → tag_count commands tag ≤ 1

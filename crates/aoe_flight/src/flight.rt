@@ -1,0 +1,188 @@
+//! The commands of a host that fly or rest.
+ghost use Rattle.std.specs.Prelude.{◌≡◌, ◌↔◌, ◌<◌, ◌≤◌, ◌∷◌, length, map, ℕ, false, All, IsTrue, IsSome, IfNone, IfOk, IfSome, OnSome, Some, option_map};
+ghost use Rattle.std.specs.List.{find};
+ghost use Rattle.std.specs.List.Sorted.{IsPermutation};
+ghost use Rattle.aoe_flight.specs.declared.outstanding.Outstanding.{Outstanding};
+ghost use Rattle.aoe_flight.specs.FlightTable.{at_time, no_commands};
+ghost use Rattle.aoe_flight.specs.Outstanding.{after_finish, after_repeat, change_of, flies_as, flies_with, is_due, is_expired, launched, live, lower, precedes, tag_count, IsFirst, IsNextTag};
+
+use crate::outstanding::{Flying, Outstanding};
+use crate::table;
+use aoe_base::{Millis, NoMemory, PathNo, Ticket};
+use slab::Slab;
+use std::alloc::Global;
+use std::marker::Model;
+
+/// The most commands that a host can have room for.
+pub const MAX_ROOM: u32 = 16_384;
+
+/// The commands of a host that fly or rest.
+///
+/// A command flies from its first send to its outcome, and rests until no response to one of its
+/// frames can arrive any more, so that its tag isn't given to another before. All room is made by
+/// `new`: no later call takes memory.
+#[derive(Drop)]
+pub struct Flight {
+    /// The most commands that fly or rest.
+    room: u32,
+
+    /// How long a finished command rests after its last send.
+    rest: Millis,
+
+    /// How long a command flies at most.
+    dead: Millis,
+
+    /// The latest time that was told.
+    latest: Millis,
+
+    /// The tag that was given last.
+    last_tag: u32,
+
+    commands: Slab<Outstanding>,
+}
+
+impl Model for Flight {
+    ghost use Rattle.slab.specs.Slab.{values};
+    ghost use Rattle.aoe_flight.specs.FlightTable.{FlightTable, IsSound};
+    ghost use Rattle.aoe_flight.specs.Outstanding.{live};
+
+    ghost Value = { FlightTable };
+
+    ghost view = { λ flight. record {
+      room = flight.room;
+      rest = flight.rest.0;
+      dead = flight.dead.0;
+      latest = flight.latest.0;
+      last_tag = flight.last_tag;
+      commands = live flight.rest.0 flight.latest.0 (values flight.commands);
+    } };
+
+    ghost invariant = { λ flight. IsSound flight.room flight.commands.capacity (values flight.commands) };
+}
+
+impl Flight {
+    /// No command was sent. A frame can arrive as long as `life` after it was sent, so a finished
+    /// command rests for twice as long. A command is given up after `dead`.
+    pub fn new(alloc: Global, room: u32, life: Millis, dead: Millis) -> Result<Flight, NoMemory>
+        requires some_room { 0 < room }
+        requires room { room ≤ 16384 }
+        requires life { life.0 ≤ 600000 }
+        requires dead { 0 < dead.0 }
+        ensures { IfOk result (λ flight. flight ≡ no_commands room life.0 dead.0) }
+    {
+        match Slab::with_capacity(alloc, room as usize) {
+            Ok(commands) => Ok(Flight {
+                room,
+                rest: Millis(2 * life.0),
+                dead,
+                latest: Millis(0),
+                last_tag: 0,
+                commands,
+            }),
+            Err(_) => Err(NoMemory),
+        }
+    }
+
+    /// Takes note of the first send of a command that doesn't fly, and gives its tag.
+    pub fn launch(&mut self, ticket: Ticket, now: Millis, path: PathNo, wait: Millis) -> Option<u32>
+        requires { self.old.latest ≤ now.0 }
+        ensures full { IfNone result (self.old.room ≤ length (live self.old.rest now.0 self.old.commands)) }
+        ensures room { OnSome result (length (live self.old.rest now.0 self.old.commands) < self.old.room) }
+        ensures tag { IfSome result (λ tag. IsNextTag (live self.old.rest now.0 self.old.commands) self.old.last_tag tag) }
+        ensures command { IfSome result (λ tag.
+            IsPermutation (launched ticket tag now path wait ∷ live self.old.rest now.0 self.old.commands) self.new.commands) }
+        ensures flies { OnSome result (IsSome (find (flies_as ticket.0) self.new.commands)) }
+        ensures same { IfSome result (λ tag. self.new ≡ record self.old { latest = now.0; last_tag = tag; commands = self.new.commands }) }
+        ensures unchanged { IfNone result (self.new ≡ at_time self.old now.0) }
+        ensures distinct { (tag : ℕ) → tag_count self.new.commands tag ≤ 1 }
+    {
+        self.latest = now;
+        table::forget(&mut self.commands, self.rest, now);
+        if self.commands.len() >= self.room as usize {
+            return None;
+        }
+        let tag = table::next_tag(&self.commands, self.last_tag);
+        self.last_tag = tag;
+        table::insert(
+            &mut self.commands,
+            Outstanding::launched(ticket, tag, now, path, wait),
+        );
+        Some(tag)
+    }
+
+    /// Whether no further command can be sent.
+    pub fn is_full(&self, now: Millis) -> bool
+        requires { self.now.latest ≤ now.0 }
+        ensures { IsTrue result ↔ (self.now.room ≤ length (live self.now.rest now.0 self.now.commands)) }
+    {
+        table::live_count(&self.commands, self.rest, now) >= self.room as usize
+    }
+
+    /// What is known of a flying command.
+    pub fn flying(&self, ticket: Ticket) -> Flying
+        requires { IsSome (find (flies_as ticket.0) self.now.commands) }
+        ensures { option_map (λ c. c.flying) (find (flies_as ticket.0) self.now.commands) ≡ Some result }
+    {
+        table::find_ticket(&self.commands, ticket).unwrap().flying
+    }
+
+    /// The command to be sent again: of the flying ones that waited for their response long
+    /// enough, the one that was due first.
+    pub fn due(&self, now: Millis) -> Option<Ticket>
+        ensures first { IfSome result (λ ticket.
+            (c : Outstanding) × (c.ticket ≡ ticket) × IsFirst (is_due now.0) precedes self.now.commands c) }
+        ensures none { IfNone result (All (λ c. is_due now.0 c ≡ false) self.now.commands) }
+    {
+        table::first_due(&self.commands, now).map(|command| command.ticket)
+    }
+
+    /// Takes note that a flying command was sent again.
+    pub fn repeat(&mut self, ticket: Ticket, now: Millis, path: PathNo, wait: Millis)
+        requires { self.old.latest ≤ now.0 }
+        ensures { self.new ≡ record self.old {
+          latest = now.0;
+          commands = live self.old.rest now.0 (map (change_of ticket.0 (after_repeat now path wait)) self.old.commands);
+        } }
+    {
+        self.latest = now;
+        table::repeat(&mut self.commands, ticket, now, path, wait);
+    }
+
+    /// The flying command with a tag.
+    pub fn match_tag(&self, tag: u32) -> Option<Ticket>
+        ensures flying { result ≡ option_map (λ c. c.ticket) (find (flies_with tag) self.now.commands) }
+        ensures only { tag_count self.now.commands tag ≤ 1 }
+    {
+        table::find_tag(&self.commands, tag).map(|command| command.ticket)
+    }
+
+    /// Takes note that a flying command has its outcome: it rests from now on.
+    pub fn finish(&mut self, ticket: Ticket)
+        ensures { self.new ≡ record self.old {
+          commands = live self.old.rest self.old.latest (map (change_of ticket.0 after_finish) self.old.commands);
+        } }
+    {
+        table::finish(&mut self.commands, ticket);
+    }
+
+    /// The flying command with the lowest ticket that has to be given up.
+    pub fn expired(&self, now: Millis) -> Option<Ticket>
+        ensures first { IfSome result (λ ticket.
+            (c : Outstanding) × (c.ticket ≡ ticket) × IsFirst (is_expired self.now.dead now.0) lower self.now.commands c) }
+        ensures none { IfNone result (All (λ c. is_expired self.now.dead now.0 c ≡ false) self.now.commands) }
+    {
+        table::first_expired(&self.commands, self.dead, now).map(|command| command.ticket)
+    }
+
+    /// Drops the commands that rested out.
+    pub fn forget(&mut self, now: Millis)
+        requires { self.old.latest ≤ now.0 }
+        ensures { self.new ≡ at_time self.old now.0 }
+    {
+        self.latest = now;
+        table::forget(&mut self.commands, self.rest, now);
+    }
+}
+
+#[cfg(test)]
+mod tests;

@@ -1,0 +1,6 @@
+mod ListLemmas
+mod LiveLemmas
+mod StageLemmas
+mod OrderLemmas
+mod TableLemmas
+mod ClearLemmas

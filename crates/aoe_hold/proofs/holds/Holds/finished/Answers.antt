@@ -1,0 +1,51 @@
+use Rattle.std.proofs.Common.{◌≡◌, Some, None, sym, subst, ◌∙◌, rules, nat_eq}
+use Rattle.std.specs.Prelude.{position}
+use Rattle.aoe_hold.specs.declared.command.Command.{Command}
+use Rattle.aoe_hold.specs.Commands.{after_stage, stage_finished}
+use Rattle.aoe_hold.specs.HoldTable.{HoldTable, Recalls}
+use Rattle.aoe_hold.proofs.StageLemmas.{count-finished, place-within, stage-missing, stage-set}
+use Rattle.aoe_hold.proofs.OrderLemmas.{ascending-after_stage, up_to-after_stage}
+use Rattle.aoe_hold.proofs.TableLemmas.{finish-recalls, finish-value}
+use Rattle.aoe_hold.proofs.holds.Holds.finished.Goals as goal
+
+pub invariant_of-self : goal.invariant_of-self
+invariant_of-self c =
+    let held = c.self.inside.commands.items in
+    let command = c.index_mut-command.result.now in
+    let found : position (λ (d : Command). nat_eq d.ticket.0 c.args.ticket.0) held ≡ Some c.in-Some.at = search rules in
+    let after = stage-set c.args.ticket.0 stage_finished held c.in-Some.at command c.finished-command.result c.self.invariant.0 found c.index_mut-command.ensures.value c.finished-command.ensures in
+    let within = place-within c.args.ticket.0 held c.in-Some.at command found in (
+      rw after (ascending-after_stage c.args.ticket.0 stage_finished held c.self.invariant.0),
+      rw after (up_to-after_stage c.args.ticket.0 stage_finished _ held c.self.invariant.1),
+      c.self.invariant.2 ∙ sym (count-finished held c.in-Some.at command c.finished-command.result within c.index_mut-command.ensures.value c.finished-command.ensures),
+    )
+
+pub returns-in-Some-clause-value : goal.returns-in-Some-clause-value
+returns-in-Some-clause-value c =
+    let held = c.self.inside.commands.items in
+    let command = c.index_mut-command.result.now in
+    let found : position (λ (d : Command). nat_eq d.ticket.0 c.args.ticket.0) held ≡ Some c.in-Some.at = search rules in
+    finish-value _ _ c.args.ticket.0 _ held _ c.args.self.now c.self.view_is
+    (stage-set c.args.ticket.0 stage_finished held c.in-Some.at command c.finished-command.result c.self.invariant.0 found c.index_mut-command.ensures.value c.finished-command.ensures)
+
+pub returns-in-Some-clause-recalls : goal.returns-in-Some-clause-recalls
+returns-in-Some-clause-recalls c =
+    let held = c.self.inside.commands.items in
+    let command = c.index_mut-command.result.now in
+    let found : position (λ (d : Command). nat_eq d.ticket.0 c.args.ticket.0) held ≡ Some c.in-Some.at = search rules in
+    finish-recalls _ _ c.args.ticket.0 _ held _ c.args.self.now c.self.view_is
+    (stage-set c.args.ticket.0 stage_finished held c.in-Some.at command c.finished-command.result c.self.invariant.0 found c.index_mut-command.ensures.value c.finished-command.ensures)
+
+pub returns-in_default-clause-value : goal.returns-in_default-clause-value
+returns-in_default-clause-value c =
+    let held = c.self.inside.commands.items in
+    let missing : position (λ (d : Command). nat_eq d.ticket.0 c.args.ticket.0) held ≡ None = search rules in
+    sym c.self.view_is ∙ finish-value _ _ c.args.ticket.0 _ held held c.args.self.now c.self.view_is (stage-missing c.args.ticket.0 stage_finished held missing)
+
+pub returns-in_default-clause-recalls : goal.returns-in_default-clause-recalls
+returns-in_default-clause-recalls c =
+    let held = c.self.inside.commands.items in
+    let missing : position (λ (d : Command). nat_eq d.ticket.0 c.args.ticket.0) held ≡ None = search rules in
+    λ entered recalls.
+    let P : HoldTable → Type 0 = λ table. Recalls table (after_stage c.args.ticket.0 stage_finished entered) in
+    subst P c.self.view_is (finish-recalls _ _ c.args.ticket.0 _ held held c.args.self.now c.self.view_is (stage-missing c.args.ticket.0 stage_finished held missing) entered recalls)

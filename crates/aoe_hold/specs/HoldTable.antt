@@ -1,0 +1,50 @@
+-- What a host keeps of its commands at one device.
+use Rattle.std.specs.Prelude.{ℕ, ◌≡◌, ◌&&◌, Bool, true, false, nat_lt, nat_le, List, [], ◌∷◌, ◌++◌, Option, Some, None}
+use Rattle.std.specs.List.{list_all}
+use Rattle.aoe_base.specs.declared.counted.Ticket.{Ticket}
+use Rattle.aoe_base.specs.declared.sectors.Span.{Span}
+use Rattle.aoe_base.specs.declared.counted.Millis.{Millis}
+use Rattle.aoe_hold.specs.declared.command.Command.{Command}
+use Rattle.aoe_hold.specs.declared.command.Kind.{Kind}
+use Rattle.aoe_hold.specs.declared.command.Stage.TheVariants.{Unsent}
+use Rattle.aoe_hold.specs.Commands.{after_stage, live, stage_finished, stage_sent}
+
+-- how long a frame can arrive, the latest time that was told, the greatest ticket entered, and of the commands entered, in their order, those that a later answer can go by
+pub record HoldTable : Type 0 where
+  pub life : ℕ
+  pub latest : ℕ
+  pub greatest : Option ℕ
+  pub commands : List Command
+
+abbrev pub no_commands : ℕ → HoldTable
+no_commands life = record { life = life; latest = 0; greatest = None; commands = [] }
+
+-- of these commands that were entered, the table has each that a later answer can go by
+abbrev pub Recalls : HoldTable → List Command → Type 0
+Recalls table entered = table.commands ≡ live table.life table.latest entered
+
+abbrev pub new_command : Ticket → Kind → Span → Command
+new_command ticket kind span = record { ticket = ticket; kind = kind; span = span; stage = Unsent }
+
+abbrev pub with_command : HoldTable → Command → HoldTable
+with_command table c = record table { greatest = Some c.ticket.0; commands = table.commands ++ c ∷ [] }
+
+abbrev pub at_time : HoldTable → ℕ → HoldTable
+at_time table now = record table { latest = now; commands = live table.life now table.commands }
+
+abbrev pub after_send : HoldTable → ℕ → Millis → HoldTable
+after_send table ticket now = record table { latest = now.0; commands = live table.life now.0 (after_stage ticket (stage_sent now) table.commands) }
+
+abbrev pub after_finish : HoldTable → ℕ → HoldTable
+after_finish table ticket = record table { commands = live table.life table.latest (after_stage ticket stage_finished table.commands) }
+
+-- the commands stand in the order of their tickets, and none stands twice
+abbrev pub is_ascending : List Command → Bool
+is_ascending [] = true
+is_ascending (c ∷ commands) = list_all (λ later. nat_lt c.ticket.0 later.ticket.0) commands && is_ascending commands
+
+-- no ticket is above the greatest that was entered
+abbrev pub is_up_to : Option ℕ → List Command → Bool
+is_up_to None [] = true
+is_up_to None (c ∷ commands) = false
+is_up_to (Some greatest) commands = list_all (λ c. nat_le c.ticket.0 greatest) commands
