@@ -33,15 +33,19 @@ fn run_line(
     sink: &mut MemSink,
 ) -> Result<Status, Fail> {
     let words = words_of(alloc, line)?;
-    let names = files_of(alloc, words.as_slice())?;
+    let words = words.as_slice();
+    let names = files_of(alloc, words)?;
     if names.is_empty() {
-        return Ok(aoe::<_, _, MemDisk>(alloc, words.as_slice(), source, sink, &mut []));
+        return Ok(aoe::<_, _, MemDisk>(alloc, words, source, sink, &mut []));
+    }
+    if names.len() != 2 {
+        return Err(Fail::from("one file, or more than two"));
     }
     let mut disks = [
         Some(MemDisk::new(alloc, 16)?),
         Some(MemDisk::new(alloc, 16)?),
     ];
-    Ok(aoe(alloc, words.as_slice(), source, sink, &mut disks))
+    Ok(aoe(alloc, words, source, sink, &mut disks))
 }
 
 fn status_of(alloc: Global, line: &str) -> Result<Status, Fail> {
