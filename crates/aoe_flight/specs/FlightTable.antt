@@ -1,10 +1,10 @@
 -- What a host keeps of the commands that it sent.
-use Rattle.std.specs.Prelude.{ℕ, ◌≤◌, List, [], length}
+use Rattle.std.specs.Prelude.{ℕ, ◌≤◌, List, [], length, map}
 use Rattle.aoe_flight.specs.declared.outstanding.Outstanding.{Outstanding}
-use Rattle.aoe_flight.specs.Outstanding.{live, rest_time, tag_count}
+use Rattle.aoe_flight.specs.Outstanding.{change_of, live, rest_time, tag_count}
 
--- the most commands, how long a finished command rests, how long a command is waited for, the latest time that was told, the tag given last,
--- and the commands that fly or rest at that time, in no particular order
+-- the most commands, how long a finished command rests, how long a command is waited for, the latest time
+-- that was told, the tag given last, and the commands that fly or rest at that time, in no particular order
 pub record FlightTable : Type 0 where
   pub room : ℕ
   pub rest : ℕ
@@ -14,11 +14,29 @@ pub record FlightTable : Type 0 where
   pub commands : List Outstanding
 
 abbrev pub no_commands : ℕ → ℕ → ℕ → FlightTable
-no_commands room life dead = record { room = room; rest = rest_time life; dead = dead; latest = 0; last_tag = 0; commands = [] }
+no_commands room life dead = record {
+  room = room;
+  rest = rest_time life;
+  dead = dead;
+  latest = 0;
+  last_tag = 0;
+  commands = [];
+}
+
+-- the commands that fly or rest at a later time
+abbrev pub live_at : FlightTable → ℕ → List Outstanding
+live_at table now = live table.rest now table.commands
 
 -- the table at a later time
 abbrev pub at_time : FlightTable → ℕ → FlightTable
 at_time table now = record table { latest = now; commands = live table.rest now table.commands }
+
+-- the table at a later time, after a change of the flying command with a ticket
+abbrev pub after_change : FlightTable → ℕ → (Outstanding → Outstanding) → ℕ → FlightTable
+after_change table ticket change now = record table {
+  latest = now;
+  commands = live table.rest now (map (change_of ticket change) table.commands);
+}
 
 -- all fit in the room and in the memory, and no two have one tag
 pub record IsSound (room capacity : ℕ) (commands : List Outstanding) : Type 0 where

@@ -6,7 +6,8 @@ use Rattle.aoe_base.specs.declared.counted.PathNo.{PathNo}
 use Rattle.aoe_base.specs.declared.counted.Ticket.{Ticket}
 use Rattle.aoe_flight.specs.declared.outstanding.Outstanding.{Outstanding}
 
--- how long a command rests after its last send: as long as a frame of it can arrive, and as long again for a response to that frame
+-- how long a command rests after its last send: as long as a frame of it can arrive, and as long again
+-- for a response to that frame
 abbrev pub rest_time : ℕ → ℕ
 rest_time life = 2 * life
 
@@ -48,7 +49,10 @@ launched ticket tag now path wait = record {
 }
 
 abbrev pub after_repeat : Millis → PathNo → Millis → Outstanding → Outstanding
-after_repeat now path wait c = record c { flying = record c.flying { last = now; path = path; sends = min (c.flying.sends + 1) 32 }; wait = wait }
+after_repeat now path wait c = record c {
+  flying = record c.flying { last = now; path = path; sends = min (c.flying.sends + 1) 32 };
+  wait = wait;
+}
 
 abbrev pub after_finish : Outstanding → Outstanding
 after_finish c = record c { finished = true }
@@ -96,4 +100,5 @@ is_better before c (Some other) = before c other
 -- the first of the commands that pass a test and of the best so far
 abbrev pub best : (Outstanding → Bool) → (Outstanding → Outstanding → Bool) → Option Outstanding → List Outstanding → Option Outstanding
 best test before so_far [] = so_far
-best test before so_far (c ∷ commands) = best test before (if test c && is_better before c so_far then Some c else so_far) commands
+best test before so_far (c ∷ commands) =
+    best test before (if test c && is_better before c so_far then Some c else so_far) commands

@@ -1,10 +1,10 @@
 //! The commands of a host that fly or rest.
-ghost use Rattle.std.specs.Prelude.{◌≡◌, ◌↔◌, ◌<◌, ◌≤◌, ◌∷◌, length, map, ℕ, false, All, IsTrue, IsSome, IfNone, IfOk, IfSome, OnSome, Some, option_map};
+ghost use Rattle.std.specs.Prelude.{◌≡◌, ◌↔◌, ◌<◌, ◌≤◌, ◌∷◌, length, ℕ, false, All, IsTrue, IsSome, IfNone, IfOk, IfSome, OnSome, Some, option_map};
 ghost use Rattle.std.specs.List.{find};
 ghost use Rattle.std.specs.List.Sorted.{IsPermutation};
 ghost use Rattle.aoe_flight.specs.declared.outstanding.Outstanding.{Outstanding};
-ghost use Rattle.aoe_flight.specs.FlightTable.{at_time, no_commands};
-ghost use Rattle.aoe_flight.specs.Outstanding.{after_finish, after_repeat, change_of, flies_as, flies_with, is_due, is_expired, launched, live, lower, precedes, tag_count, IsFirst, IsNextTag};
+ghost use Rattle.aoe_flight.specs.FlightTable.{after_change, at_time, live_at, no_commands};
+ghost use Rattle.aoe_flight.specs.Outstanding.{after_finish, after_repeat, flies_as, flies_with, is_due, is_expired, launched, lower, precedes, tag_count, IsFirst, IsNextTag};
 
 use crate::outstanding::{Flying, Outstanding};
 use crate::table;
@@ -65,7 +65,7 @@ impl Flight {
     /// command rests for twice as long. A command is given up after `dead`.
     pub fn new(alloc: Global, room: u32, life: Millis, dead: Millis) -> Result<Flight, NoMemory>
         requires some_room { 0 < room }
-        requires room { room ≤ 16384 }
+        requires room { room ≤ MAX_ROOM }
         requires life { life.0 ≤ 600000 }
         requires dead { 0 < dead.0 }
         ensures { IfOk result (λ flight. flight ≡ no_commands room life.0 dead.0) }
@@ -86,13 +86,16 @@ impl Flight {
     /// Takes note of the first send of a command that doesn't fly, and gives its tag.
     pub fn launch(&mut self, ticket: Ticket, now: Millis, path: PathNo, wait: Millis) -> Option<u32>
         requires { self.old.latest ≤ now.0 }
-        ensures full { IfNone result (self.old.room ≤ length (live self.old.rest now.0 self.old.commands)) }
-        ensures room { OnSome result (length (live self.old.rest now.0 self.old.commands) < self.old.room) }
-        ensures tag { IfSome result (λ tag. IsNextTag (live self.old.rest now.0 self.old.commands) self.old.last_tag tag) }
+        ensures full { IfNone result (self.old.room ≤ length (live_at self.old now.0)) }
+        ensures room { OnSome result (length (live_at self.old now.0) < self.old.room) }
+        ensures tag { IfSome result (λ tag. IsNextTag (live_at self.old now.0) self.old.last_tag tag) }
         ensures command { IfSome result (λ tag.
-            IsPermutation (launched ticket tag now path wait ∷ live self.old.rest now.0 self.old.commands) self.new.commands) }
+            IsPermutation
+            (launched ticket tag now path wait ∷ live_at self.old now.0)
+            self.new.commands) }
         ensures flies { OnSome result (IsSome (find (flies_as ticket.0) self.new.commands)) }
-        ensures same { IfSome result (λ tag. self.new ≡ record self.old { latest = now.0; last_tag = tag; commands = self.new.commands }) }
+        ensures same { IfSome result (λ tag.
+            self.new ≡ record self.old { latest = now.0; last_tag = tag; commands = self.new.commands }) }
         ensures unchanged { IfNone result (self.new ≡ at_time self.old now.0) }
         ensures distinct { (tag : ℕ) → tag_count self.new.commands tag ≤ 1 }
     {
@@ -113,7 +116,7 @@ impl Flight {
     /// Whether no further command can be sent.
     pub fn is_full(&self, now: Millis) -> bool
         requires { self.now.latest ≤ now.0 }
-        ensures { IsTrue result ↔ (self.now.room ≤ length (live self.now.rest now.0 self.now.commands)) }
+        ensures { IsTrue result ↔ (self.now.room ≤ length (live_at self.now now.0)) }
     {
         table::live_count(&self.commands, self.rest, now) >= self.room as usize
     }
@@ -130,7 +133,8 @@ impl Flight {
     /// enough, the one that was due first.
     pub fn due(&self, now: Millis) -> Option<Ticket>
         ensures first { IfSome result (λ ticket.
-            (c : Outstanding) × (c.ticket ≡ ticket) × IsFirst (is_due now.0) precedes self.now.commands c) }
+            (c : Outstanding) × (c.ticket ≡ ticket)
+            × IsFirst (is_due now.0) precedes self.now.commands c) }
         ensures none { IfNone result (All (λ c. is_due now.0 c ≡ false) self.now.commands) }
     {
         table::first_due(&self.commands, now).map(|command| command.ticket)
@@ -139,10 +143,7 @@ impl Flight {
     /// Takes note that a flying command was sent again.
     pub fn repeat(&mut self, ticket: Ticket, now: Millis, path: PathNo, wait: Millis)
         requires { self.old.latest ≤ now.0 }
-        ensures { self.new ≡ record self.old {
-          latest = now.0;
-          commands = live self.old.rest now.0 (map (change_of ticket.0 (after_repeat now path wait)) self.old.commands);
-        } }
+        ensures { self.new ≡ after_change self.old ticket.0 (after_repeat now path wait) now.0 }
     {
         self.latest = now;
         table::repeat(&mut self.commands, ticket, now, path, wait);
@@ -158,9 +159,7 @@ impl Flight {
 
     /// Takes note that a flying command has its outcome: it rests from now on.
     pub fn finish(&mut self, ticket: Ticket)
-        ensures { self.new ≡ record self.old {
-          commands = live self.old.rest self.old.latest (map (change_of ticket.0 after_finish) self.old.commands);
-        } }
+        ensures { self.new ≡ after_change self.old ticket.0 after_finish self.old.latest }
     {
         table::finish(&mut self.commands, ticket);
     }
@@ -168,7 +167,8 @@ impl Flight {
     /// The flying command with the lowest ticket that has to be given up.
     pub fn expired(&self, now: Millis) -> Option<Ticket>
         ensures first { IfSome result (λ ticket.
-            (c : Outstanding) × (c.ticket ≡ ticket) × IsFirst (is_expired self.now.dead now.0) lower self.now.commands c) }
+            (c : Outstanding) × (c.ticket ≡ ticket)
+            × IsFirst (is_expired self.now.dead now.0) lower self.now.commands c) }
         ensures none { IfNone result (All (λ c. is_expired self.now.dead now.0 c ≡ false) self.now.commands) }
     {
         table::first_expired(&self.commands, self.dead, now).map(|command| command.ticket)

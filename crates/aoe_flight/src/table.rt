@@ -115,7 +115,8 @@ pub fn forget(commands: &mut Slab<Outstanding>, rest: Millis, now: Millis)
 
 /// Ends the flying command with a ticket.
 pub fn finish(commands: &mut Slab<Outstanding>, ticket: Ticket)
-    ensures values { values commands.new ≡ map (change_of ticket.0 after_finish) (values commands.old) }
+    ensures values { values commands.new
+        ≡ map (change_of ticket.0 after_finish) (values commands.old) }
     ensures capacity { commands.new.capacity ≡ commands.old.capacity }
 {
     commands.retain(|_, command| {
@@ -134,7 +135,8 @@ pub fn repeat(
     path: PathNo,
     wait: Millis,
 )
-    ensures values { values commands.new ≡ map (change_of ticket.0 (after_repeat now path wait)) (values commands.old) }
+    ensures values { values commands.new
+        ≡ map (change_of ticket.0 (after_repeat now path wait)) (values commands.old) }
     ensures capacity { commands.new.capacity ≡ commands.old.capacity }
 {
     commands.retain(|_, command| {

@@ -21,7 +21,8 @@ abbrev pub is_edit : Kind → Bool
 is_edit Edit = true
 is_edit _ = false
 
--- two commands must keep their order: their spans overlap and one writes, or one is a flush and the other a write, or both are edits
+-- two commands must keep their order: their spans overlap and one writes, or one is a flush and the
+-- other a write, or both are edits
 abbrev pub conflict : Command → Command → Bool
 conflict a b =
     (overlap a.span b.span && (is_write a.kind || is_write b.kind))
@@ -58,22 +59,26 @@ all_gone life now Unsent = true
 all_gone life now (Flying last) = is_gone life now last.0
 all_gone life now (Finished last) = is_gone life now last.0
 
--- a later command has to wait for this one: they conflict, and this one isn't finished, or its frames can still change what the later one rests on
+-- a later command has to wait for this one: they conflict, and this one isn't finished, or its frames
+-- can still change what the later one rests on
 abbrev pub keeps_back : ℕ → ℕ → Command → Command → Bool
 keeps_back life now earlier later =
     nat_lt earlier.ticket.0 later.ticket.0 && conflict earlier later
-    && (not (finished earlier.stage) || (has_effect earlier.kind && rests_on_effects later.kind && not (all_gone life now earlier.stage)))
+    && (not (finished earlier.stage)
+    || (has_effect earlier.kind && rests_on_effects later.kind && not (all_gone life now earlier.stage)))
 
 -- a command may be sent for the first time, by all that were entered
 abbrev pub is_clear : ℕ → ℕ → List Command → Command → Bool
 is_clear life now entered c = is_unsent c && not (list_any (λ earlier. keeps_back life now earlier c) entered)
 
--- the same in the words of its parts: it wasn't sent; each earlier command in conflict is finished; and, where it rests on effects, no frame of
--- an earlier write or edit in conflict can arrive any more
+-- the same in the words of its parts: it wasn't sent; each earlier command in conflict is finished; and,
+-- where it rests on effects, no frame of an earlier write or edit in conflict can arrive any more
 pub record IsClear (life now : ℕ) (entered : List Command) (c : Command) : Type 0 where
   pub never_sent : c.stage ≡ Unsent
   pub done : All (λ earlier. earlier.ticket.0 < c.ticket.0 → conflict earlier c ≡ true → finished earlier.stage ≡ true) entered
-  pub gone : rests_on_effects c.kind ≡ true → All (λ earlier. earlier.ticket.0 < c.ticket.0 → conflict earlier c ≡ true → has_effect earlier.kind ≡ true → all_gone life now earlier.stage ≡ true) entered
+  pub gone : rests_on_effects c.kind ≡ true
+      → All (λ earlier. earlier.ticket.0 < c.ticket.0 → conflict earlier c ≡ true → has_effect earlier.kind ≡ true
+      → all_gone life now earlier.stage ≡ true) entered
 
 -- the tickets of those that may be sent for the first time
 abbrev pub clear_tickets : ℕ → ℕ → List Command → List ℕ

@@ -7,9 +7,10 @@ use Rattle.aoe_base.specs.declared.counted.Millis.{Millis}
 use Rattle.aoe_hold.specs.declared.command.Command.{Command}
 use Rattle.aoe_hold.specs.declared.command.Kind.{Kind}
 use Rattle.aoe_hold.specs.declared.command.Stage.TheVariants.{Unsent}
-use Rattle.aoe_hold.specs.Commands.{after_stage, live, stage_finished, stage_sent}
+use Rattle.aoe_hold.specs.Commands.{after_stage, live, stage_finished, stage_sent, unsent_count}
 
--- how long a frame can arrive, the latest time that was told, the greatest ticket entered, and of the commands entered, in their order, those that a later answer can go by
+-- how long a frame can arrive, the latest time that was told, the greatest ticket entered, and of the
+-- commands entered, in their order, those that a later answer can go by
 pub record HoldTable : Type 0 where
   pub life : ℕ
   pub latest : ℕ
@@ -33,18 +34,29 @@ abbrev pub at_time : HoldTable → ℕ → HoldTable
 at_time table now = record table { latest = now; commands = live table.life now table.commands }
 
 abbrev pub after_send : HoldTable → ℕ → Millis → HoldTable
-after_send table ticket now = record table { latest = now.0; commands = live table.life now.0 (after_stage ticket (stage_sent now) table.commands) }
+after_send table ticket now = record table {
+  latest = now.0;
+  commands = live table.life now.0 (after_stage ticket (stage_sent now) table.commands);
+}
 
 abbrev pub after_finish : HoldTable → ℕ → HoldTable
-after_finish table ticket = record table { commands = live table.life table.latest (after_stage ticket stage_finished table.commands) }
+after_finish table ticket = record table {
+  commands = live table.life table.latest (after_stage ticket stage_finished table.commands);
+}
 
 -- the commands stand in the order of their tickets, and none stands twice
 abbrev pub is_ascending : List Command → Bool
 is_ascending [] = true
-is_ascending (c ∷ commands) = list_all (λ later. nat_lt c.ticket.0 later.ticket.0) commands && is_ascending commands
+is_ascending (c ∷ commands) =
+    list_all (λ later. nat_lt c.ticket.0 later.ticket.0) commands && is_ascending commands
 
 -- no ticket is above the greatest that was entered
 abbrev pub is_up_to : Option ℕ → List Command → Bool
 is_up_to None [] = true
 is_up_to None (c ∷ commands) = false
 is_up_to (Some greatest) commands = list_all (λ c. nat_le c.ticket.0 greatest) commands
+
+-- the commands stand in order up to the greatest ticket, and those that were never sent are counted
+abbrev pub IsSound : Option ℕ → ℕ → List Command → Type 0
+IsSound greatest unsent commands =
+    (is_ascending commands ≡ true) × (is_up_to greatest commands ≡ true) × (unsent ≡ unsent_count commands)

@@ -11,7 +11,8 @@ use std::alloc::Global;
 use std::marker::Model;
 
 fn is_kept_back(commands: &[Command], command: &Command, life: Millis, now: Millis) -> bool
-    ensures { result ≡ list_any (λ earlier. keeps_back life.0 now.0 earlier command.now) commands.now }
+    ensures { result
+        ≡ list_any (λ earlier. keeps_back life.0 now.0 earlier command.now) commands.now }
 {
     commands
         .iter()
@@ -25,7 +26,8 @@ fn is_clear(commands: &[Command], command: &Command, life: Millis, now: Millis) 
 }
 
 fn first_clear(commands: &[Command], life: Millis, now: Millis) -> Option<Ticket>
-    ensures { result ≡ option_map (λ c. c.ticket) (find (is_clear life.0 now.0 commands.now) commands.now) }
+    ensures { result
+        ≡ option_map (λ c. c.ticket) (find (is_clear life.0 now.0 commands.now) commands.now) }
 {
     commands
         .iter()
@@ -69,9 +71,9 @@ pub struct Holds {
 }
 
 impl Model for Holds {
-    ghost use Rattle.std.specs.Prelude.{◌≡◌, option_map, true};
-    ghost use Rattle.aoe_hold.specs.Commands.{live, unsent_count};
-    ghost use Rattle.aoe_hold.specs.HoldTable.{HoldTable, is_ascending, is_up_to};
+    ghost use Rattle.std.specs.Prelude.{option_map};
+    ghost use Rattle.aoe_hold.specs.Commands.{live};
+    ghost use Rattle.aoe_hold.specs.HoldTable.{HoldTable, IsSound};
 
     ghost Value = { HoldTable };
 
@@ -82,7 +84,8 @@ impl Model for Holds {
       commands = live holds.life.0 holds.latest.0 holds.commands.items;
     } };
 
-    ghost invariant = { λ holds. (is_ascending holds.commands.items ≡ true) × (is_up_to (option_map (λ t. t.0) holds.greatest) holds.commands.items ≡ true) × (holds.unsent ≡ unsent_count holds.commands.items) };
+    ghost invariant = { λ holds.
+        IsSound (option_map (λ t. t.0) holds.greatest) holds.unsent holds.commands.items };
 }
 
 impl Holds {
@@ -125,14 +128,17 @@ impl Holds {
     /// The command that may be sent next for the first time.
     pub fn next_clear(&mut self, now: Millis) -> Option<Ticket>
         requires { self.old.latest ≤ now.0 }
-        ensures clear { IfSome result (λ ticket. (entered : List Command) → Recalls self.old entered
+        ensures clear { IfSome result (λ ticket.
+            (entered : List Command) → Recalls self.old entered
             → Contains (clear_tickets self.old.life now.0 entered) ticket.0) }
-        ensures lowest { IfSome result (λ ticket. (entered : List Command) → Recalls self.old entered
+        ensures lowest { IfSome result (λ ticket.
+            (entered : List Command) → Recalls self.old entered
             → All (λ other. ticket.0 ≤ other) (clear_tickets self.old.life now.0 entered)) }
         ensures none { IfNone result ((entered : List Command) → Recalls self.old entered
             → clear_tickets self.old.life now.0 entered ≡ []) }
         ensures same { self.new ≡ at_time self.old now.0 }
-        ensures recalls { (entered : List Command) → Recalls self.old entered → Recalls self.new entered }
+        ensures recalls { (entered : List Command) → Recalls self.old entered
+            → Recalls self.new entered }
     {
         let life = self.life;
         self.latest = now;
@@ -171,7 +177,8 @@ impl Holds {
     /// How many commands were entered and never sent.
     pub fn held(&self) -> u32
         ensures value { result ≡ unsent_count self.now.commands }
-        ensures entered { (entered : List Command) → Recalls self.now entered → result ≡ unsent_count entered }
+        ensures entered { (entered : List Command) → Recalls self.now entered
+            → result ≡ unsent_count entered }
     {
         self.unsent
     }

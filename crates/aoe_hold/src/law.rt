@@ -7,5 +7,6 @@ ghost use Rattle.aoe_hold.specs.declared.command.Command.{Command};
 /// where it writes, flushes or edits, no frame of an earlier write or edit in conflict can arrive
 /// any more; and a command of which all that is true is clear.
 pub fn clear_law()
-    ensures { (life now : ℕ) (entered : List Command) (c : Command) → (is_clear life now entered c ≡ true) ↔ (IsClear life now entered c) }
+    ensures { (life now : ℕ) (entered : List Command) (c : Command)
+        → (is_clear life now entered c ≡ true) ↔ (IsClear life now entered c) }
 {}
