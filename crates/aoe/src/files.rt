@@ -1,5 +1,5 @@
 //! A file as a disk. It tells nothing of its content.
-ghost use Rattle.std.specs.Prelude.{◌≡◌, ◌≤◌, ◌^◌, None};
+ghost use Rattle.std.specs.Prelude.{◌≡◌, ◌≤◌, ◌^◌, IfOk, None};
 ghost use Rattle.aoe_disk.specs.State.{DiskState};
 
 use aoe_base::Failed;
@@ -26,7 +26,9 @@ pub struct FileDisk {
 
 impl FileDisk {
     /// Opens the file for reading and writing.
-    pub fn open(rt: &impl Files<File = File>, name: &str) -> io::Result<FileDisk> {
+    pub fn open(rt: &impl Files<File = File>, name: &str) -> io::Result<FileDisk>
+        ensures { IfOk result (λ disk. disk.faults ≡ 0) }
+    {
         let file = OpenOptions::new().read(true).write(true).open(rt, name)?;
         let sectors = file.metadata()?.len() / SECTOR_LEN;
         Ok(FileDisk {

@@ -31,7 +31,7 @@ fn say(rt: &HostRuntime, text: &[u8]) {
     let _ = stderr.write_all(text);
 }
 
-/// Opens the files with these names; the exit status where one can't be opened.
+/// Opens the files with these names; the exit status where one can't be opened, which is said.
 fn open_all(rt: &HostRuntime, names: &[String]) -> Result<Vec<Option<FileDisk>>, u8>
     ensures count { IfOk result (λ disks. length disks.items ≡ length names.now) }
     ensures there { IfOk result (λ disks. All IsSome disks.items) }
@@ -45,7 +45,7 @@ fn open_all(rt: &HostRuntime, names: &[String]) -> Result<Vec<Option<FileDisk>>,
             return Err(5);
         };
         if disks.push(Some(disk)).is_err() {
-            return Err(Status::NoMemory.code());
+            return Err(tell(rt, Status::NoMemory));
         }
     }
     Ok(disks)
