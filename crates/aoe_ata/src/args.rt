@@ -71,13 +71,20 @@ pub fn read_args(bytes: &[u8]) -> Option<AtaArgs>
     })
 }
 
-fn spell(args: &AtaArgs, out: &mut Frame)
-    requires room { array_vec_len out.old + 12 ≤ 9018 }
-    ensures { out.new.items ≡ out.old.items ++ args_bytes args.now }
+/// The 12 bytes of the registers.
+pub fn args_array(args: &AtaArgs) -> [u8; 12]
+    ensures { result ≡ args_bytes args.now }
 {
-    append(out, &[args.aflags, args.feature, args.count, args.code]);
-    append(out, &args.lba.to_le_bytes()[..6]);
-    append(out, &[0; 2]);
+    let AtaArgs {
+        aflags,
+        feature,
+        count,
+        code,
+        lba,
+    } = *args;
+    let mut bytes = [aflags, feature, count, code, 0, 0, 0, 0, 0, 0, 0, 0];
+    bytes[4..10].copy_from_slice(&lba.to_le_bytes()[..6]);
+    bytes
 }
 
 /// Appends the 12 bytes of the registers, for which there is room.
@@ -88,7 +95,7 @@ pub fn write_args(args: &AtaArgs, out: &mut Frame)
     ensures read { args_of (args_bytes args.now) ≡ Some args.now }
     ensures len { length (args_bytes args.now) ≡ 12 }
 {
-    spell(args, out);
+    append(out, &args_array(args));
 }
 
 /// A law: what is written as registers is read as them, whatever follows.

@@ -7,11 +7,13 @@ mod bytes;
 mod counted;
 mod decimal;
 mod failure;
+mod names;
 mod sectors;
 
-pub use address::{BROADCAST, Mac, Ports, TargetId};
+pub use address::{BROADCAST, Mac, Ports, TargetId, read_device, read_mac};
 pub use bytes::Blob;
 pub use counted::{DeviceNo, FrameNo, Millis, PathNo, Ticket};
 pub use decimal::read_number;
 pub use failure::{Failed, NoMemory};
+pub use names::{device_law, mac_reads_back, mac_spelling_is_one};
 pub use sectors::Span;

@@ -1,5 +1,6 @@
 -- What a host keeps of the commands that it sent.
-use Rattle.std.specs.Prelude.{ℕ, ◌≤◌, List, [], length, map}
+use Rattle.std.specs.Prelude.{ℕ, ◌≡◌, ◌≤◌, Bool, List, [], length, map}
+use Rattle.std.specs.List.{count_by}
 use Rattle.aoe_flight.specs.declared.outstanding.Outstanding.{Outstanding}
 use Rattle.aoe_flight.specs.Outstanding.{change_of, live, rest_time, tag_count}
 
@@ -37,6 +38,14 @@ after_change table ticket change now = record table {
   latest = now;
   commands = live table.rest now (map (change_of ticket change) table.commands);
 }
+
+-- two lists have the same commands, in some order: as many of both pass each test
+abbrev pub SameCommands : List Outstanding → List Outstanding → Type 0
+SameCommands xs ys = (test : Outstanding → Bool) → count_by test xs ≡ count_by test ys
+
+-- of these commands that were sent, the table has each that flies or rests
+abbrev pub Recalls : FlightTable → List Outstanding → Type 0
+Recalls table sent = SameCommands table.commands (live table.rest table.latest sent)
 
 -- all fit in the room and in the memory, and no two have one tag
 pub record IsSound (room capacity : ℕ) (commands : List Outstanding) : Type 0 where

@@ -1,10 +1,10 @@
 //! The commands of a host that fly or rest.
-ghost use Rattle.std.specs.Prelude.{◌≡◌, ◌↔◌, ◌<◌, ◌≤◌, ◌∷◌, length, ℕ, false, All, IsTrue, IsSome, IfNone, IfOk, IfSome, OnSome, Some, option_map};
+ghost use Rattle.std.specs.Prelude.{◌≡◌, ◌↔◌, ◌<◌, ◌≤◌, ◌∷◌, length, map, ℕ, List, [], false, true, All, Contains, IsTrue, IsSome, IfNone, IfOk, IfSome, OnSome, Some, option_map};
 ghost use Rattle.std.specs.List.{find};
 ghost use Rattle.std.specs.List.Sorted.{IsPermutation};
 ghost use Rattle.aoe_flight.specs.declared.outstanding.Outstanding.{Outstanding};
-ghost use Rattle.aoe_flight.specs.FlightTable.{after_change, at_time, live_at, no_commands};
-ghost use Rattle.aoe_flight.specs.Outstanding.{after_finish, after_repeat, flies_as, flies_with, is_due, is_expired, launched, lower, precedes, tag_count, IsFirst, IsNextTag};
+ghost use Rattle.aoe_flight.specs.FlightTable.{after_change, at_time, live_at, no_commands, Recalls};
+ghost use Rattle.aoe_flight.specs.Outstanding.{after_finish, after_repeat, change_of, flies_as, flies_with, is_due, is_expired, is_taken, launched, live, lower, precedes, tag_count, IsFirst, IsNextTag};
 
 use crate::outstanding::{Flying, Outstanding};
 use crate::table;
@@ -68,7 +68,8 @@ impl Flight {
         requires room { room ≤ MAX_ROOM }
         requires life { life.0 ≤ 600000 }
         requires dead { 0 < dead.0 }
-        ensures { IfOk result (λ flight. flight ≡ no_commands room life.0 dead.0) }
+        ensures value { IfOk result (λ flight. flight ≡ no_commands room life.0 dead.0) }
+        ensures recalls { IfOk result (λ flight. Recalls flight []) }
     {
         match Slab::with_capacity(alloc, room as usize) {
             Ok(commands) => Ok(Flight {
@@ -98,6 +99,12 @@ impl Flight {
             self.new ≡ record self.old { latest = now.0; last_tag = tag; commands = self.new.commands }) }
         ensures unchanged { IfNone result (self.new ≡ at_time self.old now.0) }
         ensures distinct { (tag : ℕ) → tag_count self.new.commands tag ≤ 1 }
+        ensures recalls { IfSome result (λ tag.
+            (sent : List Outstanding) → Recalls self.old sent
+            → Recalls self.new (launched ticket tag now path wait ∷ sent)) }
+        ensures free { IfSome result (λ tag.
+            (sent : List Outstanding) → Recalls self.old sent
+            → is_taken (live self.old.rest now.0 sent) tag ≡ false) }
     {
         self.latest = now;
         table::forget(&mut self.commands, self.rest, now);
@@ -116,7 +123,9 @@ impl Flight {
     /// Whether no further command can be sent.
     pub fn is_full(&self, now: Millis) -> bool
         requires { self.now.latest ≤ now.0 }
-        ensures { IsTrue result ↔ (self.now.room ≤ length (live_at self.now now.0)) }
+        ensures value { IsTrue result ↔ (self.now.room ≤ length (live_at self.now now.0)) }
+        ensures sent { (sent : List Outstanding) → Recalls self.now sent
+            → IsTrue result ↔ (self.now.room ≤ length (live self.now.rest now.0 sent)) }
     {
         table::live_count(&self.commands, self.rest, now) >= self.room as usize
     }
@@ -124,7 +133,9 @@ impl Flight {
     /// What is known of a flying command.
     pub fn flying(&self, ticket: Ticket) -> Flying
         requires { IsSome (find (flies_as ticket.0) self.now.commands) }
-        ensures { option_map (λ c. c.flying) (find (flies_as ticket.0) self.now.commands) ≡ Some result }
+        ensures value { option_map (λ c. c.flying) (find (flies_as ticket.0) self.now.commands) ≡ Some result }
+        ensures sent { (sent : List Outstanding) → Recalls self.now sent
+            → (c : Outstanding) × Contains sent c × (flies_as ticket.0 c ≡ true) × (c.flying ≡ result) }
     {
         table::find_ticket(&self.commands, ticket).unwrap().flying
     }
@@ -136,6 +147,11 @@ impl Flight {
             (c : Outstanding) × (c.ticket ≡ ticket)
             × IsFirst (is_due now.0) precedes self.now.commands c) }
         ensures none { IfNone result (All (λ c. is_due now.0 c ≡ false) self.now.commands) }
+        ensures first_sent { IfSome result (λ ticket.
+            (sent : List Outstanding) → Recalls self.now sent
+            → (c : Outstanding) × (c.ticket ≡ ticket) × IsFirst (is_due now.0) precedes sent c) }
+        ensures none_sent { IfNone result ((sent : List Outstanding) → Recalls self.now sent
+            → All (λ c. is_due now.0 c ≡ false) sent) }
     {
         table::first_due(&self.commands, now).map(|command| command.ticket)
     }
@@ -143,7 +159,9 @@ impl Flight {
     /// Takes note that a flying command was sent again.
     pub fn repeat(&mut self, ticket: Ticket, now: Millis, path: PathNo, wait: Millis)
         requires { self.old.latest ≤ now.0 }
-        ensures { self.new ≡ after_change self.old ticket.0 (after_repeat now path wait) now.0 }
+        ensures value { self.new ≡ after_change self.old ticket.0 (after_repeat now path wait) now.0 }
+        ensures recalls { (sent : List Outstanding) → Recalls self.old sent
+            → Recalls self.new (map (change_of ticket.0 (after_repeat now path wait)) sent) }
     {
         self.latest = now;
         table::repeat(&mut self.commands, ticket, now, path, wait);
@@ -153,13 +171,20 @@ impl Flight {
     pub fn match_tag(&self, tag: u32) -> Option<Ticket>
         ensures flying { result ≡ option_map (λ c. c.ticket) (find (flies_with tag) self.now.commands) }
         ensures only { tag_count self.now.commands tag ≤ 1 }
+        ensures flying_sent { IfSome result (λ ticket.
+            (sent : List Outstanding) → Recalls self.now sent
+            → (c : Outstanding) × (c.ticket ≡ ticket) × Contains sent c × (flies_with tag c ≡ true)) }
+        ensures none_sent { IfNone result ((sent : List Outstanding) → Recalls self.now sent
+            → All (λ c. flies_with tag c ≡ false) sent) }
     {
         table::find_tag(&self.commands, tag).map(|command| command.ticket)
     }
 
     /// Takes note that a flying command has its outcome: it rests from now on.
     pub fn finish(&mut self, ticket: Ticket)
-        ensures { self.new ≡ after_change self.old ticket.0 after_finish self.old.latest }
+        ensures value { self.new ≡ after_change self.old ticket.0 after_finish self.old.latest }
+        ensures recalls { (sent : List Outstanding) → Recalls self.old sent
+            → Recalls self.new (map (change_of ticket.0 after_finish) sent) }
     {
         table::finish(&mut self.commands, ticket);
     }
@@ -170,6 +195,12 @@ impl Flight {
             (c : Outstanding) × (c.ticket ≡ ticket)
             × IsFirst (is_expired self.now.dead now.0) lower self.now.commands c) }
         ensures none { IfNone result (All (λ c. is_expired self.now.dead now.0 c ≡ false) self.now.commands) }
+        ensures first_sent { IfSome result (λ ticket.
+            (sent : List Outstanding) → Recalls self.now sent
+            → (c : Outstanding) × (c.ticket ≡ ticket)
+            × IsFirst (is_expired self.now.dead now.0) lower sent c) }
+        ensures none_sent { IfNone result ((sent : List Outstanding) → Recalls self.now sent
+            → All (λ c. is_expired self.now.dead now.0 c ≡ false) sent) }
     {
         table::first_expired(&self.commands, self.dead, now).map(|command| command.ticket)
     }
@@ -177,7 +208,8 @@ impl Flight {
     /// Drops the commands that rested out.
     pub fn forget(&mut self, now: Millis)
         requires { self.old.latest ≤ now.0 }
-        ensures { self.new ≡ at_time self.old now.0 }
+        ensures value { self.new ≡ at_time self.old now.0 }
+        ensures recalls { (sent : List Outstanding) → Recalls self.old sent → Recalls self.new sent }
     {
         self.latest = now;
         table::forget(&mut self.commands, self.rest, now);

@@ -1,5 +1,5 @@
 -- The header of a frame (AoEr11, "Common AoE header"), and the padding behind it.
-use Rattle.std.specs.Prelude.{ℕ, ◌+◌, ◌*◌, ◌/◌, ◌-◌, ◌<◌, ◌≡◌, ◌⊎◌, List, [], ◌∷◌, ◌++◌, ◌&&◌, ◌==◌, length, replicate, nat_le, Option, Some, None, if◌then◌else◌, is_some, unwrap_or, slice_index, slice_range, bit_and}
+use Rattle.std.specs.Prelude.{ℕ, ◌+◌, ◌*◌, ◌/◌, ◌-◌, ◌<◌, ◌≡◌, ◌⊎◌, List, [], ◌∷◌, ◌++◌, ◌&&◌, ◌==◌, length, replicate, nat_le, Option, Some, None, if◌then◌else◌, is_some, unwrap_or, take, slice_index, slice_range, bit_and}
 use Rattle.std.specs.Int.{w16, w32, to_be_bytes, from_be_bytes}
 use Rattle.aoe_base.specs.declared.address.Mac.{Mac}
 use Rattle.aoe_base.specs.declared.address.TargetId.{TargetId}
@@ -56,3 +56,7 @@ reply_header request id port error = record {
 -- zeros up to 60 bytes
 abbrev pub padded : List ℕ → List ℕ
 padded f = f ++ replicate (60 - length f) 0
+
+-- the first n bytes, and zeros where there are fewer
+abbrev pub stretched : ℕ → List ℕ → List ℕ
+stretched n f = take n f ++ replicate (n - length f) 0

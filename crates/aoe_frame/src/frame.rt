@@ -1,7 +1,7 @@
 //! The bytes of a frame.
-ghost use Rattle.std.specs.Prelude.{◌≡◌, ◌+◌, ◌≤◌, ◌++◌, length};
+ghost use Rattle.std.specs.Prelude.{◌≡◌, ◌+◌, ◌≤◌, ◌++◌, drop, length};
 ghost use Rattle.arrayvec.specs.ArrayVec.{array_vec_len};
-ghost use Rattle.aoe_frame.specs.Header.{padded};
+ghost use Rattle.aoe_frame.specs.Header.{padded, stretched};
 
 use arrayvec::ArrayVec;
 
@@ -12,8 +12,11 @@ pub type Frame = ArrayVec<u8, 9018>;
 /// The least length that a frame is sent with: Ethernet's 64 bytes without their check sequence.
 pub const MIN_FRAME: usize = 60;
 
-/// The longest padding.
-static ZEROS: [u8; MIN_FRAME] = [0; MIN_FRAME];
+/// The longest frame.
+const MAX_FRAME: usize = 9018;
+
+/// Zeros for the bytes that a frame grows by.
+static ZEROS: [u8; MAX_FRAME] = [0; MAX_FRAME];
 
 /// Appends bytes, for which there is room.
 pub fn append<const CAP: usize>(out: &mut ArrayVec<u8, CAP>, bytes: &[u8])
@@ -21,6 +24,46 @@ pub fn append<const CAP: usize>(out: &mut ArrayVec<u8, CAP>, bytes: &[u8])
     ensures { out.new.items ≡ out.old.items ++ bytes.now }
 {
     let _ = out.try_extend_from_slice(bytes);
+}
+
+/// Makes `out` `len` bytes long. They are what stood there, and zeros behind it. A frame of that
+/// length isn't written to.
+pub fn stretch(out: &mut Frame, len: usize)
+    requires { len ≤ 9018 }
+    ensures bytes { out.new.items ≡ stretched len out.old.items }
+    ensures len { length out.new.items ≡ len }
+{
+    if out.len() > len {
+        out.truncate(len);
+    } else if out.len() < len {
+        let missing = len - out.len();
+        append(out, &ZEROS[..missing]);
+    }
+}
+
+/// Writes `bytes` over the front of `out`.
+fn put_first(out: &mut [u8], bytes: &[u8])
+    requires { length bytes.now ≤ length out.old }
+    ensures { out.new ≡ bytes.now ++ drop (length bytes.now) out.old }
+{
+    out[..bytes.len()].copy_from_slice(bytes);
+}
+
+/// Writes `bytes` over the front of a frame that is at least as long.
+pub fn overwrite(out: &mut Frame, bytes: &[u8])
+    requires { length bytes.now ≤ array_vec_len out.old }
+    ensures { out.new.items ≡ bytes.now ++ drop (length bytes.now) out.old.items }
+{
+    put_first(out.as_mut_slice(), bytes);
+}
+
+/// Makes `out` these bytes. Where it has as many, nothing is cleared before.
+pub fn refill(out: &mut Frame, bytes: &[u8])
+    requires { length bytes.now ≤ 9018 }
+    ensures { out.new.items ≡ bytes.now }
+{
+    stretch(out, bytes.len());
+    overwrite(out, bytes);
 }
 
 /// Adds zeros up to 60 bytes. A frame of 60 bytes and more stays as it was.

@@ -1,10 +1,10 @@
 //! The header of a frame (AoEr11, "Common AoE header").
 ghost use Rattle.aoe_frame.specs.declared.header.Header.{Header};
-ghost use Rattle.std.specs.Prelude.{List, ℕ, ◌≡◌, ◌+◌, ◌%◌, ◌^◌, ◌<◌, ◌≤◌, ◌++◌, All, length, slice_index, slice_range, take};
+ghost use Rattle.std.specs.Prelude.{List, ℕ, ◌≡◌, ◌+◌, ◌%◌, ◌^◌, ◌<◌, ◌≤◌, ◌++◌, All, drop, length, slice_index, slice_range, take};
 ghost use Rattle.aoe_frame.specs.Header.{head, header_bytes, reply_header, Fits, IsFlags};
 
 use crate::Frame;
-use crate::frame::append;
+use crate::frame::refill;
 use aoe_base::{Mac, TargetId};
 
 /// The EtherType of AoE.
@@ -80,21 +80,37 @@ pub fn read_header(bytes: &[u8]) -> Option<Header>
     })
 }
 
-fn spell(header: &Header, out: &mut Frame)
+/// Lays a piece over the bytes of a header from `at` on.
+#[inline(always)]
+fn lay(bytes: &mut [u8; 24], at: usize, piece: &[u8])
+    requires { at + length piece.now ≤ 24 }
+    ensures { bytes.new ≡ take at bytes.old ++ piece.now ++ drop (at + length piece.now) bytes.old }
+{
+    bytes[at..at + piece.len()].copy_from_slice(piece);
+}
+
+/// The 24 bytes of the header.
+pub fn header_array(header: &Header) -> [u8; 24]
     requires version { header.now.version < 16 }
     requires flags { IsFlags header.now.flags }
-    ensures bytes { out.new.items ≡ header_bytes header.now }
+    ensures bytes { result ≡ header_bytes header.now }
     ensures fits { Fits header.now }
-    ensures len { length out.new.items ≡ 24 }
 {
-    out.clear();
-    append(out, &header.dst.0);
-    append(out, &header.src.0);
-    append(out, &AOE_TYPE);
-    append(out, &[header.version * 16 + header.flags, header.error]);
-    append(out, &header.id.major.to_be_bytes());
-    append(out, &[header.id.minor, header.command]);
-    append(out, &header.tag.to_be_bytes());
+    let [type_high, type_low] = AOE_TYPE;
+    let shared = header.version * 16 + header.flags;
+    let error = header.error;
+    let [major_high, major_low] = header.id.major.to_be_bytes();
+    let minor = header.id.minor;
+    let command = header.command;
+    let [t0, t1, t2, t3] = header.tag.to_be_bytes();
+    let rest = [
+        type_high, type_low, shared, error, major_high, major_low, minor, command, t0, t1, t2, t3,
+    ];
+    let mut bytes = [0; HEADER_LEN];
+    lay(&mut bytes, 0, &header.dst.0);
+    lay(&mut bytes, 6, &header.src.0);
+    lay(&mut bytes, 12, &rest);
+    bytes
 }
 
 /// Makes `out` the 24 bytes of the header.
@@ -105,7 +121,7 @@ pub fn write_header(header: &Header, out: &mut Frame)
     ensures read { head out.new.items ≡ Some header.now }
     ensures len { length out.new.items ≡ 24 }
 {
-    spell(header, out);
+    refill(out, &header_array(header));
 }
 
 /// The header of the reply that the target `id` gives to a request, with `port` as its source.

@@ -1,5 +1,5 @@
 mod ListLemmas
-mod LiveLemmas
+pub mod LiveLemmas
 mod StageLemmas
 mod OrderLemmas
 mod TableLemmas

@@ -1,7 +1,7 @@
 -- The commands of one host at one device, and which of them may be sent for the first time.
 use Rattle.std.specs.Prelude.{ℕ, ◌≡◌, ◌-◌, ◌<◌, ◌&&◌, ◌||◌, Bool, true, false, not, List, map, nat_lt, nat_eq, if◌then◌else◌}
 use Rattle.std.specs.List.{All, count_by, filter, list_any}
-use Rattle.aoe_hold.specs.Spans.{overlap}
+use Rattle.aoe_base.specs.Spans.{overlap}
 use Rattle.aoe_base.specs.declared.counted.Millis.{Millis}
 use Rattle.aoe_hold.specs.declared.command.Command.{Command}
 use Rattle.aoe_hold.specs.declared.command.Kind.{Kind}

@@ -2,7 +2,6 @@
 ghost use Rattle.std.specs.Prelude.{◌≡◌};
 ghost use Rattle.aoe_hold.specs.Commands.{conflict, has_effect, is_past, is_unsent, keeps_back, rests_on_effects, stage_finished, stage_sent};
 
-use crate::spans::overlaps;
 use aoe_base::{Millis, Span, Ticket};
 
 /// What a command does, as far as the order of commands goes by it.
@@ -82,7 +81,7 @@ impl Command {
         match (self.kind, other.kind) {
             (Kind::Flush, Kind::Write) | (Kind::Write, Kind::Flush) | (Kind::Edit, Kind::Edit) =>
                 true,
-            (Kind::Write, _) | (_, Kind::Write) => overlaps(self.span, other.span),
+            (Kind::Write, _) | (_, Kind::Write) => self.span.overlaps(&other.span),
             _ => false,
         }
     }

@@ -5,9 +5,7 @@
 mod command;
 mod holds;
 mod law;
-mod spans;
 
 pub use command::{Command, Kind, Stage};
 pub use holds::Holds;
 pub use law::clear_law;
-pub use spans::overlaps;

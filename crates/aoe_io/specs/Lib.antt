@@ -1,3 +1,6 @@
 pub mod Bytes
+pub mod Link
+pub mod LinkMemory
 pub mod Memory
 pub mod Stream
+pub mod Ticking

@@ -1,10 +1,17 @@
-//! What comes in and goes out: sources and sinks of bytes, in memory too, and the stream of frames.
+//! What comes in and goes out: sources and sinks of bytes, links of frames and clocks, in memory
+//! too, and the stream of frames.
 #![tactic(auto)]
 
+mod clocks;
+mod links;
+mod mem_link;
 mod memory;
 mod outside;
 mod stream;
 
+pub use clocks::{Clock, SetClock};
+pub use links::{Got, Link};
+pub use mem_link::MemLink;
 pub use memory::{MemSink, MemSource};
 pub use outside::{Sink, Source};
 pub use stream::{

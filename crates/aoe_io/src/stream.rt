@@ -8,7 +8,7 @@ ghost use Rattle.aoe_io.specs.Stream.{framed, IsFrame, IsLength, IsBroken};
 
 use crate::{Sink, Source};
 use aoe_base::Failed;
-use aoe_frame::{Frame, append};
+use aoe_frame::{Frame, append, stretch};
 use arrayvec::ArrayVec;
 use thiserror::Error;
 
@@ -21,9 +21,6 @@ const LONGEST: usize = 9018;
 /// The bytes that go out together with a frame's length, and the length: a frame of Ethernet's
 /// least length in one piece.
 const FRONT: usize = 64;
-
-/// Zeros for the bytes of a frame that aren't read yet.
-static BLANK: [u8; LONGEST] = [0; LONGEST];
 
 /// What came next on the stream.
 #[derive(Clone, Copy, Debug, PartialEq, Eq)]
@@ -44,6 +41,7 @@ pub enum StreamRefusal {
 
 /// Fills `out` from the source, and says how many bytes of it: fewer than all only where the input
 /// ends.
+#[inline(always)]
 fn fill<S: Source>(source: &mut S, out: &mut [u8]) -> Result<usize, Failed>
     ensures within { IfOk result (λ n. n ≤ length out.old) }
     ensures gave { IfOk result (λ n. Gave (S.left source.old) (S.left source.new) (take n out.new)) }
@@ -86,16 +84,6 @@ fn read_length<S: Source>(source: &mut S, offset: u64) -> Result<Option<usize>, 
         return Err(StreamRefusal::Stream { offset });
     }
     Ok(Some(length))
-}
-
-/// Makes `out` `count` bytes long. They are what stood there, and zeros behind it.
-fn stretch(out: &mut Frame, count: usize)
-    requires { count ≤ 9018 }
-    ensures { length out.new.items ≡ count }
-{
-    out.truncate(count);
-    let missing = count - out.len();
-    let _ = out.try_extend_from_slice(&BLANK[..missing]);
 }
 
 /// Makes `out` the next `count` bytes of the source: false where the input ends before.

@@ -1,4 +1,8 @@
-use crate::{MemSink, MemSource, Next, Sink, Source, StreamRefusal, give_frame, next_frame};
+use crate::{
+    Clock, Got, Link, MemLink, MemSink, MemSource, Next, SetClock, Sink, Source, StreamRefusal,
+    give_frame, next_frame,
+};
+use aoe_base::{Blob, Failed};
 use aoe_frame::Frame;
 use std::test::Fail;
 
@@ -16,4 +20,40 @@ fn takes_and_gives_frames(rt: HostRuntime) -> Result<(), Fail> {
     let refused = next_frame(&mut source, 16, &mut frame);
     assert_eq!(rt; refused, Err(StreamRefusal::Stream { offset: 16 }));
     Ok(())
+}
+
+#[test]
+fn links_in_memory(rt: HostRuntime) -> Result<(), Fail> {
+    let mut coming = Vec::new(rt.alloc());
+    coming.push(Some(Blob::of(rt.alloc(), b"first")?))?;
+    coming.push(None)?;
+    let mut link = MemLink::of(rt.alloc(), coming, 1)?;
+    let mut frame = Frame::new();
+    link.fail_at(2);
+    assert_eq!(rt; link.recv(&mut frame), Ok(Got::Frame));
+    assert_eq!(rt; frame.as_slice(), b"first".as_slice());
+    assert_eq!(rt; link.recv(&mut frame), Err(Failed));
+    for got in [Got::Quiet, Got::Ended, Got::Ended] {
+        assert_eq!(rt; link.recv(&mut frame), Ok(got));
+    }
+    link.send(b"answer")?;
+    assert_eq!(rt; link.send(b"more"), Err(Failed));
+    assert_eq!(rt; link.count(), 1);
+    assert_eq!(rt; link.frame(0), b"answer".as_slice());
+    Ok(())
+}
+
+#[test]
+fn clocks_go_by_steps(rt: HostRuntime) {
+    let cases = [
+        (0, 10, [0, 10, 20]),
+        (5, 0, [5, 5, 5]),
+        (u64::MAX - 1, 10, [u64::MAX - 1, u64::MAX, u64::MAX]),
+    ];
+    for (start, step, answers) in cases {
+        let mut clock = SetClock::new(start, step);
+        for answer in answers {
+            assert_eq!(rt; clock.now(), answer);
+        }
+    }
 }

@@ -12,21 +12,25 @@ use Rattle.aoe_lists.specs.declared.masks.MaskCommand.TheVariants.{Read as ReadM
 use Rattle.aoe_lists.specs.declared.masks.MaskError.{MaskError}
 use Rattle.aoe_lists.specs.declared.reserves.ReserveCommand.{ReserveCommand}
 use Rattle.aoe_lists.specs.declared.reserves.ReserveCommand.TheVariants.{Read as ReadReserves, Set as SetReserves, ForceSet as ForceReserves}
-use Rattle.aoe_lists.specs.declared.step.Step.{Step}
+use Rattle.aoe_lists.specs.declared.answer.Answer.{Answer}
+use Rattle.aoe_lists.specs.declared.answer.Answer.TheVariants as answer
 use Rattle.aoe_lists.specs.Addresses.{first_places}
 use Rattle.aoe_lists.specs.Config.{config_args, config_result}
 use Rattle.aoe_lists.specs.Masks.{after_directives, mask_args, mask_result, mask_edit}
 use Rattle.aoe_lists.specs.Reserves.{reserve_args, reserve_result}
 use Rattle.aoe_lists.specs.Settings.{Settings, may_use}
-use Rattle.aoe_lists.specs.Step.{IfChange}
+use Rattle.aoe_lists.specs.Step.{Step, IfChange, step_with}
 use Rattle.aoe_lists.proofs.ChangeLemmas.{IfChange-success_of}
 
 -- a step that changes settings makes them others
 abbrev pub ChangesOnly : Settings → Step → Type 0
 ChangesOnly s step = IfChange step (λ next. next ≢ s)
 
-pub ChangesOnly-at : (s : Settings) (step same : Step) → step ≡ same → ChangesOnly s same → ChangesOnly s step
-ChangesOnly-at s step same e h = subst (ChangesOnly s) (sym e) h
+-- what is made at a change is other settings, where the whole answer is a step that changes them so
+pub made_other : (s made : Settings) (a : Answer) (args : List ℕ) (step : Step) → step_with a args made ≡ step → ChangesOnly s step → a ≡ answer.Change → made ≢ s
+made_other s made a args step e changes is =
+    let P : Answer → Type 0 = λ b. ChangesOnly s (step_with b args made) in
+    subst P is (subst (ChangesOnly s) (sym e) changes)
 
 either : (s : Settings) (t : Bool) (a b : Step) → ChangesOnly s a → ChangesOnly s b → ChangesOnly s (cond t a b)
 either s true a b x y = x

@@ -8,8 +8,7 @@ use Rattle.std.proofs.lemmas.Slice.Eq.{bytes_eq-Decides, slice_eq-Decides}
 use Rattle.aoe_base.specs.declared.address.Mac.{Mac}
 use Rattle.aoe_lists.specs.Addresses.{same_address}
 use Rattle.aoe_lists.specs.Settings.{Settings, same_settings}
-use Rattle.aoe_lists.specs.Step.{IfChange, reply_of, success_of}
-use Rattle.aoe_lists.specs.declared.step.Step.TheVariants.{Change}
+use Rattle.aoe_lists.specs.Step.{Change, IfChange, reply_of, success_of}
 use Rattle.aoe_lists.proofs.AddressLemmas.{same_address-Decides}
 
 same_addresses-refl : (list : List Mac) → pointwise same_address list list ≡ true
@@ -41,14 +40,14 @@ same_settings-reserves s reserves = rw (same_bytes-refl s.config, same_addresses
 pub IfChange-success_of : (old next : Settings) (args : List ℕ) → IfChange (success_of old next args) (λ n. n ≢ old)
 IfChange-success_of old next args = at (same_settings next old) (λ e same. let P : Settings → Type 0 = λ s. same_settings s old ≡ false in true_or_false (sym (same_settings-refl old) ∙ subst P same e))
   where
-    at : (t : Bool) → (t ≡ false → next ≢ old) → IfChange (cond t (reply_of args) (Change next (record { items = args }))) (λ n. n ≢ old)
+    at : (t : Bool) → (t ≡ false → next ≢ old) → IfChange (cond t (reply_of args) (Change next args)) (λ n. n ≢ old)
     at true others = tt
     at false others = others refl
 
 pub success_of-same : (old next : Settings) (args : List ℕ) → same_settings next old ≡ true → success_of old next args ≡ reply_of args
 success_of-same old next args e = rw e refl
 
-pub success_of-other : (old next : Settings) (args : List ℕ) → same_settings next old ≡ false → success_of old next args ≡ Change next (record { items = args })
+pub success_of-other : (old next : Settings) (args : List ℕ) → same_settings next old ≡ false → success_of old next args ≡ Change next args
 success_of-other old next args e = rw e refl
 
 same_addresses-Decides : (xs ys : List Mac) → Decides (pointwise same_address xs ys) (xs ≡ ys)

@@ -7,7 +7,7 @@ use Rattle.aoe_lists.specs.declared.lists.TheConstants.{MAX_ADDRESSES}
 use Rattle.aoe_lists.specs.declared.masks.Directive.{Directive}
 use Rattle.aoe_lists.specs.declared.masks.Directive.TheVariants.{Nothing, Add, Delete, Unknown}
 use Rattle.aoe_lists.specs.Addresses.{holds, all_unique}
-use Rattle.aoe_lists.specs.Masks.{after_directive, after_directives, and_then}
+use Rattle.aoe_lists.specs.Masks.{after_directive}
 use Rattle.aoe_lists.proofs.AddressLemmas.{all_unique-append, all_unique-without}
 
 -- where a list is left, no address stands twice in it
@@ -26,13 +26,6 @@ after_directive-sound masks (Add a) once = at (holds masks a) refl (length masks
 after_directive-sound masks (Delete a) once = all_unique-without masks a once
 after_directive-sound masks Unknown once = tt
 
-then-sound : (r : Result (List Mac) MaskError) (f : List Mac → Result (List Mac) MaskError) → IsSound r → ((list : List Mac) → all_unique list ≡ true → IsSound (f list)) → IsSound (and_then r f)
-then-sound (Ok list) f once later = later list once
-then-sound (Err e) f once later = tt
-
-after_directives-sound : (masks : List Mac) (ds : List Directive) → all_unique masks ≡ true → IsSound (after_directives masks ds)
-after_directives-sound masks [] once = once
-after_directives-sound masks (d ∷ ds) once = then-sound (after_directive masks d) (λ changed. after_directives changed ds) (after_directive-sound masks d once) (λ changed. after_directives-sound changed ds)
-
-pub all_unique-after_directives : (masks : List Mac) (ds : List Directive) (list : List Mac) → after_directives masks ds ≡ Ok list → all_unique masks ≡ true → all_unique list ≡ true
-all_unique-after_directives masks ds list e once = subst IsSound e (after_directives-sound masks ds once)
+-- one directive that is applied
+pub all_unique-after_directive : (masks list : List Mac) (d : Directive) → after_directive masks d ≡ Ok list → all_unique masks ≡ true → all_unique list ≡ true
+all_unique-after_directive masks list d e once = subst IsSound e (after_directive-sound masks d once)

@@ -9,10 +9,8 @@ use Rattle.aoe_lists.specs.declared.lists.TheConstants.{MAX_CONFIG}
 use Rattle.aoe_lists.specs.declared.config.ConfigCommand.{ConfigCommand}
 use Rattle.aoe_lists.specs.declared.config.ConfigCommand.TheVariants.{Read, Test, TestPrefix, Set, ForceSet}
 use Rattle.aoe_lists.specs.declared.config.Facts.{Facts}
-use Rattle.aoe_lists.specs.declared.step.Step.{Step}
-use Rattle.aoe_lists.specs.declared.step.Step.TheVariants.{Silent}
 use Rattle.aoe_lists.specs.Settings.{Settings}
-use Rattle.aoe_lists.specs.Step.{reply_of, refusal_of, success_of}
+use Rattle.aoe_lists.specs.Step.{Step, Silent, reply_of, refusal_of, success_of}
 
 -- the values of CCmd
 abbrev pub config_code : ConfigCommand → ℕ

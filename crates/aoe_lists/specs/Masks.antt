@@ -12,10 +12,9 @@ use Rattle.aoe_lists.specs.declared.masks.MaskError.{MaskError}
 use Rattle.aoe_lists.specs.declared.masks.MaskError.TheVariants.{Unspecified, BadDirective, ListFull}
 use Rattle.aoe_lists.specs.declared.masks.Directive.{Directive}
 use Rattle.aoe_lists.specs.declared.masks.Directive.TheVariants.{Nothing, Add, Delete, Unknown}
-use Rattle.aoe_lists.specs.declared.step.Step.{Step}
 use Rattle.aoe_lists.specs.Addresses.{holds, without}
 use Rattle.aoe_lists.specs.Settings.{Settings}
-use Rattle.aoe_lists.specs.Step.{reply_of, refusal_of, success_of}
+use Rattle.aoe_lists.specs.Step.{Step, reply_of, refusal_of, success_of}
 
 -- the values of MCmd
 abbrev pub mask_code : MaskCommand → ℕ

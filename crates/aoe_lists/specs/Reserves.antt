@@ -8,10 +8,9 @@ use Rattle.aoe_frame.specs.declared.refusal.AoeError.TheVariants.{BadArgument, T
 use Rattle.aoe_lists.specs.declared.lists.TheConstants.{MAX_ADDRESSES}
 use Rattle.aoe_lists.specs.declared.reserves.ReserveCommand.{ReserveCommand}
 use Rattle.aoe_lists.specs.declared.reserves.ReserveCommand.TheVariants.{Read, Set, ForceSet}
-use Rattle.aoe_lists.specs.declared.step.Step.{Step}
 use Rattle.aoe_lists.specs.Addresses.{first_places}
 use Rattle.aoe_lists.specs.Settings.{Settings, may_use}
-use Rattle.aoe_lists.specs.Step.{reply_of, refusal_of, success_of}
+use Rattle.aoe_lists.specs.Step.{Step, reply_of, refusal_of, success_of}
 
 -- the values of RCmd
 abbrev pub reserve_code : ReserveCommand → ℕ

@@ -11,10 +11,10 @@
 ghost use Rattle.std.specs.Prelude.{◌≡◌, ◌≢◌, ◌≤◌, IfSome, length};
 ghost use Rattle.std.specs.Option.{option_map};
 ghost use Rattle.aoe_lists.specs.Config.{config_answer, config_args, config_code, config_command_of, config_result, config_request};
-ghost use Rattle.aoe_lists.specs.Step.{IfChange, success_of};
+ghost use Rattle.aoe_lists.specs.Step.{step_with, success_of};
 
-use crate::step::{refuse, reply};
-use crate::{Args, Lists, MAX_CONFIG, Step};
+use crate::lists::refill;
+use crate::{Answer, Args, Lists, MAX_CONFIG};
 use aoe_frame::{AoeError, append};
 
 /// What a device says of itself in each config reply.
@@ -106,65 +106,120 @@ fn read_request(bytes: &[u8]) -> Option<(ConfigCommand, &[u8])>
     Some((command, &rest[..len]))
 }
 
-/// The arguments of a reply, with the string that stands after the request.
-fn write_args(facts: &Facts, command: ConfigCommand, string: &[u8]) -> Args
+/// Makes `args` those of a reply, with the string that stands after the request.
+fn write_args(facts: &Facts, command: ConfigCommand, string: &[u8], args: &mut Args)
     requires { length string.now ≤ MAX_CONFIG }
-    ensures { result.items ≡ config_args facts.now command string.now }
+    ensures { args.new.items ≡ config_args facts.now command string.now }
 {
-    let mut args = Args::new();
-    append(&mut args, &facts.buffers.to_be_bytes());
-    append(&mut args, &facts.firmware.to_be_bytes());
-    append(&mut args, &[facts.max, AOE_VERSION * 16 + command.code()]);
-    append(&mut args, &(string.len() as u16).to_be_bytes());
-    append(&mut args, string);
-    args
+    let [buffers_high, buffers_low] = facts.buffers.to_be_bytes();
+    let [firmware_high, firmware_low] = facts.firmware.to_be_bytes();
+    let version_command = AOE_VERSION * 16 + command.code();
+    let [len_high, len_low] = (string.len() as u16).to_be_bytes();
+    args.clear();
+    append(
+        args,
+        &[
+            buffers_high,
+            buffers_low,
+            firmware_high,
+            firmware_low,
+            facts.max,
+            version_command,
+            len_high,
+            len_low,
+        ],
+    );
+    append(args, string);
+}
+
+/// Replies with the string, and leaves it.
+fn reply(
+    facts: &Facts,
+    command: ConfigCommand,
+    error: Option<AoeError>,
+    string: &[u8],
+    args: &mut Args,
+) -> Answer
+    requires { length string.now ≤ MAX_CONFIG }
+    ensures answer { result ≡ Answer.Reply error }
+    ensures args { args.new.items ≡ config_args facts.now command string.now }
+{
+    write_args(facts, command, string, args);
+    Answer::Reply(error)
 }
 
 /// Sets the string.
-fn set(lists: &Lists, facts: &Facts, command: ConfigCommand, string: &[u8]) -> Step
+fn set(
+    lists: &Lists,
+    facts: &Facts,
+    command: ConfigCommand,
+    string: &[u8],
+    next: &mut Lists,
+    args: &mut Args,
+) -> Answer
     requires { length string.now ≤ MAX_CONFIG }
-    ensures { result ≡ success_of lists.now (record lists.now { config = string.now })
-        (config_args facts.now command string.now) }
+    ensures { step_with result args.new.items next.new ≡ success_of lists.now
+        (record lists.now { config = string.now }) (config_args facts.now command string.now) }
 {
-    let args = write_args(facts, command, string);
+    write_args(facts, command, string, args);
     if string == lists.config.as_slice() {
-        return reply(args);
+        return Answer::Reply(None);
     }
-    let mut next = lists.copy();
-    next.config.clear();
-    let _ = next.config.try_extend_from_slice(string);
-    Step::Change { next, args }
+    refill(&mut next.config, string);
+    refill(&mut next.masks, lists.masks.as_slice());
+    refill(&mut next.reserves, lists.reserves.as_slice());
+    Answer::Change
 }
 
 /// What a command does with its string.
-fn act(lists: &Lists, facts: &Facts, command: ConfigCommand, string: &[u8]) -> Step
+fn act(
+    lists: &Lists,
+    facts: &Facts,
+    command: ConfigCommand,
+    string: &[u8],
+    next: &mut Lists,
+    args: &mut Args,
+) -> Answer
     requires { length string.now ≤ MAX_CONFIG }
-    ensures { result ≡ config_result lists.now facts.now command string.now }
+    ensures { step_with result args.new.items next.new ≡ config_result lists.now facts.now command string.now }
 {
     let current = lists.config.as_slice();
     match command {
-        ConfigCommand::Read => reply(write_args(facts, command, current)),
-        ConfigCommand::Test if current == string => reply(write_args(facts, command, current)),
+        ConfigCommand::Read => reply(facts, command, None, current, args),
+        ConfigCommand::Test if current == string => reply(facts, command, None, current, args),
         ConfigCommand::TestPrefix if current.starts_with(string) => {
-            reply(write_args(facts, command, current))
+            reply(facts, command, None, current, args)
         }
-        ConfigCommand::Test | ConfigCommand::TestPrefix => Step::Silent,
-        ConfigCommand::Set if !current.is_empty() && current != string => Step::Reply {
-            error: Some(AoeError::ConfigStringPresent),
-            args: write_args(facts, command, current),
-        },
-        ConfigCommand::Set | ConfigCommand::ForceSet => set(lists, facts, command, string),
+        ConfigCommand::Test | ConfigCommand::TestPrefix => Answer::Silent,
+        ConfigCommand::Set if !current.is_empty() && current != string => {
+            let error = Some(AoeError::ConfigStringPresent);
+            reply(facts, command, error, current, args)
+        }
+        ConfigCommand::Set | ConfigCommand::ForceSet => {
+            set(lists, facts, command, string, next, args)
+        }
     }
 }
 
-/// What a query config request comes to. `bytes` are those of its frame from byte 24 on.
+/// What a query config request comes to. `bytes` are those of its frame from byte 24 on. `args`
+/// takes the arguments of the reply, and `next` the lists that the request makes; what they held
+/// before doesn't matter, and where there is none of it they may hold anything.
 #[tactic(auto, unfolding(crate::specs::Config::config_answer))]
-pub fn config_step(lists: &Lists, facts: &Facts, bytes: &[u8]) -> Step
-    ensures answer { result ≡ config_answer lists.now facts.now bytes.now }
-    ensures changes { IfChange result (λ next. next ≢ lists.now) }
+pub fn config_step(
+    lists: &Lists,
+    facts: &Facts,
+    bytes: &[u8],
+    next: &mut Lists,
+    args: &mut Args,
+) -> Answer
+    ensures answer { step_with result args.new.items next.new ≡ config_answer lists.now facts.now bytes.now }
+    ensures changes { result ≡ Answer.Change → next.new ≢ lists.now }
 {
     match read_request(bytes) {
-        Some((command, string)) => act(lists, facts, command, string),
-        None => refuse(AoeError::BadArgument),
+        Some((command, string)) => act(lists, facts, command, string, next, args),
+        None => {
+            args.clear();
+            Answer::Reply(Some(AoeError::BadArgument))
+        }
     }
 }

@@ -2,13 +2,14 @@
 //! answers to the requests that read and change it.
 #![tactic(auto)]
 
+mod answer;
 mod args;
 mod config;
 mod lists;
 mod masks;
 mod reserves;
-mod step;
 
+pub use answer::Answer;
 pub use args::{Args, MAX_ARGS};
 pub use config::{ConfigCommand, Facts, config_step};
 pub use lists::{
@@ -16,7 +17,6 @@ pub use lists::{
 };
 pub use masks::{Directive, MaskCommand, MaskError, mask_step};
 pub use reserves::{ReserveCommand, reserve_step, reserves_are_the_given_stations};
-pub use step::Step;
 
 #[cfg(test)]
 mod tests;

@@ -46,10 +46,20 @@ impl Model for Lists {
     } };
 }
 
+/// Makes `list` these items, for which it has room.
+pub(crate) fn refill<T: Copy + Default + Drop, const N: usize>(
+    list: &mut ArrayVec<T, N>,
+    items: &[T],
+)
+    requires { length items.now ≤ N }
+    ensures { list.new.items ≡ items.now }
+{
+    list.clear();
+    let _ = list.try_extend_from_slice(items);
+}
+
 /// A copy of a list in fixed room, which takes no memory.
-pub(crate) fn copied<T: Copy + Default + Drop, const N: usize>(
-    list: &ArrayVec<T, N>,
-) -> ArrayVec<T, N>
+fn copied<T: Copy + Default + Drop, const N: usize>(list: &ArrayVec<T, N>) -> ArrayVec<T, N>
     ensures { result.items ≡ list.now.items }
 {
     let mut copy = ArrayVec::new();

@@ -7,16 +7,15 @@
 //! | 2 | 1 | MError |
 //! | 3 | 1 | Dir Count |
 //! | 4 | 8 each | directives: reserved, DCmd, address |
-ghost use Rattle.std.specs.Prelude.{◌≡◌, ◌≢◌, ◌≤◌, ◌*◌, ◌++◌, Ok, Err, true, MatchResult, length, map};
+ghost use Rattle.std.specs.Prelude.{◌≡◌, ◌≢◌, ◌≤◌, ◌*◌, ◌++◌, Ok, Err, true, MatchResult, OnErr, length, map};
 ghost use Rattle.std.specs.Option.{option_map};
 ghost use Rattle.aoe_lists.specs.Addresses.{all_unique, without};
 ghost use Rattle.aoe_lists.specs.Masks.{directive_of, after_directive, after_directives, mask_answer, mask_args, mask_code, mask_command_of, mask_result, mask_edit, mask_error_code, mask_failure, mask_request};
-ghost use Rattle.aoe_lists.specs.Step.{IfChange, success_of};
+ghost use Rattle.aoe_lists.specs.Step.{step_with, success_of};
 
 use crate::args::pieces;
-use crate::lists::copied;
-use crate::step::{refuse, reply};
-use crate::{AddressList, Args, Lists, Step};
+use crate::lists::refill;
+use crate::{AddressList, Answer, Args, Lists};
 use aoe_base::Mac;
 use aoe_frame::{AoeError, append};
 
@@ -135,9 +134,10 @@ fn read_directive(bytes: &[u8; 8]) -> Directive
 
 /// Adds an address at the end, where it isn't in the list.
 fn add(masks: &mut AddressList, address: Mac) -> Result<(), MaskError>
-    ensures { MatchResult result
+    ensures applied { MatchResult result
         (λ _. after_directive masks.old.items (Directive.Add address) ≡ Ok masks.new.items)
         (λ e. after_directive masks.old.items (Directive.Add address) ≡ Err e) }
+    ensures refused { OnErr result (masks.new.items ≡ masks.old.items) }
 {
     if masks.contains(&address) {
         return Ok(());
@@ -157,9 +157,10 @@ fn delete(masks: &mut AddressList, address: Mac)
 
 /// Applies one directive, or says why it can't be applied.
 fn apply(masks: &mut AddressList, directive: Directive) -> Result<(), MaskError>
-    ensures { MatchResult result
+    ensures applied { MatchResult result
         (λ _. after_directive masks.old.items directive ≡ Ok masks.new.items)
         (λ e. after_directive masks.old.items directive ≡ Err e) }
+    ensures refused { OnErr result (masks.new.items ≡ masks.old.items) }
 {
     match directive {
         Directive::Nothing => Ok(()),
@@ -174,7 +175,9 @@ fn apply(masks: &mut AddressList, directive: Directive) -> Result<(), MaskError>
 
 /// Applies directives in their order, up to the first that can't be applied.
 fn edit(masks: &mut AddressList, directives: &[[u8; 8]]) -> Result<(), MaskError>
-    ensures { let changes = map directive_of directives.now in MatchResult result
+    requires { all_unique masks.old.items ≡ true }
+    ensures once { all_unique masks.new.items ≡ true }
+    ensures applied { let changes = map directive_of directives.now in MatchResult result
         (λ _. after_directives masks.old.items changes ≡ Ok masks.new.items)
         (λ e. after_directives masks.old.items changes ≡ Err e) }
 {
@@ -184,73 +187,88 @@ fn edit(masks: &mut AddressList, directives: &[[u8; 8]]) -> Result<(), MaskError
     Ok(())
 }
 
-/// The arguments of a reply with the list.
-fn write_args(command: MaskCommand, masks: &AddressList) -> Args
-    ensures { result.items ≡ mask_args command masks.now.items }
+/// Makes `args` those of a reply with the list.
+fn write_args(command: MaskCommand, masks: &AddressList, args: &mut Args)
+    ensures { args.new.items ≡ mask_args command masks.now.items }
 {
-    let mut args = Args::new();
-    append(&mut args, &[0, command.code(), 0, masks.len() as u8]);
+    args.clear();
+    append(args, &[0, command.code(), 0, masks.len() as u8]);
     for mask in masks.as_slice() {
-        append(&mut args, &[0, 0]);
-        append(&mut args, &mask.0);
+        append(args, &[0, 0]);
+        append(args, &mask.0);
     }
-    args
 }
 
-/// The arguments of a reply to an edit that is refused.
-fn write_failure(error: MaskError) -> Args
-    ensures { result.items ≡ mask_failure error }
+/// Makes `args` those of a reply to an edit that is refused.
+fn write_failure(error: MaskError, args: &mut Args)
+    ensures { args.new.items ≡ mask_failure error }
 {
-    let mut args = Args::new();
-    append(&mut args, &[0, MaskCommand::Edit.code(), error.code(), 0]);
-    args
+    args.clear();
+    append(args, &[0, MaskCommand::Edit.code(), error.code(), 0]);
 }
 
-/// Makes `masks` the list.
-fn set(lists: &Lists, masks: AddressList) -> Step
-    requires { all_unique masks.items ≡ true }
-    ensures { result ≡ success_of lists.now (record lists.now { masks = masks.items })
-        (mask_args MaskCommand.Edit masks.items) }
+/// Makes the masks of `next` the list.
+fn set(lists: &Lists, next: &mut Lists, args: &mut Args) -> Answer
+    ensures { step_with result args.new.items next.new ≡ success_of lists.now
+        (record lists.now { masks = next.old.masks }) (mask_args MaskCommand.Edit next.old.masks) }
 {
-    let args = write_args(MaskCommand::Edit, &masks);
-    if masks == lists.masks {
-        return reply(args);
+    write_args(MaskCommand::Edit, &next.masks, args);
+    if next.masks == lists.masks {
+        return Answer::Reply(None);
     }
-    let mut next = lists.copy();
-    next.masks = masks;
-    Step::Change { next, args }
+    refill(&mut next.config, lists.config.as_slice());
+    refill(&mut next.reserves, lists.reserves.as_slice());
+    Answer::Change
 }
 
-/// Edits the list: all directives are applied, or none.
-fn change(lists: &Lists, directives: &[[u8; 8]]) -> Step
-    ensures { result ≡ mask_edit lists.now
+/// Edits the list: all directives are applied, or none. They are tried on the masks of `next`.
+fn change(lists: &Lists, directives: &[[u8; 8]], next: &mut Lists, args: &mut Args) -> Answer
+    ensures { step_with result args.new.items next.new ≡ mask_edit lists.now
         (after_directives lists.now.masks (map directive_of directives.now)) }
 {
-    let mut masks = copied(&lists.masks);
-    match edit(&mut masks, directives) {
-        Ok(()) => set(lists, masks),
-        Err(error) => reply(write_failure(error)),
+    refill(&mut next.masks, lists.masks.as_slice());
+    match edit(&mut next.masks, directives) {
+        Ok(()) => set(lists, next, args),
+        Err(error) => {
+            write_failure(error, args);
+            Answer::Reply(None)
+        }
     }
 }
 
 /// What a command does with its directives.
-fn act(lists: &Lists, command: MaskCommand, directives: &[[u8; 8]]) -> Step
-    ensures { result ≡ mask_result lists.now command (map directive_of directives.now) }
+fn act(
+    lists: &Lists,
+    command: MaskCommand,
+    directives: &[[u8; 8]],
+    next: &mut Lists,
+    args: &mut Args,
+) -> Answer
+    ensures { step_with result args.new.items next.new
+        ≡ mask_result lists.now command (map directive_of directives.now) }
 {
     match command {
-        MaskCommand::Read => reply(write_args(command, &lists.masks)),
-        MaskCommand::Edit => change(lists, directives),
+        MaskCommand::Read => {
+            write_args(command, &lists.masks, args);
+            Answer::Reply(None)
+        }
+        MaskCommand::Edit => change(lists, directives, next, args),
     }
 }
 
-/// What a mask list request comes to. `bytes` are those of its frame from byte 24 on.
+/// What a mask list request comes to. `bytes` are those of its frame from byte 24 on. `args` takes
+/// the arguments of the reply, and `next` the lists that the request makes; what they held before
+/// doesn't matter, and where there is none of it they may hold anything.
 #[tactic(auto, unfolding(crate::specs::Masks::mask_answer))]
-pub fn mask_step(lists: &Lists, bytes: &[u8]) -> Step
-    ensures answer { result ≡ mask_answer lists.now bytes.now }
-    ensures changes { IfChange result (λ next. next ≢ lists.now) }
+pub fn mask_step(lists: &Lists, bytes: &[u8], next: &mut Lists, args: &mut Args) -> Answer
+    ensures answer { step_with result args.new.items next.new ≡ mask_answer lists.now bytes.now }
+    ensures changes { result ≡ Answer.Change → next.new ≢ lists.now }
 {
     match read_request(bytes) {
-        Some((command, directives)) => act(lists, command, directives),
-        None => refuse(AoeError::BadArgument),
+        Some((command, directives)) => act(lists, command, directives, next, args),
+        None => {
+            args.clear();
+            Answer::Reply(Some(AoeError::BadArgument))
+        }
     }
 }

@@ -8,12 +8,12 @@
 ghost use Rattle.std.specs.Prelude.{◌≡◌, ◌≢◌, ◌≤◌, IfSome, List, true, length};
 ghost use Rattle.std.specs.Option.{option_map};
 ghost use Rattle.aoe_lists.specs.Addresses.{all_unique, first_places, holds};
-ghost use Rattle.aoe_lists.specs.Reserves.{addresses, reserve_answer, reserve_args, reserve_code, reserve_command_of, reserve_result, reserve_request};
-ghost use Rattle.aoe_lists.specs.Step.{IfChange, success_of};
+ghost use Rattle.aoe_lists.specs.Reserves.{addresses, reserve_answer, reserve_args, reserve_code, reserve_command_of, reserve_result, reserve_request, reserve_set};
+ghost use Rattle.aoe_lists.specs.Step.{step_with, success_of};
 
 use crate::args::pieces;
-use crate::step::{refuse, reply};
-use crate::{AddressList, Args, Lists, MAX_ADDRESSES, Step, may_use};
+use crate::lists::refill;
+use crate::{AddressList, Answer, Args, Lists, MAX_ADDRESSES, may_use};
 use aoe_base::Mac;
 use aoe_frame::{AoeError, append};
 
@@ -79,70 +79,99 @@ fn read_request(bytes: &[u8]) -> Option<(ReserveCommand, &[[u8; 6]])>
     Some((command, pieces(rest, count)))
 }
 
-/// The given addresses, without the later copies of each.
-fn first_of_each(given: &[[u8; 6]]) -> AddressList
+/// Makes `list` the given addresses, without the later copies of each.
+fn first_of_each(given: &[[u8; 6]], list: &mut AddressList)
     requires { length given.now ≤ MAX_ADDRESSES }
-    ensures value { result.items ≡ first_places (addresses given.now) }
-    ensures once { all_unique result.items ≡ true }
+    ensures value { list.new.items ≡ first_places (addresses given.now) }
+    ensures once { all_unique list.new.items ≡ true }
 {
-    let mut list = AddressList::new();
+    list.clear();
     for six in given {
         let address = Mac(*six);
         if !list.contains(&address) {
             list.push(address);
         }
     }
-    list
 }
 
-/// The arguments of a reply with the list.
-fn write_args(command: ReserveCommand, reserves: &AddressList) -> Args
-    ensures { result.items ≡ reserve_args command reserves.now.items }
+/// Makes `args` those of a reply with the list.
+fn write_args(command: ReserveCommand, reserves: &AddressList, args: &mut Args)
+    ensures { args.new.items ≡ reserve_args command reserves.now.items }
 {
-    let mut args = Args::new();
-    append(&mut args, &[command.code(), reserves.len() as u8]);
+    args.clear();
+    append(args, &[command.code(), reserves.len() as u8]);
     for address in reserves.as_slice() {
-        append(&mut args, &address.0);
+        append(args, &address.0);
     }
-    args
 }
 
-/// Makes `reserves` the list.
-fn set(lists: &Lists, command: ReserveCommand, reserves: AddressList) -> Step
-    requires { all_unique reserves.items ≡ true }
-    ensures { result ≡ success_of lists.now (record lists.now { reserves = reserves.items })
-        (reserve_args command reserves.items) }
+/// Makes the given addresses the list.
+fn set(
+    lists: &Lists,
+    command: ReserveCommand,
+    given: &[[u8; 6]],
+    next: &mut Lists,
+    args: &mut Args,
+) -> Answer
+    requires { length given.now ≤ MAX_ADDRESSES }
+    ensures { step_with result args.new.items next.new ≡ reserve_set lists.now command (addresses given.now) }
 {
-    let args = write_args(command, &reserves);
-    if reserves == lists.reserves {
-        return reply(args);
+    first_of_each(given, &mut next.reserves);
+    write_args(command, &next.reserves, args);
+    if next.reserves == lists.reserves {
+        return Answer::Reply(None);
     }
-    let mut next = lists.copy();
-    next.reserves = reserves;
-    Step::Change { next, args }
+    refill(&mut next.config, lists.config.as_slice());
+    refill(&mut next.masks, lists.masks.as_slice());
+    Answer::Change
 }
 
 /// What a command does with its addresses.
-fn act(lists: &Lists, source: Mac, command: ReserveCommand, given: &[[u8; 6]]) -> Step
+fn act(
+    lists: &Lists,
+    source: Mac,
+    command: ReserveCommand,
+    given: &[[u8; 6]],
+    next: &mut Lists,
+    args: &mut Args,
+) -> Answer
     requires { length given.now ≤ MAX_ADDRESSES }
-    ensures { result ≡ reserve_result lists.now source command (addresses given.now) }
+    ensures { step_with result args.new.items next.new
+        ≡ reserve_result lists.now source command (addresses given.now) }
 {
     match command {
-        ReserveCommand::Read => reply(write_args(command, &lists.reserves)),
-        ReserveCommand::Set if !may_use(lists, source) => refuse(AoeError::TargetIsReserved),
-        ReserveCommand::Set | ReserveCommand::ForceSet => set(lists, command, first_of_each(given)),
+        ReserveCommand::Read => {
+            write_args(command, &lists.reserves, args);
+            Answer::Reply(None)
+        }
+        ReserveCommand::Set if !may_use(lists, source) => {
+            args.clear();
+            Answer::Reply(Some(AoeError::TargetIsReserved))
+        }
+        ReserveCommand::Set | ReserveCommand::ForceSet => set(lists, command, given, next, args),
     }
 }
 
-/// What a reserve request comes to. `bytes` are those of its frame from byte 24 on.
+/// What a reserve request comes to. `bytes` are those of its frame from byte 24 on. `args` takes the
+/// arguments of the reply, and `next` the lists that the request makes; what they held before
+/// doesn't matter, and where there is none of it they may hold anything.
 #[tactic(auto, unfolding(crate::specs::Reserves::reserve_answer))]
-pub fn reserve_step(lists: &Lists, source: Mac, bytes: &[u8]) -> Step
-    ensures answer { result ≡ reserve_answer lists.now source bytes.now }
-    ensures changes { IfChange result (λ next. next ≢ lists.now) }
+pub fn reserve_step(
+    lists: &Lists,
+    source: Mac,
+    bytes: &[u8],
+    next: &mut Lists,
+    args: &mut Args,
+) -> Answer
+    ensures answer { step_with result args.new.items next.new ≡ reserve_answer lists.now source bytes.now }
+    ensures changes { result ≡ Answer.Change → next.new ≢ lists.now }
 {
     match read_request(bytes) {
-        Some((command, given)) => act(lists, source, command, given),
-        None => refuse(AoeError::BadArgument),
+        Some((command, given)) => act(lists, source, command, given, next, args),
+        None => {
+            args.clear();
+            Answer::Reply(Some(AoeError::BadArgument))
+        }
     }
 }
 

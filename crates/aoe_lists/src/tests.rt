@@ -25,32 +25,50 @@ fn zeroed(bytes: &[u8], len: usize) -> Args {
     args
 }
 
-fn replied(bytes: &[u8]) -> Step {
-    Step::Reply {
-        error: None,
-        args: zeroed(bytes, 0),
-    }
+/// What a request came to, the arguments of its reply, and the lists that it made.
+type Told = (Answer, Args, Lists);
+
+/// Arguments and lists that were used before.
+fn used() -> (Args, Lists) {
+    let mut lists = Lists::new();
+    let _ = lists.config.try_extend_from_slice(b"used");
+    lists.masks.push(C);
+    lists.reserves.push(C);
+    (zeroed(b"used", 100), lists)
 }
 
-fn refused(error: AoeError, bytes: &[u8]) -> Step {
-    Step::Reply {
-        error: Some(error),
-        args: zeroed(bytes, 0),
-    }
+fn ask_config(lists: &Lists, bytes: &[u8]) -> Told {
+    let (mut args, mut next) = used();
+    let answer = config_step(lists, &FACTS, bytes, &mut next, &mut args);
+    (answer, args, next)
 }
 
-/// The arguments of a change, and the lists after it.
-fn changed(step: Step) -> Option<(Args, Lists)> {
-    match step {
-        Step::Change { next, args } => Some((args, next)),
-        _ => None,
-    }
+fn ask_masks(lists: &Lists, bytes: &[u8]) -> Told {
+    let (mut args, mut next) = used();
+    let answer = mask_step(lists, bytes, &mut next, &mut args);
+    (answer, args, next)
+}
+
+fn ask_reserves(lists: &Lists, source: Mac, bytes: &[u8]) -> Told {
+    let (mut args, mut next) = used();
+    let answer = reserve_step(lists, source, bytes, &mut next, &mut args);
+    (answer, args, next)
+}
+
+/// It got this reply, and left the lists.
+fn is_reply(told: &Told, error: Option<AoeError>, bytes: &[u8]) -> bool {
+    told.0 == Answer::Reply(error) && told.1.as_slice() == bytes
+}
+
+/// It made other lists, and got this reply.
+fn is_change(told: &Told, bytes: &[u8]) -> bool {
+    told.0 == Answer::Change && told.1.as_slice() == bytes
 }
 
 #[test]
 fn arguments_that_are_not_taken(rt: HostRuntime) {
     let lists = Lists::new();
-    let bad = refused(AoeError::BadArgument, b"");
+    let bad = Some(AoeError::BadArgument);
     let config: [(&[u8], usize); 9] = [
         (b"", 0),
         (b"\x00\x00\x00\x00\x00\x00\x00", 7),
@@ -63,7 +81,7 @@ fn arguments_that_are_not_taken(rt: HostRuntime) {
         (b"\x00\x00\x00\x00\x00\x04\x00\x03", 10),
     ];
     for (head, len) in config {
-        assert_eq!(rt; config_step(&lists, &FACTS, &zeroed(head, len)), bad);
+        assert!(rt; is_reply(&ask_config(&lists, &zeroed(head, len)), bad, b""));
     }
     let masks: [(&[u8], usize); 5] = [
         (b"", 0),
@@ -73,7 +91,7 @@ fn arguments_that_are_not_taken(rt: HostRuntime) {
         (b"\x00\x01\x00\x01\x00\x01\x02\x00\x00\x00\x00", 11),
     ];
     for (head, len) in masks {
-        assert_eq!(rt; mask_step(&lists, &zeroed(head, len)), bad);
+        assert!(rt; is_reply(&ask_masks(&lists, &zeroed(head, len)), bad, b""));
     }
     let reserves: [(&[u8], usize); 7] = [
         (b"", 0),
@@ -85,7 +103,7 @@ fn arguments_that_are_not_taken(rt: HostRuntime) {
         (b"\x02\x01", 2 + 5),
     ];
     for (head, len) in reserves {
-        assert_eq!(rt; reserve_step(&lists, A, &zeroed(head, len)), bad);
+        assert!(rt; is_reply(&ask_reserves(&lists, A, &zeroed(head, len)), bad, b""));
     }
 }
 
@@ -93,26 +111,26 @@ fn arguments_that_are_not_taken(rt: HostRuntime) {
 fn a_string_is_set_once(rt: HostRuntime) {
     let set = b"\x00\x00\x00\x00\x00\x03\x00\x02ab";
     let reply = b"\x00\x10\x00\x01\x02\x13\x00\x02ab";
-    let (args, lists) = changed(config_step(&Lists::new(), &FACTS, set)).expect(&rt, "a change");
-    assert_eq!(rt; args.as_slice(), reply.as_slice());
+    let told = ask_config(&Lists::new(), set);
+    assert!(rt; is_change(&told, reply));
+    let lists = told.2;
     assert_eq!(rt; lists.config.as_slice(), b"ab".as_slice());
+    assert!(rt; lists.masks.is_empty() && lists.reserves.is_empty());
     assert_eq!(rt; lists.copy(), lists);
     assert_eq!(rt; Lists::default(), Lists::new());
-    assert_eq!(rt; config_step(&lists, &FACTS, set), replied(reply));
+    assert!(rt; is_reply(&ask_config(&lists, set), None, reply));
     let other = b"\x00\x00\x00\x00\x00\x03\x00\x02cd";
-    assert_eq!(rt;
-        config_step(&lists, &FACTS, other),
-        refused(AoeError::ConfigStringPresent, reply)
-    );
+    let present = Some(AoeError::ConfigStringPresent);
+    assert!(rt; is_reply(&ask_config(&lists, other), present, reply));
     let prefix = b"\x00\x00\x00\x00\x00\x02\x00\x01a";
     let told = b"\x00\x10\x00\x01\x02\x12\x00\x02ab";
-    assert_eq!(rt; config_step(&lists, &FACTS, prefix), replied(told));
+    assert!(rt; is_reply(&ask_config(&lists, prefix), None, told));
     let test = b"\x00\x00\x00\x00\x00\x01\x00\x01a";
-    assert_eq!(rt; config_step(&lists, &FACTS, test), Step::Silent);
+    assert_eq!(rt; ask_config(&lists, test).0, Answer::Silent);
     assert_eq!(rt; ConfigCommand::TestPrefix.code(), 2);
     let read = b"\x00\x00\x00\x00\x00\xf0\xff\xff";
     let whole = b"\x00\x10\x00\x01\x02\x10\x00\x02ab";
-    assert_eq!(rt; config_step(&lists, &FACTS, read), replied(whole));
+    assert!(rt; is_reply(&ask_config(&lists, read), None, whole));
 }
 
 /// A mask list request with an edit that adds 64 addresses, A the first of them.
@@ -126,53 +144,58 @@ fn full_list() -> Args {
 
 #[test]
 fn an_edit_is_done_whole_or_not_at_all(rt: HostRuntime) {
-    let (args, lists) = changed(mask_step(&Lists::new(), &full_list())).expect(&rt, "a change");
+    let (answer, args, lists) = ask_masks(&Lists::new(), &full_list());
+    assert_eq!(rt; answer, Answer::Change);
     assert_eq!(rt; args.len(), 4 + 64 * 8);
     assert_eq!(rt; lists.masks.len(), 64);
     let edit =
         b"\x00\x01\x00\x03\x00\x02\x02\x00\x00\x00\x00\x0b\x00\x01\x02\x00\x00\x00\x01\x00\x00\x01\x02\x00\x00\x00\x01\x01";
-    assert_eq!(rt; mask_step(&lists, edit), replied(b"\x00\x01\x03\x00"));
+    assert!(rt; is_reply(&ask_masks(&lists, edit), None, b"\x00\x01\x03\x00"));
     assert_eq!(rt; MaskError::ListFull.code(), 3);
     assert_eq!(rt; MaskCommand::Edit.code(), 1);
     assert!(rt; admits(&lists, B));
     let unknown = b"\x00\x01\x00\x01\x00\x03\x02\x00\x00\x00\x00\x0a";
-    assert_eq!(rt;
-        mask_step(&Lists::new(), unknown),
-        replied(b"\x00\x01\x02\x00")
+    assert!(rt;
+        is_reply(
+            &ask_masks(&Lists::new(), unknown),
+            None,
+            b"\x00\x01\x02\x00"
+        )
     );
     let delete =
         b"\x00\x01\x00\x02\x00\x02\x02\x00\x00\x00\x00\x0a\x00\x02\x02\x00\x00\x00\x00\x0a";
-    let (_, fewer) = changed(mask_step(&lists, delete)).expect(&rt, "a change");
+    let (answer, _, fewer) = ask_masks(&lists, delete);
+    assert_eq!(rt; answer, Answer::Change);
     assert!(rt; !admits(&fewer, A));
     assert!(rt; admits(&fewer, B));
-    assert_eq!(rt;
-        mask_step(&Lists::new(), b"\x00\x00\x00\xff"),
-        replied(b"\x00\x00\x00\x00")
-    );
+    let read = ask_masks(&Lists::new(), b"\x00\x00\x00\xff");
+    assert!(rt; is_reply(&read, None, b"\x00\x00\x00\x00"));
 }
 
 #[test]
 fn a_reservation_is_taken_by_force(rt: HostRuntime) {
     let set = b"\x01\x01\x02\x00\x00\x00\x00\x0a";
-    let (args, lists) = changed(reserve_step(&Lists::new(), A, set)).expect(&rt, "a change");
-    assert_eq!(rt; args.as_slice(), set.as_slice());
+    let told = ask_reserves(&Lists::new(), A, set);
+    assert!(rt; is_change(&told, set));
+    let lists = told.2;
     assert!(rt; !may_use(&lists, B));
     let other = b"\x01\x01\x02\x00\x00\x00\x00\x0b";
-    assert_eq!(rt;
-        reserve_step(&lists, B, other),
-        refused(AoeError::TargetIsReserved, b"")
-    );
+    let reserved = Some(AoeError::TargetIsReserved);
+    assert!(rt; is_reply(&ask_reserves(&lists, B, other), reserved, b""));
     let force = b"\x02\x01\x02\x00\x00\x00\x00\x0b";
-    let (args, lists) = changed(reserve_step(&lists, B, force)).expect(&rt, "a change");
-    assert_eq!(rt; args.as_slice(), force.as_slice());
+    let told = ask_reserves(&lists, B, force);
+    assert!(rt; is_change(&told, force));
+    let lists = told.2;
     assert_eq!(rt; ReserveCommand::ForceSet.code(), 2);
     assert!(rt; !may_use(&lists, A));
     assert!(rt; admits(&lists, A));
     let twice = b"\x01\x03\x02\x00\x00\x00\x00\x0b\x02\x00\x00\x00\x00\x0c\x02\x00\x00\x00\x00\x0b";
-    let (args, lists) = changed(reserve_step(&lists, B, twice)).expect(&rt, "a change");
-    assert_eq!(rt;
-        args.as_slice(),
-        b"\x01\x02\x02\x00\x00\x00\x00\x0b\x02\x00\x00\x00\x00\x0c".as_slice()
+    let told = ask_reserves(&lists, B, twice);
+    assert!(rt;
+        is_change(
+            &told,
+            b"\x01\x02\x02\x00\x00\x00\x00\x0b\x02\x00\x00\x00\x00\x0c"
+        )
     );
-    assert!(rt; may_use(&lists, C));
+    assert!(rt; may_use(&told.2, C));
 }

@@ -1,27 +1,20 @@
--- A step of a target, and of those who know less of it.
-use Rattle.std.proofs.Common.{◌≡◌, ◌+◌, ◌-◌, ◌||◌, ◌==◌, cond, ℕ, Bool, true, false, List, ◌∷◌, drop, Option, Some, None, refl, sym, ap, subst, ◌∙◌, arith}
+-- What is known of a device after a step, by those who know less of it.
+use Rattle.std.proofs.Common.{◌≡◌, ◌+◌, ◌-◌, ◌||◌, ◌==◌, cond, ℕ, Bool, true, false, List, drop, Option, Some, None, refl, sym, ap, subst, ◌∙◌, arith}
 use Rattle.std.specs.Prelude.{IfSome}
 use Rattle.std.specs.Option.{option_map, option_or}
 use Rattle.aoe_base.specs.declared.sectors.Span.{Span}
 use Rattle.aoe_disk.specs.State.{BothTell, sector}
-use Rattle.aoe_frame.specs.Header.{fields}
 use Rattle.aoe_frame.specs.declared.header.Header.{Header}
 use Rattle.aoe_ata.specs.Decision.{written}
 use Rattle.aoe_ata.specs.declared.args.AtaArgs.{AtaArgs}
 use Rattle.aoe_ata.specs.declared.decision.AtaAnswer.{AtaAnswer}
 use Rattle.aoe_ata.specs.declared.decision.AtaAnswer.TheVariants.{Abort, NotFound, Page, Mode, Give, Put, Verify, Sync}
-use Rattle.aoe_lists.specs.Settings.{Settings}
-use Rattle.aoe_lists.specs.declared.step.Step.{Step}
-use Rattle.aoe_lists.specs.declared.step.Step.TheVariants as step
 use Rattle.aoe_target.specs.declared.station.Station.{Station}
 use Rattle.aoe_target.specs.declared.heard.Effect.{Effect}
 use Rattle.aoe_target.specs.declared.heard.Effect.TheVariants as effect
-use Rattle.aoe_target.specs.declared.verdict.Verdict.{Verdict}
-use Rattle.aoe_target.specs.declared.verdict.Verdict.TheVariants.{Ignored, Silent, Refused, Lists, Ata}
-use Rattle.aoe_target.specs.Verdict.{verdict}
 use Rattle.aoe_target.specs.Reply.{data_of}
 use Rattle.aoe_target.specs.Sectors.{Sectors, Same, Agrees, Tells, in_span, value_in, puts, spoils, spoiled, learns, settles}
-use Rattle.aoe_target.specs.Law.{Fate, ignored, silent, cut, replied, State, StateAgrees, IsStep, Allows, AllowsAta, AllowsStep, Gives, step_of, after, after_step, after_change, after_ata, after_effect, after_read, after_cut}
+use Rattle.aoe_target.specs.Law.{Fate, ignored, silent, cut, replied, AllowsAta, Gives, after_ata, after_effect, after_read, after_cut}
 use Rattle.aoe_target.proofs.SectorLemmas.{agrees_same, agrees_self, by_span}
 
 -- Who knows more than one who knows more than a third.
@@ -165,6 +158,7 @@ effect_agrees effect.Synced f answer station h args reply a b allowed ab = settl
 effect_agrees effect.Edited f answer station h args reply a b allowed ab = ab
 effect_agrees effect.ReadFault f answer station h args reply a b allowed ab = ab
 effect_agrees effect.SyncFault f answer station h args reply a b allowed ab = ab
+effect_agrees effect.EditFault f answer station h args reply a b allowed ab = ab
 
 ata_agrees : (fate : Fate) (f : List ℕ) (answer : AtaAnswer) (station : Station) (h : Header) (args : AtaArgs) (a b : Sectors) → AllowsAta station (Some a) h args answer fate → Agrees a b → Agrees (after_ata f answer fate a) (after_ata f answer fate b)
 ata_agrees ignored f answer station h args a b allowed ab = ab
@@ -172,7 +166,7 @@ ata_agrees silent f answer station h args a b allowed ab = ab
 ata_agrees cut f answer station h args a b allowed ab = cut_agrees answer a b ab
 ata_agrees (replied e reply) f answer station h args a b allowed ab = effect_agrees e f answer station h args reply a b allowed ab
 
-both_ata : (fate : Fate) (f : List ℕ) (answer : AtaAnswer) (station : Station) (h : Header) (args : AtaArgs) (x y : Option Sectors) → AllowsAta station x h args answer fate → BothTell Agrees x y
+pub both_ata : (fate : Fate) (f : List ℕ) (answer : AtaAnswer) (station : Station) (h : Header) (args : AtaArgs) (x y : Option Sectors) → AllowsAta station x h args answer fate → BothTell Agrees x y
     → BothTell Agrees (option_map (after_ata f answer fate) x) (option_map (after_ata f answer fate) y)
 both_ata fate f answer station h args None None allowed told = tt
 both_ata fate f answer station h args None (Some b) allowed told = absurd told
@@ -199,6 +193,7 @@ gives_less (effect.WriteFault s) station x y h args span reply ab g = absurd g
 gives_less effect.Synced station x y h args span reply ab g = absurd g
 gives_less effect.Edited station x y h args span reply ab g = absurd g
 gives_less effect.SyncFault station x y h args span reply ab g = absurd g
+gives_less effect.EditFault station x y h args span reply ab g = absurd g
 
 give_less : (fate : Fate) (station : Station) (x y : Option Sectors) (h : Header) (args : AtaArgs) (span : Span) → BothTell Agrees x y → AllowsAta station x h args (Give span) fate → AllowsAta station y h args (Give span) fate
 give_less ignored station x y h args span ab g = g
@@ -206,7 +201,7 @@ give_less silent station x y h args span ab g = g
 give_less cut station x y h args span ab g = g
 give_less (replied e reply) station x y h args span ab g = gives_less e station x y h args span reply ab g
 
-allows_less : (answer : AtaAnswer) (fate : Fate) (station : Station) (x y : Option Sectors) (h : Header) (args : AtaArgs) → BothTell Agrees x y → AllowsAta station x h args answer fate → AllowsAta station y h args answer fate
+pub allows_less : (answer : AtaAnswer) (fate : Fate) (station : Station) (x y : Option Sectors) (h : Header) (args : AtaArgs) → BothTell Agrees x y → AllowsAta station x h args answer fate → AllowsAta station y h args answer fate
 allows_less (Give span) fate station x y h args ab g = give_less fate station x y h args span ab g
 allows_less Abort fate station x y h args ab g = g
 allows_less NotFound fate station x y h args ab g = g
@@ -216,16 +211,7 @@ allows_less (Put span) fate station x y h args ab g = g
 allows_less (Verify span) fate station x y h args ab g = g
 allows_less Sync fate station x y h args ab g = g
 
--- States.
-
-both_self : (x : Option Sectors) → BothTell Agrees x x
-both_self None = tt
-both_self (Some a) = agrees_self a
-
-pub state_self : (k : State) → StateAgrees k k
-state_self k = record { lists = refl; offers = refl; sectors = both_self k.sectors }
-
-both_then : (x y z : Option Sectors) → BothTell Agrees x y → BothTell Agrees y z → BothTell Agrees x z
+pub both_then : (x y z : Option Sectors) → BothTell Agrees x y → BothTell Agrees y z → BothTell Agrees x z
 both_then None None None xy yz = tt
 both_then None None (Some c) xy yz = absurd yz
 both_then None (Some b) z xy yz = absurd xy
@@ -233,50 +219,6 @@ both_then (Some a) None z xy yz = absurd xy
 both_then (Some a) (Some b) None xy yz = absurd yz
 both_then (Some a) (Some b) (Some c) xy yz = agrees_then a b c xy yz
 
-state_then : (a b c : State) → StateAgrees a b → StateAgrees b c → StateAgrees a c
-state_then a b c ab bc = record { lists = ab.lists ∙ bc.lists; offers = ab.offers ∙ bc.offers; sectors = both_then a.sectors b.sectors c.sectors ab.sectors bc.sectors }
-
-change_agrees : (fate : Fate) (next : Settings) (k b : State) → StateAgrees k b → StateAgrees (after_change next fate k) (after_change next fate b)
-change_agrees ignored next k b kb = kb
-change_agrees silent next k b kb = kb
-change_agrees cut next k b kb = record { lists = kb.lists; offers = ap (λ (l : List Settings). next ∷ l) kb.offers; sectors = kb.sectors }
-change_agrees (replied e reply) next k b kb = record { lists = refl; offers = refl; sectors = kb.sectors }
-
-step_agrees : (s : Step) (fate : Fate) (k b : State) → StateAgrees k b → StateAgrees (after_step s fate k) (after_step s fate b)
-step_agrees step.Silent fate k b kb = kb
-step_agrees (step.Reply error args) fate k b kb = kb
-step_agrees (step.Change next args) fate k b kb = change_agrees fate next k b kb
-
-verdict_agrees : (v : Verdict) (station : Station) (f : List ℕ) (fate : Fate) (k b : State) → StateAgrees k b → Allows station k f v fate
-    → Allows station b f v fate × StateAgrees (after station f v fate k) (after station f v fate b)
-verdict_agrees Ignored station f fate k b kb allowed = (allowed, kb)
-verdict_agrees Silent station f fate k b kb allowed = (allowed, kb)
-verdict_agrees (Refused error) station f fate k b kb allowed = (allowed, kb)
-verdict_agrees (Lists command) station f fate k b kb allowed =
-    let P : Settings → Type 0 = λ l. AllowsStep station f (step_of station l f command) fate in
-    let Q : Settings → Type 0 = λ l. StateAgrees (after_step (step_of station k.lists f command) fate k) (after_step (step_of station l f command) fate b) in (
-      subst P kb.lists allowed,
-      subst Q kb.lists (step_agrees (step_of station k.lists f command) fate k b kb),
-    )
-verdict_agrees (Ata d) station f fate k b kb allowed = (
-  allows_less d.answer fate station k.sectors b.sectors (fields f) d.args kb.sectors allowed,
-  record { lists = kb.lists; offers = kb.offers; sectors = both_ata fate f d.answer station (fields f) d.args k.sectors b.sectors allowed kb.sectors },
-)
-
--- a step of a target is one of every state that it agrees with
-pub step_less : (station : Station) (k b k' : State) (f : List ℕ) (fate : Fate) → StateAgrees k b → IsStep station k f fate k' → IsStep station b f fate k'
-step_less station k b k' f fate kb one =
-    let both = verdict_agrees (verdict station k.lists f) station f fate k b kb one.allowed in
-    let P : Settings → Type 0 = λ l. Allows station b f (verdict station l f) fate in
-    let Q : Settings → Type 0 = λ l. StateAgrees k' (after station f (verdict station l f) fate b) in
-    record {
-      allowed = subst P kb.lists both.0;
-      agrees = subst Q kb.lists (state_then k' (after station f (verdict station k.lists f) fate k) (after station f (verdict station k.lists f) fate b) one.agrees both.1);
-    }
-
--- a step by its verdict
-pub step_by : (station : Station) (k k' : State) (f : List ℕ) (fate : Fate) (v : Verdict) → verdict station k.lists f ≡ v → Allows station k f v fate → StateAgrees k' (after station f v fate k) → IsStep station k f fate k'
-step_by station k k' f fate v e allowed agrees =
-    let P : Verdict → Type 0 = λ w. Allows station k f w fate in
-    let Q : Verdict → Type 0 = λ w. StateAgrees k' (after station f w fate k) in
-    record { allowed = subst P (sym e) allowed; agrees = subst Q (sym e) agrees }
+pub both_self : (x : Option Sectors) → BothTell Agrees x x
+both_self None = tt
+both_self (Some a) = agrees_self a

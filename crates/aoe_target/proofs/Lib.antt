@@ -1,3 +1,4 @@
+pub mod DeviceLemmas
 pub mod LawLemmas
 mod PieceLemmas
 mod ReceiveLemmas

@@ -1,86 +1,92 @@
 -- What a target does with a frame is a step of the law.
-use Rattle.std.proofs.Common.{◌≡◌, cond, ℕ, Bool, true, false, List, drop, Option, refl, sym, ap, subst, ◌∙◌}
-use Rattle.std.specs.Prelude.{is_some, Some}
-use Rattle.std.specs.Bool.{OnTrue}
+use Rattle.std.proofs.Common.{◌≡◌, cond, ℕ, Bool, true, false, List, drop, refl, sym, ap, subst, ◌∙◌}
+use Rattle.std.specs.Prelude.{is_some, IfSome, Some}
 use Rattle.std.specs.Option.{option_map}
-use Rattle.aoe_disk.specs.State.{Contents}
+use Rattle.aoe_disk.specs.State.{DiskState}
+use Rattle.aoe_keep.specs.Found.{Finds}
 use Rattle.aoe_frame.specs.Header.{head, fields}
 use Rattle.aoe_frame.specs.declared.header.Header.{Header}
 use Rattle.aoe_frame.specs.declared.refusal.AoeError.{AoeError}
 use Rattle.aoe_ata.specs.declared.decision.AtaDecision.{AtaDecision}
 use Rattle.aoe_lists.specs.Settings.{Settings}
-use Rattle.aoe_lists.specs.declared.step.Step.{Step}
-use Rattle.aoe_lists.specs.declared.step.Step.TheVariants as step
 use Rattle.aoe_target.specs.declared.station.Station.{Station}
 use Rattle.aoe_target.specs.declared.heard.Effect.{Effect}
 use Rattle.aoe_target.specs.declared.heard.Effect.TheVariants as effect
 use Rattle.aoe_target.specs.declared.heard.Heard.{Heard}
-use Rattle.aoe_target.specs.declared.heard.Heard.TheVariants as heard
 use Rattle.aoe_target.specs.declared.verdict.ListCommand.{ListCommand}
 use Rattle.aoe_target.specs.declared.verdict.Verdict.{Verdict}
-use Rattle.aoe_target.specs.declared.verdict.Verdict.TheVariants.{Ignored, Refused, Lists, Ata}
+use Rattle.aoe_target.specs.declared.verdict.Verdict.TheVariants.{Ignored, Silent, Refused, Lists, Ata}
 use Rattle.aoe_target.specs.Verdict.{verdict, judged}
 use Rattle.aoe_target.specs.Reply.{spelled, repeated}
 use Rattle.aoe_target.specs.Sectors.{sectors_of}
-use Rattle.aoe_target.specs.Law.{Fate, replied, State, StateAgrees, IsStep, AllowsAta, AllowsStep, step_of, after_step}
-use Rattle.aoe_target.specs.Receive.{fate_of, state_of, Leaves, next_lists, calls_store}
+use Rattle.aoe_target.specs.Device.{Device, State, Holds, MayStand}
+use Rattle.aoe_target.specs.Law.{Fate, ignored, silent, replied, IsStep, Allows, AllowsAta, AllowsStep, step_of, after, after_ata, after_step}
+use Rattle.aoe_target.specs.Receive.{fate_of, KeepsStep, Leaves}
 use Rattle.aoe_target.specs.Mounted.{Mounted}
-use Rattle.aoe_target.proofs.LawLemmas.{state_self, step_by}
+use Rattle.aoe_target.proofs.LawLemmas.{allows_less, both_ata, both_then}
+use Rattle.aoe_target.proofs.DeviceLemmas.{stepped}
 
 -- the verdict on a frame without a header, and on one with it
 pub unheard : (station : Station) (lists : Settings) (f : List ℕ) → false ≡ is_some (head f) → verdict station lists f ≡ Ignored
 unfolding verdict
 unheard station lists f e = ap (λ (t : Bool). cond t (judged station lists (fields f) (drop 24 f)) Ignored) (sym e)
 
-pub judged_is : (station : Station) (lists : Settings) (f : List ℕ) (h : Header) (args : List ℕ) (v : Verdict) → true ≡ is_some (head f) → h ≡ fields f → args ≡ drop 24 f → v ≡ judged station lists h args → verdict station lists f ≡ v
+pub judged_is : (station : Station) (lists told : Settings) (f : List ℕ) (h : Header) (args : List ℕ) (v : Verdict) → true ≡ is_some (head f) → h ≡ fields f → args ≡ drop 24 f → told ≡ lists
+    → v ≡ judged station told h args → verdict station lists f ≡ v
 unfolding verdict
-judged_is station lists f h args v there header rest e =
+judged_is station lists told f h args v there header rest same e =
     ap (λ (t : Bool). cond t (judged station lists (fields f) (drop 24 f)) Ignored) (sym there)
-    ∙ sym (e ∙ ap (λ (x : Header). judged station lists x args) header ∙ ap (λ (a : List ℕ). judged station lists (fields f) a) rest)
+    ∙ sym (e ∙ ap (λ (l : Settings). judged station l h args) same ∙ ap (λ (x : Header). judged station lists x args) header ∙ ap (λ (a : List ℕ). judged station lists (fields f) a) rest)
 
--- what is true of the fields of a target is true of the target
-pub step_outside : {S : Type 0} (told : S → Option Contents) (m n : Mounted S) (f : List ℕ) (fate : Fate) (k : State) → m ≡ n
-    → IsStep m.station (state_of m.lists (told m.store)) f fate k → IsStep n.station (state_of n.lists (told n.store)) f fate k
-step_outside told m n f fate k e s = let P : Mounted _ → Type 0 = λ t. IsStep t.station (state_of t.lists (told t.store)) f fate k in subst P e s
+-- what is true of the fields of a target and of a verdict is true of the target and of its verdict
+pub by_verdict : {S D : Type 0} (m n : Mounted S D) (f : List ℕ) (v : Verdict) (Q : Mounted S D → Verdict → Type 0) → m ≡ n → verdict m.station m.keep.lists f ≡ v → Q m v → Q n (verdict n.station n.keep.lists f)
+by_verdict m n f v Q same e q =
+    let P : Mounted _ _ → Type 0 = λ t. Q t (verdict t.station t.keep.lists f) in
+    subst P same (subst (λ (w : Verdict). Q m w) (sym e) q)
 
--- a reply that bears an error
-pub refused_step : (station : Station) (lists : Settings) (c : Option Contents) (f : List ℕ) (h : Header) (error : AoeError) (out : List ℕ) → verdict station lists f ≡ Refused error → h ≡ fields f
-    → out ≡ spelled station h (Some error) (repeated f) → IsStep station (state_of lists c) f (replied effect.None out) (state_of lists c)
-refused_step station lists c f h error out e header out_is =
-    step_by station (state_of lists c) (state_of lists c) f (replied effect.None out) (Refused error) e
-    (ap (replied effect.None) (out_is ∙ ap (λ (x : Header). spelled station x (Some error) (repeated f)) header)) (state_self (state_of lists c))
+module _ (station : Station) (d d' : Device) (k : State) (f : List ℕ) (h : Holds d k) where
+  -- a step by its verdict
+  step_by : (fate : Fate) (v : Verdict) → verdict station d.lists f ≡ v → Allows station k f v fate → Holds d' (after station f v fate k) → IsStep station k f fate d'
+  step_by fate v e allowed holds =
+      let is : verdict station k.lists f ≡ v = subst (λ (l : Settings). verdict station l f ≡ v) h.lists e in
+      record {
+        allowed = subst (λ (w : Verdict). Allows station k f w fate) (sym is) allowed;
+        holds = subst (λ (w : Verdict). Holds d' (after station f w fate k)) (sym is) holds;
+      }
 
--- the answer of the lists
-listed : (s : Step) (h : Heard) (station : Station) (lists next : Settings) (c : Option Contents) (f out : List ℕ) → AllowsStep station f s (fate_of h out) → next ≡ next_lists s lists
-    → StateAgrees (state_of next c) (after_step s (fate_of h out) (state_of lists c))
-listed step.Silent h station lists next c f out allowed e = record { lists = e; offers = refl; sectors = (state_self (state_of lists c)).sectors }
-listed (step.Reply error args) h station lists next c f out allowed e = record { lists = e; offers = refl; sectors = (state_self (state_of lists c)).sectors }
-listed (step.Change changed args) heard.Ignored station lists next c f out allowed e = absurd allowed
-listed (step.Change changed args) heard.Silent station lists next c f out allowed e = absurd allowed
-listed (step.Change changed args) (heard.Replied effect) station lists next c f out allowed e = record { lists = e; offers = refl; sectors = (state_self (state_of lists c)).sectors }
+  pub ignored_step : verdict station d.lists f ≡ Ignored → d ≡ d' → IsStep station k f ignored d'
+  ignored_step e same = step_by ignored Ignored e refl (subst (λ (x : Device). Holds x k) same h)
 
-pub lists_step : (station : Station) (lists next : Settings) (c : Option Contents) (f : List ℕ) (command : ListCommand) (h : Heard) (out : List ℕ) → verdict station lists f ≡ Lists command
-    → AllowsStep station f (step_of station lists f command) (fate_of h out) → next ≡ next_lists (step_of station lists f command) lists → IsStep station (state_of lists c) f (fate_of h out) (state_of next c)
-lists_step station lists next c f command h out e allowed next_is =
-    step_by station (state_of lists c) (state_of next c) f (fate_of h out) (Lists command) e allowed
-    (listed (step_of station lists f command) h station lists next c f out allowed next_is)
+  pub silent_step : verdict station d.lists f ≡ Silent → d ≡ d' → IsStep station k f silent d'
+  silent_step e same = step_by silent Silent e refl (subst (λ (x : Device). Holds x k) same h)
 
--- an ATA command
-pub ata_step : (station : Station) (lists : Settings) (old new : Option Contents) (f : List ℕ) (h : Header) (d : AtaDecision) (e : Effect) (out : List ℕ) → verdict station lists f ≡ Ata d → h ≡ fields f
-    → AllowsAta station (option_map sectors_of old) h d.args d.answer (replied e out) → Leaves f d.answer e out old new → IsStep station (state_of lists old) f (replied e out) (state_of lists new)
-ata_step station lists old new f h d e out v header allowed leaves =
-    let P : Header → Type 0 = λ x. AllowsAta station (option_map sectors_of old) x d.args d.answer (replied e out) in
-    step_by station (state_of lists old) (state_of lists new) f (replied e out) (Ata d) v (subst P header allowed) (record { lists = refl; offers = refl; sectors = leaves })
+  -- a reply that bears an error
+  pub refused_step : (header : Header) (error : AoeError) (out : List ℕ) → verdict station d.lists f ≡ Refused error → header ≡ fields f → out ≡ spelled station header (Some error) (repeated f) → d ≡ d'
+      → IsStep station k f (replied effect.None out) d'
+  refused_step header error out e header_is out_is same =
+      step_by (replied effect.None out) (Refused error) e
+      (ap (replied effect.None) (out_is ∙ ap (λ (x : Header). spelled station x (Some error) (repeated f)) header_is)) (subst (λ (x : Device). Holds x k) same h)
 
--- the store is called as the verdict says
-pub call_by : {S : Type 0} (m n : Mounted S) (f : List ℕ) (v : Verdict) (X : S → Type 0) → m ≡ n → verdict m.station m.lists f ≡ v → OnTrue (calls_store v) (X m.store) → OnTrue (calls_store (verdict n.station n.lists f)) (X n.store)
-call_by m n f v X same e h =
-    let P : Mounted _ → Type 0 = λ t. OnTrue (calls_store (verdict t.station t.lists f)) (X t.store) in
-    let Q : Verdict → Type 0 = λ w. OnTrue (calls_store w) (X m.store) in
-    subst P same (subst Q (sym e) h)
+  -- the answer of the lists
+  pub lists_step : (command : ListCommand) (r : Heard) (out : List ℕ) → verdict station d.lists f ≡ Lists command → AllowsStep station f (step_of station d.lists f command) (fate_of r out)
+      → KeepsStep (step_of station d.lists f command) r d.lists d'.lists d.keep d'.keep → d'.store ≡ d.store → IsStep station k f (fate_of r out) d'
+  lists_step command r out e allowed kept store =
+      step_by (fate_of r out) (Lists command) e
+      (subst (λ (l : Settings). AllowsStep station f (step_of station l f command) (fate_of r out)) h.lists allowed)
+      (subst (λ (l : Settings). Holds d' (after_step (step_of station l f command) (fate_of r out) k)) h.lists (stepped d d' k h store (step_of station d.lists f command) r out kept))
 
-pub idle_by : {S : Type 0} (m n : Mounted S) (f : List ℕ) (v : Verdict) (s : S) → m ≡ n → verdict m.station m.lists f ≡ v → (calls_store v ≡ false → s ≡ m.store) → calls_store (verdict n.station n.lists f) ≡ false → s ≡ n.store
-idle_by m n f v s same e h =
-    let P : Mounted _ → Type 0 = λ t. calls_store (verdict t.station t.lists f) ≡ false → s ≡ t.store in
-    let Q : Verdict → Type 0 = λ w. calls_store w ≡ false → s ≡ m.store in
-    subst P same (subst Q (sym e) h)
+  -- an ATA command
+  pub ata_step : (header : Header) (a : AtaDecision) (e : Effect) (out : List ℕ) → verdict station d.lists f ≡ Ata a → header ≡ fields f
+      → AllowsAta station (option_map sectors_of d.store.contents) header a.args a.answer (replied e out) → Leaves f a.answer e out d.store.contents d'.store.contents
+      → d'.lists ≡ d.lists → d'.keep ≡ d.keep → IsStep station k f (replied e out) d'
+  ata_step header a e out v header_is allowed leaves lists keep =
+      let known = option_map sectors_of d.store.contents in
+      let allows : AllowsAta station known (fields f) a.args a.answer (replied e out) = subst (λ (x : Header). AllowsAta station known x a.args a.answer (replied e out)) header_is allowed in
+      step_by (replied e out) (Ata a) v
+      (allows_less a.answer (replied e out) station known k.sectors (fields f) a.args h.sectors allows)
+      (record {
+        lists = lists ∙ h.lists;
+        crash = subst (λ (x : DiskState). IfSome x.contents (Finds (MayStand k))) (sym keep) h.crash;
+        sectors = both_then (option_map sectors_of d'.store.contents) (option_map (after_ata f a.answer (replied e out)) known) (option_map (after_ata f a.answer (replied e out)) k.sectors)
+            leaves (both_ata (replied e out) f a.answer station (fields f) a.args known k.sectors allows h.sectors);
+      })

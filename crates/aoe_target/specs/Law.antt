@@ -2,17 +2,18 @@
 use Rattle.std.specs.Prelude.{ℕ, ◌*◌, ◌≡◌, List, [], ◌∷◌, drop, length, Option, Some, None, IfSome}
 use Rattle.std.specs.Option.{option_map}
 use Rattle.aoe_base.specs.declared.sectors.Span.{Span}
-use Rattle.aoe_disk.specs.State.{BothTell}
 use Rattle.aoe_frame.specs.Header.{fields}
 use Rattle.aoe_frame.specs.declared.header.Header.{Header}
+use Rattle.aoe_frame.specs.declared.refusal.AoeError.TheVariants.{DeviceUnavailable}
 use Rattle.aoe_ata.specs.Decision.{written}
 use Rattle.aoe_ata.specs.declared.args.AtaArgs.{AtaArgs}
 use Rattle.aoe_ata.specs.declared.decision.AtaAnswer.{AtaAnswer}
 use Rattle.aoe_ata.specs.declared.decision.AtaAnswer.TheVariants.{Abort, NotFound, Page, Mode, Give, Put, Verify, Sync}
 use Rattle.aoe_ata.specs.declared.reply.AtaOutcome.TheVariants.{Done, Active, Aborted, NotFound as OutOfRange, Uncorrectable}
 use Rattle.aoe_lists.specs.Settings.{Settings}
-use Rattle.aoe_lists.specs.declared.step.Step.{Step}
-use Rattle.aoe_lists.specs.declared.step.Step.TheVariants as step
+use Rattle.aoe_lists.specs.Step.{Step}
+use Rattle.aoe_lists.specs.Step as step
+use Rattle.aoe_target.specs.Device.{Device, State, Holds}
 use Rattle.aoe_target.specs.declared.station.Station.{Station}
 use Rattle.aoe_target.specs.declared.heard.Effect.{Effect}
 use Rattle.aoe_target.specs.declared.heard.Effect.TheVariants as effect
@@ -21,7 +22,7 @@ use Rattle.aoe_target.specs.declared.verdict.Verdict.{Verdict}
 use Rattle.aoe_target.specs.declared.verdict.Verdict.TheVariants.{Ignored, Silent, Refused, Lists, Ata}
 use Rattle.aoe_target.specs.Verdict.{verdict, list_step}
 use Rattle.aoe_target.specs.Reply.{spelled, repeated, step_reply, ata_reply, data_reply, data_of, identity}
-use Rattle.aoe_target.specs.Sectors.{Sectors, Agrees, Tells, puts, spoils, learns, settles}
+use Rattle.aoe_target.specs.Sectors.{Sectors, Tells, puts, spoils, learns, settles}
 
 -- what becomes of a frame: no reply, since it isn't for the target or its source isn't answered; the power was lost
 -- in the call; or a reply with these bytes
@@ -30,12 +31,6 @@ pub data Fate : Type 0 where
   silent : Fate
   cut : Fate
   replied : Effect → List ℕ → Fate
-
--- a target: its lists, those that a crash may leave in their place, and its sectors where they are told
-pub record State : Type 0 where
-  pub lists : Settings
-  pub offers : List Settings
-  pub sectors : Option Sectors
 
 -- a reply of which this is true, or a loss of power
 abbrev pub RepliesOrCut : (Effect → List ℕ → Type 0) → Fate → Type 0
@@ -81,12 +76,17 @@ AllowsAta station k h args (Verify span) fate = RepliesOrCut (Verifies station h
 AllowsAta station k h args (Put span) fate = RepliesOrCut (Writes station h args span) fate
 AllowsAta station k h args Sync fate = RepliesOrCut (Syncs station h args) fate
 
+-- a change of the lists: done, or the error "device unavailable"
+abbrev pub Edits : Station → List ℕ → List ℕ → Effect → List ℕ → Type 0
+Edits station f args effect.Edited reply = reply ≡ spelled station (fields f) None args
+Edits station f args effect.EditFault reply = reply ≡ spelled station (fields f) (Some DeviceUnavailable) (repeated f)
+Edits station f args e reply = ⊥
+
 -- the written answer to a request that reads or changes the lists
 abbrev pub AllowsStep : Station → List ℕ → Step → Fate → Type 0
 AllowsStep station f step.Silent fate = fate ≡ silent
-AllowsStep station f (step.Reply error args) fate = fate ≡ replied effect.None (step_reply station f error args.items)
-AllowsStep station f (step.Change next args) fate =
-    RepliesOrCut (λ e reply. (e ≡ effect.Edited) × (reply ≡ spelled station (fields f) None args.items)) fate
+AllowsStep station f (step.Reply error args) fate = fate ≡ replied effect.None (step_reply station f error args)
+AllowsStep station f (step.Change next args) fate = RepliesOrCut (Edits station f args) fate
 
 -- the step of a list request that came in a frame
 abbrev pub step_of : Station → Settings → List ℕ → ListCommand → Step
@@ -122,9 +122,15 @@ after_ata f answer (replied e reply) k = after_effect f answer e reply k
 after_ata f answer cut k = after_cut answer k
 after_ata f answer fate k = k
 
--- what a change of the lists leaves: the next lists; or, where the power was lost, the chance that a crash leaves them
+-- what a change of the lists leaves: the next lists; or, where the keep failed or the power was lost, the chance that a
+-- crash leaves them
+abbrev pub after_edit : Settings → Effect → State → State
+after_edit next effect.Edited k = record k { lists = next; offers = [] }
+after_edit next effect.EditFault k = record k { offers = next ∷ k.offers }
+after_edit next e k = k
+
 abbrev pub after_change : Settings → Fate → State → State
-after_change next (replied e reply) k = record k { lists = next; offers = [] }
+after_change next (replied e reply) k = after_edit next e k
 after_change next cut k = record k { offers = next ∷ k.offers }
 after_change next fate k = k
 
@@ -138,13 +144,7 @@ after station f (Ata d) fate k = record k { sectors = option_map (after_ata f d.
 after station f (Lists command) fate k = after_step (step_of station k.lists f command) fate k
 after station f v fate k = k
 
--- a has the lists of b, and its sectors agree with those of b
-pub record StateAgrees (a b : State) : Type 0 where
-  pub lists : a.lists ≡ b.lists
-  pub offers : a.offers ≡ b.offers
-  pub sectors : BothTell Agrees a.sectors b.sectors
-
--- One step of a target: this may become of the frame, and the state is then one that agrees with what the frame leaves.
-pub record IsStep (station : Station) (k : State) (f : List ℕ) (fate : Fate) (k' : State) : Type 0 where
+-- One step of a device of which this much is known: this may become of the frame, and the device is then as the frame leaves it.
+pub record IsStep (station : Station) (k : State) (f : List ℕ) (fate : Fate) (d : Device) : Type 0 where
   pub allowed : Allows station k f (verdict station k.lists f) fate
-  pub agrees : StateAgrees k' (after station f (verdict station k.lists f) fate k)
+  pub holds : Holds d (after station f (verdict station k.lists f) fate k)

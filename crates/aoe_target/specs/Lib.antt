@@ -1,6 +1,9 @@
 pub mod Verdict
 pub mod Reply
 pub mod Sectors
+pub mod Device
 pub mod Law
 pub mod Receive
 pub mod Mounted
+pub mod History
+pub mod Turn

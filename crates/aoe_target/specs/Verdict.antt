@@ -10,7 +10,7 @@ use Rattle.aoe_frame.specs.declared.refusal.AoeError.TheVariants.{UnrecognizedCo
 use Rattle.aoe_ata.specs.declared.decision.AtaDecision.{AtaDecision}
 use Rattle.aoe_ata.specs.Decision.{decision, CanServe}
 use Rattle.aoe_lists.specs.declared.config.Facts.{Facts}
-use Rattle.aoe_lists.specs.declared.step.Step.{Step}
+use Rattle.aoe_lists.specs.Step.{Step}
 use Rattle.aoe_lists.specs.Addresses.{holds}
 use Rattle.aoe_lists.specs.Settings.{Settings, admits, may_use}
 use Rattle.aoe_lists.specs.Config.{config_answer}

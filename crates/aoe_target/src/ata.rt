@@ -1,5 +1,5 @@
 //! What the ATA commands that reach the store do to it.
-ghost use Rattle.std.specs.Prelude.{◌≡◌, ◌+◌, ◌*◌, ◌^◌, ◌<◌, ◌≤◌, ◌++◌, None, true, false, length, take, drop};
+ghost use Rattle.std.specs.Prelude.{◌≡◌, ◌+◌, ◌*◌, ◌≤◌, ◌++◌, None, true, false, length, take, drop};
 ghost use Rattle.std.specs.Bool.{OnTrue};
 ghost use Rattle.std.specs.Option.{option_map};
 ghost use Rattle.aoe_base.specs.Faults.{Rose};
@@ -14,37 +14,31 @@ ghost use Rattle.aoe_target.specs.Law.{AllowsAta, Gives, Syncs, Verifies, Writes
 ghost use Rattle.aoe_target.specs.Receive.{Leaves, calls_for, is_fault};
 ghost use Rattle.aoe_target.specs.Mounted.{IsMounted};
 
-use crate::reply::{begin_ata, reply_ata, reply_page};
+use crate::reply::{DATA_AT, ata_front, reply_ata, reply_page};
 use crate::verdict::args_of;
 use crate::{Effect, Station};
-use aoe_ata::{ARGS_LEN, AtaAnswer, AtaArgs, AtaDecision, AtaOutcome, put_data};
+use aoe_ata::{AtaAnswer, AtaArgs, AtaDecision, AtaOutcome, put_data};
 use aoe_base::{Failed, Span};
-use aoe_frame::{Frame, HEADER_LEN, Header, append, pad};
+use aoe_frame::{Frame, Header, overwrite, pad, stretch};
 use aoe_store::Store;
 
 /// How many bytes a sector has.
 const SECTOR_LEN: usize = 512;
 
-/// Where the data of a reply stand.
-const DATA_AT: usize = HEADER_LEN + ARGS_LEN;
-
-/// What stands in the place of the data before they are read, for as many sectors as a frame has
-/// room for.
-static BLANK: [u8; 17 * SECTOR_LEN] = [0; 17 * SECTOR_LEN];
-
-/// Makes `out` the header and the registers of a reply with sectors, and room for these.
+/// Makes `out` the header and the registers of a reply with sectors, and room for these. The room
+/// keeps what stood there.
 fn begin_data(station: &Station, header: &Header, args: &AtaArgs, count: u32, out: &mut Frame)
-    requires address { args.now.lba < 2 ^ 48 }
-    requires room { count ≤ 17 }
+    requires { count ≤ 17 }
     ensures front { take 36 out.new.items
         ≡ reply_head station.now header.now None ++ args_bytes (reply_of args.now AtaOutcome.Done) }
     ensures len { length out.new.items ≡ 36 + 512 * count }
 {
-    begin_ata(station, header, args, AtaOutcome::Done, out);
-    append(out, &BLANK[..SECTOR_LEN * count as usize]);
+    stretch(out, DATA_AT + SECTOR_LEN * count as usize);
+    overwrite(out, &ata_front(station, header, args, AtaOutcome::Done));
 }
 
 /// Reads sectors into a frame, behind its header and registers.
+#[inline(always)]
 fn read_into<S: Store>(store: &mut S, span: Span, out: &mut Frame) -> Result<(), Failed>
     requires range { IsRange span.at (512 * span.count) (S.state store.old).sectors }
     requires len { length out.old.items ≡ 36 + 512 * span.count }
@@ -66,7 +60,6 @@ fn give<S: Store>(
 ) -> Effect
     requires mounted { IsMounted station.now (S.state store.old) }
     requires range { InRange station.now.sectors station.now.max span }
-    requires address { args.now.lba < 2 ^ 48 }
     ensures gives { Gives station.now (option_map sectors_of (S.state store.old).contents) header.now args.now span
         result out.new.items }
     ensures same { (S.state store.new).contents ≡ (S.state store.old).contents }
@@ -96,7 +89,6 @@ fn verify<S: Store>(
 ) -> Effect
     requires mounted { IsMounted station.now (S.state store.old) }
     requires range { InRange station.now.sectors station.now.max span }
-    requires address { args.now.lba < 2 ^ 48 }
     ensures verifies { Verifies station.now header.now args.now result out.new.items }
     ensures same { (S.state store.new).contents ≡ (S.state store.old).contents }
     ensures call { IsRun 1 (is_fault result) (S.state store.old) (S.state store.new) }
@@ -127,7 +119,6 @@ fn put<S: Store>(
     requires mounted { IsMounted station.now (S.state store.old) }
     requires range { InRange station.now.sectors station.now.max span }
     requires data { 12 + 512 * span.count ≤ length (drop 24 frame.now) }
-    requires address { args.now.lba < 2 ^ 48 }
     requires len { 24 ≤ length frame.now }
     ensures writes { Writes station.now header.now args.now span result out.new.items }
     ensures leaves { Leaves frame.now (AtaAnswer.Put span) result out.new.items
@@ -155,7 +146,6 @@ fn sync<S: Store>(
     args: &AtaArgs,
     out: &mut Frame,
 ) -> Effect
-    requires { args.now.lba < 2 ^ 48 }
     ensures syncs { Syncs station.now header.now args.now result out.new.items }
     ensures leaves { Leaves frame.now AtaAnswer.Sync result out.new.items
         (S.state store.old).contents (S.state store.new).contents }
@@ -184,7 +174,6 @@ pub(crate) fn serve<S: Store>(
 ) -> Effect
     requires mounted { IsMounted station.now (S.state store.old) }
     requires range { CanServe station.now.sectors station.now.max (drop 24 frame.now) decision.answer }
-    requires address { decision.args.lba < 2 ^ 48 }
     requires len { 24 ≤ length frame.now }
     ensures allowed { AllowsAta station.now (option_map sectors_of (S.state store.old).contents) header.now
         decision.args decision.answer (replied result out.new.items) }

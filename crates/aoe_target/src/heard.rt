@@ -18,6 +18,8 @@ pub enum Effect {
     ReadFault,
     /// A sync failed.
     SyncFault,
+    /// The keep failed: the lists are as they were, and a crash may leave the next ones.
+    EditFault,
 }
 
 /// What became of a frame that a target was handed.

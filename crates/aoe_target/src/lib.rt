@@ -7,13 +7,14 @@
 mod ata;
 mod heard;
 mod reply;
+mod scratch;
 mod station;
 mod target;
 mod verdict;
 
 pub use heard::{Effect, Heard};
 pub use station::Station;
-pub use target::{Target, steps_agree};
+pub use target::Target;
 pub use verdict::{ListCommand, Verdict};
 
 #[cfg(test)]

@@ -1,7 +1,7 @@
 //! The bytes of replies.
-ghost use Rattle.std.specs.Prelude.{◌≡◌, ◌^◌, ◌<◌, ◌≤◌, ◌++◌, Some, None, length, slice_range};
+ghost use Rattle.std.specs.Prelude.{◌≡◌, ◌^◌, ◌≤◌, ◌++◌, Some, None, length, slice_range};
 ghost use Rattle.std.specs.Option.{option_map};
-ghost use Rattle.aoe_frame.specs.Header.{fields};
+ghost use Rattle.aoe_frame.specs.Header.{fields, padded};
 ghost use Rattle.aoe_frame.specs.Refusal.{code_of_error};
 ghost use Rattle.aoe_ata.specs.Args.{args_bytes};
 ghost use Rattle.aoe_ata.specs.Reply.{reply_of};
@@ -9,25 +9,46 @@ ghost use Rattle.aoe_ata.specs.declared.reply.AtaOutcome.{AtaOutcome};
 ghost use Rattle.aoe_target.specs.Reply.{reply_head, spelled, step_reply, ata_reply, data_reply, identity};
 
 use crate::Station;
-use aoe_ata::{AtaArgs, AtaOutcome, identify_page, reply_args, serial_number, write_args};
+use aoe_ata::{
+    ARGS_LEN, AtaArgs, AtaOutcome, args_array, identify_page, reply_args, serial_number,
+};
 use aoe_frame::{
-    AoeError, Frame, HEADER_LEN, Header, MIN_FRAME, append, pad, turn_round, write_header,
+    AoeError, Frame, HEADER_LEN, Header, MIN_FRAME, append, header_array, pad, refill, turn_round,
 };
 
-/// Makes `out` the header of a reply.
-fn begin(station: &Station, header: &Header, error: Option<AoeError>, out: &mut Frame)
-    ensures bytes { out.new.items ≡ reply_head station.now header.now error }
-    ensures len { length out.new.items ≡ 24 }
+/// Where the data of a reply stand.
+pub(crate) const DATA_AT: usize = HEADER_LEN + ARGS_LEN;
+
+/// The most arguments of a reply that has no more than the least length.
+const MAX_SHORT: usize = MIN_FRAME - HEADER_LEN;
+
+/// The header of a reply.
+#[inline(always)]
+fn head(station: &Station, header: &Header, error: Option<AoeError>) -> [u8; HEADER_LEN]
+    ensures { result ≡ reply_head station.now header.now error }
 {
     let code = match error {
         Some(error) => Some(error.code()),
         None => None,
     };
     let port = station.reply_port(header);
-    write_header(&turn_round(header, station.id, port, code), out);
+    header_array(&turn_round(header, station.id, port, code))
+}
+
+/// A header and arguments that need padding.
+#[inline(always)]
+fn short_reply(head: &[u8; HEADER_LEN], args: &[u8]) -> [u8; MIN_FRAME]
+    requires { length args.now ≤ 36 }
+    ensures { result ≡ padded (head.now ++ args.now) }
+{
+    let mut bytes = [0; MIN_FRAME];
+    bytes[..HEADER_LEN].copy_from_slice(head);
+    bytes[HEADER_LEN..HEADER_LEN + args.len()].copy_from_slice(args);
+    bytes
 }
 
 /// Makes `out` the reply with these arguments.
+#[inline(always)]
 #[tactic(auto, unfolding(crate::specs::Reply::spelled))]
 pub(crate) fn reply(
     station: &Station,
@@ -39,9 +60,13 @@ pub(crate) fn reply(
     requires { length args.now ≤ 2048 }
     ensures { out.new.items ≡ spelled station.now header.now error args.now }
 {
-    begin(station, header, error, out);
-    append(out, args);
-    pad(out);
+    let head = head(station, header, error);
+    if args.len() <= MAX_SHORT {
+        refill(out, &short_reply(&head, args));
+    } else {
+        refill(out, &head);
+        append(out, args);
+    }
 }
 
 /// What of a request the reply that bears an error repeats.
@@ -88,24 +113,23 @@ pub(crate) fn reply_step(
     }
 }
 
-/// Makes `out` what a reply to an ATA command has before its data.
-pub(crate) fn begin_ata(
+/// What a reply to an ATA command has before its data.
+#[inline(always)]
+pub(crate) fn ata_front(
     station: &Station,
     header: &Header,
     args: &AtaArgs,
     outcome: AtaOutcome,
-    out: &mut Frame,
-)
-    requires { args.now.lba < 2 ^ 48 }
-    ensures bytes { out.new.items ≡ reply_head station.now header.now None ++ args_bytes (reply_of args.now outcome) }
-    ensures len { length out.new.items ≡ 36 }
+) -> [u8; DATA_AT]
+    ensures { result ≡ reply_head station.now header.now None ++ args_bytes (reply_of args.now outcome) }
 {
-    begin(station, header, None, out);
-    write_args(&reply_args(args, outcome), out);
+    let mut front = [0; DATA_AT];
+    front[..HEADER_LEN].copy_from_slice(&head(station, header, None));
+    front[HEADER_LEN..].copy_from_slice(&args_array(&reply_args(args, outcome)));
+    front
 }
 
 /// Makes `out` the reply to an ATA command that has no data.
-#[tactic(auto, unfolding(crate::specs::Reply::spelled))]
 pub(crate) fn reply_ata(
     station: &Station,
     header: &Header,
@@ -113,23 +137,21 @@ pub(crate) fn reply_ata(
     outcome: AtaOutcome,
     out: &mut Frame,
 )
-    requires { args.now.lba < 2 ^ 48 }
     ensures { out.new.items ≡ ata_reply station.now header.now args.now outcome }
 {
-    begin_ata(station, header, args, outcome, out);
-    pad(out);
+    let registers = args_array(&reply_args(args, outcome));
+    reply(station, header, None, &registers, out);
 }
 
 /// Makes `out` the reply with the identify page.
 #[tactic(auto, unfolding(crate::specs::Reply::spelled))]
 pub(crate) fn reply_page(station: &Station, header: &Header, args: &AtaArgs, out: &mut Frame)
-    requires address { args.now.lba < 2 ^ 48 }
-    requires size { station.now.sectors ≤ 2 ^ 40 }
+    requires { station.now.sectors ≤ 2 ^ 40 }
     ensures { out.new.items ≡ data_reply station.now header.now args.now (identity station.now) }
 {
     let mut page = [0; 512];
     identify_page(station.sectors, &serial_number(station.id), &mut page);
-    begin_ata(station, header, args, AtaOutcome::Done, out);
+    refill(out, &ata_front(station, header, args, AtaOutcome::Done));
     append(out, &page);
     pad(out);
 }

@@ -1,5 +1,6 @@
 //! What of a target never changes.
 ghost use Rattle.std.specs.Prelude.{◌≡◌};
+ghost use Rattle.aoe_lists.specs.Addresses.{holds};
 ghost use Rattle.aoe_target.specs.Verdict.{is_heard, facts};
 ghost use Rattle.aoe_target.specs.Reply.{reply_port};
 
@@ -36,12 +37,23 @@ pub struct Station {
 }
 
 impl Station {
+    /// Whether an address is a port of the shelf. The first is looked at first: most shelves have no
+    /// other.
+    fn has_port(&self, address: &Mac) -> bool
+        ensures { result ≡ holds self.now.ports.items address.now }
+    {
+        match self.ports.first() {
+            Some(port) if port == address => true,
+            _ => self.ports.contains(address),
+        }
+    }
+
     /// Whether a request is for the target: it went to a port of the shelf or to all stations, is no
     /// response, and names the target, its shelf or its slot with every other, or all targets.
     pub(crate) fn hears(&self, header: &Header) -> bool
         ensures { result ≡ is_heard self.now header.now }
     {
-        (self.ports.contains(&header.dst) || header.dst == BROADCAST)
+        (self.has_port(&header.dst) || header.dst == BROADCAST)
             && header.flags < RESPONSE_FLAG
             && (header.id.major == self.id.major || header.id.major == ANY_SHELF)
             && (header.id.minor == self.id.minor || header.id.minor == ANY_SLOT)
@@ -52,7 +64,7 @@ impl Station {
     pub(crate) fn reply_port(&self, header: &Header) -> Mac
         ensures { result ≡ reply_port self.now header.now }
     {
-        if self.ports.contains(&header.dst) {
+        if self.has_port(&header.dst) {
             return header.dst;
         }
         match self.ports.first() {

@@ -1,94 +1,122 @@
 //! A target: what it is told and what becomes of each frame.
-ghost use Rattle.std.specs.Prelude.{List, ℕ, ◌≡◌, ◌≢◌, ◌≤◌, [], false, length};
+ghost use Rattle.std.specs.Prelude.{◌≡◌, ◌≢◌, ◌≤◌, [], true, false, length};
+ghost use Rattle.std.specs.Bool.{OnTrue};
+ghost use Rattle.aoe_base.specs.Faults.{Rose};
 ghost use Rattle.aoe_frame.specs.Header.{fields};
-ghost use Rattle.aoe_target.specs.Law.{AllowsStep, Fate, IsStep, State, StateAgrees, step_of};
-ghost use Rattle.aoe_target.specs.Receive.{fate_of, is_faulty, next_lists};
-ghost use Rattle.aoe_target.specs.declared.station.Station.{Station};
+ghost use Rattle.aoe_target.specs.Law.{AllowsStep, step_of};
+ghost use Rattle.aoe_target.specs.Receive.{fate_of, is_change, is_faulty, is_unkept, KeepsStep, Replaces};
 
 use crate::ata::serve;
 use crate::reply::{refuse, reply, reply_step};
+use crate::scratch::Scratch;
 use crate::verdict::{args_of, header_of, judge, step};
 use crate::{Effect, Heard, ListCommand, Station, Verdict};
 use aoe_base::{Failed, Ports, TargetId};
-use aoe_disk::Arm;
-use aoe_frame::{Frame, Header};
-use aoe_lists::{Lists, Step};
+use aoe_disk::{Arm, Armed, Disk};
+use aoe_frame::{AoeError, Frame, Header};
+use aoe_keep::Keep;
+use aoe_lists::{Answer, Lists};
 use aoe_store::{ArmedStore, Store};
 use std::marker::Model;
 
-/// One device of a shelf: its store, and what it keeps for its hosts.
+/// One device of a shelf: its store, and the keep of its lists.
 ///
-/// Contracts see what never changes of it, its lists and its store.
+/// Contracts see what never changes of it, its lists with their disk, and its store.
 #[derive(Drop)]
-pub struct Target<S: Store> {
+pub struct Target<S: Store, D: Disk> {
     station: Station,
-    lists: Lists,
+    keep: Keep<D>,
     store: S,
+
+    /// What the last request to the lists wrote, kept so that the next needs no new room.
+    scratch: Scratch,
 }
 
-impl<S: Store> Model for Target<S> {
+impl<S: Store, D: Disk> Model for Target<S, D> {
     ghost use Rattle.aoe_target.specs.Mounted.{Mounted, IsMounted};
 
-    ghost Value = { Mounted S };
+    ghost Value = { Mounted S D };
 
-    ghost view = { λ t. record { station = t.station; lists = t.lists; store = t.store } };
+    ghost view = { λ t. record { station = t.station; keep = t.keep; store = t.store } };
 
     ghost invariant = { λ t. IsMounted t.station (S.state t.store) };
 }
 
 /// Does what a request comes to that reads or changes the lists.
-fn tell(
+fn tell<D: Disk>(
     station: &Station,
-    lists: &mut Lists,
+    keep: &mut Keep<D>,
     header: &Header,
     frame: &[u8],
     command: ListCommand,
+    scratch: &mut Scratch,
     out: &mut Frame,
 ) -> Heard
     requires header { header.now ≡ fields frame.now }
     requires len { 24 ≤ length frame.now }
-    ensures allowed { AllowsStep station.now frame.now (step_of station.now lists.old frame.now command)
+    ensures allowed { AllowsStep station.now frame.now (step_of station.now keep.old.lists frame.now command)
         (fate_of result out.new.items) }
-    ensures lists { lists.new ≡ next_lists (step_of station.now lists.old frame.now command) lists.old }
+    ensures keeps { KeepsStep (step_of station.now keep.old.lists frame.now command) result
+        keep.old.lists keep.new.lists (D.state keep.old.disk) (D.state keep.new.disk) }
     ensures no_fault { is_faulty result ≡ false }
     ensures heard { result ≢ Heard.Ignored }
     ensures empty { result ≡ Heard.Silent → out.new.items ≡ [] }
+    ensures edit { OnTrue (is_change (step_of station.now keep.old.lists frame.now command))
+        (Replaces (is_unkept result) (D.state keep.old.disk) (D.state keep.new.disk)) }
+    ensures idle { is_change (step_of station.now keep.old.lists frame.now command) ≡ false → keep.new ≡ keep.old }
+    ensures unkept { is_unkept result ≡ true → Rose (D.state keep.old.disk).faults (D.state keep.new.disk).faults }
 {
-    match step(station, lists, header.src, args_of(frame), command) {
-        Step::Silent => {
+    let answer = step(
+        station,
+        keep.lists(),
+        header.src,
+        args_of(frame),
+        command,
+        scratch,
+    );
+    let args = scratch.args.as_slice();
+    match answer {
+        Answer::Silent => {
             out.clear();
             Heard::Silent
         }
-        Step::Reply { error, args } => {
-            reply_step(station, header, frame, error, args.as_slice(), out);
+        Answer::Reply(error) => {
+            reply_step(station, header, frame, error, args, out);
             Heard::Replied {
                 effect: Effect::None,
             }
         }
-        Step::Change { next, args } => {
-            *lists = next;
-            reply(station, header, None, args.as_slice(), out);
-            Heard::Replied {
-                effect: Effect::Edited,
+        Answer::Change => match keep.replace(&scratch.next) {
+            Ok(()) => {
+                reply(station, header, None, args, out);
+                Heard::Replied {
+                    effect: Effect::Edited,
+                }
             }
-        }
+            Err(Failed) => {
+                refuse(station, header, frame, AoeError::DeviceUnavailable, out);
+                Heard::Replied {
+                    effect: Effect::EditFault,
+                }
+            }
+        },
     }
 }
 
-impl<S: Store> Target<S> {
+impl<S: Store, D: Disk> Target<S, D> {
     ghost use Rattle.std.specs.Prelude.{◌≡◌, ◌≤◌, ◌<◌, [], true, false, length};
     ghost use Rattle.std.specs.Bool.{OnTrue};
     ghost use Rattle.aoe_base.specs.Faults.{Rose};
     ghost use Rattle.aoe_disk.specs.Calls.{IsRun, SyncsTo};
-    ghost use Rattle.aoe_lists.specs.Settings.{empty_settings};
+    ghost use Rattle.aoe_target.specs.Device.{State, Holds};
     ghost use Rattle.aoe_target.specs.Law.{IsStep};
-    ghost use Rattle.aoe_target.specs.Receive.{calls_store, fate_of, is_faulty, state_of};
-    ghost use Rattle.aoe_target.specs.Mounted.{station_of};
+    ghost use Rattle.aoe_target.specs.Receive.{calls_store, edits, fate_of, is_faulty, is_unkept, Replaces};
+    ghost use Rattle.aoe_target.specs.Mounted.{device_of, station_of};
     ghost use Rattle.aoe_target.specs.Verdict.{verdict};
 
     /// A target named `id`, behind the ports of its shelf, whose frames carry up to `mtu` bytes. Its
-    /// lists are empty.
-    pub fn mount(store: S, id: TargetId, ports: Ports, mtu: u32) -> Self
+    /// lists are those of the keep.
+    pub fn mount(store: S, keep: Keep<D>, id: TargetId, ports: Ports, mtu: u32) -> Self
         requires ports { 1 ≤ length ports.items }
         requires shortest { 1500 ≤ mtu }
         requires longest { mtu ≤ 9000 }
@@ -96,7 +124,7 @@ impl<S: Store> Target<S> {
         requires slot { id.minor < 255 }
         ensures { result ≡ record {
           station = station_of id ports.items mtu (S.state store).sectors;
-          lists = empty_settings;
+          keep = keep;
           store = store;
         } }
     {
@@ -108,9 +136,17 @@ impl<S: Store> Target<S> {
                 max: ((mtu - 36) / 512) as u8,
                 sectors,
             },
-            lists: Lists::new(),
+            keep,
             store,
+            scratch: Scratch::new(),
         }
+    }
+
+    /// Its name.
+    pub fn id(&self) -> TargetId
+        ensures { result ≡ self.now.station.id }
+    {
+        self.station.id
     }
 
     /// Does what a frame asks for, and makes `out` the reply; where there is none `out` is empty.
@@ -124,28 +160,35 @@ impl<S: Store> Target<S> {
     /// 5. It is an ATA command, and the reserve list has stations and not its source: the error
     ///    "target is reserved".
     /// 6. The arguments can't be taken: the error "bad argument parameter".
-    /// 7. The answer of the lists, or of the registers; or the store is called, once. A read that
-    ///    fails is answered by UNC, a write or a sync that fails by ABRT.
+    /// 7. The answer of the lists, or of the registers; or the store is called, once, or the lists of
+    ///    the keep are replaced. A read that fails is answered by UNC, a write or a sync that fails by
+    ///    ABRT, and lists that can't be kept by the error "device unavailable".
     pub fn receive(&mut self, frame: &[u8], out: &mut Frame) -> Heard
-        ensures step { let old_state = state_of self.old.lists (S.state self.old.store).contents in
-            let new_state = state_of self.new.lists (S.state self.new.store).contents in
-            IsStep self.old.station old_state frame.now (fate_of result out.new.items) new_state }
+        ensures step { (k : State) → Holds (device_of S.state D.state self.old) k
+            → IsStep self.old.station k frame.now (fate_of result out.new.items) (device_of S.state D.state self.new) }
         ensures station { self.new.station ≡ self.old.station }
         ensures silent { result ≡ Heard.Silent → out.new.items ≡ [] }
         ensures ignored { result ≡ Heard.Ignored → out.new.items ≡ [] }
 
         // The store is called where the verdict says so, and then once.
-        ensures call { OnTrue (calls_store (verdict self.old.station self.old.lists frame.now))
+        ensures call { OnTrue (calls_store (verdict self.old.station self.old.keep.lists frame.now))
             (IsRun 1 (is_faulty result) (S.state self.old.store) (S.state self.new.store)) }
-        ensures idle { calls_store (verdict self.old.station self.old.lists frame.now) ≡ false
+        ensures idle { calls_store (verdict self.old.station self.old.keep.lists frame.now) ≡ false
             → self.new.store ≡ self.old.store }
         ensures fault { is_faulty result ≡ true → Rose (S.state self.old.store).faults (S.state self.new.store).faults }
+
+        // The lists of the keep are replaced where the verdict says so, and then once.
+        ensures edit { OnTrue (edits self.old.station self.old.keep.lists frame.now (verdict self.old.station self.old.keep.lists frame.now))
+            (Replaces (is_unkept result) (D.state self.old.keep.disk) (D.state self.new.keep.disk)) }
+        ensures unedited { edits self.old.station self.old.keep.lists frame.now (verdict self.old.station self.old.keep.lists frame.now) ≡ false
+            → self.new.keep ≡ self.old.keep }
+        ensures edit_fault { is_unkept result ≡ true → Rose (D.state self.old.keep.disk).faults (D.state self.new.keep.disk).faults }
     {
         let Some(header) = header_of(frame) else {
             out.clear();
             return Heard::Ignored;
         };
-        match judge(&self.station, &self.lists, &header, args_of(frame)) {
+        match judge(&self.station, self.keep.lists(), &header, args_of(frame)) {
             Verdict::Ignored => {
                 out.clear();
                 Heard::Ignored
@@ -161,7 +204,15 @@ impl<S: Store> Target<S> {
                 }
             }
             Verdict::Lists(command) => {
-                tell(&self.station, &mut self.lists, &header, frame, command, out)
+                tell(
+                    &self.station,
+                    &mut self.keep,
+                    &header,
+                    frame,
+                    command,
+                    &mut self.scratch,
+                    out,
+                )
             }
             Verdict::Ata(decision) => {
                 let effect = serve(
@@ -179,9 +230,9 @@ impl<S: Store> Target<S> {
 
     /// The lists.
     pub fn lists(&self) -> &Lists
-        ensures { result.now ≡ self.now.lists }
+        ensures { result.now ≡ self.now.keep.lists }
     {
-        &self.lists
+        self.keep.lists()
     }
 
     /// Syncs the store.
@@ -192,15 +243,16 @@ impl<S: Store> Target<S> {
         self.store.sync()
     }
 
-    /// The store.
-    pub fn close(self) -> S
-        ensures { result ≡ self.store }
+    /// The store and the keep.
+    pub fn close(self) -> (S, Keep<D>)
+        ensures store { result.0 ≡ self.store }
+        ensures keep { result.1 ≡ self.keep }
     {
-        self.store
+        (self.store, self.keep)
     }
 }
 
-impl<S: ArmedStore> Target<S> {
+impl<S: ArmedStore, D: Armed> Target<S, D> {
     ghost use Rattle.std.specs.Prelude.{◌≡◌, ◌<◌, IfSome};
     ghost use Rattle.aoe_disk.specs.Arming.{number_of, ArmsTo};
 
@@ -213,16 +265,27 @@ impl<S: ArmedStore> Target<S> {
         self.store.arm(arm);
     }
 
+    /// Arms the keep's disk, in place of what was armed before.
+    pub fn arm_keep(&mut self, arm: Arm)
+        requires { 0 < number_of arm }
+        ensures arms { ArmsTo arm (D.state self.old.keep.disk) (D.state self.new.keep.disk) }
+        ensures lists { self.new.keep.lists ≡ self.old.keep.lists }
+        ensures rest { self.new ≡ record self.old { keep = self.new.keep } }
+    {
+        self.keep.arm(arm);
+    }
+
     /// Whether the store's disk reached a stop.
     pub fn store_is_out(&self) -> bool
         ensures { IfSome (S.state self.now.store).schedule (λ schedule. result ≡ schedule.out) }
     {
         self.store.is_out()
     }
-}
 
-/// A law: a step of a target is one of every state that it agrees with, which may know less of it.
-pub fn steps_agree()
-    ensures { (station : Station) (k b k' : State) (f : List ℕ) (fate : Fate) → StateAgrees k b
-        → IsStep station k f fate k' → IsStep station b f fate k' }
-{}
+    /// Whether the keep's disk reached a stop.
+    pub fn keep_is_out(&self) -> bool
+        ensures { IfSome (D.state self.now.keep.disk).schedule (λ schedule. result ≡ schedule.out) }
+    {
+        self.keep.is_out()
+    }
+}

@@ -1,7 +1,8 @@
 use crate::{Effect, Heard, Target};
 use aoe_base::{Mac, Ports, Span, TargetId};
-use aoe_disk::{Arm, MemDisk};
+use aoe_disk::{Arm, Loss, MemDisk};
 use aoe_frame::{Frame, pad};
+use aoe_keep::Keep;
 use aoe_store::Direct;
 use std::alloc::Global;
 use std::test::Fail;
@@ -22,13 +23,21 @@ const EDITED: Heard = Heard::Replied {
     effect: Effect::Edited,
 };
 
-/// The target 1.0 of 16 zero sectors, behind one port.
-fn target(alloc: Global) -> Result<Target<Direct<MemDisk>>, Fail> {
+/// The target 1.0 of 16 zero sectors, behind one port, with the lists of a disk.
+fn target_over(alloc: Global, keep: MemDisk) -> Result<Target<Direct<MemDisk>, MemDisk>, Fail> {
     let disk = MemDisk::new(alloc, 16)?;
+    let Ok(keep) = Keep::mount(keep) else {
+        return Err(Fail::from("no keep"));
+    };
     let mut ports = Ports::new();
     ports.push(Mac(PORT));
     let id = TargetId { major: 1, minor: 0 };
-    Ok(Target::mount(Direct::new(disk), id, ports, 1500))
+    Ok(Target::mount(Direct::new(disk), keep, id, ports, 1500))
+}
+
+/// The target with a keep of 16 zero sectors.
+fn target(alloc: Global) -> Result<Target<Direct<MemDisk>, MemDisk>, Fail> {
+    target_over(alloc, MemDisk::new(alloc, 16)?)
 }
 
 fn joined(pieces: &[&[u8]]) -> Frame {
@@ -55,7 +64,7 @@ fn reply(station: &[u8; 6], flags: u8, error: u8, command: u8, args: &[u8]) -> F
 
 /// What becomes of a request of version 1, and its reply.
 fn exchange(
-    target: &mut Target<Direct<MemDisk>>,
+    target: &mut Target<Direct<MemDisk>, MemDisk>,
     station: &[u8; 6],
     command: u8,
     args: &[u8],
@@ -86,7 +95,8 @@ fn the_last_sector_and_behind_it(rt: HostRuntime) -> Result<(), Fail> {
     let read = joined(&[b"\x40\0\0\x40\x0f\0\0\0\0\0\0\0", &[7; 512]]);
     let read = reply(&A, 0x18, 0, 0, read.as_slice());
     assert_eq!(rt; out.as_slice(), read.as_slice());
-    assert_eq!(rt; target.close().close().calls(), 2);
+    let (store, _) = target.close();
+    assert_eq!(rt; store.close().calls(), 2);
     Ok(())
 }
 
@@ -176,6 +186,32 @@ fn config_strings(rt: HostRuntime) -> Result<(), Fail> {
     assert_eq!(rt; heard, DONE);
     assert_eq!(rt; out.as_slice(), reply(&A, 0x1c, 4, 1, told).as_slice());
     assert_eq!(rt; target.lists().config.as_slice(), b"ab".as_slice());
+
+    // A mounting with both gates closed makes 3 calls, and the one change of the lists 6.
+    let (_, keep) = target.close();
+    let disk = keep.close();
+    assert_eq!(rt; disk.calls(), 9);
+    let target = target_over(rt.alloc(), disk.crash(Loss::Old))?;
+    assert_eq!(rt; target.lists().config.as_slice(), b"ab".as_slice());
+    Ok(())
+}
+
+#[test]
+fn lists_that_can_not_be_kept(rt: HostRuntime) -> Result<(), Fail> {
+    let mut target = target(rt.alloc())?;
+    let set = b"\0\0\0\0\0\x03\0\x02ab";
+    target.arm_keep(Arm::Fail(6));
+    let (heard, out) = exchange(&mut target, &A, 1, set);
+    let effect = Effect::EditFault;
+    assert_eq!(rt; heard, Heard::Replied { effect });
+    assert_eq!(rt; out.as_slice(), reply(&A, 0x1c, 3, 1, set).as_slice());
+    assert_eq!(rt; target.lists().config.len(), 0);
+    assert!(rt; !target.keep_is_out());
+
+    target.arm_keep(Arm::Stop(1));
+    let (heard, _) = exchange(&mut target, &A, 1, set);
+    assert_eq!(rt; heard, Heard::Replied { effect });
+    assert!(rt; target.keep_is_out());
     Ok(())
 }
 

@@ -2,13 +2,15 @@
 //! decides.
 ghost use Rattle.std.specs.Prelude.{◌≡◌, ◌≤◌, IfSome, drop, is_some, length};
 ghost use Rattle.aoe_frame.specs.Header.{fields, head};
+ghost use Rattle.aoe_lists.specs.Step.{step_with};
 ghost use Rattle.aoe_target.specs.Verdict.{ata_verdict, judged, list_step, CanAct};
 
 use crate::Station;
+use crate::scratch::Scratch;
 use aoe_ata::{AtaDecision, decide};
 use aoe_base::Mac;
 use aoe_frame::{AoeError, HEADER_LEN, Header, read_header};
-use aoe_lists::{Lists, Step, admits, config_step, mask_step, may_use, reserve_step};
+use aoe_lists::{Answer, Lists, admits, config_step, mask_step, may_use, reserve_step};
 
 /// The command "ATA" (AoEr11, "Command").
 const ATA: u8 = 0;
@@ -106,19 +108,23 @@ pub(crate) fn judge(station: &Station, lists: &Lists, header: &Header, args: &[u
     }
 }
 
-/// What a request comes to that reads or changes the lists.
+/// What a request comes to that reads or changes the lists. The arguments of its reply and the lists
+/// that it makes stand in `scratch`.
 pub(crate) fn step(
     station: &Station,
     lists: &Lists,
     source: Mac,
     args: &[u8],
     command: ListCommand,
-) -> Step
-    ensures { result ≡ list_step station.now lists.now source args.now command }
+    scratch: &mut Scratch,
+) -> Answer
+    ensures { step_with result scratch.new.args.items scratch.new.next
+        ≡ list_step station.now lists.now source args.now command }
 {
+    let Scratch { next, args: told } = scratch;
     match command {
-        ListCommand::Config => config_step(lists, &station.facts(), args),
-        ListCommand::Masks => mask_step(lists, args),
-        ListCommand::Reserves => reserve_step(lists, source, args),
+        ListCommand::Config => config_step(lists, &station.facts(), args, next, told),
+        ListCommand::Masks => mask_step(lists, args, next, told),
+        ListCommand::Reserves => reserve_step(lists, source, args, next, told),
     }
 }

@@ -1,3 +1,4 @@
+mod Exits
 mod Complete
-mod Runs
-mod TurnLemmas
+mod Files
+mod Refusals

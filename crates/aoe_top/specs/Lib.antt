@@ -1,4 +1,3 @@
-pub mod Arrivals
+pub mod Built
 pub mod Ending
 pub mod Run
-pub mod Words

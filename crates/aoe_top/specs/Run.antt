@@ -1,74 +1,106 @@
 -- What a run of answer takes, gives and leaves, by its status.
-use Rattle.std.specs.Prelude.{ℕ, ◌<◌, ◌≤◌, ◌≡◌, List, [], ◌∷◌, ◌++◌, length, Option, Some, None, IfSome, Result, Ok, Err}
-use Rattle.aoe_base.specs.declared.address.TargetId.{TargetId}
+use Rattle.std.specs.Prelude.{ℕ, ◌<◌, ◌≤◌, ◌≡◌, ◌≢◌, false, List, [], ◌∷◌, Option, Some, IfSome, Result, Ok, Err}
+use Rattle.std.specs.Option.{option_map}
 use Rattle.aoe_base.specs.declared.failure.Failed.{Failed}
-use Rattle.aoe_disk.specs.State.{DiskState}
+use Rattle.aoe_disk.specs.State.{Contents, DiskState, CanLeave, sector, is_loose}
 use Rattle.aoe_disk.specs.Calls.{SyncsTo}
-use Rattle.aoe_io.specs.Bytes.{Gave, GaveSome, Took, TookSome, IsEnded}
-use Rattle.aoe_io.specs.Stream.{framed, stream, IsFrame, IsBroken}
-use Rattle.aoe_lists.specs.Settings.{empty_settings}
-use Rattle.aoe_target.specs.Law.{Fate, StateAgrees}
+use Rattle.aoe_keep.specs.Found.{found, Finds, AlwaysFinds}
+use Rattle.aoe_keep.specs.Keep.{Mounts, IsRefused}
+use Rattle.aoe_keep.specs.declared.refusal.MountRefusal.{MountRefusal}
+use Rattle.aoe_lists.specs.Settings.{Settings}
+use Rattle.aoe_serve.specs.Arrivals.{at_slot}
+use Rattle.aoe_serve.specs.Run.{Answered}
+use Rattle.aoe_serve.specs.Slots.{Slot}
+use Rattle.aoe_serve.specs.declared.over_stream.AnswerEnd.{AnswerEnd}
+use Rattle.aoe_target.specs.Device.{Device, State, Holds, MayStand, state_of}
+use Rattle.aoe_target.specs.History.{left_by}
 use Rattle.aoe_target.specs.Mounted.{station_of}
+use Rattle.aoe_target.specs.Sectors.{Sectors, settles}
 use Rattle.aoe_target.specs.declared.station.Station.{Station}
-use Rattle.aoe_top.specs.declared.device.TheConstants.{PORT, MTU}
-use Rattle.aoe_top.specs.Arrivals.{Device, Arrived, IsLawful, IsTurn, IsCounted, frames, left_by, replies, sent, told}
+use Rattle.aoe_words.specs.declared.command.Answer.{Answer}
+use Rattle.aoe_top.specs.Ending.{ended_by, status_of}
 use Rattle.aoe_top.specs.declared.status.Status.{Status}
 use Rattle.aoe_top.specs.declared.status.Status.TheVariants as status
 
--- the target of that name on the program's shelf, over a disk of so many sectors
-abbrev pub shelf_station : TargetId → ℕ → Station
-shelf_station id sectors = station_of id (PORT ∷ []) MTU sectors
+-- the target that `answer` asks for, over a disk of so many sectors
+abbrev pub shelf_station : Answer → ℕ → Station
+shelf_station asked sectors = station_of asked.id (asked.port ∷ []) asked.mtu sectors
 
--- what stands in the source behind n frames of so many bytes, and what the run left of it
-abbrev pub Stops : Status → ℕ → ℕ → Option (List ℕ) → Option (List ℕ) → Type 0
-Stops status.Ok n taken behind left = (n < 4294967295) × IsEnded behind × (left ≡ behind)
-Stops (status.Stream offset) n taken behind left = (n < 4294967295) × (offset ≡ taken) × IfSome behind IsBroken × GaveSome behind left
-Stops status.SourceFault n taken behind left = (n < 4294967295) × GaveSome behind left
-Stops status.SinkFault n taken behind left = (n ≤ 4294967295) × (left ≡ behind)
-Stops (status.Limit what) n taken behind left = (n ≡ 4294967295) × (left ≡ behind)
-Stops _ n taken behind left = ⊥
+-- a slot of this station over these disks at first: its lists are those that the keep held when it was mounted, and every crash finds them
+pub record Begins (station : Station) (file keep : DiskState) (slot : Slot) : Type 0 where
+  pub is : slot.station ≡ station
+  pub store : slot.device.store ≡ file
+  pub mounts : Mounts keep slot.device.keep slot.device.lists
+  pub finds : AlwaysFinds slot.device.keep slot.device.lists
 
--- what the sink took of the replies: a part of them where it failed, else all
-abbrev pub Writes : Status → Option (List ℕ) → Option (List ℕ) → List ℕ → Type 0
-Writes status.SinkFault before after bytes = TookSome before after bytes
-Writes _ before after bytes = Took before after bytes
+-- the disks of a device, after the last sync of its store
+pub record Closes (synced : Result (Unit {0}) Failed) (d : Device) (file keep : DiskState) : Type 0 where
+  pub sync : SyncsTo synced d.store file
+  pub same : keep ≡ d.keep
 
--- A run over a device, up to its last frame: the source gave the stream of the frames that arrived, the sink took the
--- stream of their replies, what became of each is lawful after those before it, and the device holds what they left.
-pub record Answered (station : Station) (s : Status) (left left' held held' : Option (List ℕ)) (a b : Device) : Type 0 where
-  pub arrivals : List Arrived
-  pub lawful : IsLawful station (told a) arrivals
-  pub holds : StateAgrees (told b) (left_by station (told a) arrivals)
-  pub counted : IsCounted arrivals a.disk b.disk
-  pub behind : Option (List ℕ)
-  pub gave : Gave left behind (stream (frames arrivals))
-  pub stops : Stops s (length arrivals) (length (stream (frames arrivals))) behind left'
-  pub writes : Writes s held held' (stream (replies arrivals))
+-- what the last sync leaves of what is known
+abbrev pub after_last : Result (Unit {0}) Failed → State → State
+after_last (Ok done) k = record k { sectors = option_map settles k.sectors }
+after_last (Err failed) k = k
 
 -- the status of a run whose frames ended so, after the last sync: a failure of the sync is told where nothing else is
 abbrev pub after_sync : Status → Result (Unit {0}) Failed → Status
 after_sync status.Ok (Err failed) = status.DiskFault 0
 after_sync s synced = s
 
--- A run of the device over a disk, whose lists are empty at first: its frames, and then the last sync.
-pub record Ran (station : Station) (s : Status) (left left' held held' : Option (List ℕ)) (disk disk' : DiskState) : Type 0 where
-  pub status : Status
-  pub device : Device
-  pub answered : Answered station status left left' held held' (record { lists = empty_settings; disk = disk }) device
+-- every crash leaves each unmarked sector as it is known
+abbrev pub LeavesKnown : Sectors → Contents → Type 0
+LeavesKnown k c = (image : List ℕ) → CanLeave c image → (s : ℕ) → k.marks s ≡ false → IfSome (k.known s) (λ v. sector image s ≡ v)
+
+-- what a loss of power leaves of the disks of a device: each unmarked sector as it is known, and lists that may stand
+pub record Outlives (d : Device) (k : State) : Type 0 where
+  pub file : IfSome d.store.contents (λ c. IfSome k.sectors (λ sectors. LeavesKnown sectors c))
+  pub keep : IfSome d.keep.contents (Finds (MayStand k))
+
+-- A run over a file and a keep that was mounted: the frames of a shelf of one slot, and then the last sync. At its end the disks hold what
+-- is known after the frames and the sync, and outlive a loss of power.
+pub record Ran (station : Station) (s : Status) (left left' held held' : Option (List ℕ)) (file file' keep keep' : DiskState) : Type 0 where
+  pub first : Slot
+  pub begins : Begins station file keep first
+  pub end : AnswerEnd
+  pub last : Slot
+  pub answered : Answered end left left' held held' (first ∷ []) (last ∷ [])
   pub synced : Result (Unit {0}) Failed
-  pub sync : SyncsTo synced device.disk disk'
-  pub ends : s ≡ after_sync status synced
+  pub closes : Closes synced last.device file' keep'
+  pub ends : s ≡ after_sync (ended_by end) synced
+  pub holds : (k : State) → Holds first.device k
+      → Holds (record { lists = last.device.lists; keep = keep'; store = file' }) (after_last synced (left_by first.station k (at_slot 0 answered.arrivals)))
+  pub outlives : Outlives (record { lists = last.device.lists; keep = keep'; store = file' })
+      (after_last synced (left_by first.station (state_of first.device) (at_slot 0 answered.arrivals)))
 
--- how a turn ends a run that took offset bytes before it
-abbrev pub Ends : Station → Status → ℕ → Option (List ℕ) → Option (List ℕ) → Option (List ℕ) → Option (List ℕ) → Device → Device → Type 0
-Ends station (status.Stream at) offset left left' held held' a b = (at ≡ offset) × IfSome left IsBroken × GaveSome left left' × (held' ≡ held) × (a ≡ b)
-Ends station status.SourceFault offset left left' held held' a b = GaveSome left left' × (held' ≡ held) × (a ≡ b)
-Ends station status.SinkFault offset left left' held held' a b =
-    (f : List ℕ) × (fate : Fate) × IsFrame f × Gave left left' (framed f) × TookSome held held' (sent fate) × IsTurn station a b f fate
-Ends station _ offset left left' held held' a b = ⊥
+-- A run whose keep was refused: the file is as it was.
+pub record Refused {D : Type 0} (state : D → DiskState) (s : Status) (file file' keep keep' : D) : Type 0 where
+  pub refusal : MountRefusal
+  pub why : IsRefused state keep refusal keep'
+  pub status : s ≡ status_of refusal
+  pub same : file' ≡ file
 
--- what holds of the first disk before and after, where both are there; and it is there after
-abbrev pub OnFirst : {D : Type 0} → (D → D → Type 0) → List (Option D) → List (Option D) → Type 0
-OnFirst R (Some a ∷ _) (Some b ∷ _) = R a b
-OnFirst R (Some a ∷ _) _ = ⊥
-OnFirst R _ _ = Unit {0}
+-- a crash changes no sector
+abbrev pub NothingLoose : Contents → Type 0
+NothingLoose c = (s : ℕ) → is_loose c.loose s ≡ false
+
+-- a keep of fewer than 16 sectors, the second file; memory wasn't wanting
+abbrev pub IsSmall : DiskState → Status → ℕ → ℕ → Type 0
+IsSmall keep s disk sectors = (disk ≡ 1) × (sectors ≡ keep.sectors) × (sectors < 16) × (s ≢ status.NoMemory)
+
+-- a keep whose sectors were read, that slot of which holds no lists
+abbrev pub IsBad : DiskState → Contents → Status → ℕ → ℕ → Type 0
+IsBad keep c s disk slot = (disk ≡ 1) × (16 ≤ keep.sectors) × (s ≢ status.DiskFault 1) × (s ≢ status.NoMemory) × (found c.bytes ≡ Err slot)
+
+-- a keep that tells its sectors, which hold these lists
+pub record HasLists (keep : DiskState) (lists : Settings) : Type 0 where
+  pub room : 16 ≤ keep.sectors
+  pub contents : Contents
+  pub told : keep.contents ≡ Some contents
+  pub stand : found contents.bytes ≡ Ok lists
+
+-- what holds of the file and the keep before and after, where both are there; and they are there after
+abbrev pub OnFiles : {D : Type 0} → (D → D → D → D → Type 0) → List (Option D) → List (Option D) → Type 0
+OnFiles R (Some file ∷ Some keep ∷ _) (Some file' ∷ Some keep' ∷ _) = R file file' keep keep'
+OnFiles R (Some file ∷ Some keep ∷ _) _ = ⊥
+OnFiles R _ _ = Unit {0}

@@ -1,13 +1,13 @@
 //! The commands of the program, from their words to their status.
 #![tactic(auto)]
 
-mod answer;
-mod command;
+mod built;
 mod device;
 mod status;
 mod top;
 
-pub use command::{Answer, files_of, read_words};
+pub use aoe_words::{PortWords, ports_of};
+pub use built::files_of;
 pub use status::{Status, What};
 pub use top::aoe;
 

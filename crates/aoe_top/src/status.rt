@@ -16,11 +16,16 @@ pub enum Status {
     SourceFault,
     /// The sink failed.
     SinkFault,
-    /// The disk with that number, in the order of the files' names, failed when its store was synced
-    /// at the end.
+    /// The disk with that number, in the order of the files' names, failed while its keep was mounted,
+    /// or when its store was synced at the end.
     DiskFault { disk: u32 },
     /// An allocation was refused.
     NoMemory,
+    /// The keep on the disk with that number has so many sectors, and 16 are needed.
+    KeepSmall { disk: u32, sectors: u64 },
+    /// The keep on the disk with that number holds no lists: the gate of that slot is open before
+    /// something else, or both gates are open before lists of one turn, which is the fault of slot 1.
+    KeepBad { disk: u32, slot: u8 },
     /// The input isn't a stream of frames: the length of the first frame that isn't whole, or that
     /// is too short or too long, stands behind `offset` bytes.
     Stream { offset: u64 },
@@ -46,6 +51,7 @@ impl Status {
             Status::SinkFault => 4,
             Status::DiskFault { .. } => 5,
             Status::NoMemory => 7,
+            Status::KeepSmall { .. } | Status::KeepBad { .. } => 8,
             Status::Stream { .. } => 11,
             Status::Limit(_) => 12,
         }
@@ -62,6 +68,8 @@ impl Status {
             Status::SinkFault => Blob::of(alloc, b"aoe: sink fault"),
             Status::DiskFault { disk } => disk_text(alloc, disk),
             Status::NoMemory => Blob::of(alloc, b"aoe: no memory"),
+            Status::KeepSmall { disk, sectors } => small_text(alloc, disk, sectors),
+            Status::KeepBad { disk, slot } => bad_text(alloc, disk, slot),
             Status::Stream { offset } => stream_text(alloc, offset),
             Status::Limit(What::Frames) => Blob::of(alloc, b"aoe: limit: frames"),
         }
@@ -83,6 +91,26 @@ fn disk_text(alloc: Global, disk: u32) -> Result<Blob, NoMemory>
     ensures { IfOk result (λ text. text ≡ text_of (Status.DiskFault disk)) }
 {
     match format!(in alloc; "aoe: disk fault on file {disk}") {
+        Ok(text) => Blob::of(alloc, text.as_bytes()),
+        Err(_) => Err(NoMemory),
+    }
+}
+
+/// The text for a keep that is too small.
+fn small_text(alloc: Global, disk: u32, sectors: u64) -> Result<Blob, NoMemory>
+    ensures { IfOk result (λ text. text ≡ text_of (Status.KeepSmall disk sectors)) }
+{
+    match format!(in alloc; "aoe: keep {disk}: {sectors} sectors, 16 needed") {
+        Ok(text) => Blob::of(alloc, text.as_bytes()),
+        Err(_) => Err(NoMemory),
+    }
+}
+
+/// The text for a keep that holds no lists.
+fn bad_text(alloc: Global, disk: u32, slot: u8) -> Result<Blob, NoMemory>
+    ensures { IfOk result (λ text. text ≡ text_of (Status.KeepBad disk slot)) }
+{
+    match format!(in alloc; "aoe: keep {disk}: slot {slot} holds no lists") {
         Ok(text) => Blob::of(alloc, text.as_bytes()),
         Err(_) => Err(NoMemory),
     }

@@ -1,5 +1,6 @@
 use crate::{Status, aoe, files_of};
-use aoe_disk::MemDisk;
+use aoe_base::Blob;
+use aoe_disk::{Loss, MemDisk};
 use aoe_io::{MemSink, MemSource};
 use std::alloc::{AllocError, Global};
 use std::test::Fail;
@@ -25,12 +26,13 @@ fn words_of(alloc: Global, line: &str) -> Result<Vec<String>, AllocError> {
     Ok(words)
 }
 
-/// Runs a command over two disks of 16 zero sectors where it names files, and over none where it spells nothing.
-fn run_line(
+/// Runs a command over these two disks where it names files, and over none where it spells nothing.
+fn run_over(
     alloc: Global,
     line: &str,
     source: &mut MemSource,
     sink: &mut MemSink,
+    disks: &mut [Option<MemDisk>; 2],
 ) -> Result<Status, Fail> {
     let words = words_of(alloc, line)?;
     let words = words.as_slice();
@@ -38,14 +40,28 @@ fn run_line(
     if names.is_empty() {
         return Ok(aoe::<_, _, MemDisk>(alloc, words, source, sink, &mut []));
     }
-    if names.len() != 2 {
-        return Err(Fail::from("one file, or more than two"));
+    if names.len() != 2 || disks[0].is_none() || disks[1].is_none() {
+        return Err(Fail::from("other files than two"));
     }
-    let mut disks = [
+    Ok(aoe(alloc, words, source, sink, disks))
+}
+
+/// A file and a keep of 16 zero sectors each.
+fn zero_disks(alloc: Global) -> Result<[Option<MemDisk>; 2], Fail> {
+    Ok([
         Some(MemDisk::new(alloc, 16)?),
         Some(MemDisk::new(alloc, 16)?),
-    ];
-    Ok(aoe(alloc, words, source, sink, &mut disks))
+    ])
+}
+
+/// Runs a command over disks of 16 zero sectors.
+fn run_line(
+    alloc: Global,
+    line: &str,
+    source: &mut MemSource,
+    sink: &mut MemSink,
+) -> Result<Status, Fail> {
+    run_over(alloc, line, source, sink, &mut zero_disks(alloc)?)
 }
 
 fn status_of(alloc: Global, line: &str) -> Result<Status, Fail> {
@@ -58,40 +74,22 @@ fn status_of(alloc: Global, line: &str) -> Result<Status, Fail> {
 fn reads_words(rt: HostRuntime) -> Result<(), Fail> {
     let cases = [
         ("answer 1 0 disk keep", 0),
-        ("answer 65534 254 d k", 0),
-        ("answer 00001 0 a-b k", 0),
+        (
+            "answer --mtu=9000 65534 254 d k --port 02:00:00:00:00:ff",
+            0,
+        ),
         ("", 1),
-        ("answer 1", 1),
         ("answer 1 0 disk", 1),
-        ("answer 1 0 disk keep more", 1),
-        ("answer 70000 0 d k", 1),
         ("answer 65535 0 d k", 1),
-        ("answer 1 255 d k", 1),
-        ("answer 1 0x0 d k", 1),
-        ("answer 1 0  k", 1),
-        ("answer 1 0 d -k", 1),
-        ("serve 1 0 d k", 1),
+        ("answer 1 0 d k --mtu 9001", 1),
+        ("serve 1 d k --local x --peers y", 1),
     ];
     for (line, code) in cases {
         assert_eq!(rt; status_of(rt.alloc(), line)?.code(), code, "{line}");
     }
-    let mut source = MemSource::of(rt.alloc(), b"")?;
-    let mut sink = MemSink::new(rt.alloc(), 0)?;
-    let status = aoe::<_, _, MemDisk>(rt.alloc(), &[], &mut source, &mut sink, &mut []);
+    let status = status_of(rt.alloc(), "answer")?;
     assert_eq!(rt; status, Status::Usage);
     assert_eq!(rt; status.text(rt.alloc())?.bytes(), b"aoe: usage".as_slice());
-    Ok(())
-}
-
-#[test]
-fn refuses_a_name_that_is_too_long(rt: HostRuntime) -> Result<(), Fail> {
-    let mut line = String::from_str(rt.alloc(), "answer 1 0 disk k")?;
-    for _ in 0..4095 {
-        line.push('k')?;
-    }
-    assert_eq!(rt; status_of(rt.alloc(), line.as_str())?, Status::Ok);
-    line.push('k')?;
-    assert_eq!(rt; status_of(rt.alloc(), line.as_str())?, Status::Usage);
     Ok(())
 }
 
@@ -136,6 +134,53 @@ fn answers_streams(rt: HostRuntime) -> Result<(), Fail> {
         assert_eq!(rt; status.text(rt.alloc())?.bytes(), text.as_bytes());
         assert_eq!(rt; sink.bytes(), output);
     }
+    Ok(())
+}
+
+/// A READ SECTORS EXT of 17 sectors from sector 0 of the target 1.0, by 02:00:00:00:00:0a.
+const READ: [u8; 38] = [
+    0, 36, 2, 0, 0, 0, 0, 1, 2, 0, 0, 0, 0, 10, 0x88, 0xa2, 0x10, 0, 0, 1, 0, 0, 0, 0, 0, 7, 0x40,
+    0, 17, 0x24, 0, 0, 0, 0, 0, 0, 0, 0,
+];
+
+#[test]
+fn reads_as_much_as_a_frame_carries(rt: HostRuntime) -> Result<(), Fail> {
+    let alloc = rt.alloc();
+    // With an mtu of 9000 the 17 sectors, with 1500 the error "bad argument parameter".
+    let cases = [
+        (
+            "answer 1 0 disk keep --mtu 9000",
+            2 + 36 + 17 * 512,
+            [0x18, 0],
+        ),
+        ("answer 1 0 disk keep", 62, [0x1c, 2]),
+    ];
+    for (line, written, flags) in cases {
+        let mut disks = [
+            Some(MemDisk::new(alloc, 32)?),
+            Some(MemDisk::new(alloc, 16)?),
+        ];
+        let mut source = MemSource::of(alloc, &READ)?;
+        let mut sink = MemSink::new(alloc, 10000)?;
+        let status = run_over(alloc, line, &mut source, &mut sink, &mut disks)?;
+        assert_eq!(rt; status, Status::Ok);
+        assert_eq!(rt; sink.bytes().len(), written, "{line}");
+        assert_eq!(rt; &sink.bytes()[16..18], flags.as_slice(), "{line}");
+    }
+    Ok(())
+}
+
+#[test]
+fn answers_from_the_port(rt: HostRuntime) -> Result<(), Fail> {
+    let mut source = MemSource::of(rt.alloc(), &QUERY)?;
+    let mut sink = MemSink::new(rt.alloc(), 1000)?;
+    let line = "answer 1 0 disk keep --port 02:00:00:00:00:ff";
+    let status = run_line(rt.alloc(), line, &mut source, &mut sink)?;
+    let mut reply = [0u8; 62];
+    reply[..34].copy_from_slice(&REPLY);
+    reply[13] = 0xff;
+    assert_eq!(rt; status, Status::Ok);
+    assert_eq!(rt; sink.bytes(), reply.as_slice());
     Ok(())
 }
 
@@ -215,5 +260,114 @@ fn stops_at_a_fault(rt: HostRuntime) -> Result<(), Fail> {
         status.text(rt.alloc())?.bytes(),
         b"aoe: sink fault".as_slice()
     );
+    Ok(())
+}
+
+/// Sets the config string `ab`, by 02:00:00:00:00:0a, at the target 1.0.
+const SET: [u8; 36] = [
+    0, 34, 2, 0, 0, 0, 0, 1, 2, 0, 0, 0, 0, 10, 0x88, 0xa2, 0x10, 0, 0, 1, 0, 1, 0, 0, 0, 7, 0, 0,
+    0, 0, 0, 3, 0, 2, b'a', b'b',
+];
+
+/// The status and the text of a run over these disks, and how much it wrote.
+fn ends(alloc: Global, disks: &mut [Option<MemDisk>; 2]) -> Result<(Status, Blob, usize), Fail> {
+    let mut source = MemSource::of(alloc, &QUERY)?;
+    let mut sink = MemSink::new(alloc, 1000)?;
+    let status = run_over(alloc, "answer 1 0 disk keep", &mut source, &mut sink, disks)?;
+    Ok((status, status.text(alloc)?, sink.bytes().len()))
+}
+
+/// An image of 16 sectors with an open gate in the slots that `opens` says, before a body of no lists
+/// where `is_sound`, and else before zeros.
+fn keep_of(alloc: Global, opens: [bool; 2], is_sound: bool) -> Result<MemDisk, Fail> {
+    let mut image = [0u8; 8192];
+    for (slot, open) in opens.iter().enumerate() {
+        let gate = if slot == 0 { 0 } else { 4096 };
+        if *open {
+            image[gate] = 0xa7;
+        }
+        if is_sound {
+            image[gate + 512..gate + 517].copy_from_slice(b"AoEK\x01");
+        }
+    }
+    Ok(MemDisk::of(alloc, &image)?)
+}
+
+#[test]
+fn refuses_keeps(rt: HostRuntime) -> Result<(), Fail> {
+    let alloc = rt.alloc();
+    let mut failing = MemDisk::new(alloc, 16)?;
+    failing.fail_at(2);
+    let cases = [
+        (
+            MemDisk::new(alloc, 15)?,
+            8,
+            "aoe: keep 1: 15 sectors, 16 needed",
+        ),
+        (
+            keep_of(alloc, [true, false], false)?,
+            8,
+            "aoe: keep 1: slot 0 holds no lists",
+        ),
+        (
+            keep_of(alloc, [false, true], false)?,
+            8,
+            "aoe: keep 1: slot 1 holds no lists",
+        ),
+        (
+            keep_of(alloc, [true, true], true)?,
+            8,
+            "aoe: keep 1: slot 1 holds no lists",
+        ),
+        (keep_of(alloc, [true, false], true)?, 0, ""),
+        (failing, 5, "aoe: disk fault on file 1"),
+    ];
+    for (keep, code, text) in cases {
+        let mut disks = [Some(MemDisk::new(alloc, 16)?), Some(keep)];
+        let (status, told, written) = ends(alloc, &mut disks)?;
+        assert_eq!(rt; status.code(), code);
+        assert_eq!(rt; told.bytes(), text.as_bytes());
+        assert_eq!(rt; written, if code == 0 { 62 } else { 0 });
+        let (Some(file), Some(_)) = (disks[0].take(), disks[1].take()) else {
+            return Err(Fail::from("a disk isn't there"));
+        };
+        assert_eq!(rt; file.calls(), if code == 0 { 1 } else { 0 });
+    }
+    Ok(())
+}
+
+#[test]
+fn finds_the_lists_of_the_run_before(rt: HostRuntime) -> Result<(), Fail> {
+    let alloc = rt.alloc();
+    let mut disks = zero_disks(alloc)?;
+    let mut source = MemSource::of(alloc, &SET)?;
+    let mut sink = MemSink::new(alloc, 1000)?;
+    let status = run_over(
+        alloc,
+        "answer 1 0 disk keep",
+        &mut source,
+        &mut sink,
+        &mut disks,
+    )?;
+    assert_eq!(rt; status, Status::Ok);
+    let (Some(file), Some(keep)) = (disks[0].take(), disks[1].take()) else {
+        return Err(Fail::from("a disk isn't there"));
+    };
+    let mut disks = [Some(file), Some(keep.crash(Loss::Old))];
+    let mut source = MemSource::of(alloc, &QUERY)?;
+    let mut sink = MemSink::new(alloc, 1000)?;
+    let status = run_over(
+        alloc,
+        "answer 1 0 disk keep",
+        &mut source,
+        &mut sink,
+        &mut disks,
+    )?;
+    assert_eq!(rt; status, Status::Ok);
+    let mut reply = [0u8; 62];
+    reply[..34].copy_from_slice(&REPLY);
+    reply[33] = 2;
+    reply[34..36].copy_from_slice(b"ab");
+    assert_eq!(rt; sink.bytes(), reply.as_slice());
     Ok(())
 }

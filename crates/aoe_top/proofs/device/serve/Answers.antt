@@ -1,22 +1,33 @@
-use Rattle.std.proofs.Common.{◌≡◌, ◌∙◌, ap, List, [], ◌∷◌}
-use Rattle.aoe_base.specs.declared.address.Mac.{Mac}
+use Rattle.std.proofs.Common.{◌∙◌, ap, refl}
+use Rattle.aoe_base.specs.declared.address.TargetId.{TargetId}
 use Rattle.aoe_target.specs.Mounted.{Mounted, station_of}
-use Rattle.aoe_top.specs.declared.device.TheConstants.{PORT, MTU}
-use Rattle.aoe_top.proofs.Runs.{ran}
+use Rattle.aoe_serve.specs.Slots.{slot_of}
+use Rattle.aoe_top.specs.Ending.{is_refusal}
+use Rattle.aoe_top.specs.Run.{Begins, shelf_station}
+use Rattle.aoe_top.proofs.Exits.{ends-by, ran-over-one, station-is}
+use Rattle.aoe_top.proofs.Refusals.{not-both, not-refused}
 use Rattle.aoe_top.proofs.device.serve.Goals as goal
 
 pub returns-clause-run : goal.returns-clause-run
-returns-clause-run g c =
-    let mounted = c.mount-target.ensures in
-    let station_is =
-    ap (λ (t : Mounted g.row.D.Denot). t.station) mounted
-    ∙ ap (λ (ports : List Mac). station_of c.args.id ports MTU (g.D.Disk.state c.new.result).sectors) c.ports.ensures
-    ∙ ap (λ (d : g.row.D.Denot). station_of c.args.id (PORT ∷ []) MTU (g.D.Disk.state d).sectors) c.new.ensures in
-    ran _ c.mount-target.result.station c.mount-target.result.lists c.answer-status.new.target.lists
-    (g.D.Disk.state c.args.disk) (g.D.Disk.state c.mount-target.result.store) (g.D.Disk.state c.answer-status.new.target.store) (g.D.Disk.state c.sync-synced.new.self.store) (g.D.Disk.state c.close-disk.result)
-    c.answer-status.result c.after_sync.result c.sync-synced.result _ _ _ _
-    station_is
-    (ap (λ (t : Mounted g.row.D.Denot). t.lists) mounted)
-    (ap (λ (t : Mounted g.row.D.Denot). g.D.Disk.state t.store) mounted ∙ ap (λ (d : g.row.D.Denot). g.D.Disk.state d) c.new.ensures)
-    (ap (λ (d : g.row.D.Denot). g.D.Disk.state d) (c.close-disk.ensures ∙ c.close.ensures))
-    c.answer-status.ensures.run c.sync-synced.ensures.syncs c.after_sync.ensures
+returns-clause-run g c e m =
+    let D = g.row.D.Denot in
+    let state = g.D.Disk.state in
+    let asked = c.args.asked.now in
+    let shelf = c.in-Ok.shelf in
+    let sectors = (state c.args.file).sectors in
+    let id : TargetId = record { major = shelf.major; minor = asked.id.minor } in
+    let t : Mounted D D = record { station = station_of id shelf.ports shelf.mtu sectors; keep = c.in-Ok-mount.keep; store = c.args.file } in
+    let begins : Begins (shelf_station asked sectors) (state c.args.file) (state c.args.keep) (slot_of state state t) =
+    record { is = station-is asked sectors shelf c.in-Ok.ensures; store = refl; mounts = c.in-Ok-mount.ensures.lists; finds = c.in-Ok-mount.ensures.finds } in
+    ran-over-one state (shelf_station asked sectors) c.answer-end.result c.sync_slot-synced.result
+    (g.S.Source.left c.args.source.now) (g.S.Source.left c.answer-end.new.source) (g.K.Sink.held c.args.sink.now) (g.K.Sink.held c.answer-end.new.sink)
+    t c.with_target-shelf.result.targets c.answer-end.new.shelf.targets c.sync_slot-synced.new.self.targets
+    c.args.file c.args.keep c.disks_of-file.result.0 c.disks_of-file.result.1 c.after_sync.result
+    c.with_target-shelf.ensures begins c.answer-end.ensures.run c.sync_slot-synced.ensures.syncs c.disks_of-file.ensures
+    (ends-by c.answer-end.result c.sync_slot-synced.result c.ended_by.result c.after_sync.result c.after_sync.ensures c.ended_by.ensures)
+
+pub returns-clause-refused : goal.returns-clause-refused
+returns-clause-refused g c e =
+    let synced = c.sync_slot-synced.result in
+    let ends = ends-by c.answer-end.result synced c.ended_by.result c.after_sync.result c.after_sync.ensures c.ended_by.ensures in
+    absurd (not-both (is_refusal c.after_sync.result) e (ap is_refusal ends ∙ not-refused c.answer-end.result synced))

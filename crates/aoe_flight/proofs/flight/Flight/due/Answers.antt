@@ -4,6 +4,8 @@ use Rattle.slab.specs.Slab.{values}
 use Rattle.aoe_flight.specs.declared.outstanding.Outstanding.{Outstanding}
 use Rattle.aoe_flight.specs.Outstanding.{is_due, precedes}
 use Rattle.aoe_flight.proofs.FirstLemmas.{due-flies, first-live, none-live, precedes-order}
+use Rattle.std.proofs.Common.{refl}
+use Rattle.aoe_flight.proofs.RecallLemmas.{first-recalled, none-recalled}
 use Rattle.aoe_flight.proofs.flight.Flight.due.Goals as goal
 
 pub returns-clause-first : goal.returns-clause-first
@@ -17,3 +19,9 @@ returns-clause-none c =
     let mapped : c.map.result ≡ option_map (λ (d : Outstanding). d.ticket) c.first_due.result = search rules in
     let is = mapped ∙ ap (option_map (λ (d : Outstanding). d.ticket)) c.first_due.ensures in
     rw (← c.self.view_is) (none-live (is_due c.args.now.0) precedes c.self.inside.rest.0 c.self.inside.latest.0 (values c.self.inside.commands) c.map.result is)
+
+pub returns-clause-first_sent : goal.returns-clause-first_sent
+returns-clause-first_sent c = first-recalled (is_due c.args.now.0) precedes c.args.self.now (λ d is. rw is refl) c.map.result (returns-clause-first c)
+
+pub returns-clause-none_sent : goal.returns-clause-none_sent
+returns-clause-none_sent c = none-recalled (is_due c.args.now.0) c.args.self.now (λ d is. rw is refl) c.map.result (returns-clause-none c)

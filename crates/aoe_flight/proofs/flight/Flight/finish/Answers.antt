@@ -2,10 +2,16 @@ use Rattle.std.proofs.Common.{refl}
 use Rattle.slab.specs.Slab.{values}
 use Rattle.aoe_flight.specs.Outstanding.{after_finish}
 use Rattle.aoe_flight.proofs.SoundLemmas.{finish-value, sound-changed}
+use Rattle.std.proofs.Common.{arith}
+use Rattle.aoe_flight.proofs.RecallLemmas.{recalls-change}
 use Rattle.aoe_flight.proofs.flight.Flight.finish.Goals as goal
 
 pub invariant_of-self : goal.invariant_of-self
 invariant_of-self c = sound-changed _ _ c.args.ticket.0 after_finish (values c.self.inside.commands) _ _ (λ d. refl) c.finish.ensures.values c.finish.ensures.capacity c.self.invariant
 
-pub returns : goal.returns
-returns c = finish-value _ _ _ _ _ c.args.ticket.0 after_finish (values c.self.inside.commands) _ c.args.self.now c.self.view_is c.finish.ensures.values
+pub returns-clause-value : goal.returns-clause-value
+returns-clause-value c = finish-value _ _ _ _ _ c.args.ticket.0 after_finish (values c.self.inside.commands) _ c.args.self.now c.self.view_is c.finish.ensures.values
+
+pub returns-clause-recalls : goal.returns-clause-recalls
+returns-clause-recalls c = λ sent recalls.
+    recalls-change c.args.self.now _ sent c.args.ticket.0 after_finish c.args.self.now.latest (returns-clause-value c) recalls (omega arith)

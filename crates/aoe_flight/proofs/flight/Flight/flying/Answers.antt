@@ -6,6 +6,7 @@ use Rattle.aoe_flight.specs.declared.outstanding.Outstanding.{Outstanding}
 use Rattle.aoe_flight.specs.FlightTable.{FlightTable}
 use Rattle.aoe_flight.specs.Outstanding.{flies_as}
 use Rattle.aoe_flight.proofs.LiveLemmas.{find-live}
+use Rattle.aoe_flight.proofs.RecallLemmas.{flying-recalled}
 use Rattle.aoe_flight.proofs.flight.Flight.flying.Goals as goal
 
 pub unwrap-requires : goal.unwrap-requires
@@ -15,8 +16,11 @@ unwrap-requires c =
     let Q : Option Outstanding → Type 0 = λ o. IsSome o in
     subst Q (live ∙ sym c.find_ticket.ensures) (subst P (sym c.self.view_is) c.requires)
 
-pub returns : goal.returns
-returns c =
+pub returns-clause-value : goal.returns-clause-value
+returns-clause-value c =
     let live = find-live (flies_as c.args.ticket.0) c.self.inside.rest.0 c.self.inside.latest.0 (λ d is. rw is refl) (values c.self.inside.commands) in
     let opened : c.find_ticket.result ≡ Some c.unwrap.result = search rules in
     rw (← c.self.view_is) (ap (option_map (λ (d : Outstanding). d.flying)) (live ∙ sym c.find_ticket.ensures ∙ opened))
+
+pub returns-clause-sent : goal.returns-clause-sent
+returns-clause-sent c = flying-recalled (flies_as c.args.ticket.0) c.args.self.now _ c.unwrap.result.flying refl (returns-clause-value c)

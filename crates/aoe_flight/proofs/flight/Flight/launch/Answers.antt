@@ -7,6 +7,8 @@ use Rattle.aoe_flight.specs.FlightTable.{FlightTable}
 use Rattle.aoe_flight.specs.Outstanding.{is_taken, launched, live}
 use Rattle.aoe_flight.proofs.SlotLemmas.{length-held}
 use Rattle.aoe_flight.proofs.SoundLemmas.{count-live, flies-new, forget-value, live-new, live-view, sound-live, sound-new}
+use Rattle.std.proofs.Common.{rules}
+use Rattle.aoe_flight.proofs.RecallLemmas.{free-recalled, recalls-launch}
 use Rattle.aoe_flight.proofs.flight.Flight.launch.Goals as goal
 
 pub invariant_of-self : goal.invariant_of-self
@@ -89,3 +91,15 @@ returns-clause-distinct c =
     let free = ap (λ (d : Outstanding). is_taken (values c.forget.new.commands) d.flying.tag) c.launched.ensures ∙ c.next_tag-tag.ensures.free in
     let after = sound-new _ _ c.launched.result (values c.forget.new.commands) (values c.insert.new.commands) c.insert.new.commands.capacity c.insert.ensures.values free c.insert.ensures.capacity (omega (arith, count, c.if-len-self.false)) sound in
     λ tag. count-live c.self.inside.rest.0 c.args.now.0 (values c.insert.new.commands) tag (after.distinct tag)
+
+pub returns-clause-same : goal.returns-clause-same
+returns-clause-same c = search rules
+
+pub returns-clause-recalls : goal.returns-clause-recalls
+returns-clause-recalls c = λ sent recalls.
+    let new = launched c.args.ticket c.next_tag-tag.result c.args.now c.args.path c.args.wait in
+    let same = returns-clause-same c in
+    recalls-launch c.args.self.now _ sent new c.args.now.0 c.next_tag-tag.result refl same (returns-clause-command c) recalls c.requires
+
+pub returns-clause-free : goal.returns-clause-free
+returns-clause-free c = λ sent recalls. free-recalled c.args.self.now sent c.args.now.0 c.next_tag-tag.result recalls c.requires (returns-clause-tag c).free

@@ -5,6 +5,7 @@ use Rattle.aoe_flight.specs.declared.outstanding.Outstanding.{Outstanding}
 use Rattle.aoe_flight.specs.Outstanding.{flies_with}
 use Rattle.aoe_flight.proofs.LiveLemmas.{find-live}
 use Rattle.aoe_flight.proofs.SoundLemmas.{count-live}
+use Rattle.aoe_flight.proofs.RecallLemmas.{match-recalled, no-match-recalled}
 use Rattle.aoe_flight.proofs.flight.Flight.match_tag.Goals as goal
 
 pub returns-clause-flying : goal.returns-clause-flying
@@ -15,3 +16,9 @@ returns-clause-flying c =
 
 pub returns-clause-only : goal.returns-clause-only
 returns-clause-only c = rw (← c.self.view_is) (count-live c.self.inside.rest.0 c.self.inside.latest.0 (values c.self.inside.commands) c.args.tag (c.self.invariant.distinct c.args.tag))
+
+pub returns-clause-flying_sent : goal.returns-clause-flying_sent
+returns-clause-flying_sent c = match-recalled (flies_with c.args.tag) c.args.self.now _ c.map.result refl (returns-clause-flying c)
+
+pub returns-clause-none_sent : goal.returns-clause-none_sent
+returns-clause-none_sent c = no-match-recalled (flies_with c.args.tag) c.args.self.now (λ d is. rw is refl) _ c.map.result refl (returns-clause-flying c)

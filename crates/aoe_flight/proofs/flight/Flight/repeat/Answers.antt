@@ -2,12 +2,17 @@ use Rattle.std.proofs.Common.{refl}
 use Rattle.slab.specs.Slab.{values}
 use Rattle.aoe_flight.specs.Outstanding.{after_repeat}
 use Rattle.aoe_flight.proofs.SoundLemmas.{change-value, sound-changed}
+use Rattle.aoe_flight.proofs.RecallLemmas.{recalls-change}
 use Rattle.aoe_flight.proofs.flight.Flight.repeat.Goals as goal
 
 pub invariant_of-self : goal.invariant_of-self
 invariant_of-self c =
     sound-changed _ _ c.args.ticket.0 (after_repeat c.args.now c.args.path c.args.wait) (values c.self.inside.commands) _ _ (λ d. refl) c.repeat.ensures.values c.repeat.ensures.capacity c.self.invariant
 
-pub returns : goal.returns
-returns c =
+pub returns-clause-value : goal.returns-clause-value
+returns-clause-value c =
     change-value _ _ _ _ _ c.args.now.0 c.args.ticket.0 (after_repeat c.args.now c.args.path c.args.wait) (values c.self.inside.commands) _ c.args.self.now c.self.view_is c.requires c.repeat.ensures.values
+
+pub returns-clause-recalls : goal.returns-clause-recalls
+returns-clause-recalls c = λ sent recalls.
+    recalls-change c.args.self.now _ sent c.args.ticket.0 (after_repeat c.args.now c.args.path c.args.wait) c.args.now.0 (returns-clause-value c) recalls c.requires

@@ -1,0 +1,3 @@
+mod SyncLemmas
+mod EndLemmas
+mod FileLemmas

@@ -1,0 +1,140 @@
+//! The call that exports files.
+ghost use Rattle.std.specs.Prelude.{◌≡◌, ◌≤◌, ◌<◌, ◌+◌, ◌/◌, ◌%◌, ℕ, true, false, All, Err, IfErr, IfOk, IsSome, OnErr, length};
+ghost use Rattle.aoe_base.specs.Faults.{Rose};
+ghost use Rattle.aoe_export.specs.Run.{AtFirst, IsExported, IsExportedBehind, is_served};
+ghost use Rattle.aoe_export.specs.Slots.{GivesBack, named};
+ghost use Rattle.aoe_keep.specs.declared.refusal.MountRefusal.{MountRefusal};
+ghost use Rattle.aoe_serve.specs.Slots.{slots_of};
+ghost use Rattle.aoe_shelf.specs.Shelf.{has_minor};
+
+use crate::pairs::{put_pair, take_pair};
+use crate::run::run;
+use crate::seat::{leave, seat};
+use crate::{ExportRefusal, Exported, Plan, RunEnd};
+use aoe_base::{NoMemory, Ports, TargetId};
+use aoe_disk::Disk;
+use aoe_io::{Link, Sink, Source};
+use aoe_keep::MountRefusal;
+use aoe_serve::{AnswerEnd, ServeEnd};
+use aoe_shelf::Shelf;
+use aoe_store::Direct;
+use std::alloc::Global;
+
+/// What the slots have in common.
+pub struct Rack {
+    /// The name of the first slot. Those of the others have the same major, and count up its minor.
+    pub first: TargetId,
+    pub ports: Ports,
+
+    /// How many bytes an Ethernet frame carries.
+    pub mtu: u32,
+}
+
+/// Adds a slot for each pair of the disks, runs the plan over all slots of the shelf, and takes the
+/// added slots from it again. Where a keep is refused, gives its slot.
+fn on_slots<D: Disk + Drop, S: Source, K: Sink, L: Link>(
+    shelf: &mut Shelf<Direct<D>, D>,
+    minor: u8,
+    plan: Plan,
+    source: &mut S,
+    sink: &mut K,
+    disks: &mut [Option<D>],
+    links: &mut [L],
+) -> Result<Exported, (u32, MountRefusal)>
+    requires pairs { length disks.old % 2 ≡ 0 }
+    requires there { All IsSome disks.old }
+    requires room { length shelf.old.targets + length disks.old / 2 ≤ 16 }
+    requires minors { minor + length disks.old / 2 ≤ 255 }
+    requires free { (m : ℕ) → minor ≤ m → has_minor shelf.old.targets m ≡ false }
+    requires link { is_served plan ≡ true → 0 < length links.old }
+    ensures ran { IfOk result (λ e. IsExportedBehind D.state (named shelf.old.major shelf.old.ports shelf.old.mtu) minor
+        record { left = S.left; held = K.held; turns = L.turns; given = L.given; taken = L.taken } plan e
+        record { source = source.old; sink = sink.old; links = links.old } record { source = source.new; sink = sink.new; links = links.new }
+        disks.old disks.new (slots_of D.state D.state shelf.old.targets) (slots_of D.state D.state shelf.new.targets)) }
+    ensures refused { IfErr result (λ e. (n : ℕ) × (e.0 ≡ length shelf.old.targets + n) × GivesBack D.state n e.1 disks.old disks.new) }
+    ensures source { OnErr result (source.new ≡ source.old) }
+    ensures sink { OnErr result (sink.new ≡ sink.old) }
+    ensures links { OnErr result (links.new ≡ links.old) }
+    ensures same { OnErr result (shelf.new.targets ≡ shelf.old.targets) }
+    ensures count { length shelf.new.targets ≡ length shelf.old.targets }
+    ensures rest { shelf.new ≡ record shelf.old { targets = shelf.new.targets } }
+    ensures there { All IsSome disks.new }
+    ensures source_count { S.faults source.old ≤ S.faults source.new }
+    ensures sink_count { K.faults sink.old ≤ K.faults sink.new }
+    ensures link_count { AtFirst (λ a b. L.faults a ≤ L.faults b) links.old links.new }
+    ensures source_fault { IfOk result (λ e. e.end ≡ RunEnd.Answered AnswerEnd.SourceFault → Rose (S.faults source.old) (S.faults source.new)) }
+    ensures sink_fault { IfOk result (λ e. e.end ≡ RunEnd.Answered AnswerEnd.SinkFault → Rose (K.faults sink.old) (K.faults sink.new)) }
+    ensures link_fault { IfOk result (λ e. e.end ≡ RunEnd.Served ServeEnd.LinkFault → AtFirst (λ a b. Rose (L.faults a) (L.faults b)) links.old links.new) }
+{
+    if disks.is_empty() {
+        return Ok(run(shelf, plan, source, sink, links));
+    }
+    let slot = shelf.count() as u32;
+    let (pair, others) = disks.split_at_mut(2);
+    let (file, keep) = take_pair(pair);
+    match seat(shelf, minor, file, keep) {
+        Ok(()) => {}
+        Err((refusal, file, keep)) => {
+            put_pair(pair, file, keep);
+            return Err((slot, refusal));
+        }
+    }
+    let result = on_slots(shelf, minor + 1, plan, source, sink, others, links);
+    let (file, keep) = leave(shelf);
+    put_pair(pair, file, keep);
+    result
+}
+
+/// Exports each pair of the disks, a file and its keep, as a slot of a shelf, for one run.
+///
+/// All keeps are mounted first, in order. Where one is refused nothing is read or sent. Else the plan
+/// is run over the slots, and at the end the stores are synced in order, however the run ended. Each
+/// disk is given back, also where nothing was run.
+pub fn export<D: Disk + Drop, S: Source, K: Sink, L: Link>(
+    alloc: Global,
+    rack: Rack,
+    plan: Plan,
+    source: &mut S,
+    sink: &mut K,
+    disks: &mut [Option<D>],
+    links: &mut [L],
+) -> Result<Exported, ExportRefusal>
+    requires major { rack.first.major < 65535 }
+    requires ports { 1 ≤ length rack.ports.items }
+    requires shortest { 1500 ≤ rack.mtu }
+    requires longest { rack.mtu ≤ 9000 }
+    requires pairs { length disks.old % 2 ≡ 0 }
+    requires room { length disks.old ≤ 32 }
+    requires there { All IsSome disks.old }
+    requires minors { rack.first.minor + length disks.old / 2 ≤ 255 }
+    requires link { is_served plan ≡ true → 0 < length links.old }
+    ensures ran { IfOk result (λ e. IsExported D.state (named rack.first.major rack.ports.items rack.mtu) rack.first.minor
+        record { left = S.left; held = K.held; turns = L.turns; given = L.given; taken = L.taken } plan e
+        record { source = source.old; sink = sink.old; links = links.old } record { source = source.new; sink = sink.new; links = links.new }
+        disks.old disks.new) }
+
+    // Nothing was run: where a keep was refused, those in front of it were mounted, and those behind it weren't.
+    ensures refused { (slot : ℕ) (refusal : MountRefusal) → result ≡ Err (ExportRefusal.Keep slot refusal) → GivesBack D.state slot refusal disks.old disks.new }
+    ensures memory { result ≡ Err ExportRefusal.NoMemory → disks.new ≡ disks.old }
+    ensures source { OnErr result (source.new ≡ source.old) }
+    ensures sink { OnErr result (sink.new ≡ sink.old) }
+    ensures links { OnErr result (links.new ≡ links.old) }
+
+    ensures there { All IsSome disks.new }
+    ensures source_count { S.faults source.old ≤ S.faults source.new }
+    ensures sink_count { K.faults sink.old ≤ K.faults sink.new }
+    ensures link_count { AtFirst (λ a b. L.faults a ≤ L.faults b) links.old links.new }
+    ensures source_fault { IfOk result (λ e. e.end ≡ RunEnd.Answered AnswerEnd.SourceFault → Rose (S.faults source.old) (S.faults source.new)) }
+    ensures sink_fault { IfOk result (λ e. e.end ≡ RunEnd.Answered AnswerEnd.SinkFault → Rose (K.faults sink.old) (K.faults sink.new)) }
+    ensures link_fault { IfOk result (λ e. e.end ≡ RunEnd.Served ServeEnd.LinkFault → AtFirst (λ a b. Rose (L.faults a) (L.faults b)) links.old links.new) }
+{
+    let Rack { first, ports, mtu } = rack;
+    let mut shelf = match Shelf::new(alloc, first.major, ports, mtu) {
+        Ok(shelf) => shelf,
+        Err(NoMemory) => return Err(ExportRefusal::NoMemory),
+    };
+    match on_slots(&mut shelf, first.minor, plan, source, sink, disks, links) {
+        Ok(exported) => Ok(exported),
+        Err((slot, refusal)) => Err(ExportRefusal::Keep { slot, refusal }),
+    }
+}

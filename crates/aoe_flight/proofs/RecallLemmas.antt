@@ -1,0 +1,335 @@
+-- What a table says of all commands that were sent, of which it has those that fly or rest.
+use Rattle.std.proofs.Common.{zero-add, nat_lt, ◌-◌, ℕ, ◌≡◌, ◌+◌, ◌<◌, ◌≤◌, ◌&&◌, cond, not, Bool, true, false, List, [], ◌∷◌, length, map, Option, Some, None, inl, inr, refl, sym, ap, subst, ◌∙◌, arith, nat_eq}
+use Rattle.std.specs.List.{count_by, filter, find, list_any}
+use Rattle.std.specs.List.Sorted.{IsPermutation}
+use Rattle.std.specs.Prelude.{option_map, All, Contains, IfNone, IfSome}
+use Rattle.std.proofs.lemmas.Bool.{and_parts, eq-eqb, eqb-true, not-true, or_parts}
+use Rattle.std.proofs.lemmas.List.Elements.{All-cons, All-head, All-nil, All-tail, All-weaker}
+use Rattle.std.proofs.lemmas.List.Sorted.{sum_by-IsPermutation}
+use Rattle.std.proofs.lemmas.List.Sums.{sum_by-cons}
+use Rattle.slab.proofs.SlabLemmas.{Contains-cons, Contains-cons_cases}
+use Rattle.aoe_base.specs.declared.counted.Ticket.{Ticket}
+use Rattle.aoe_flight.specs.declared.outstanding.Flying.{Flying}
+use Rattle.aoe_flight.specs.declared.outstanding.Outstanding.{Outstanding}
+use Rattle.aoe_flight.specs.FlightTable.{after_change, at_time, live_at, FlightTable, Recalls, SameCommands}
+use Rattle.aoe_flight.specs.Outstanding.{change_of, flies_with, is_over, is_taken, has_tag, live, tag_count, IsFirst}
+use Rattle.aoe_flight.proofs.LiveLemmas.{live-changed, live-live, Contains-live}
+
+pub count-cons : (test : Outstanding → Bool) (x : Outstanding) (xs : List Outstanding) → count_by test (x ∷ xs) ≡ cond (test x) 1 0 + count_by test xs
+count-cons test x xs = sum_by-cons (λ (y : Outstanding). cond (test y) 1 0) x xs
+
+count-yes : (test : Outstanding → Bool) (x : Outstanding) (xs : List Outstanding) → test x ≡ true → count_by test (x ∷ xs) ≡ 1 + count_by test xs
+count-yes test x xs is = count-cons test x xs ∙ rw is refl
+
+count-no : (test : Outstanding → Bool) (x : Outstanding) (xs : List Outstanding) → test x ≡ false → count_by test (x ∷ xs) ≡ count_by test xs
+count-no test x xs is = count-cons test x xs ∙ rw is (zero-add (count_by test xs))
+
+count-filter : (test p : Outstanding → Bool) (xs : List Outstanding) → count_by test (filter p xs) ≡ count_by (λ x. p x && test x) xs
+count-filter test p [] = refl
+count-filter test p (x ∷ xs) = at (p x) refl (count-filter test p xs)
+  where
+    at : (b : Bool) → p x ≡ b → count_by test (filter p xs) ≡ count_by (λ y. p y && test y) xs → count_by test (cond b (x ∷ filter p xs) (filter p xs)) ≡ count_by (λ y. p y && test y) (x ∷ xs)
+    at true is same = count-cons test x (filter p xs) ∙ rw same (sym (count-cons (λ y. p y && test y) x xs ∙ rw is refl))
+    at false is same = same ∙ sym (count-no (λ y. p y && test y) x xs (rw is refl))
+
+count-map : (test : Outstanding → Bool) (f : Outstanding → Outstanding) (xs : List Outstanding) → count_by test (map f xs) ≡ count_by (λ x. test (f x)) xs
+count-map test f [] = refl
+count-map test f (x ∷ xs) = count-cons test (f x) (map f xs) ∙ rw (count-map test f xs) (sym (count-cons (λ y. test (f y)) x xs))
+
+pub same-filter : (p : Outstanding → Bool) (xs ys : List Outstanding) → SameCommands xs ys → SameCommands (filter p xs) (filter p ys)
+same-filter p xs ys same test = count-filter test p xs ∙ same (λ x. p x && test x) ∙ sym (count-filter test p ys)
+
+pub same-map : (f : Outstanding → Outstanding) (xs ys : List Outstanding) → SameCommands xs ys → SameCommands (map f xs) (map f ys)
+same-map f xs ys same test = count-map test f xs ∙ same (λ x. test (f x)) ∙ sym (count-map test f ys)
+
+pub same-cons : (x : Outstanding) (xs ys : List Outstanding) → SameCommands xs ys → SameCommands (x ∷ xs) (x ∷ ys)
+same-cons x xs ys same test = count-cons test x xs ∙ rw (same test) (sym (count-cons test x ys))
+
+pub same-permutation : (xs ys : List Outstanding) → IsPermutation xs ys → SameCommands ys xs
+same-permutation xs ys is test = sum_by-IsPermutation (λ (y : Outstanding). cond (test y) 1 0) xs ys is
+
+-- all pass or none, by the count
+all-none : (test : Outstanding → Bool) (xs : List Outstanding) → All (λ c. test c ≡ false) xs → count_by test xs ≡ 0
+all-none test [] all = refl
+all-none test (x ∷ xs) all =
+    count-no test x xs (All-head (λ c. test c ≡ false) x xs all) ∙ all-none test xs (All-tail (λ c. test c ≡ false) x xs all)
+
+none-all : (test : Outstanding → Bool) (xs : List Outstanding) → count_by test xs ≡ 0 → All (λ c. test c ≡ false) xs
+none-all test [] none = All-nil (λ c. test c ≡ false)
+none-all test (x ∷ xs) none = at (test x) refl (none-all test xs)
+  where
+    at : (b : Bool) → test x ≡ b → (count_by test xs ≡ 0 → All (λ c. test c ≡ false) xs) → All (λ c. test c ≡ false) (x ∷ xs)
+    at true is rest = absurd (omega (arith, count-yes test x xs is, none))
+    at false is rest = All-cons (λ c. test c ≡ false) x xs is (rest (sym (count-no test x xs is) ∙ none))
+
+pub all-same : (test : Outstanding → Bool) (xs ys : List Outstanding) → SameCommands xs ys → All (λ c. test c ≡ false) xs → All (λ c. test c ≡ false) ys
+all-same test xs ys same all = none-all test ys (sym (same test) ∙ all-none test xs all)
+
+some-counted : (test : Outstanding → Bool) (xs : List Outstanding) (c : Outstanding) → Contains xs c → test c ≡ true → 0 < count_by test xs
+some-counted test [] c there passes = absurd (omega (arith, there.1))
+some-counted test (x ∷ xs) c there passes = elim (Contains-cons_cases x c xs there) [
+  | inl same ↦ omega (arith, count-yes test x xs (ap test same ∙ passes))
+  | inr behind ↦ omega (arith, count-cons test x xs, some-counted test xs c behind passes)
+]
+
+counted-some : (test : Outstanding → Bool) (xs : List Outstanding) → 0 < count_by test xs → (c : Outstanding) × Contains xs c × (test c ≡ true)
+counted-some test [] some = absurd (omega (arith, some))
+counted-some test (x ∷ xs) some = at (test x) refl (counted-some test xs)
+  where
+    at : (b : Bool) → test x ≡ b → (0 < count_by test xs → (c : Outstanding) × Contains xs c × (test c ≡ true)) → (c : Outstanding) × Contains (x ∷ xs) c × (test c ≡ true)
+    at true is rest = (x, (0, omega arith, refl), is)
+    at false is rest =
+        let behind = rest (omega (arith, some, count-no test x xs is)) in
+        (behind.0, Contains-cons x behind.0 xs behind.1, behind.2)
+
+-- a test that one command alone passes
+both : Bool → Bool → Bool
+both true b = b
+both false b = not b
+
+abbrev is_same : Outstanding → Outstanding → Bool
+is_same a b =
+    nat_eq a.ticket.0 b.ticket.0 && (nat_eq a.flying.tag b.flying.tag && (nat_eq a.flying.first.0 b.flying.first.0 && (nat_eq a.flying.last.0 b.flying.last.0
+    && (nat_eq a.flying.path.0 b.flying.path.0 && (nat_eq a.flying.sends b.flying.sends && (nat_eq a.wait.0 b.wait.0 && both a.finished b.finished))))))
+
+both-self : (b : Bool) → both b b ≡ true
+unfolding both
+both-self true = refl
+both-self false = refl
+
+both-is : (a b : Bool) → both a b ≡ true → a ≡ b
+unfolding both
+both-is true true is = refl
+both-is false false is = refl
+both-is true false is = absurd cc
+both-is false true is = absurd cc
+
+same-self : (a : Outstanding) → is_same a a ≡ true
+same-self a = rw (
+  eq-eqb a.ticket.0 a.ticket.0 refl,
+  eq-eqb a.flying.tag a.flying.tag refl,
+  eq-eqb a.flying.first.0 a.flying.first.0 refl,
+  eq-eqb a.flying.last.0 a.flying.last.0 refl,
+  eq-eqb a.flying.path.0 a.flying.path.0 refl,
+  eq-eqb a.flying.sends a.flying.sends refl,
+  eq-eqb a.wait.0 a.wait.0 refl,
+) (both-self a.finished)
+
+built : ℕ → ℕ → ℕ → ℕ → ℕ → ℕ → ℕ → Bool → Outstanding
+built ticket tag first last path sends wait finished = record {
+  ticket = record { 0 = ticket };
+  flying = record { tag = tag; first = record { 0 = first }; last = record { 0 = last }; path = record { 0 = path }; sends = sends };
+  wait = record { 0 = wait };
+  finished = finished;
+}
+
+same-built : (t t' g g' f f' l l' p p' s s' w w' : ℕ) (b b' : Bool) → t ≡ t' → g ≡ g' → f ≡ f' → l ≡ l' → p ≡ p' → s ≡ s' → w ≡ w' → b ≡ b' → built t g f l p s w b ≡ built t' g' f' l' p' s' w' b'
+same-built t t' g g' f f' l l' p p' s s' w w' b b' et eg ef el ep es ew eb = rw (et, eg, ef, el, ep, es, ew, eb) refl
+
+same-is : (a b : Outstanding) → is_same a b ≡ true → a ≡ b
+unfolding built
+same-is a b is =
+    let t = and_parts _ _ is in
+    let g = and_parts _ _ t.1 in
+    let f = and_parts _ _ g.1 in
+    let l = and_parts _ _ f.1 in
+    let p = and_parts _ _ l.1 in
+    let s = and_parts _ _ p.1 in
+    let w = and_parts _ _ s.1 in
+    same-built a.ticket.0 b.ticket.0 a.flying.tag b.flying.tag a.flying.first.0 b.flying.first.0 a.flying.last.0 b.flying.last.0 a.flying.path.0 b.flying.path.0 a.flying.sends b.flying.sends a.wait.0 b.wait.0 a.finished b.finished
+    (eqb-true _ _ t.0) (eqb-true _ _ g.0) (eqb-true _ _ f.0) (eqb-true _ _ l.0) (eqb-true _ _ p.0) (eqb-true _ _ s.0) (eqb-true _ _ w.0) (both-is _ _ w.1)
+
+pub Contains-same : (xs ys : List Outstanding) (c : Outstanding) → SameCommands xs ys → Contains xs c → Contains ys c
+Contains-same xs ys c same there =
+    let some : 0 < count_by (is_same c) ys = rw (← same (is_same c)) (some-counted (is_same c) xs c there (same-self c)) in
+    let found = counted-some (is_same c) ys some in
+    let is : c ≡ found.0 = same-is c found.0 found.2 in
+    rw is found.1
+
+pub Contains-live_all : (rest latest : ℕ) (sent : List Outstanding) (c : Outstanding) → Contains (live rest latest sent) c → Contains sent c
+Contains-live_all rest latest [] c there = there
+Contains-live_all rest latest (x ∷ sent) c there = at (not (is_over rest latest x)) there (Contains-live_all rest latest sent c)
+  where
+    at : (b : Bool) → Contains (cond b (x ∷ live rest latest sent) (live rest latest sent)) c → (Contains (live rest latest sent) c → Contains sent c) → Contains (x ∷ sent) c
+    at true is all = elim (Contains-cons_cases x c (live rest latest sent) is) [
+      | inl same ↦ (0, omega arith, same)
+      | inr behind ↦ Contains-cons x c sent (all behind)
+    ]
+    at false is all = Contains-cons x c sent (all is)
+
+-- a test of flying commands that none of the live ones passes
+all-live : (test : Outstanding → Bool) (rest latest : ℕ) → ((c : Outstanding) → c.finished ≡ true → test c ≡ false) → (sent : List Outstanding) → All (λ c. test c ≡ false) (live rest latest sent) → All (λ c. test c ≡ false) sent
+all-live test rest latest flying [] all = all
+all-live test rest latest flying (x ∷ sent) all = at (is_over rest latest x) refl all (all-live test rest latest flying sent)
+  where
+    at : (b : Bool) → is_over rest latest x ≡ b → All (λ c. test c ≡ false) (cond (not b) (x ∷ live rest latest sent) (live rest latest sent))
+        → (All (λ c. test c ≡ false) (live rest latest sent) → All (λ c. test c ≡ false) sent) → All (λ c. test c ≡ false) (x ∷ sent)
+    at true is here behind =
+        All-cons (λ c. test c ≡ false) x sent (flying x (and_parts x.finished (nat_lt rest (latest - x.flying.last.0)) is).0) (behind here)
+    at false is here behind =
+        All-cons (λ c. test c ≡ false) x sent (All-head (λ c. test c ≡ false) x (live rest latest sent) here) (behind (All-tail (λ c. test c ≡ false) x (live rest latest sent) here))
+
+-- the table at a later time
+pub same-at : (table : FlightTable) (sent : List Outstanding) (now : ℕ) → Recalls table sent → table.latest ≤ now → SameCommands (live_at table now) (live table.rest now sent)
+same-at table sent now recalls later =
+    let P : List Outstanding → Type 0 = λ l. SameCommands (live_at table now) l in
+    subst P (live-live table.rest table.latest now sent later) (same-filter (λ c. not (is_over table.rest now c)) table.commands (live table.rest table.latest sent) recalls)
+
+pub recalls-at : (table new : FlightTable) (sent : List Outstanding) (now : ℕ) → new ≡ at_time table now → Recalls table sent → table.latest ≤ now → Recalls new sent
+recalls-at table new sent now is recalls later =
+    let P : FlightTable → Type 0 = λ t. Recalls t sent in
+    subst P (sym is) (same-at table sent now recalls later)
+
+pub recalls-change : (table new : FlightTable) (sent : List Outstanding) (ticket : ℕ) (change : Outstanding → Outstanding) (now : ℕ) → new ≡ after_change table ticket change now
+    → Recalls table sent → table.latest ≤ now → Recalls new (map (change_of ticket change) sent)
+recalls-change table new sent ticket change now is recalls later =
+    let both_changed = same-filter (λ c. not (is_over table.rest now c)) (map (change_of ticket change) table.commands) (map (change_of ticket change) (live table.rest table.latest sent)) (same-map (change_of ticket change) table.commands (live table.rest table.latest sent) recalls) in
+    let P : List Outstanding → Type 0 = λ l. SameCommands (live table.rest now (map (change_of ticket change) table.commands)) l in
+    let Q : FlightTable → Type 0 = λ t. Recalls t (map (change_of ticket change) sent) in
+    subst Q (sym is) (subst P (live-changed table.rest table.latest now ticket change sent later) both_changed)
+
+pub recalls-launch : (table new : FlightTable) (sent : List Outstanding) (c : Outstanding) (now tag : ℕ) → c.finished ≡ false → new ≡ record table { latest = now; last_tag = tag; commands = new.commands }
+    → IsPermutation (c ∷ live_at table now) new.commands → Recalls table sent → table.latest ≤ now → Recalls new (c ∷ sent)
+recalls-launch table new sent c now tag flying same is recalls later =
+    let fresh : live table.rest now (c ∷ sent) ≡ c ∷ live table.rest now sent = rw flying refl in
+    let all : SameCommands new.commands (c ∷ live table.rest now sent) = λ test.
+    same-permutation (c ∷ live_at table now) new.commands is test ∙ same-cons c (live_at table now) (live table.rest now sent) (same-at table sent now recalls later) test in
+    let rest_same : new.rest ≡ table.rest = ap (λ (t : FlightTable). t.rest) same in
+    let time_same : new.latest ≡ now = ap (λ (t : FlightTable). t.latest) same in
+    let P : ℕ → ℕ → Type 0 = λ r t. SameCommands new.commands (live r t (c ∷ sent)) in
+    let Q : List Outstanding → Type 0 = λ l. SameCommands new.commands l in
+    subst (λ (r : ℕ). P r new.latest) (sym rest_same) (subst (λ (t : ℕ). P table.rest t) (sym time_same) (subst Q (sym fresh) all))
+
+-- the first of the commands of a table is the first of all
+pub first-recalled : (test : Outstanding → Bool) (before : Outstanding → Outstanding → Bool) (table : FlightTable) → ((c : Outstanding) → c.finished ≡ true → test c ≡ false) → (result : Option Ticket)
+    → IfSome result (λ ticket. (c : Outstanding) × (c.ticket ≡ ticket) × IsFirst test before table.commands c)
+    → IfSome result (λ ticket. (sent : List Outstanding) → Recalls table sent → (c : Outstanding) × (c.ticket ≡ ticket) × IsFirst test before sent c)
+first-recalled test before table flying None first = tt
+first-recalled test before table flying (Some ticket) first = λ sent recalls.
+    let c = first.0 in
+    let is = first.2 in
+    let earlier : Outstanding → Bool = λ other. test other && before other c in
+    let none : All (λ other. earlier other ≡ false) table.commands =
+    All-weaker (λ other. test other ≡ true → before other c ≡ false) (λ other. earlier other ≡ false) (λ other least. not_earlier (test other) (before other c) least) table.commands is.least in
+    let all = all-live earlier table.rest table.latest (λ other rests. rw (flying other rests) refl) sent (all-same earlier table.commands (live table.rest table.latest sent) recalls none) in (
+      c,
+      first.1,
+      record {
+        there = Contains-live_all table.rest table.latest sent c (Contains-same table.commands (live table.rest table.latest sent) c recalls is.there);
+        passes = is.passes;
+        least = All-weaker (λ other. earlier other ≡ false) (λ other. test other ≡ true → before other c ≡ false) (λ other none_earlier passes. later (test other) (before other c) passes none_earlier) sent all;
+      },
+    )
+  where
+    not_earlier : (t b : Bool) → (t ≡ true → b ≡ false) → (t && b) ≡ false
+    not_earlier true b least = least refl
+    not_earlier false b least = refl
+
+    later : (t b : Bool) → t ≡ true → (t && b) ≡ false → b ≡ false
+    later true b passes none = none
+    later false b passes none = absurd cc
+
+pub none-recalled : (test : Outstanding → Bool) (table : FlightTable) → ((c : Outstanding) → c.finished ≡ true → test c ≡ false) → (result : Option Ticket)
+    → IfNone result (All (λ c. test c ≡ false) table.commands) → IfNone result ((sent : List Outstanding) → Recalls table sent → All (λ c. test c ≡ false) sent)
+none-recalled test table flying (Some ticket) none = tt
+none-recalled test table flying None none = λ sent recalls.
+    all-live test table.rest table.latest flying sent (all-same test table.commands (live table.rest table.latest sent) recalls none)
+
+length-count : (xs : List Outstanding) → count_by (λ c. true) xs ≡ length xs
+length-count [] = refl
+length-count (x ∷ xs) = count-cons (λ c. true) x xs ∙ rw (length-count xs) (omega arith)
+
+-- as many fly or rest
+pub length-recalled : (table : FlightTable) (sent : List Outstanding) (now : ℕ) → Recalls table sent → table.latest ≤ now → length (live_at table now) ≡ length (live table.rest now sent)
+length-recalled table sent now recalls later =
+    sym (length-count (live_at table now)) ∙ same-at table sent now recalls later (λ c. true) ∙ length-count (live table.rest now sent)
+
+any-none : (test : Outstanding → Bool) (xs : List Outstanding) → list_any test xs ≡ false → All (λ c. test c ≡ false) xs
+any-none test [] none = All-nil (λ c. test c ≡ false)
+any-none test (x ∷ xs) none =
+    let parts = or_parts (test x) (list_any test xs) none in
+    All-cons (λ c. test c ≡ false) x xs parts.0 (any-none test xs parts.1)
+
+none-any : (test : Outstanding → Bool) (xs : List Outstanding) → All (λ c. test c ≡ false) xs → list_any test xs ≡ false
+none-any test [] all = refl
+none-any test (x ∷ xs) all = rw (All-head (λ c. test c ≡ false) x xs all) (none-any test xs (All-tail (λ c. test c ≡ false) x xs all))
+
+-- a tag that no command of the table has is free among all
+pub free-recalled : (table : FlightTable) (sent : List Outstanding) (now tag : ℕ) → Recalls table sent → table.latest ≤ now → is_taken (live_at table now) tag ≡ false → is_taken (live table.rest now sent) tag ≡ false
+free-recalled table sent now tag recalls later free =
+    none-any (has_tag tag) (live table.rest now sent) (all-same (has_tag tag) (live_at table now) (live table.rest now sent) (same-at table sent now recalls later) (any-none (has_tag tag) (live_at table now) free))
+
+find-there : (test : Outstanding → Bool) (c : Outstanding) (xs : List Outstanding) → find test xs ≡ Some c → Contains xs c × (test c ≡ true)
+find-there test c [] is = absurd cc
+find-there test c (x ∷ xs) is = at (test x) refl is (find-there test c xs)
+  where
+    at : (b : Bool) → test x ≡ b → cond b (Some x) (find test xs) ≡ Some c → (find test xs ≡ Some c → Contains xs c × (test c ≡ true)) → Contains (x ∷ xs) c × (test c ≡ true)
+    at true passes some rest = let same : x ≡ c = cc in ((0, omega arith, same), ap test (sym same) ∙ passes)
+    at false passes some rest = (Contains-cons x c xs (rest some).0, (rest some).1)
+
+find-none : (test : Outstanding → Bool) (xs : List Outstanding) → find test xs ≡ None → All (λ c. test c ≡ false) xs
+find-none test [] is = All-nil (λ c. test c ≡ false)
+find-none test (x ∷ xs) is = at (test x) refl is (find-none test xs)
+  where
+    at : (b : Bool) → test x ≡ b → cond b (Some x) (find test xs) ≡ None → (find test xs ≡ None → All (λ c. test c ≡ false) xs) → All (λ c. test c ≡ false) (x ∷ xs)
+    at true passes some rest = absurd cc
+    at false passes some rest = All-cons (λ c. test c ≡ false) x xs passes (rest some)
+
+-- the command that a test of flying commands finds
+pub found-recalled : (test : Outstanding → Bool) (table : FlightTable) (c : Outstanding) → find test table.commands ≡ Some c → (sent : List Outstanding) → Recalls table sent → Contains sent c × (test c ≡ true)
+found-recalled test table c is sent recalls =
+    let found = find-there test c table.commands is in
+    (Contains-live_all table.rest table.latest sent c (Contains-same table.commands (live table.rest table.latest sent) c recalls found.0), found.1)
+
+pub not-found-recalled : (test : Outstanding → Bool) (table : FlightTable) → ((c : Outstanding) → c.finished ≡ true → test c ≡ false) → find test table.commands ≡ None → (sent : List Outstanding) → Recalls table sent → All (λ c. test c ≡ false) sent
+not-found-recalled test table flying is sent recalls =
+    all-live test table.rest table.latest flying sent (all-same test table.commands (live table.rest table.latest sent) recalls (find-none test table.commands is))
+
+-- what is known of a flying command, by the command that was sent
+pub flying-recalled : (test : Outstanding → Bool) (table : FlightTable) (o : Option Outstanding) (f : Flying) → find test table.commands ≡ o → option_map (λ c. c.flying) o ≡ Some f
+    → (sent : List Outstanding) → Recalls table sent → (c : Outstanding) × Contains sent c × (test c ≡ true) × (c.flying ≡ f)
+flying-recalled test table None f is mapped sent recalls = absurd cc
+flying-recalled test table (Some c) f is mapped sent recalls =
+    let found = found-recalled test table c is sent recalls in
+    (c, found.0, found.1, cc)
+
+-- the flying command with a tag, if there is one
+pub match-recalled : (test : Outstanding → Bool) (table : FlightTable) (o : Option Outstanding) (result : Option Ticket) → find test table.commands ≡ o → result ≡ option_map (λ c. c.ticket) o
+    → IfSome result (λ ticket. (sent : List Outstanding) → Recalls table sent → (c : Outstanding) × (c.ticket ≡ ticket) × Contains sent c × (test c ≡ true))
+match-recalled test table o None is mapped = tt
+match-recalled test table None (Some ticket) is mapped = absurd cc
+match-recalled test table (Some c) (Some ticket) is mapped = λ sent recalls.
+    let found = found-recalled test table c is sent recalls in
+    (c, cc, found.0, found.1)
+
+pub no-match-recalled : (test : Outstanding → Bool) (table : FlightTable) → ((c : Outstanding) → c.finished ≡ true → test c ≡ false) → (o : Option Outstanding) (result : Option Ticket) → find test table.commands ≡ o
+    → result ≡ option_map (λ c. c.ticket) o → IfNone result ((sent : List Outstanding) → Recalls table sent → All (λ c. test c ≡ false) sent)
+no-match-recalled test table flying o (Some ticket) is mapped = tt
+no-match-recalled test table flying None None is mapped = not-found-recalled test table flying is
+no-match-recalled test table flying (Some c) None is mapped = absurd cc
+
+once : (test : Outstanding → Bool) (xs : List Outstanding) (a b : Outstanding) → count_by test xs ≤ 1 → Contains xs a → test a ≡ true → Contains xs b → test b ≡ true → a ≡ b
+once test [] a b few in_a is_a in_b is_b = absurd (omega (arith, in_a.1))
+once test (x ∷ xs) a b few in_a is_a in_b is_b = elim (Contains-cons_cases x a xs in_a) [
+  | inl here_a ↦ elim (Contains-cons_cases x b xs in_b) [
+    | inl here_b ↦ sym here_a ∙ here_b
+    | inr behind_b ↦ absurd (omega (arith, few, count-yes test x xs (ap test here_a ∙ is_a), some-counted test xs b behind_b is_b))
+  ]
+  | inr behind_a ↦ elim (Contains-cons_cases x b xs in_b) [
+    | inl here_b ↦ absurd (omega (arith, few, count-yes test x xs (ap test here_b ∙ is_b), some-counted test xs a behind_a is_a))
+    | inr behind_b ↦ once test xs a b (omega (arith, few, count-cons test x xs)) behind_a is_a behind_b is_b
+  ]
+]
+
+flies-parts : (tag : ℕ) (c : Outstanding) → flies_with tag c ≡ true → (c.finished ≡ false) × (has_tag tag c ≡ true)
+flies-parts tag c is =
+    let parts = and_parts (not c.finished) (nat_eq c.flying.tag tag) is in
+    (not-true c.finished parts.0, parts.1)
+
+-- of all commands that were sent, one at most flies with a tag
+pub tagged-once : (table : FlightTable) (sent : List Outstanding) (tag : ℕ) (a b : Outstanding) → Recalls table sent → tag_count table.commands tag ≤ 1 → Contains sent a → flies_with tag a ≡ true → Contains sent b → flies_with tag b ≡ true → a ≡ b
+tagged-once table sent tag a b recalls few in_a is_a in_b is_b =
+    let of_a = flies-parts tag a is_a in
+    let of_b = flies-parts tag b is_b in
+    once (has_tag tag) (live table.rest table.latest sent) a b (omega (arith, few, recalls (has_tag tag))) (Contains-live table.rest table.latest sent a of_a.0 in_a) of_a.1
+    (Contains-live table.rest table.latest sent b of_b.0 in_b) of_b.1

@@ -1,0 +1,10 @@
+mod AnswerLemmas
+mod DeviceLemmas
+mod ListLemmas
+mod LogLemmas
+mod MatchLemmas
+mod NextLemmas
+mod RequestLemmas
+mod SoundLemmas
+mod StepLemmas
+mod TakeLemmas

@@ -1,0 +1,149 @@
+-- What is true of what a host keeps stays true.
+use Rattle.std.proofs.Common.{ℕ, zero, suc, ◌≡◌, ◌+◌, ◌<◌, ◌≤◌, List, [], ◌∷◌, ◌++◌, length, map, Option, sym, subst, arith}
+use Rattle.std.specs.Prelude.{All}
+use Rattle.std.specs.List.{remove}
+use Rattle.std.specs.Option.{ForSome}
+use Rattle.std.proofs.lemmas.List.{length-append, length-map}
+use Rattle.std.proofs.lemmas.List.Elements.{All-map, All-push, All-weaker}
+use Rattle.aoe_base.specs.declared.address.Mac.{Mac}
+use Rattle.aoe_base.specs.declared.counted.Millis.{Millis}
+use Rattle.aoe_base.specs.declared.counted.Ticket.{Ticket}
+use Rattle.aoe_hold.specs.declared.command.Command.{Command}
+use Rattle.aoe_flight.specs.FlightTable.{FlightTable}
+use Rattle.aoe_initiator.specs.declared.device.Device.{Device}
+use Rattle.aoe_initiator.specs.declared.outcome.Done.{Done}
+use Rattle.aoe_initiator.specs.declared.pending.Pending.{Pending}
+use Rattle.aoe_initiator.specs.Devices.{change_at, device_at, device_finished, device_sent}
+use Rattle.aoe_initiator.specs.Host.{IsAttached, IsReady, IsSound}
+use Rattle.aoe_initiator.proofs.DeviceLemmas.{device_entered, length-change_at, All-change_at}
+use Rattle.aoe_initiator.proofs.ListLemmas.{All-remove}
+
+up-to : (o : Option ℕ) (last later : ℕ) → last ≤ later → ForSome o (λ g. g ≤ last) → ForSome o (λ g. g ≤ later)
+up-to o last later more is = λ g at. omega (arith, more, is g at)
+
+attached-later : (now last later last_later : ℕ) (d : Device) → now ≤ later → last ≤ last_later → IsAttached now last d → IsAttached later last_later d
+attached-later now last later last_later d more above a = record {
+  port = a.port;
+  total = a.total;
+  max = a.max;
+  time = omega (arith, a.time, more);
+  ticket = up-to d.holds.greatest last last_later above a.ticket;
+}
+
+attached-at : (now last : ℕ) (d : Device) → IsAttached now last d → IsAttached now last (device_at now d)
+attached-at now last d a = record { port = a.port; total = a.total; max = a.max; time = omega arith; ticket = a.ticket }
+
+attached-sent : (last : ℕ) (t : Ticket) (now : Millis) (d : Device) → IsAttached now.0 last d → IsAttached now.0 last (device_sent t now d)
+attached-sent last t now d a = record { port = a.port; total = a.total; max = a.max; time = omega arith; ticket = a.ticket }
+
+attached-finished : (now last : ℕ) (t : Ticket) (d : Device) → IsAttached now last d → IsAttached now last (device_finished t d)
+attached-finished now last t d a = record { port = a.port; total = a.total; max = a.max; time = a.time; ticket = a.ticket }
+
+attached-entered : (now last : ℕ) (c : Command) (d : Device) → c.ticket.0 ≤ last → IsAttached now last d → IsAttached now last (device_entered c d)
+attached-entered now last c d below a = record {
+  port = a.port;
+  total = a.total;
+  max = a.max;
+  time = a.time;
+  ticket = λ g at. let same : c.ticket.0 ≡ g = cc in omega (arith, same, below);
+}
+
+pub times-of : (now last : ℕ) (devices : List Device) → All (IsAttached now last) devices → All (λ d. d.holds.latest ≤ now) devices
+times-of now last devices all = All-weaker (IsAttached now last) (λ d. d.holds.latest ≤ now) (λ d a. a.time) devices all
+
+ready-more : (n m : ℕ) (pending : List Pending) → n ≤ m → All (IsReady n) pending → All (IsReady m) pending
+ready-more n m pending more all =
+    All-weaker (IsReady n) (IsReady m) (λ p ready. record { inside = omega (arith, ready.inside, more); spelled = ready.spelled; room = ready.room }) pending all
+
+pub length-remove : (xs : List Pending) (i : ℕ) → i < length xs → length (remove xs i) + 1 ≡ length xs
+length-remove [] i inside = absurd (omega (arith, inside))
+length-remove (x ∷ xs) zero inside = omega arith
+length-remove (x ∷ xs) (suc i) inside = omega (arith, length-remove xs i (omega (arith, inside)))
+
+pub sound-sent : (ports : List Mac) (last n : ℕ) (now : Millis) (t : Ticket) (flight after : FlightTable) (devices changed : List Device) (pending : List Pending) (waiting : List Done) (capacity : ℕ)
+    → after.latest ≤ now.0 → changed ≡ change_at n (device_sent t now) devices → IsSound ports now.0 last flight devices pending waiting capacity → IsSound ports now.0 last after changed pending waiting capacity
+sound-sent ports last n now t flight after devices changed pending waiting capacity time is s =
+    let P : List Device → Type 0 = λ l. IsSound ports now.0 last after l pending waiting capacity in
+    let same : length (change_at n (device_sent t now) devices) ≡ length devices = length-change_at n (device_sent t now) devices in
+    subst P (sym is) (record {
+      port = s.port;
+      time = time;
+      attached = All-change_at (IsAttached now.0 last) n (device_sent t now) devices (attached-sent last t now) s.attached;
+      ready = ready-more (length devices) (length (change_at n (device_sent t now) devices)) pending (omega (arith, same)) s.ready;
+      reserved = s.reserved;
+    })
+
+pub sound-cleared : (ports : List Mac) (now last : ℕ) (flight : FlightTable) (devices changed : List Device) (pending : List Pending) (waiting : List Done) (capacity : ℕ)
+    → changed ≡ map (device_at now) devices → IsSound ports now last flight devices pending waiting capacity → IsSound ports now last flight changed pending waiting capacity
+sound-cleared ports now last flight devices changed pending waiting capacity is s =
+    let P : List Device → Type 0 = λ l. IsSound ports now last flight l pending waiting capacity in
+    let same : length (map (device_at now) devices) ≡ length devices = length-map devices (device_at now) in
+    subst P (sym is) (record {
+      port = s.port;
+      time = s.time;
+      attached = All-map (IsAttached now last) (device_at now) devices (All-weaker (IsAttached now last) (λ d. IsAttached now last (device_at now d)) (attached-at now last) devices s.attached);
+      ready = ready-more (length devices) (length (map (device_at now) devices)) pending (omega (arith, same)) s.ready;
+      reserved = s.reserved;
+    })
+
+pub sound-closed : (ports : List Mac) (now last n at : ℕ) (t : Ticket) (flight after : FlightTable) (devices changed : List Device) (pending left : List Pending) (waiting more : List Done) (done : Done) (capacity capacity_after : ℕ)
+    → after.latest ≤ now → changed ≡ change_at n (device_finished t) devices → left ≡ remove pending at → more ≡ waiting ++ done ∷ [] → capacity_after ≡ capacity → at < length pending
+    → IsSound ports now last flight devices pending waiting capacity → IsSound ports now last after changed left more capacity_after
+sound-closed ports now last n at t flight after devices changed pending left waiting more done capacity capacity_after time is left_is more_is same_capacity inside s =
+    let P : List Device → List Pending → List Done → ℕ → Type 0 = λ ds ps ws c. IsSound ports now last after ds ps ws c in
+    let same : length (change_at n (device_finished t) devices) ≡ length devices = length-change_at n (device_finished t) devices in
+    let one_more : length (waiting ++ done ∷ []) ≡ length waiting + 1 = length-append waiting (done ∷ []) in
+    let whole : IsSound ports now last after (change_at n (device_finished t) devices) (remove pending at) (waiting ++ done ∷ []) capacity = record {
+      port = s.port;
+      time = time;
+      attached = All-change_at (IsAttached now last) n (device_finished t) devices (attached-finished now last t) s.attached;
+      ready = ready-more (length devices) (length (change_at n (device_finished t) devices)) (remove pending at) (omega (arith, same)) (All-remove (IsReady (length devices)) pending at inside s.ready);
+      reserved = omega (arith, s.reserved, length-remove pending at inside, one_more);
+    } in
+    rw (is, left_is, more_is, same_capacity) whole
+
+-- there is room for the outcome of a pending command
+pub room-for-one : (ports : List Mac) (now last at : ℕ) (flight : FlightTable) (devices : List Device) (pending : List Pending) (waiting : List Done) (capacity : ℕ) → at < length pending
+    → IsSound ports now last flight devices pending waiting capacity → length waiting < capacity
+room-for-one ports now last at flight devices pending waiting capacity inside s = omega (arith, inside, s.reserved)
+
+pub sound-attached : (ports : List Mac) (now last : ℕ) (flight : FlightTable) (devices more : List Device) (d : Device) (pending : List Pending) (waiting : List Done) (capacity : ℕ)
+    → more ≡ devices ++ d ∷ [] → IsAttached now last d → IsSound ports now last flight devices pending waiting capacity → IsSound ports now last flight more pending waiting capacity
+sound-attached ports now last flight devices more d pending waiting capacity is new s =
+    let P : List Device → Type 0 = λ l. IsSound ports now last flight l pending waiting capacity in
+    let one_more : length (devices ++ d ∷ []) ≡ length devices + 1 = length-append devices (d ∷ []) in
+    subst P (sym is) (record {
+      port = s.port;
+      time = s.time;
+      attached = All-push (IsAttached now last) devices d s.attached new;
+      ready = ready-more (length devices) (length (devices ++ d ∷ [])) pending (omega (arith, one_more)) s.ready;
+      reserved = s.reserved;
+    })
+
+pub sound-submitted : (ports : List Mac) (now last next n : ℕ) (flight : FlightTable) (devices changed : List Device) (c : Command) (pending more : List Pending) (p : Pending) (waiting same_waiting : List Done) (capacity capacity_after : ℕ)
+    → next ≡ last + 1 → c.ticket.0 ≡ next → changed ≡ change_at n (device_entered c) devices → more ≡ pending ++ p ∷ [] → same_waiting ≡ waiting → length waiting + length pending + 1 ≤ capacity_after → IsReady (length devices) p
+    → IsSound ports now last flight devices pending waiting capacity → IsSound ports now next flight changed more same_waiting capacity_after
+sound-submitted ports now last next n flight devices changed c pending more p waiting same_waiting capacity capacity_after next_is ticket_is is more_is waiting_is room ready s =
+    let same : length (change_at n (device_entered c) devices) ≡ length devices = length-change_at n (device_entered c) devices in
+    let one_more : length (pending ++ p ∷ []) ≡ length pending + 1 = length-append pending (p ∷ []) in
+    let later : All (IsAttached now next) devices = All-weaker (IsAttached now last) (IsAttached now next) (λ d a. attached-later now last now next d (omega arith) (omega (arith, next_is)) a) devices s.attached in
+    let whole : IsSound ports now next flight (change_at n (device_entered c) devices) (pending ++ p ∷ []) waiting capacity_after = record {
+      port = s.port;
+      time = s.time;
+      attached = All-change_at (IsAttached now next) n (device_entered c) devices (λ d a. attached-entered now next c d (omega (arith, ticket_is)) a) later;
+      ready = All-push (IsReady (length (change_at n (device_entered c) devices))) pending p
+          (ready-more (length devices) (length (change_at n (device_entered c) devices)) pending (omega (arith, same)) s.ready)
+          (record { inside = omega (arith, ready.inside, same); spelled = ready.spelled; room = ready.room });
+      reserved = omega (arith, room, one_more);
+    } in
+    rw (is, more_is, waiting_is) whole
+
+pub sound-advanced : (ports : List Mac) (now later last : ℕ) (flight : FlightTable) (devices : List Device) (pending : List Pending) (waiting : List Done) (capacity : ℕ) → now ≤ later
+    → IsSound ports now last flight devices pending waiting capacity → IsSound ports later last flight devices pending waiting capacity
+sound-advanced ports now later last flight devices pending waiting capacity more s = record {
+  port = s.port;
+  time = omega (arith, s.time, more);
+  attached = All-weaker (IsAttached now last) (IsAttached later last) (λ d a. attached-later now last later last d more (omega arith) a) devices s.attached;
+  ready = s.ready;
+  reserved = s.reserved;
+}

@@ -1,0 +1,31 @@
+use Rattle.std.proofs.Common.{◌<◌, length, ap, sym, subst, arith}
+use Rattle.aoe_flight.specs.FlightTable.{FlightTable}
+use Rattle.aoe_initiator.specs.declared.outcome.Done.{Done}
+use Rattle.aoe_initiator.specs.declared.outcome.Outcome.TheVariants.{GaveUp}
+use Rattle.aoe_initiator.specs.declared.pending.Pending.{Pending}
+use Rattle.aoe_initiator.specs.Host.{Host}
+use Rattle.aoe_initiator.proofs.SoundLemmas.{sound-closed}
+use Rattle.aoe_initiator.proofs.StepLemmas.{closes-from}
+use Rattle.aoe_initiator.proofs.initiator.Initiator.give_up.Goals as goal
+
+pub invariant_of-self : goal.invariant_of-self
+invariant_of-self c =
+    let p : Pending = c.close-command.result in
+    let done : Done = record { ticket = p.ticket; outcome = GaveUp c.flying.result.first c.self.inside.clock } in
+    let P : Host → Type 0 = λ h. c.args.at < length h.pending in
+    let inside : c.args.at < length c.self.inside.pending.items = subst P (sym c.self.view_is) c.requires.there in
+    let time = ap (λ (t : FlightTable). t.latest) c.close-command.ensures.flight in
+    sound-closed _ c.self.inside.clock.0 _ p.device.0 c.args.at p.ticket c.self.inside.flight c.close-command.new.flight c.self.inside.devices.items c.close-command.new.devices.items
+    c.self.inside.pending.items c.close-command.new.pending.items c.self.inside.done.items c.push_back_reserved.new.self.items done _ _
+    (omega (arith, time, c.self.invariant.time)) c.close-command.ensures.devices c.close-command.ensures.pending c.push_back_reserved.ensures.items c.push_back_reserved.ensures.capacity inside c.self.invariant
+
+pub returns : goal.returns
+returns c =
+    let p : Pending = c.close-command.result in
+    let P : Host → Type 0 = λ h. c.args.at < length h.pending in
+    let inside : c.args.at < length c.self.inside.pending.items = subst P (sym c.self.view_is) c.requires.there in
+    rw (← c.self.view_is) (
+      c.flying.result,
+      c.flying.ensures.value,
+      closes-from _ c.args.at p (GaveUp c.flying.result.first c.self.inside.clock) _ _ _ _ inside c.close-command.ensures.command c.close-command.ensures.flight c.close-command.ensures.devices c.close-command.ensures.pending c.push_back_reserved.ensures.items,
+    )

@@ -1,0 +1,215 @@
+//! The one frame that asks for an operation.
+ghost use Rattle.std.specs.Prelude.{◌≡◌, ◌+◌, ◌*◌, ◌≤◌, ◌<◌, ◌^◌, ◌++◌, Some, length};
+ghost use Rattle.arrayvec.specs.ArrayVec.{array_vec_len};
+ghost use Rattle.aoe_ata.specs.Args.{args_bytes};
+ghost use Rattle.aoe_ata.specs.Command.{code_of};
+ghost use Rattle.aoe_frame.specs.Header.{head};
+ghost use Rattle.aoe_initiator.specs.Request.{arguments, config_bytes, mask_bytes, registers_of, request, request_header, reserve_bytes, write_bytes, CanSpell};
+
+use crate::op::{Dir, Op, SECTOR_LEN};
+use aoe_ata::{AFLAG_EXTENDED, AFLAG_WRITE, AtaArgs, CommandCode, write_args};
+use aoe_base::{Mac, Span, TargetId};
+use aoe_frame::{Frame, Header, append, pad, write_header};
+
+/// DCmd: the address is added.
+const DIR_ADD: u8 = 1;
+
+/// DCmd: the address is taken out.
+const DIR_DELETE: u8 = 2;
+
+/// The registers of a command on these sectors.
+fn registers(aflags: u8, code: CommandCode, span: Span) -> AtaArgs
+    requires { span.count < 2 ^ 8 }
+    ensures { result ≡ registers_of aflags (code_of code) span }
+{
+    AtaArgs {
+        aflags,
+        feature: 0,
+        count: span.count as u8,
+        code: code.code(),
+        lba: span.at,
+    }
+}
+
+/// Appends the registers of a command on these sectors.
+fn append_registers(aflags: u8, code: CommandCode, span: Span, out: &mut Frame)
+    requires address { span.at < 2 ^ 48 }
+    requires count { span.count < 2 ^ 8 }
+    requires room { array_vec_len out.old + 12 ≤ 9018 }
+    ensures bytes { out.new.items ≡ out.old.items ++ args_bytes (registers_of aflags (code_of code) span) }
+    ensures len { length out.new.items ≡ length out.old.items + 12 }
+{
+    write_args(&registers(aflags, code, span), out);
+}
+
+/// Appends the arguments of a query config request with a string of at most 1024 bytes.
+pub fn append_config_args(ccmd: u8, text: &[u8], out: &mut Frame)
+    requires text { length text.now ≤ 1024 }
+    requires room { array_vec_len out.old + 8 + length text.now ≤ 9018 }
+    ensures { out.new.items ≡ out.old.items ++ config_bytes ccmd text.now }
+{
+    append(out, &[0, 0, 0, 0, 0, ccmd]);
+    append(out, &(text.len() as u16).to_be_bytes());
+    append(out, text);
+}
+
+/// Appends the arguments of a mask list request.
+pub fn append_mask_args(edit: bool, dirs: &[Dir], out: &mut Frame)
+    requires few { length dirs.now ≤ 64 }
+    requires room { array_vec_len out.old + 4 + 8 * length dirs.now ≤ 9018 }
+    ensures { out.new.items ≡ out.old.items ++ mask_bytes edit dirs.now }
+{
+    append(out, &[0, u8::from(edit), 0, dirs.len() as u8]);
+    'dirs: for dir in dirs {
+        append(out, &[0, if dir.add { DIR_ADD } else { DIR_DELETE }]);
+        append(out, &dir.mac.0);
+    }
+}
+
+/// Appends the arguments of a reserve request.
+pub fn append_reserve_args(rcmd: u8, list: &[Mac], out: &mut Frame)
+    requires few { length list.now ≤ 64 }
+    requires room { array_vec_len out.old + 2 + 6 * length list.now ≤ 9018 }
+    ensures { out.new.items ≡ out.old.items ++ reserve_bytes rcmd list.now }
+{
+    append(out, &[rcmd, list.len() as u8]);
+    'addresses: for address in list {
+        append(out, &address.0);
+    }
+}
+
+/// Appends the registers of a write and its sectors.
+fn append_write(at: u64, bytes: &[u8], out: &mut Frame)
+    requires address { at < 2 ^ 48 }
+    requires few { length bytes.now ≤ 8704 }
+    requires room { array_vec_len out.old + 12 + length bytes.now ≤ 9018 }
+    ensures { out.new.items ≡ out.old.items ++ write_bytes at bytes.now }
+{
+    let span = Span {
+        at,
+        count: (bytes.len() / SECTOR_LEN) as u32,
+    };
+    append_registers(
+        AFLAG_EXTENDED | AFLAG_WRITE,
+        CommandCode::WriteSectorsExt,
+        span,
+        out,
+    );
+    append(out, bytes);
+}
+
+/// Appends what stands behind the header.
+fn append_arguments(op: &Op, out: &mut Frame)
+    requires spelled { CanSpell op.now }
+    requires room { length out.old.items ≡ 24 }
+    ensures { out.new.items ≡ out.old.items ++ arguments op.now }
+{
+    let nowhere = Span { at: 0, count: 0 };
+    match op {
+        Op::Read(span) => {
+            append_registers(AFLAG_EXTENDED, CommandCode::ReadSectorsExt, *span, out);
+        }
+        Op::Write { at, bytes } => append_write(*at, bytes.bytes(), out),
+        Op::Flush => append_registers(AFLAG_EXTENDED, CommandCode::FlushCacheExt, nowhere, out),
+        Op::Identify => {
+            let page = Span { at: 0, count: 1 };
+            append_registers(0, CommandCode::IdentifyDevice, page, out);
+        }
+        Op::Config { ccmd, text } => append_config_args(*ccmd, text.bytes(), out),
+        Op::Masks { edit, dirs } => append_mask_args(*edit, dirs.as_slice(), out),
+        Op::Reserve { rcmd, list } => append_reserve_args(*rcmd, list.as_slice(), out),
+    }
+}
+
+/// Makes `out` the frame that asks the device `id` for the operation, from the port `local` of
+/// the host to the port `remote` of the device.
+#[tactic(auto, unfolding(crate::specs::Request::request))]
+pub fn write_request(op: &Op, id: TargetId, remote: Mac, local: Mac, tag: u32, out: &mut Frame)
+    requires { CanSpell op.now }
+    ensures bytes { out.new.items ≡ request op.now id remote local tag }
+    ensures read { head out.new.items ≡ Some (request_header op.now id remote local tag) }
+{
+    let header = Header {
+        dst: remote,
+        src: local,
+        version: 1,
+        flags: 0,
+        error: 0,
+        id,
+        command: op.command(),
+        tag,
+    };
+    write_header(&header, out);
+    append_arguments(op, out);
+    pad(out);
+}
+
+#[cfg(test)]
+mod tests {
+    use super::*;
+    use aoe_base::Blob;
+    use arrayvec::ArrayVec;
+    use std::test::Fail;
+
+    const A: Mac = Mac([2, 0, 0, 0, 0, 0x0a]);
+
+    const B: Mac = Mac([2, 0, 0, 0, 0, 0x0b]);
+
+    /// The frame that asks for an operation.
+    fn asked(op: &Op) -> Frame
+        requires { CanSpell op.now }
+    {
+        let mut out = Frame::new();
+        write_request(op, TargetId { major: 1, minor: 0 }, B, A, 7, &mut out);
+        out
+    }
+
+    #[test]
+    fn spells_requests(rt: HostRuntime) -> Result<(), Fail> {
+        let read = asked(&Op::Read(Span { at: 15, count: 2 }));
+        assert_eq!(rt; read.len(), 60);
+        let registers = [0x40, 0, 2, 0x24, 15, 0, 0, 0, 0, 0, 0, 0];
+        assert_eq!(rt; read.get(24..36), Some(registers.as_slice()));
+        let registers = [0x40, 0, 0, 0xea, 0, 0, 0, 0, 0, 0, 0, 0];
+        assert_eq!(rt; asked(&Op::Flush).get(24..36), Some(registers.as_slice()));
+        let registers = [0, 0, 1, 0xec, 0, 0, 0, 0, 0, 0, 0, 0];
+        assert_eq!(rt;
+            asked(&Op::Identify).get(24..36),
+            Some(registers.as_slice())
+        );
+
+        let text = Blob::of(rt.alloc(), b"ab")?;
+        let config = asked(&Op::Config { ccmd: 3, text });
+        let args = [0, 0, 0, 0, 0, 3, 0, 2, b'a', b'b', 0, 0];
+        assert_eq!(rt; config.get(24..36), Some(args.as_slice()));
+
+        let mut dirs = ArrayVec::new();
+        dirs.push(Dir { add: true, mac: A });
+        dirs.push(Dir { add: false, mac: B });
+        let masks = asked(&Op::Masks { edit: true, dirs });
+        let args = [
+            0, 1, 0, 2, 0, 1, 2, 0, 0, 0, 0, 0x0a, 0, 2, 2, 0, 0, 0, 0, 0x0b,
+        ];
+        assert_eq!(rt; masks.get(24..44), Some(args.as_slice()));
+
+        let mut list = ArrayVec::new();
+        list.push(A);
+        let reserve = asked(&Op::Reserve { rcmd: 1, list });
+        let args = [1, 1, 2, 0, 0, 0, 0, 0x0a];
+        assert_eq!(rt; reserve.get(24..32), Some(args.as_slice()));
+        Ok(())
+    }
+
+    #[test]
+    fn spells_a_write(rt: HostRuntime) -> Result<(), Fail> {
+        let bytes = Blob::of(rt.alloc(), &[0x5a; 512])?;
+        let out = asked(&Op::Write { at: 3, bytes });
+        let begin = [
+            2, 0, 0, 0, 0, 0x0b, 2, 0, 0, 0, 0, 0x0a, 0x88, 0xa2, 0x10, 0, 0, 1, 0, 0, 0, 0, 0, 7,
+            0x41, 0, 1, 0x34, 3, 0, 0, 0, 0, 0, 0, 0,
+        ];
+        assert_eq!(rt; out.get(..36), Some(begin.as_slice()));
+        assert_eq!(rt; out.get(36..), Some([0x5a; 512].as_slice()));
+        Ok(())
+    }
+}

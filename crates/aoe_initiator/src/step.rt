@@ -1,0 +1,23 @@
+//! What the steps of a host answer.
+use aoe_base::{PathNo, Ticket};
+
+/// A frame of a command that is to be sent.
+#[derive(Clone, Copy, Debug, PartialEq, Eq)]
+pub struct Sent {
+    pub ticket: Ticket,
+    pub tag: u32,
+    pub path: PathNo,
+
+    /// Whether a frame of the command was sent before.
+    pub again: bool,
+}
+
+/// What became of a frame that a host was handed.
+#[derive(Clone, Copy, Debug, PartialEq, Eq)]
+pub enum Taken {
+    /// The command has its outcome.
+    Finished(Ticket),
+
+    /// It is no response to a command that waits for one.
+    Stale,
+}

@@ -1,0 +1,5 @@
+mod SlotLemmas
+mod RunLemmas
+mod TurnLemmas
+mod LinkLemmas
+mod ShelfLinkLemmas

@@ -1,0 +1,46 @@
+-- The slots of a shelf, and what a frame does to each.
+use Rattle.std.specs.Prelude.{ℕ, ◌≡◌, ◌≤◌, List, map, length, slice_get, Some, true, false}
+use Rattle.aoe_base.specs.Faults.{Rose}
+use Rattle.aoe_disk.specs.State.{DiskState}
+use Rattle.aoe_target.specs.Device.{Device, State, Holds}
+use Rattle.aoe_target.specs.History.{Met, IsLawful, IsCounted, count_failed, is_cut, keep_failed, left_by, store_failed}
+use Rattle.aoe_target.specs.Law.{Fate, IsStep}
+use Rattle.aoe_target.specs.Mounted.{Mounted, device_of}
+use Rattle.aoe_target.specs.declared.station.Station.{Station}
+
+-- what never changes of a target, and its device
+pub record Slot : Type 0 where
+  pub station : Station
+  pub device : Device
+
+-- the slots of a shelf with these targets
+abbrev pub slot_of : {S D : Type 0} → (S → DiskState) → (D → DiskState) → Mounted S D → Slot
+slot_of store keep target = record { station = target.station; device = device_of store keep target }
+
+abbrev pub slots_of : {S D : Type 0} → (S → DiskState) → (D → DiskState) → List (Mounted S D) → List Slot
+slots_of store keep targets = map (slot_of store keep) targets
+
+-- R of each slot before and after
+pub record EachSlot (R : ℕ → Slot → Slot → Type 0) (old new : List Slot) : Type 0 where
+  pub count : length new ≡ length old
+  pub each : (i : ℕ) (a b : Slot) → slice_get old i ≡ Some a → slice_get new i ≡ Some b → R i a b
+
+-- a frame came to a slot: what became of it is a step of the shelf law over all that is known of the device, the power held, and a
+-- fault is one that its disk counted
+pub record Meets (a b : Slot) (frame : List ℕ) (fate : Fate) : Type 0 where
+  pub station : b.station ≡ a.station
+  pub step : (k : State) → Holds a.device k → IsStep a.station k frame fate b.device
+  pub uncut : is_cut fate ≡ false
+  pub store_later : a.device.store.faults ≤ b.device.store.faults
+  pub store_fault : store_failed fate ≡ true → Rose a.device.store.faults b.device.store.faults
+  pub keep_later : a.device.keep.faults ≤ b.device.keep.faults
+  pub keep_fault : keep_failed fate ≡ true → Rose a.device.keep.faults b.device.keep.faults
+
+-- frames came to a slot: what became of them is lawful for all that was known of the device, which is as they leave it, and each fault
+-- is one that its disk counted
+pub record IsServed (a b : Slot) (h : List Met) : Type 0 where
+  pub station : b.station ≡ a.station
+  pub lawful : (k : State) → Holds a.device k → IsLawful a.station k h
+  pub holds : (k : State) → Holds a.device k → Holds b.device (left_by a.station k h)
+  pub store_faults : IsCounted (count_failed store_failed h) a.device.store b.device.store
+  pub keep_faults : IsCounted (count_failed keep_failed h) a.device.keep b.device.keep

@@ -1,0 +1,75 @@
+//! The loop of `serve`: a frame from the link, its replies to the link.
+ghost use Rattle.std.specs.Prelude.{◌≡◌, ◌≤◌, List, OnErr, Ok, Err};
+ghost use Rattle.aoe_base.specs.Faults.{Rose};
+ghost use Rattle.aoe_io.specs.Link.{Turn};
+ghost use Rattle.aoe_serve.specs.Serving.{Sent, Served, Turned, Waited};
+ghost use Rattle.aoe_serve.specs.Slots.{slots_of};
+
+use crate::link_rounds::send_round;
+use aoe_base::Failed;
+use aoe_disk::Disk;
+use aoe_frame::Frame;
+use aoe_io::{Got, Link};
+use aoe_shelf::Shelf;
+use aoe_store::Store;
+
+/// How a run of `serve` ended.
+#[derive(Clone, Copy, Debug, PartialEq, Eq)]
+pub enum ServeEnd {
+    /// As many frames came as were asked for, as many turns in a row were quiet, or the link ended.
+    Ended,
+
+    /// The link failed.
+    LinkFault,
+}
+
+/// Waits for a frame for up to `idle` turns, and says what the last turn was.
+fn wait<L: Link>(link: &mut L, idle: u32, out: &mut Frame) -> Result<Got, Failed>
+    ensures waited { (turns : List Turn) × Waited result idle out.new.items turns
+        × Turned (L.turns link.old) (L.turns link.new) (L.given link.old) (L.given link.new) turns }
+    ensures taken { L.taken link.new ≡ L.taken link.old }
+    ensures count { L.faults link.old ≤ L.faults link.new }
+    ensures cause { OnErr result (Rose (L.faults link.old) (L.faults link.new)) }
+{
+    'turns: for turn in 0..idle {
+        match link.recv(out) {
+            Ok(Got::Quiet) => {}
+            Ok(Got::Frame) => return Ok(Got::Frame),
+            Ok(Got::Ended) => return Ok(Got::Ended),
+            Err(Failed) => return Err(Failed),
+        }
+    }
+    Ok(Got::Quiet)
+}
+
+/// Gives each frame of the link to every slot in turn, and the replies to the link, until `frames`
+/// frames came or `idle` turns in a row were quiet, or the link ends or fails. Where it fails to take
+/// a reply, the slots behind still get the frame. Takes no memory.
+pub fn serve<S: Store, D: Disk, L: Link>(
+    shelf: &mut Shelf<S, D>,
+    link: &mut L,
+    frames: u32,
+    idle: u32,
+) -> ServeEnd
+    ensures run { Served result frames idle (L.turns link.old) (L.turns link.new) (L.given link.old) (L.given link.new) (L.taken link.old) (L.taken link.new)
+        (slots_of S.state D.state shelf.old.targets) (slots_of S.state D.state shelf.new.targets) }
+    ensures rest { shelf.new ≡ record shelf.old { targets = shelf.new.targets } }
+    ensures count { L.faults link.old ≤ L.faults link.new }
+    ensures cause { result ≡ ServeEnd.LinkFault → Rose (L.faults link.old) (L.faults link.new) }
+{
+    let mut request = Frame::new();
+    let mut reply = Frame::new();
+    'frames: for count in 0..frames {
+        match wait(link, idle, &mut request) {
+            Ok(Got::Frame) => {}
+            Ok(Got::Quiet) => return ServeEnd::Ended,
+            Ok(Got::Ended) => return ServeEnd::Ended,
+            Err(Failed) => return ServeEnd::LinkFault,
+        }
+        match send_round(shelf, request.as_slice(), &mut reply, link) {
+            Ok(()) => {}
+            Err(Failed) => return ServeEnd::LinkFault,
+        }
+    }
+    ServeEnd::Ended
+}

@@ -1,0 +1,81 @@
+//! The replies that wait to be given.
+ghost use Rattle.std.specs.Prelude.{◌≡◌, ◌≤◌, ◌++◌, [], ◌∷◌, drop, false, length, true, IfOk};
+ghost use Rattle.aoe_target.specs.Receive.{fate_of};
+ghost use Rattle.aoe_serve.specs.Arrivals.{reply_of};
+ghost use Rattle.aoe_serve.specs.ShelfLink.{with_room};
+
+use aoe_base::NoMemory;
+use aoe_frame::{Frame, refill};
+use aoe_target::Heard;
+use circular_buffer::HeapCircularBuffer;
+use std::alloc::Global;
+use std::marker::Model;
+
+/// The most replies that wait.
+const MAX_WAITING: usize = 64;
+
+/// The replies that wait, the first of them to be given first. All room is made by `new`.
+#[derive(Drop)]
+pub(crate) struct Replies {
+    frames: HeapCircularBuffer<Frame>,
+}
+
+impl Model for Replies {
+    ghost use Rattle.std.specs.Prelude.{◌≡◌, ◌≤◌, ℕ, List, length, map};
+
+    ghost Value = { List (List ℕ) };
+
+    ghost view = { λ replies. map (λ frame. frame.items) replies.frames.items };
+
+    ghost invariant = { λ replies. (replies.frames.capacity ≡ 64) × (length replies.frames.items ≤ 64) };
+}
+
+impl Replies {
+    /// None that wait.
+    pub(crate) fn new(alloc: Global) -> Result<Replies, NoMemory>
+        ensures { IfOk result (λ replies. replies ≡ []) }
+    {
+        match HeapCircularBuffer::with_capacity(alloc, MAX_WAITING) {
+            Ok(frames) => Ok(Replies { frames }),
+            Err(_) => Err(NoMemory),
+        }
+    }
+
+    /// Lets a reply wait behind the others, or loses it where there is no room.
+    fn push(&mut self, reply: &Frame)
+        ensures { self.new ≡ with_room (self.old ++ reply.now.items ∷ []) }
+    {
+        if self.frames.len() >= MAX_WAITING {
+            return;
+        }
+        let mut copy = Frame::new();
+        refill(&mut copy, reply.as_slice());
+        let _ = self.frames.try_push_back(copy);
+    }
+
+    /// Lets the reply to a frame wait, where there is one.
+    pub(crate) fn keep(&mut self, heard: Heard, reply: &Frame)
+        requires { length self.old ≤ 64 }
+        ensures { self.new ≡ with_room (self.old ++ reply_of (fate_of heard reply.now.items)) }
+    {
+        match heard {
+            Heard::Replied { .. } => self.push(reply),
+            Heard::Ignored | Heard::Silent => {}
+        }
+    }
+
+    /// Makes `out` the first reply, and waits with it no longer: false where none waits.
+    pub(crate) fn give(&mut self, out: &mut Frame) -> bool
+        ensures first { result ≡ true → self.old ≡ out.new.items ∷ self.new }
+        ensures empty { result ≡ false → self.old ≡ [] }
+        ensures left { self.new ≡ drop 1 self.old }
+    {
+        match self.frames.pop_front() {
+            Some(reply) => {
+                *out = reply;
+                true
+            }
+            None => false,
+        }
+    }
+}

@@ -1,0 +1,62 @@
+-- What one changed element leaves of a list, for loops over all slots.
+use Rattle.std.proofs.Common.{ℕ, zero, suc, ◌≡◌, ◌≢◌, ◌+◌, ◌<◌, List, [], ◌∷◌, ◌++◌, Some, length, take, drop, get_or, refl, sym, ap, subst, arith, ◌∙◌}
+use Rattle.std.specs.Prelude.{slice_get, slice_set}
+use Rattle.std.proofs.lemmas.List.{drop_more, drop-set, drop-set-lt, get_or-set_same, length-set, take-set, take_more_set}
+use Rattle.std.proofs.lemmas.Option.{get_or_from_slice_get, slice_get_read, slice_get_within}
+use Rattle.aoe_shelf.specs.Slot.{ChangesAt}
+
+-- the element that was read is changed
+pub changed : {X : Type 0} (slot : ℕ) (Change : X → X → Type 0) (items xs : List X) (x y : X) → items ≡ xs → slot < length xs → x ≡ get_or items slot x → Change x y
+    → ChangesAt slot Change xs (slice_set items slot y)
+changed slot Change items xs x y same inside read change = record {
+  before = x;
+  after = y;
+  found = slice_get_read xs (length xs) slot x refl inside (subst (λ ws. x ≡ get_or ws slot x) same read);
+  others = ap (λ ws. slice_set ws slot y) same;
+  change = change;
+}
+
+-- the slot is one of the list
+pub slot-within : {X : Type 0} (slot : ℕ) (Change : X → X → Type 0) (xs ys : List X) → ChangesAt slot Change xs ys → slot < length xs
+slot-within slot Change xs ys c = slice_get_within xs slot c.before c.found
+
+pub length-changed : {X : Type 0} (slot : ℕ) (Change : X → X → Type 0) (xs ys : List X) → ChangesAt slot Change xs ys → length ys ≡ length xs
+length-changed slot Change xs ys c = ap length c.others ∙ length-set xs slot c.after
+
+-- those in front of the slot stay
+pub take-changed : {X : Type 0} (slot : ℕ) (Change : X → X → Type 0) (xs ys : List X) → ChangesAt slot Change xs ys → take slot ys ≡ take slot xs
+take-changed slot Change xs ys c = ap (take slot) c.others ∙ take-set xs slot c.after
+
+-- those behind the slot stay
+pub drop-changed : {X : Type 0} (slot : ℕ) (Change : X → X → Type 0) (xs ys : List X) → ChangesAt slot Change xs ys → drop (slot + 1) ys ≡ drop (slot + 1) xs
+drop-changed slot Change xs ys c = ap (drop (slot + 1)) c.others ∙ drop-set-lt (slot + 1) xs slot c.after (omega (arith))
+
+-- those from the slot on, before and after
+pub drop-before : {X : Type 0} (slot : ℕ) (Change : X → X → Type 0) (xs ys : List X) (c : ChangesAt slot Change xs ys) → drop slot xs ≡ c.before ∷ drop (slot + 1) xs
+drop-before slot Change xs ys c =
+    drop_more xs slot c.before (slot-within slot Change xs ys c) ∙ ap (λ x. x ∷ drop (slot + 1) xs) (get_or_from_slice_get xs slot c.before c.before c.found)
+
+pub drop-after : {X : Type 0} (slot : ℕ) (Change : X → X → Type 0) (xs ys : List X) (c : ChangesAt slot Change xs ys) → drop slot ys ≡ c.after ∷ drop (slot + 1) xs
+drop-after slot Change xs ys c = ap (drop slot) c.others ∙ drop-set xs slot c.after (slot-within slot Change xs ys c)
+
+-- those up to the slot, after the change
+pub take-after : {X : Type 0} (slot : ℕ) (Change : X → X → Type 0) (xs ys : List X) (c : ChangesAt slot Change xs ys) → take (slot + 1) ys ≡ take slot xs ++ c.after ∷ []
+take-after slot Change xs ys c = ap (take (slot + 1)) c.others ∙ take_more_set xs slot c.after (slot-within slot Change xs ys c)
+
+-- the element at the slot after the change
+pub get-after : {X : Type 0} (slot : ℕ) (Change : X → X → Type 0) (xs ys : List X) (c : ChangesAt slot Change xs ys) → slice_get ys slot ≡ Some c.after
+get-after slot Change xs ys c =
+    let inside = slot-within slot Change xs ys c in
+    slice_get_read ys (length ys) slot c.after refl (subst (λ n. slot < n) (sym (length-changed slot Change xs ys c)) inside)
+    (sym (ap (λ ws. get_or ws slot c.after) c.others ∙ get_or-set_same xs slot c.after c.after inside))
+
+get-set : {X : Type 0} (xs : List X) (i j : ℕ) (y : X) → j ≢ i → slice_get (slice_set xs i y) j ≡ slice_get xs j
+get-set [] i j y apart = refl
+get-set (x ∷ xs) zero zero y apart = absurd (apart refl)
+get-set (x ∷ xs) zero (suc j) y apart = refl
+get-set (x ∷ xs) (suc i) zero y apart = refl
+get-set (x ∷ xs) (suc i) (suc j) y apart = get-set xs i j y (λ same. apart (ap suc same))
+
+-- the element at another slot stays
+pub get-other : {X : Type 0} (slot : ℕ) (Change : X → X → Type 0) (xs ys : List X) → ChangesAt slot Change xs ys → (other : ℕ) → other ≢ slot → slice_get ys other ≡ slice_get xs other
+get-other slot Change xs ys c other apart = ap (λ ws. slice_get ws other) c.others ∙ get-set xs slot other c.after apart

@@ -1,0 +1,20 @@
+use Rattle.std.proofs.Common.{ap}
+use Rattle.aoe_shelf.specs.Shelf.{Rack}
+use Rattle.aoe_shelf.proofs.SlotLemmas.{changed}
+use Rattle.aoe_shelf.proofs.shelf.Shelf.receive_slot.Goals as goal
+
+pub returns-clause-receives : goal.returns-clause-receives
+returns-clause-receives g c =
+    changed c.args.slot _ c.self.inside.targets.items _ _ _ (ap (λ (rack : Rack _ _). rack.targets) c.self.view_is) c.requires c.index_mut.ensures.value
+    (record {
+      station = c.receive.ensures.station;
+      step = c.receive.ensures.step;
+      silent = c.receive.ensures.silent;
+      ignored = c.receive.ensures.ignored;
+      call = c.receive.ensures.call;
+      idle = c.receive.ensures.idle;
+      fault = c.receive.ensures.fault;
+      edit = c.receive.ensures.edit;
+      unedited = c.receive.ensures.unedited;
+      edit_fault = c.receive.ensures.edit_fault;
+    })

@@ -1,0 +1,6 @@
+mod AppLemmas
+mod ParsedLemmas
+mod PlaceLemmas
+mod PlainAnswer
+mod PlainLemmas
+mod PortLemmas

@@ -1,0 +1,15 @@
+-- What clap says, as the definition puts it.
+use Rattle.std.proofs.Common.{map, rules, string_bytes}
+use Rattle.aoe_words.proofs.ParsedLemmas.{not_words, at_fault, found}
+use Rattle.aoe_words.proofs.read.parsed.Goals as goal
+
+pub returns-then-not-are_words : goal.returns-then-not-are_words
+returns-then-not-are_words c = not_words (map string_bytes c.args.words.now) (search rules)
+
+pub returns-in-Ok : goal.returns-in-Ok
+returns-in-Ok c =
+    found (map string_bytes c.args.words.now) c.in-Ok.found c.remove_subcommand.result (search rules) c.in-Ok.ensures.kinds c.in-Ok.ensures.found
+    c.remove_subcommand.ensures.name c.remove_subcommand.ensures.rows
+
+pub returns : goal.returns
+returns c = at_fault (map string_bytes c.args.words.now) c.in-Err.error c.in-Err.ensures.kinds (search rules)

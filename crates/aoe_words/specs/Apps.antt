@@ -1,0 +1,49 @@
+-- The commands and their arguments, as clap reads them.
+use Rattle.std.specs.Prelude.{Some, true, codes}
+use Rattle.clap.specs.Words.{App, Rule, Text, new_app, new_rule, with_rule, with_subcommand}
+use Rattle.clap.specs.declared.builder.ArgAction.TheVariants.{Set, Append}
+
+-- a word that has to stand there
+abbrev pub needed : Text → Rule
+needed id = record (new_rule id) { required = true; action = Some Set }
+
+-- words of which one has to stand there
+abbrev pub several : Text → Rule
+several id = record (new_rule id) { required = true; action = Some Append }
+
+-- an option that has to be given
+abbrev pub demanded : Text → Rule
+demanded name = record (new_rule name) { long = Some name; required = true; action = Some Set }
+
+-- an option that may be given
+abbrev pub optional : Text → Rule
+optional name = record (new_rule name) { long = Some name; action = Some Set }
+
+-- a command with no argument yet, and with neither help nor version
+abbrev pub bare : Text → App
+bare name = let a = new_app name in record a { top = record a.top { disable_help_flag = true; disable_version_flag = true } }
+
+-- answer SHELF SLOT FILE KEEP
+abbrev pub answer_front : App
+answer_front = with_rule (with_rule (with_rule (bare (codes "answer")) (needed (codes "shelf"))) (needed (codes "slot"))) (several (codes "files"))
+
+-- with its options
+abbrev pub answer_app : App
+answer_app = with_rule (with_rule answer_front (optional (codes "port"))) (optional (codes "mtu"))
+
+-- serve SHELF FILES
+abbrev pub serve_front : App
+serve_front = with_rule (with_rule (bare (codes "serve")) (needed (codes "shelf"))) (several (codes "files"))
+
+-- with the options on its addresses
+abbrev pub serve_ports : App
+serve_ports = with_rule (with_rule (with_rule serve_front (demanded (codes "local"))) (demanded (codes "peers"))) (optional (codes "ports"))
+
+-- with all its options
+abbrev pub serve_app : App
+serve_app = with_rule (with_rule (with_rule serve_ports (optional (codes "mtu"))) (optional (codes "frames"))) (optional (codes "idle"))
+
+-- all commands: one has to be named, and it is the first word
+unfoldable pub aoe_app : App
+aoe_app = let a = bare (codes "aoe") in
+    with_subcommand (with_subcommand (record a { top = record a.top { no_binary_name = true; disable_help_subcommand = true; subcommand_required = true } }) answer_app.top) serve_app.top

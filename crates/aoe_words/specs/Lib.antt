@@ -1,0 +1,3 @@
+pub mod Apps
+pub mod Values
+pub mod Words

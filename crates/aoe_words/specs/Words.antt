@@ -1,0 +1,168 @@
+-- What the words of a command line spell.
+use Rattle.std.specs.Prelude.{ℕ, ◌*◌, ◌/◌, ◌%◌, ◌≡◌, ◌≤◌, Bool, true, not, ◌&&◌, ◌==◌, List, [], ◌∷◌, length, nat_lt, nat_le, slice_index, Option, Some, None, if◌then◌else◌, option_and_then, option_map, unwrap_or, codes}
+use Rattle.std.specs.List.{list_all}
+use Rattle.std.specs.Option.{option_map_or}
+use Rattle.std.specs.Str.{bytes_eq}
+use Rattle.clap.specs.Lexer.{long_of}
+use Rattle.clap.specs.Walk.{is_empty}
+use Rattle.clap.specs.Words.{Row, Text, all_of, fault_of, first_of, subcommand_of}
+use Rattle.aoe_base.specs.Decimal.{number_of}
+use Rattle.aoe_base.specs.declared.address.Mac.{Mac}
+use Rattle.aoe_base.specs.declared.address.TargetId.{TargetId}
+use Rattle.aoe_words.specs.Apps.{aoe_app}
+use Rattle.aoe_words.specs.Values.{all_unique, is_individual, number_within, port_of, ports_of}
+use Rattle.aoe_words.specs.declared.values.TheConstants.{DEFAULT_PORT}
+use Rattle.aoe_words.specs.declared.command.Answer.{Answer as Answers}
+use Rattle.aoe_words.specs.declared.command.Serve.{Serve as Serves}
+use Rattle.aoe_words.specs.declared.command.PortWords.{PortWords}
+use Rattle.aoe_words.specs.declared.command.Command.{Command}
+use Rattle.aoe_words.specs.declared.command.Command.TheVariants.{Answer, Serve}
+
+-- ---- words
+
+-- a value is nonempty and doesn't begin with a hyphen (45)
+abbrev pub is_value : Text → Bool
+is_value text = nat_lt 0 (length text) && not (slice_index text 0 == 45)
+
+-- what stands behind the first `=` of `--name=value`
+abbrev pub attached : Text → Option Text
+attached word = option_and_then (λ p. p.1) (long_of word)
+
+-- a word has 1 to 4096 bytes, is neither one hyphen nor two, and has a good value behind its `=`
+abbrev pub is_word : Text → Bool
+is_word word =
+    nat_lt 0 (length word) && nat_le (length word) 4096 && not (bytes_eq word (codes "-")) && not (bytes_eq word (codes "--"))
+    && option_map_or is_value (attached word) true
+
+-- the name of the command that is asked for, and what clap finds for it, where every word can stand there and clap finds no fault
+unfoldable pub parsed : List Text → Option (Text × List Row)
+parsed words = if list_all is_word words && is_empty (fault_of aoe_app words) then subcommand_of aoe_app words else None
+
+-- ---- commands
+
+-- what a required word makes, or nothing
+abbrev pub given : {T : Type 0} → Text → (Text → Option T) → List Row → Option T
+given id read rows = option_and_then read (first_of id rows)
+
+-- what an option makes, or nothing; its default where it isn't given
+abbrev pub given_or : {T : Type 0} → Text → (Text → Option T) → T → List Row → Option T
+given_or id read default rows = option_map_or read (first_of id rows) (Some default)
+
+-- the files
+abbrev pub files : List Row → List Text
+files rows = unwrap_or (all_of (codes "files") rows) []
+
+-- the number of a shelf, which isn't the one of all shelves
+abbrev pub shelf_of : List Row → Option ℕ
+shelf_of = given (codes "shelf") (λ text. number_of text 65534)
+
+abbrev pub slot_of : List Row → Option ℕ
+slot_of = given (codes "slot") (λ text. number_of text 254)
+
+abbrev pub mtu_of : List Row → Option ℕ
+mtu_of = given_or (codes "mtu") (number_within 1500 9000) 1500
+
+-- answer SHELF SLOT FILE KEEP
+abbrev pub answer_of : List Row → Option Answers
+answer_of rows =
+    if not (length (files rows) == 2) then None else
+    option_and_then (λ major. option_and_then (λ minor. option_and_then (λ port. option_map (λ mtu.
+    record { id = record { major = major; minor = minor }; port = port; mtu = mtu })
+    (mtu_of rows)) (given_or (codes "port") port_of DEFAULT_PORT rows)) (slot_of rows)) (shelf_of rows)
+
+-- the ends of the link of serve
+abbrev pub link : List Row → Option PortWords
+link rows = option_and_then (λ local. option_map (λ peers. record { local = local; peers = peers })
+    (first_of (codes "peers") rows)) (first_of (codes "local") rows)
+
+-- two files for each slot: 1 to 16 slots
+abbrev pub has_slots : List Row → Bool
+has_slots rows = length (files rows) % 2 == 0 && nat_le 2 (length (files rows)) && nat_le (length (files rows)) 32
+
+-- the shelf of serve with its addresses
+abbrev pub serve_of : List Row → Option Serves
+serve_of rows =
+    if not (has_slots rows) then None else
+    option_and_then (λ link. option_and_then (λ shelf. option_and_then (λ ports. option_and_then (λ mtu. option_and_then (λ frames. option_map (λ idle.
+    record { shelf = shelf; slots = length (files rows) / 2; ports = record { items = ports }; mtu = mtu; frames = frames; idle = idle })
+    (given_or (codes "idle") (number_within 1 1000000) 3000 rows)) (given_or (codes "frames") (number_within 1 4294967295) 4294967295 rows))
+    (mtu_of rows)) (given_or (codes "ports") ports_of (DEFAULT_PORT ∷ []) rows)) (shelf_of rows)) (link rows)
+
+-- the command of this name
+abbrev pub command_of : Text → List Row → Option Command
+command_of name rows =
+    if bytes_eq name (codes "answer") then option_map Answer (answer_of rows)
+    else if bytes_eq name (codes "serve") then option_map Serve (serve_of rows)
+    else None
+
+-- the command that the words spell with what clap found for it, or nothing
+abbrev pub spelled : List Text → Option (Command × List Row)
+spelled words = option_and_then (λ p. option_map (λ c. (c, p.1)) (command_of p.0 p.1)) (parsed words)
+
+-- the command that the words spell, or nothing
+abbrev pub command : List Text → Option Command
+command words = option_map (λ p. p.0) (spelled words)
+
+-- the files that it works on, in their order
+abbrev pub file_names : List Text → List Text
+file_names words = option_map_or (λ p. files p.1) (spelled words) []
+
+-- the ends of its links
+abbrev pub links_of : Command → List Row → List PortWords
+links_of (Answer answer) rows = []
+links_of (Serve serve) rows = option_map_or (λ ends. ends ∷ []) (link rows) []
+
+abbrev pub port_words : List Text → List PortWords
+port_words words = option_map_or (λ p. links_of p.0 p.1) (spelled words) []
+
+-- ---- what holds of them
+
+-- the addresses of a station's ports: one to four, each of a single station, none twice
+pub record ArePorts (ports : List Mac) : Type 0 where
+  pub some : 1 ≤ length ports
+  pub few : length ports ≤ 4
+  pub individual : list_all is_individual ports ≡ true
+  pub unique : all_unique ports ≡ true
+
+-- what `answer` asks for is possible
+pub record CanAnswer (answer : Answers) : Type 0 where
+  pub shelf : answer.id.major ≤ 65534
+  pub slot : answer.id.minor ≤ 254
+  pub port : is_individual answer.port ≡ true
+  pub mtu : (1500 ≤ answer.mtu) × (answer.mtu ≤ 9000)
+
+-- what `serve` asks for is possible
+pub record CanServe (serve : Serves) : Type 0 where
+  pub shelf : serve.shelf ≤ 65534
+  pub slots : (1 ≤ serve.slots) × (serve.slots ≤ 16)
+  pub ports : ArePorts serve.ports.items
+  pub mtu : (1500 ≤ serve.mtu) × (serve.mtu ≤ 9000)
+  pub frames : 1 ≤ serve.frames
+  pub idle : (1 ≤ serve.idle) × (serve.idle ≤ 1000000)
+
+abbrev pub IsInRange : Command → Type 0
+IsInRange (Answer answer) = CanAnswer answer
+IsInRange (Serve serve) = CanServe serve
+
+-- how many files and links a command has
+abbrev pub file_count : Command → ℕ
+file_count (Answer answer) = 2
+file_count (Serve serve) = 2 * serve.slots
+
+abbrev pub link_count : Command → ℕ
+link_count (Answer answer) = 0
+link_count (Serve serve) = 1
+
+-- ---- words without options
+
+-- a word that is no option: 1 to 4096 bytes, of which the first is no hyphen
+abbrev pub is_plain : Text → Bool
+is_plain word = nat_lt 0 (length word) && nat_le (length word) 4096 && not (slice_index word 0 == 45)
+
+-- what `answer` asks for where no option is given, and over which files
+abbrev pub plain_answer : TargetId → Command
+plain_answer id = Answer (record { id = id; port = DEFAULT_PORT; mtu = 1500 })
+
+abbrev pub plain_files : Option TargetId → Text → Text → List Text
+plain_files None file keep = []
+plain_files (Some id) file keep = file ∷ keep ∷ []

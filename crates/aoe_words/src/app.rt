@@ -1,0 +1,133 @@
+//! The commands and their arguments, as clap wants them told.
+ghost use Rattle.std.specs.Prelude.{◌≡◌, IfOk, map, string_bytes, false};
+ghost use Rattle.clap.specs.Words.{app_of, rule_of, with_rule, FailsBy, fault_of, HasMatchesOf};
+ghost use Rattle.clap.specs.declared.builder.command.Command.TheViews.{out-Command as fields_of};
+ghost use Rattle.aoe_words.specs.Apps.{needed, several, demanded, optional, bare, answer_front, answer_app, serve_front, serve_ports, serve_app, aoe_app};
+
+use clap::{Arg, ArgAction, ArgMatches, Command, Error};
+use std::alloc::{AllocError, Global};
+
+/// A command with no argument yet, and with neither help nor version.
+fn bare<'a>(alloc: Global, name: &'a str) -> Command<'a>
+    ensures app { app_of result ≡ bare name.entry.now }
+    ensures local { (fields_of result).has_globals ≡ false }
+{
+    Command::new(alloc, name)
+        .disable_help_flag(true)
+        .disable_version_flag(true)
+}
+
+/// A word that has to stand there.
+fn needed<'a>(alloc: Global, id: &'a str) -> Arg<'a>
+    ensures rule { rule_of result ≡ needed id.entry.now }
+    ensures local { result.global ≡ false }
+{
+    Arg::new(alloc, id).required(true).action(ArgAction::Set)
+}
+
+/// Words of which one has to stand there.
+fn several<'a>(alloc: Global, id: &'a str) -> Arg<'a>
+    ensures rule { rule_of result ≡ several id.entry.now }
+    ensures local { result.global ≡ false }
+{
+    Arg::new(alloc, id).required(true).action(ArgAction::Append)
+}
+
+/// An option that has to be given.
+fn demanded<'a>(alloc: Global, name: &'a str) -> Arg<'a>
+    ensures rule { rule_of result ≡ demanded name.entry.now }
+    ensures local { result.global ≡ false }
+{
+    Arg::new(alloc, name)
+        .long(name)
+        .required(true)
+        .action(ArgAction::Set)
+}
+
+/// An option that may be given.
+fn optional<'a>(alloc: Global, name: &'a str) -> Arg<'a>
+    ensures rule { rule_of result ≡ optional name.entry.now }
+    ensures local { result.global ≡ false }
+{
+    Arg::new(alloc, name).long(name).action(ArgAction::Set)
+}
+
+/// The command with one argument more.
+fn with<'a>(command: Command<'a>, arg: Arg<'a>) -> Result<Command<'a>, AllocError>
+    requires arg { arg.global ≡ false }
+    requires command { (fields_of command).has_globals ≡ false }
+    ensures app { IfOk result (λ r. app_of r ≡ with_rule (app_of command.entry) (rule_of arg.entry)) }
+    ensures local { IfOk result (λ r. (fields_of r).has_globals ≡ false) }
+{
+    command.arg(arg)
+}
+
+/// `answer SHELF SLOT FILE KEEP`, without its options.
+fn answer_front<'a>(alloc: Global) -> Result<Command<'a>, AllocError>
+    ensures app { IfOk result (λ r. app_of r ≡ answer_front) }
+    ensures local { IfOk result (λ r. (fields_of r).has_globals ≡ false) }
+{
+    let command = with(bare(alloc, "answer"), needed(alloc, "shelf"))?;
+    let command = with(command, needed(alloc, "slot"))?;
+    with(command, several(alloc, "files"))
+}
+
+/// `answer` with its options.
+fn answer<'a>(alloc: Global) -> Result<Command<'a>, AllocError>
+    ensures app { IfOk result (λ r. app_of r ≡ answer_app) }
+    ensures local { IfOk result (λ r. (fields_of r).has_globals ≡ false) }
+{
+    let command = with(answer_front(alloc)?, optional(alloc, "port"))?;
+    with(command, optional(alloc, "mtu"))
+}
+
+/// `serve SHELF FILES`, without its options.
+fn serve_front<'a>(alloc: Global) -> Result<Command<'a>, AllocError>
+    ensures app { IfOk result (λ r. app_of r ≡ serve_front) }
+    ensures local { IfOk result (λ r. (fields_of r).has_globals ≡ false) }
+{
+    let command = with(bare(alloc, "serve"), needed(alloc, "shelf"))?;
+    with(command, several(alloc, "files"))
+}
+
+/// `serve` with the options on its addresses.
+fn serve_ports<'a>(alloc: Global) -> Result<Command<'a>, AllocError>
+    ensures app { IfOk result (λ r. app_of r ≡ serve_ports) }
+    ensures local { IfOk result (λ r. (fields_of r).has_globals ≡ false) }
+{
+    let command = with(serve_front(alloc)?, demanded(alloc, "local"))?;
+    let command = with(command, demanded(alloc, "peers"))?;
+    with(command, optional(alloc, "ports"))
+}
+
+/// `serve` with all its options.
+fn serve<'a>(alloc: Global) -> Result<Command<'a>, AllocError>
+    ensures app { IfOk result (λ r. app_of r ≡ serve_app) }
+    ensures local { IfOk result (λ r. (fields_of r).has_globals ≡ false) }
+{
+    let command = with(serve_ports(alloc)?, optional(alloc, "mtu"))?;
+    let command = with(command, optional(alloc, "frames"))?;
+    with(command, optional(alloc, "idle"))
+}
+
+/// All commands.
+#[tactic(auto, unfolding(crate::specs::Apps::aoe_app))]
+fn commands<'a>(alloc: Global) -> Result<Command<'a>, AllocError>
+    ensures { IfOk result (λ r. app_of r ≡ aoe_app) }
+{
+    let command = bare(alloc, "aoe")
+        .no_binary_name(true)
+        .disable_help_subcommand(true)
+        .subcommand_required(true);
+    command
+        .subcommand(answer(alloc)?)?
+        .subcommand(serve(alloc)?)
+}
+
+/// What clap finds in the words after the program's name.
+pub(crate) fn matches<'a>(alloc: Global, words: &'a [String]) -> Result<ArgMatches<'a>, Error>
+    ensures kinds { FailsBy (fault_of aoe_app (map string_bytes words.entry.now)) result }
+    ensures found { IfOk result (HasMatchesOf aoe_app (map string_bytes words.entry.now)) }
+{
+    commands(alloc)?.try_get_matches_from(words)
+}

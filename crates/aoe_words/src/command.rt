@@ -1,0 +1,52 @@
+//! What words can spell.
+use aoe_base::{Blob, Mac, Ports, TargetId};
+
+/// What `answer SHELF SLOT FILE KEEP` asks for: to answer the frames of a stream as one target.
+#[derive(Clone, Copy, Debug, PartialEq, Eq)]
+pub struct Answer {
+    /// The target's name.
+    pub id: TargetId,
+
+    /// The address of its shelf.
+    pub port: Mac,
+
+    /// The greatest length of what an Ethernet frame carries.
+    pub mtu: u32,
+}
+
+/// What `serve SHELF FILES` asks for: to answer the frames of a link as a shelf of targets.
+#[derive(Debug, Drop, PartialEq, Eq)]
+pub struct Serve {
+    /// The shelf's number.
+    pub shelf: u16,
+
+    /// How many slots it has, from slot 0 on: each has two of the files.
+    pub slots: u8,
+
+    /// The addresses of the shelf.
+    pub ports: Ports,
+
+    /// The greatest length of what an Ethernet frame carries.
+    pub mtu: u32,
+
+    /// How many frames are taken before the run ends.
+    pub frames: u32,
+
+    /// How many turns without a frame, one behind the other, end the run.
+    pub idle: u32,
+}
+
+/// What the words of a command line ask for.
+#[derive(Debug, Drop, PartialEq, Eq)]
+pub enum Command {
+    Answer(Answer),
+    Serve(Serve),
+}
+
+/// The texts that name the ends of a link, as they stand on the command line: its own address, and
+/// those of its peers.
+#[derive(Debug, Drop)]
+pub struct PortWords {
+    pub local: Blob,
+    pub peers: Blob,
+}

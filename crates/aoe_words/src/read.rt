@@ -1,0 +1,241 @@
+//! What words spell.
+ghost use Rattle.std.specs.Prelude.{◌≡◌, ◌*◌, [], ◌∷◌, length, map, option_map, string_bytes, IfOk, IfSome, IsSome};
+ghost use Rattle.std.specs.List.{list_all};
+ghost use Rattle.clap.specs.Words.{found_of, rows_of};
+ghost use Rattle.aoe_words.specs.Words.{CanAnswer, CanServe, IsInRange, answer_of, command, command_of, file_count, file_names, files, is_word, link, link_count, links_of, parsed, port_words, serve_of, spelled};
+
+use crate::app::matches;
+use crate::values::{
+    NumberOption, files, number, number_or, port_or_default, ports_or_default, text,
+};
+use crate::word::is_word;
+use crate::{Answer, Command, PortWords, Serve};
+use aoe_base::{Blob, NoMemory, TargetId};
+use clap::ArgMatches;
+use clap::error::ErrorKind;
+use std::alloc::Global;
+
+/// The greatest number of a shelf; 0xffff stands for every shelf (AoEr11, "Major").
+const LAST_SHELF: u64 = 65534;
+
+/// The greatest number of a slot; 0xff stands for every slot (AoEr11, "Minor").
+const LAST_SLOT: u64 = 254;
+
+/// How many files `answer` works on.
+const ANSWER_FILES: usize = 2;
+
+/// The most files that `serve` works on.
+const MOST_FILES: usize = 32;
+
+/// What an Ethernet frame carries: an ordinary frame, to a jumbo frame.
+const MTU: NumberOption = NumberOption {
+    least: 1500,
+    most: 9000,
+    default: 1500,
+};
+
+/// How many frames `serve` takes.
+const FRAMES: NumberOption = NumberOption {
+    least: 1,
+    most: u32::MAX,
+    default: u32::MAX,
+};
+
+/// How many turns without a frame end `serve`.
+const IDLE: NumberOption = NumberOption {
+    least: 1,
+    most: 1_000_000,
+    default: 3000,
+};
+
+/// A command that words spell, with what clap found for it.
+#[derive(Drop)]
+struct Found<'a> {
+    command: Command,
+    matches: ArgMatches<'a>,
+}
+
+/// Whether every word can stand on a command line.
+fn are_words(words: &[String]) -> bool
+    ensures { result ≡ list_all is_word (map string_bytes words.now) }
+{
+    words.iter().all(|word| is_word(word.as_bytes()))
+}
+
+/// The name of the command that is asked for and what clap finds for it, where every word can stand
+/// there and clap finds no fault.
+fn parsed<'a>(
+    alloc: Global,
+    words: &'a [String],
+) -> Result<Option<(&'a str, ArgMatches<'a>)>, NoMemory>
+    ensures { IfOk result (λ r. option_map (λ p. (p.0.now, rows_of (found_of p.1))) r ≡ parsed (map string_bytes words.entry.now)) }
+{
+    if !are_words(words) {
+        return Ok(None);
+    }
+    match matches(alloc, words) {
+        Ok(mut found) => Ok(found.remove_subcommand()),
+        Err(error) => {
+            if error.kind() == ErrorKind::OutOfMemory {
+                Err(NoMemory)
+            } else {
+                Ok(None)
+            }
+        }
+    }
+}
+
+/// What the words of `answer` ask for.
+fn answer_of(found: &ArgMatches) -> Option<Answer>
+    ensures value { result ≡ answer_of (rows_of (found_of found.now)) }
+    ensures range { IfSome result CanAnswer }
+    ensures files { IfSome result (λ answer. length (files (rows_of (found_of found.now))) ≡ 2) }
+{
+    if files(found)?.len() != ANSWER_FILES {
+        return None;
+    }
+    Some(Answer {
+        id: TargetId {
+            major: number(found, "shelf", LAST_SHELF)? as u16,
+            minor: number(found, "slot", LAST_SLOT)? as u8,
+        },
+        port: port_or_default(found, "port")?,
+        mtu: number_or(found, "mtu", &MTU)?,
+    })
+}
+
+/// The texts of the ends of the link of `serve`: its own, and its peers.
+fn link<'a>(found: &ArgMatches<'a>) -> Option<(&'a str, &'a str)>
+    ensures { option_map (λ ends. record { local = ends.0.now; peers = ends.1.now }) result ≡ link (rows_of (found_of found.now)) }
+{
+    Some((text(found, "local")?, text(found, "peers")?))
+}
+
+/// What the words of `serve` ask for.
+fn serve_of(found: &ArgMatches) -> Option<Serve>
+    ensures value { result ≡ serve_of (rows_of (found_of found.now)) }
+    ensures range { IfSome result CanServe }
+    ensures files { IfSome result (λ serve. length (files (rows_of (found_of found.now))) ≡ 2 * serve.slots) }
+    ensures links { IfSome result (λ serve. IsSome (link (rows_of (found_of found.now)))) }
+{
+    let files = files(found)?.len();
+    if files % 2 != 0 || files < 2 || files > MOST_FILES {
+        return None;
+    }
+    let _ends = link(found)?;
+    Some(Serve {
+        shelf: number(found, "shelf", LAST_SHELF)? as u16,
+        slots: (files / 2) as u8,
+        ports: ports_or_default(found, "ports")?,
+        mtu: number_or(found, "mtu", &MTU)?,
+        frames: number_or(found, "frames", &FRAMES)?,
+        idle: number_or(found, "idle", &IDLE)?,
+    })
+}
+
+/// What the words of the command of this name ask for.
+fn command_of(name: &str, found: &ArgMatches) -> Option<Command>
+    ensures value { result ≡ command_of name.now (rows_of (found_of found.now)) }
+    ensures range { IfSome result IsInRange }
+    ensures files { IfSome result (λ c. length (files (rows_of (found_of found.now))) ≡ file_count c) }
+    ensures links { IfSome result (λ c. length (links_of c (rows_of (found_of found.now))) ≡ link_count c) }
+{
+    if name == "answer" {
+        Some(Command::Answer(answer_of(found)?))
+    } else if name == "serve" {
+        Some(Command::Serve(serve_of(found)?))
+    } else {
+        None
+    }
+}
+
+/// The command that the words spell, with what clap found for it.
+fn spelled<'a>(alloc: Global, words: &'a [String]) -> Result<Option<Found<'a>>, NoMemory>
+    ensures value { IfOk result (λ r. option_map (λ s. (s.command, rows_of (found_of s.matches))) r ≡ spelled (map string_bytes words.entry.now)) }
+    ensures range { IfOk result (λ r. IfSome r (λ s. IsInRange s.command)) }
+    ensures files { IfOk result (λ r. IfSome r (λ s. length (files (rows_of (found_of s.matches))) ≡ file_count s.command)) }
+    ensures links { IfOk result (λ r. IfSome r (λ s. length (links_of s.command (rows_of (found_of s.matches))) ≡ link_count s.command)) }
+{
+    let Some((name, matches)) = parsed(alloc, words)? else {
+        return Ok(None);
+    };
+    match command_of(name, &matches) {
+        Some(command) => Ok(Some(Found { command, matches })),
+        None => Ok(None),
+    }
+}
+
+/// The command that the words after the program's name spell, or `None` where they spell none.
+pub fn read_words(alloc: Global, words: &[String]) -> Result<Option<Command>, NoMemory>
+    ensures command { IfOk result (λ r. r ≡ command (map string_bytes words.now)) }
+    ensures range { IfOk result (λ r. IfSome r IsInRange) }
+    ensures files { IfOk result (λ r. IfSome r (λ c. length (file_names (map string_bytes words.now)) ≡ file_count c)) }
+    ensures links { IfOk result (λ r. IfSome r (λ c. length (port_words (map string_bytes words.now)) ≡ link_count c)) }
+{
+    match spelled(alloc, words)? {
+        Some(found) => Ok(Some(found.command)),
+        None => Ok(None),
+    }
+}
+
+/// Copies of texts.
+fn copies(alloc: Global, texts: &[&str]) -> Result<Vec<String>, NoMemory>
+    ensures { IfOk result (λ names. map string_bytes names.items ≡ map (λ text. text.now) texts.now) }
+{
+    let mut names = Vec::new(alloc);
+    'texts: for text in texts {
+        match String::from_str(alloc, text) {
+            Ok(name) => {
+                if names.push(name).is_err() {
+                    return Err(NoMemory);
+                }
+            }
+            Err(_) => return Err(NoMemory),
+        }
+    }
+    Ok(names)
+}
+
+/// The names of the files that the command works on, in their order; none where the words spell no
+/// command.
+pub fn files_of(alloc: Global, words: &[String]) -> Result<Vec<String>, NoMemory>
+    ensures { IfOk result (λ names. map string_bytes names.items ≡ file_names (map string_bytes words.now)) }
+{
+    match spelled(alloc, words)? {
+        Some(found) => match files(&found.matches) {
+            Some(texts) => copies(alloc, texts),
+            None => Ok(Vec::new(alloc)),
+        },
+        None => Ok(Vec::new(alloc)),
+    }
+}
+
+/// A list of one link.
+fn one_link(alloc: Global, local: &str, peers: &str) -> Result<Vec<PortWords>, NoMemory>
+    ensures { IfOk result (λ links. links.items ≡ record { local = local.now; peers = peers.now } ∷ []) }
+{
+    let local = Blob::of(alloc, local.as_bytes())?;
+    let peers = Blob::of(alloc, peers.as_bytes())?;
+    let mut links = Vec::new(alloc);
+    if links.push(PortWords { local, peers }).is_err() {
+        return Err(NoMemory);
+    }
+    Ok(links)
+}
+
+/// The ends of the links that the command works on: one for `serve`, none for `answer` and where the
+/// words spell no command.
+pub fn ports_of(alloc: Global, words: &[String]) -> Result<Vec<PortWords>, NoMemory>
+    ensures { IfOk result (λ links. links.items ≡ port_words (map string_bytes words.now)) }
+{
+    let Some(Found { command, matches }) = spelled(alloc, words)? else {
+        return Ok(Vec::new(alloc));
+    };
+    match command {
+        Command::Answer(_) => Ok(Vec::new(alloc)),
+        Command::Serve(_) => match link(&matches) {
+            Some((local, peers)) => one_link(alloc, local, peers),
+            None => Ok(Vec::new(alloc)),
+        },
+    }
+}

@@ -1,0 +1,245 @@
+use crate::{Answer, Command, Serve, files_of, ports_of, read_words};
+use aoe_base::{Mac, Ports, TargetId};
+use std::alloc::{AllocError, Global};
+use std::test::Fail;
+
+/// The words that single spaces part. Two spaces have an empty word between them.
+fn words_of(alloc: Global, line: &str) -> Result<Vec<String>, AllocError> {
+    let mut words = Vec::new(alloc);
+    for word in line.split(' ') {
+        words.push(String::from_str(alloc, word)?)?;
+    }
+    Ok(words)
+}
+
+/// What a line spells.
+fn read_line(alloc: Global, line: &str) -> Result<Option<Command>, Fail> {
+    let words = words_of(alloc, line)?;
+    Ok(read_words(alloc, words.as_slice())?)
+}
+
+/// The names of the files of a line, joined by spaces.
+fn files_line(alloc: Global, line: &str) -> Result<String, Fail> {
+    let words = words_of(alloc, line)?;
+    let names = files_of(alloc, words.as_slice())?;
+    let mut joined = String::new(alloc);
+    for name in &names {
+        if !joined.is_empty() {
+            joined.push(' ')?;
+        }
+        joined.push_str(name.as_str())?;
+    }
+    Ok(joined)
+}
+
+/// A station's address that ends so.
+fn mac(last: u8) -> Mac {
+    Mac([2, 0, 0, 0, 0, last])
+}
+
+/// A list of ports.
+fn ports(macs: &[Mac]) -> Ports {
+    let mut ports = Ports::new();
+    let _ = ports.try_extend_from_slice(macs);
+    ports
+}
+
+/// What `answer` asks for.
+fn answer(major: u16, minor: u8, port: Mac, mtu: u32) -> Command {
+    Command::Answer(Answer {
+        id: TargetId { major, minor },
+        port,
+        mtu,
+    })
+}
+
+/// What `serve` asks for.
+fn serve(shelf: u16, slots: u8, macs: &[Mac], mtu: u32, frames: u32, idle: u32) -> Command {
+    Command::Serve(Serve {
+        shelf,
+        slots,
+        ports: ports(macs),
+        mtu,
+        frames,
+        idle,
+    })
+}
+
+/// `serve 1 --local x --peers y`, and so many files.
+fn serve_line(alloc: Global, files: usize) -> Result<String, AllocError> {
+    let mut line = String::from_str(alloc, "serve 1 --local x --peers y")?;
+    for _ in 0..files {
+        line.push_str(" f")?;
+    }
+    Ok(line)
+}
+
+/// `answer 1 0 disk` and a name of so many bytes.
+fn long_line(alloc: Global, bytes: usize) -> Result<String, AllocError> {
+    let mut line = String::from_str(alloc, "answer 1 0 disk ")?;
+    for _ in 0..bytes {
+        line.push('k')?;
+    }
+    Ok(line)
+}
+
+#[test]
+fn reads_answer(rt: HostRuntime) -> Result<(), Fail> {
+    let cases = [
+        ("answer 1 0 disk keep", answer(1, 0, mac(1), 1500)),
+        (
+            "answer 65534 254 d k --port 02:00:00:00:00:ff --mtu 9000",
+            answer(65534, 254, mac(255), 9000),
+        ),
+        (
+            "answer --mtu=1501 00000000000000000007 --port=02:00:00:00:00:07 0 d k",
+            answer(7, 0, mac(7), 1501),
+        ),
+        ("answer 1 0 a-b --mtu 1500 k=--", answer(1, 0, mac(1), 1500)),
+        ("answer 1 0 serve answer", answer(1, 0, mac(1), 1500)),
+    ];
+    for (line, command) in cases {
+        assert_eq!(rt; read_line(rt.alloc(), line)?, Some(command), "{line}");
+    }
+    Ok(())
+}
+
+#[test]
+fn reads_serve(rt: HostRuntime) -> Result<(), Fail> {
+    let four = [mac(1), mac(2), mac(3), mac(4)];
+    let cases = [
+        (
+            "serve 1 d0 k0 d1 k1 --local x --peers y",
+            serve(1, 2, &[mac(1)], 1500, 4294967295, 3000),
+        ),
+        (
+            "serve --peers=y 65534 d --local=x=z k --frames 1 --idle=1000000 --mtu 9000",
+            serve(65534, 1, &[mac(1)], 9000, 1, 1000000),
+        ),
+        (
+            "serve 0 d k --local x --peers y,z --idle 1 --frames=4294967295 --ports 02:00:00:00:00:01,02:00:00:00:00:02,02:00:00:00:00:03,02:00:00:00:00:04",
+            serve(0, 1, &four, 1500, 4294967295, 1),
+        ),
+    ];
+    for (line, command) in cases {
+        assert_eq!(rt; read_line(rt.alloc(), line)?, Some(command), "{line}");
+    }
+    let line = serve_line(rt.alloc(), 32)?;
+    let command = serve(1, 16, &[mac(1)], 1500, 4294967295, 3000);
+    assert_eq!(rt; read_line(rt.alloc(), line.as_str())?, Some(command));
+    Ok(())
+}
+
+#[test]
+fn refuses_words(rt: HostRuntime) -> Result<(), Fail> {
+    let lines = [
+        // No command, another, or a word before it.
+        "",
+        "reply 1 0 d k",
+        "Answer 1 0 d k",
+        "help",
+        "help answer",
+        "--help",
+        "--mtu 1500 answer 1 0 d k",
+        // Too few words, too many, an empty one.
+        "answer",
+        "answer 1",
+        "answer 1 0 d",
+        "answer 1 0 d k k",
+        "answer 1 0  k",
+        "answer 1 0 d k ",
+        // Numbers.
+        "answer 70000 0 d k",
+        "answer 65535 0 d k",
+        "answer 1 255 d k",
+        "answer -1 0 d k",
+        "answer 1 0x0 d k",
+        "answer 000000000000000000001 0 d k",
+        "answer 1 0 d k --mtu 1499",
+        "answer 1 0 d k --mtu=9001",
+        // Options.
+        "answer 1 0 d k --mtu",
+        "answer 1 0 d k --mtu=",
+        "answer 1 0 d k --mtu ",
+        "answer 1 0 d k --mtu -1500",
+        "answer 1 0 d k --mtu=-1500",
+        "answer 1 0 d k --mtu --port 02:00:00:00:00:01",
+        "answer 1 0 d k --mtu 1500 --mtu 1500",
+        "answer --mtu=1500 1 0 d k --mtu 1500",
+        "answer 1 0 d k --mt 1500",
+        "answer 1 0 d k -m 1500",
+        "answer 1 0 d k --cache 0",
+        "answer 1 0 d k --ports 02:00:00:00:00:01",
+        "answer 1 0 d k --help",
+        "answer 1 0 d k --version",
+        "answer 1 0 d -",
+        "answer 1 0 d --",
+        "answer -- 1 0 d k",
+        "answer 1 0 d -k",
+        // Addresses.
+        "answer 1 0 d k --port 03:00:00:00:00:01",
+        "answer 1 0 d k --port ff:ff:ff:ff:ff:ff",
+        "answer 1 0 d k --port 02:00:00:00:00:0A",
+        "answer 1 0 d k --port 02:00:00:00:00:01,02:00:00:00:00:02",
+        "serve 1 d k --local x --peers y --port 02:00:00:00:00:01",
+        "serve 1 d k --local x --peers y --ports 02:00:00:00:00:01,02:00:00:00:00:01",
+        "serve 1 d k --local x --peers y --ports 02:00:00:00:00:01,01:00:00:00:00:02",
+        "serve 1 d k --local x --peers y --ports 02:00:00:00:00:01,",
+        "serve 1 d k --local x --peers y --ports ,02:00:00:00:00:01",
+        "serve 1 d k --local x --peers y --ports 02:00:00:00:00:01,02:00:00:00:00:02,02:00:00:00:00:03,02:00:00:00:00:04,02:00:00:00:00:05",
+        // The link, the files and the numbers of serve.
+        "serve 1 d k --local x",
+        "serve 1 d k --peers y",
+        "serve 1 d k --local= --peers y",
+        "serve 1 d k --local=-x --peers y",
+        "serve 1 --local x --peers y",
+        "serve 1 d --local x --peers y",
+        "serve 1 d k d --local x --peers y",
+        "serve 65535 d k --local x --peers y",
+        "serve 1 d k --local x --peers y --frames 0",
+        "serve 1 d k --local x --peers y --frames 4294967296",
+        "serve 1 d k --local x --peers y --idle 0",
+        "serve 1 d k --local x --peers y --idle 1000001",
+        "serve 1 d k --local x --peers y --mtu 1499",
+    ];
+    for line in lines {
+        assert_eq!(rt; read_line(rt.alloc(), line)?, None, "{line}");
+        assert_eq!(rt; files_line(rt.alloc(), line)?.as_str(), "", "{line}");
+    }
+    assert_eq!(rt; read_words(rt.alloc(), &[])?, None);
+    for files in [33, 34] {
+        let line = serve_line(rt.alloc(), files)?;
+        assert_eq!(rt; read_line(rt.alloc(), line.as_str())?, None, "{files}");
+    }
+    Ok(())
+}
+
+#[test]
+fn reads_long_words(rt: HostRuntime) -> Result<(), Fail> {
+    let line = long_line(rt.alloc(), 4096)?;
+    let command = answer(1, 0, mac(1), 1500);
+    assert_eq!(rt; read_line(rt.alloc(), line.as_str())?, Some(command));
+    let line = long_line(rt.alloc(), 4097)?;
+    assert_eq!(rt; read_line(rt.alloc(), line.as_str())?, None);
+    Ok(())
+}
+
+#[test]
+fn names_files_and_links(rt: HostRuntime) -> Result<(), Fail> {
+    let alloc = rt.alloc();
+    let answer = "answer 1 --mtu 1500 0 disk keep";
+    assert_eq!(rt; files_line(alloc, answer)?.as_str(), "disk keep");
+    let words = words_of(alloc, answer)?;
+    assert!(rt; ports_of(alloc, words.as_slice())?.is_empty());
+
+    let serve = "serve 1 d0 k0 --local 0.0.0.0:1 d1 --peers 10.0.0.1:1,10.0.0.2:1 k1";
+    assert_eq!(rt; files_line(alloc, serve)?.as_str(), "d0 k0 d1 k1");
+    let words = words_of(alloc, serve)?;
+    let links = ports_of(alloc, words.as_slice())?;
+    assert_eq!(rt; links.len(), 1);
+    for link in &links {
+        assert_eq!(rt; link.local.bytes(), b"0.0.0.0:1".as_slice());
+        assert_eq!(rt; link.peers.bytes(), b"10.0.0.1:1,10.0.0.2:1".as_slice());
+    }
+    Ok(())
+}

@@ -1,0 +1,99 @@
+//! The values of words and options, as clap found them.
+ghost use Rattle.std.specs.Prelude.{◌≡◌, ◌≤◌, [], ◌∷◌, codes, map, option_map, true, IfSome};
+ghost use Rattle.clap.specs.Words.{all_of, first_of, found_of, rows_of};
+ghost use Rattle.aoe_base.specs.Decimal.{number_of};
+ghost use Rattle.aoe_words.specs.Values.{is_individual, number_within, port_of, ports_of};
+ghost use Rattle.aoe_words.specs.Words.{ArePorts, given, given_or};
+
+use crate::ports::{read_port, read_ports};
+use aoe_base::{Mac, Ports, read_number};
+use clap::ArgMatches;
+
+/// The address of a port where none is given.
+pub(crate) const DEFAULT_PORT: Mac = Mac([2, 0, 0, 0, 0, 1]);
+
+/// The numbers that an option takes, and the one that stands where it isn't given.
+pub(crate) struct NumberOption {
+    pub(crate) least: u32,
+    pub(crate) most: u32,
+    pub(crate) default: u32,
+}
+
+/// The text of a word or an option.
+pub(crate) fn text<'a>(found: &ArgMatches<'a>, id: &str) -> Option<&'a str>
+    ensures { option_map (λ text. text.now) result ≡ first_of id.now (rows_of (found_of found.now)) }
+{
+    found.get_str(id)
+}
+
+/// The texts of the files, where there is one.
+pub(crate) fn files<'b, 'a>(found: &'b ArgMatches<'a>) -> Option<&'b [&'a str]>
+    ensures { option_map (λ texts. map (λ text. text.now) texts.now) result ≡ all_of (codes "files") (rows_of (found_of found.now)) }
+{
+    found.get_strs("files")
+}
+
+/// The number up to `most` that a word spells.
+pub(crate) fn number(found: &ArgMatches, id: &str, most: u64) -> Option<u64>
+    ensures value { result ≡ given id.now (λ text. number_of text most) (rows_of (found_of found.now)) }
+    ensures bound { IfSome result (λ n. n ≤ most) }
+{
+    read_number(text(found, id)?.as_bytes(), most)
+}
+
+/// The number that a text spells, where the option takes it.
+fn number_within(text: &[u8], option: &NumberOption) -> Option<u32>
+    ensures value { result ≡ number_within option.now.least option.now.most text.now }
+    ensures bounds { IfSome result (λ n. (option.now.least ≤ n) × (n ≤ option.now.most)) }
+{
+    let number = read_number(text, u64::from(option.most))? as u32;
+    if number < option.least {
+        None
+    } else {
+        Some(number)
+    }
+}
+
+/// The number of an option.
+pub(crate) fn number_or(found: &ArgMatches, id: &str, option: &NumberOption) -> Option<u32>
+    requires least { option.now.least ≤ option.now.default }
+    requires most { option.now.default ≤ option.now.most }
+    ensures value { result ≡ given_or id.now (number_within option.now.least option.now.most) option.now.default (rows_of (found_of found.now)) }
+    ensures bounds { IfSome result (λ n. (option.now.least ≤ n) × (n ≤ option.now.most)) }
+{
+    match text(found, id) {
+        Some(text) => number_within(text.as_bytes(), option),
+        None => Some(option.default),
+    }
+}
+
+/// The address of a port.
+pub(crate) fn port_or_default(found: &ArgMatches, id: &str) -> Option<Mac>
+    ensures value { result ≡ given_or id.now port_of DEFAULT_PORT (rows_of (found_of found.now)) }
+    ensures individual { IfSome result (λ port. is_individual port ≡ true) }
+{
+    match text(found, id) {
+        Some(text) => read_port(text.as_bytes()),
+        None => Some(DEFAULT_PORT),
+    }
+}
+
+/// The one default port.
+fn default_ports() -> Ports
+    ensures { result.items ≡ DEFAULT_PORT ∷ [] }
+{
+    let mut ports = Ports::new();
+    ports.push(DEFAULT_PORT);
+    ports
+}
+
+/// The addresses of ports.
+pub(crate) fn ports_or_default(found: &ArgMatches, id: &str) -> Option<Ports>
+    ensures value { option_map (λ ports. ports.items) result ≡ given_or id.now ports_of (DEFAULT_PORT ∷ []) (rows_of (found_of found.now)) }
+    ensures ports { IfSome result (λ ports. ArePorts ports.items) }
+{
+    match text(found, id) {
+        Some(text) => read_ports(text.as_bytes()),
+        None => Some(default_ports()),
+    }
+}
