@@ -27,7 +27,8 @@ use Rattle.aoe_serve.specs.Slots.{IsServed, Slot, slot_of, slots_of}
 use Rattle.aoe_serve.specs.declared.over_stream.AnswerEnd.{AnswerEnd}
 use Rattle.aoe_serve.specs.declared.over_stream.AnswerEnd.TheVariants as end
 use Rattle.aoe_top.specs.Ending.{ended_by}
-use Rattle.aoe_top.specs.Run.{Begins, Closes, LeavesKnown, NothingLoose, Outlives, Ran, after_last, after_sync, shelf_station}
+use Rattle.aoe_export.specs.Ending.{LeavesKnown, Outlives, after_last}
+use Rattle.aoe_top.specs.Run.{Begins, Closes, NothingLoose, Ran, after_sync, shelf_station}
 use Rattle.aoe_top.specs.declared.status.Status.{Status}
 use Rattle.aoe_top.specs.declared.status.Status.TheVariants as status
 

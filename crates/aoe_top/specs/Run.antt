@@ -1,10 +1,9 @@
 -- What a run of answer takes, gives and leaves, by its status.
-use Rattle.std.specs.Prelude.{ℕ, ◌<◌, ◌≤◌, ◌≡◌, ◌≢◌, false, List, [], ◌∷◌, Option, Some, IfSome, Result, Ok, Err}
-use Rattle.std.specs.Option.{option_map}
+use Rattle.std.specs.Prelude.{ℕ, ◌<◌, ◌≤◌, ◌≡◌, ◌≢◌, false, List, [], ◌∷◌, Option, Some, Result, Ok, Err}
 use Rattle.aoe_base.specs.declared.failure.Failed.{Failed}
-use Rattle.aoe_disk.specs.State.{Contents, DiskState, CanLeave, sector, is_loose}
+use Rattle.aoe_disk.specs.State.{Contents, DiskState, is_loose}
 use Rattle.aoe_disk.specs.Calls.{SyncsTo}
-use Rattle.aoe_keep.specs.Found.{found, Finds, AlwaysFinds}
+use Rattle.aoe_keep.specs.Found.{found, AlwaysFinds}
 use Rattle.aoe_keep.specs.Keep.{Mounts, IsRefused}
 use Rattle.aoe_keep.specs.declared.refusal.MountRefusal.{MountRefusal}
 use Rattle.aoe_lists.specs.Settings.{Settings}
@@ -12,11 +11,11 @@ use Rattle.aoe_serve.specs.Arrivals.{at_slot}
 use Rattle.aoe_serve.specs.Run.{Answered}
 use Rattle.aoe_serve.specs.Slots.{Slot}
 use Rattle.aoe_serve.specs.declared.over_stream.AnswerEnd.{AnswerEnd}
-use Rattle.aoe_target.specs.Device.{Device, State, Holds, MayStand, state_of}
+use Rattle.aoe_target.specs.Device.{Device, State, Holds, state_of}
 use Rattle.aoe_target.specs.History.{left_by}
 use Rattle.aoe_target.specs.Mounted.{station_of}
-use Rattle.aoe_target.specs.Sectors.{Sectors, settles}
 use Rattle.aoe_target.specs.declared.station.Station.{Station}
+use Rattle.aoe_export.specs.Ending.{after_last, Outlives}
 use Rattle.aoe_words.specs.declared.command.Answer.{Answer}
 use Rattle.aoe_top.specs.Ending.{ended_by, status_of}
 use Rattle.aoe_top.specs.declared.status.Status.{Status}
@@ -38,24 +37,10 @@ pub record Closes (synced : Result (Unit {0}) Failed) (d : Device) (file keep : 
   pub sync : SyncsTo synced d.store file
   pub same : keep ≡ d.keep
 
--- what the last sync leaves of what is known
-abbrev pub after_last : Result (Unit {0}) Failed → State → State
-after_last (Ok done) k = record k { sectors = option_map settles k.sectors }
-after_last (Err failed) k = k
-
 -- the status of a run whose frames ended so, after the last sync: a failure of the sync is told where nothing else is
 abbrev pub after_sync : Status → Result (Unit {0}) Failed → Status
 after_sync status.Ok (Err failed) = status.DiskFault 0
 after_sync s synced = s
-
--- every crash leaves each unmarked sector as it is known
-abbrev pub LeavesKnown : Sectors → Contents → Type 0
-LeavesKnown k c = (image : List ℕ) → CanLeave c image → (s : ℕ) → k.marks s ≡ false → IfSome (k.known s) (λ v. sector image s ≡ v)
-
--- what a loss of power leaves of the disks of a device: each unmarked sector as it is known, and lists that may stand
-pub record Outlives (d : Device) (k : State) : Type 0 where
-  pub file : IfSome d.store.contents (λ c. IfSome k.sectors (λ sectors. LeavesKnown sectors c))
-  pub keep : IfSome d.keep.contents (Finds (MayStand k))
 
 -- A run over a file and a keep that was mounted: the frames of a shelf of one slot, and then the last sync. At its end the disks hold what
 -- is known after the frames and the sync, and outlive a loss of power.
