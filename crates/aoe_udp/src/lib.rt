@@ -1,0 +1,6 @@
+//! A UDP socket as a link: each datagram is a frame, as virtual machines send them.
+#![tactic(auto)]
+
+mod link;
+
+pub use link::UdpLink;

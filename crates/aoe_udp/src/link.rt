@@ -1,0 +1,201 @@
+//! A UDP socket as a link. It tells nothing of what it gives and takes.
+ghost use Rattle.std.specs.Prelude.{◌≡◌, ◌≤◌, None, IfOk, OnErr};
+ghost use Rattle.aoe_base.specs.Faults.{Rose};
+ghost use Rattle.std.specs.Net.Grammar.{IsSocketText};
+ghost use Rattle.std.specs.declared.net.socket_addr.SocketAddr.{SocketAddr};
+
+use aoe_base::Failed;
+use aoe_frame::Frame;
+use aoe_io::{Got, Link};
+use std::alloc::Global;
+use std::io;
+use std::io::ErrorKind;
+use std::net::{Net, SocketAddr, UdpSocket};
+use std::time::Duration;
+
+/// How long a call waits for a frame, in milliseconds.
+const SILENCE: u64 = 10;
+
+/// The room for a datagram: one byte more than the longest frame, so that a longer one is seen.
+const ROOM: usize = 9019;
+
+/// A UDP socket, each of whose datagrams is a frame, and the addresses that each sent frame goes to.
+/// A frame may come from any address.
+#[derive(Drop)]
+pub struct UdpLink {
+    socket: UdpSocket,
+    peers: Vec<SocketAddr>,
+    datagram: Vec<u8>,
+    turns: u64,
+    faults: u64,
+}
+
+/// The address that a text `address:port` spells, with an IPv6 address in brackets.
+fn read_address(text: &[u8]) -> io::Result<SocketAddr>
+    ensures spelled { IfOk result (λ address. IsSocketText text.now address) }
+    ensures refused { OnErr result ((address : SocketAddr) → ¬ IsSocketText text.now address) }
+{
+    match SocketAddr::parse_ascii(text) {
+        Ok(address) => Ok(address),
+        Err(_) => Err(io::Error::from(ErrorKind::InvalidInput)),
+    }
+}
+
+/// The addresses that a text spells, joined by commas.
+fn read_addresses(alloc: Global, text: &[u8]) -> io::Result<Vec<SocketAddr>> {
+    let mut addresses = Vec::new(alloc);
+    for piece in text.split(|byte| *byte == b',') {
+        addresses.push(read_address(piece)?)?;
+    }
+    Ok(addresses)
+}
+
+/// Whether the other end isn't there: what was sent to it is lost.
+fn is_lost(kind: ErrorKind) -> bool {
+    matches!(
+        kind,
+        ErrorKind::ConnectionRefused | ErrorKind::HostUnreachable | ErrorKind::NetworkUnreachable
+    )
+}
+
+/// Whether no frame came in time.
+fn is_silent(kind: ErrorKind) -> bool {
+    matches!(
+        kind,
+        ErrorKind::WouldBlock | ErrorKind::TimedOut | ErrorKind::Interrupted
+    )
+}
+
+/// Makes `out` the frame of a datagram; one that is longer than a frame is dropped.
+fn take_datagram(datagram: &[u8], out: &mut Frame) -> Got {
+    out.clear();
+    match out.try_extend_from_slice(datagram) {
+        Ok(()) => Got::Frame,
+        Err(_) => Got::Quiet,
+    }
+}
+
+/// Sends a frame to each of the peers.
+fn send_all(socket: &UdpSocket, peers: &[SocketAddr], frame: &[u8]) -> io::Result<()> {
+    for peer in peers {
+        match socket.send_to(frame, *peer) {
+            Ok(_) => {}
+            Err(error) if is_lost(error.kind()) => {}
+            Err(error) => return Err(error),
+        }
+    }
+    Ok(())
+}
+
+impl UdpLink {
+    /// Binds the local address and sends to the peers: texts `address:port`, those of the peers
+    /// joined by commas.
+    pub fn open<R: Net>(rt: &R, alloc: Global, local: &[u8], peers: &[u8]) -> io::Result<UdpLink>
+        ensures turns { IfOk result (λ link. link.turns ≡ 0) }
+        ensures faults { IfOk result (λ link. link.faults ≡ 0) }
+    {
+        let peers = read_addresses(alloc, peers)?;
+        let datagram = vec![in alloc; 0u8; ROOM]?;
+        let socket = UdpSocket::bind(rt, read_address(local)?)?;
+        socket.set_read_timeout(Some(Duration::from_millis(SILENCE)))?;
+        Ok(UdpLink {
+            socket,
+            peers,
+            datagram,
+            turns: 0,
+            faults: 0,
+        })
+    }
+
+    /// Counts a fault.
+    fn fail(&mut self) -> Failed
+        ensures rose { Rose self.old.faults self.new.faults }
+        ensures count { self.old.faults ≤ self.new.faults }
+        ensures turns { self.new.turns ≡ self.old.turns }
+    {
+        self.faults = self.faults.saturating_add(1);
+        Failed
+    }
+}
+
+impl Link for UdpLink {
+    ghost given = { λ _. None };
+
+    ghost taken = { λ _. None };
+
+    ghost coming = { λ _. None };
+
+    ghost turns = { λ l. l.turns };
+
+    ghost faults = { λ l. l.faults };
+
+    fn send(&mut self, frame: &[u8]) -> Result<(), Failed> {
+        match send_all(&self.socket, self.peers.as_slice(), frame) {
+            Ok(()) => Ok(()),
+            Err(_) => Err(self.fail()),
+        }
+    }
+
+    fn recv(&mut self, out: &mut Frame) -> Result<Got, Failed> {
+        let got = match self.socket.recv_from(self.datagram.as_mut_slice()) {
+            Ok((count, _)) => take_datagram(&self.datagram[..count], out),
+            Err(error) if is_silent(error.kind()) || is_lost(error.kind()) => Got::Quiet,
+            Err(_) => return Err(self.fail()),
+        };
+        self.turns = self.turns.saturating_add(1);
+        Ok(got)
+    }
+}
+
+#[cfg(test)]
+mod tests {
+    use super::*;
+    use std::test::Fail;
+
+    /// A link on a port that the system chose, and the text of its address.
+    fn bound(rt: &HostRuntime, peers: &[u8]) -> Result<(UdpLink, String), Fail> {
+        let link = UdpLink::open(rt, rt.alloc(), b"127.0.0.1:0", peers)?;
+        let address = link.socket.local_addr()?;
+        Ok((link, format!(in rt.alloc(); "{address}")?))
+    }
+
+    /// Whether the link brings these bytes as a frame, and then nothing.
+    fn brings(link: &mut UdpLink, bytes: &[u8]) -> bool {
+        let mut frame = Frame::new();
+        link.recv(&mut frame) == Ok(Got::Frame)
+            && frame.as_slice() == bytes
+            && link.recv(&mut frame) == Ok(Got::Quiet)
+    }
+
+    #[test]
+    fn hands_a_frame_to_every_peer(rt: HostRuntime) -> Result<(), Fail> {
+        let (mut one, first) = bound(&rt, b"127.0.0.1:9")?;
+        let (mut two, second) = bound(&rt, b"127.0.0.1:9")?;
+        // Nobody listens on the discard port: a frame to it is lost.
+        let peers = format!(in rt.alloc(); "127.0.0.1:9,{first},{second}")?;
+        let (mut three, _) = bound(&rt, peers.as_bytes())?;
+        three.send(b"query")?;
+        assert!(rt; brings(&mut one, b"query"));
+        assert!(rt; brings(&mut two, b"query"));
+        // The longest frame, and a datagram that is none.
+        let bytes = [7u8; ROOM];
+        three.send(&bytes[1..])?;
+        three.send(&bytes)?;
+        assert!(rt; brings(&mut one, &bytes[1..]));
+        Ok(())
+    }
+
+    #[test]
+    fn reads_addresses(rt: HostRuntime) {
+        let cases: [(&[u8], usize); 4] = [
+            (b"127.0.0.1:7000", 1),
+            (b"127.0.0.1:7000,[::1]:7001", 2),
+            (b"127.0.0.1:7000,", 0),
+            (b"127.0.0.1", 0),
+        ];
+        for (text, count) in cases {
+            let read = read_addresses(rt.alloc(), text).map_or(0, |addresses| addresses.len());
+            assert_eq!(rt; read, count);
+        }
+    }
+}
