@@ -1,0 +1,176 @@
+-- The entries of worked histories, each by tests that compute.
+use Rattle.std.specs.Bool.{OnTrue}
+use Rattle.std.proofs.Common.{is_none, IfSome, MatchBool, ℕ, ◌+◌, ◌≡◌, ◌<◌, ◌≤◌, Bool, true, false, not, ◌&&◌, ◌||◌, nat_lt, nat_le, List, length, drop, Option, Some, None, refl, arith, slice_index_or, All, Contains}
+use Rattle.std.specs.List.{list_all}
+use Rattle.std.proofs.lemmas.Bool.Decides.{nat_tests}
+use Rattle.std.proofs.lemmas.List.Elements.{Contains-get_or}
+use Rattle.std.proofs.lemmas.List.Sums.{AllPass-from_list_all}
+use Rattle.aoe_flight.specs.declared.outstanding.Outstanding.{Outstanding}
+use Rattle.aoe_flight.specs.Outstanding.{is_due, is_expired, is_taken, live, lower, precedes, rest_time, IsFirst}
+use Rattle.aoe_initiator.specs.declared.op.Op.TheVariants.{Flush}
+use Rattle.aoe_initiator.specs.declared.response.Answer.{Answer}
+use Rattle.aoe_initiator.specs.HostLaw.{answer_to, given_up, is_clear_at, spelled}
+use Rattle.aoe_initiator.specs.HostLog.{sent_of, submitted, HostCommand}
+use Rattle.aoe_initiator.specs.Response.{outcome_of}
+use Rattle.aoe_disk.specs.State.{sector}
+use Rattle.aoe_target.specs.Sectors.{Sectors, Tells}
+use Rattle.aoe_history.specs.declared.entry.Entry.{Entry}
+use Rattle.aoe_history.specs.declared.entry.Fate.{Fate}
+use Rattle.aoe_history.specs.declared.entry.Which.TheVariants.{Store, Keep}
+use Rattle.aoe_history.specs.Commands.{commands_of, host_after}
+use Rattle.aoe_history.specs.Frames.{clock, next_number}
+use Rattle.aoe_history.specs.HostLaw.{IsGivenUp, IsResponse, IsSent, IsStale}
+use Rattle.aoe_history.specs.Setup.{HostSetup, Setup, SlotSetup}
+use Rattle.aoe_history.specs.ShelfLaw.{calls, stretch, IsStruckBy, KeepsArming}
+use Rattle.aoe_history.specs.Slots.{is_struck}
+
+abbrev nobody : HostCommand
+nobody = submitted (record { 0 = 0 }) (record { 0 = 0 }) Flush
+
+-- the command at a place
+abbrev pub nth : List HostCommand → ℕ → HostCommand
+nth cs k = slice_index_or cs k nobody
+
+not-true : (b : Bool) → not b ≡ true → b ≡ false
+not-true true e = absurd (cc)
+not-true false e = refl
+
+all-fail : {X : Type 0} (p : X → Bool) (xs : List X) → list_all (λ x. not (p x)) xs ≡ true → All (λ x. p x ≡ false) xs
+all-fail p xs e = λ k d lt. not-true (p (slice_index_or xs k d)) (AllPass-from_list_all (λ x. not (p x)) xs e k d lt)
+
+lt-of : (a b : ℕ) → nat_lt a b ≡ true → a < b
+lt-of a b e = grind (arith, nat_tests)
+
+or-of : (a b : Bool) → (not a || b) ≡ true → a ≡ true → b ≡ true
+or-of true b e x = e
+or-of false b e x = absurd (cc)
+
+le-of : (a b : ℕ) → nat_le a b ≡ true → a ≤ b
+le-of a b e = grind (arith, nat_tests)
+
+pub there : (cs : List HostCommand) (k : ℕ) → nat_lt k (length cs) ≡ true → Contains cs (nth cs k)
+there cs k e = Contains-get_or cs k nobody (lt-of k (length cs) e)
+
+-- a command is the lowest of those that pass a test
+abbrev pub is_lowest : (HostCommand → Bool) → List HostCommand → ℕ → Bool
+is_lowest test cs k = list_all (λ c. not (test c) || nat_le (nth cs k).ticket.0 c.ticket.0) cs
+
+lowest-of : (test : HostCommand → Bool) (cs : List HostCommand) (k : ℕ) → is_lowest test cs k ≡ true → All (λ c. test c ≡ true → (nth cs k).ticket.0 ≤ c.ticket.0) cs
+lowest-of test cs k e = λ i d lt clear. le-of (nth cs k).ticket.0 (slice_index_or cs i d).ticket.0 (or-of (test (slice_index_or cs i d)) (nat_le (nth cs k).ticket.0 (slice_index_or cs i d).ticket.0) (AllPass-from_list_all (λ c. not (test c) || nat_le (nth cs k).ticket.0 c.ticket.0) cs e i d lt) clear)
+
+-- a command of the host is sent for the first time
+pub starts : (s : Setup) (host : HostSetup) (h : List Entry) (k c tag : ℕ) (bytes : List ℕ) → (nth (commands_of host h) k).ticket.0 ≡ c
+    → list_all (λ o. not (is_due (clock h) o)) (sent_of (commands_of host h)) ≡ true
+    → nat_lt (length (live (rest_time s.life) (clock h) (sent_of (commands_of host h)))) host.room ≡ true
+    → nat_lt k (length (commands_of host h)) ≡ true
+    → is_clear_at s.life (clock h) (commands_of host h) (nth (commands_of host h) k) ≡ true
+    → is_lowest (is_clear_at s.life (clock h) (commands_of host h)) (commands_of host h) k ≡ true
+    → is_taken (live (rest_time s.life) (clock h) (sent_of (commands_of host h))) tag ≡ false
+    → spelled (host_after s host h) (nth (commands_of host h) k) tag ≡ Some bytes → IsSent s host h c (next_number h) bytes
+starts s host h k c tag bytes is due room within clear lowest free spells = record {
+  sent = record { ticket = (nth (commands_of host h) k).ticket; tag = tag; path = record { 0 = 0 }; again = false };
+  ticket_is = is;
+  may = record {
+    nothing_due = all-fail (is_due (clock h)) (sent_of (commands_of host h)) due;
+    room = lt-of (length (live (rest_time s.life) (clock h) (sent_of (commands_of host h)))) host.room room;
+    command = nth (commands_of host h) k;
+    there = there (commands_of host h) k within;
+    ticket = refl;
+    clear = clear;
+    lowest = lowest-of (is_clear_at s.life (clock h) (commands_of host h)) (commands_of host h) k lowest;
+    free = free;
+  };
+  frame = record { command = nth (commands_of host h) k; there = there (commands_of host h) k within; ticket = refl; bytes = spells };
+  number_is = refl;
+}
+
+-- a response ends a command
+pub responds : (s : Setup) (host : HostSetup) (h : List Entry) (f : List ℕ) (k c : ℕ) (answer : Answer) → (nth (commands_of host h) k).ticket.0 ≡ c
+    → nat_lt k (length (commands_of host h)) ≡ true → answer_to (host_after s host h) (nth (commands_of host h) k) f ≡ Some answer
+    → IsResponse s host h f c (outcome_of answer (drop 24 f))
+responds s host h f k c answer is within says = record {
+  command = nth (commands_of host h) k;
+  there = there (commands_of host h) k within;
+  ticket_is = is;
+  answer = answer;
+  says = says;
+  gives = refl;
+}
+
+-- no disk is armed, and no call fails
+pub unarmed : (slot : SlotSetup) (h : List Entry) (f : List ℕ) (fate : Fate) → stretch Store slot h ≡ None → stretch Keep slot h ≡ None → is_struck fate ≡ false
+    → KeepsArming slot h f fate
+unarmed slot h f fate store keep e = record {
+  store = on (calls Store slot h f) (IsStruckBy Store slot (stretch Store slot h) fate) (rw store (by-cache (is_none slot.cache)));
+  keep = on (calls Keep slot h f) (IsStruckBy Keep slot (stretch Keep slot h) fate) (rw keep e);
+}
+  where
+    on : (b : Bool) (P : Type 0) → P → OnTrue b P
+    on true P p = p
+    on false P p = tt
+
+    by-cache : (b : Bool) → MatchBool b (is_struck fate ≡ false) (is_struck fate ≡ false)
+    by-cache true = e
+    by-cache false = e
+
+-- data for one sector tell what is known of it
+pub tells-one : (o : Option Sectors) (at : ℕ) (bytes : List ℕ) → IfSome o (λ k. IfSome (k.known (at + 0)) (λ v. sector bytes 0 ≡ v)) → IfSome o (Tells (record { at = at; count = 1 }) bytes)
+tells-one None at bytes e = e
+tells-one (Some k) at bytes e = λ i lt. let z : i ≡ 0 = omega arith in rw z e
+
+-- A REPEAT
+
+abbrev unsent : Outstanding
+unsent = record { ticket = record { 0 = 0 }; flying = record { tag = 0; first = record { 0 = 0 }; last = record { 0 = 0 }; path = record { 0 = 0 }; sends = 0 }; wait = record { 0 = 0 }; finished = false }
+
+-- the command at a place of those that were sent
+abbrev pub nth_sent : List HostCommand → ℕ → Outstanding
+nth_sent cs k = slice_index_or (sent_of cs) k unsent
+
+-- it passes a test, and none that does comes before it
+abbrev pub is_first : (Outstanding → Bool) → (Outstanding → Outstanding → Bool) → List HostCommand → ℕ → Bool
+is_first test before cs k =
+    nat_lt k (length (sent_of cs)) && (test (nth_sent cs k) && list_all (λ o. not (test o) || not (before o (nth_sent cs k))) (sent_of cs))
+
+both-of : (a b : Bool) → (a && b) ≡ true → (a ≡ true) × (b ≡ true)
+both-of true b e = (refl, e)
+both-of false b e = absurd (cc)
+
+first-of : (test : Outstanding → Bool) (before : Outstanding → Outstanding → Bool) (cs : List HostCommand) (k : ℕ) → is_first test before cs k ≡ true → IsFirst test before (sent_of cs) (nth_sent cs k)
+first-of test before cs k e =
+    let x = both-of (nat_lt k (length (sent_of cs))) (test (nth_sent cs k) && list_all (λ o. not (test o) || not (before o (nth_sent cs k))) (sent_of cs)) e in
+    let y = both-of (test (nth_sent cs k)) (list_all (λ o. not (test o) || not (before o (nth_sent cs k))) (sent_of cs)) x.1 in
+    record {
+      there = Contains-get_or (sent_of cs) k unsent (lt-of k (length (sent_of cs)) x.0);
+      passes = y.0;
+      least = λ i d lt t. not-true (before (slice_index_or (sent_of cs) i d) (nth_sent cs k))
+          (or-of (test (slice_index_or (sent_of cs) i d)) (not (before (slice_index_or (sent_of cs) i d) (nth_sent cs k)))
+          (AllPass-from_list_all (λ o. not (test o) || not (before o (nth_sent cs k))) (sent_of cs) y.1 i d lt) t);
+    }
+
+-- a command of the host is sent again
+pub repeats : (s : Setup) (host : HostSetup) (h : List Entry) (k j c : ℕ) (bytes : List ℕ) → (nth_sent (commands_of host h) j).ticket.0 ≡ c
+    → is_first (is_due (clock h)) precedes (commands_of host h) j ≡ true → nat_lt k (length (commands_of host h)) ≡ true
+    → (nth (commands_of host h) k).ticket ≡ (nth_sent (commands_of host h) j).ticket
+    → spelled (host_after s host h) (nth (commands_of host h) k) (nth_sent (commands_of host h) j).flying.tag ≡ Some bytes → IsSent s host h c (next_number h) bytes
+repeats s host h k j c bytes is first within same spells = record {
+  sent = record { ticket = (nth_sent (commands_of host h) j).ticket; tag = (nth_sent (commands_of host h) j).flying.tag; path = record { 0 = 0 }; again = true };
+  ticket_is = is;
+  may = record { command = nth_sent (commands_of host h) j; first_due = first-of (is_due (clock h)) precedes (commands_of host h) j first; ticket = refl; tag = refl };
+  frame = record { command = nth (commands_of host h) k; there = there (commands_of host h) k within; ticket = same; bytes = spells };
+  number_is = refl;
+}
+
+-- GIVING UP, AND STALE RESPONSES
+
+pub gives-up : (s : Setup) (host : HostSetup) (h : List Entry) (j c : ℕ) → (nth_sent (commands_of host h) j).ticket.0 ≡ c
+    → is_first (is_expired host.dead (clock h)) lower (commands_of host h) j ≡ true → IsGivenUp s host h c (given_up (clock h) (nth_sent (commands_of host h) j)).outcome
+gives-up s host h j c is first = record { command = nth_sent (commands_of host h) j; late = first-of (is_expired host.dead (clock h)) lower (commands_of host h) j first; ticket_is = is; gives = refl }
+
+none-of : {X : Type 0} (o : Option X) → is_none o ≡ true → o ≡ None
+none-of None e = refl
+none-of (Some x) e = absurd (cc)
+
+pub stale : (s : Setup) (host : HostSetup) (h : List Entry) (f : List ℕ) → list_all (λ c. is_none (answer_to (host_after s host h) c f)) (commands_of host h) ≡ true → IsStale s host h f
+stale s host h f e = λ k d lt. none-of (answer_to (host_after s host h) (slice_index_or (commands_of host h) k d) f)
+    (AllPass-from_list_all (λ c. is_none (answer_to (host_after s host h) c f)) (commands_of host h) e k d lt)

@@ -1,0 +1,12 @@
+mod CaseLemmas
+mod CentralCase
+mod LateAcknowledgement
+mod StaleResponse
+mod GivingUp
+mod FailedWrite
+mod StoppedFlush
+mod RefusalAfterEffect
+mod Refused
+mod CrashedCache
+mod CrashedStore
+mod Values

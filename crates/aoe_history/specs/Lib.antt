@@ -1,0 +1,11 @@
+pub mod Setup
+pub mod Frames
+pub mod Slots
+pub mod ShelfLaw
+pub mod Commands
+pub mod HostLaw
+pub mod Reading
+pub mod Lawful
+pub mod Groups
+pub mod Example
+pub mod Cases

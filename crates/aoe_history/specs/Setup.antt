@@ -1,0 +1,87 @@
+-- The stations of a network: what of hosts and slots never changes.
+use Rattle.std.specs.Prelude.{ℕ, ◌≡◌, ◌≤◌, ◌<◌, ◌*◌, ◌+◌, true, Bool, ◌||◌, nat_eq, List, length, Option, Some, position, find, filter, Contains, unwrap_or}
+use Rattle.std.specs.List.{list_any}
+use Rattle.std.specs.Str.{bytes_eq}
+use Rattle.arrayvec.specs.ArrayVec.{ArrayVec}
+use Rattle.aoe_base.specs.declared.address.Mac.{Mac}
+use Rattle.aoe_base.specs.declared.address.TargetId.{TargetId}
+use Rattle.aoe_base.specs.declared.counted.DeviceNo.{DeviceNo}
+use Rattle.aoe_base.specs.declared.counted.PathNo.{PathNo}
+use Rattle.aoe_initiator.specs.declared.device.Attached.{Attached}
+use Rattle.aoe_initiator.specs.HostLaw.{same_id}
+use Rattle.aoe_lists.specs.Addresses.{holds, same_address}
+use Rattle.aoe_target.specs.declared.station.Station.{Station}
+
+-- a host: its name, its ports, how many commands may fly or rest, after how long one is given up, and the devices
+-- that it is attached to
+pub record HostSetup : Type 0 where
+  pub name : List ℕ
+  pub ports : List Mac
+  pub room : ℕ
+  pub dead : ℕ
+  pub devices : List Attached
+
+-- a slot: its name, its shelf's ports and its size, and for how many sectors its store has a cache, where it has one
+pub record SlotSetup : Type 0 where
+  pub station : Station
+  pub cache : Option ℕ
+
+-- how long a frame can be handed over after its sending, the hosts in their order, and the slots of all shelves in
+-- theirs; times in milliseconds
+pub record Setup : Type 0 where
+  pub life : ℕ
+  pub hosts : List HostSetup
+  pub slots : List SlotSetup
+
+abbrev pub is_called : HostSetup → ArrayVec ℕ → Bool
+is_called host name = bytes_eq host.name name.items
+
+abbrev pub host_called : Setup → ArrayVec ℕ → Option HostSetup
+host_called s name = find (λ host. is_called host name) s.hosts
+
+abbrev pub is_slot : SlotSetup → TargetId → Bool
+is_slot slot id = same_id slot.station.id id
+
+abbrev pub slot_of : Setup → TargetId → Option SlotSetup
+slot_of s id = find (λ slot. is_slot slot id) s.slots
+
+-- a shelf is its slots: those with its number
+abbrev pub shelf_of : Setup → ℕ → List SlotSetup
+shelf_of s major = filter (λ slot. nat_eq slot.station.id.major major) s.slots
+
+abbrev pub device_place : HostSetup → TargetId → Option ℕ
+device_place host id = position (λ (d : Attached). same_id d.id id) host.devices
+
+-- a device of the host, counted from 0 in the order of attachment
+abbrev pub device_no : HostSetup → TargetId → DeviceNo
+device_no host id = record { 0 = unwrap_or (device_place host id) 0 }
+
+-- the path from a local to a remote port: `local * remotes + remote`, both counted from 0
+abbrev pub path_no : HostSetup → Attached → Mac → Mac → PathNo
+path_no host d local remote = record {
+  0 = unwrap_or (position (same_address local) host.ports) 0 * length d.remotes.items + unwrap_or (position (same_address remote) d.remotes.items) 0;
+}
+
+-- an address is a port of a station
+abbrev pub is_port : Setup → Mac → Bool
+is_port s a = list_any (λ (host : HostSetup). holds host.ports a) s.hosts || list_any (λ (slot : SlotSetup). holds slot.station.ports.items a) s.slots
+
+-- a device that a host is attached to is a slot, with the ports and the size that the host knows
+pub record IsAttachedTo (s : Setup) (d : Attached) : Type 0 where
+  pub slot : SlotSetup
+  pub there : slot_of s d.id ≡ Some slot
+  pub remotes : d.remotes ≡ slot.station.ports
+  pub total : d.total ≡ slot.station.sectors
+  pub max : d.max ≡ slot.station.max
+
+-- each station has an address of its own and a name of its own, and hosts are attached to slots that are there
+pub record IsSetup (s : Setup) : Type 0 where
+  pub host_ports : (a b : HostSetup) (port : Mac) → Contains s.hosts a → Contains s.hosts b → holds a.ports port ≡ true → holds b.ports port ≡ true → a ≡ b
+  pub shelf_ports : (host : HostSetup) (slot : SlotSetup) (port : Mac) → Contains s.hosts host → Contains s.slots slot → holds host.ports port ≡ true
+      → holds slot.station.ports.items port ≡ true → ⊥
+  pub some_port : (slot : SlotSetup) → Contains s.slots slot → 0 < length slot.station.ports.items
+  pub majors : (slot : SlotSetup) → Contains s.slots slot → slot.station.id.major < 65535
+  pub minors : (slot : SlotSetup) → Contains s.slots slot → slot.station.id.minor < 255
+  pub size : (slot : SlotSetup) → Contains s.slots slot → slot.station.sectors ≤ 281474976710656
+  pub max : (slot : SlotSetup) → Contains s.slots slot → slot.station.max ≤ 17
+  pub attached : (host : HostSetup) (d : Attached) → Contains s.hosts host → Contains host.devices d → IsAttachedTo s d

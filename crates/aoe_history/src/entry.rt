@@ -1,0 +1,123 @@
+//! What happens in a run.
+use aoe_base::{Blob, TargetId};
+use aoe_disk::Loss;
+use aoe_initiator::{Op, Outcome, SubmitRefusal};
+use aoe_lists::Lists;
+use aoe_target::Effect;
+use arrayvec::ArrayVec;
+
+/// The most bytes of a name.
+pub const MAX_NAME: usize = 8;
+
+/// The name of a host.
+pub type Name = ArrayVec<u8, MAX_NAME>;
+
+/// One of the two disks of a slot.
+#[derive(Clone, Copy, Debug, PartialEq, Eq, Hash)]
+pub enum Which {
+    /// The disk under the store of its sectors.
+    Store,
+
+    /// The disk that keeps its lists.
+    Keep,
+}
+
+/// What became of a frame at a target.
+#[derive(Debug, Drop)]
+pub enum Fate {
+    /// It isn't for this target.
+    Ignored,
+
+    /// It is for this target, and gets no reply.
+    Silent,
+
+    /// The power was lost at a device call, so that there is no reply.
+    Cut,
+
+    /// It got a reply: the frame with this number and these bytes.
+    Replied {
+        effect: Effect,
+        frame: u64,
+        bytes: Blob,
+    },
+}
+
+/// One thing that happened. Frames have numbers from 1 in the order in which they came into the
+/// network, and the commands of a host have tickets from 1 in the order of their submission.
+#[derive(Debug, Drop)]
+pub enum Entry {
+    /// A host took a command for a device.
+    Submitted {
+        host: Name,
+        ticket: u64,
+        dev: TargetId,
+        op: Op,
+    },
+
+    /// A host refused a command.
+    Refused {
+        host: Name,
+        refusal: SubmitRefusal,
+    },
+
+    /// A host sent a frame of a command.
+    Sent {
+        host: Name,
+        ticket: u64,
+        frame: u64,
+        bytes: Blob,
+    },
+
+    /// A frame of no host and no shelf came into the network.
+    Injected {
+        frame: u64,
+        bytes: Blob,
+    },
+
+    /// A frame was handed to a target.
+    Arrived {
+        dev: TargetId,
+        frame: u64,
+        fate: Fate,
+    },
+
+    /// A frame was handed to a host. It is stale where it ends no command.
+    Took {
+        host: Name,
+        frame: u64,
+        stale: bool,
+    },
+
+    /// A command of a host has its outcome.
+    Done {
+        host: Name,
+        ticket: u64,
+        outcome: Outcome,
+    },
+
+    /// So many milliseconds went by.
+    Ticked {
+        ms: u64,
+    },
+
+    /// A frame was handed to nobody.
+    Lost {
+        frame: u64,
+    },
+
+    /// A disk of a slot will fail its k-th device call from now on; or, where there is a mode, the
+    /// power is lost in that call, and this is what is left then.
+    Armed {
+        dev: TargetId,
+        which: Which,
+        k: u64,
+        mode: Option<Loss>,
+    },
+
+    /// A slot lost its power and was mounted again, with these lists.
+    Crashed {
+        dev: TargetId,
+        lists: Lists,
+        mode: Loss,
+    },
+}

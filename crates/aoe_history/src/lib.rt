@@ -1,0 +1,17 @@
+//! Histories of hosts and shelves on one network, and the laws that they keep.
+//!
+//! A [`History`] has an [`Entry`] for each thing that happened, in order. What its entries say of
+//! times, frames, sectors and commands, which entry may come next by the shelf law, the host law
+//! and the network, and what a host may then read of a sector, stands in specs/.
+#![tactic(auto)]
+
+mod cases;
+mod entry;
+mod history;
+
+pub use cases::{worked_histories, worked_values, wrong_hosts, wrong_networks, wrong_shelves};
+pub use entry::{Entry, Fate, MAX_NAME, Name, Which};
+pub use history::History;
+
+#[cfg(test)]
+mod tests;
