@@ -1,6 +1,6 @@
 -- The entries of worked histories, each by tests that compute.
 use Rattle.std.specs.Bool.{OnTrue}
-use Rattle.std.proofs.Common.{is_none, IfSome, MatchBool, ℕ, ◌+◌, ◌≡◌, ◌<◌, ◌≤◌, Bool, true, false, not, ◌&&◌, ◌||◌, nat_lt, nat_le, List, length, drop, Option, Some, None, refl, arith, slice_index_or, All, Contains}
+use Rattle.std.proofs.Common.{inr, is_none, IfSome, MatchBool, ℕ, ◌+◌, ◌≡◌, ◌<◌, ◌≤◌, Bool, true, false, not, ◌&&◌, ◌||◌, nat_lt, nat_le, List, length, drop, Option, Some, None, refl, arith, slice_index_or, All, Contains}
 use Rattle.std.specs.List.{list_all}
 use Rattle.std.proofs.lemmas.Bool.Decides.{nat_tests}
 use Rattle.std.proofs.lemmas.List.Elements.{Contains-get_or}
@@ -13,6 +13,7 @@ use Rattle.aoe_initiator.specs.HostLaw.{answer_to, given_up, is_clear_at, paths_
 use Rattle.aoe_initiator.specs.HostLog.{missed_by, path_log, sent_of, submitted, HostCommand}
 use Rattle.aoe_paths.specs.PathLog.{next_of}
 use Rattle.aoe_initiator.specs.Response.{outcome_of}
+use Rattle.arrayvec.specs.ArrayVec.{ArrayVec}
 use Rattle.aoe_disk.specs.State.{sector}
 use Rattle.aoe_target.specs.Sectors.{Sectors, Tells}
 use Rattle.aoe_history.specs.declared.entry.Entry.{Entry}
@@ -20,8 +21,9 @@ use Rattle.aoe_history.specs.declared.entry.Fate.{Fate}
 use Rattle.aoe_history.specs.declared.entry.Which.TheVariants.{Store, Keep}
 use Rattle.aoe_history.specs.Commands.{commands_of, host_after, log_of}
 use Rattle.aoe_history.specs.Frames.{clock, next_number}
+use Rattle.aoe_history.specs.Groups.{told, GivesUp, Got, SendsSome, Turn}
 use Rattle.aoe_history.specs.HostLaw.{IsGivenUp, IsResponse, IsSent, IsStale}
-use Rattle.aoe_history.specs.Setup.{HostSetup, Setup, SlotSetup}
+use Rattle.aoe_history.specs.Setup.{is_called, HostSetup, Setup, SlotSetup}
 use Rattle.aoe_history.specs.ShelfLaw.{calls, stretch, IsStruckBy, KeepsArming}
 use Rattle.aoe_history.specs.Slots.{is_struck}
 
@@ -66,10 +68,10 @@ pub starts : (s : Setup) (host : HostSetup) (h : List Entry) (k c tag : ℕ) (by
     → nat_lt k (length (commands_of host h)) ≡ true
     → is_clear_at s.life (clock h) (commands_of host h) (nth (commands_of host h) k) ≡ true
     → is_lowest (is_clear_at s.life (clock h) (commands_of host h)) (commands_of host h) k ≡ true
-    → is_taken (live (rest_time s.life) (clock h) (sent_of (commands_of host h))) tag ≡ false
+    → is_taken (live (rest_time s.life) (clock h) (sent_of (commands_of host h))) tag ≡ false → nat_lt tag 4294967296 ≡ true
     → 0 ≡ next_of (paths_to (host_after s host h) (nth (commands_of host h) k).device.0) (missed_by (nth (commands_of host h) k).sends (path_log (log_of host h) (nth (commands_of host h) k).device.0))
     → spelled (host_after s host h) (nth (commands_of host h) k) (record { 0 = 0 }) tag ≡ Some bytes → IsSent s host h c (next_number h) bytes
-starts s host h k c tag bytes is due room within clear lowest free next spells = record {
+starts s host h k c tag bytes is due room within clear lowest free fits next spells = record {
   sent = record { ticket = (nth (commands_of host h) k).ticket; tag = tag; path = record { 0 = 0 }; again = false };
   ticket_is = is;
   may = record {
@@ -84,6 +86,7 @@ starts s host h k c tag bytes is due room within clear lowest free next spells =
   };
   path = record { command = nth (commands_of host h) k; there = there (commands_of host h) k within; ticket = refl; next = next };
   frame = record { command = nth (commands_of host h) k; there = there (commands_of host h) k within; ticket = refl; bytes = spells };
+  tag_fits = lt-of tag 4294967296 fits;
   number_is = refl;
 }
 
@@ -155,14 +158,16 @@ first-of test before cs k e =
 pub repeats : (s : Setup) (host : HostSetup) (h : List Entry) (k j c : ℕ) (bytes : List ℕ) → (nth_sent (commands_of host h) j).ticket.0 ≡ c
     → is_first (is_due (clock h)) precedes (commands_of host h) j ≡ true → nat_lt k (length (commands_of host h)) ≡ true
     → (nth (commands_of host h) k).ticket ≡ (nth_sent (commands_of host h) j).ticket
+    → nat_lt (nth_sent (commands_of host h) j).flying.tag 4294967296 ≡ true
     → 0 ≡ next_of (paths_to (host_after s host h) (nth (commands_of host h) k).device.0) (missed_by (nth (commands_of host h) k).sends (path_log (log_of host h) (nth (commands_of host h) k).device.0))
     → spelled (host_after s host h) (nth (commands_of host h) k) (record { 0 = 0 }) (nth_sent (commands_of host h) j).flying.tag ≡ Some bytes → IsSent s host h c (next_number h) bytes
-repeats s host h k j c bytes is first within same next spells = record {
+repeats s host h k j c bytes is first within same fits next spells = record {
   sent = record { ticket = (nth_sent (commands_of host h) j).ticket; tag = (nth_sent (commands_of host h) j).flying.tag; path = record { 0 = 0 }; again = true };
   ticket_is = is;
   may = record { command = nth_sent (commands_of host h) j; first_due = first-of (is_due (clock h)) precedes (commands_of host h) j first; ticket = refl; tag = refl };
   path = record { command = nth (commands_of host h) k; there = there (commands_of host h) k within; ticket = same; next = next };
   frame = record { command = nth (commands_of host h) k; there = there (commands_of host h) k within; ticket = same; bytes = spells };
+  tag_fits = lt-of (nth_sent (commands_of host h) j).flying.tag 4294967296 fits;
   number_is = refl;
 }
 
@@ -179,3 +184,21 @@ none-of (Some x) e = absurd (cc)
 pub stale : (s : Setup) (host : HostSetup) (h : List Entry) (f : List ℕ) → list_all (λ c. is_none (answer_to (host_after s host h) c f)) (commands_of host h) ≡ true → IsStale s host h f
 stale s host h f e = λ k d lt. none-of (answer_to (host_after s host h) (slice_index_or (commands_of host h) k d) f)
     (AllPass-from_list_all (λ c. is_none (answer_to (host_after s host h) c f)) (commands_of host h) e k d lt)
+
+-- a host's turn, at whose end nothing is waited for too long, nothing is due and nothing is clear
+pub turns : (s : Setup) (host : HostSetup) (name : ArrayVec ℕ) (got : Option Got) (h mid m : List Entry) → is_called host name ≡ true → GivesUp name (told name host got h) mid
+    → list_all (λ o. not (is_expired host.dead (clock mid) o)) (sent_of (commands_of host mid)) ≡ true → SendsSome name mid m
+    → list_all (λ o. not (is_due (clock m) o)) (sent_of (commands_of host m)) ≡ true
+    → list_all (λ c. not (is_clear_at s.life (clock m) (commands_of host m) c)) (commands_of host m) ≡ true → Turn s host got h m
+turns s host name got h mid m called gives late sends due clear = record {
+  name = name;
+  called = called;
+  mid = mid;
+  gives_up = gives;
+  none_late = all-fail (is_expired host.dead (clock mid)) (sent_of (commands_of host mid)) late;
+  sends = sends;
+  none_next = record {
+    nothing_due = all-fail (is_due (clock m)) (sent_of (commands_of host m)) due;
+    nothing_clear = inr (all-fail (is_clear_at s.life (clock m) (commands_of host m)) (commands_of host m) clear);
+  };
+}

@@ -31,7 +31,7 @@ begun = Submitted a 1 device (Write 3 (full 0x5a)) ∷ []
 
 write-sent : IsSent setup host_a begun 1 1 write_frame
 unfolding full
-write-sent = starts setup host_a begun 0 1 1 write_frame refl refl refl refl refl refl refl refl refl
+write-sent = starts setup host_a begun 0 1 1 write_frame refl refl refl refl refl refl refl refl refl refl
 
 abbrev asked : List Entry
 asked = Sent a 1 1 write_frame ∷ begun
@@ -40,7 +40,7 @@ write-arrived : IsArrival setup slot asked 1 (Replied (Wrote (span 3)) 2 (tell w
 unfolding full request verdict decision
 write-arrived = record { bytes = write_frame; fresh = refl; law = (refl, refl); arming = unarmed slot asked write_frame (Replied (Wrote (span 3)) 2 (tell write_frame Good)) refl refl refl; numbered = refl }
 
-write-answered : IsResponse setup host_a stored (tell write_frame Good) 1 Written
+pub write-answered : IsResponse setup host_a stored (tell write_frame Good) 1 Written
 unfolding full request spelled answer
 write-answered = responds setup host_a stored (tell write_frame Good) 0 1 answers.Written refl refl refl
 
@@ -56,7 +56,7 @@ flush-submitted = record { device = 0; attached = refl; can = tt; taken = refl; 
 
 flush-sent : IsSent setup host_a waited 2 3 flush_frame
 unfolding full request spelled
-flush-sent = starts setup host_a waited 1 2 2 flush_frame refl refl refl refl refl refl refl refl refl
+flush-sent = starts setup host_a waited 1 2 2 flush_frame refl refl refl refl refl refl refl refl refl refl
 
 flush-arrived : IsArrival setup slot flush_sent 3 (Replied Synced 4 (tell flush_frame Good))
 unfolding full request verdict decision
@@ -65,7 +65,7 @@ flush-arrived = record { bytes = flush_frame; fresh = refl; law = refl; arming =
 abbrev flush_back : List Entry
 flush_back = Arrived device 3 (Replied Synced 4 (tell flush_frame Good)) ∷ flush_sent
 
-flush-answered : IsResponse setup host_a flush_back (tell flush_frame Good) 2 Flushed
+pub flush-answered : IsResponse setup host_a flush_back (tell flush_frame Good) 2 Flushed
 unfolding full request spelled answer
 flush-answered = responds setup host_a flush_back (tell flush_frame Good) 1 2 answers.Flushed refl refl refl
 
@@ -87,7 +87,7 @@ reading = Submitted a 3 device (Read (span 3)) ∷ crashed
 
 read-sent : IsSent setup host_a reading 3 5 (read_frame 3)
 unfolding full request spelled
-read-sent = starts setup host_a reading 2 3 3 (read_frame 3) refl refl refl refl refl refl refl refl refl
+read-sent = starts setup host_a reading 2 3 3 (read_frame 3) refl refl refl refl refl refl refl refl refl refl
 
 abbrev read_out : List Entry
 read_out = Sent a 3 5 (read_frame 3) ∷ reading
@@ -99,7 +99,7 @@ read-arrived = record { bytes = read_frame 3; fresh = refl; law = (refl, refl, t
 abbrev read_back : List Entry
 read_back = Arrived device 5 (Replied NoEffect 6 (show (read_frame 3) (full 0x5a))) ∷ read_out
 
-read-answered : IsResponse setup host_a read_back (show (read_frame 3) (full 0x5a)) 3 (ReadOutcome (full 0x5a))
+pub read-answered : IsResponse setup host_a read_back (show (read_frame 3) (full 0x5a)) 3 (ReadOutcome (full 0x5a))
 unfolding full request spelled answer
 read-answered = responds setup host_a read_back (show (read_frame 3) (full 0x5a)) 2 3 (answers.Data 512) refl refl refl
 

@@ -10,3 +10,7 @@ mod Refused
 mod CrashedCache
 mod CrashedStore
 mod Values
+mod CentralGroups
+mod RequestLemmas
+mod ReplyLemmas
+mod ConversationLemmas

@@ -16,6 +16,7 @@ use Rattle.aoe_history.specs.declared.entry.Entry.TheVariants.{Submitted, Sent, 
 use Rattle.aoe_history.specs.declared.entry.Fate.TheVariants.{Cut, Replied}
 use Rattle.aoe_history.specs.declared.entry.Which.TheVariants.{Store}
 use Rattle.aoe_history.specs.Example.{a, ask, b, device, full, port, show, slot, span, tell}
+use Rattle.aoe_history.specs.Groups.{Act, Crash, Hand, Host, Shelf, Submit, Tick}
 use Rattle.aoe_history.specs.Slots.{zero_sector}
 
 -- THE CENTRAL CASE: a write is acknowledged, a flush waits until no frame of the write can arrive, and then a crash changes
@@ -56,6 +57,12 @@ abbrev pub central_case : List Entry
 central_case =
     Done a 3 (ReadOutcome (full 0x5a)) ∷ Took a 6 false ∷ Arrived device 5 (Replied NoEffect 6 (show (read_frame 3) (full 0x5a)))
     ∷ Sent a 3 5 (read_frame 3) ∷ Submitted a 3 device (Read (span 3)) ∷ Crashed device empty_settings Old ∷ Lost 1 ∷ flushed
+
+-- the acts that it comes of
+abbrev pub central_acts : List Act
+central_acts =
+    Submit a device (Write 3 (full 0x5a)) ∷ Hand 1 (Shelf 1) ∷ Hand 2 (Host a) ∷ Submit a device Flush ∷ Tick 2000 ∷ Tick 1 ∷ Hand 1 (Shelf 1) ∷ Hand 3 (Shelf 1)
+    ∷ Hand 4 (Host a) ∷ Hand 1 (Shelf 1) ∷ Crash 1 Old ∷ Submit a device (Read (span 3)) ∷ Hand 5 (Shelf 1) ∷ Hand 6 (Host a) ∷ []
 
 -- A LATE ACKNOWLEDGEMENT: the slot loses its power before the host hears of its write
 

@@ -1,5 +1,5 @@
 -- The host law in a history: what a host submits, sends, takes and finishes.
-use Rattle.std.specs.Prelude.{ℕ, suc, ◌≡◌, ◌⊎◌, Bool, true, false, List, drop, Some, None, All, Contains}
+use Rattle.std.specs.Prelude.{ℕ, suc, ◌<◌, ◌≡◌, ◌⊎◌, Bool, true, false, List, drop, Some, None, All, Contains}
 use Rattle.aoe_base.specs.declared.address.TargetId.{TargetId}
 use Rattle.aoe_flight.specs.declared.outstanding.Outstanding.{Outstanding}
 use Rattle.aoe_flight.specs.Outstanding.{is_expired, lower, IsFirst}
@@ -32,13 +32,14 @@ pub record IsRefused (s : Setup) (host : HostSetup) (h : List Entry) (dev : Targ
   pub can : CanSubmit op
   pub refused : submit_refusal (host_after s host h) device op ≡ Some refusal
 
--- a frame is sent: that of the command that is next, with a tag that it may have, on the next path
+-- a frame is sent: that of the command that is next, with a tag that it may have and that its four bytes hold
 pub record IsSent (s : Setup) (host : HostSetup) (h : List Entry) (ticket number : ℕ) (bytes : List ℕ) : Type 0 where
   pub sent : step.Sent
   pub ticket_is : sent.ticket.0 ≡ ticket
   pub may : IsNext (host_after s host h) (commands_of host h) sent
   pub path : IsOnNextPath (host_after s host h) (log_of host h) sent
   pub frame : IsFrameOf (host_after s host h) (commands_of host h) sent bytes
+  pub tag_fits : sent.tag < 4294967296
   pub number_is : number ≡ next_number h
 
 -- a frame is the response that ends a command, with this outcome

@@ -9,3 +9,4 @@ pub mod Lawful
 pub mod Groups
 pub mod Example
 pub mod Cases
+pub mod Conversation

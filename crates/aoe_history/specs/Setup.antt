@@ -76,6 +76,8 @@ pub record IsAttachedTo (s : Setup) (d : Attached) : Type 0 where
 
 -- each station has an address of its own and a name of its own, and hosts are attached to slots that are there
 pub record IsSetup (s : Setup) : Type 0 where
+  pub host_addresses : (host : HostSetup) (port : Mac) → Contains s.hosts host → holds host.ports port ≡ true → length port.0 ≡ 6
+  pub shelf_addresses : (slot : SlotSetup) (port : Mac) → Contains s.slots slot → holds slot.station.ports.items port ≡ true → length port.0 ≡ 6
   pub host_ports : (a b : HostSetup) (port : Mac) → Contains s.hosts a → Contains s.hosts b → holds a.ports port ≡ true → holds b.ports port ≡ true → a ≡ b
   pub shelf_ports : (host : HostSetup) (slot : SlotSetup) (port : Mac) → Contains s.hosts host → Contains s.slots slot → holds host.ports port ≡ true
       → holds slot.station.ports.items port ≡ true → ⊥

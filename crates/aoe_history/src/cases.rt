@@ -11,11 +11,11 @@ ghost use Rattle.aoe_target.specs.declared.heard.Effect.TheVariants.{None as NoE
 ghost use Rattle.aoe_history.specs.declared.entry.Entry.TheVariants.{Sent, Arrived, Took, Lost, Crashed};
 ghost use Rattle.aoe_history.specs.declared.entry.Fate.{Fate};
 ghost use Rattle.aoe_history.specs.declared.entry.Fate.TheVariants.{Replied};
-ghost use Rattle.aoe_history.specs.Cases.{almost_waited, armed, beside_submitted, central_case, crashed_write, failed_write, flush_sent, forged_response, giving_up, kept_out, late_acknowledgement, masked_out, read_after_crash, read_frame, refusal_after_effect, reserved, second_submitted, stale_response, stopped_flush, write_due, write_sent, write_submitted};
+ghost use Rattle.aoe_history.specs.Cases.{almost_waited, armed, beside_submitted, central_acts, central_case, crashed_write, failed_write, flush_sent, forged_response, giving_up, kept_out, late_acknowledgement, masked_out, read_after_crash, read_frame, refusal_after_effect, reserved, second_submitted, stale_response, stopped_flush, write_due, write_sent, write_submitted};
 ghost use Rattle.aoe_history.specs.Commands.{commands_of, host_after};
 ghost use Rattle.aoe_history.specs.Example.{a, device, full, host_a, host_b, setup, setup_with, show, slot, span};
 ghost use Rattle.aoe_history.specs.Frames.{clock, frames};
-ghost use Rattle.aoe_history.specs.Groups.{Enters, Got, Hand, Shelf};
+ghost use Rattle.aoe_history.specs.Groups.{Enters, Follows, Got, Hand, Shelf};
 ghost use Rattle.aoe_history.specs.Lawful.{IsLawful, MayCome};
 ghost use Rattle.aoe_history.specs.Reading.{allowed, alone, safe, spoiled};
 ghost use Rattle.aoe_history.specs.Slots.{known_after, marked_after, zero_sector};
@@ -23,6 +23,7 @@ ghost use Rattle.aoe_history.specs.Slots.{known_after, marked_after, zero_sector
 /// A law: each entry of the worked histories could come after those before it.
 pub fn worked_histories()
     ensures central { IsLawful setup central_case }
+    ensures follows { Follows setup central_acts [] central_case }
     ensures late { IsLawful setup late_acknowledgement }
     ensures stale { IsLawful setup stale_response }
     ensures refusal { IsLawful (setup_with None (host_a ∷ host_b ∷ [])) refusal_after_effect }

@@ -1,4 +1,5 @@
 use Rattle.aoe_history.proofs.CentralCase as central_case
+use Rattle.aoe_history.proofs.CentralGroups.{follows}
 use Rattle.aoe_history.proofs.CrashedCache as crashed_cache
 use Rattle.aoe_history.proofs.CrashedStore as crashed_store
 use Rattle.aoe_history.proofs.FailedWrite as failed_write
@@ -44,3 +45,6 @@ returns-clause-stored c = crashed_store.lawful
 
 pub returns-clause-cached : goal.returns-clause-cached
 returns-clause-cached c = crashed_cache.lawful
+
+pub returns-clause-follows : goal.returns-clause-follows
+returns-clause-follows c = follows

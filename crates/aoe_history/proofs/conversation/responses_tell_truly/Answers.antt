@@ -1,0 +1,5 @@
+use Rattle.aoe_history.proofs.ConversationLemmas.{response-tells}
+use Rattle.aoe_history.proofs.conversation.responses_tell_truly.Goals as goal
+
+pub returns : goal.returns
+returns c = response-tells
