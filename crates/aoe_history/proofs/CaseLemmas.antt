@@ -18,7 +18,7 @@ use Rattle.aoe_disk.specs.State.{sector}
 use Rattle.aoe_target.specs.Sectors.{Sectors, Tells}
 use Rattle.aoe_history.specs.declared.entry.Entry.{Entry}
 use Rattle.aoe_history.specs.declared.entry.Fate.{Fate}
-use Rattle.aoe_history.specs.declared.entry.Which.TheVariants.{Store, Keep}
+use Rattle.aoe_script.specs.declared.event.Which.TheVariants.{Store, Keep}
 use Rattle.aoe_history.specs.Commands.{commands_of, host_after, log_of}
 use Rattle.aoe_history.specs.Frames.{clock, next_number}
 use Rattle.aoe_history.specs.Groups.{told, GivesUp, Got, SendsSome, Turn}

@@ -14,7 +14,7 @@ use Rattle.aoe_target.specs.Verdict.{verdict}
 use Rattle.aoe_history.specs.declared.entry.Entry.{Entry}
 use Rattle.aoe_history.specs.declared.entry.Entry.TheVariants.{Submitted, Sent, Arrived, Took, Done, Armed}
 use Rattle.aoe_history.specs.declared.entry.Fate.TheVariants.{Replied}
-use Rattle.aoe_history.specs.declared.entry.Which.TheVariants.{Store}
+use Rattle.aoe_script.specs.declared.event.Which.TheVariants.{Store}
 use Rattle.aoe_history.specs.Cases.{failed_write, ones_frame}
 use Rattle.aoe_history.specs.Example.{a, device, full, host_a, setup, span, tell}
 use Rattle.aoe_history.specs.Lawful.{IsLawful, MayCome}

@@ -17,7 +17,7 @@ use Rattle.aoe_target.specs.Verdict.{verdict}
 use Rattle.aoe_history.specs.declared.entry.Entry.{Entry}
 use Rattle.aoe_history.specs.declared.entry.Entry.TheVariants.{Submitted, Sent, Arrived, Took, Done, Ticked, Armed, Crashed}
 use Rattle.aoe_history.specs.declared.entry.Fate.TheVariants.{Cut, Replied}
-use Rattle.aoe_history.specs.declared.entry.Which.TheVariants.{Store}
+use Rattle.aoe_script.specs.declared.event.Which.TheVariants.{Store}
 use Rattle.aoe_history.specs.Cases.{acknowledged, flush_frame, left_sector, read_frame, stopped_flush}
 use Rattle.aoe_history.specs.Example.{a, device, full, host_a, setup, show, slot, span}
 use Rattle.aoe_history.specs.Lawful.{IsLawful, MayCome}
