@@ -19,6 +19,10 @@ use Rattle.aoe_script.specs.Words.{Text}
 
 -- ---- words
 
+-- what stands before the part at a place: nothing before the first
+abbrev pub between : ℕ → ℕ → Text
+between byte i = if i == 0 then [] else byte ∷ []
+
 -- e, the shelf's number, a point and the slot's number
 abbrev pub device_text : TargetId → Text
 device_text dev = 101 ∷ (decimal dev.major ++ 46 ∷ decimal dev.minor)
@@ -88,13 +92,17 @@ event_words (Fail dev which k) = codes "fail" ∷ device_text dev ∷ which_text
 event_words (Stop dev which k mode) = codes "stop" ∷ device_text dev ∷ which_text which ∷ decimal k ∷ mode_text mode ∷ []
 event_words (Crash shelf mode) = codes "crash" ∷ shelf.items ∷ mode_text mode ∷ []
 
--- a line: its first word, each other one behind a space (32), and a line feed (10)
+-- words, each but the first behind a space (32)
 abbrev pub spaced : List Text → Text
 spaced ws = flat_map (λ word. 32 ∷ word) ws
 
+abbrev pub spelled : List Text → Text
+spelled [] = []
+spelled (first ∷ ws) = first ++ spaced ws
+
+-- a line of them, with its line feed (10)
 abbrev pub line_text : List Text → Text
-line_text [] = 10 ∷ []
-line_text (first ∷ ws) = first ++ spaced ws ++ 10 ∷ []
+line_text ws = spelled ws ++ 10 ∷ []
 
 abbrev pub script_text : ScriptLines → Text
 script_text lines = flat_map (λ setup. line_text (setup_words setup)) lines.setups ++ flat_map (λ event. line_text (event_words event)) lines.events

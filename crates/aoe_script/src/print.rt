@@ -1,26 +1,32 @@
 //! The text of a script.
-ghost use Rattle.std.specs.Prelude.{◌≡◌, ◌++◌, ◌∷◌, [], IfOk, OnOk};
-ghost use Rattle.aoe_script.specs.Print.{event_words, line_text, script_text, setup_words};
+ghost use Rattle.std.specs.Prelude.{◌≡◌, ◌++◌, ◌∷◌, [], decimal, IfOk, OnOk};
+ghost use Rattle.aoe_script.specs.Print.{device_text, event_words, optional_word, script_text, setup_words, spaced, spelled, which_text};
 
-use crate::event::Event;
+use crate::event::{Event, Which};
 use crate::script::Script;
 use crate::setup::{Name, Setup};
 use crate::spelling::{
     put, put_bytes, put_ccmd, put_device, put_dirs, put_list, put_macs, put_mode, put_number,
     put_pair, put_rcmd, put_which,
 };
-use aoe_base::{Blob, NoMemory, TargetId};
+use aoe_base::{Blob, Mac, NoMemory, TargetId};
+use aoe_initiator::{Dir, MAX_DIRS};
+use arrayvec::ArrayVec;
 use std::alloc::Global;
 
 /// Adds a word and a number behind it.
-fn put_count(out: &mut Vec<u8>, word: &[u8], n: u64) -> Result<(), NoMemory> {
+fn put_count(out: &mut Vec<u8>, word: &[u8], n: u64) -> Result<(), NoMemory>
+    ensures { OnOk result (out.new.items ≡ out.old.items ++ (word.now ++ 32 ∷ decimal n)) }
+{
     put(out, word)?;
     put(out, b" ")?;
     put_number(out, n)
 }
 
 /// Adds a number behind a space, where there is one.
-fn put_optional(out: &mut Vec<u8>, n: Option<u64>) -> Result<(), NoMemory> {
+fn put_optional(out: &mut Vec<u8>, n: Option<u64>) -> Result<(), NoMemory>
+    ensures { OnOk result (out.new.items ≡ out.old.items ++ spaced (optional_word n)) }
+{
     match n {
         Some(n) => put_count(out, b"", n),
         None => Ok(()),
@@ -28,21 +34,27 @@ fn put_optional(out: &mut Vec<u8>, n: Option<u64>) -> Result<(), NoMemory> {
 }
 
 /// Adds a word and a name behind it.
-fn put_named(out: &mut Vec<u8>, word: &[u8], name: &Name) -> Result<(), NoMemory> {
+fn put_named(out: &mut Vec<u8>, word: &[u8], name: &Name) -> Result<(), NoMemory>
+    ensures { OnOk result (out.new.items ≡ out.old.items ++ (word.now ++ 32 ∷ name.now.items)) }
+{
     put(out, word)?;
     put(out, b" ")?;
     put(out, name.as_slice())
 }
 
 /// Adds a word, a host and a device.
-fn put_asked(out: &mut Vec<u8>, word: &[u8], host: &Name, dev: &TargetId) -> Result<(), NoMemory> {
+fn put_asked(out: &mut Vec<u8>, word: &[u8], host: &Name, dev: &TargetId) -> Result<(), NoMemory>
+    ensures { OnOk result (out.new.items ≡ out.old.items ++ (word.now ++ (32 ∷ host.now.items) ++ 32 ∷ device_text dev.now)) }
+{
     put_named(out, word, host)?;
     put(out, b" ")?;
     put_device(out, dev)
 }
 
 /// Adds a setup line, without its end.
-fn put_setup(out: &mut Vec<u8>, setup: &Setup) -> Result<(), NoMemory> {
+fn put_setup(out: &mut Vec<u8>, setup: &Setup) -> Result<(), NoMemory>
+    ensures { OnOk result (out.new.items ≡ out.old.items ++ spelled (setup_words setup.now)) }
+{
     match setup {
         Setup::Life { ms } => put_count(out, b"life", *ms),
         Setup::Shelf {
@@ -88,91 +100,153 @@ fn put_setup(out: &mut Vec<u8>, setup: &Setup) -> Result<(), NoMemory> {
     }
 }
 
-/// Adds a submission, without its end; nothing for another event.
-fn put_submission(out: &mut Vec<u8>, event: &Event) -> Result<(), NoMemory> {
+/// Adds `read`, without its end.
+fn put_read(
+    out: &mut Vec<u8>,
+    host: &Name,
+    dev: &TargetId,
+    at: u64,
+    count: u64,
+) -> Result<(), NoMemory>
+    ensures { OnOk result (out.new.items ≡ out.old.items ++ spelled (event_words (Event.Read host.now dev.now at count))) }
+{
+    put_asked(out, b"read", host, dev)?;
+    put_count(out, b"", at)?;
+    put_count(out, b"", count)
+}
+
+/// Adds `write`, without its end.
+fn put_write(
+    out: &mut Vec<u8>,
+    host: &Name,
+    dev: &TargetId,
+    at: u64,
+    count: u64,
+    fill: u8,
+) -> Result<(), NoMemory>
+    ensures { OnOk result (out.new.items ≡ out.old.items ++ spelled (event_words (Event.Write host.now dev.now at count fill))) }
+{
+    put_asked(out, b"write", host, dev)?;
+    put_count(out, b"", at)?;
+    put_count(out, b"", count)?;
+    put(out, b" ")?;
+    put_pair(out, fill)
+}
+
+/// Adds `config`, without its end.
+fn put_config(
+    out: &mut Vec<u8>,
+    host: &Name,
+    dev: &TargetId,
+    ccmd: u8,
+    text: &Blob,
+) -> Result<(), NoMemory>
+    ensures { OnOk result (out.new.items ≡ out.old.items ++ spelled (event_words (Event.Config host.now dev.now ccmd text.now))) }
+{
+    put_asked(out, b"config", host, dev)?;
+    put(out, b" ")?;
+    put_ccmd(out, ccmd)?;
+    if ccmd == 0 {
+        return Ok(());
+    }
+    put(out, b" ")?;
+    put_bytes(out, text.bytes())
+}
+
+/// Adds `masks`, without its end.
+fn put_masks(
+    out: &mut Vec<u8>,
+    host: &Name,
+    dev: &TargetId,
+    edit: bool,
+    dirs: &ArrayVec<Dir, MAX_DIRS>,
+) -> Result<(), NoMemory>
+    ensures { OnOk result (out.new.items ≡ out.old.items ++ spelled (event_words (Event.Masks host.now dev.now edit dirs.now))) }
+{
+    put_asked(out, b"masks", host, dev)?;
+    if !edit {
+        return put(out, b" read");
+    }
+    put(out, b" edit ")?;
+    put_dirs(out, dirs.as_slice())
+}
+
+/// Adds `reserve`, without its end.
+fn put_reserve(
+    out: &mut Vec<u8>,
+    host: &Name,
+    dev: &TargetId,
+    rcmd: u8,
+    list: &ArrayVec<Mac, MAX_DIRS>,
+) -> Result<(), NoMemory>
+    ensures { OnOk result (out.new.items ≡ out.old.items ++ spelled (event_words (Event.Reserve host.now dev.now rcmd list.now))) }
+{
+    put_asked(out, b"reserve", host, dev)?;
+    put(out, b" ")?;
+    put_rcmd(out, rcmd)?;
+    if rcmd == 0 {
+        return Ok(());
+    }
+    put(out, b" ")?;
+    put_list(out, list.as_slice())
+}
+
+/// Adds the disk of a device and the number of its call, behind a word.
+fn put_call(
+    out: &mut Vec<u8>,
+    word: &[u8],
+    dev: &TargetId,
+    which: Which,
+    k: u64,
+) -> Result<(), NoMemory>
+    ensures { OnOk result (out.new.items ≡ out.old.items ++ spelled (word.now ∷ device_text dev.now ∷ which_text which ∷ decimal k ∷ [])) }
+{
+    put(out, word)?;
+    put(out, b" ")?;
+    put_device(out, dev)?;
+    put(out, b" ")?;
+    put_which(out, which)?;
+    put_count(out, b"", k)
+}
+
+/// Adds an event line, without its end.
+fn put_event(out: &mut Vec<u8>, event: &Event) -> Result<(), NoMemory>
+    ensures { OnOk result (out.new.items ≡ out.old.items ++ spelled (event_words event.now)) }
+{
     match event {
         Event::Read {
             host,
             dev,
             at,
             count,
-        } => {
-            put_asked(out, b"read", host, dev)?;
-            put_count(out, b"", *at)?;
-            put_count(out, b"", *count)
-        }
+        } => put_read(out, host, dev, *at, *count),
         Event::Write {
             host,
             dev,
             at,
             count,
             fill,
-        } => {
-            put_asked(out, b"write", host, dev)?;
-            put_count(out, b"", *at)?;
-            put_count(out, b"", *count)?;
-            put(out, b" ")?;
-            put_pair(out, *fill)
-        }
+        } => put_write(out, host, dev, *at, *count, *fill),
         Event::Flush { host, dev } => put_asked(out, b"flush", host, dev),
         Event::Identify { host, dev } => put_asked(out, b"identify", host, dev),
-        _ => put_list_submission(out, event),
-    }
-}
-
-/// Adds a submission on the lists of a device, without its end; nothing for another event.
-fn put_list_submission(out: &mut Vec<u8>, event: &Event) -> Result<(), NoMemory> {
-    match event {
         Event::Config {
             host,
             dev,
             ccmd,
             text,
-        } => {
-            put_asked(out, b"config", host, dev)?;
-            put(out, b" ")?;
-            put_ccmd(out, *ccmd)?;
-            if *ccmd == 0 {
-                return Ok(());
-            }
-            put(out, b" ")?;
-            put_bytes(out, text.bytes())
-        }
+        } => put_config(out, host, dev, *ccmd, text),
         Event::Masks {
             host,
             dev,
             edit,
             dirs,
-        } => {
-            put_asked(out, b"masks", host, dev)?;
-            if !*edit {
-                return put(out, b" read");
-            }
-            put(out, b" edit ")?;
-            put_dirs(out, dirs.as_slice())
-        }
+        } => put_masks(out, host, dev, *edit, dirs),
         Event::Reserve {
             host,
             dev,
             rcmd,
             list,
-        } => {
-            put_asked(out, b"reserve", host, dev)?;
-            put(out, b" ")?;
-            put_rcmd(out, *rcmd)?;
-            if *rcmd == 0 {
-                return Ok(());
-            }
-            put(out, b" ")?;
-            put_list(out, list.as_slice())
-        }
-        _ => Ok(()),
-    }
-}
-
-/// Adds an event line, without its end.
-fn put_event(out: &mut Vec<u8>, event: &Event) -> Result<(), NoMemory> {
-    match event {
+        } => put_reserve(out, host, dev, *rcmd, list),
         Event::Tick { ms } => put_count(out, b"tick", *ms),
         Event::Deliver { frame, station } => {
             put_count(out, b"deliver", *frame)?;
@@ -185,24 +259,14 @@ fn put_event(out: &mut Vec<u8>, event: &Event) -> Result<(), NoMemory> {
             put(out, b"inject ")?;
             put_bytes(out, bytes.bytes())
         }
-        Event::Fail { dev, which, k } => {
-            put(out, b"fail ")?;
-            put_device(out, dev)?;
-            put(out, b" ")?;
-            put_which(out, *which)?;
-            put_count(out, b"", *k)
-        }
+        Event::Fail { dev, which, k } => put_call(out, b"fail", dev, *which, *k),
         Event::Stop {
             dev,
             which,
             k,
             mode,
         } => {
-            put(out, b"stop ")?;
-            put_device(out, dev)?;
-            put(out, b" ")?;
-            put_which(out, *which)?;
-            put_count(out, b"", *k)?;
+            put_call(out, b"stop", dev, *which, *k)?;
             put(out, b" ")?;
             put_mode(out, *mode)
         }
@@ -211,7 +275,6 @@ fn put_event(out: &mut Vec<u8>, event: &Event) -> Result<(), NoMemory> {
             put(out, b" ")?;
             put_mode(out, *mode)
         }
-        _ => put_submission(out, event),
     }
 }
 

@@ -1,16 +1,15 @@
 //! How words are spelled.
-ghost use Rattle.std.specs.Prelude.{◌≡◌, ◌++◌, ◌∷◌, [], decimal, OnOk};
+ghost use Rattle.std.specs.Prelude.{◌≡◌, ◌++◌, ◌<◌, decimal, map, OnOk};
+ghost use Rattle.std.specs.List.{join_with_byte};
+ghost use Rattle.std.specs.Char.{digit_char};
 ghost use Rattle.aoe_base.specs.Names.{mac_text, pair_text};
-ghost use Rattle.aoe_script.specs.Print.{bytes_text, ccmd_text, device_text, dir_text, dirs_text, list_text, macs_text, mode_text, rcmd_text, which_text};
+ghost use Rattle.aoe_script.specs.Print.{between, bytes_text, ccmd_text, device_text, dir_text, dirs_text, list_text, macs_text, mode_text, rcmd_text, which_text};
 
 use crate::event::Which;
 use aoe_base::{Mac, NoMemory, TargetId};
 use aoe_disk::Loss;
 use aoe_initiator::Dir;
 use itoa::Buffer;
-
-/// The digits of bytes.
-const DIGITS: [u8; 16] = *b"0123456789abcdef";
 
 /// Adds bytes.
 pub(crate) fn put(out: &mut Vec<u8>, bytes: &[u8]) -> Result<(), NoMemory>
@@ -30,37 +29,56 @@ pub(crate) fn put_number(out: &mut Vec<u8>, n: u64) -> Result<(), NoMemory>
     put(out, buffer.format(n).as_bytes())
 }
 
+/// The hexadecimal digit of a value.
+fn digit(value: u8) -> u8
+    requires { value < 16 }
+    ensures { result ≡ digit_char value }
+{
+    if value < 10 {
+        b'0' + value
+    } else {
+        b'a' + value - 10
+    }
+}
+
 /// Adds a byte as two digits.
 pub(crate) fn put_pair(out: &mut Vec<u8>, byte: u8) -> Result<(), NoMemory>
     ensures { OnOk result (out.new.items ≡ out.old.items ++ pair_text byte) }
 {
-    let pair = [
-        DIGITS[usize::from(byte / 16)],
-        DIGITS[usize::from(byte % 16)],
-    ];
-    put(out, &pair)
+    put(out, &[digit(byte / 16), digit(byte % 16)])
+}
+
+/// Adds what stands before the part at a place: nothing before the first.
+fn put_between(out: &mut Vec<u8>, i: usize, byte: u8) -> Result<(), NoMemory>
+    ensures { OnOk result (out.new.items ≡ out.old.items ++ between byte i) }
+{
+    if i == 0 { Ok(()) } else { put(out, &[byte]) }
+}
+
+/// Adds bytes as pairs of digits, joined by colons.
+fn put_pairs(out: &mut Vec<u8>, bytes: &[u8]) -> Result<(), NoMemory>
+    ensures { OnOk result (out.new.items ≡ out.old.items ++ join_with_byte 58 (map pair_text bytes.now)) }
+{
+    'pairs: for (i, byte) in bytes.iter().enumerate() {
+        put_between(out, i, b':')?;
+        put_pair(out, *byte)?;
+    }
+    Ok(())
 }
 
 /// Adds an address.
 fn put_mac(out: &mut Vec<u8>, mac: &Mac) -> Result<(), NoMemory>
     ensures { OnOk result (out.new.items ≡ out.old.items ++ mac_text mac.now) }
 {
-    put_pair(out, mac.0[0])?;
-    for i in 1..6 {
-        put(out, b":")?;
-        put_pair(out, mac.0[i])?;
-    }
-    Ok(())
+    put_pairs(out, &mac.0)
 }
 
 /// Adds addresses, joined by commas.
 pub(crate) fn put_macs(out: &mut Vec<u8>, macs: &[Mac]) -> Result<(), NoMemory>
     ensures { OnOk result (out.new.items ≡ out.old.items ++ macs_text macs.now) }
 {
-    for (i, mac) in macs.iter().enumerate() {
-        if i > 0 {
-            put(out, b",")?;
-        }
+    'macs: for (i, mac) in macs.iter().enumerate() {
+        put_between(out, i, b',')?;
         put_mac(out, mac)?;
     }
     Ok(())
@@ -90,10 +108,8 @@ fn put_dir(out: &mut Vec<u8>, dir: &Dir) -> Result<(), NoMemory>
 pub(crate) fn put_dirs(out: &mut Vec<u8>, dirs: &[Dir]) -> Result<(), NoMemory>
     ensures { OnOk result (out.new.items ≡ out.old.items ++ dirs_text dirs.now) }
 {
-    for (i, dir) in dirs.iter().enumerate() {
-        if i > 0 {
-            put(out, b",")?;
-        }
+    'dirs: for (i, dir) in dirs.iter().enumerate() {
+        put_between(out, i, b',')?;
         put_dir(out, dir)?;
     }
     Ok(())
@@ -106,7 +122,7 @@ pub(crate) fn put_bytes(out: &mut Vec<u8>, bytes: &[u8]) -> Result<(), NoMemory>
     if bytes.is_empty() {
         return put(out, b"-");
     }
-    for byte in bytes {
+    'bytes: for byte in bytes {
         put_pair(out, *byte)?;
     }
     Ok(())
