@@ -1,4 +1,3 @@
-use Rattle.std.proofs.Common.{rules}
 use Rattle.aoe_script.specs.Print.{dir_text}
 use Rattle.aoe_script.proofs.JoinLemmas.{joined}
 use Rattle.aoe_script.proofs.spelling.put_dirs.Goals as goal
