@@ -1,3 +1,4 @@
+mod JoinLemmas
 mod LineLemmas
 mod PairLemmas
 mod PartLemmas

@@ -1,5 +1,6 @@
 pub mod Classes
 pub mod Forms
 pub mod Lines
+pub mod Print
 pub mod Rules
 pub mod Words

@@ -1,4 +1,4 @@
-use crate::{Event, Script, ScriptRefusal, Setup, Why, read_script};
+use crate::{Event, Script, ScriptRefusal, Setup, Why, print_script, read_script};
 use aoe_base::{Blob, TargetId};
 use aoe_disk::Loss;
 use std::alloc::{AllocError, Global};
@@ -353,5 +353,19 @@ fn takes_so_many_events_and_bytes(rt: HostRuntime) -> Result<(), Fail> {
             Err(ScriptRefusal::TooLong)
         )
     );
+    Ok(())
+}
+
+#[test]
+fn prints_what_it_read(rt: HostRuntime) -> Result<(), Fail> {
+    let alloc = rt.alloc();
+    let text =
+        "life 2000\nshelf s 1 02:00:00:00:00:01,02:00:00:00:00:02 1500\nslot s 0 16\nslot s 7 9 3\nhost a 02:00:00:00:00:0a\nhost b 02:00:00:00:00:0b 5 600\nattach a s 0\n\
+        read a e1.0 281474976710655 255\nwrite a e1.0 0 0 5a\nflush a e1.0\nidentify a e1.0\nconfig a e1.0 read\nconfig a e1.0 test -\nconfig a e1.0 force 00ff\n\
+        masks a e1.0 read\nmasks a e1.0 edit +02:00:00:00:00:0a,-ff:ff:ff:ff:ff:ff\nreserve a e1.0 read\nreserve a e1.0 set -\nreserve a e1.0 force 02:00:00:00:00:0a,02:00:00:00:00:0b\n\
+        tick 1\ndeliver 3 b\npass 10\nskip 1\nagain\ninject ffffffffffff02000000000c88a2\nfail e1.7 store 1000\nstop e1.0 keep 1 mix:18446744073709551615\ncrash s torn\n";
+    let script = read_script(alloc, text.as_bytes())?;
+    let printed = print_script(alloc, &script)?;
+    assert_eq!(rt; printed.bytes(), text.as_bytes());
     Ok(())
 }

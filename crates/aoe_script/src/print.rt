@@ -1,0 +1,296 @@
+//! The text of a script.
+ghost use Rattle.std.specs.Prelude.{◌≡◌, ◌++◌, ◌∷◌, [], decimal, IfOk, OnOk};
+ghost use Rattle.aoe_script.specs.Print.{device_text, event_words, optional_word, script_text, setup_words, spaced, spelled, which_text};
+
+use crate::event::{Event, Which};
+use crate::script::Script;
+use crate::setup::{Name, Setup};
+use crate::spelling::{
+    put, put_bytes, put_ccmd, put_device, put_dirs, put_list, put_macs, put_mode, put_number,
+    put_pair, put_rcmd, put_which,
+};
+use aoe_base::{Blob, Mac, NoMemory, TargetId};
+use aoe_initiator::{Dir, MAX_DIRS};
+use arrayvec::ArrayVec;
+use std::alloc::Global;
+
+/// Adds a word and a number behind it.
+fn put_count(out: &mut Vec<u8>, word: &[u8], n: u64) -> Result<(), NoMemory>
+    ensures { OnOk result (out.new.items ≡ out.old.items ++ (word.now ++ 32 ∷ decimal n)) }
+{
+    put(out, word)?;
+    put(out, b" ")?;
+    put_number(out, n)
+}
+
+/// Adds a number behind a space, where there is one.
+fn put_optional(out: &mut Vec<u8>, n: Option<u64>) -> Result<(), NoMemory>
+    ensures { OnOk result (out.new.items ≡ out.old.items ++ spaced (optional_word n)) }
+{
+    match n {
+        Some(n) => put_count(out, b"", n),
+        None => Ok(()),
+    }
+}
+
+/// Adds a word and a name behind it.
+fn put_named(out: &mut Vec<u8>, word: &[u8], name: &Name) -> Result<(), NoMemory>
+    ensures { OnOk result (out.new.items ≡ out.old.items ++ (word.now ++ 32 ∷ name.now.items)) }
+{
+    put(out, word)?;
+    put(out, b" ")?;
+    put(out, name.as_slice())
+}
+
+/// Adds a word, a host and a device.
+fn put_asked(out: &mut Vec<u8>, word: &[u8], host: &Name, dev: &TargetId) -> Result<(), NoMemory>
+    ensures { OnOk result (out.new.items ≡ out.old.items ++ (word.now ++ (32 ∷ host.now.items) ++ 32 ∷ device_text dev.now)) }
+{
+    put_named(out, word, host)?;
+    put(out, b" ")?;
+    put_device(out, dev)
+}
+
+/// Adds a setup line, without its end.
+fn put_setup(out: &mut Vec<u8>, setup: &Setup) -> Result<(), NoMemory>
+    ensures { OnOk result (out.new.items ≡ out.old.items ++ spelled (setup_words setup.now)) }
+{
+    match setup {
+        Setup::Life { ms } => put_count(out, b"life", *ms),
+        Setup::Shelf {
+            name,
+            major,
+            ports,
+            mtu,
+        } => {
+            put_named(out, b"shelf", name)?;
+            put_count(out, b"", *major)?;
+            put(out, b" ")?;
+            put_macs(out, ports.as_slice())?;
+            put_count(out, b"", *mtu)
+        }
+        Setup::Slot {
+            shelf,
+            minor,
+            sectors,
+            room,
+        } => {
+            put_named(out, b"slot", shelf)?;
+            put_count(out, b"", *minor)?;
+            put_count(out, b"", *sectors)?;
+            put_optional(out, *room)
+        }
+        Setup::Host {
+            name,
+            ports,
+            room,
+            dead,
+        } => {
+            put_named(out, b"host", name)?;
+            put(out, b" ")?;
+            put_macs(out, ports.as_slice())?;
+            put_optional(out, *room)?;
+            put_optional(out, *dead)
+        }
+        Setup::Attach { host, shelf, minor } => {
+            put_named(out, b"attach", host)?;
+            put_named(out, b"", shelf)?;
+            put_count(out, b"", *minor)
+        }
+    }
+}
+
+/// Adds `read`, without its end.
+fn put_read(
+    out: &mut Vec<u8>,
+    host: &Name,
+    dev: &TargetId,
+    at: u64,
+    count: u64,
+) -> Result<(), NoMemory>
+    ensures { OnOk result (out.new.items ≡ out.old.items ++ spelled (event_words (Event.Read host.now dev.now at count))) }
+{
+    put_asked(out, b"read", host, dev)?;
+    put_count(out, b"", at)?;
+    put_count(out, b"", count)
+}
+
+/// Adds `write`, without its end.
+fn put_write(
+    out: &mut Vec<u8>,
+    host: &Name,
+    dev: &TargetId,
+    at: u64,
+    count: u64,
+    fill: u8,
+) -> Result<(), NoMemory>
+    ensures { OnOk result (out.new.items ≡ out.old.items ++ spelled (event_words (Event.Write host.now dev.now at count fill))) }
+{
+    put_asked(out, b"write", host, dev)?;
+    put_count(out, b"", at)?;
+    put_count(out, b"", count)?;
+    put(out, b" ")?;
+    put_pair(out, fill)
+}
+
+/// Adds `config`, without its end.
+fn put_config(
+    out: &mut Vec<u8>,
+    host: &Name,
+    dev: &TargetId,
+    ccmd: u8,
+    text: &Blob,
+) -> Result<(), NoMemory>
+    ensures { OnOk result (out.new.items ≡ out.old.items ++ spelled (event_words (Event.Config host.now dev.now ccmd text.now))) }
+{
+    put_asked(out, b"config", host, dev)?;
+    put(out, b" ")?;
+    put_ccmd(out, ccmd)?;
+    if ccmd == 0 {
+        return Ok(());
+    }
+    put(out, b" ")?;
+    put_bytes(out, text.bytes())
+}
+
+/// Adds `masks`, without its end.
+fn put_masks(
+    out: &mut Vec<u8>,
+    host: &Name,
+    dev: &TargetId,
+    edit: bool,
+    dirs: &ArrayVec<Dir, MAX_DIRS>,
+) -> Result<(), NoMemory>
+    ensures { OnOk result (out.new.items ≡ out.old.items ++ spelled (event_words (Event.Masks host.now dev.now edit dirs.now))) }
+{
+    put_asked(out, b"masks", host, dev)?;
+    if !edit {
+        return put(out, b" read");
+    }
+    put(out, b" edit ")?;
+    put_dirs(out, dirs.as_slice())
+}
+
+/// Adds `reserve`, without its end.
+fn put_reserve(
+    out: &mut Vec<u8>,
+    host: &Name,
+    dev: &TargetId,
+    rcmd: u8,
+    list: &ArrayVec<Mac, MAX_DIRS>,
+) -> Result<(), NoMemory>
+    ensures { OnOk result (out.new.items ≡ out.old.items ++ spelled (event_words (Event.Reserve host.now dev.now rcmd list.now))) }
+{
+    put_asked(out, b"reserve", host, dev)?;
+    put(out, b" ")?;
+    put_rcmd(out, rcmd)?;
+    if rcmd == 0 {
+        return Ok(());
+    }
+    put(out, b" ")?;
+    put_list(out, list.as_slice())
+}
+
+/// Adds the disk of a device and the number of its call, behind a word.
+fn put_call(
+    out: &mut Vec<u8>,
+    word: &[u8],
+    dev: &TargetId,
+    which: Which,
+    k: u64,
+) -> Result<(), NoMemory>
+    ensures { OnOk result (out.new.items ≡ out.old.items ++ spelled (word.now ∷ device_text dev.now ∷ which_text which ∷ decimal k ∷ [])) }
+{
+    put(out, word)?;
+    put(out, b" ")?;
+    put_device(out, dev)?;
+    put(out, b" ")?;
+    put_which(out, which)?;
+    put_count(out, b"", k)
+}
+
+/// Adds an event line, without its end.
+fn put_event(out: &mut Vec<u8>, event: &Event) -> Result<(), NoMemory>
+    ensures { OnOk result (out.new.items ≡ out.old.items ++ spelled (event_words event.now)) }
+{
+    match event {
+        Event::Read {
+            host,
+            dev,
+            at,
+            count,
+        } => put_read(out, host, dev, *at, *count),
+        Event::Write {
+            host,
+            dev,
+            at,
+            count,
+            fill,
+        } => put_write(out, host, dev, *at, *count, *fill),
+        Event::Flush { host, dev } => put_asked(out, b"flush", host, dev),
+        Event::Identify { host, dev } => put_asked(out, b"identify", host, dev),
+        Event::Config {
+            host,
+            dev,
+            ccmd,
+            text,
+        } => put_config(out, host, dev, *ccmd, text),
+        Event::Masks {
+            host,
+            dev,
+            edit,
+            dirs,
+        } => put_masks(out, host, dev, *edit, dirs),
+        Event::Reserve {
+            host,
+            dev,
+            rcmd,
+            list,
+        } => put_reserve(out, host, dev, *rcmd, list),
+        Event::Tick { ms } => put_count(out, b"tick", *ms),
+        Event::Deliver { frame, station } => {
+            put_count(out, b"deliver", *frame)?;
+            put_named(out, b"", station)
+        }
+        Event::Pass { n } => put_count(out, b"pass", *n),
+        Event::Skip { n } => put_count(out, b"skip", *n),
+        Event::Again => put(out, b"again"),
+        Event::Inject { bytes } => {
+            put(out, b"inject ")?;
+            put_bytes(out, bytes.bytes())
+        }
+        Event::Fail { dev, which, k } => put_call(out, b"fail", dev, *which, *k),
+        Event::Stop {
+            dev,
+            which,
+            k,
+            mode,
+        } => {
+            put_call(out, b"stop", dev, *which, *k)?;
+            put(out, b" ")?;
+            put_mode(out, *mode)
+        }
+        Event::Crash { shelf, mode } => {
+            put_named(out, b"crash", shelf)?;
+            put(out, b" ")?;
+            put_mode(out, *mode)
+        }
+    }
+}
+
+/// The text of a script: one line for each setup line and each event, whose words single spaces
+/// part.
+pub fn print_script(alloc: Global, script: &Script) -> Result<Blob, NoMemory>
+    ensures { IfOk result (λ text. text ≡ script_text script.now) }
+{
+    let mut out = Vec::new(alloc);
+    'setups: for i in 0..script.setups() {
+        put_setup(&mut out, script.setup(i))?;
+        put(&mut out, b"\n")?;
+    }
+    'events: for i in 0..script.count() {
+        put_event(&mut out, script.event(i))?;
+        put(&mut out, b"\n")?;
+    }
+    Blob::of(alloc, out.as_slice())
+}
