@@ -5,7 +5,7 @@ ghost use Rattle.std.specs.Net.Grammar.{IsSocketText};
 ghost use Rattle.std.specs.declared.net.socket_addr.SocketAddr.{SocketAddr};
 
 use aoe_base::Failed;
-use aoe_frame::Frame;
+use aoe_frame::{Frame, refill};
 use aoe_io::{Got, Link};
 use std::alloc::Global;
 use std::io;
@@ -69,11 +69,11 @@ fn is_silent(kind: ErrorKind) -> bool {
 
 /// Makes `out` the frame of a datagram; one that is longer than a frame is dropped.
 fn take_datagram(datagram: &[u8], out: &mut Frame) -> Got {
-    out.clear();
-    match out.try_extend_from_slice(datagram) {
-        Ok(()) => Got::Frame,
-        Err(_) => Got::Quiet,
+    if datagram.len() >= ROOM {
+        return Got::Quiet;
     }
+    refill(out, datagram);
+    Got::Frame
 }
 
 /// Sends a frame to each of the peers.
