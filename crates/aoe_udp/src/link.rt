@@ -180,8 +180,8 @@ impl Link for UdpLink {
     }
 
     fn recv(&mut self, out: &mut Frame) -> Result<Got, Failed> {
-        let got = match self.socket.recv_from(self.datagram.as_mut_slice()) {
-            Ok((count, _)) => take_datagram(&self.datagram[..count], out),
+        let got = match self.socket.recv(self.datagram.as_mut_slice()) {
+            Ok(count) => take_datagram(&self.datagram[..count], out),
             Err(error) if is_silent(error.kind()) || is_lost(error.kind()) => Got::Quiet,
             Err(_) => return Err(self.fail()),
         };
