@@ -14,3 +14,7 @@ mod CentralGroups
 mod RequestLemmas
 mod ReplyLemmas
 mod ConversationLemmas
+pub mod CommandLemmas
+pub mod SendLemmas
+pub mod SectorLemmas
+pub mod ArrivalLemmas
