@@ -18,3 +18,4 @@ pub mod CommandLemmas
 pub mod SendLemmas
 pub mod SectorLemmas
 pub mod ArrivalLemmas
+pub mod FrameLemmas
