@@ -1,4 +1,4 @@
-//! The program: its words, its files, the standard streams, and its status.
+//! The program: its words, its files and sockets, the standard streams, and its status.
 #![tactic(auto)]
 
 ghost use Rattle.std.specs.Prelude.{◌≡◌, All, IfOk, IsSome, length};
@@ -6,7 +6,8 @@ ghost use Rattle.std.specs.Prelude.{◌≡◌, All, IfOk, IsSome, length};
 mod files;
 mod streams;
 
-use aoe_top::{Status, aoe, files_of};
+use aoe_top::{PortWords, Status, aoe, files_of, ports_of};
+use aoe_udp::{OpenRefusal, UdpLink};
 use files::FileDisk;
 use std::io::{BufReader, ErrorKind};
 use std::process::ExitCode;
@@ -31,6 +32,14 @@ fn say(rt: &HostRuntime, text: &[u8]) {
     let _ = stderr.write_all(text);
 }
 
+/// Says that what has this name can't be opened, and gives the exit status.
+fn tell_unopened(rt: &HostRuntime, name: &[u8], code: u8) -> u8 {
+    say(rt, b"aoe: cannot open ");
+    say(rt, name);
+    say(rt, b"\n");
+    code
+}
+
 /// Opens the files with these names; the exit status where one can't be opened, which is said.
 fn open_all(rt: &HostRuntime, names: &[String]) -> Result<Vec<Option<FileDisk>>, u8>
     ensures count { IfOk result (λ disks. length disks.items ≡ length names.now) }
@@ -39,16 +48,32 @@ fn open_all(rt: &HostRuntime, names: &[String]) -> Result<Vec<Option<FileDisk>>,
     let mut disks = Vec::new(rt.alloc());
     'names: for name in names {
         let Ok(disk) = FileDisk::open(rt, name.as_str()) else {
-            say(rt, b"aoe: cannot open ");
-            say(rt, name.as_bytes());
-            say(rt, b"\n");
-            return Err(5);
+            return Err(tell_unopened(rt, name.as_bytes(), 5));
         };
         if disks.push(Some(disk)).is_err() {
             return Err(tell(rt, Status::NoMemory));
         }
     }
     Ok(disks)
+}
+
+/// Opens the links with these ends; the exit status where one can't be opened, which is said.
+fn open_links(rt: &HostRuntime, ends: &[PortWords]) -> Result<Vec<UdpLink>, u8>
+    ensures { IfOk result (λ links. length links.items ≡ length ends.now) }
+{
+    let mut links = Vec::new(rt.alloc());
+    'ends: for PortWords { local, peers } in ends {
+        let link = match UdpLink::open(rt, rt.alloc(), local.bytes(), peers.bytes()) {
+            Ok(link) => link,
+            Err(OpenRefusal::NoMemory) => return Err(tell(rt, Status::NoMemory)),
+            Err(OpenRefusal::Local) => return Err(tell_unopened(rt, local.bytes(), 6)),
+            Err(OpenRefusal::Peers) => return Err(tell_unopened(rt, peers.bytes(), 6)),
+        };
+        if links.push(link).is_err() {
+            return Err(tell(rt, Status::NoMemory));
+        }
+    }
+    Ok(links)
 }
 
 /// Says a status on standard error where there is something to say, and gives its exit status.
@@ -62,7 +87,7 @@ fn tell(rt: &HostRuntime, status: Status) -> u8 {
     status.code()
 }
 
-/// Runs the command on its files and the standard streams, and gives the exit status. Words that
+/// Runs the command on its files, its links and the standard streams, and gives the exit status. Words that
 /// aren't UTF-8 are no command.
 fn run(rt: &HostRuntime) -> u8 {
     let words = match words(rt) {
@@ -73,8 +98,15 @@ fn run(rt: &HostRuntime) -> u8 {
     let Ok(names) = files_of(rt.alloc(), words.as_slice()) else {
         return tell(rt, Status::NoMemory);
     };
+    let Ok(ends) = ports_of(rt.alloc(), words.as_slice()) else {
+        return tell(rt, Status::NoMemory);
+    };
     let mut disks = match open_all(rt, names.as_slice()) {
         Ok(disks) => disks,
+        Err(code) => return code,
+    };
+    let mut links = match open_links(rt, ends.as_slice()) {
+        Ok(links) => links,
         Err(code) => return code,
     };
     let Ok(reader) = BufReader::with_capacity(rt.alloc(), READ_AHEAD, rt.stdin()) else {
@@ -88,6 +120,7 @@ fn run(rt: &HostRuntime) -> u8 {
         &mut source,
         &mut sink,
         disks.as_mut_slice(),
+        links.as_mut_slice(),
     );
     tell(rt, status)
 }

@@ -100,11 +100,11 @@ ends_after a m b h synced finds served sync =
     }
 
 -- the slot that stands at a place
-record There (slots : List Slot) (i : ℕ) : Type 0 where
-  slot : Slot
-  is : slice_get slots i ≡ Some slot
+pub record There (slots : List Slot) (i : ℕ) : Type 0 where
+  pub slot : Slot
+  pub is : slice_get slots i ≡ Some slot
 
-there : (slots : List Slot) (i : ℕ) → i < length slots → There slots i
+pub there : (slots : List Slot) (i : ℕ) → i < length slots → There slots i
 there [] i below = absurd (omega (arith, below))
 there (x ∷ slots) zero below = record { slot = x; is = refl }
 there (x ∷ slots) (suc i) below = let t = there slots i (omega (arith, below)) in record { slot = t.slot; is = t.is }
@@ -112,7 +112,7 @@ there (x ∷ slots) (suc i) below = let t = there slots i (omega (arith, below))
 abbrev pub FindsAll : List Slot → Type 0
 FindsAll slots = (i : ℕ) (s : Slot) → slice_get slots i ≡ Some s → AlwaysFinds s.device.keep s.device.lists
 
-served_in : {S K L : Type 0} (t : Tells S K L) (p : Plan) (e : RunEnd) (a b : Outside S K L) (old new : List Slot) (ran : HasRun t p e a b old new) → AreServed old new (arrivals_in t p e a b old new ran)
+pub served_in : {S K L : Type 0} (t : Tells S K L) (p : Plan) (e : RunEnd) (a b : Outside S K L) (old new : List Slot) (ran : HasRun t p e a b old new) → AreServed old new (arrivals_in t p e a b old new ran)
 served_in t plan.Answer (end.Answered e) a b old new ran = ran.answered.served
 served_in t plan.Answer (end.Served e) a b old new ran = absurd ran
 served_in t (plan.Serve frames idle) (end.Answered e) a b old new ran = absurd ran

@@ -1,3 +1,3 @@
 mod SyncLemmas
-mod EndLemmas
+pub mod EndLemmas
 mod FileLemmas

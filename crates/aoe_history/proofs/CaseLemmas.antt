@@ -9,16 +9,17 @@ use Rattle.aoe_flight.specs.declared.outstanding.Outstanding.{Outstanding}
 use Rattle.aoe_flight.specs.Outstanding.{is_due, is_expired, is_taken, live, lower, precedes, rest_time, IsFirst}
 use Rattle.aoe_initiator.specs.declared.op.Op.TheVariants.{Flush}
 use Rattle.aoe_initiator.specs.declared.response.Answer.{Answer}
-use Rattle.aoe_initiator.specs.HostLaw.{answer_to, given_up, is_clear_at, spelled}
-use Rattle.aoe_initiator.specs.HostLog.{sent_of, submitted, HostCommand}
+use Rattle.aoe_initiator.specs.HostLaw.{answer_to, given_up, is_clear_at, paths_to, spelled}
+use Rattle.aoe_initiator.specs.HostLog.{missed_by, path_log, sent_of, submitted, HostCommand}
+use Rattle.aoe_paths.specs.PathLog.{next_of}
 use Rattle.aoe_initiator.specs.Response.{outcome_of}
 use Rattle.arrayvec.specs.ArrayVec.{ArrayVec}
 use Rattle.aoe_disk.specs.State.{sector}
 use Rattle.aoe_target.specs.Sectors.{Sectors, Tells}
 use Rattle.aoe_history.specs.declared.entry.Entry.{Entry}
 use Rattle.aoe_history.specs.declared.entry.Fate.{Fate}
-use Rattle.aoe_history.specs.declared.entry.Which.TheVariants.{Store, Keep}
-use Rattle.aoe_history.specs.Commands.{commands_of, host_after}
+use Rattle.aoe_script.specs.declared.event.Which.TheVariants.{Store, Keep}
+use Rattle.aoe_history.specs.Commands.{commands_of, host_after, log_of}
 use Rattle.aoe_history.specs.Frames.{clock, next_number}
 use Rattle.aoe_history.specs.Groups.{told, GivesUp, Got, SendsSome, Turn}
 use Rattle.aoe_history.specs.HostLaw.{IsGivenUp, IsResponse, IsSent, IsStale}
@@ -68,8 +69,9 @@ pub starts : (s : Setup) (host : HostSetup) (h : List Entry) (k c tag : ℕ) (by
     → is_clear_at s.life (clock h) (commands_of host h) (nth (commands_of host h) k) ≡ true
     → is_lowest (is_clear_at s.life (clock h) (commands_of host h)) (commands_of host h) k ≡ true
     → is_taken (live (rest_time s.life) (clock h) (sent_of (commands_of host h))) tag ≡ false → nat_lt tag 4294967296 ≡ true
-    → spelled (host_after s host h) (nth (commands_of host h) k) tag ≡ Some bytes → IsSent s host h c (next_number h) bytes
-starts s host h k c tag bytes is due room within clear lowest free fits spells = record {
+    → 0 ≡ next_of (paths_to (host_after s host h) (nth (commands_of host h) k).device.0) (missed_by (nth (commands_of host h) k).sends (path_log (log_of host h) (nth (commands_of host h) k).device.0))
+    → spelled (host_after s host h) (nth (commands_of host h) k) (record { 0 = 0 }) tag ≡ Some bytes → IsSent s host h c (next_number h) bytes
+starts s host h k c tag bytes is due room within clear lowest free fits next spells = record {
   sent = record { ticket = (nth (commands_of host h) k).ticket; tag = tag; path = record { 0 = 0 }; again = false };
   ticket_is = is;
   may = record {
@@ -82,6 +84,7 @@ starts s host h k c tag bytes is due room within clear lowest free fits spells =
     lowest = lowest-of (is_clear_at s.life (clock h) (commands_of host h)) (commands_of host h) k lowest;
     free = free;
   };
+  path = record { command = nth (commands_of host h) k; there = there (commands_of host h) k within; ticket = refl; next = next };
   frame = record { command = nth (commands_of host h) k; there = there (commands_of host h) k within; ticket = refl; bytes = spells };
   tag_fits = lt-of tag 4294967296 fits;
   number_is = refl;
@@ -156,11 +159,13 @@ pub repeats : (s : Setup) (host : HostSetup) (h : List Entry) (k j c : ℕ) (byt
     → is_first (is_due (clock h)) precedes (commands_of host h) j ≡ true → nat_lt k (length (commands_of host h)) ≡ true
     → (nth (commands_of host h) k).ticket ≡ (nth_sent (commands_of host h) j).ticket
     → nat_lt (nth_sent (commands_of host h) j).flying.tag 4294967296 ≡ true
-    → spelled (host_after s host h) (nth (commands_of host h) k) (nth_sent (commands_of host h) j).flying.tag ≡ Some bytes → IsSent s host h c (next_number h) bytes
-repeats s host h k j c bytes is first within same fits spells = record {
+    → 0 ≡ next_of (paths_to (host_after s host h) (nth (commands_of host h) k).device.0) (missed_by (nth (commands_of host h) k).sends (path_log (log_of host h) (nth (commands_of host h) k).device.0))
+    → spelled (host_after s host h) (nth (commands_of host h) k) (record { 0 = 0 }) (nth_sent (commands_of host h) j).flying.tag ≡ Some bytes → IsSent s host h c (next_number h) bytes
+repeats s host h k j c bytes is first within same fits next spells = record {
   sent = record { ticket = (nth_sent (commands_of host h) j).ticket; tag = (nth_sent (commands_of host h) j).flying.tag; path = record { 0 = 0 }; again = true };
   ticket_is = is;
   may = record { command = nth_sent (commands_of host h) j; first_due = first-of (is_due (clock h)) precedes (commands_of host h) j first; ticket = refl; tag = refl };
+  path = record { command = nth (commands_of host h) k; there = there (commands_of host h) k within; ticket = same; next = next };
   frame = record { command = nth (commands_of host h) k; there = there (commands_of host h) k within; ticket = same; bytes = spells };
   tag_fits = lt-of (nth_sent (commands_of host h) j).flying.tag 4294967296 fits;
   number_is = refl;

@@ -14,7 +14,7 @@ use Rattle.aoe_target.specs.Verdict.{verdict}
 use Rattle.aoe_history.specs.declared.entry.Entry.{Entry}
 use Rattle.aoe_history.specs.declared.entry.Entry.TheVariants.{Submitted, Sent, Arrived, Took, Done, Armed}
 use Rattle.aoe_history.specs.declared.entry.Fate.TheVariants.{Replied}
-use Rattle.aoe_history.specs.declared.entry.Which.TheVariants.{Store}
+use Rattle.aoe_script.specs.declared.event.Which.TheVariants.{Store}
 use Rattle.aoe_history.specs.Cases.{failed_write, ones_frame}
 use Rattle.aoe_history.specs.Example.{a, device, full, host_a, setup, span, tell}
 use Rattle.aoe_history.specs.Lawful.{IsLawful, MayCome}
@@ -33,7 +33,7 @@ after2 = Submitted a 1 device (Write 0 (full 0x01)) ∷ after1
 
 step3 : MayCome setup after2 (Sent a 1 1 ones_frame)
 unfolding full request
-step3 = starts setup host_a after2 0 1 1 ones_frame refl refl refl refl refl refl refl refl refl
+step3 = starts setup host_a after2 0 1 1 ones_frame refl refl refl refl refl refl refl refl refl refl
 
 abbrev after3 : List Entry
 after3 = Sent a 1 1 ones_frame ∷ after2

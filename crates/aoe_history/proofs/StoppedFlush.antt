@@ -17,7 +17,7 @@ use Rattle.aoe_target.specs.Verdict.{verdict}
 use Rattle.aoe_history.specs.declared.entry.Entry.{Entry}
 use Rattle.aoe_history.specs.declared.entry.Entry.TheVariants.{Submitted, Sent, Arrived, Took, Done, Ticked, Armed, Crashed}
 use Rattle.aoe_history.specs.declared.entry.Fate.TheVariants.{Cut, Replied}
-use Rattle.aoe_history.specs.declared.entry.Which.TheVariants.{Store}
+use Rattle.aoe_script.specs.declared.event.Which.TheVariants.{Store}
 use Rattle.aoe_history.specs.Cases.{acknowledged, flush_frame, left_sector, read_frame, stopped_flush}
 use Rattle.aoe_history.specs.Example.{a, device, full, host_a, setup, show, slot, span}
 use Rattle.aoe_history.specs.Lawful.{IsLawful, MayCome}
@@ -39,8 +39,8 @@ abbrev after3 : Loss → List Entry
 after3 how = Submitted a 2 device (Flush) ∷ (after2 how)
 
 step4 : (how : Loss) → MayCome setup (after3 how) (Sent a 2 3 flush_frame)
-unfolding full request
-step4 how = starts setup host_a (after3 how) 1 2 2 flush_frame refl refl refl refl refl refl refl refl refl
+unfolding full request spelled
+step4 how = starts setup host_a (after3 how) 1 2 2 flush_frame refl refl refl refl refl refl refl refl refl refl
 
 abbrev after4 : Loss → List Entry
 after4 how = Sent a 2 3 flush_frame ∷ (after3 how)
@@ -67,8 +67,8 @@ abbrev after7 : Loss → List Entry
 after7 how = Submitted a 3 device (Read (span 3)) ∷ (after6 how)
 
 step8 : (how : Loss) → MayCome setup (after7 how) (Sent a 3 4 (read_frame 3))
-unfolding full request
-step8 how = starts setup host_a (after7 how) 2 3 3 (read_frame 3) refl refl refl refl refl refl refl refl refl
+unfolding full request spelled
+step8 how = starts setup host_a (after7 how) 2 3 3 (read_frame 3) refl refl refl refl refl refl refl refl refl refl
 
 abbrev after8 : Loss → List Entry
 after8 how = Sent a 3 4 (read_frame 3) ∷ (after7 how)

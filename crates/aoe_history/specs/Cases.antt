@@ -14,7 +14,7 @@ use Rattle.aoe_target.specs.Reply.{repeated, spelled}
 use Rattle.aoe_history.specs.declared.entry.Entry.{Entry}
 use Rattle.aoe_history.specs.declared.entry.Entry.TheVariants.{Submitted, Sent, Injected, Arrived, Took, Done, Ticked, Lost, Armed, Crashed}
 use Rattle.aoe_history.specs.declared.entry.Fate.TheVariants.{Cut, Replied}
-use Rattle.aoe_history.specs.declared.entry.Which.TheVariants.{Store}
+use Rattle.aoe_script.specs.declared.event.Which.TheVariants.{Store}
 use Rattle.aoe_history.specs.Example.{a, ask, b, device, full, port, show, slot, span, tell}
 use Rattle.aoe_history.specs.Groups.{Act, Crash, Hand, Host, Shelf, Submit, Tick}
 use Rattle.aoe_history.specs.Slots.{zero_sector}

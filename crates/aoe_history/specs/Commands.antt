@@ -1,7 +1,8 @@
 -- The commands of a host in a history.
-use Rattle.std.specs.Prelude.{ℕ, suc, ◌+◌, Bool, false, ◌&&◌, ◌||◌, nat_eq, List, [], ◌∷◌, Option, Some, None, if◌then◌else◌, slice_get}
+use Rattle.std.specs.Prelude.{ℕ, suc, ◌+◌, Bool, false, not, ◌&&◌, ◌||◌, nat_eq, List, [], ◌∷◌, Option, Some, None, option_map, if◌then◌else◌, slice_get}
 use Rattle.std.specs.Option.{option_map_or}
 use Rattle.arrayvec.specs.ArrayVec.{ArrayVec}
+use Rattle.aoe_base.specs.declared.address.Mac.{Mac}
 use Rattle.aoe_base.specs.declared.address.TargetId.{TargetId}
 use Rattle.aoe_base.specs.declared.counted.PathNo.{PathNo}
 use Rattle.aoe_frame.specs.Header.{fields}
@@ -10,14 +11,17 @@ use Rattle.aoe_initiator.specs.declared.device.Attached.{Attached}
 use Rattle.aoe_initiator.specs.declared.device.Device.{Device}
 use Rattle.aoe_initiator.specs.declared.op.Op.{Op}
 use Rattle.aoe_initiator.specs.declared.op.Op.TheVariants.{Write}
+use Rattle.aoe_initiator.specs.declared.outcome.Outcome.{Outcome}
+use Rattle.aoe_initiator.specs.declared.outcome.Outcome.TheVariants.{GaveUp}
 use Rattle.aoe_initiator.specs.Host.{Host}
 use Rattle.aoe_initiator.specs.HostLog.{commands, entered_at, Event, HostCommand}
 use Rattle.aoe_initiator.specs.HostLog.Event.{Submits, Sends, Ends, Advances}
 use Rattle.aoe_initiator.specs.Op.{span_of}
+use Rattle.aoe_paths.specs.PathTable.{new_paths}
 use Rattle.aoe_target.specs.Sectors.{in_span, value_in}
 use Rattle.aoe_history.specs.declared.entry.Entry.{Entry}
-use Rattle.aoe_history.specs.declared.entry.Entry.TheVariants.{Submitted, Sent, Done, Ticked}
-use Rattle.aoe_history.specs.Frames.{clock}
+use Rattle.aoe_history.specs.declared.entry.Entry.TheVariants.{Submitted, Sent, Took, Done, Ticked}
+use Rattle.aoe_history.specs.Frames.{bytes_of, clock}
 use Rattle.aoe_history.specs.Setup.{device_no, is_called, is_slot, path_no, HostSetup, Setup, SlotSetup}
 
 -- the device that a command was submitted to, and what it asks
@@ -49,11 +53,29 @@ was_sent host (_ ∷ h) c = was_sent host h c
 
 -- THE HOST'S OWN ACCOUNT
 
--- the path that a frame of a command goes on, by its addresses
+-- the path between these ports of the host and of a command's device
+abbrev pub path_between : HostSetup → Option Submission → Mac → Mac → PathNo
+path_between host None local remote = record { 0 = 0 }
+path_between host (Some x) local remote =
+    option_map_or (λ (d : Attached). path_no host d local remote) (slice_get host.devices (device_no host x.dev).0) (record { 0 = 0 })
+
+-- the path that a frame of a command goes on, and the one that a response to it comes on, by their addresses
 abbrev pub path_of : HostSetup → Option Submission → List ℕ → PathNo
-path_of host None f = record { 0 = 0 }
-path_of host (Some x) f =
-    option_map_or (λ (d : Attached). path_no host d (fields f).src (fields f).dst) (slice_get host.devices (device_no host x.dev).0) (record { 0 = 0 })
+path_of host x f = path_between host x (fields f).src (fields f).dst
+
+abbrev pub path_back : HostSetup → Option Submission → List ℕ → PathNo
+path_back host x f = path_between host x (fields f).dst (fields f).src
+
+-- the response that the host took last
+abbrev pub last_response : HostSetup → List Entry → Option (List ℕ)
+last_response host [] = None
+last_response host (Took name frame stale ∷ h) = if is_called host name && not stale then Some (bytes_of h frame) else last_response host h
+last_response host (_ ∷ h) = last_response host h
+
+-- the path of the response that ended a command, where it wasn't given up
+abbrev pub path_ended : HostSetup → List Entry → ℕ → Outcome → Option PathNo
+path_ended host h ticket (GaveUp first now) = None
+path_ended host h ticket outcome = option_map (path_back host (submission host h ticket)) (last_response host h)
 
 -- what the host did, the latest first, in its own words
 abbrev pub log_of : HostSetup → List Entry → List Event
@@ -66,7 +88,7 @@ log_of host (Sent name ticket number bytes ∷ h) =
     if is_called host name then Sends (record { 0 = ticket }) (fields bytes).tag (path_of host (submission host h ticket) bytes) ∷ log else log
 log_of host (Done name ticket outcome ∷ h) =
     let log = log_of host h in
-    if is_called host name then Ends (record { 0 = ticket }) ∷ log else log
+    if is_called host name then Ends (record { 0 = ticket }) (path_ended host h ticket outcome) ∷ log else log
 log_of host (Ticked ms ∷ h) = Advances (record { 0 = clock h + ms }) ∷ log_of host h
 log_of host (_ ∷ h) = log_of host h
 
@@ -74,10 +96,13 @@ abbrev pub commands_of : HostSetup → List Entry → List HostCommand
 commands_of host h = commands (log_of host h)
 
 -- each device with all commands that were submitted to it; the devices are counted from a number on
-abbrev pub devices_of : ℕ → ℕ → List HostCommand → ℕ → List Attached → List Device
-devices_of life now cs n [] = []
-devices_of life now cs n (d ∷ ds) =
-    record { about = d; holds = record { life = life; latest = now; greatest = None; commands = entered_at n cs } } ∷ devices_of life now cs (n + 1) ds
+abbrev pub devices_of : List Mac → ℕ → ℕ → List HostCommand → ℕ → List Attached → List Device
+devices_of ports life now cs n [] = []
+devices_of ports life now cs n (d ∷ ds) = record {
+  about = d;
+  holds = record { life = life; latest = now; greatest = None; commands = entered_at n cs };
+  paths = new_paths ports d.remotes.items;
+} ∷ devices_of ports life now cs (n + 1) ds
 
 -- the host as the host law speaks of it: with all that it did, and no table of its own
 abbrev pub host_after : Setup → HostSetup → List Entry → Host
@@ -89,7 +114,7 @@ host_after s host h = record {
   clock = clock h;
   last_ticket = tickets host h;
   flight = no_commands host.room s.life host.dead;
-  devices = devices_of s.life (clock h) (commands_of host h) 0 host.devices;
+  devices = devices_of host.ports s.life (clock h) (commands_of host h) 0 host.devices;
   pending = [];
   waiting = [];
 }

@@ -18,7 +18,7 @@ use Rattle.aoe_history.specs.declared.entry.Entry.{Entry}
 use Rattle.aoe_history.specs.declared.entry.Entry.TheVariants.{Submitted, Refused, Sent, Injected, Arrived, Took, Done, Ticked, Lost, Armed, Crashed}
 use Rattle.aoe_history.specs.declared.entry.Fate.{Fate}
 use Rattle.aoe_history.specs.declared.entry.Fate.TheVariants.{Cut}
-use Rattle.aoe_history.specs.declared.entry.Which.{Which}
+use Rattle.aoe_script.specs.declared.event.Which.{Which}
 use Rattle.aoe_history.specs.Commands.{commands_of, host_after, tickets}
 use Rattle.aoe_history.specs.Frames.{arriving, clock, next_number}
 use Rattle.aoe_history.specs.HostLaw.{IsResponse, IsStale}

@@ -8,12 +8,12 @@ use Rattle.aoe_initiator.specs.declared.outcome.Outcome.{Outcome}
 use Rattle.aoe_initiator.specs.declared.refusal.SubmitRefusal.{SubmitRefusal}
 use Rattle.aoe_initiator.specs.declared.response.Answer.{Answer}
 use Rattle.aoe_initiator.specs.declared.step.Sent as step
-use Rattle.aoe_initiator.specs.HostLaw.{answer_to, given_up, submit_refusal, IsFrameOf, IsNext}
+use Rattle.aoe_initiator.specs.HostLaw.{answer_to, given_up, submit_refusal, IsFrameOf, IsNext, IsOnNextPath}
 use Rattle.aoe_initiator.specs.HostLog.{sent_of, HostCommand}
 use Rattle.aoe_initiator.specs.Op.{CanSubmit}
 use Rattle.aoe_initiator.specs.Response.{outcome_of}
 use Rattle.aoe_history.specs.declared.entry.Entry.{Entry}
-use Rattle.aoe_history.specs.Commands.{commands_of, host_after, tickets}
+use Rattle.aoe_history.specs.Commands.{commands_of, host_after, log_of, tickets}
 use Rattle.aoe_history.specs.Frames.{arriving, clock, next_number}
 use Rattle.aoe_history.specs.Setup.{device_place, HostSetup, Setup}
 
@@ -37,6 +37,7 @@ pub record IsSent (s : Setup) (host : HostSetup) (h : List Entry) (ticket number
   pub sent : step.Sent
   pub ticket_is : sent.ticket.0 ≡ ticket
   pub may : IsNext (host_after s host h) (commands_of host h) sent
+  pub path : IsOnNextPath (host_after s host h) (log_of host h) sent
   pub frame : IsFrameOf (host_after s host h) (commands_of host h) sent bytes
   pub tag_fits : sent.tag < 4294967296
   pub number_is : number ≡ next_number h

@@ -11,8 +11,8 @@ use Rattle.aoe_history.specs.declared.entry.Entry.{Entry}
 use Rattle.aoe_history.specs.declared.entry.Entry.TheVariants.{Arrived, Armed, Crashed}
 use Rattle.aoe_history.specs.declared.entry.Fate.{Fate}
 use Rattle.aoe_history.specs.declared.entry.Fate.TheVariants.{Cut}
-use Rattle.aoe_history.specs.declared.entry.Which.{Which}
-use Rattle.aoe_history.specs.declared.entry.Which.TheVariants.{Store, Keep}
+use Rattle.aoe_script.specs.declared.event.Which.{Which}
+use Rattle.aoe_script.specs.declared.event.Which.TheVariants.{Store, Keep}
 use Rattle.aoe_history.specs.Frames.{bytes_of}
 use Rattle.aoe_history.specs.Setup.{is_slot, SlotSetup}
 use Rattle.aoe_history.specs.Slots.{fate_at, is_struck, state_after, verdict_after}

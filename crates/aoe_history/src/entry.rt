@@ -3,24 +3,8 @@ use aoe_base::{Blob, TargetId};
 use aoe_disk::Loss;
 use aoe_initiator::{Op, Outcome, SubmitRefusal};
 use aoe_lists::Lists;
+use aoe_script::{Name, Which};
 use aoe_target::Effect;
-use arrayvec::ArrayVec;
-
-/// The most bytes of a name.
-pub const MAX_NAME: usize = 8;
-
-/// The name of a host.
-pub type Name = ArrayVec<u8, MAX_NAME>;
-
-/// One of the two disks of a slot.
-#[derive(Clone, Copy, Debug, PartialEq, Eq, Hash)]
-pub enum Which {
-    /// The disk under the store of its sectors.
-    Store,
-
-    /// The disk that keeps its lists.
-    Keep,
-}
 
 /// What became of a frame at a target.
 #[derive(Debug, Drop)]

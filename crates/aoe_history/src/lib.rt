@@ -12,7 +12,7 @@ mod history;
 
 pub use cases::{worked_histories, worked_values, wrong_hosts, wrong_networks, wrong_shelves};
 pub use conversation::{requests_are_understood, responses_tell_truly};
-pub use entry::{Entry, Fate, MAX_NAME, Name, Which};
+pub use entry::{Entry, Fate};
 pub use history::History;
 
 #[cfg(test)]

@@ -1,30 +1,53 @@
 -- Which command a frame answers.
-use Rattle.std.proofs.Common.{ℕ, ◌≡◌, ◌≢◌, ◌≤◌, ◌&&◌, cond, not, Bool, true, false, List, drop, Option, Some, None, inl, inr, refl, sym, ap, subst, ◌∙◌, arith, nat_eq}
-use Rattle.std.specs.Prelude.{slice_get, All, Contains, IfNone, IfSome}
+use Rattle.std.proofs.Common.{ℕ, ◌≡◌, ◌≢◌, ◌≤◌, ◌+◌, ◌*◌, ◌&&◌, ◌||◌, suc, length, ◌∷◌, [], cond, not, Bool, true, false, List, drop, Option, Some, None, inl, inr, refl, sym, ap, subst, ◌∙◌, arith, nat_eq}
+use Rattle.std.specs.Prelude.{option_map, slice_get, All, Contains, IfNone, IfSome, IsSome}
+use Rattle.std.specs.List.{find}
 use Rattle.std.proofs.lemmas.Bool.{and_parts, cases_Bool, eq-eqb, eqb-true, not-true}
 use Rattle.std.proofs.lemmas.List.Elements.{All-contains, All-weaker, All-contains_itself}
+use Rattle.aoe_base.specs.declared.address.Mac.{Mac}
+use Rattle.aoe_base.specs.declared.counted.PathNo.{PathNo}
 use Rattle.aoe_base.specs.declared.counted.Ticket.{Ticket}
 use Rattle.aoe_base.specs.declared.counted.DeviceNo.{DeviceNo}
 use Rattle.aoe_frame.specs.declared.header.Header.{Header}
 use Rattle.aoe_frame.specs.Header.{head}
+use Rattle.aoe_lists.specs.Addresses.{holds, same_address}
+use Rattle.aoe_lists.proofs.AddressLemmas.{same_address-Decides}
+use Rattle.aoe_paths.specs.PathTable.{pair_of}
+use Rattle.aoe_paths.proofs.PairLemmas.{pair-of-number}
+use Rattle.aoe_initiator.specs.declared.device.Device.{Device}
 use Rattle.aoe_flight.specs.declared.outstanding.Outstanding.{Outstanding}
-use Rattle.aoe_flight.specs.Outstanding.{flies_with, tag_count}
+use Rattle.aoe_flight.specs.Outstanding.{flies_as, flies_with, tag_count}
+use Rattle.aoe_flight.specs.FlightTable.{FlightTable}
 use Rattle.aoe_flight.proofs.RecallLemmas.{tagged-once}
 use Rattle.aoe_initiator.specs.declared.op.Op.{Op}
 use Rattle.aoe_initiator.specs.declared.pending.Pending.{Pending}
 use Rattle.aoe_initiator.specs.declared.response.Answer.{Answer}
 use Rattle.aoe_initiator.specs.Host.{Host, Matches, Waiting}
-use Rattle.aoe_initiator.specs.HostLaw.{answer_to, has_tag, is_answered, is_from, is_response}
+use Rattle.aoe_initiator.specs.HostLaw.{answer_to, has_tag, is_answered, is_from, is_response, same_id, CameOn}
 use Rattle.aoe_initiator.specs.HostLog.{commands, outstanding, sent_of, Event, HostCommand, Sending}
-use Rattle.aoe_initiator.specs.Response.{answer}
+use Rattle.aoe_initiator.specs.Response.{answer, has_flag}
+use Rattle.aoe_initiator.specs.Op.{command_of}
 use Rattle.aoe_initiator.specs.Steps.{place}
-use Rattle.aoe_initiator.proofs.ListLemmas.{get-past, not-placed, placed, placed-inside, Contains-map_from}
+use Rattle.aoe_initiator.proofs.ListLemmas.{get-past, Contains-cons, not-placed, placed, placed-inside, Contains-map_from}
 use Rattle.aoe_initiator.proofs.LogLemmas.{only, unfinished-there}
+use Rattle.aoe_initiator.proofs.PathLemmas.{has-paths}
+use Rattle.aoe_initiator.proofs.NextLemmas.{find-flies}
 use Rattle.aoe_initiator.proofs.MatchLemmas.{one-command, pending-command, sent-from, sent-there, IsPending}
 
 -- a frame answers no command
 abbrev pub AnswersNone : Host → List ℕ → Type 0
 AnswersNone host frame = (log : List Event) → Matches log host → All (λ c. answer_to host c frame ≡ None) (commands log)
+
+-- the first element that passes a test stands in the list
+find-found : (test : Outstanding → Bool) (xs : List Outstanding) (c : Outstanding) → find test xs ≡ Some c → Contains xs c × (test c ≡ true)
+find-found test [] c is = absurd cc
+find-found test (x ∷ xs) c is = at (test x) refl is (find-found test xs c)
+  where
+    at : (b : Bool) → test x ≡ b → cond b (Some x) (find test xs) ≡ Some c → (find test xs ≡ Some c → Contains xs c × (test c ≡ true)) → Contains (x ∷ xs) c × (test c ≡ true)
+    at true passes same rest =
+        let here : x ≡ c = cc in
+        ((0, omega arith, here), ap test (sym here) ∙ passes)
+    at false fails same rest = let behind = rest same in (Contains-cons x c xs behind.0, behind.1)
 
 pub if-none : {T : Type 0} (o : Option T) (host : Host) (frame : List ℕ) → AnswersNone host frame → IfNone o (AnswersNone host frame)
 if-none None host frame none = none
@@ -192,14 +215,83 @@ pub none-says : (host : Host) (log : List Event) (frame : List ℕ) (h : Header)
 none-says host log frame h t at p c m is few f found there none =
     none-answered host log frame h t c m is few f (no-answer host log frame h p c (flyer-pending host log h.tag at t c p m f found there) is none)
 
+-- ---- the path of a response
+
+holds-there : (list : List Mac) (a : Mac) → holds list a ≡ true → (i : ℕ) × (slice_get list i ≡ Some a)
+holds-there [] a is = absurd cc
+holds-there (b ∷ list) a is = at (same_address b a) refl is (holds-there list a)
+  where
+    at : (t : Bool) → same_address b a ≡ t → (t || holds list a) ≡ true → (holds list a ≡ true → (i : ℕ) × (slice_get list i ≡ Some a)) → (i : ℕ) × (slice_get (b ∷ list) i ≡ Some a)
+    at true same is_true rest = (0, ap (λ (m : Mac). Some m) ((same_address-Decides b a).0 same))
+    at false other is_true rest = let behind = rest is_true in (suc behind.0, behind.1)
+
+from-device : (o : Option Device) (op : Op) (h : Header) → is_from o op h ≡ true → (d : Device) × (o ≡ Some d) × (holds d.about.remotes.items h.src ≡ true)
+from-device None op h is = absurd cc
+from-device (Some d) op h is =
+    let outer = and_parts (holds d.about.remotes.items h.src && same_id h.id d.about.id) (nat_eq h.command (command_of op)) is in
+    (d, refl, (and_parts (holds d.about.remotes.items h.src) (same_id h.id d.about.id) outer.0).0)
+
+-- the pair of a response's ports is that of a path
+pub no-path : (host : Host) (log : List Event) (h : Header) (at : ℕ) (p : Pending) (from : Bool) → Matches log host → slice_get host.pending at ≡ Some p → is_response host h ≡ true → from ≡ true
+    → IfSome (slice_get host.pending at) (λ q. from ≡ is_from (slice_get host.devices q.device.0) q.op h)
+    → IfSome (slice_get host.pending at) (λ q. IfSome (slice_get host.devices q.device.0) (λ d. (n : ℕ) → pair_of d.paths n ≢ Some (h.dst, h.src))) → {P : Type 0} → P
+no-path host log h at p from m there hears is_true says none =
+    let F : Option Pending → Type 0 = λ o. IfSome o (λ q. from ≡ is_from (slice_get host.devices q.device.0) q.op h) in
+    let here : is_from (slice_get host.devices p.device.0) p.op h ≡ true = sym (subst F there says) ∙ is_true in
+    let d = from-device (slice_get host.devices p.device.0) p.op h here in
+    let N : Option Pending → Type 0 = λ o. IfSome o (λ q. IfSome (slice_get host.devices q.device.0) (λ e. (n : ℕ) → pair_of e.paths n ≢ Some (h.dst, h.src))) in
+    let M : Option Device → Type 0 = λ o. IfSome o (λ e. (n : ℕ) → pair_of e.paths n ≢ Some (h.dst, h.src)) in
+    let never_so = subst M d.1 (subst N there none) in
+    let has = has-paths host log p.device.0 d.0 m d.1 in
+    let local = holds-there host.ports h.dst (and_parts (nat_eq h.version 1 && has_flag h.flags 0x8) (holds host.ports h.dst) hears).1 in
+    let remote = holds-there d.0.about.remotes.items h.src d.2 in
+    let L : List Mac → Type 0 = λ l. slice_get l local.0 ≡ Some h.dst in
+    let R : List Mac → Type 0 = λ l. slice_get l remote.0 ≡ Some h.src in
+    absurd (never_so (local.0 * length d.0.paths.remotes + remote.0) (pair-of-number d.0.paths local.0 remote.0 _ h.dst h.src refl (subst L (sym has.locals) local.1) (subst R (sym has.remotes) remote.1)))
+
+came-on : (host : Host) (log : List Event) (frame : List ℕ) (h : Header) (p : Pending) (c : HostCommand) (path : PathNo) → Matches log host → IsPending (commands log) p c → head frame ≡ Some h → is_from (slice_get host.devices p.device.0) p.op h ≡ true
+    → IfSome (slice_get host.devices p.device.0) (λ d. pair_of d.paths path.0 ≡ Some (h.dst, h.src)) → CameOn host c frame path
+came-on host log frame h p c path m pending is from on =
+    let d = from-device (slice_get host.devices p.device.0) p.op h from in
+    let has = has-paths host log p.device.0 d.0 m d.1 in
+    let M : Option Device → Type 0 = λ o. IfSome o (λ e. pair_of e.paths path.0 ≡ Some (h.dst, h.src)) in
+    let pair = subst M d.1 on in
+    record {
+      header = h;
+      read = is;
+      device = d.0;
+      there = rw pending.device d.1;
+      pair = rw (← has.locals, ← has.remotes) pair;
+    }
+
 -- the command that a frame answers
-pub found-answer : (host : Host) (log : List Event) (frame : List ℕ) (h : Header) (t : Ticket) (at : ℕ) (p : Pending) (c : HostCommand) (a : Answer) (from : Bool) → Matches log host → head frame ≡ Some h → IsFlyer (commands log) h.tag t c
+pub found-answer : (host : Host) (log : List Event) (frame : List ℕ) (h : Header) (t : Ticket) (at : ℕ) (p : Pending) (c : HostCommand) (path : PathNo) (a : Answer) (from : Bool) → Matches log host → head frame ≡ Some h → IsFlyer (commands log) h.tag t c
     → place t host.pending ≡ Some at → slice_get host.pending at ≡ Some p → is_response host h ≡ true → from ≡ true → IfSome (slice_get host.pending at) (λ q. from ≡ is_from (slice_get host.devices q.device.0) q.op h)
-    → answer p.op h (drop 24 frame) ≡ Some a
-    → (x : HostCommand) × Contains (commands log) x × IfSome (slice_get host.pending at) (λ q. q.ticket ≡ x.ticket) × (answer_to host x frame ≡ Some a)
-found-answer host log frame h t at p c a from m is f found there hears is_true says given =
+    → IfSome (slice_get host.pending at) (λ q. IfSome (slice_get host.devices q.device.0) (λ d. pair_of d.paths path.0 ≡ Some (h.dst, h.src))) → answer p.op h (drop 24 frame) ≡ Some a
+    → (x : HostCommand) × Contains (commands log) x × IfSome (slice_get host.pending at) (λ q. q.ticket ≡ x.ticket) × (answer_to host x frame ≡ Some a) × CameOn host x frame path
+found-answer host log frame h t at p c path a from m is f found there hears is_true says on given =
     let pending = flyer-pending host log h.tag at t c p m f found there in
     let P : Option Pending → Type 0 = λ o. IfSome o (λ q. from ≡ is_from (slice_get host.devices q.device.0) q.op h) in
     let here : is_from (slice_get host.devices p.device.0) p.op h ≡ true = sym (subst P there says) ∙ is_true in
     let Q : Option Pending → Type 0 = λ o. IfSome o (λ q. q.ticket ≡ c.ticket) in
-    (c, f.there, subst Q (sym there) (sym pending.ticket), answered-by host log frame h t p c a pending f is hears here given)
+    let O : Option Pending → Type 0 = λ o. IfSome o (λ q. IfSome (slice_get host.devices q.device.0) (λ d. pair_of d.paths path.0 ≡ Some (h.dst, h.src))) in (
+      c,
+      f.there,
+      subst Q (sym there) (sym pending.ticket),
+      answered-by host log frame h t p c a pending f is hears here given,
+      came-on host log frame h p c path m pending is here (subst O there on),
+    )
+
+-- what flies is found
+pub flies-found : (tag : ℕ) (table : FlightTable) (t : Ticket) → option_map (λ (c : Outstanding). c.ticket) (find (flies_with tag) table.commands) ≡ Some t → IsSome (find (flies_as t.0) table.commands)
+flies-found tag table t is = by_find (find (flies_with tag) table.commands) refl is
+  where
+    by_find : (o : Option Outstanding) → find (flies_with tag) table.commands ≡ o → option_map (λ (c : Outstanding). c.ticket) o ≡ Some t → IsSome (find (flies_as t.0) table.commands)
+    by_find None none given = absurd cc
+    by_find (Some c) some given =
+        let found = find-found (flies_with tag) table.commands c some in
+        let parts = and_parts (not c.finished) (nat_eq c.flying.tag tag) found.1 in
+        let ticket : c.ticket ≡ t = cc in
+        let same : nat_eq c.ticket.0 t.0 ≡ true = eq-eqb c.ticket.0 t.0 (ap (λ (u : Ticket). u.0) ticket) in
+        let flies : flies_as t.0 c ≡ true = rw (parts.0, same) refl in
+        find-flies (flies_as t.0) table.commands c found.0 flies

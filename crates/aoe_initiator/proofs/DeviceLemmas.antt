@@ -13,6 +13,7 @@ use Rattle.aoe_hold.specs.declared.command.Stage.TheVariants.{Unsent}
 use Rattle.aoe_hold.specs.Commands.{after_stage, clear_tickets, live, stage_finished, stage_sent, unsent_count}
 use Rattle.aoe_hold.specs.HoldTable.{after_finish, after_send, at_time, new_command, with_command, HoldTable, Recalls}
 use Rattle.aoe_hold.proofs.LiveLemmas.{count-live, live-after_stage, live-enter, live-live}
+use Rattle.aoe_initiator.specs.declared.device.Arrival.{Arrival}
 use Rattle.aoe_initiator.specs.declared.device.Device.{Device}
 use Rattle.aoe_initiator.specs.declared.op.Op.{Op}
 use Rattle.aoe_initiator.specs.Devices.{all_clear, change_at, device_at, device_finished, device_sent, lower_of, IsLowest}
@@ -65,31 +66,31 @@ set-change_at (x ∷ devices) (suc n) d change inside read = ap (λ (l : List De
 
 -- ---- a send
 
-recall-elsewhere : (life n : ℕ) (t : Ticket) (tag : ℕ) (now : Millis) (path : PathNo) (cs : List HostCommand) (devices : List Device) → All (λ x. x.ticket.0 ≡ t.0 → x.device.0 < n) cs
-    → RecallAll life cs n devices → RecallAll life (map (at_ticket t (command_sent tag now path)) cs) n devices
-recall-elsewhere life n t tag now path cs [] before recalls = recalls
-recall-elsewhere life n t tag now path cs (d ∷ devices) before recalls = (
+recall-elsewhere : (life n : ℕ) (t : Ticket) (tag : ℕ) (now : Millis) (path : PathNo) (ts : ℕ → ℕ) (cs : List HostCommand) (devices : List Device) → All (λ x. x.ticket.0 ≡ t.0 → x.device.0 < n) cs
+    → RecallAll life cs n devices → RecallAll life (map (at_ticket t (command_sent tag now path ts)) cs) n devices
+recall-elsewhere life n t tag now path ts cs [] before recalls = recalls
+recall-elsewhere life n t tag now path ts cs (d ∷ devices) before recalls = (
   recalls.0,
-  recalls-of d.holds _ _ (sym (entered-others n t (command_sent tag now path) cs (send-keeps tag now path)
+  recalls-of d.holds _ _ (sym (entered-others n t (command_sent tag now path ts) cs (send-keeps tag now path ts)
       (All-weaker (λ x. x.ticket.0 ≡ t.0 → x.device.0 < n) (λ x. x.ticket.0 ≡ t.0 → x.device.0 ≢ n) (λ x less same at_n. absurd (omega (arith, less same, at_n))) cs before))) recalls.1,
-  recall-elsewhere life (n + 1) t tag now path cs devices
+  recall-elsewhere life (n + 1) t tag now path ts cs devices
       (All-weaker (λ x. x.ticket.0 ≡ t.0 → x.device.0 < n) (λ x. x.ticket.0 ≡ t.0 → x.device.0 < n + 1) (λ x less same. omega (arith, less same)) cs before) recalls.2,
 )
 
-pub recall-sent : (life n k : ℕ) (t : Ticket) (tag : ℕ) (now : Millis) (path : PathNo) (cs : List HostCommand) (devices : List Device) → All (λ x. x.ticket.0 ≡ t.0 → x.device.0 ≡ n + k) cs → All (λ x. x.ticket.0 ≡ t.0 → x.done ≡ false) cs
-    → All (λ d. d.holds.latest ≤ now.0) devices → RecallAll life cs n devices → RecallAll life (map (at_ticket t (command_sent tag now path)) cs) n (change_at k (device_sent t now) devices)
-recall-sent life n k t tag now path cs [] place open_ times recalls = recalls
-recall-sent life n zero t tag now path cs (d ∷ devices) place open_ times recalls = (
+pub recall-sent : (life n k : ℕ) (t : Ticket) (tag : ℕ) (now : Millis) (path : PathNo) (ts : ℕ → ℕ) (missed : Option PathNo) (cs : List HostCommand) (devices : List Device) → All (λ x. x.ticket.0 ≡ t.0 → x.device.0 ≡ n + k) cs → All (λ x. x.ticket.0 ≡ t.0 → x.done ≡ false) cs
+    → All (λ d. d.holds.latest ≤ now.0) devices → RecallAll life cs n devices → RecallAll life (map (at_ticket t (command_sent tag now path ts)) cs) n (change_at k (device_sent t now missed path) devices)
+recall-sent life n k t tag now path ts missed cs [] place open_ times recalls = recalls
+recall-sent life n zero t tag now path ts missed cs (d ∷ devices) place open_ times recalls = (
   recalls.0,
-  recalls-of (after_send d.holds t.0 now) _ _ (sym (entered-sent n t tag now path cs open_)) (hold-sent d.holds (entered_at n cs) t.0 now (All-head (λ e. e.holds.latest ≤ now.0) d devices times) recalls.1),
-  recall-elsewhere life (n + 1) t tag now path cs devices
+  recalls-of (after_send d.holds t.0 now) _ _ (sym (entered-sent n t tag now path ts cs open_)) (hold-sent d.holds (entered_at n cs) t.0 now (All-head (λ e. e.holds.latest ≤ now.0) d devices times) recalls.1),
+  recall-elsewhere life (n + 1) t tag now path ts cs devices
       (All-weaker (λ x. x.ticket.0 ≡ t.0 → x.device.0 ≡ n + zero) (λ x. x.ticket.0 ≡ t.0 → x.device.0 < n + 1) (λ x is same. omega (arith, is same)) cs place) recalls.2,
 )
-recall-sent life n (suc k) t tag now path cs (d ∷ devices) place open_ times recalls = (
+recall-sent life n (suc k) t tag now path ts missed cs (d ∷ devices) place open_ times recalls = (
   recalls.0,
-  recalls-of d.holds _ _ (sym (entered-others n t (command_sent tag now path) cs (send-keeps tag now path)
+  recalls-of d.holds _ _ (sym (entered-others n t (command_sent tag now path ts) cs (send-keeps tag now path ts)
       (All-weaker (λ x. x.ticket.0 ≡ t.0 → x.device.0 ≡ n + suc k) (λ x. x.ticket.0 ≡ t.0 → x.device.0 ≢ n) (λ x is same at_n. absurd (omega (arith, is same, at_n))) cs place))) recalls.1,
-  recall-sent life (n + 1) k t tag now path cs devices
+  recall-sent life (n + 1) k t tag now path ts missed cs devices
       (All-weaker (λ x. x.ticket.0 ≡ t.0 → x.device.0 ≡ n + suc k) (λ x. x.ticket.0 ≡ t.0 → x.device.0 ≡ n + 1 + k) (λ x is same. omega (arith, is same)) cs place)
       open_ (All-tail (λ e. e.holds.latest ≤ now.0) d devices times) recalls.2,
 )
@@ -106,20 +107,20 @@ recall-elsewhere-ended life n t cs (d ∷ devices) before recalls = (
       (All-weaker (λ x. x.ticket.0 ≡ t.0 → x.device.0 < n) (λ x. x.ticket.0 ≡ t.0 → x.device.0 < n + 1) (λ x less same. omega (arith, less same)) cs before) recalls.2,
 )
 
-pub recall-ended : (life n k : ℕ) (t : Ticket) (cs : List HostCommand) (devices : List Device) → All (λ x. x.ticket.0 ≡ t.0 → x.device.0 ≡ n + k) cs → RecallAll life cs n devices
-    → RecallAll life (map (at_ticket t after_end) cs) n (change_at k (device_finished t) devices)
-recall-ended life n k t cs [] place recalls = recalls
-recall-ended life n zero t cs (d ∷ devices) place recalls = (
+pub recall-ended : (life n k : ℕ) (t : Ticket) (came : Option Arrival) (cs : List HostCommand) (devices : List Device) → All (λ x. x.ticket.0 ≡ t.0 → x.device.0 ≡ n + k) cs → RecallAll life cs n devices
+    → RecallAll life (map (at_ticket t after_end) cs) n (change_at k (device_finished t came) devices)
+recall-ended life n k t came cs [] place recalls = recalls
+recall-ended life n zero t came cs (d ∷ devices) place recalls = (
   recalls.0,
   recalls-of (after_finish d.holds t.0) _ _ (sym (entered-ended n t cs)) (hold-finished d.holds (entered_at n cs) t.0 recalls.1),
   recall-elsewhere-ended life (n + 1) t cs devices
       (All-weaker (λ x. x.ticket.0 ≡ t.0 → x.device.0 ≡ n + zero) (λ x. x.ticket.0 ≡ t.0 → x.device.0 < n + 1) (λ x is same. omega (arith, is same)) cs place) recalls.2,
 )
-recall-ended life n (suc k) t cs (d ∷ devices) place recalls = (
+recall-ended life n (suc k) t came cs (d ∷ devices) place recalls = (
   recalls.0,
   recalls-of d.holds _ _ (sym (entered-others n t after_end cs end-keeps
       (All-weaker (λ x. x.ticket.0 ≡ t.0 → x.device.0 ≡ n + suc k) (λ x. x.ticket.0 ≡ t.0 → x.device.0 ≢ n) (λ x is same at_n. absurd (omega (arith, is same, at_n))) cs place))) recalls.1,
-  recall-ended life (n + 1) k t cs devices
+  recall-ended life (n + 1) k t came cs devices
       (All-weaker (λ x. x.ticket.0 ≡ t.0 → x.device.0 ≡ n + suc k) (λ x. x.ticket.0 ≡ t.0 → x.device.0 ≡ n + 1 + k) (λ x is same. omega (arith, is same)) cs place) recalls.2,
 )
 

@@ -4,6 +4,7 @@ mod ListLemmas
 mod LogLemmas
 mod MatchLemmas
 mod NextLemmas
+mod PathLemmas
 mod RequestLemmas
 mod SoundLemmas
 mod StepLemmas

@@ -107,3 +107,8 @@ pub get-past : {X : Type 0} (xs : List X) (i : ℕ) → slice_get xs i ≡ None 
 get-past [] i is = omega arith
 get-past (x ∷ xs) zero is = absurd cc
 get-past (x ∷ xs) (suc i) is = omega (arith, get-past xs i is)
+
+pub get-there : {X : Type 0} (xs : List X) (i : ℕ) → i < length xs → (x : X) × (slice_get xs i ≡ Some x)
+get-there [] i inside = absurd (omega (arith, inside))
+get-there (x ∷ xs) zero inside = (x, refl)
+get-there (x ∷ xs) (suc i) inside = get-there xs i (omega (arith, inside))

@@ -1,11 +1,11 @@
 -- The commands of a log after each event, in the words of the tables.
-use Rattle.std.proofs.Common.{ℕ, zero, suc, ◌≡◌, ◌≢◌, ◌+◌, ◌*◌, ◌^◌, ◌<◌, ◌-◌, ◌&&◌, cond, not, min, Bool, true, false, List, [], ◌∷◌, ◌++◌, length, map, get_or, Option, Some, None, inl, inr, refl, sym, ap, subst, ◌∙◌, arith, nat_eq, append-nil}
+use Rattle.std.proofs.Common.{ℕ, zero, suc, ◌≡◌, ◌≢◌, ◌+◌, ◌*◌, ◌^◌, ◌<◌, ◌≤◌, ◌-◌, ◌&&◌, cond, not, min, Bool, true, false, List, [], ◌∷◌, ◌++◌, length, map, get_or, Option, Some, None, inl, inr, refl, sym, ap, subst, ◌∙◌, arith, nat_eq, append-nil}
 use Rattle.std.specs.List.{cons_option, count_by, filter, remove}
 use Rattle.std.specs.Prelude.{option_map, All, Contains}
 use Rattle.std.proofs.lemmas.Bool.{eq-eqb, eqb-true, ne_eqb, cases_Bool, cases_lt}
 use Rattle.std.proofs.lemmas.List.Elements.{All-cons, All-contains, All-head, All-nil, All-tail, All-weaker, filter-append, filter_map-append}
 use Rattle.std.proofs.lemmas.List.{map-append}
-use Rattle.std.proofs.lemmas.Nat.{pow-add, pow_pos}
+use Rattle.std.proofs.lemmas.Nat.{mul-le, pow-add, pow_pos}
 use Rattle.aoe_base.specs.declared.counted.DeviceNo.{DeviceNo}
 use Rattle.aoe_base.specs.declared.counted.Millis.{Millis}
 use Rattle.aoe_base.specs.declared.counted.PathNo.{PathNo}
@@ -32,8 +32,8 @@ pub record Keeps (change : HostCommand → HostCommand) : Type 0 where
   pub device : (c : HostCommand) → (change c).device ≡ c.device
   pub op : (c : HostCommand) → (change c).op ≡ c.op
 
-pub send-keeps : (tag : ℕ) (now : Millis) (path : PathNo) → Keeps (after_send tag now path)
-send-keeps tag now path = record { ticket = λ c. refl; device = λ c. refl; op = λ c. refl }
+pub send-keeps : (tag : ℕ) (now : Millis) (path : PathNo) (ts : ℕ → ℕ) → Keeps (after_send tag now path ts)
+send-keeps tag now path ts = record { ticket = λ c. refl; device = λ c. refl; op = λ c. refl }
 
 pub end-keeps : Keeps after_end
 end-keeps = record { ticket = λ c. refl; device = λ c. refl; op = λ c. refl }
@@ -141,10 +141,10 @@ pub sent-ended : (t : Ticket) (cs : List HostCommand) → sent_of (map (at_ticke
 unfolding made
 sent-ended t cs = sent-mapped (at_ticket t after_end) (change_of t.0 after_finish) cs (λ k d below. sent-ended-one t (get_or cs k d).ticket (get_or cs k d).device (get_or cs k d).op (get_or cs k d).sends (get_or cs k d).done)
 
-sent-repeated-one : (t : Ticket) (tag : ℕ) (now : Millis) (path : PathNo) (s : Sending) (device : DeviceNo) (op : Op)
-    → as_sent (after_send tag now path (made t device op (Some s) false)) ≡ option_map (change_of t.0 (after_repeat now path (record { 0 = wait_of (s.count + 1) }))) (as_sent (made t device op (Some s) false))
+sent-repeated-one : (t : Ticket) (tag : ℕ) (now : Millis) (path : PathNo) (ts : ℕ → ℕ) (s : Sending) (device : DeviceNo) (op : Op)
+    → as_sent (after_send tag now path ts (made t device op (Some s) false)) ≡ option_map (change_of t.0 (after_repeat now path (record { 0 = wait_of (ts device.0) (s.count + 1) }))) (as_sent (made t device op (Some s) false))
 unfolding made
-sent-repeated-one t tag now path s device op =
+sent-repeated-one t tag now path ts s device op =
     let same : nat_eq t.0 t.0 ≡ true = eq-eqb t.0 t.0 refl in
     let count : min (min s.count 32 + 1) 32 ≡ min (s.count + 1) 32 = omega arith in
     rw (same, count) refl
@@ -161,58 +161,59 @@ others-sent t f x other = at x.sends
     at (Some s) = rw other (ap (λ (o : Outstanding). Some o) (sym (never (not x.done) (f (outstanding x s)) (outstanding x s))))
 
 -- the flying command with a ticket is sent again
-pub sent-repeated : (c : HostCommand) (s : Sending) (tag : ℕ) (now : Millis) (path : PathNo) (cs : List HostCommand) → c.sends ≡ Some s → c.done ≡ false → Only c cs
-    → sent_of (map (at_ticket c.ticket (after_send tag now path)) cs) ≡ map (change_of c.ticket.0 (after_repeat now path (record { 0 = wait_of (s.count + 1) }))) (sent_of cs)
+pub sent-repeated : (c : HostCommand) (s : Sending) (tag : ℕ) (now : Millis) (path : PathNo) (ts : ℕ → ℕ) (cs : List HostCommand) → c.sends ≡ Some s → c.done ≡ false → Only c cs
+    → sent_of (map (at_ticket c.ticket (after_send tag now path ts)) cs) ≡ map (change_of c.ticket.0 (after_repeat now path (record { 0 = wait_of (ts c.device.0) (s.count + 1) }))) (sent_of cs)
 unfolding made
-sent-repeated c s tag now path cs sends flying alone =
-    sent-mapped (at_ticket c.ticket (after_send tag now path)) (change_of c.ticket.0 f) cs
-    (All-weaker (λ x. x.ticket.0 ≡ c.ticket.0 → x ≡ c) (λ x. as_sent (at_ticket c.ticket (after_send tag now path) x) ≡ option_map (change_of c.ticket.0 f) (as_sent x)) each cs alone)
+sent-repeated c s tag now path ts cs sends flying alone =
+    sent-mapped (at_ticket c.ticket (after_send tag now path ts)) (change_of c.ticket.0 f) cs
+    (All-weaker (λ x. x.ticket.0 ≡ c.ticket.0 → x ≡ c) (λ x. as_sent (at_ticket c.ticket (after_send tag now path ts) x) ≡ option_map (change_of c.ticket.0 f) (as_sent x)) each cs alone)
   where
     f : Outstanding → Outstanding
-    f = after_repeat now path (record { 0 = wait_of (s.count + 1) })
+    f = after_repeat now path (record { 0 = wait_of (ts c.device.0) (s.count + 1) })
 
-    here : as_sent (after_send tag now path c) ≡ option_map (change_of c.ticket.0 (after_repeat now path (record { 0 = wait_of (s.count + 1) }))) (as_sent c)
+    here : as_sent (after_send tag now path ts c) ≡ option_map (change_of c.ticket.0 (after_repeat now path (record { 0 = wait_of (ts c.device.0) (s.count + 1) }))) (as_sent c)
     here =
         let is : c ≡ made c.ticket c.device c.op (Some s) false = rw (← sends, ← flying) refl in
-        let P : HostCommand → Type 0 = λ x. as_sent (after_send tag now path x) ≡ option_map (change_of c.ticket.0 (after_repeat now path (record { 0 = wait_of (s.count + 1) }))) (as_sent x) in
-        subst P (sym is) (sent-repeated-one c.ticket tag now path s c.device c.op)
+        let P : HostCommand → Type 0 = λ x. as_sent (after_send tag now path ts x) ≡ option_map (change_of c.ticket.0 (after_repeat now path (record { 0 = wait_of (ts c.device.0) (s.count + 1) }))) (as_sent x) in
+        subst P (sym is) (sent-repeated-one c.ticket tag now path ts s c.device c.op)
 
-    each : (x : HostCommand) → (x.ticket.0 ≡ c.ticket.0 → x ≡ c) → as_sent (at_ticket c.ticket (after_send tag now path) x) ≡ option_map (change_of c.ticket.0 (after_repeat now path (record { 0 = wait_of (s.count + 1) }))) (as_sent x)
+    each : (x : HostCommand) → (x.ticket.0 ≡ c.ticket.0 → x ≡ c) → as_sent (at_ticket c.ticket (after_send tag now path ts) x) ≡ option_map (change_of c.ticket.0 (after_repeat now path (record { 0 = wait_of (ts c.device.0) (s.count + 1) }))) (as_sent x)
     each x is_c = elim (cases_Bool (nat_eq x.ticket.0 c.ticket.0)) [
       | inl same ↦
-          let P : HostCommand → Type 0 = λ y. as_sent (after_send tag now path y) ≡ option_map (change_of c.ticket.0 (after_repeat now path (record { 0 = wait_of (s.count + 1) }))) (as_sent y) in
+          let P : HostCommand → Type 0 = λ y. as_sent (after_send tag now path ts y) ≡ option_map (change_of c.ticket.0 (after_repeat now path (record { 0 = wait_of (ts c.device.0) (s.count + 1) }))) (as_sent y) in
           rw same (subst P (sym (is_c (eqb-true x.ticket.0 c.ticket.0 same))) here)
       | inr other ↦
-          let Q : Bool → Type 0 = λ b. as_sent (cond b (after_send tag now path x) x) ≡ option_map (change_of c.ticket.0 (after_repeat now path (record { 0 = wait_of (s.count + 1) }))) (as_sent x) in
-          subst Q (sym other) (others-sent c.ticket (after_repeat now path (record { 0 = wait_of (s.count + 1) })) x other)
+          let Q : Bool → Type 0 = λ b. as_sent (cond b (after_send tag now path ts x) x) ≡ option_map (change_of c.ticket.0 (after_repeat now path (record { 0 = wait_of (ts c.device.0) (s.count + 1) }))) (as_sent x) in
+          subst Q (sym other) (others-sent c.ticket (after_repeat now path (record { 0 = wait_of (ts c.device.0) (s.count + 1) })) x other)
     ]
 
 count-swap : (test : Outstanding → Bool) (a b : Outstanding) (xs ys : List Outstanding) → count_by test (a ∷ xs) ≡ count_by test ys → count_by test (a ∷ b ∷ xs) ≡ count_by test (b ∷ ys)
 count-swap test a b xs ys same = omega (arith, count-cons test a xs, count-cons test a (b ∷ xs), count-cons test b xs, count-cons test b ys, same)
 
 -- a command is sent for the first time
-pub sent-started : (n : ℕ) (c : HostCommand) (tag : ℕ) (now : Millis) (path : PathNo) (cs : List HostCommand) → Ascends n cs → Contains cs c → c.sends ≡ None → c.done ≡ false
-    → SameCommands (launched c.ticket tag now path (record { 0 = wait_of 1 }) ∷ sent_of cs) (sent_of (map (at_ticket c.ticket (after_send tag now path)) cs))
-sent-started n c tag now path [] up there fresh waits = absurd (omega (arith, there.1))
-sent-started n c tag now path (x ∷ cs) up there fresh waits = elim (Contains-cons_cases x c cs there) [
+pub sent-started : (n : ℕ) (c : HostCommand) (tag : ℕ) (now : Millis) (path : PathNo) (ts : ℕ → ℕ) (cs : List HostCommand) → Ascends n cs → Contains cs c → c.sends ≡ None → c.done ≡ false
+    → SameCommands (launched c.ticket tag now path (record { 0 = wait_of (ts c.device.0) 1 }) ∷ sent_of cs) (sent_of (map (at_ticket c.ticket (after_send tag now path ts)) cs))
+sent-started n c tag now path ts [] up there fresh waits = absurd (omega (arith, there.1))
+sent-started n c tag now path ts (x ∷ cs) up there fresh waits = elim (Contains-cons_cases x c cs there) [
   | inl same ↦
       let is_ticket : nat_eq x.ticket.0 c.ticket.0 ≡ true = eq-eqb x.ticket.0 c.ticket.0 (ap (λ (e : HostCommand). e.ticket.0) same) in
-      let rest : map (at_ticket c.ticket (after_send tag now path)) cs ≡ cs = others-same c.ticket (after_send tag now path) cs (above-others x.ticket.0 cs c.ticket (ap (λ (e : HostCommand). e.ticket.0) same) up.1) in
+      let rest : map (at_ticket c.ticket (after_send tag now path ts)) cs ≡ cs = others-same c.ticket (after_send tag now path ts) cs (above-others x.ticket.0 cs c.ticket (ap (λ (e : HostCommand). e.ticket.0) same) up.1) in
       let none : x.sends ≡ None = ap (λ (e : HostCommand). e.sends) same ∙ fresh in
       let open_ : x.done ≡ false = ap (λ (e : HostCommand). e.done) same ∙ waits in
       let ticket : x.ticket ≡ c.ticket = ap (λ (e : HostCommand). e.ticket) same in
-      rw (is_ticket, rest, none, open_, ticket) (λ test. refl)
+      let device : x.device ≡ c.device = ap (λ (e : HostCommand). e.device) same in
+      rw (is_ticket, rest, none, open_, ticket, device) (λ test. refl)
   | inr behind ↦
       let above : x.ticket.0 < c.ticket.0 = All-contains (λ y. x.ticket.0 < y.ticket.0) cs c (ascends-all x.ticket.0 cs up.1) behind in
       let other : nat_eq x.ticket.0 c.ticket.0 ≡ false = ne_eqb x.ticket.0 c.ticket.0 (λ equal. absurd (omega (arith, above, equal))) in
-      let rest = sent-started x.ticket.0 c tag now path cs up.1 behind fresh waits in
+      let rest = sent-started x.ticket.0 c tag now path ts cs up.1 behind fresh waits in
       rw other (with_front (as_sent x) rest)
 ]
   where
-    with_front : (o : Option Outstanding) → SameCommands (launched c.ticket tag now path (record { 0 = wait_of 1 }) ∷ sent_of cs) (sent_of (map (at_ticket c.ticket (after_send tag now path)) cs))
-        → SameCommands (launched c.ticket tag now path (record { 0 = wait_of 1 }) ∷ cons_option o (sent_of cs)) (cons_option o (sent_of (map (at_ticket c.ticket (after_send tag now path)) cs)))
+    with_front : (o : Option Outstanding) → SameCommands (launched c.ticket tag now path (record { 0 = wait_of (ts c.device.0) 1 }) ∷ sent_of cs) (sent_of (map (at_ticket c.ticket (after_send tag now path ts)) cs))
+        → SameCommands (launched c.ticket tag now path (record { 0 = wait_of (ts c.device.0) 1 }) ∷ cons_option o (sent_of cs)) (cons_option o (sent_of (map (at_ticket c.ticket (after_send tag now path ts)) cs)))
     with_front None rest = rest
-    with_front (Some o) rest = λ test. count-swap test (launched c.ticket tag now path (record { 0 = wait_of 1 })) o (sent_of cs) (sent_of (map (at_ticket c.ticket (after_send tag now path)) cs)) (rest test)
+    with_front (Some o) rest = λ test. count-swap test (launched c.ticket tag now path (record { 0 = wait_of (ts c.device.0) 1 })) o (sent_of cs) (sent_of (map (at_ticket c.ticket (after_send tag now path ts)) cs)) (rest test)
 
 pub sent-submitted : (cs : List HostCommand) (t : Ticket) (device : DeviceNo) (op : Op) → sent_of (cs ++ submitted t device op ∷ []) ≡ sent_of cs
 sent-submitted cs t device op = filter_map-append as_sent cs (submitted t device op ∷ []) ∙ append-nil (sent_of cs)
@@ -258,26 +259,26 @@ entered-others n t change (c ∷ cs) keeps all =
         rw (ap as_entered is, rest) refl
     at false here elsewhere rest = rest
 
-stage-sent-one : (now : Millis) (tag : ℕ) (path : PathNo) (sends : Option Sending) → stage (Some (one_more tag now path sends)) false ≡ stage_sent now (stage sends false)
-stage-sent-one now tag path None = refl
-stage-sent-one now tag path (Some s) = refl
+stage-sent-one : (now : Millis) (tag : ℕ) (path : PathNo) (timeout : ℕ) (sends : Option Sending) → stage (Some (one_more tag now path timeout sends)) false ≡ stage_sent now (stage sends false)
+stage-sent-one now tag path timeout None = refl
+stage-sent-one now tag path timeout (Some s) = refl
 
 stage-ended-one : (sends : Option Sending) (done : Bool) → stage sends true ≡ stage_finished (stage sends done)
 stage-ended-one None done = refl
 stage-ended-one (Some s) true = refl
 stage-ended-one (Some s) false = refl
 
-pub entered-sent : (n : ℕ) (t : Ticket) (tag : ℕ) (now : Millis) (path : PathNo) (cs : List HostCommand) → All (λ x. x.ticket.0 ≡ t.0 → x.done ≡ false) cs
-    → entered_at n (map (at_ticket t (after_send tag now path)) cs) ≡ after_stage t.0 (stage_sent now) (entered_at n cs)
-entered-sent n t tag now path cs waits =
-    entered-mapped n t (after_send tag now path) (with_stage t.0 (stage_sent now)) cs (send-keeps tag now path)
-    (All-weaker (λ x. x.ticket.0 ≡ t.0 → x.done ≡ false) (λ x. is_at n x ≡ true → as_entered (at_ticket t (after_send tag now path) x) ≡ with_stage t.0 (stage_sent now) (as_entered x)) (λ x open_ _. each x open_) cs waits)
+pub entered-sent : (n : ℕ) (t : Ticket) (tag : ℕ) (now : Millis) (path : PathNo) (ts : ℕ → ℕ) (cs : List HostCommand) → All (λ x. x.ticket.0 ≡ t.0 → x.done ≡ false) cs
+    → entered_at n (map (at_ticket t (after_send tag now path ts)) cs) ≡ after_stage t.0 (stage_sent now) (entered_at n cs)
+entered-sent n t tag now path ts cs waits =
+    entered-mapped n t (after_send tag now path ts) (with_stage t.0 (stage_sent now)) cs (send-keeps tag now path ts)
+    (All-weaker (λ x. x.ticket.0 ≡ t.0 → x.done ≡ false) (λ x. is_at n x ≡ true → as_entered (at_ticket t (after_send tag now path ts) x) ≡ with_stage t.0 (stage_sent now) (as_entered x)) (λ x open_ _. each x open_) cs waits)
   where
-    each : (x : HostCommand) → (x.ticket.0 ≡ t.0 → x.done ≡ false) → as_entered (at_ticket t (after_send tag now path) x) ≡ with_stage t.0 (stage_sent now) (as_entered x)
+    each : (x : HostCommand) → (x.ticket.0 ≡ t.0 → x.done ≡ false) → as_entered (at_ticket t (after_send tag now path ts) x) ≡ with_stage t.0 (stage_sent now) (as_entered x)
     each x open_ = elim (cases_Bool (nat_eq x.ticket.0 t.0)) [
       | inl same ↦
           let waits_still : x.done ≡ false = open_ (eqb-true x.ticket.0 t.0 same) in
-          rw (same, waits_still) (ap (λ (g : Stage). record { ticket = x.ticket; kind = kind_of x.op; span = span_of x.op; stage = g }) (stage-sent-one now tag path x.sends))
+          rw (same, waits_still) (ap (λ (g : Stage). record { ticket = x.ticket; kind = kind_of x.op; span = span_of x.op; stage = g }) (stage-sent-one now tag path (ts x.device.0) x.sends))
       | inr other ↦ rw other refl
     ]
 
@@ -308,12 +309,12 @@ entered-elsewhere n cs t device op elsewhere =
 waits : HostCommand → Waiting
 waits c = record { ticket = c.ticket; device = c.device; op = c.op }
 
-pub unfinished-sent : (t : Ticket) (tag : ℕ) (now : Millis) (path : PathNo) (cs : List HostCommand) → unfinished (map (at_ticket t (after_send tag now path)) cs) ≡ unfinished cs
-unfinished-sent t tag now path [] = refl
-unfinished-sent t tag now path (c ∷ cs) = at (nat_eq c.ticket.0 t.0) c.done (unfinished-sent t tag now path cs)
+pub unfinished-sent : (t : Ticket) (tag : ℕ) (now : Millis) (path : PathNo) (ts : ℕ → ℕ) (cs : List HostCommand) → unfinished (map (at_ticket t (after_send tag now path ts)) cs) ≡ unfinished cs
+unfinished-sent t tag now path ts [] = refl
+unfinished-sent t tag now path ts (c ∷ cs) = at (nat_eq c.ticket.0 t.0) c.done (unfinished-sent t tag now path ts cs)
   where
-    at : (b d : Bool) → unfinished (map (at_ticket t (after_send tag now path)) cs) ≡ unfinished cs
-        → unfinished (cond b (record { ticket = c.ticket; device = c.device; op = c.op; sends = Some (one_more tag now path c.sends); done = d }) (record { ticket = c.ticket; device = c.device; op = c.op; sends = c.sends; done = d }) ∷ map (at_ticket t (after_send tag now path)) cs)
+    at : (b d : Bool) → unfinished (map (at_ticket t (after_send tag now path ts)) cs) ≡ unfinished cs
+        → unfinished (cond b (record { ticket = c.ticket; device = c.device; op = c.op; sends = Some (one_more tag now path (ts c.device.0) c.sends); done = d }) (record { ticket = c.ticket; device = c.device; op = c.op; sends = c.sends; done = d }) ∷ map (at_ticket t (after_send tag now path ts)) cs)
         ≡ unfinished (record { ticket = c.ticket; device = c.device; op = c.op; sends = c.sends; done = d } ∷ cs)
     at true true rest = rest
     at false true rest = rest
@@ -406,15 +407,24 @@ unfinished-ended n t (c ∷ cs) at d up inside is = by_done c.done refl at insid
 
 -- ---- waits
 
+-- a minute is reached long before
+capped : (timeout more : ℕ) → 0 < more → min 60000 (timeout * 2 ^ 32) ≡ min 60000 (timeout * (2 ^ 32 * more))
+capped zero more some = omega arith
+capped (suc t) more some =
+    let low : 60000 ≤ suc t * 2 ^ 32 = omega arith in
+    let enough : 60000 ≤ 2 ^ 32 * more = omega (arith, some) in
+    let high : 60000 ≤ suc t * (2 ^ 32 * more) = omega (arith, mul-le 1 60000 (suc t) (2 ^ 32 * more) (omega arith) enough) in
+    omega (arith, low, high)
+
 -- the wait is the same where the sends aren't counted on
-pub wait-capped : (n : ℕ) → wait_of (min n 32 + 1) ≡ wait_of (n + 1)
-wait-capped n = elim (cases_lt 32 n) [
+
+pub wait-capped : (timeout n : ℕ) → wait_of timeout (min n 32 + 1) ≡ wait_of timeout (n + 1)
+wait-capped timeout n = elim (cases_lt 32 n) [
   | inl more ↦
       let many : min n 32 ≡ 32 = omega (arith, more) in
       let split : n + 1 - 1 ≡ 32 + (n - 32) = omega (arith, more) in
       let power : 2 ^ (n + 1 - 1) ≡ 2 ^ 32 * 2 ^ (n - 32) = ap (λ (k : ℕ). 2 ^ k) split ∙ pow-add 2 32 (n - 32) in
-      let some : 0 < 2 ^ (n - 32) = pow_pos (n - 32) in
-      rw (many, power) (omega (arith, some))
+      rw (many, power) (capped timeout (2 ^ (n - 32)) (pow_pos (n - 32)))
   | inr few ↦
       let same : min n 32 ≡ n = omega (arith, few) in
       rw same refl

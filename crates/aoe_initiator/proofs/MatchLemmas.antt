@@ -17,6 +17,7 @@ use Rattle.aoe_flight.specs.declared.outstanding.Outstanding.{Outstanding}
 use Rattle.aoe_flight.specs.FlightTable.{after_change, FlightTable, Recalls as RecallsSent}
 use Rattle.aoe_flight.specs.Outstanding.{after_finish, flies_as}
 use Rattle.aoe_flight.proofs.RecallLemmas.{flying-recalled, recalls-change}
+use Rattle.aoe_paths.specs.PathTable.{new_paths}
 use Rattle.aoe_initiator.specs.declared.device.Device.{Device}
 use Rattle.aoe_initiator.specs.declared.op.Op.{Op}
 use Rattle.aoe_initiator.specs.declared.outcome.Done.{Done}
@@ -24,11 +25,12 @@ use Rattle.aoe_initiator.specs.declared.outcome.Outcome.{Outcome}
 use Rattle.aoe_initiator.specs.declared.pending.Pending.{Pending}
 use Rattle.aoe_initiator.specs.Devices.{change_at, device_at, device_finished, device_sent}
 use Rattle.aoe_initiator.specs.Host.{new_host, unfinished, waiting_of, with_device, Closes, Host, Matches, RecallAll, Waiting}
-use Rattle.aoe_initiator.specs.HostLog.{after_end, after_send, at_ticket, clock, commands, entered_at, is_at, outstanding, sent_of, submitted, Event, HostCommand, Sending}
+use Rattle.aoe_initiator.specs.HostLog.{after_end, after_send, at_ticket, clock, commands, entered_at, is_at, outstanding, sent_of, submitted, with_ticket, Event, HostCommand, Sending}
 use Rattle.aoe_initiator.specs.HostLog.Event.{Advances, Ends, Sends, Submits}
 use Rattle.aoe_initiator.specs.Op.{kind_of, span_of}
 use Rattle.aoe_initiator.proofs.DeviceLemmas.{device_entered, length-change_at, recall-at, recall-ended, recall-entered, recall-sent}
 use Rattle.aoe_initiator.proofs.ListLemmas.{get-within, remove-map, Contains-cons, Contains-cons_cases, Contains-get, Contains-map}
+use Rattle.aoe_initiator.proofs.PathLemmas.{arrival_on, found-one, have-at, have-attached, have-ended, have-kept, have-sent, path_before, timeouts_on, HaveAll}
 use Rattle.aoe_initiator.proofs.LogLemmas.{ascends-kept, ascends-push, end-keeps, kept-device, kept-ticket, only, send-keeps, sent-ended, sent-submitted, unfinished-ended, unfinished-from, unfinished-sent, unfinished-submitted, Keeps, Only}
 
 -- ---- commands of a log in the tables
@@ -143,9 +145,9 @@ some-of : (o : Option Sending) (s : Sending) → o ≡ Some s → IsSome o
 some-of None s is = absurd cc
 some-of (Some t) s is = refl
 
-pub matches-ended : (log : List Event) (host new : Host) (at : ℕ) (outcome : Outcome) (s : Sending) → Matches log host → (closes : Closes host at outcome new)
-    → ((c : HostCommand) → IsPending (commands log) closes.command c → c.sends ≡ Some s) → Matches (Ends closes.command.ticket ∷ log) new
-matches-ended log host new at outcome s m closes flew =
+pub matches-ended : (log : List Event) (host new : Host) (at : ℕ) (path : Option PathNo) (outcome : Outcome) (s : Sending) → Matches log host → (closes : Closes host at (arrival_on host.clock path (Some s)) outcome new)
+    → ((c : HostCommand) → IsPending (commands log) closes.command c → c.sends ≡ Some s) → Matches (Ends closes.command.ticket path ∷ log) new
+matches-ended log host new at path outcome s m closes flew =
     let cs = commands log in
     let p = closes.command in
     let found = pending-command cs host.pending at p m.pending closes.there in
@@ -169,25 +171,32 @@ matches-ended log host new at outcome s m closes flew =
     subst P (sym (sent-ended p.ticket cs)) (recalls-change host.flight _ (sent_of cs) p.ticket.0 after_finish host.flight.latest refl m.sent (omega arith)) in
     let flown : All (λ x. x.done ≡ true → IsSome x.sends) (map (at_ticket p.ticket after_end) cs) =
     All-map (λ x. x.done ≡ true → IsSome x.sends) (at_ticket p.ticket after_end) cs (λ k d below. flown_one (get_or cs k d) (m.flew k d below) (is_c k d below) (some-of c.sends s (flew c found.1))) in
-    let after : Matches (Ends p.ticket ∷ log) (record host {
+    let met : with_ticket p.ticket cs ≡ Some c = found-one 0 cs c p.ticket m.tickets found.1.there ticket_same in
+    let D : ℕ → ℕ → Option Sending → Type 0 = λ k now o. HaveAll host.ports (Ends p.ticket path ∷ log) (change_at k (device_finished p.ticket (arrival_on now path o)) host.devices) in
+    let had : D c.device.0 (clock log) c.sends = have-ended host.ports log c p.ticket path host.devices met m.paths in
+    let had_at : D p.device.0 (clock log) c.sends = subst (λ (k : ℕ). D k (clock log) c.sends) (ap (λ (d : DeviceNo). d.0) found.1.device) had in
+    let had_then : D p.device.0 host.clock c.sends = subst (λ (n : ℕ). D p.device.0 n c.sends) (sym m.time) had_at in
+    let have : D p.device.0 host.clock (Some s) = subst (λ (o : Option Sending). D p.device.0 host.clock o) (flew c found.1) had_then in
+    let after : Matches (Ends p.ticket path ∷ log) (record host {
       flight = after_change host.flight p.ticket.0 after_finish host.flight.latest;
-      devices = change_at p.device.0 (device_finished p.ticket) host.devices;
+      devices = change_at p.device.0 (device_finished p.ticket (arrival_on host.clock path (Some s))) host.devices;
       pending = remove host.pending at;
       waiting = host.waiting ++ record { ticket = p.ticket; outcome = outcome } ∷ [];
     }) = record {
       time = m.time;
       tickets = ascends-kept 0 p.ticket after_end cs end-keeps m.tickets;
       last = kept-last p.ticket after_end cs host.last_ticket end-keeps m.last;
-      attached = kept-attached p.ticket after_end cs (length host.devices) _ (length-change_at p.device.0 (device_finished p.ticket) host.devices) end-keeps m.attached;
+      attached = kept-attached p.ticket after_end cs (length host.devices) _ (length-change_at p.device.0 (device_finished p.ticket (arrival_on host.clock path (Some s))) host.devices) end-keeps m.attached;
       flew = flown;
       pending = waiting;
       rest = m.rest;
       room = m.room;
       dead = m.dead;
       sent = sent;
-      entered = recall-ended host.life 0 p.device.0 p.ticket cs host.devices place m.entered;
+      entered = recall-ended host.life 0 p.device.0 p.ticket (arrival_on host.clock path (Some s)) cs host.devices place m.entered;
+      paths = have;
     } in
-    let Q : Host → Type 0 = λ h. Matches (Ends p.ticket ∷ log) h in
+    let Q : Host → Type 0 = λ h. Matches (Ends p.ticket path ∷ log) h in
     subst Q (sym closes.after) after
   where
     flown_one : (x : HostCommand) → (x.done ≡ true → IsSome x.sends) → (x.ticket.0 ≡ closes.command.ticket.0 → x ≡ (pending-command (commands log) host.pending at closes.command m.pending closes.there).0)
@@ -205,11 +214,12 @@ matches-ended log host new at outcome s m closes flew =
 -- the parts of a send that first sends and repeats share
 pub matches-sent : (log : List Event) (host : Host) (c : HostCommand) (p : Pending) (tag : ℕ) (path : PathNo) (flight : FlightTable) → Matches log host → IsPending (commands log) p c → All (λ d. d.holds.latest ≤ host.clock) host.devices
     → flight.rest ≡ host.flight.rest → flight.room ≡ host.flight.room → flight.dead ≡ host.flight.dead
-    → RecallsSent flight (sent_of (map (at_ticket p.ticket (after_send tag (record { 0 = host.clock }) path)) (commands log)))
-    → Matches (Sends p.ticket tag path ∷ log) (record host { flight = flight; devices = change_at p.device.0 (device_sent p.ticket (record { 0 = host.clock })) host.devices })
+    → RecallsSent flight (sent_of (map (at_ticket p.ticket (after_send tag (record { 0 = host.clock }) path (timeouts_on log path))) (commands log)))
+    → Matches (Sends p.ticket tag path ∷ log) (record host { flight = flight; devices = change_at p.device.0 (device_sent p.ticket (record { 0 = host.clock }) (path_before c.sends) path) host.devices })
 matches-sent log host c p tag path flight m is times rest room dead sent =
     let cs = commands log in
     let now : Millis = record { 0 = host.clock } in
+    let ts = timeouts_on log path in
     let alone : Only c cs = only 0 cs c m.tickets is.there in
     let ticket_same : c.ticket.0 ≡ p.ticket.0 = ap (λ (t : Ticket). t.0) is.ticket in
     let is_c : All (λ x. x.ticket.0 ≡ p.ticket.0 → x ≡ c) cs = All-weaker (λ x. x.ticket.0 ≡ c.ticket.0 → x ≡ c) (λ x. x.ticket.0 ≡ p.ticket.0 → x ≡ c) (λ x only_c same. only_c (same ∙ sym ticket_same)) cs alone in
@@ -218,29 +228,33 @@ matches-sent log host c p tag path flight m is times rest room dead sent =
     (λ x only_c same. omega (arith, ap (λ (e : HostCommand). e.device.0) (only_c same), ap (λ (d : DeviceNo). d.0) is.device)) cs is_c in
     let waits : All (λ x. x.ticket.0 ≡ p.ticket.0 → x.done ≡ false) cs =
     All-weaker (λ x. x.ticket.0 ≡ p.ticket.0 → x ≡ c) (λ x. x.ticket.0 ≡ p.ticket.0 → x.done ≡ false) (λ x only_c same. ap (λ (e : HostCommand). e.done) (only_c same) ∙ is.waits) cs is_c in
-    let flown : All (λ x. x.done ≡ true → IsSome x.sends) (map (at_ticket p.ticket (after_send tag now path)) cs) =
-    kept-all (λ x. x.done ≡ true → IsSome x.sends) p.ticket (after_send tag now path) cs (λ x before. flown_one x before) m.flew in
-    let Q : ℕ → Type 0 = λ n. RecallsSent flight (sent_of (map (at_ticket p.ticket (after_send tag (record { 0 = n }) path)) cs)) in
-    let R : ℕ → Type 0 = λ n. RecallAll host.life (map (at_ticket p.ticket (after_send tag (record { 0 = n }) path)) cs) 0 (change_at p.device.0 (device_sent p.ticket (record { 0 = host.clock })) host.devices) in
-    let F : ℕ → Type 0 = λ n. All (λ x. x.done ≡ true → IsSome x.sends) (map (at_ticket p.ticket (after_send tag (record { 0 = n }) path)) cs) in
+    let flown : All (λ x. x.done ≡ true → IsSome x.sends) (map (at_ticket p.ticket (after_send tag now path ts)) cs) =
+    kept-all (λ x. x.done ≡ true → IsSome x.sends) p.ticket (after_send tag now path ts) cs (λ x before. flown_one x before) m.flew in
+    let met : with_ticket p.ticket cs ≡ Some c = found-one 0 cs c p.ticket m.tickets is.there ticket_same in
+    let D : ℕ → Type 0 = λ k. HaveAll host.ports (Sends p.ticket tag path ∷ log) (change_at k (device_sent p.ticket now (path_before c.sends) path) host.devices) in
+    let have : D p.device.0 = subst D (ap (λ (d : DeviceNo). d.0) is.device) (have-sent host.ports log c p.ticket tag now path host.devices met m.paths) in
+    let Q : ℕ → Type 0 = λ n. RecallsSent flight (sent_of (map (at_ticket p.ticket (after_send tag (record { 0 = n }) path ts)) cs)) in
+    let R : ℕ → Type 0 = λ n. RecallAll host.life (map (at_ticket p.ticket (after_send tag (record { 0 = n }) path ts)) cs) 0 (change_at p.device.0 (device_sent p.ticket (record { 0 = host.clock }) (path_before c.sends) path) host.devices) in
+    let F : ℕ → Type 0 = λ n. All (λ x. x.done ≡ true → IsSome x.sends) (map (at_ticket p.ticket (after_send tag (record { 0 = n }) path ts)) cs) in
     record {
       time = m.time;
-      tickets = ascends-kept 0 p.ticket (after_send tag (record { 0 = clock log }) path) cs (send-keeps tag (record { 0 = clock log }) path) m.tickets;
-      last = kept-last p.ticket (after_send tag (record { 0 = clock log }) path) cs host.last_ticket (send-keeps tag (record { 0 = clock log }) path) m.last;
-      attached = kept-attached p.ticket (after_send tag (record { 0 = clock log }) path) cs (length host.devices) _ (length-change_at p.device.0 (device_sent p.ticket now) host.devices) (send-keeps tag (record { 0 = clock log }) path) m.attached;
+      tickets = ascends-kept 0 p.ticket (after_send tag (record { 0 = clock log }) path ts) cs (send-keeps tag (record { 0 = clock log }) path ts) m.tickets;
+      last = kept-last p.ticket (after_send tag (record { 0 = clock log }) path ts) cs host.last_ticket (send-keeps tag (record { 0 = clock log }) path ts) m.last;
+      attached = kept-attached p.ticket (after_send tag (record { 0 = clock log }) path ts) cs (length host.devices) _ (length-change_at p.device.0 (device_sent p.ticket now (path_before c.sends) path) host.devices) (send-keeps tag (record { 0 = clock log }) path ts) m.attached;
       flew = subst F m.time flown;
-      pending = m.pending ∙ sym (unfinished-sent p.ticket tag (record { 0 = clock log }) path cs);
+      pending = m.pending ∙ sym (unfinished-sent p.ticket tag (record { 0 = clock log }) path ts cs);
       rest = rest ∙ m.rest;
       room = room ∙ m.room;
       dead = dead ∙ m.dead;
       sent = subst Q m.time sent;
-      entered = subst R m.time (recall-sent host.life 0 p.device.0 p.ticket tag now path cs host.devices place waits times m.entered);
+      entered = subst R m.time (recall-sent host.life 0 p.device.0 p.ticket tag now path ts (path_before c.sends) cs host.devices place waits times m.entered);
+      paths = have;
     }
   where
-    flown_one : (x : HostCommand) → (x.done ≡ true → IsSome x.sends) → (at_ticket p.ticket (after_send tag (record { 0 = host.clock }) path) x).done ≡ true → IsSome (at_ticket p.ticket (after_send tag (record { 0 = host.clock }) path) x).sends
+    flown_one : (x : HostCommand) → (x.done ≡ true → IsSome x.sends) → (at_ticket p.ticket (after_send tag (record { 0 = host.clock }) path (timeouts_on log path)) x).done ≡ true → IsSome (at_ticket p.ticket (after_send tag (record { 0 = host.clock }) path (timeouts_on log path)) x).sends
     flown_one x before = by_ticket (nat_eq x.ticket.0 p.ticket.0)
       where
-        by_ticket : (b : Bool) → (cond b (after_send tag (record { 0 = host.clock }) path x) x).done ≡ true → IsSome (cond b (after_send tag (record { 0 = host.clock }) path x) x).sends
+        by_ticket : (b : Bool) → (cond b (after_send tag (record { 0 = host.clock }) path (timeouts_on log path) x) x).done ≡ true → IsSome (cond b (after_send tag (record { 0 = host.clock }) path (timeouts_on log path) x) x).sends
         by_ticket true done = refl
         by_ticket false done = before done
 
@@ -279,6 +293,7 @@ matches-submitted log host new t device op room m is inside same =
       dead = m.dead;
       sent = subst P (sym (sent-submitted cs t device op)) m.sent;
       entered = recall-entered host.life 0 device.0 cs t device op host.devices (omega arith) m.entered;
+      paths = have-kept host.ports log (Submits t device op ∷ log) device.0 (device_entered (new_command t (kind_of op) (span_of op))) host.devices (λ n. refl) (λ d. refl) (λ d. refl) m.paths;
     } in
     let Q : Host → Type 0 = λ h. Matches (Submits t device op ∷ log) h in
     subst Q (sym same) after
@@ -300,8 +315,8 @@ recall-attached life n cs (x ∷ devices) d all fresh recalls = (
   recall-attached life (n + 1) cs devices d (All-weaker (λ c. c.device.0 < n + length (x ∷ devices)) (λ c. c.device.0 < n + 1 + length devices) (λ c less. omega (arith, less)) cs all) fresh recalls.2,
 )
 
-pub matches-attached : (log : List Event) (host new : Host) (d : Device) → Matches log host → d.holds ≡ nothing_entered host.life → new ≡ with_device host d → Matches log new
-matches-attached log host new d m fresh same =
+pub matches-attached : (log : List Event) (host new : Host) (d : Device) → Matches log host → d.holds ≡ nothing_entered host.life → d.paths ≡ new_paths host.ports d.about.remotes.items → new ≡ with_device host d → Matches log new
+matches-attached log host new d m fresh paths same =
     let cs = commands log in
     let more : length (host.devices ++ d ∷ []) ≡ length host.devices + 1 = length-append host.devices (d ∷ []) in
     let after : Matches log (with_device host d) = record {
@@ -316,6 +331,7 @@ matches-attached log host new d m fresh same =
       dead = m.dead;
       sent = m.sent;
       entered = recall-attached host.life 0 cs host.devices d (All-weaker (λ c. c.device.0 < length host.devices) (λ c. c.device.0 < 0 + length host.devices) (λ c less. omega (arith, less)) cs m.attached) fresh m.entered;
+      paths = have-attached host.ports log host.devices d m.attached paths m.paths;
     } in
     let Q : Host → Type 0 = λ h. Matches log h in
     subst Q (sym same) after
@@ -333,6 +349,7 @@ matches-advanced log host now clock_now is m = record {
   dead = m.dead;
   sent = m.sent;
   entered = m.entered;
+  paths = m.paths;
 }
 
 pub matches-taken : (log : List Event) (host : Host) (waiting : List Done) → Matches log host → Matches log (record host { waiting = waiting })
@@ -348,6 +365,7 @@ matches-taken log host waiting m = record {
   dead = m.dead;
   sent = m.sent;
   entered = m.entered;
+  paths = m.paths;
 }
 
 -- devices and flight at a later time
@@ -364,6 +382,7 @@ matches-devices log host m times = record {
   dead = m.dead;
   sent = m.sent;
   entered = recall-at host.life 0 host.clock (commands log) host.devices times m.entered;
+  paths = have-at host.ports log host.clock host.devices m.paths;
 }
 
 pub matches-new : (ports : List Mac) (life room dead : ℕ) → Matches [] (new_host ports life room dead)
@@ -379,6 +398,7 @@ matches-new ports life room dead = record {
   dead = refl;
   sent = λ test. refl;
   entered = tt;
+  paths = λ n. tt;
 }
 
 pub matches-cleared : (log : List Event) (host : Host) (devices : List Device) → Matches log host → All (λ d. d.holds.latest ≤ host.clock) host.devices → devices ≡ map (device_at host.clock) host.devices → Matches log (record host { devices = devices })

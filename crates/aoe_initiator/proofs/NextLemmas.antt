@@ -1,8 +1,8 @@
 -- What may be sent next, by all commands of a log.
-use Rattle.std.proofs.Common.{ℕ, zero, suc, ◌≡◌, ◌≢◌, ◌+◌, ◌-◌, ◌<◌, ◌≤◌, cond, not, min, Bool, true, false, List, [], ◌∷◌, length, map, Option, Some, None, inl, inr, refl, sym, ap, subst, ◌∙◌, arith, nat_eq, nat_le}
+use Rattle.std.proofs.Common.{ℕ, zero, suc, ◌≡◌, ◌≢◌, ◌+◌, ◌-◌, ◌*◌, ◌<◌, ◌≤◌, cond, not, min, Bool, true, false, List, [], ◌∷◌, length, map, Option, Some, None, inl, inr, refl, sym, ap, subst, ◌∙◌, arith, nat_eq, nat_le}
 use Rattle.std.specs.Prelude.{option_map, slice_get, All, Contains, IfNone, IfSome, IsSome}
 use Rattle.std.specs.List.{filter, find}
-use Rattle.std.specs.Option.{option_and_then}
+use Rattle.std.specs.Option.{option_and_then, option_map_or}
 use Rattle.std.proofs.lemmas.Bool.{and_parts, cases_Bool, eq-eqb, eqb-true, leb-false, leb-true, not-true}
 use Rattle.std.proofs.lemmas.List.Elements.{All-contains, All-weaker, All-contains_itself, Contains-append_cases, Contains-append_left, Contains-append_right}
 use Rattle.std.proofs.lemmas.Option.{slice_get-map}
@@ -18,14 +18,16 @@ use Rattle.aoe_flight.specs.declared.outstanding.Outstanding.{Outstanding}
 use Rattle.aoe_flight.specs.FlightTable.{after_change, live_at, FlightTable, Recalls as RecallsSent, SameCommands}
 use Rattle.aoe_flight.specs.Outstanding.{after_repeat, change_of, flies_as, is_due, is_over, is_taken, launched, live, precedes, rest_time, IsFirst}
 use Rattle.aoe_flight.proofs.RecallLemmas.{length-recalled, recalls-change, same-filter}
+use Rattle.aoe_paths.specs.PathLog.{next_of}
+use Rattle.aoe_paths.specs.PathTable.{pair_at}
 use Rattle.aoe_initiator.specs.declared.device.Device.{Device}
 use Rattle.aoe_initiator.specs.declared.op.Op.{Op}
 use Rattle.aoe_initiator.specs.declared.pending.Pending.{Pending}
 use Rattle.aoe_initiator.specs.declared.step.Sent.{Sent}
-use Rattle.aoe_initiator.specs.Devices.{all_clear, change_at, device_at, device_sent, IsLowest}
-use Rattle.aoe_initiator.specs.Host.{Host, IsSame, Matches, RecallAll, Waiting}
-use Rattle.aoe_initiator.specs.HostLaw.{is_clear_at, spelled_for, IsFrameOf, IsNext, IsQuiet, IsRepeat, IsStart}
-use Rattle.aoe_initiator.specs.HostLog.{after_send, as_entered, at_ticket, commands, entered_at, is_at, outstanding, sent_of, stage, wait_of, Event, HostCommand, Sending}
+use Rattle.aoe_initiator.specs.Devices.{all_clear, change_at, device_at, device_sent, IsLowest, IsRoute}
+use Rattle.aoe_initiator.specs.Host.{HasPaths, Host, IsSame, Matches, RecallAll, Waiting}
+use Rattle.aoe_initiator.specs.HostLaw.{is_clear_at, paths_to, spelled_for, IsFrameOf, IsNext, IsOnNextPath, IsQuiet, IsRepeat, IsStart}
+use Rattle.aoe_initiator.specs.HostLog.{after_send, as_entered, at_ticket, commands, entered_at, is_at, outstanding, path_log, sent_of, stage, wait_of, Event, HostCommand, Sending}
 use Rattle.aoe_initiator.specs.HostLog.Event.{Sends}
 use Rattle.aoe_initiator.specs.Request.{request}
 use Rattle.aoe_initiator.specs.Steps.{is_full, place, InTime, Launches, Repeats}
@@ -33,6 +35,7 @@ use Rattle.aoe_initiator.proofs.DeviceLemmas.{about-change_at}
 use Rattle.aoe_initiator.proofs.ListLemmas.{not-placed, placed, Contains-cons_cases, Contains-filter, Contains-filter_from, Contains-map, Contains-map_from}
 use Rattle.aoe_initiator.proofs.LogLemmas.{only, sent-repeated, sent-started, unfinished-there, wait-capped, Only}
 use Rattle.aoe_initiator.proofs.MatchLemmas.{flying-command, matches-sent, one-command, pending-command, sent-from, IsFlying, IsPending}
+use Rattle.aoe_initiator.proofs.PathLemmas.{has-paths, path_before, route-next, route-spelled, route-timeout, timeouts_on}
 
 -- ---- options
 
@@ -191,16 +194,31 @@ about-slice : (ds es : List Device) (n : ℕ) → map (λ (d : Device). d.about)
 about-slice ds es n same = sym (slice_get-map (λ (d : Device). d.about) ds n) ∙ ap (λ l. slice_get l n) same ∙ slice_get-map (λ (d : Device). d.about) es n
 
 -- the frame goes by what doesn't change of the devices
-pub spelled-same : (host new : Host) (op : Op) (device : DeviceNo) (tag : ℕ) → IsSame host new → spelled_for new op device tag ≡ spelled_for host op device tag
-spelled-same host new op device tag same =
+pub spelled-same : (host new : Host) (op : Op) (device : DeviceNo) (path : PathNo) (tag : ℕ) → IsSame host new → spelled_for new op device path tag ≡ spelled_for host op device path tag
+spelled-same host new op device path tag same =
     let P : List Mac → Type 0 = λ l.
-    option_and_then (λ (d : Device). option_and_then (λ local. option_map (λ remote. request op d.about.id remote local tag) (slice_get d.about.remotes.items 0)) (slice_get l 0)) (slice_get new.devices device.0)
-    ≡ spelled_for host op device tag in
+    option_and_then (λ (d : Device). option_map (λ pair. request op d.about.id pair.1 pair.0 tag) (pair_at l d.about.remotes.items path.0)) (slice_get new.devices device.0)
+    ≡ spelled_for host op device path tag in
     subst P (sym same.ports) (by_device (slice_get new.devices device.0) (slice_get host.devices device.0) (about-slice new.devices host.devices device.0 same.devices))
   where
     by_device : (a b : Option Device) → option_map (λ (d : Device). d.about) a ≡ option_map (λ (d : Device). d.about) b
-        → option_and_then (λ (d : Device). option_and_then (λ local. option_map (λ remote. request op d.about.id remote local tag) (slice_get d.about.remotes.items 0)) (slice_get host.ports 0)) a
-        ≡ option_and_then (λ (d : Device). option_and_then (λ local. option_map (λ remote. request op d.about.id remote local tag) (slice_get d.about.remotes.items 0)) (slice_get host.ports 0)) b
+        → option_and_then (λ (d : Device). option_map (λ pair. request op d.about.id pair.1 pair.0 tag) (pair_at host.ports d.about.remotes.items path.0)) a
+        ≡ option_and_then (λ (d : Device). option_map (λ pair. request op d.about.id pair.1 pair.0 tag) (pair_at host.ports d.about.remotes.items path.0)) b
+    by_device None None is = refl
+    by_device None (Some b) is = absurd cc
+    by_device (Some a) None is = absurd cc
+    by_device (Some a) (Some b) is =
+        let about : a.about ≡ b.about = cc in
+        rw about refl
+
+-- and so does the number of paths
+paths-same : (host new : Host) (n : ℕ) → IsSame host new → paths_to new n ≡ paths_to host n
+paths-same host new n same =
+    let P : List Mac → Type 0 = λ l. option_map_or (λ (d : Device). length l * length d.about.remotes.items) (slice_get new.devices n) 0 ≡ paths_to host n in
+    subst P (sym same.ports) (by_device (slice_get new.devices n) (slice_get host.devices n) (about-slice new.devices host.devices n same.devices))
+  where
+    by_device : (a b : Option Device) → option_map (λ (d : Device). d.about) a ≡ option_map (λ (d : Device). d.about) b
+        → option_map_or (λ (d : Device). length host.ports * length d.about.remotes.items) a 0 ≡ option_map_or (λ (d : Device). length host.ports * length d.about.remotes.items) b 0
     by_device None None is = refl
     by_device None (Some b) is = absurd cc
     by_device (Some a) None is = absurd cc
@@ -264,7 +282,7 @@ start-next old h new log t at sent frame m time cleared launches free none =
     let at_old : is_taken (live old.flight.rest old.clock (sent_of (commands log))) sent.tag ≡ false = subst F cleared.same here in
     let T : ℕ → Type 0 = λ r. is_taken (live r old.clock (sent_of (commands log))) sent.tag ≡ false in
     let P : Sent → Type 0 = λ s. IsNext old (commands log) s in
-    let start : IsStart old (commands log) (record { ticket = t; tag = sent.tag; path = record { 0 = 0 }; again = false }) = record {
+    let start : IsStart old (commands log) (record { ticket = t; tag = sent.tag; path = launches.route.path; again = false }) = record {
       nothing_due = none;
       room = has-room old log m time cleared.room;
       command = c.0;
@@ -277,48 +295,87 @@ start-next old h new log t at sent frame m time cleared launches free none =
     } in
     subst P (sym launches.is) start
 
-pub start-frame : (old h new : Host) (log : List Event) (t : Ticket) (at : ℕ) (sent : Sent) (frame : List ℕ) → Matches log old → IsCleared old h t at → Launches h t at sent frame new → IsFrameOf old (commands log) sent frame
-start-frame old h new log t at sent frame m cleared launches =
+-- the command that is started, with its pending entry and the paths to its device
+record IsStarted (log : List Event) (h : Host) (t : Ticket) (at : ℕ) (sent : Sent) (frame : List ℕ) (new : Host) (launches : Launches h t at sent frame new) : Type 0 where
+  command : HostCommand
+  there : Contains (commands log) command
+  fresh : command.sends ≡ None
+  ticket : command.ticket ≡ t
+  pending : IsPending (commands log) launches.command command
+  has : HasPaths h.ports (path_log log launches.command.device.0) launches.device
+
+start-command : (old h new : Host) (log : List Event) (t : Ticket) (at : ℕ) (sent : Sent) (frame : List ℕ) → Matches log old → Matches log h → IsCleared old h t at → (launches : Launches h t at sent frame new) → IsStarted log h t at sent frame new launches
+start-command old h new log t at sent frame m m_h cleared launches =
     let lowest = cleared.lowest old.life (commands log) m.entered in
     let pending_same : h.pending ≡ old.pending = ap (λ (g : Host). g.pending) cleared.same in
     let p = launches.command in
     let there : slice_get old.pending at ≡ Some p = ap (λ l. slice_get l at) (sym pending_same) ∙ launches.there in
     let c = started old log t at p m lowest cleared.found there in
-    let bytes : spelled_for old p.op p.device sent.tag ≡ Some frame = sym (spelled-same old h p.op p.device sent.tag (is-cleared-same old h t at cleared)) ∙ launches.bytes in
-    let B : Op → DeviceNo → Type 0 = λ op device. spelled_for old op device sent.tag ≡ Some frame in
     record {
       command = c.0;
       there = c.1.there;
-      ticket = same-ticket c.0.ticket t c.1.same ∙ sym (ap (λ (s : Sent). s.ticket) launches.is);
-      bytes = rw (c.2.op, c.2.device) bytes;
+      fresh = clear-unsent old.life old.clock (commands log) c.0 c.1.clear;
+      ticket = same-ticket c.0.ticket t c.1.same;
+      pending = c.2;
+      has = has-paths h log p.device.0 launches.device m_h launches.held;
+    }
+
+pub start-frame : (old h new : Host) (log : List Event) (t : Ticket) (at : ℕ) (sent : Sent) (frame : List ℕ) → Matches log old → Matches log h → IsCleared old h t at → Launches h t at sent frame new → IsFrameOf old (commands log) sent frame
+start-frame old h new log t at sent frame m m_h cleared launches =
+    let p = launches.command in
+    let route = launches.route in
+    let c = start-command old h new log t at sent frame m m_h cleared launches in
+    let path : sent.path ≡ route.path = ap (λ (s : Sent). s.path) launches.is in
+    let at_h = route-spelled h p.op p.device (path_log log p.device.0) launches.device None route sent.tag frame c.has launches.held launches.routed launches.bytes in
+    let bytes : spelled_for old p.op p.device route.path sent.tag ≡ Some frame = sym (spelled-same old h p.op p.device route.path sent.tag (is-cleared-same old h t at cleared)) ∙ at_h in
+    record {
+      command = c.command;
+      there = c.there;
+      ticket = c.ticket ∙ sym (ap (λ (s : Sent). s.ticket) launches.is);
+      bytes = rw (c.pending.op, c.pending.device, path) bytes;
+    }
+
+pub start-path : (old h new : Host) (log : List Event) (t : Ticket) (at : ℕ) (sent : Sent) (frame : List ℕ) → Matches log old → Matches log h → IsCleared old h t at → Launches h t at sent frame new → IsOnNextPath old log sent
+start-path old h new log t at sent frame m m_h cleared launches =
+    let n : ℕ = launches.command.device.0 in
+    let c = start-command old h new log t at sent frame m m_h cleared launches in
+    let path : sent.path ≡ launches.route.path = ap (λ (s : Sent). s.path) launches.is in
+    let at_h = route-next h n (path_log log n) launches.device None launches.route c.has launches.held launches.routed in
+    let next : launches.route.path.0 ≡ next_of (paths_to old n) (path_log log n) = at_h ∙ ap (λ (k : ℕ). next_of k (path_log log n)) (paths-same old h n (is-cleared-same old h t at cleared)) in
+    record {
+      command = c.command;
+      there = c.there;
+      ticket = c.ticket ∙ sym (ap (λ (s : Sent). s.ticket) launches.is);
+      next = rw (c.fresh, c.pending.device, path) next;
     }
 
 pub start-sends : (old h new : Host) (log : List Event) (t : Ticket) (at : ℕ) (sent : Sent) (frame : List ℕ) → Matches log old → Matches log h → InTime h → IsCleared old h t at → Launches h t at sent frame new
-    → ((before : List Outstanding) → RecallsSent h.flight before → RecallsSent new.flight (launched t sent.tag (record { 0 = h.clock }) sent.path (record { 0 = wait_of 1 }) ∷ before))
     → Matches (Sends sent.ticket sent.tag sent.path ∷ log) new
-start-sends old h new log t at sent frame m m_h time cleared launches recalls =
-    let lowest = cleared.lowest old.life (commands log) m.entered in
-    let pending_same : h.pending ≡ old.pending = ap (λ (g : Host). g.pending) cleared.same in
+start-sends old h new log t at sent frame m m_h time cleared launches =
     let p = launches.command in
     let now : Millis = record { 0 = h.clock } in
-    let there : slice_get old.pending at ≡ Some p = ap (λ l. slice_get l at) (sym pending_same) ∙ launches.there in
-    let c = started old log t at p m lowest cleared.found there in
-    let fresh = clear-unsent old.life old.clock (commands log) c.0 c.1.clear in
-    let c_is : c.0.ticket ≡ t = same-ticket c.0.ticket t c.1.same in
-    let p_is : p.ticket ≡ t = sym c.2.ticket ∙ c_is in
-    let more = sent-started 0 c.0 sent.tag now sent.path (commands log) m.tickets c.1.there fresh c.2.waits in
-    let S : Ticket → Type 0 = λ u. SameCommands (launched u sent.tag now sent.path (record { 0 = wait_of 1 }) ∷ sent_of (commands log)) (sent_of (map (at_ticket u (after_send sent.tag now sent.path)) (commands log))) in
-    let more_t = subst S c_is more in
-    let recalled : RecallsSent new.flight (sent_of (map (at_ticket t (after_send sent.tag now sent.path)) (commands log))) =
-    recalls-same new.flight (launched t sent.tag now sent.path (record { 0 = wait_of 1 }) ∷ sent_of (commands log)) (sent_of (map (at_ticket t (after_send sent.tag now sent.path)) (commands log))) more_t (recalls (sent_of (commands log)) m_h.sent) in
-    let Q : Ticket → Type 0 = λ u. RecallsSent new.flight (sent_of (map (at_ticket u (after_send sent.tag now sent.path)) (commands log))) in
-    let whole = matches-sent log h c.0 p sent.tag sent.path new.flight m_h c.2 time.devices (ap (λ (f : FlightTable). f.rest) launches.flight) (ap (λ (f : FlightTable). f.room) launches.flight) (ap (λ (f : FlightTable). f.dead) launches.flight) (subst Q (sym p_is) recalled) in
-    let T : Ticket → Type 0 = λ u. Matches (Sends u sent.tag sent.path ∷ log) (record h { flight = new.flight; devices = change_at p.device.0 (device_sent u now) h.devices }) in
-    let at_t = subst T p_is whole in
-    let H : Host → Type 0 = λ g. Matches (Sends t sent.tag sent.path ∷ log) g in
+    let path : PathNo = launches.route.path in
+    let ts = timeouts_on log path in
+    let c = start-command old h new log t at sent frame m m_h cleared launches in
+    let cs = commands log in
+    let p_is : p.ticket ≡ t = sym c.pending.ticket ∙ c.ticket in
+    let timeout : launches.route.timeout.0 ≡ ts c.command.device.0 =
+    route-timeout h.ports (path_log log p.device.0) launches.device None launches.route c.has launches.routed ∙ ap (λ (d : DeviceNo). ts d.0) (sym c.pending.device) in
+    let W : ℕ → Type 0 = λ w. (before : List Outstanding) → RecallsSent h.flight before → RecallsSent new.flight (launched t sent.tag now path (record { 0 = wait_of w 1 }) ∷ before) in
+    let recalls = subst W timeout launches.recalls in
+    let more = sent-started 0 c.command sent.tag now path ts cs m.tickets c.there c.fresh c.pending.waits in
+    let S : Ticket → Type 0 = λ u. SameCommands (launched u sent.tag now path (record { 0 = wait_of (ts c.command.device.0) 1 }) ∷ sent_of cs) (sent_of (map (at_ticket u (after_send sent.tag now path ts)) cs)) in
+    let more_t = subst S c.ticket more in
+    let recalled : RecallsSent new.flight (sent_of (map (at_ticket t (after_send sent.tag now path ts)) cs)) =
+    recalls-same new.flight (launched t sent.tag now path (record { 0 = wait_of (ts c.command.device.0) 1 }) ∷ sent_of cs) (sent_of (map (at_ticket t (after_send sent.tag now path ts)) cs)) more_t (recalls (sent_of cs) m_h.sent) in
+    let Q : Ticket → Type 0 = λ u. RecallsSent new.flight (sent_of (map (at_ticket u (after_send sent.tag now path ts)) cs)) in
+    let whole = matches-sent log h c.command p sent.tag path new.flight m_h c.pending time.devices (ap (λ (f : FlightTable). f.rest) launches.flight) (ap (λ (f : FlightTable). f.room) launches.flight) (ap (λ (f : FlightTable). f.dead) launches.flight) (subst Q (sym p_is) recalled) in
+    let T : Ticket → Option Sending → Type 0 = λ u o. Matches (Sends u sent.tag path ∷ log) (record h { flight = new.flight; devices = change_at p.device.0 (device_sent u now (path_before o) path) h.devices }) in
+    let at_t = subst (λ (u : Ticket). T u None) p_is (subst (λ (o : Option Sending). T p.ticket o) c.fresh whole) in
+    let H : Host → Type 0 = λ g. Matches (Sends t sent.tag path ∷ log) g in
     let at_new = subst H (sym launches.after) at_t in
-    let U : Ticket → Type 0 = λ u. Matches (Sends u sent.tag sent.path ∷ log) new in
-    subst U (sym (ap (λ (s : Sent). s.ticket) launches.is)) at_new
+    let U : Ticket → PathNo → Type 0 = λ u q. Matches (Sends u sent.tag q ∷ log) new in
+    subst (λ (q : PathNo). U sent.ticket q) (sym (ap (λ (g : Sent). g.path) launches.is)) (subst (λ (u : Ticket). U u path) (sym (ap (λ (g : Sent). g.ticket) launches.is)) at_new)
 
 -- what a send leaves
 pub record IsLeft (old new : Host) : Type 0 where
@@ -356,25 +413,30 @@ left-cleared old new same devices = record {
     at true is = ap (λ l. map (λ (d : Device). d.about) l) is
     at false is = ap (λ l. map (λ (d : Device). d.about) l) is ∙ about-mapped (device_at old.clock) old.devices (λ d. refl)
 
-left-changed : (old new : Host) (flight : FlightTable) (n : ℕ) (t : Ticket) (now : Millis) → new ≡ record old { flight = flight; devices = change_at n (device_sent t now) old.devices } → IsLeft old new
-left-changed old new flight n t now is =
+full-same : (old h : Host) (t : Ticket) (at : ℕ) → IsCleared old h t at → is_full h ≡ true → {P : Type 0} → P
+full-same old h t at cleared full =
+    let P : Host → Type 0 = λ g. is_full g ≡ true in
+    let full_old : is_full old ≡ true = subst P cleared.same full in
+    let impossible : true ≡ false = sym full_old ∙ cleared.room in
+    absurd cc
+
+left-changed : (old new : Host) (flight : FlightTable) (n : ℕ) (t : Ticket) (now : Millis) (missed : Option PathNo) (path : PathNo) → new ≡ record old { flight = flight; devices = change_at n (device_sent t now missed path) old.devices } → IsLeft old new
+left-changed old new flight n t now missed path is =
     let P : Host → Type 0 = λ h. IsLeft old h in
     subst P (sym is) (record {
-      same = record { ports = refl; life = refl; room = refl; dead = refl; devices = about-change_at n (device_sent t now) old.devices (λ d. refl) };
+      same = record { ports = refl; life = refl; room = refl; dead = refl; devices = about-change_at n (device_sent t now missed path) old.devices (λ d. refl) };
       clock = refl;
       last = refl;
       waiting = refl;
     })
 
-pub left-launched : (old new : Host) (t : Ticket) (at : ℕ) (frame : List ℕ) (flight : FlightTable) (o : Option Sent) → IfSome o (λ sent. Launches old t at sent frame new) → IfNone o (new ≡ record old { flight = flight }) → IsLeft old new
-left-launched old new t at frame flight None some none =
-    let P : Host → Type 0 = λ h. IsLeft old h in
-    subst P (sym none) (record { same = record { ports = refl; life = refl; room = refl; dead = refl; devices = refl }; clock = refl; last = refl; waiting = refl })
-left-launched old new t at frame flight (Some sent) some none = left-changed old new new.flight some.command.device.0 t (record { 0 = old.clock }) some.after
+pub left-launched : (old h new : Host) (t : Ticket) (at : ℕ) (frame : List ℕ) (o : Option Sent) → IsCleared old h t at → IfSome o (λ sent. Launches h t at sent frame new) → IfNone o (is_full h ≡ true) → IsLeft h new
+left-launched old h new t at frame None cleared some full = full-same old h t at cleared full
+left-launched old h new t at frame (Some sent) cleared some full = left-changed h new new.flight some.command.device.0 t (record { 0 = h.clock }) None some.route.path some.after
 
 pub left-repeated : (old new : Host) (t : Ticket) (frame : List ℕ) (o : Option Sent) → IfSome o (λ sent. Repeats old t sent frame new) → IfNone o (new ≡ old) → IsLeft old new
 left-repeated old new t frame None some none = let P : Host → Type 0 = λ h. IsLeft old h in subst P (sym none) (left-same old)
-left-repeated old new t frame (Some sent) some none = left-changed old new _ some.command.device.0 t (record { 0 = old.clock }) some.after
+left-repeated old new t frame (Some sent) some none = left-changed old new _ some.command.device.0 t (record { 0 = old.clock }) (Some some.flying.path) some.route.path some.after
 
 -- ---- a repeat
 
@@ -406,48 +468,78 @@ repeat-next host new log t sent frame m repeats first =
     let is : o ≡ outstanding c.0 c.1.s = sent-one host log o c.0 c.1.s m first.2.there c.1.there c.1.sends (ap (λ (u : Ticket). u.0) first.1 ∙ sym c.1.same) in
     let tag : o.flying.tag ≡ repeats.flying.tag = ap (λ (e : Outstanding). e.flying.tag) is ∙ ap (λ (g : Flying). g.tag) (sym c.1.flying) in
     let P : Sent → Type 0 = λ s. IsNext host (commands log) s in
-    let repeat : IsRepeat host (commands log) (record { ticket = t; tag = repeats.flying.tag; path = record { 0 = 0 }; again = true }) = record { command = o; first_due = first.2; ticket = first.1; tag = tag } in
+    let repeat : IsRepeat host (commands log) (record { ticket = t; tag = repeats.flying.tag; path = repeats.route.path; again = true }) = record { command = o; first_due = first.2; ticket = first.1; tag = tag } in
     subst P (sym repeats.is) repeat
 
 pub repeat-frame : (host new : Host) (log : List Event) (t : Ticket) (sent : Sent) (frame : List ℕ) → Matches log host → Repeats host t sent frame new → IsFrameOf host (commands log) sent frame
 repeat-frame host new log t sent frame m repeats =
     let p = repeats.command in
     let c = repeated host log t repeats.flying repeats.at p m repeats.flies repeats.found repeats.there in
+    let has = has-paths host log p.device.0 repeats.device m repeats.held in
     let tag : sent.tag ≡ repeats.flying.tag = ap (λ (s : Sent). s.tag) repeats.is in
+    let path : sent.path ≡ repeats.route.path = ap (λ (s : Sent). s.path) repeats.is in
     record {
       command = c.0;
       there = c.1.there;
       ticket = same-ticket c.0.ticket t c.1.same ∙ sym (ap (λ (s : Sent). s.ticket) repeats.is);
-      bytes = rw (c.2.op, c.2.device, tag) repeats.bytes;
+      bytes = rw (c.2.op, c.2.device, tag, path) (route-spelled host p.op p.device (path_log log p.device.0) repeats.device (Some repeats.flying.path) repeats.route repeats.flying.tag frame has repeats.held repeats.routed repeats.bytes);
+    }
+
+-- the path of the frame before a repeat
+before-repeat : (c : HostCommand) (s : Sending) (f : Flying) → c.sends ≡ Some s → f ≡ (outstanding c s).flying → Some f.path ≡ path_before c.sends
+before-repeat c s f sends is = ap (λ (g : Flying). Some g.path) is ∙ sym (ap path_before sends)
+
+pub repeat-path : (host new : Host) (log : List Event) (t : Ticket) (sent : Sent) (frame : List ℕ) → Matches log host → Repeats host t sent frame new → IsOnNextPath host log sent
+repeat-path host new log t sent frame m repeats =
+    let p = repeats.command in
+    let n : ℕ = p.device.0 in
+    let c = repeated host log t repeats.flying repeats.at p m repeats.flies repeats.found repeats.there in
+    let has = has-paths host log n repeats.device m repeats.held in
+    let R : Option PathNo → Type 0 = λ missed. IsRoute repeats.device missed repeats.route in
+    let routed = subst R (before-repeat c.0 c.1.s repeats.flying c.1.sends c.1.flying) repeats.routed in
+    let path : sent.path ≡ repeats.route.path = ap (λ (s : Sent). s.path) repeats.is in
+    record {
+      command = c.0;
+      there = c.1.there;
+      ticket = same-ticket c.0.ticket t c.1.same ∙ sym (ap (λ (s : Sent). s.ticket) repeats.is);
+      next = rw (c.2.device, path) (route-next host n (path_log log n) repeats.device c.0.sends repeats.route has repeats.held routed);
     }
 
 pub repeat-sends : (host new : Host) (log : List Event) (t : Ticket) (sent : Sent) (frame : List ℕ) → Matches log host → InTime host → Repeats host t sent frame new → Matches (Sends sent.ticket sent.tag sent.path ∷ log) new
 repeat-sends host new log t sent frame m time repeats =
     let p = repeats.command in
     let now : Millis = record { 0 = host.clock } in
-    let path : PathNo = record { 0 = 0 } in
+    let path : PathNo = repeats.route.path in
+    let ts = timeouts_on log path in
     let f = repeats.flying in
+    let cs = commands log in
     let c = repeated host log t f repeats.at p m repeats.flies repeats.found repeats.there in
     let s = c.1.s in
+    let has = has-paths host log p.device.0 repeats.device m repeats.held in
     let c_is : c.0.ticket ≡ t = same-ticket c.0.ticket t c.1.same in
     let p_is : p.ticket ≡ t = sym c.2.ticket ∙ c_is in
+    let timeout : repeats.route.timeout.0 ≡ ts c.0.device.0 =
+    route-timeout host.ports (path_log log p.device.0) repeats.device (Some f.path) repeats.route has repeats.routed ∙ ap (λ (d : DeviceNo). ts d.0) (sym c.2.device) in
     let sends_is : f.sends ≡ min s.count 32 = ap (λ (g : Flying). g.sends) c.1.flying in
     let twice : min f.sends 32 ≡ min s.count 32 = omega (arith, sends_is) in
-    let wait_is : wait_of (min f.sends 32 + 1) ≡ wait_of (s.count + 1) = ap (λ n. wait_of (n + 1)) twice ∙ wait-capped s.count in
-    let after = after_change host.flight t.0 (after_repeat now path (record { 0 = wait_of (min f.sends 32 + 1) })) host.clock in
-    let changed : RecallsSent after (map (change_of t.0 (after_repeat now path (record { 0 = wait_of (min f.sends 32 + 1) }))) (sent_of (commands log))) =
-    recalls-change host.flight after (sent_of (commands log)) t.0 (after_repeat now path (record { 0 = wait_of (min f.sends 32 + 1) })) host.clock refl m.sent time.flight in
-    let alone : Only c.0 (commands log) = only 0 (commands log) c.0 m.tickets c.1.there in
-    let mapped = sent-repeated c.0 s sent.tag now path (commands log) c.1.sends c.1.waits alone in
-    let W : Ticket → ℕ → Type 0 = λ u w. sent_of (map (at_ticket u (after_send sent.tag now path)) (commands log)) ≡ map (change_of u.0 (after_repeat now path (record { 0 = w }))) (sent_of (commands log)) in
-    let mapped_t : sent_of (map (at_ticket t (after_send sent.tag now path)) (commands log)) ≡ map (change_of t.0 (after_repeat now path (record { 0 = wait_of (min f.sends 32 + 1) }))) (sent_of (commands log)) =
-    subst (λ (w : ℕ). W t w) (sym wait_is) (subst (λ (u : Ticket). W u (wait_of (s.count + 1))) c_is mapped) in
+    let wait : ℕ = wait_of repeats.route.timeout.0 (min f.sends 32 + 1) in
+    let wait_is : wait ≡ wait_of (ts c.0.device.0) (s.count + 1) =
+    ap (λ k. wait_of k (min f.sends 32 + 1)) timeout ∙ ap (λ n. wait_of (ts c.0.device.0) (n + 1)) twice ∙ wait-capped (ts c.0.device.0) s.count in
+    let after = after_change host.flight t.0 (after_repeat now path (record { 0 = wait })) host.clock in
+    let changed : RecallsSent after (map (change_of t.0 (after_repeat now path (record { 0 = wait }))) (sent_of cs)) =
+    recalls-change host.flight after (sent_of cs) t.0 (after_repeat now path (record { 0 = wait })) host.clock refl m.sent time.flight in
+    let alone : Only c.0 cs = only 0 cs c.0 m.tickets c.1.there in
+    let mapped = sent-repeated c.0 s sent.tag now path ts cs c.1.sends c.1.waits alone in
+    let W : Ticket → ℕ → Type 0 = λ u w. sent_of (map (at_ticket u (after_send sent.tag now path ts)) cs) ≡ map (change_of u.0 (after_repeat now path (record { 0 = w }))) (sent_of cs) in
+    let mapped_t : sent_of (map (at_ticket t (after_send sent.tag now path ts)) cs) ≡ map (change_of t.0 (after_repeat now path (record { 0 = wait }))) (sent_of cs) =
+    subst (λ (w : ℕ). W t w) (sym wait_is) (subst (λ (u : Ticket). W u (wait_of (ts c.0.device.0) (s.count + 1))) c_is mapped) in
     let R : List Outstanding → Type 0 = λ l. RecallsSent after l in
-    let recalled : RecallsSent after (sent_of (map (at_ticket t (after_send sent.tag now path)) (commands log))) = subst R (sym mapped_t) changed in
-    let Q : Ticket → Type 0 = λ u. RecallsSent after (sent_of (map (at_ticket u (after_send sent.tag now path)) (commands log))) in
+    let recalled : RecallsSent after (sent_of (map (at_ticket t (after_send sent.tag now path ts)) cs)) = subst R (sym mapped_t) changed in
+    let Q : Ticket → Type 0 = λ u. RecallsSent after (sent_of (map (at_ticket u (after_send sent.tag now path ts)) cs)) in
     let whole = matches-sent log host c.0 p sent.tag path after m c.2 time.devices refl refl refl (subst Q (sym p_is) recalled) in
-    let T : Ticket → Type 0 = λ u. Matches (Sends u sent.tag path ∷ log) (record host { flight = after; devices = change_at p.device.0 (device_sent u now) host.devices }) in
-    let at_t = subst T p_is whole in
+    let T : Ticket → Option PathNo → Type 0 = λ u o. Matches (Sends u sent.tag path ∷ log) (record host { flight = after; devices = change_at p.device.0 (device_sent u now o path) host.devices }) in
+    let missed : path_before c.0.sends ≡ Some f.path = sym (before-repeat c.0 s f c.1.sends c.1.flying) in
+    let at_t = subst (λ (u : Ticket). T u (Some f.path)) p_is (subst (λ (o : Option PathNo). T p.ticket o) missed whole) in
     let H : Host → Type 0 = λ g. Matches (Sends t sent.tag path ∷ log) g in
     let at_new = subst H (sym repeats.after) at_t in
     let U : Ticket → PathNo → Type 0 = λ u q. Matches (Sends u sent.tag q ∷ log) new in
@@ -468,13 +560,6 @@ quiet-exit None old time stuck = λ log m none. elim (cases_Bool (is_full old)) 
   | inr room ↦ let found = stuck room in quiet-clear old log found.0 m none (found.1 old.life (commands log) m.entered) found.2
 ]
 
-full-same : (old h : Host) (t : Ticket) (at : ℕ) → IsCleared old h t at → is_full h ≡ true → {P : Type 0} → P
-full-same old h t at cleared full =
-    let P : Host → Type 0 = λ g. is_full g ≡ true in
-    let full_old : is_full old ≡ true = subst P cleared.same full in
-    let impossible : true ≡ false = sym full_old ∙ cleared.room in
-    absurd cc
-
 pub start-quiet : (o : Option Sent) (old h : Host) (t : Ticket) (at : ℕ) → IsCleared old h t at → IfNone o (is_full h ≡ true) → IfNone o (IsQuietIdle old)
 start-quiet (Some sent) old h t at cleared none = tt
 start-quiet None old h t at cleared full = full-same old h t at cleared full
@@ -485,16 +570,20 @@ pub start-next-all : (o : Option Sent) (old h new : Host) (t : Ticket) (at : ℕ
 start-next-all None old h new t at frame time cleared launches free = tt
 start-next-all (Some sent) old h new t at frame time cleared launches free = λ log m none. start-next old h new log t at sent frame m time cleared launches free none
 
-pub start-frame-all : (o : Option Sent) (old h new : Host) (t : Ticket) (at : ℕ) (frame : List ℕ) → IsCleared old h t at → IfSome o (λ sent. Launches h t at sent frame new)
+pub start-frame-all : (o : Option Sent) (old h new : Host) (t : Ticket) (at : ℕ) (frame : List ℕ) → IsCleared old h t at → ((log : List Event) → Matches log old → Matches log h) → IfSome o (λ sent. Launches h t at sent frame new)
     → IfSome o (λ sent. (log : List Event) → Matches log old → IsFrameOf old (commands log) sent frame)
-start-frame-all None old h new t at frame cleared launches = tt
-start-frame-all (Some sent) old h new t at frame cleared launches = λ log m. start-frame old h new log t at sent frame m cleared launches
+start-frame-all None old h new t at frame cleared stays launches = tt
+start-frame-all (Some sent) old h new t at frame cleared stays launches = λ log m. start-frame old h new log t at sent frame m (stays log m) cleared launches
+
+pub start-path-all : (o : Option Sent) (old h new : Host) (t : Ticket) (at : ℕ) (frame : List ℕ) → IsCleared old h t at → ((log : List Event) → Matches log old → Matches log h) → IfSome o (λ sent. Launches h t at sent frame new)
+    → IfSome o (λ sent. (log : List Event) → Matches log old → IsOnNextPath old log sent)
+start-path-all None old h new t at frame cleared stays launches = tt
+start-path-all (Some sent) old h new t at frame cleared stays launches = λ log m. start-path old h new log t at sent frame m (stays log m) cleared launches
 
 pub start-sends-all : (o : Option Sent) (old h new : Host) (t : Ticket) (at : ℕ) (frame : List ℕ) → InTime h → IsCleared old h t at → ((log : List Event) → Matches log old → Matches log h) → IfSome o (λ sent. Launches h t at sent frame new)
-    → IfSome o (λ sent. (before : List Outstanding) → RecallsSent h.flight before → RecallsSent new.flight (launched t sent.tag (record { 0 = h.clock }) sent.path (record { 0 = wait_of 1 }) ∷ before))
     → IfSome o (λ sent. (log : List Event) → Matches log old → Matches (Sends sent.ticket sent.tag sent.path ∷ log) new)
-start-sends-all None old h new t at frame time cleared stays launches recalls = tt
-start-sends-all (Some sent) old h new t at frame time cleared stays launches recalls = λ log m. start-sends old h new log t at sent frame m (stays log m) time cleared launches recalls
+start-sends-all None old h new t at frame time cleared stays launches = tt
+start-sends-all (Some sent) old h new t at frame time cleared stays launches = λ log m. start-sends old h new log t at sent frame m (stays log m) time cleared launches
 
 pub repeat-next-all : (o : Option Sent) (host new : Host) (t : Ticket) (frame : List ℕ) → IfSome o (λ sent. Repeats host t sent frame new)
     → ((sent : List Outstanding) → RecallsSent host.flight sent → (e : Outstanding) × (e.ticket ≡ t) × IsFirst (is_due host.clock) precedes sent e)
@@ -511,13 +600,9 @@ pub repeat-sends-all : (o : Option Sent) (host new : Host) (t : Ticket) (frame :
 repeat-sends-all None host new t frame time repeats = tt
 repeat-sends-all (Some sent) host new t frame time repeats = λ log m. repeat-sends host new log t sent frame m time repeats
 
-pub repeat-path-all : (o : Option Sent) (host new : Host) (t : Ticket) (frame : List ℕ) → IfSome o (λ sent. Repeats host t sent frame new) → IfSome o (λ sent. sent.path ≡ record { 0 = 0 })
+pub repeat-path-all : (o : Option Sent) (host new : Host) (t : Ticket) (frame : List ℕ) → IfSome o (λ sent. Repeats host t sent frame new) → IfSome o (λ sent. (log : List Event) → Matches log host → IsOnNextPath host log sent)
 repeat-path-all None host new t frame repeats = tt
-repeat-path-all (Some sent) host new t frame repeats = ap (λ (s : Sent). s.path) repeats.is
-
-pub launch-path-all : (o : Option Sent) (host new : Host) (t : Ticket) (at : ℕ) (frame : List ℕ) → IfSome o (λ sent. Launches host t at sent frame new) → IfSome o (λ sent. sent.path ≡ record { 0 = 0 })
-launch-path-all None host new t at frame launches = tt
-launch-path-all (Some sent) host new t at frame launches = ap (λ (s : Sent). s.path) launches.is
+repeat-path-all (Some sent) host new t frame repeats = λ log m. repeat-path host new log t sent frame m repeats
 
 -- what flies is pending, so a repeat always finds it
 pub repeat-quiet : (o : Option Sent) (host : Host) (t : Ticket) → IfNone o (place t host.pending ≡ None)

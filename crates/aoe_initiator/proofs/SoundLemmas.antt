@@ -7,9 +7,11 @@ use Rattle.std.proofs.lemmas.List.{length-append, length-map}
 use Rattle.std.proofs.lemmas.List.Elements.{All-map, All-push, All-weaker}
 use Rattle.aoe_base.specs.declared.address.Mac.{Mac}
 use Rattle.aoe_base.specs.declared.counted.Millis.{Millis}
+use Rattle.aoe_base.specs.declared.counted.PathNo.{PathNo}
 use Rattle.aoe_base.specs.declared.counted.Ticket.{Ticket}
 use Rattle.aoe_hold.specs.declared.command.Command.{Command}
 use Rattle.aoe_flight.specs.FlightTable.{FlightTable}
+use Rattle.aoe_initiator.specs.declared.device.Arrival.{Arrival}
 use Rattle.aoe_initiator.specs.declared.device.Device.{Device}
 use Rattle.aoe_initiator.specs.declared.outcome.Done.{Done}
 use Rattle.aoe_initiator.specs.declared.pending.Pending.{Pending}
@@ -33,11 +35,11 @@ attached-later now last later last_later d more above a = record {
 attached-at : (now last : ℕ) (d : Device) → IsAttached now last d → IsAttached now last (device_at now d)
 attached-at now last d a = record { port = a.port; total = a.total; max = a.max; time = omega arith; ticket = a.ticket }
 
-attached-sent : (last : ℕ) (t : Ticket) (now : Millis) (d : Device) → IsAttached now.0 last d → IsAttached now.0 last (device_sent t now d)
-attached-sent last t now d a = record { port = a.port; total = a.total; max = a.max; time = omega arith; ticket = a.ticket }
+attached-sent : (last : ℕ) (t : Ticket) (now : Millis) (missed : Option PathNo) (path : PathNo) (d : Device) → IsAttached now.0 last d → IsAttached now.0 last (device_sent t now missed path d)
+attached-sent last t now missed path d a = record { port = a.port; total = a.total; max = a.max; time = omega arith; ticket = a.ticket }
 
-attached-finished : (now last : ℕ) (t : Ticket) (d : Device) → IsAttached now last d → IsAttached now last (device_finished t d)
-attached-finished now last t d a = record { port = a.port; total = a.total; max = a.max; time = a.time; ticket = a.ticket }
+attached-finished : (now last : ℕ) (t : Ticket) (came : Option Arrival) (d : Device) → IsAttached now last d → IsAttached now last (device_finished t came d)
+attached-finished now last t came d a = record { port = a.port; total = a.total; max = a.max; time = a.time; ticket = a.ticket }
 
 attached-entered : (now last : ℕ) (c : Command) (d : Device) → c.ticket.0 ≤ last → IsAttached now last d → IsAttached now last (device_entered c d)
 attached-entered now last c d below a = record {
@@ -60,16 +62,17 @@ length-remove [] i inside = absurd (omega (arith, inside))
 length-remove (x ∷ xs) zero inside = omega arith
 length-remove (x ∷ xs) (suc i) inside = omega (arith, length-remove xs i (omega (arith, inside)))
 
-pub sound-sent : (ports : List Mac) (last n : ℕ) (now : Millis) (t : Ticket) (flight after : FlightTable) (devices changed : List Device) (pending : List Pending) (waiting : List Done) (capacity : ℕ)
-    → after.latest ≤ now.0 → changed ≡ change_at n (device_sent t now) devices → IsSound ports now.0 last flight devices pending waiting capacity → IsSound ports now.0 last after changed pending waiting capacity
-sound-sent ports last n now t flight after devices changed pending waiting capacity time is s =
+pub sound-sent : (ports : List Mac) (last n : ℕ) (now : Millis) (t : Ticket) (missed : Option PathNo) (path : PathNo) (flight after : FlightTable) (devices changed : List Device) (pending : List Pending) (waiting : List Done) (capacity : ℕ)
+    → after.latest ≤ now.0 → changed ≡ change_at n (device_sent t now missed path) devices → IsSound ports now.0 last flight devices pending waiting capacity → IsSound ports now.0 last after changed pending waiting capacity
+sound-sent ports last n now t missed path flight after devices changed pending waiting capacity time is s =
     let P : List Device → Type 0 = λ l. IsSound ports now.0 last after l pending waiting capacity in
-    let same : length (change_at n (device_sent t now) devices) ≡ length devices = length-change_at n (device_sent t now) devices in
+    let same : length (change_at n (device_sent t now missed path) devices) ≡ length devices = length-change_at n (device_sent t now missed path) devices in
     subst P (sym is) (record {
       port = s.port;
+      differ = s.differ;
       time = time;
-      attached = All-change_at (IsAttached now.0 last) n (device_sent t now) devices (attached-sent last t now) s.attached;
-      ready = ready-more (length devices) (length (change_at n (device_sent t now) devices)) pending (omega (arith, same)) s.ready;
+      attached = All-change_at (IsAttached now.0 last) n (device_sent t now missed path) devices (attached-sent last t now missed path) s.attached;
+      ready = ready-more (length devices) (length (change_at n (device_sent t now missed path) devices)) pending (omega (arith, same)) s.ready;
       reserved = s.reserved;
     })
 
@@ -80,24 +83,26 @@ sound-cleared ports now last flight devices changed pending waiting capacity is 
     let same : length (map (device_at now) devices) ≡ length devices = length-map devices (device_at now) in
     subst P (sym is) (record {
       port = s.port;
+      differ = s.differ;
       time = s.time;
       attached = All-map (IsAttached now last) (device_at now) devices (All-weaker (IsAttached now last) (λ d. IsAttached now last (device_at now d)) (attached-at now last) devices s.attached);
       ready = ready-more (length devices) (length (map (device_at now) devices)) pending (omega (arith, same)) s.ready;
       reserved = s.reserved;
     })
 
-pub sound-closed : (ports : List Mac) (now last n at : ℕ) (t : Ticket) (flight after : FlightTable) (devices changed : List Device) (pending left : List Pending) (waiting more : List Done) (done : Done) (capacity capacity_after : ℕ)
-    → after.latest ≤ now → changed ≡ change_at n (device_finished t) devices → left ≡ remove pending at → more ≡ waiting ++ done ∷ [] → capacity_after ≡ capacity → at < length pending
+pub sound-closed : (ports : List Mac) (now last n at : ℕ) (t : Ticket) (came : Option Arrival) (flight after : FlightTable) (devices changed : List Device) (pending left : List Pending) (waiting more : List Done) (done : Done) (capacity capacity_after : ℕ)
+    → after.latest ≤ now → changed ≡ change_at n (device_finished t came) devices → left ≡ remove pending at → more ≡ waiting ++ done ∷ [] → capacity_after ≡ capacity → at < length pending
     → IsSound ports now last flight devices pending waiting capacity → IsSound ports now last after changed left more capacity_after
-sound-closed ports now last n at t flight after devices changed pending left waiting more done capacity capacity_after time is left_is more_is same_capacity inside s =
+sound-closed ports now last n at t came flight after devices changed pending left waiting more done capacity capacity_after time is left_is more_is same_capacity inside s =
     let P : List Device → List Pending → List Done → ℕ → Type 0 = λ ds ps ws c. IsSound ports now last after ds ps ws c in
-    let same : length (change_at n (device_finished t) devices) ≡ length devices = length-change_at n (device_finished t) devices in
+    let same : length (change_at n (device_finished t came) devices) ≡ length devices = length-change_at n (device_finished t came) devices in
     let one_more : length (waiting ++ done ∷ []) ≡ length waiting + 1 = length-append waiting (done ∷ []) in
-    let whole : IsSound ports now last after (change_at n (device_finished t) devices) (remove pending at) (waiting ++ done ∷ []) capacity = record {
+    let whole : IsSound ports now last after (change_at n (device_finished t came) devices) (remove pending at) (waiting ++ done ∷ []) capacity = record {
       port = s.port;
+      differ = s.differ;
       time = time;
-      attached = All-change_at (IsAttached now last) n (device_finished t) devices (attached-finished now last t) s.attached;
-      ready = ready-more (length devices) (length (change_at n (device_finished t) devices)) (remove pending at) (omega (arith, same)) (All-remove (IsReady (length devices)) pending at inside s.ready);
+      attached = All-change_at (IsAttached now last) n (device_finished t came) devices (attached-finished now last t came) s.attached;
+      ready = ready-more (length devices) (length (change_at n (device_finished t came) devices)) (remove pending at) (omega (arith, same)) (All-remove (IsReady (length devices)) pending at inside s.ready);
       reserved = omega (arith, s.reserved, length-remove pending at inside, one_more);
     } in
     rw (is, left_is, more_is, same_capacity) whole
@@ -114,6 +119,7 @@ sound-attached ports now last flight devices more d pending waiting capacity is 
     let one_more : length (devices ++ d ∷ []) ≡ length devices + 1 = length-append devices (d ∷ []) in
     subst P (sym is) (record {
       port = s.port;
+      differ = s.differ;
       time = s.time;
       attached = All-push (IsAttached now last) devices d s.attached new;
       ready = ready-more (length devices) (length (devices ++ d ∷ [])) pending (omega (arith, one_more)) s.ready;
@@ -129,6 +135,7 @@ sound-submitted ports now last next n flight devices changed c pending more p wa
     let later : All (IsAttached now next) devices = All-weaker (IsAttached now last) (IsAttached now next) (λ d a. attached-later now last now next d (omega arith) (omega (arith, next_is)) a) devices s.attached in
     let whole : IsSound ports now next flight (change_at n (device_entered c) devices) (pending ++ p ∷ []) waiting capacity_after = record {
       port = s.port;
+      differ = s.differ;
       time = s.time;
       attached = All-change_at (IsAttached now next) n (device_entered c) devices (λ d a. attached-entered now next c d (omega (arith, ticket_is)) a) later;
       ready = All-push (IsReady (length (change_at n (device_entered c) devices))) pending p
@@ -142,6 +149,7 @@ pub sound-advanced : (ports : List Mac) (now later last : ℕ) (flight : FlightT
     → IsSound ports now last flight devices pending waiting capacity → IsSound ports later last flight devices pending waiting capacity
 sound-advanced ports now later last flight devices pending waiting capacity more s = record {
   port = s.port;
+  differ = s.differ;
   time = omega (arith, s.time, more);
   attached = All-weaker (IsAttached now last) (IsAttached later last) (λ d a. attached-later now last later last d more (omega arith) a) devices s.attached;
   ready = s.ready;

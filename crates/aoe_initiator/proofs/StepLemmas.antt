@@ -1,31 +1,34 @@
 -- What the parts of a step make of what a host keeps, put together.
-use Rattle.std.proofs.Common.{ℕ, ◌≡◌, ◌+◌, ◌<◌, min, true, false, Option, Some, inl, inr, nat_eq, nat_le, List, [], ◌∷◌, ◌++◌, length, get_or, refl, ap, subst, ◌∙◌, arith}
+use Rattle.std.proofs.Common.{ℕ, ◌≡◌, ◌+◌, ◌<◌, min, true, false, Option, Some, None, inl, inr, nat_eq, nat_le, List, [], ◌∷◌, ◌++◌, length, get_or, refl, ap, subst, ◌∙◌, arith}
 use Rattle.std.specs.Prelude.{option_map, slice_get}
 use Rattle.std.specs.List.{find, remove}
-use Rattle.std.specs.Option.{option_and_then, option_map_or}
+use Rattle.std.specs.Option.{option_map_or}
 use Rattle.std.proofs.lemmas.Bool.{cases_Bool, leb-true}
 use Rattle.std.proofs.lemmas.Option.{slice_get_read}
 use Rattle.aoe_base.specs.declared.counted.Millis.{Millis}
 use Rattle.aoe_base.specs.declared.counted.Ticket.{Ticket}
 use Rattle.aoe_hold.specs.Commands.{unsent_count}
 use Rattle.aoe_flight.specs.declared.outstanding.Flying.{Flying}
-use Rattle.aoe_flight.specs.FlightTable.{after_change, live_at, FlightTable}
-use Rattle.aoe_flight.specs.Outstanding.{after_finish, after_repeat, flies_as}
+use Rattle.aoe_flight.specs.FlightTable.{after_change, live_at, FlightTable, Recalls}
+use Rattle.aoe_flight.specs.Outstanding.{after_finish, after_repeat, flies_as, launched}
+use Rattle.aoe_flight.specs.declared.outstanding.Outstanding.{Outstanding}
+use Rattle.aoe_initiator.specs.declared.device.Arrival.{Arrival}
 use Rattle.aoe_initiator.specs.declared.device.Device.{Device}
+use Rattle.aoe_initiator.specs.declared.device.Route.{Route}
 use Rattle.aoe_initiator.specs.declared.outcome.Done.{Done}
 use Rattle.aoe_initiator.specs.declared.outcome.Outcome.{Outcome}
 use Rattle.aoe_initiator.specs.declared.pending.Pending.{Pending}
-use Rattle.aoe_initiator.specs.Devices.{change_at, device_finished, device_sent}
+use Rattle.aoe_initiator.specs.Devices.{change_at, device_finished, device_sent, IsRoute}
 use Rattle.aoe_initiator.specs.Host.{Closes, Host}
-use Rattle.aoe_initiator.specs.HostLaw.{spelled_for}
 use Rattle.aoe_initiator.specs.HostLog.{wait_of}
+use Rattle.aoe_initiator.specs.Request.{request}
 use Rattle.aoe_initiator.specs.Steps.{place, Launches, Repeats}
 use Rattle.aoe_initiator.proofs.ListLemmas.{placed-within}
 
-pub closes-from : (old : Host) (at : ℕ) (p : Pending) (outcome : Outcome) (flight : FlightTable) (devices : List Device) (pending : List Pending) (waiting : List Done) → at < length old.pending → p ≡ get_or old.pending at p
-    → flight ≡ after_change old.flight p.ticket.0 after_finish old.flight.latest → devices ≡ change_at p.device.0 (device_finished p.ticket) old.devices → pending ≡ remove old.pending at
-    → waiting ≡ old.waiting ++ record { ticket = p.ticket; outcome = outcome } ∷ [] → Closes old at outcome (record old { flight = flight; devices = devices; pending = pending; waiting = waiting })
-closes-from old at p outcome flight devices pending waiting inside read flight_is devices_is pending_is waiting_is = record {
+pub closes-from : (old : Host) (at : ℕ) (p : Pending) (came : Option Arrival) (outcome : Outcome) (flight : FlightTable) (devices : List Device) (pending : List Pending) (waiting : List Done) → at < length old.pending → p ≡ get_or old.pending at p
+    → flight ≡ after_change old.flight p.ticket.0 after_finish old.flight.latest → devices ≡ change_at p.device.0 (device_finished p.ticket came) old.devices → pending ≡ remove old.pending at
+    → waiting ≡ old.waiting ++ record { ticket = p.ticket; outcome = outcome } ∷ [] → Closes old at came outcome (record old { flight = flight; devices = devices; pending = pending; waiting = waiting })
+closes-from old at p came outcome flight devices pending waiting inside read flight_is devices_is pending_is waiting_is = record {
   command = p;
   there = slice_get_read old.pending (length old.pending) at p refl inside read;
   after = rw (flight_is, devices_is, pending_is, waiting_is) refl;
@@ -37,46 +40,50 @@ not-full a b less = elim (cases_Bool (nat_le a b)) [
   | inr no_le ↦ no_le
 ]
 
--- what stands at a place is spelled
-spelled-at : (old : Host) (at : ℕ) (p : Pending) (tag : ℕ) (frame : List ℕ) → slice_get old.pending at ≡ Some p → option_and_then (λ (q : Pending). spelled_for old q.op q.device tag) (slice_get old.pending at) ≡ Some frame
-    → spelled_for old p.op p.device tag ≡ Some frame
-spelled-at old at p tag frame there bytes =
-    let P : Option Pending → Type 0 = λ o. option_and_then (λ (q : Pending). spelled_for old q.op q.device tag) o ≡ Some frame in
-    subst P there bytes
-
-pub launches-from : (old : Host) (t : Ticket) (at tag : ℕ) (p : Pending) (frame : List ℕ) (flight : FlightTable) (devices : List Device) → at < length old.pending → p ≡ get_or old.pending at p
-    → option_and_then (λ (q : Pending). spelled_for old q.op q.device tag) (slice_get old.pending at) ≡ Some frame → devices ≡ change_at p.device.0 (device_sent t (record { 0 = old.clock })) old.devices
-    → flight ≡ record old.flight { latest = old.clock; last_tag = tag; commands = flight.commands } → length (live_at old.flight old.clock) < old.flight.room
-    → Launches old t at (record { ticket = t; tag = tag; path = record { 0 = 0 }; again = false }) frame (record old { flight = flight; devices = devices })
-launches-from old t at tag p frame flight devices inside read bytes devices_is flight_is room =
+pub launches-from : (old : Host) (t : Ticket) (at tag : ℕ) (p : Pending) (d : Device) (route : Route) (frame : List ℕ) (wait : Millis) (flight : FlightTable) (devices : List Device) → at < length old.pending → p ≡ get_or old.pending at p
+    → slice_get old.devices p.device.0 ≡ Some d → IsRoute d None route → frame ≡ request p.op route.target route.remote route.local tag
+    → devices ≡ change_at p.device.0 (device_sent t (record { 0 = old.clock }) None route.path) old.devices
+    → flight ≡ record old.flight { latest = old.clock; last_tag = tag; commands = flight.commands } → length (live_at old.flight old.clock) < old.flight.room → wait.0 ≡ wait_of route.timeout.0 1
+    → ((before : List Outstanding) → Recalls old.flight before → Recalls flight (launched t tag (record { 0 = old.clock }) route.path wait ∷ before))
+    → Launches old t at (record { ticket = t; tag = tag; path = route.path; again = false }) frame (record old { flight = flight; devices = devices })
+launches-from old t at tag p d route frame wait flight devices inside read held routed bytes devices_is flight_is room wait_is recalls =
     let there : slice_get old.pending at ≡ Some p = slice_get_read old.pending (length old.pending) at p refl inside read in
+    let W : ℕ → Type 0 = λ w. (before : List Outstanding) → Recalls old.flight before → Recalls flight (launched t tag (record { 0 = old.clock }) route.path (record { 0 = w }) ∷ before) in
     record {
       command = p;
+      device = d;
+      route = route;
       there = there;
-      bytes = spelled-at old at p tag frame there bytes;
+      held = held;
+      routed = routed;
+      bytes = bytes;
       is = refl;
+      recalls = subst W wait_is recalls;
       after = rw devices_is refl;
       flight = flight_is;
       room = not-full old.flight.room (length (live_at old.flight old.clock)) room;
     }
 
-pub repeats-from : (old : Host) (t : Ticket) (at : ℕ) (f : Flying) (p : Pending) (frame : List ℕ) (wait : Millis) (flight : FlightTable) (devices : List Device) → place t old.pending ≡ Some at → p ≡ get_or old.pending at p
-    → option_map (λ c. c.flying) (find (flies_as t.0) old.flight.commands) ≡ Some f → option_and_then (λ (q : Pending). spelled_for old q.op q.device f.tag) (slice_get old.pending at) ≡ Some frame
-    → wait.0 ≡ wait_of (min f.sends 32 + 1) → flight ≡ after_change old.flight t.0 (after_repeat (record { 0 = old.clock }) (record { 0 = 0 }) wait) old.clock
-    → devices ≡ change_at p.device.0 (device_sent t (record { 0 = old.clock })) old.devices
-    → Repeats old t (record { ticket = t; tag = f.tag; path = record { 0 = 0 }; again = true }) frame (record old { flight = flight; devices = devices })
-repeats-from old t at f p frame wait flight devices found read flies bytes wait_is flight_is devices_is =
+pub repeats-from : (old : Host) (t : Ticket) (at : ℕ) (f : Flying) (p : Pending) (d : Device) (route : Route) (frame : List ℕ) (wait : Millis) (flight : FlightTable) (devices : List Device) → place t old.pending ≡ Some at → p ≡ get_or old.pending at p
+    → option_map (λ c. c.flying) (find (flies_as t.0) old.flight.commands) ≡ Some f → slice_get old.devices p.device.0 ≡ Some d → IsRoute d (Some f.path) route → frame ≡ request p.op route.target route.remote route.local f.tag
+    → wait.0 ≡ wait_of route.timeout.0 (min f.sends 32 + 1) → flight ≡ after_change old.flight t.0 (after_repeat (record { 0 = old.clock }) route.path wait) old.clock
+    → devices ≡ change_at p.device.0 (device_sent t (record { 0 = old.clock }) (Some f.path) route.path) old.devices
+    → Repeats old t (record { ticket = t; tag = f.tag; path = route.path; again = true }) frame (record old { flight = flight; devices = devices })
+repeats-from old t at f p d route frame wait flight devices found read flies held routed bytes wait_is flight_is devices_is =
     let inside : at < length old.pending = placed-within (λ (q : Pending). nat_eq q.ticket.0 t.0) old.pending at p found in
-    let there : slice_get old.pending at ≡ Some p = slice_get_read old.pending (length old.pending) at p refl inside read in
-    let P : ℕ → FlightTable = λ w. after_change old.flight t.0 (after_repeat (record { 0 = old.clock }) (record { 0 = 0 }) (record { 0 = w })) old.clock in
+    let P : ℕ → FlightTable = λ w. after_change old.flight t.0 (after_repeat (record { 0 = old.clock }) route.path (record { 0 = w })) old.clock in
     record {
       flying = f;
       at = at;
       command = p;
+      device = d;
+      route = route;
       flies = flies;
       found = found;
-      there = there;
-      bytes = spelled-at old at p f.tag frame there bytes;
+      there = slice_get_read old.pending (length old.pending) at p refl inside read;
+      held = held;
+      routed = routed;
+      bytes = bytes;
       is = refl;
       after = rw (devices_is, flight_is ∙ ap P wait_is) refl;
     }

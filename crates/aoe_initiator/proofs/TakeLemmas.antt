@@ -1,11 +1,12 @@
 -- What ends a command, and what is given up.
-use Rattle.std.proofs.Common.{ℕ, ◌≡◌, ◌&&◌, cond, not, Bool, true, false, List, [], ◌∷◌, ◌++◌, drop, reverse, Option, Some, None, refl, sym, ap, subst, ◌∙◌, nat_eq, append_assoc}
+use Rattle.std.proofs.Common.{ℕ, ◌≡◌, ◌&&◌, cond, not, min, Bool, true, false, List, [], ◌∷◌, ◌++◌, drop, reverse, Option, Some, None, inl, inr, refl, sym, ap, subst, ◌∙◌, arith, nat_eq, append_assoc}
 use mathlib.Core.List.{reverse-cons}
 use Rattle.std.specs.Prelude.{option_map, slice_get, Contains, IfSome, IsSome}
 use Rattle.std.specs.List.{find}
 use Rattle.std.specs.Option.{option_and_then}
-use Rattle.std.proofs.lemmas.Bool.{and_parts, eq-eqb, eqb-true, not-true}
+use Rattle.std.proofs.lemmas.Bool.{and_parts, cases_Bool, eq-eqb, eqb-true, ne_eqb, not-true}
 use Rattle.aoe_base.specs.declared.counted.Millis.{Millis}
+use Rattle.aoe_base.specs.declared.counted.PathNo.{PathNo}
 use Rattle.aoe_base.specs.declared.counted.Ticket.{Ticket}
 use Rattle.aoe_frame.specs.declared.header.Header.{Header}
 use Rattle.aoe_frame.specs.Header.{head}
@@ -13,16 +14,17 @@ use Rattle.aoe_flight.specs.declared.outstanding.Flying.{Flying}
 use Rattle.aoe_flight.specs.declared.outstanding.Outstanding.{Outstanding}
 use Rattle.aoe_flight.specs.FlightTable.{FlightTable, Recalls}
 use Rattle.aoe_flight.specs.Outstanding.{flies_as, is_expired, lower, IsFirst}
+use Rattle.aoe_initiator.specs.declared.device.Arrival.{Arrival}
 use Rattle.aoe_initiator.specs.declared.outcome.Done.{Done}
 use Rattle.aoe_initiator.specs.declared.outcome.Outcome.{Outcome}
 use Rattle.aoe_initiator.specs.declared.outcome.Outcome.TheVariants.{GaveUp}
 use Rattle.aoe_initiator.specs.declared.pending.Pending.{Pending}
 use Rattle.aoe_initiator.specs.declared.response.Answer.{Answer}
 use Rattle.aoe_initiator.specs.declared.step.Taken.TheVariants.{Finished}
-use Rattle.aoe_initiator.specs.Devices.{device_finished}
+use Rattle.aoe_initiator.specs.Devices.{device_finished, trip_from}
 use Rattle.aoe_initiator.specs.Host.{Closes, Host, IsSame, Matches}
-use Rattle.aoe_initiator.specs.HostLaw.{answer_to, ended, given_up, has_tag, is_answered, is_from, is_response, GaveUpInTurn, Takes}
-use Rattle.aoe_initiator.specs.HostLog.{commands, outstanding, sent_of, Event, HostCommand, Sending}
+use Rattle.aoe_initiator.specs.HostLaw.{answer_to, ended, given_up, has_tag, is_answered, is_from, is_response, CameOn, GaveUpInTurn, Takes}
+use Rattle.aoe_initiator.specs.HostLog.{commands, outstanding, sent_of, trip_of, Event, HostCommand, Sending}
 use Rattle.aoe_initiator.specs.HostLog.Event.{Advances, Ends}
 use Rattle.aoe_initiator.specs.Response.{answer, outcome_of}
 use Rattle.aoe_initiator.specs.Steps.{place}
@@ -57,23 +59,54 @@ aloft host c frame a is = by_header (head frame) is
     by_header None given = absurd cc
     by_header (Some h) given = by_answered h (is_answered host c h) refl given
 
-pub takes-finished : (host new : Host) (log : List Event) (frame : List ℕ) (at : ℕ) (a : Answer) (ticket : Ticket) → Matches log host → Closes host at (outcome_of a (drop 24 frame)) new → IfSome (slice_get host.pending at) (λ p. ticket ≡ p.ticket)
-    → ((c : HostCommand) × Contains (commands log) c × IfSome (slice_get host.pending at) (λ p. p.ticket ≡ c.ticket) × (answer_to host c frame ≡ Some a)) → Takes host frame log (Finished ticket) new
-takes-finished host new log frame at a ticket m closes ticket_is found =
-    let c = found.0 in
+-- the round trip, by what is known of the flying command
+trip-same : (now : ℕ) (f : Flying) (s : Sending) → f.first ≡ s.first → f.sends ≡ min s.count 32 → trip_from now f ≡ trip_of now (Some s)
+trip-same now f s first sends = elim (cases_Bool (nat_eq s.count 1)) [
+  | inl once ↦
+      let one : nat_eq f.sends 1 ≡ true = eq-eqb f.sends 1 (omega (arith, sends, eqb-true s.count 1 once)) in
+      rw (one, once, first) refl
+  | inr more ↦
+      let other : nat_eq f.sends 1 ≡ false = ne_eqb f.sends 1 (λ is. (let same : nat_eq s.count 1 ≡ true = eq-eqb s.count 1 (omega (arith, sends, is)) in absurd cc)) in
+      rw (other, more) refl
+]
+
+-- the answered command ends with the round trip that the log has
+takes-closed : (host new : Host) (log : List Event) (frame : List ℕ) (at : ℕ) (path : PathNo) (s : Sending) (a : Answer) (ticket : Ticket) → Matches log host
+    → Closes host at (Some (record { path = path; trip = trip_of host.clock (Some s) })) (outcome_of a (drop 24 frame)) new → IfSome (slice_get host.pending at) (λ p. ticket ≡ p.ticket)
+    → (c : HostCommand) → c.sends ≡ Some s → Contains (commands log) c → IfSome (slice_get host.pending at) (λ p. p.ticket ≡ c.ticket) → answer_to host c frame ≡ Some a → CameOn host c frame path → Takes host frame log (Finished ticket) new
+takes-closed host new log frame at path s a ticket m closes ticket_is c sends there same answered came =
     let p = closes.command in
     let P : Option Pending → Type 0 = λ o. IfSome o (λ q. ticket ≡ q.ticket) in
     let Q : Option Pending → Type 0 = λ o. IfSome o (λ q. q.ticket ≡ c.ticket) in
     let mine : ticket ≡ p.ticket = subst P closes.there ticket_is in
-    let of_c : p.ticket ≡ c.ticket = subst Q closes.there found.2 in
-    let up = aloft host c frame a found.3 in
-    let flew : (d : HostCommand) → IsPending (commands log) p d → d.sends ≡ Some up.s = λ d pending.
-    let same : d ≡ c = one-command (commands log) c d c.ticket.0 (only 0 (commands log) c m.tickets found.1) pending.there (ap (λ (t : Ticket). t.0) (pending.ticket ∙ of_c)) refl in
-    ap (λ (e : HostCommand). e.sends) same ∙ up.sends in
+    let of_c : p.ticket ≡ c.ticket = subst Q closes.there same in
+    let flew : (d : HostCommand) → IsPending (commands log) p d → d.sends ≡ Some s = λ d pending.
+    let is_c : d ≡ c = one-command (commands log) c d c.ticket.0 (only 0 (commands log) c m.tickets there) pending.there (ap (λ (t : Ticket). t.0) (pending.ticket ∙ of_c)) refl in
+    ap (λ (e : HostCommand). e.sends) is_c ∙ sends in
     let W : Ticket → Type 0 = λ t. new.waiting ≡ host.waiting ++ record { ticket = t; outcome = outcome_of a (drop 24 frame) } ∷ [] in
     let waiting : new.waiting ≡ host.waiting ++ record { ticket = p.ticket; outcome = outcome_of a (drop 24 frame) } ∷ [] = ap (λ (h : Host). h.waiting) closes.after in
-    let M : Ticket → Type 0 = λ t. Matches (Ends t ∷ log) new in
-    (c, a, found.1, sym (mine ∙ of_c), found.3, subst W (sym mine) waiting, subst M (sym mine) (matches-ended log host new at (outcome_of a (drop 24 frame)) up.s m closes flew))
+    let M : Ticket → Type 0 = λ t. Matches (Ends t (Some path) ∷ log) new in
+    (c, a, path, there, sym (mine ∙ of_c), answered, came, subst W (sym mine) waiting, subst M (sym mine) (matches-ended log host new at (Some path) (outcome_of a (drop 24 frame)) s m closes flew))
+
+pub takes-finished : (host new : Host) (log : List Event) (frame : List ℕ) (at : ℕ) (t : Ticket) (path : PathNo) (f : Flying) (a : Answer) (ticket : Ticket) → Matches log host → place t host.pending ≡ Some at
+    → option_map (λ c. c.flying) (find (flies_as t.0) host.flight.commands) ≡ Some f → Closes host at (Some (record { path = path; trip = trip_from host.clock f })) (outcome_of a (drop 24 frame)) new
+    → IfSome (slice_get host.pending at) (λ p. ticket ≡ p.ticket)
+    → ((c : HostCommand) × Contains (commands log) c × IfSome (slice_get host.pending at) (λ p. p.ticket ≡ c.ticket) × (answer_to host c frame ≡ Some a) × CameOn host c frame path) → Takes host frame log (Finished ticket) new
+takes-finished host new log frame at t path f a ticket m placed_at flies closes ticket_is found =
+    let c = found.0 in
+    let p = closes.command in
+    let Q : Option Pending → Type 0 = λ o. IfSome o (λ q. q.ticket ≡ c.ticket) in
+    let of_p : p.ticket ≡ c.ticket = subst Q closes.there found.2 in
+    let up = aloft host c frame a found.3 in
+    let flying = flying-command host.flight (commands log) t f m.sent flies in
+    let is_ticket : p.ticket.0 ≡ t.0 = eqb-true p.ticket.0 t.0 (placed (λ (q : Pending). nat_eq q.ticket.0 t.0) host.pending at p placed_at closes.there) in
+    let is_c : flying.0 ≡ c = one-command (commands log) c flying.0 c.ticket.0 (only 0 (commands log) c m.tickets found.1) flying.1.there (flying.1.same ∙ sym is_ticket ∙ ap (λ (u : Ticket). u.0) of_p) refl in
+    let some : Some flying.1.s ≡ Some up.s = sym flying.1.sends ∙ ap (λ (e : HostCommand). e.sends) is_c ∙ up.sends in
+    let sending : flying.1.s ≡ up.s = cc in
+    let first : f.first ≡ up.s.first = ap (λ (g : Flying). g.first) flying.1.flying ∙ ap (λ (s : Sending). s.first) sending in
+    let sends : f.sends ≡ min up.s.count 32 = ap (λ (g : Flying). g.sends) flying.1.flying ∙ ap (λ (s : Sending). min s.count 32) sending in
+    let C : Option Millis → Type 0 = λ trip. Closes host at (Some (record { path = path; trip = trip })) (outcome_of a (drop 24 frame)) new in
+    takes-closed host new log frame at path up.s a ticket m (subst C (trip-same host.clock f up.s first sends) closes) ticket_is c up.sends found.1 found.2 found.3 found.4
 
 -- what the end of a command leaves
 pub record IsLeftBut (old new : Host) : Type 0 where
@@ -81,11 +114,11 @@ pub record IsLeftBut (old new : Host) : Type 0 where
   pub clock : new.clock ≡ old.clock
   pub last : new.last_ticket ≡ old.last_ticket
 
-pub left-closed : (old new : Host) (at : ℕ) (outcome : Outcome) → Closes old at outcome new → IsLeftBut old new
-left-closed old new at outcome closes =
+pub left-closed : (old new : Host) (at : ℕ) (came : Option Arrival) (outcome : Outcome) → Closes old at came outcome new → IsLeftBut old new
+left-closed old new at came outcome closes =
     let P : Host → Type 0 = λ h. IsLeftBut old h in
     subst P (sym closes.after) (record {
-      same = record { ports = refl; life = refl; room = refl; dead = refl; devices = about-change_at closes.command.device.0 (device_finished closes.command.ticket) old.devices (λ d. refl) };
+      same = record { ports = refl; life = refl; room = refl; dead = refl; devices = about-change_at closes.command.device.0 (device_finished closes.command.ticket came) old.devices (λ d. refl) };
       clock = refl;
       last = refl;
     })
@@ -118,9 +151,9 @@ ended_now host t f = record { ticket = t; outcome = GaveUp f.first (record { 0 =
 
 -- one command more is given up
 pub gave-up-once : (host new : Host) (log : List Event) (t : Ticket) (at : ℕ) (f : Flying) → Matches log host → place t host.pending ≡ Some at → option_map (λ c. c.flying) (find (flies_as t.0) host.flight.commands) ≡ Some f
-    → (closes : Closes host at (GaveUp f.first (record { 0 = host.clock })) new)
+    → (closes : Closes host at None (GaveUp f.first (record { 0 = host.clock })) new)
     → ((sent : List Outstanding) → Recalls host.flight sent → (o : Outstanding) × (o.ticket ≡ t) × IsFirst (is_expired host.flight.dead host.clock) lower sent o)
-    → Matches (Ends closes.command.ticket ∷ log) new
+    → Matches (Ends closes.command.ticket None ∷ log) new
     × ((o : Outstanding) × IsFirst (is_expired host.dead host.clock) lower (sent_of (commands log)) o × (ended_now host closes.command.ticket f ≡ given_up host.clock o))
 gave-up-once host new log t at f m found flies closes first =
     let flying = flying-command host.flight (commands log) t f m.sent flies in
@@ -136,7 +169,7 @@ gave-up-once host new log t at f m found flies closes first =
     let I : ℕ → Type 0 = λ dead. IsFirst (is_expired dead host.clock) lower (sent_of (commands log)) o in
     let ticket : p.ticket ≡ o.ticket = ap (λ (n : ℕ). record { 0 = n }) is_ticket ∙ sym of_first.1 in
     let sent_first : f.first ≡ o.flying.first = ap (λ (g : Flying). g.first) flying.1.flying ∙ ap (λ (e : Outstanding). e.flying.first) (sym is) in (
-      matches-ended log host new at (GaveUp f.first (record { 0 = host.clock })) flying.1.s m closes flew,
+      matches-ended log host new at None (GaveUp f.first (record { 0 = host.clock })) flying.1.s m closes flew,
       (o, subst I m.dead of_first.2, rw (ticket, sent_first) refl),
     )
 
@@ -146,7 +179,7 @@ GaveUpBy old now host = (dones : List Done) × (host.waiting ≡ old.waiting ++ 
     × ((log : List Event) → Matches log old → GaveUpInTurn old.dead host.clock (Advances now ∷ log) dones × Matches (ended dones (Advances now ∷ log)) host)
 
 pub gave-up-more : (old host new : Host) (now : Millis) (t : Ticket) (at : ℕ) → host.dead ≡ old.dead → GaveUpBy old now host → place t host.pending ≡ Some at
-    → ((f : Flying) × (option_map (λ c. c.flying) (find (flies_as t.0) host.flight.commands) ≡ Some f) × Closes host at (GaveUp f.first (record { 0 = host.clock })) new)
+    → ((f : Flying) × (option_map (λ c. c.flying) (find (flies_as t.0) host.flight.commands) ≡ Some f) × Closes host at None (GaveUp f.first (record { 0 = host.clock })) new)
     → ((sent : List Outstanding) → Recalls host.flight sent → (o : Outstanding) × (o.ticket ≡ t) × IsFirst (is_expired host.flight.dead host.clock) lower sent o) → GaveUpBy old now new
 gave-up-more old host new now t at dead_same before found closed first =
     let f = closed.0 in

@@ -1,5 +1,5 @@
 -- What a host keeps, and what it says of all that the host did.
-use Rattle.std.specs.Prelude.{ℕ, ◌≡◌, ◌+◌, ◌<◌, ◌≤◌, true, not, List, [], ◌∷◌, ◌++◌, length, map, Some, slice_get, All, IsSome}
+use Rattle.std.specs.Prelude.{ℕ, ◌≡◌, ◌+◌, ◌<◌, ◌≤◌, true, not, List, [], ◌∷◌, ◌++◌, length, map, Option, Some, slice_get, All, IfSome, IsSome}
 use Rattle.std.specs.List.{filter, remove}
 use Rattle.std.specs.Option.{ForSome}
 use Rattle.aoe_base.specs.declared.address.Mac.{Mac}
@@ -9,13 +9,16 @@ use Rattle.aoe_base.specs.declared.counted.Ticket.{Ticket}
 use Rattle.aoe_hold.specs.HoldTable.{no_commands as nothing_entered, Recalls as RecallsEntered}
 use Rattle.aoe_flight.specs.FlightTable.{after_change, FlightTable, no_commands as nothing_sent, Recalls as RecallsSent}
 use Rattle.aoe_flight.specs.Outstanding.{after_finish, rest_time}
+use Rattle.aoe_paths.specs.PathLog.{PathEvent, Recalls as RecallsPaths}
+use Rattle.aoe_paths.specs.PathTable.{new_paths, IsDistinct}
+use Rattle.aoe_initiator.specs.declared.device.Arrival.{Arrival}
 use Rattle.aoe_initiator.specs.declared.device.Device.{Device}
 use Rattle.aoe_initiator.specs.declared.op.Op.{Op}
 use Rattle.aoe_initiator.specs.declared.outcome.Done.{Done}
 use Rattle.aoe_initiator.specs.declared.outcome.Outcome.{Outcome}
 use Rattle.aoe_initiator.specs.declared.pending.Pending.{Pending}
 use Rattle.aoe_initiator.specs.Devices.{change_at, device_finished}
-use Rattle.aoe_initiator.specs.HostLog.{clock, commands, entered_at, sent_of, Event, HostCommand}
+use Rattle.aoe_initiator.specs.HostLog.{clock, commands, entered_at, path_log, sent_of, Event, HostCommand}
 use Rattle.aoe_initiator.specs.Op.{data_len}
 use Rattle.aoe_initiator.specs.Request.{CanSpell}
 
@@ -56,6 +59,13 @@ abbrev pub RecallAll : ℕ → List HostCommand → ℕ → List Device → Type
 RecallAll life cs n [] = Unit {0}
 RecallAll life cs n (d ∷ devices) = (d.holds.life ≡ life) × RecallsEntered d.holds (entered_at n cs) × RecallAll life cs (n + 1) devices
 
+-- the paths to a device go between the ports of the host and those of the device, and recall what happened
+-- on them
+pub record HasPaths (ports : List Mac) (happened : List PathEvent) (d : Device) : Type 0 where
+  pub locals : d.paths.locals ≡ ports
+  pub remotes : d.paths.remotes ≡ d.about.remotes.items
+  pub recalls : RecallsPaths d.paths happened
+
 -- what a host keeps is true of all that it did
 pub record Matches (log : List Event) (host : Host) : Type 0 where
   pub time : host.clock ≡ clock log
@@ -69,6 +79,7 @@ pub record Matches (log : List Event) (host : Host) : Type 0 where
   pub dead : host.flight.dead ≡ host.dead
   pub sent : RecallsSent host.flight (sent_of (commands log))
   pub entered : RecallAll host.life (commands log) 0 host.devices
+  pub paths : (n : ℕ) → IfSome (slice_get host.devices n) (HasPaths host.ports (path_log log n))
 
 -- a command that waits has its device, an operation that a frame has room for, and room for its data
 pub record IsReady (devices : ℕ) (p : Pending) : Type 0 where
@@ -87,6 +98,7 @@ pub record IsAttached (now last : ℕ) (d : Device) : Type 0 where
 -- what is true of what a host keeps at all times; `capacity` is the room for outcomes
 pub record IsSound (ports : List Mac) (now last : ℕ) (flight : FlightTable) (devices : List Device) (pending : List Pending) (waiting : List Done) (capacity : ℕ) : Type 0 where
   pub port : 0 < length ports
+  pub differ : IsDistinct ports
   pub time : flight.latest ≤ now
   pub attached : All (IsAttached now last) devices
   pub ready : All (IsReady (length devices)) pending
@@ -106,10 +118,11 @@ new_host ports life room dead = record {
   waiting = [];
 }
 
-abbrev pub new_device : TargetId → List Mac → ℕ → ℕ → ℕ → Device
-new_device id remotes total max life = record {
+abbrev pub new_device : List Mac → TargetId → List Mac → ℕ → ℕ → ℕ → Device
+new_device ports id remotes total max life = record {
   about = record { id = id; remotes = record { items = remotes }; total = total; max = max };
   holds = nothing_entered life;
+  paths = new_paths ports remotes;
 }
 
 abbrev pub with_device : Host → Device → Host
@@ -123,13 +136,13 @@ pub record IsSame (old new : Host) : Type 0 where
   pub dead : new.dead ≡ old.dead
   pub devices : map (λ (d : Device). d.about) new.devices ≡ map (λ (d : Device). d.about) old.devices
 
--- the pending command at a place ends with an outcome
-pub record Closes (old : Host) (at : ℕ) (outcome : Outcome) (new : Host) : Type 0 where
+-- the pending command at a place ends with an outcome, by a response if one came
+pub record Closes (old : Host) (at : ℕ) (came : Option Arrival) (outcome : Outcome) (new : Host) : Type 0 where
   pub command : Pending
   pub there : slice_get old.pending at ≡ Some command
   pub after : new ≡ record old {
     flight = after_change old.flight command.ticket.0 after_finish old.flight.latest;
-    devices = change_at command.device.0 (device_finished command.ticket) old.devices;
+    devices = change_at command.device.0 (device_finished command.ticket came) old.devices;
     pending = remove old.pending at;
     waiting = old.waiting ++ record { ticket = command.ticket; outcome = outcome } ∷ [];
   }

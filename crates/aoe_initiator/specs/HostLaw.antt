@@ -1,16 +1,19 @@
 -- The host law: what may be sent next, and which response ends a command.
-use Rattle.std.specs.Prelude.{ℕ, ◌≡◌, ◌+◌, ◌<◌, ◌≤◌, ◌⊎◌, Bool, true, false, not, ◌&&◌, ◌==◌, nat_eq, nat_lt, nat_le, List, [], ◌∷◌, ◌++◌, length, drop, Option, Some, None, option_map, slice_get, if◌then◌else◌, All, Contains}
+use Rattle.std.specs.Prelude.{ℕ, ◌≡◌, ◌+◌, ◌*◌, ◌<◌, ◌≤◌, ◌⊎◌, Bool, true, false, not, ◌&&◌, ◌==◌, nat_eq, nat_lt, nat_le, List, [], ◌∷◌, ◌++◌, length, drop, Option, Some, None, option_map, slice_get, if◌then◌else◌, All, Contains}
 use Rattle.std.specs.List.{list_any}
 use Rattle.std.specs.Option.{option_and_then, option_map_or}
 use Rattle.aoe_base.specs.declared.address.Mac.{Mac}
 use Rattle.aoe_base.specs.declared.address.TargetId.{TargetId}
 use Rattle.aoe_base.specs.declared.counted.DeviceNo.{DeviceNo}
+use Rattle.aoe_base.specs.declared.counted.PathNo.{PathNo}
 use Rattle.aoe_frame.specs.declared.header.Header.{Header}
 use Rattle.aoe_frame.specs.Header.{head}
 use Rattle.aoe_lists.specs.Addresses.{holds}
 use Rattle.aoe_hold.specs.Commands.{is_clear, unsent_count}
 use Rattle.aoe_flight.specs.declared.outstanding.Outstanding.{Outstanding}
 use Rattle.aoe_flight.specs.Outstanding.{is_due, is_expired, is_taken, live, lower, precedes, rest_time, IsFirst}
+use Rattle.aoe_paths.specs.PathLog.{next_of}
+use Rattle.aoe_paths.specs.PathTable.{pair_at}
 use Rattle.aoe_initiator.specs.declared.device.Attached.{Attached}
 use Rattle.aoe_initiator.specs.declared.device.Device.{Device}
 use Rattle.aoe_initiator.specs.declared.op.Op.{Op}
@@ -26,7 +29,7 @@ use Rattle.aoe_initiator.specs.declared.step.Sent.{Sent}
 use Rattle.aoe_initiator.specs.declared.step.Taken.{Taken}
 use Rattle.aoe_initiator.specs.declared.step.Taken.TheVariants.{Finished, Stale}
 use Rattle.aoe_initiator.specs.Host.{Host, Matches}
-use Rattle.aoe_initiator.specs.HostLog.{as_entered, commands, entered_at, sent_of, Event, HostCommand, Sending}
+use Rattle.aoe_initiator.specs.HostLog.{as_entered, commands, entered_at, missed_by, path_log, sent_of, Event, HostCommand, Sending}
 use Rattle.aoe_initiator.specs.HostLog.Event.{Ends}
 use Rattle.aoe_initiator.specs.Op.{command_of, span_of}
 use Rattle.aoe_initiator.specs.Request.{request}
@@ -36,14 +39,26 @@ use Rattle.aoe_initiator.specs.Response.{answer, has_flag, outcome_of}
 abbrev pub is_clear_at : ℕ → ℕ → List HostCommand → HostCommand → Bool
 is_clear_at life now cs c = is_clear life now (entered_at c.device.0 cs) (as_entered c)
 
--- the frame of an operation with a tag, on the path from the first port of the host to the first of the device
-abbrev pub spelled_for : Host → Op → DeviceNo → ℕ → Option (List ℕ)
-spelled_for host op device tag =
-    option_and_then (λ (d : Device). option_and_then (λ local. option_map (λ remote. request op d.about.id remote local tag)
-    (slice_get d.about.remotes.items 0)) (slice_get host.ports 0)) (slice_get host.devices device.0)
+-- the frame of an operation with a tag, from the port of the host to that of the device that a path joins
+abbrev pub spelled_for : Host → Op → DeviceNo → PathNo → ℕ → Option (List ℕ)
+spelled_for host op device path tag =
+    option_and_then (λ (d : Device). option_map (λ pair. request op d.about.id pair.1 pair.0 tag)
+    (pair_at host.ports d.about.remotes.items path.0)) (slice_get host.devices device.0)
 
-abbrev pub spelled : Host → HostCommand → ℕ → Option (List ℕ)
-spelled host c tag = spelled_for host c.op c.device tag
+abbrev pub spelled : Host → HostCommand → PathNo → ℕ → Option (List ℕ)
+spelled host c path tag = spelled_for host c.op c.device path tag
+
+-- how many paths go to a device
+abbrev pub paths_to : Host → ℕ → ℕ
+paths_to host n = option_map_or (λ (d : Device). length host.ports * length d.about.remotes.items) (slice_get host.devices n) 0
+
+-- a frame is sent on the path that is next to its command's device; a repeat marks the path of the frame
+-- before it first
+pub record IsOnNextPath (host : Host) (log : List Event) (sent : Sent) : Type 0 where
+  pub command : HostCommand
+  pub there : Contains (commands log) command
+  pub ticket : command.ticket ≡ sent.ticket
+  pub next : sent.path.0 ≡ next_of (paths_to host command.device.0) (missed_by command.sends (path_log log command.device.0))
 
 -- a repeat: of the flying commands that waited long enough the one that was due first, with its own tag
 pub record IsRepeat (host : Host) (cs : List HostCommand) (sent : Sent) : Type 0 where
@@ -112,7 +127,7 @@ given_up now o = record { ticket = o.ticket; outcome = GaveUp o.flying.first (re
 -- the log after commands ended, the latest first
 abbrev pub ended : List Done → List Event → List Event
 ended [] log = log
-ended (d ∷ dones) log = Ends d.ticket ∷ ended dones log
+ended (d ∷ dones) log = Ends d.ticket None ∷ ended dones log
 
 -- flying commands were given up one after another, the lowest ticket first; the latest stands first
 abbrev pub GaveUpInTurn : ℕ → ℕ → List Event → List Done → Type 0
@@ -167,11 +182,20 @@ pub record IsFrameOf (host : Host) (cs : List HostCommand) (sent : Sent) (frame 
   pub command : HostCommand
   pub there : Contains cs command
   pub ticket : command.ticket ≡ sent.ticket
-  pub bytes : spelled host command sent.tag ≡ Some frame
+  pub bytes : spelled host command sent.path sent.tag ≡ Some frame
+
+-- a frame came on the path from a port of a command's device to a port of the host
+pub record CameOn (host : Host) (c : HostCommand) (frame : List ℕ) (path : PathNo) : Type 0 where
+  pub header : Header
+  pub read : head frame ≡ Some header
+  pub device : Device
+  pub there : slice_get host.devices c.device.0 ≡ Some device
+  pub pair : pair_at host.ports device.about.remotes.items path.0 ≡ Some (header.dst, header.src)
 
 -- a frame ended a command exactly where it answers one that flies, with just the outcome that it says
 abbrev pub Takes : Host → List ℕ → List Event → Taken → Host → Type 0
 Takes old frame log (Finished ticket) new =
-    (c : HostCommand) × (answer : Answer) × Contains (commands log) c × (c.ticket ≡ ticket) × (answer_to old c frame ≡ Some answer)
-    × (new.waiting ≡ old.waiting ++ record { ticket = ticket; outcome = outcome_of answer (drop 24 frame) } ∷ []) × Matches (Ends ticket ∷ log) new
+    (c : HostCommand) × (answer : Answer) × (path : PathNo) × Contains (commands log) c × (c.ticket ≡ ticket)
+    × (answer_to old c frame ≡ Some answer) × CameOn old c frame path
+    × (new.waiting ≡ old.waiting ++ record { ticket = ticket; outcome = outcome_of answer (drop 24 frame) } ∷ []) × Matches (Ends ticket (Some path) ∷ log) new
 Takes old frame log Stale new = All (λ c. answer_to old c frame ≡ None) (commands log) × (new ≡ old)

@@ -1,23 +1,23 @@
 -- What the parts of a step make of what a host keeps.
-use Rattle.std.specs.Prelude.{ℕ, ◌≡◌, ◌+◌, ◌≤◌, Bool, true, false, List, length, min, nat_le, nat_eq, Option, Some, option_map, position, slice_get, All}
+use Rattle.std.specs.Prelude.{ℕ, ◌≡◌, ◌+◌, ◌≤◌, Bool, true, false, List, ◌∷◌, length, min, nat_le, nat_eq, Option, Some, None, option_map, position, slice_get, All}
 use Rattle.std.specs.List.{find}
 use Rattle.aoe_base.specs.declared.counted.Ticket.{Ticket}
 use Rattle.aoe_flight.specs.declared.outstanding.Flying.{Flying}
-use Rattle.aoe_flight.specs.FlightTable.{after_change, at_time, live_at, FlightTable}
-use Rattle.aoe_flight.specs.Outstanding.{after_repeat, flies_as}
+use Rattle.aoe_flight.specs.FlightTable.{after_change, live_at, Recalls}
+use Rattle.aoe_flight.specs.Outstanding.{after_repeat, flies_as, launched}
+use Rattle.aoe_flight.specs.declared.outstanding.Outstanding.{Outstanding}
+use Rattle.aoe_initiator.specs.declared.device.Device.{Device}
+use Rattle.aoe_initiator.specs.declared.device.Route.{Route}
 use Rattle.aoe_initiator.specs.declared.pending.Pending.{Pending}
 use Rattle.aoe_initiator.specs.declared.step.Sent.{Sent}
-use Rattle.aoe_initiator.specs.Devices.{change_at, device_sent}
+use Rattle.aoe_initiator.specs.Devices.{change_at, device_sent, IsRoute}
 use Rattle.aoe_initiator.specs.Host.{Host}
-use Rattle.aoe_initiator.specs.HostLaw.{spelled_for}
 use Rattle.aoe_initiator.specs.HostLog.{wait_of}
+use Rattle.aoe_initiator.specs.Request.{request}
 
 -- as many commands fly or rest as may
 abbrev pub is_full : Host → Bool
 is_full host = nat_le host.flight.room (length (live_at host.flight host.clock))
-
-abbrev pub flight_at : FlightTable → ℕ → FlightTable
-flight_at = at_time
 
 -- the tables aren't ahead of the host's clock
 pub record InTime (host : Host) : Type 0 where
@@ -33,25 +33,35 @@ pub record Repeats (old : Host) (ticket : Ticket) (sent : Sent) (frame : List �
   pub flying : Flying
   pub at : ℕ
   pub command : Pending
+  pub device : Device
+  pub route : Route
   pub flies : option_map (λ c. c.flying) (find (flies_as ticket.0) old.flight.commands) ≡ Some flying
   pub found : place ticket old.pending ≡ Some at
   pub there : slice_get old.pending at ≡ Some command
-  pub bytes : spelled_for old command.op command.device flying.tag ≡ Some frame
-  pub is : sent ≡ record { ticket = ticket; tag = flying.tag; path = record { 0 = 0 }; again = true }
+  pub held : slice_get old.devices command.device.0 ≡ Some device
+  pub routed : IsRoute device (Some flying.path) route
+  pub bytes : frame ≡ request command.op route.target route.remote route.local flying.tag
+  pub is : sent ≡ record { ticket = ticket; tag = flying.tag; path = route.path; again = true }
   pub after : new ≡ record old {
-    flight = after_change old.flight ticket.0 (after_repeat (record { 0 = old.clock }) (record { 0 = 0 }) (record { 0 = wait_of (min flying.sends 32 + 1) })) old.clock;
-    devices = change_at command.device.0 (device_sent ticket (record { 0 = old.clock })) old.devices;
+    flight = after_change old.flight ticket.0 (after_repeat (record { 0 = old.clock }) route.path (record { 0 = wait_of route.timeout.0 (min flying.sends 32 + 1) })) old.clock;
+    devices = change_at command.device.0 (device_sent ticket (record { 0 = old.clock }) (Some flying.path) route.path) old.devices;
   }
 
 -- a pending command is sent for the first time
 pub record Launches (old : Host) (ticket : Ticket) (at : ℕ) (sent : Sent) (frame : List ℕ) (new : Host) : Type 0 where
   pub command : Pending
+  pub device : Device
+  pub route : Route
   pub there : slice_get old.pending at ≡ Some command
-  pub bytes : spelled_for old command.op command.device sent.tag ≡ Some frame
-  pub is : sent ≡ record { ticket = ticket; tag = sent.tag; path = record { 0 = 0 }; again = false }
+  pub held : slice_get old.devices command.device.0 ≡ Some device
+  pub routed : IsRoute device None route
+  pub bytes : frame ≡ request command.op route.target route.remote route.local sent.tag
+  pub is : sent ≡ record { ticket = ticket; tag = sent.tag; path = route.path; again = false }
+  pub recalls : (before : List Outstanding) → Recalls old.flight before
+      → Recalls new.flight (launched ticket sent.tag (record { 0 = old.clock }) route.path (record { 0 = wait_of route.timeout.0 1 }) ∷ before)
   pub after : new ≡ record old {
     flight = new.flight;
-    devices = change_at command.device.0 (device_sent ticket (record { 0 = old.clock })) old.devices;
+    devices = change_at command.device.0 (device_sent ticket (record { 0 = old.clock }) None route.path) old.devices;
   }
   pub flight : new.flight ≡ record old.flight { latest = old.clock; last_tag = sent.tag; commands = new.flight.commands }
   pub room : is_full old ≡ false

@@ -1,11 +1,12 @@
-//! Devices that a host is attached to, with the order of the commands there.
-ghost use Rattle.std.specs.Prelude.{◌≡◌, ◌<◌, ◌≤◌, ℕ, List, length, map, All};
-ghost use Rattle.aoe_initiator.specs.Devices.{all_clear, change_at, device_at, device_finished, device_sent, lower_of, IsLowest};
+//! Devices that a host is attached to, with the order of the commands there and the paths to them.
+ghost use Rattle.std.specs.Prelude.{◌≡◌, ◌<◌, ◌≤◌, ℕ, List, length, map, slice_get, All, IfSome};
+ghost use Rattle.aoe_initiator.specs.Devices.{after_arrival, after_choice, all_clear, change_at, device_at, device_finished, device_sent, lower_of, marks_after, IsLowest, IsRoute};
 ghost use Rattle.aoe_initiator.specs.Host.{RecallAll};
 ghost use Rattle.aoe_initiator.specs.HostLog.{HostCommand};
 
-use aoe_base::{DeviceNo, Millis, Ports, TargetId, Ticket};
+use aoe_base::{DeviceNo, Mac, Millis, PathNo, Ports, TargetId, Ticket};
 use aoe_hold::Holds;
+use aoe_paths::Paths;
 
 /// What a host knows of a device.
 #[derive(Debug, Drop)]
@@ -22,11 +23,63 @@ pub struct Attached {
     pub max: u32,
 }
 
-/// A device, and the order of the commands there.
+/// A device, the order of the commands there, and the paths to it.
 #[derive(Drop)]
 pub(crate) struct Device {
     pub about: Attached,
     pub holds: Holds,
+    pub paths: Paths,
+}
+
+/// The way of a frame to a device.
+#[derive(Clone, Copy)]
+pub(crate) struct Route {
+    pub path: PathNo,
+    pub target: TargetId,
+
+    /// The ports at the two ends of the path.
+    pub local: Mac,
+    pub remote: Mac,
+
+    /// How long an answer on the path is waited for.
+    pub timeout: Millis,
+}
+
+/// A response that came.
+#[derive(Clone, Copy)]
+pub(crate) struct Arrival {
+    pub path: PathNo,
+
+    /// Its round trip, where it is known.
+    pub trip: Option<Millis>,
+}
+
+/// Marks the path on which an answer was missed, if there is one.
+fn mark(paths: &mut Paths, missed: Option<PathNo>)
+    ensures { paths.new ≡ record paths.old { marks = marks_after missed paths.old.marks } }
+{
+    if let Some(missed) = missed {
+        paths.missed(missed);
+    }
+}
+
+impl Device {
+    /// Chooses the path of a frame. The path on which an answer was missed is marked before.
+    fn route(&mut self, missed: Option<PathNo>) -> Route
+        ensures route { IsRoute self.old missed result }
+        ensures chosen { self.new ≡ record self.old { paths = after_choice missed result.path self.old.paths } }
+    {
+        mark(&mut self.paths, missed);
+        let path = self.paths.choose();
+        let (local, remote) = self.paths.pair(path);
+        Route {
+            path,
+            target: self.about.id,
+            local,
+            remote,
+            timeout: self.paths.timeout(path),
+        }
+    }
 }
 
 /// The lower of two tickets.
@@ -54,21 +107,45 @@ pub(crate) fn next_clear(devices: &mut Vec<Device>, now: Millis) -> Option<Ticke
     lowest
 }
 
-/// Takes note that a frame of a command was sent.
-pub(crate) fn note_sent(devices: &mut Vec<Device>, device: DeviceNo, ticket: Ticket, now: Millis)
+/// Takes note that a frame of a command is sent, and chooses its path. A repeat comes with the path
+/// of the frame before it, on which an answer was missed.
+pub(crate) fn note_sent(
+    devices: &mut Vec<Device>,
+    device: DeviceNo,
+    ticket: Ticket,
+    now: Millis,
+    missed: Option<PathNo>,
+) -> Route
     requires inside { device.0 < length devices.old.items }
     requires time { All (λ d. d.holds.latest ≤ now.0) devices.old.items }
-    ensures { devices.new.items ≡ change_at device.0 (device_sent ticket now) devices.old.items }
+    ensures route { IfSome (slice_get devices.old.items device.0) (λ d. IsRoute d missed result) }
+    ensures value { devices.new.items ≡ change_at device.0 (device_sent ticket now missed result.path) devices.old.items }
 {
     let device = &mut devices[device.0 as usize];
     device.holds.sent(ticket, now);
+    device.route(missed)
 }
 
-/// Takes note that a command has its outcome.
-pub(crate) fn note_finished(devices: &mut Vec<Device>, device: DeviceNo, ticket: Ticket)
+/// Takes note of a response that came, if one did.
+fn note_arrival(paths: &mut Paths, came: Option<Arrival>)
+    ensures { paths.new ≡ after_arrival came paths.old }
+{
+    if let Some(Arrival { path, trip }) = came {
+        paths.answered(path, trip);
+    }
+}
+
+/// Takes note that a command has its outcome, by a response if one came.
+pub(crate) fn note_finished(
+    devices: &mut Vec<Device>,
+    device: DeviceNo,
+    ticket: Ticket,
+    came: Option<Arrival>,
+)
     requires { device.0 < length devices.old.items }
-    ensures { devices.new.items ≡ change_at device.0 (device_finished ticket) devices.old.items }
+    ensures { devices.new.items ≡ change_at device.0 (device_finished ticket came) devices.old.items }
 {
     let device = &mut devices[device.0 as usize];
     device.holds.finished(ticket);
+    note_arrival(&mut device.paths, came);
 }

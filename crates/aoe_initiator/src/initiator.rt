@@ -9,21 +9,21 @@ ghost use Rattle.aoe_flight.specs.declared.outstanding.Flying.{Flying};
 ghost use Rattle.aoe_flight.specs.declared.outstanding.Outstanding.{Outstanding};
 ghost use Rattle.aoe_flight.specs.FlightTable.{after_change, Recalls};
 ghost use Rattle.aoe_flight.specs.Outstanding.{after_finish, change_of, flies_as, is_due, is_expired, is_taken, launched, live};
-ghost use Rattle.aoe_paths.specs.PathTable.{IsDistinct};
+ghost use Rattle.aoe_paths.specs.PathTable.{pair_of, IsDistinct};
 ghost use Rattle.aoe_initiator.specs.declared.device.Device.{Device};
 ghost use Rattle.aoe_initiator.specs.declared.outcome.Done.{Done};
 ghost use Rattle.aoe_initiator.specs.declared.pending.Pending.{Pending};
-ghost use Rattle.aoe_initiator.specs.Devices.{all_clear, change_at, device_at, device_finished, IsLowest};
+ghost use Rattle.aoe_initiator.specs.Devices.{all_clear, change_at, device_at, device_finished, trip_from, IsLowest};
 ghost use Rattle.aoe_initiator.specs.Host.{new_device, new_host, with_device, Closes, IsSame, Matches, RecallAll};
-ghost use Rattle.aoe_initiator.specs.HostLaw.{answer_to, attach_refusal, ended, has_id, held_at, is_from, is_response, spelled_for, submit_refusal, GaveUpInTurn, IsFrameOf, IsNext, IsQuiet, Takes};
-ghost use Rattle.aoe_initiator.specs.HostLog.{clock, commands, sent_of, wait_of, Event, HostCommand};
+ghost use Rattle.aoe_initiator.specs.HostLaw.{answer_to, attach_refusal, ended, has_id, held_at, is_from, is_response, submit_refusal, CameOn, GaveUpInTurn, IsFrameOf, IsNext, IsOnNextPath, IsQuiet, Takes};
+ghost use Rattle.aoe_initiator.specs.HostLog.{clock, commands, sent_of, Event, HostCommand};
 ghost use Rattle.aoe_initiator.specs.HostLog.Event.{Advances, Ends, Sends, Submits};
 ghost use Rattle.aoe_initiator.specs.Op.{data_len, CanSubmit};
 ghost use Rattle.aoe_initiator.specs.Request.{CanSpell};
 ghost use Rattle.aoe_initiator.specs.Response.{outcome_of, CanFill};
-ghost use Rattle.aoe_initiator.specs.Steps.{flight_at, is_full, place, InTime, Launches, Repeats};
+ghost use Rattle.aoe_initiator.specs.Steps.{is_full, place, InTime, Launches, Repeats};
 
-use crate::device::{Attached, Device, next_clear, note_finished, note_sent};
+use crate::device::{Arrival, Attached, Device, next_clear, note_finished, note_sent};
 use crate::op::{Op, op_refusal};
 use crate::outcome::{Data, Done, Outcome};
 use crate::pending::{Pending, place_of};
@@ -31,20 +31,18 @@ use crate::refusal::{AttachRefusal, SubmitRefusal};
 use crate::request::write_request;
 use crate::response::{Answer, read_answer};
 use crate::step::{Sent, Taken};
-use crate::wait::wait_after;
+use crate::wait::{trip_at, wait_after};
 use aoe_base::{DeviceNo, Mac, Millis, NoMemory, PathNo, Ports, TargetId, Ticket};
 use aoe_flight::Flight;
 use aoe_frame::{Frame, HEADER_LEN, Header, RESPONSE_FLAG, read_header};
 use aoe_hold::Holds;
+use aoe_paths::Paths;
 use std::alloc::Global;
 use std::collections::VecDeque;
 use std::marker::Model;
 
 /// The most commands that wait at a device for their first send.
 pub const MAX_HELD: u32 = 65_536;
-
-/// The path of every frame: the first local port with the first remote port.
-const FIRST_PATH: PathNo = PathNo(0);
 
 /// The core of a host. It asks no clock and sends nothing: its user tells it the time, sends the
 /// frames that it gives, and hands it those that come.
@@ -103,6 +101,20 @@ impl Model for Initiator {
     ghost invariant = { λ i. IsSound i.ports.items i.clock.0 i.last_ticket.0 i.flight i.devices.items i.pending.items i.done.items (deque_capacity i.done) };
 }
 
+/// A response to a pending command.
+#[derive(Clone, Copy)]
+struct Heard {
+    ticket: Ticket,
+
+    /// The place of the command.
+    at: usize,
+
+    /// The path on which it came.
+    path: PathNo,
+
+    answer: Answer,
+}
+
 fn copy_of(ports: &Ports) -> Ports
     ensures { result.items ≡ ports.now.items }
 {
@@ -139,12 +151,13 @@ fn make_room(
     Data::zeros(alloc, len)
 }
 
-/// Ends the pending command at a place: it rests from now on.
+/// Ends the pending command at a place, by a response if one came: it rests from now on.
 fn close(
     flight: &mut Flight,
     devices: &mut Vec<Device>,
     pending: &mut Vec<Pending>,
     at: usize,
+    came: Option<Arrival>,
 ) -> Pending
     requires there { at < length pending.old.items }
     requires inside { All (λ p. p.device.0 < length devices.old.items) pending.old.items }
@@ -153,11 +166,11 @@ fn close(
     ensures flight { flight.new ≡ after_change flight.old result.ticket.0 after_finish flight.old.latest }
     ensures sent { (sent : List Outstanding) → Recalls flight.old sent
         → Recalls flight.new (map (change_of result.ticket.0 after_finish) sent) }
-    ensures devices { devices.new.items ≡ change_at result.device.0 (device_finished result.ticket) devices.old.items }
+    ensures devices { devices.new.items ≡ change_at result.device.0 (device_finished result.ticket came) devices.old.items }
 {
     let command = pending.remove(at);
     flight.finish(command.ticket);
-    note_finished(devices, command.device, command.ticket);
+    note_finished(devices, command.device, command.ticket, came);
     command
 }
 
@@ -213,7 +226,7 @@ impl Initiator {
         ensures refused { IfSome (attach_refusal id remotes.now.items self.old.devices) (λ refusal. result ≡ Err refusal) }
         ensures no_memory { IfNone (attach_refusal id remotes.now.items self.old.devices) (IfErr result (λ refusal. refusal ≡ AttachRefusal.NoMemory)) }
         ensures number { IfOk result (λ device. device.0 ≡ length self.old.devices) }
-        ensures device { OnOk result (self.new ≡ with_device self.old (new_device id remotes.now.items total max self.old.life)) }
+        ensures device { OnOk result (self.new ≡ with_device self.old (new_device self.old.ports id remotes.now.items total max self.old.life)) }
         ensures matches { OnOk result ((log : List Event) → Matches log self.old → Matches log self.new) }
         ensures unchanged { OnErr result (self.new ≡ self.old) }
     {
@@ -223,6 +236,9 @@ impl Initiator {
         if remotes.is_empty() {
             return Err(AttachRefusal::NoPort);
         }
+        let Ok(paths) = Paths::new(self.alloc, &self.ports, remotes) else {
+            return Err(AttachRefusal::NoMemory);
+        };
         let device = Device {
             about: Attached {
                 id,
@@ -231,6 +247,7 @@ impl Initiator {
                 max,
             },
             holds: Holds::new(self.alloc, self.life),
+            paths,
         };
         let number = DeviceNo(self.devices.len() as u32);
         if self.devices.push(device).is_err() {
@@ -321,35 +338,24 @@ impl Initiator {
         requires flies { IsSome (find (flies_as ticket.0) self.old.flight.commands) }
         ensures { (flying : Flying)
             × (option_map (λ c. c.flying) (find (flies_as ticket.0) self.old.flight.commands) ≡ Some flying)
-            × Closes self.old at (Outcome.GaveUp flying.first (record { 0 = self.old.clock })) self.new }
+            × Closes self.old at None (Outcome.GaveUp flying.first (record { 0 = self.old.clock })) self.new }
     {
         let first = self.flight.flying(ticket).first;
         let now = self.clock;
-        let command = close(&mut self.flight, &mut self.devices, &mut self.pending, at);
+        let command = close(
+            &mut self.flight,
+            &mut self.devices,
+            &mut self.pending,
+            at,
+            None,
+        );
         self.done.push_back_reserved(Done {
             ticket: command.ticket,
             outcome: Outcome::GaveUp { first, now },
         });
     }
 
-    /// Makes `out` the frame of a pending command with a tag.
-    fn spell(&self, at: usize, tag: u32, out: &mut Frame)
-        requires { at < length self.now.pending }
-        ensures { option_and_then (λ p. spelled_for self.now p.op p.device tag) (slice_get self.now.pending at) ≡ Some out.new.items }
-    {
-        let command = &self.pending[at];
-        let about = &self.devices[command.device.0 as usize].about;
-        write_request(
-            &command.op,
-            about.id,
-            about.remotes[0],
-            self.ports[0],
-            tag,
-            out,
-        );
-    }
-
-    /// Repeats the flying command with a ticket.
+    /// Repeats the flying command with a ticket. The path of its last frame is marked first.
     fn repeat(&mut self, ticket: Ticket, out: &mut Frame) -> Option<Sent>
         requires { IsSome (find (flies_as ticket.0) self.old.flight.commands) }
         ensures sent { IfSome result (λ sent. Repeats self.old ticket sent out.new.items self.new) }
@@ -359,15 +365,18 @@ impl Initiator {
     {
         let at = place_of(&self.pending, ticket)?;
         let flying = self.flight.flying(ticket);
-        let wait = wait_after(flying.sends);
-        self.spell(at, flying.tag, out);
-        self.flight.repeat(ticket, self.clock, FIRST_PATH, wait);
-        let device = self.pending[at].device;
-        note_sent(&mut self.devices, device, ticket, self.clock);
+        let now = self.clock;
+        let command = &self.pending[at];
+        let missed = Some(flying.path);
+        let route = note_sent(&mut self.devices, command.device, ticket, now, missed);
+        let op = &command.op;
+        write_request(op, route.target, route.remote, route.local, flying.tag, out);
+        let wait = wait_after(route.timeout, flying.sends);
+        self.flight.repeat(ticket, now, route.path, wait);
         Some(Sent {
             ticket,
             tag: flying.tag,
-            path: FIRST_PATH,
+            path: route.path,
             again: true,
         })
     }
@@ -398,23 +407,22 @@ impl Initiator {
     fn launch(&mut self, ticket: Ticket, at: usize, out: &mut Frame) -> Option<Sent>
         requires { at < length self.old.pending }
         ensures sent { IfSome result (λ sent. Launches self.old ticket at sent out.new.items self.new) }
-        ensures recalls { IfSome result (λ sent. (sent_before : List Outstanding) → Recalls self.old.flight sent_before
-            → Recalls self.new.flight (launched ticket sent.tag (record { 0 = self.old.clock }) sent.path (record { 0 = wait_of 1 }) ∷ sent_before)) }
         ensures free { IfSome result (λ sent. (sent_before : List Outstanding) → Recalls self.old.flight sent_before
             → is_taken (live self.old.flight.rest self.old.clock sent_before) sent.tag ≡ false) }
         ensures none { IfNone result (is_full self.old ≡ true) }
-        ensures unchanged { IfNone result (self.new ≡ record self.old { flight = flight_at self.old.flight self.old.clock }) }
         ensures in_time { InTime self.old }
     {
         let now = self.clock;
-        let tag = self.flight.launch(ticket, now, FIRST_PATH, wait_after(0))?;
-        self.spell(at, tag, out);
-        let device = self.pending[at].device;
-        note_sent(&mut self.devices, device, ticket, now);
+        let command = &self.pending[at];
+        let route = note_sent(&mut self.devices, command.device, ticket, now, None);
+        let wait = wait_after(route.timeout, 0);
+        let tag = self.flight.launch(ticket, now, route.path, wait)?;
+        let op = &command.op;
+        write_request(op, route.target, route.remote, route.local, tag, out);
         Some(Sent {
             ticket,
             tag,
-            path: FIRST_PATH,
+            path: route.path,
             again: false,
         })
     }
@@ -424,7 +432,7 @@ impl Initiator {
         ensures next { IfSome result (λ sent. (log : List Event) → Matches log self.old
             → All (λ o. is_due self.old.clock o ≡ false) (sent_of (commands log)) → IsNext self.old (commands log) sent) }
         ensures frame { IfSome result (λ sent. (log : List Event) → Matches log self.old → IsFrameOf self.old (commands log) sent out.new.items) }
-        ensures path { IfSome result (λ sent. sent.path ≡ record { 0 = 0 }) }
+        ensures path { IfSome result (λ sent. (log : List Event) → Matches log self.old → IsOnNextPath self.old log sent) }
         ensures sends { IfSome result (λ sent. (log : List Event) → Matches log self.old → Matches (Sends sent.ticket sent.tag sent.path ∷ log) self.new) }
         ensures quiet { IfNone result ((log : List Event) → Matches log self.old
             → All (λ o. is_due self.old.clock o ≡ false) (sent_of (commands log)) → IsQuiet self.old (commands log)) }
@@ -440,7 +448,7 @@ impl Initiator {
     pub fn pull(&mut self, out: &mut Frame) -> Option<Sent>
         ensures next { IfSome result (λ sent. (log : List Event) → Matches log self.old → IsNext self.old (commands log) sent) }
         ensures frame { IfSome result (λ sent. (log : List Event) → Matches log self.old → IsFrameOf self.old (commands log) sent out.new.items) }
-        ensures path { IfSome result (λ sent. sent.path ≡ record { 0 = 0 }) }
+        ensures path { IfSome result (λ sent. (log : List Event) → Matches log self.old → IsOnNextPath self.old log sent) }
         ensures sends { IfSome result (λ sent. (log : List Event) → Matches log self.old → Matches (Sends sent.ticket sent.tag sent.path ∷ log) self.new) }
         ensures quiet { IfNone result ((log : List Event) → Matches log self.old → IsQuiet self.old (commands log)) }
         ensures stays { IfNone result ((log : List Event) → Matches log self.old → Matches log self.new) }
@@ -473,13 +481,28 @@ impl Initiator {
             && header.command == command.op.command()
     }
 
-    /// The pending command that a frame answers, and what it says.
-    fn answered(&self, frame: &[u8]) -> Option<(usize, Answer)>
-        ensures there { IfSome result (λ found. found.0 < length self.now.pending) }
-        ensures fills { IfSome result (λ found. IfSome (slice_get self.now.pending found.0) (λ p. CanFill found.1 (drop 24 frame.now) (data_len p.op))) }
+    /// The path on which a response to the command that is pending at a place came.
+    fn path_of(&self, at: usize, header: &Header) -> Option<PathNo>
+        requires { at < length self.now.pending }
+        ensures pair { IfSome result (λ path. IfSome (slice_get self.now.pending at) (λ p. IfSome (slice_get self.now.devices p.device.0)
+            (λ d. pair_of d.paths path.0 ≡ Some (header.now.dst, header.now.src)))) }
+        ensures none { IfNone result (IfSome (slice_get self.now.pending at) (λ p. IfSome (slice_get self.now.devices p.device.0)
+            (λ d. (q : ℕ) → pair_of d.paths q ≢ Some (header.now.dst, header.now.src)))) }
+    {
+        let command = &self.pending[at];
+        let paths = &self.devices[command.device.0 as usize].paths;
+        paths.find(header.dst, header.src)
+    }
+
+    /// The response to a pending command that a frame is.
+    fn answered(&self, frame: &[u8]) -> Option<Heard>
+        ensures there { IfSome result (λ heard. place heard.ticket self.now.pending ≡ Some heard.at) }
+        ensures flies { IfSome result (λ heard. IsSome (find (flies_as heard.ticket.0) self.now.flight.commands)) }
+        ensures fills { IfSome result (λ heard. IfSome (slice_get self.now.pending heard.at) (λ p. CanFill heard.answer (drop 24 frame.now) (data_len p.op))) }
         ensures header { OnSome result (24 ≤ length frame.now) }
-        ensures some { IfSome result (λ found. (log : List Event) → Matches log self.now
-            → (c : HostCommand) × Contains (commands log) c × IfSome (slice_get self.now.pending found.0) (λ p. p.ticket ≡ c.ticket) × (answer_to self.now c frame.now ≡ Some found.1)) }
+        ensures some { IfSome result (λ heard. (log : List Event) → Matches log self.now
+            → (c : HostCommand) × Contains (commands log) c × IfSome (slice_get self.now.pending heard.at) (λ p. p.ticket ≡ c.ticket)
+            × (answer_to self.now c frame.now ≡ Some heard.answer) × CameOn self.now c frame.now heard.path) }
         ensures none { IfNone result ((log : List Event) → Matches log self.now → All (λ c. answer_to self.now c frame.now ≡ None) (commands log)) }
     {
         let header = read_header(frame)?;
@@ -491,22 +514,42 @@ impl Initiator {
         if !self.is_from(at, &header) {
             return None;
         }
+        let path = self.path_of(at, &header)?;
         let answer = read_answer(&self.pending[at].op, &header, &frame[HEADER_LEN..])?;
-        Some((at, answer))
+        Some(Heard {
+            ticket,
+            at,
+            path,
+            answer,
+        })
     }
 
-    /// Ends a pending command with what the bytes behind a header say.
-    fn finish(&mut self, at: usize, answer: Answer, args: &[u8]) -> Ticket
-        requires there { at < length self.old.pending }
-        requires fills { IfSome (slice_get self.old.pending at) (λ p. CanFill answer args.now (data_len p.op)) }
-        ensures closes { Closes self.old at (outcome_of answer args.now) self.new }
-        ensures ticket { IfSome (slice_get self.old.pending at) (λ p. result ≡ p.ticket) }
+    /// Ends a pending command with what the bytes behind the header of its response say.
+    fn finish(&mut self, heard: Heard, args: &[u8]) -> Ticket
+        requires there { place heard.ticket self.old.pending ≡ Some heard.at }
+        requires flies { IsSome (find (flies_as heard.ticket.0) self.old.flight.commands) }
+        requires fills { IfSome (slice_get self.old.pending heard.at) (λ p. CanFill heard.answer args.now (data_len p.op)) }
+        ensures closes { (flying : Flying)
+            × (option_map (λ c. c.flying) (find (flies_as heard.ticket.0) self.old.flight.commands) ≡ Some flying)
+            × Closes self.old heard.at (Some (record { path = heard.path; trip = trip_from self.old.clock flying })) (outcome_of heard.answer args.now) self.new }
+        ensures ticket { IfSome (slice_get self.old.pending heard.at) (λ p. result ≡ p.ticket) }
     {
-        let command = close(&mut self.flight, &mut self.devices, &mut self.pending, at);
+        let flying = self.flight.flying(heard.ticket);
+        let came = Some(Arrival {
+            path: heard.path,
+            trip: trip_at(self.clock, &flying),
+        });
+        let command = close(
+            &mut self.flight,
+            &mut self.devices,
+            &mut self.pending,
+            heard.at,
+            came,
+        );
         let ticket = command.ticket;
         self.done.push_back_reserved(Done {
             ticket,
-            outcome: answer.into_outcome(args, command.room),
+            outcome: heard.answer.into_outcome(args, command.room),
         });
         ticket
     }
@@ -517,7 +560,7 @@ impl Initiator {
         ensures same { IsSame self.old self.new × (self.new.clock ≡ self.old.clock) × (self.new.last_ticket ≡ self.old.last_ticket) }
     {
         match self.answered(frame) {
-            Some((at, answer)) => { Taken::Finished(self.finish(at, answer, &frame[HEADER_LEN..])) }
+            Some(heard) => Taken::Finished(self.finish(heard, &frame[HEADER_LEN..])),
             None => Taken::Stale,
         }
     }

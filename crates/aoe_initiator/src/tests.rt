@@ -1,4 +1,4 @@
-ghost use Rattle.std.specs.Prelude.{◌≡◌, ◌<◌, ◌≤◌, [], length};
+ghost use Rattle.std.specs.Prelude.{◌≡◌, ◌≢◌, ◌<◌, ◌≤◌, [], length};
 ghost use Rattle.aoe_paths.specs.PathTable.{IsDistinct};
 
 use super::*;
@@ -12,12 +12,29 @@ const SHELF: Mac = Mac([2, 0, 0, 0, 0, 1]);
 
 const DEVICE: TargetId = TargetId { major: 1, minor: 0 };
 
+/// The response to a flush with tag 1.
+const FLUSHED: [u8; 36] = [
+    2, 0, 0, 0, 0, 0x0a, 2, 0, 0, 0, 0, 1, 0x88, 0xa2, 0x18, 0, 0, 1, 0, 0, 0, 0, 0, 1, 0x40, 0, 0,
+    0x40, 0, 0, 0, 0, 0, 0, 0, 0,
+];
+
 fn one(port: Mac) -> Ports
     ensures one { length result.items ≡ 1 }
     ensures differ { IsDistinct result.items }
 {
     let mut ports = Ports::new();
     ports.push(port);
+    ports
+}
+
+fn two(first: u8, second: u8) -> Ports
+    requires { first ≢ second }
+    ensures two { length result.items ≡ 2 }
+    ensures differ { IsDistinct result.items }
+{
+    let mut ports = Ports::new();
+    ports.push(Mac([2, 0, 0, 0, 0, first]));
+    ports.push(Mac([2, 0, 0, 0, 0, second]));
     ports
 }
 
@@ -59,6 +76,61 @@ fn a_read_is_repeated_by_its_waits(rt: HostRuntime) -> Result<(), Fail> {
 }
 
 #[test]
+fn a_path_that_doesnt_answer_is_avoided(rt: HostRuntime) -> Result<(), Fail> {
+    let mut host = Initiator::new(rt.alloc(), &one(A), Millis(2000), 4096, Millis(180_000))?;
+    let device = host.attach(DEVICE, &two(1, 2), 16, 2)?;
+    let mut out = Frame::new();
+    let submitted = host.submit(device, Op::Read(Span { at: 0, count: 1 }));
+    assert!(rt; submitted.is_ok());
+    let first = Sent {
+        ticket: Ticket(1),
+        tag: 1,
+        path: PathNo(0),
+        again: false,
+    };
+    let repeat = Sent {
+        again: true,
+        ..first
+    };
+    let other = Sent {
+        path: PathNo(1),
+        ..repeat
+    };
+    assert_eq!(rt; host.pull(&mut out), Some(first));
+    host.advance(Millis(1000));
+    assert_eq!(rt; host.pull(&mut out), Some(other));
+    host.advance(Millis(2999));
+    assert_eq!(rt; host.pull(&mut out), None);
+    host.advance(Millis(3000));
+    assert_eq!(rt; host.pull(&mut out), Some(repeat));
+    Ok(())
+}
+
+#[test]
+fn waits_go_by_the_round_trips(rt: HostRuntime) -> Result<(), Fail> {
+    let mut host = Initiator::new(rt.alloc(), &one(A), Millis(10), 1, Millis(180_000))?;
+    let device = host.attach(DEVICE, &one(SHELF), 16, 2)?;
+    let filled = fill(&mut host, device, 2);
+    assert!(rt; filled);
+    let mut out = Frame::new();
+    assert!(rt; host.pull(&mut out).is_some());
+    host.advance(Millis(30));
+    assert_eq!(rt; host.receive(&FLUSHED), Taken::Finished(Ticket(1)));
+    assert!(rt; host.pull(&mut out).is_some());
+    host.advance(Millis(149));
+    assert_eq!(rt; host.pull(&mut out), None);
+    host.advance(Millis(150));
+    let repeat = Sent {
+        ticket: Ticket(2),
+        tag: 2,
+        path: PathNo(0),
+        again: true,
+    };
+    assert_eq!(rt; host.pull(&mut out), Some(repeat));
+    Ok(())
+}
+
+#[test]
 fn a_response_ends_its_command_once(rt: HostRuntime) -> Result<(), Fail> {
     let mut host = Initiator::new(rt.alloc(), &one(A), Millis(2000), 4096, Millis(180_000))?;
     let device = host.attach(DEVICE, &one(SHELF), 16, 2)?;
@@ -66,13 +138,9 @@ fn a_response_ends_its_command_once(rt: HostRuntime) -> Result<(), Fail> {
     let submitted = host.submit(device, Op::Flush);
     assert!(rt; submitted.is_ok());
     assert!(rt; host.pull(&mut out).is_some());
-    let response = [
-        2, 0, 0, 0, 0, 0x0a, 2, 0, 0, 0, 0, 1, 0x88, 0xa2, 0x18, 0, 0, 1, 0, 0, 0, 0, 0, 1, 0x40,
-        0, 0, 0x40, 0, 0, 0, 0, 0, 0, 0, 0,
-    ];
-    assert_eq!(rt; host.receive(&response[..35]), Taken::Stale);
-    assert_eq!(rt; host.receive(&response), Taken::Finished(Ticket(1)));
-    assert_eq!(rt; host.receive(&response), Taken::Stale);
+    assert_eq!(rt; host.receive(&FLUSHED[..35]), Taken::Stale);
+    assert_eq!(rt; host.receive(&FLUSHED), Taken::Finished(Ticket(1)));
+    assert_eq!(rt; host.receive(&FLUSHED), Taken::Stale);
     let done = host.take_done();
     assert!(rt;
         matches!(

@@ -1,18 +1,32 @@
 //! How long responses are waited for.
 ghost use Rattle.std.specs.Prelude.{◌≡◌, ◌+◌, min};
+ghost use Rattle.aoe_initiator.specs.Devices.{trip_from};
 ghost use Rattle.aoe_initiator.specs.HostLog.{wait_of};
 
 use aoe_base::Millis;
-use aoe_paths::{FIRST_TIMEOUT, MAX_TIMEOUT};
+use aoe_flight::Flying;
+use aoe_paths::MAX_TIMEOUT;
 
 /// The wait doesn't grow any more after so many frames, and long before.
 const MOST_DOUBLINGS: u32 = 32;
 
 /// How long the response to a frame is waited for that is sent after so many others of its
-/// command: twice as long with each, up to a minute.
-pub(crate) fn wait_after(sends: u32) -> Millis
-    ensures { result.0 ≡ wait_of (min sends 32 + 1) }
+/// command: as long as an answer on its path, and twice as long with each frame, up to a minute.
+pub(crate) fn wait_after(timeout: Millis, sends: u32) -> Millis
+    ensures { result.0 ≡ wait_of timeout.0 (min sends 32 + 1) }
 {
-    let wait = FIRST_TIMEOUT.0 * (1u64 << sends.min(MOST_DOUBLINGS));
+    let wait = timeout.0.saturating_mul(1u64 << sends.min(MOST_DOUBLINGS));
     Millis(wait.min(MAX_TIMEOUT.0))
+}
+
+/// The round trip of a response to a flying command. It isn't known which of several frames a
+/// response answers.
+pub(crate) fn trip_at(now: Millis, flying: &Flying) -> Option<Millis>
+    ensures { result ≡ trip_from now.0 flying.now }
+{
+    if flying.sends == 1 {
+        Some(Millis(now.0.saturating_sub(flying.first.0)))
+    } else {
+        None
+    }
 }

@@ -1,4 +1,5 @@
 mod ChoiceLemmas
-mod PairLemmas
+pub mod PairLemmas
 mod PathLemmas
+pub mod RecallLemmas
 pub mod TimeoutLemmas

@@ -1,3 +1,4 @@
 pub mod Path
+pub mod PathLog
 pub mod PathTable
 pub mod Timeout

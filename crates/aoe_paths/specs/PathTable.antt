@@ -32,10 +32,13 @@ abbrev pub IsDistinct : List Mac → Type 0
 IsDistinct ports = AllPairs (λ a b. a ≢ b) ports
 
 -- the local and the remote port of a path, whose number is local * remotes + remote, all counted from 0
+abbrev pub pair_at : List Mac → List Mac → ℕ → Option (Mac × Mac)
+pair_at locals remotes p =
+    option_and_then (λ local. option_map (λ remote. (local, remote)) (slice_get remotes (p % length remotes)))
+    (slice_get locals (p / length remotes))
+
 abbrev pub pair_of : PathTable → ℕ → Option (Mac × Mac)
-pair_of table p =
-    option_and_then (λ local. option_map (λ remote. (local, remote)) (slice_get table.remotes (p % length table.remotes)))
-    (slice_get table.locals (p / length table.remotes))
+pair_of table p = pair_at table.locals table.remotes p
 
 -- the path after the one chosen last, in cyclic order; path 0 where none was chosen
 abbrev pub path_after : ℕ → Option ℕ → ℕ

@@ -1,6 +1,8 @@
 //! The paths of a host to one device, and the choice among them.
-ghost use Rattle.std.specs.Prelude.{◌≡◌, ◌≢◌, ℕ, ◌<◌, ◌≤◌, [], bytes_eq, false, length, not, option_map, position, replicate, slice_get, Contains, IfNone, IfOk, IfSome};
+ghost use Rattle.std.specs.Prelude.{◌≡◌, ◌≢◌, ℕ, ◌<◌, ◌≤◌, List, [], ◌∷◌, bytes_eq, false, length, not, option_map, position, replicate, slice_get, Contains, IfNone, IfOk, IfSome};
 ghost use Rattle.aoe_paths.specs.Path.{new_path};
+ghost use Rattle.aoe_paths.specs.PathLog.{next_of, timeout_on, PathEvent, Recalls};
+ghost use Rattle.aoe_paths.specs.PathLog.PathEvent.{Answered, Chosen, Missed};
 ghost use Rattle.aoe_paths.specs.PathTable.{after_answer, after_miss, in_turn, new_paths, next_path, pair_of, path_after, path_count, trips_of, IsDistinct};
 ghost use Rattle.aoe_paths.specs.Timeout.{timeout_of};
 
@@ -103,7 +105,8 @@ impl Paths {
         requires remote { remotes.now.items ≢ [] }
         requires locals_differ { IsDistinct locals.now.items }
         requires remotes_differ { IsDistinct remotes.now.items }
-        ensures { IfOk result (λ paths. paths ≡ new_paths locals.now.items remotes.now.items) }
+        ensures value { IfOk result (λ paths. paths ≡ new_paths locals.now.items remotes.now.items) }
+        ensures recalls { IfOk result (λ paths. Recalls paths []) }
     {
         Ok(Paths {
             locals: copy_of(locals),
@@ -120,6 +123,8 @@ impl Paths {
         ensures within { result.0 < path_count self.new }
         ensures unmarked { Contains self.old.marks false → slice_get self.old.marks result.0 ≡ Some false }
         ensures same { self.new ≡ record self.old { chosen = Some result.0 } }
+        ensures next_recalled { (log : List PathEvent) → Recalls self.old log → result.0 ≡ next_of (path_count self.old) log }
+        ensures recalls { (log : List PathEvent) → Recalls self.old log → Recalls self.new (Chosen result.0 ∷ log) }
     {
         let count = self.paths.len();
         let start = path_after(count, self.chosen);
@@ -151,28 +156,34 @@ impl Paths {
         Some(PathNo((local * self.remotes.len() + remote) as u32))
     }
 
-    /// Takes note of an answer on a path: its mark goes, and its round trip counts where it is known.
+    /// Takes note of an answer on a path: its mark goes, and its round trip counts where it is
+    /// known. A number of no path changes nothing.
     pub fn answered(&mut self, p: PathNo, trip: Option<Millis>)
-        requires { p.0 < path_count self.old }
-        ensures { self.new ≡ after_answer self.old p.0 trip }
+        ensures value { self.new ≡ after_answer self.old p.0 trip }
+        ensures recalls { (log : List PathEvent) → Recalls self.old log → Recalls self.new (Answered p.0 trip ∷ log) }
     {
-        let path = &mut self.paths[p.0 as usize];
+        let Some(path) = self.paths.get_mut(p.0 as usize) else {
+            return;
+        };
         path.answer(trip);
     }
 
-    /// Marks a path on which an answer was missed.
+    /// Marks a path on which an answer was missed. A number of no path changes nothing.
     pub fn missed(&mut self, p: PathNo)
-        requires { p.0 < path_count self.old }
-        ensures { self.new ≡ after_miss self.old p.0 }
+        ensures value { self.new ≡ after_miss self.old p.0 }
+        ensures recalls { (log : List PathEvent) → Recalls self.old log → Recalls self.new (Missed p.0 ∷ log) }
     {
-        let path = &mut self.paths[p.0 as usize];
+        let Some(path) = self.paths.get_mut(p.0 as usize) else {
+            return;
+        };
         path.miss();
     }
 
     /// How long an answer on a path is waited for after the first sending.
     pub fn timeout(&self, p: PathNo) -> Millis
         requires { p.0 < path_count self.now }
-        ensures { result.0 ≡ timeout_of (trips_of self.now p.0) }
+        ensures value { result.0 ≡ timeout_of (trips_of self.now p.0) }
+        ensures recalled { (log : List PathEvent) → Recalls self.now log → result.0 ≡ timeout_on log p.0 }
     {
         self.paths[p.0 as usize].timeout()
     }

@@ -1,29 +1,32 @@
--- A stream of frames is answered to its end.
-use Rattle.std.proofs.Common.{◌≡◌, ◌≤◌, ◌<◌, ◌+◌, ◌-◌, ◌^◌, ℕ, List, [], ◌∷◌, ◌++◌, length, length-append, drop, Option, Some, None, refl, sym, ap, subst, ◌∙◌, append-nil, append_assoc, arith, add-one, inl, inr, min}
-use Rattle.std.proofs.lemmas.Bool.{cases_lt}
+-- A stream of frames is answered to its end, and a link is served.
+use Rattle.std.proofs.Common.{◌≡◌, ◌≢◌, ◌≤◌, ◌<◌, ℕ, List, [], ◌∷◌, ◌++◌, length, length-append, drop, Option, Some, None, refl, sym, ap, subst, ◌∙◌, append-nil, append_assoc, arith, add-one}
 use Rattle.std.proofs.lemmas.Grind.{flat_map-append}
-use Rattle.std.specs.Prelude.{All, IfSome, Result, Ok, Err}
+use Rattle.std.specs.Prelude.{All, IfSome}
 use Rattle.std.proofs.lemmas.List.{length-drop, drop-drop, get_or_append_left, get_or_at}
 use Rattle.std.proofs.lemmas.List.Elements.{All-drop}
 use Rattle.aoe_base.specs.Faults.{Rose}
-use Rattle.aoe_base.specs.declared.failure.Failed.{Failed}
 use Rattle.aoe_disk.specs.State.{DiskState}
-use Rattle.aoe_disk.specs.Calls.{SyncsTo}
 use Rattle.aoe_io.proofs.StreamLemmas.{First, first-frame, stream-whole}
 use Rattle.aoe_io.specs.Bytes.{Gave}
 use Rattle.aoe_io.specs.Stream.{framed, stream, IsFrame, IsBroken}
-use Rattle.aoe_serve.specs.Arrivals.{Arrived, at_slot, frames}
+use Rattle.aoe_serve.specs.Arrivals.{Arrived, frames}
 use Rattle.aoe_serve.specs.Run.{Answered}
-use Rattle.aoe_serve.specs.Slots.{IsServed, Slot}
+use Rattle.aoe_serve.specs.Slots.{Slot}
 use Rattle.aoe_serve.specs.declared.over_stream.AnswerEnd.{AnswerEnd}
-use Rattle.aoe_serve.specs.declared.over_stream.AnswerEnd.TheVariants as end
-use Rattle.aoe_target.specs.History.{count_failed, store_failed}
-use Rattle.aoe_target.specs.declared.station.Station.{Station}
-use Rattle.aoe_top.specs.Ending.{ended_by}
-use Rattle.aoe_top.specs.Run.{Ran, after_sync}
+use Rattle.aoe_serve.specs.declared.over_stream.AnswerEnd.TheVariants as answer
+use Rattle.aoe_serve.specs.declared.over_link.ServeEnd.TheVariants as serve
+use Rattle.aoe_export.specs.Run.{AtFirst, HasRun, Outside, Tells}
+use Rattle.aoe_export.specs.declared.plan.Plan.TheVariants as plan
+use Rattle.aoe_export.specs.declared.plan.RunEnd.{RunEnd}
+use Rattle.aoe_export.specs.declared.plan.RunEnd.TheVariants as end
+use Rattle.aoe_words.specs.declared.command.Answer.{Answer as Answers}
+use Rattle.aoe_words.specs.declared.command.Serve.{Serve as Serves}
+use Rattle.aoe_words.specs.declared.command.Command.TheVariants.{Answer, Serve}
+use Rattle.aoe_top.specs.Ending.{after_syncs, ended_by}
+use Rattle.aoe_top.specs.Run.{NoFault, OnSlot, Ran}
 use Rattle.aoe_top.specs.declared.status.Status.{Status}
 use Rattle.aoe_top.specs.declared.status.Status.TheVariants as status
-use Rattle.aoe_top.proofs.Exits.{one-served}
+use Rattle.aoe_top.proofs.Exits.{all-synced}
 
 -- one frame more on a stream
 stream-frame : (fs : List (List ℕ)) (f : List ℕ) → stream (fs ++ f ∷ []) ≡ stream fs ++ framed f
@@ -68,49 +71,65 @@ left h fs (Some rest) came all gave =
 
 answered-whole : (e : AnswerEnd) (left' held held' : Option (List ℕ)) (old new : List Slot) (fs : List (List ℕ))
     → Answered e (Some (stream fs)) left' held held' old new → All IsFrame fs → length fs < 4294967295
-    → (ended_by e ≡ status.SourceFault → ⊥) → (ended_by e ≡ status.SinkFault → ⊥) → ended_by e ≡ status.Ok
-answered-whole end.Ended left' held held' old new fs r all few source sink = refl
-answered-whole end.SourceFault left' held held' old new fs r all few source sink = absurd (source refl)
-answered-whole end.SinkFault left' held held' old new fs r all few source sink = absurd (sink refl)
-answered-whole end.Limit left' held held' old new fs r all few source sink =
+    → (ended_by (end.Answered e) ≡ status.SourceFault → ⊥) → (ended_by (end.Answered e) ≡ status.SinkFault → ⊥) → ended_by (end.Answered e) ≡ status.Ok
+answered-whole answer.Ended left' held held' old new fs r all few source sink = refl
+answered-whole answer.SourceFault left' held held' old new fs r all few source sink = absurd (source refl)
+answered-whole answer.SinkFault left' held held' old new fs r all few source sink = absurd (sink refl)
+answered-whole answer.Limit left' held held' old new fs r all few source sink =
     let l = left r.arrivals fs r.behind r.whole all r.gave in
     absurd (omega (arith, r.stops.0, l.stands.few))
-answered-whole (end.Stream at) left' held held' old new fs r all few source sink =
+answered-whole (answer.Stream at) left' held held' old new fs r all few source sink =
     let l = left r.arrivals fs r.behind r.whole all r.gave in
     let P : Option (List ℕ) → Type 0 = λ o. IfSome o IsBroken in
     let broken : IsBroken l.rest = subst P l.is r.stops.2 in
     let other = drop (length r.arrivals) fs in
     absurd (stream-whole other (All-drop IsFrame (length r.arrivals) fs all) (subst IsBroken l.stands.is broken))
 
--- a sync that was done changes no status
-synced-same : (e : AnswerEnd) (u : Unit {0}) → after_sync (ended_by e) (Ok u) ≡ ended_by e
-synced-same end.Ended u = refl
-synced-same end.SourceFault u = refl
-synced-same end.SinkFault u = refl
-synced-same (end.Stream at) u = refl
-synced-same end.Limit u = refl
+-- where each slot was synced the end of the frames is told
+all-synced-same : (s : Status) (unsynced : Option ℕ) → unsynced ≡ None → after_syncs s unsynced ≡ s
+all-synced-same s (Some slot) e = absurd cc
+all-synced-same status.Ok None e = refl
+all-synced-same status.Usage None e = refl
+all-synced-same status.SourceFault None e = refl
+all-synced-same status.SinkFault None e = refl
+all-synced-same (status.DiskFault disk) None e = refl
+all-synced-same (status.LinkFault link) None e = refl
+all-synced-same status.NoMemory None e = refl
+all-synced-same (status.KeepSmall disk sectors) None e = refl
+all-synced-same (status.KeepBad disk slot) None e = refl
+all-synced-same (status.Stream offset) None e = refl
+all-synced-same (status.Limit what) None e = refl
 
--- a sync that failed is counted
-not-failed : (o n b c : ℕ) → min (o + n) (2 ^ 64 - 1) ≤ b → b ≤ c → Rose b c → c ≡ o → o < 2 ^ 64 - 1 → ⊥
-not-failed o n b c before later rose same few =
-    elim (cases_lt b (2 ^ 64 - 1)) [
-      | inl below ↦ let more : b < c = rose below in omega arith
-      | inr above ↦ omega arith
-    ]
+pub no-fault : (before after : ℕ) → NoFault before after → Rose before after → ⊥
+no-fault before after fine rose = let more = rose fine.1 in omega (arith, fine.0, more)
 
-complete-by : (e : AnswerEnd) (s : Status) (synced : Result (Unit {0}) Failed) (left' held held' : Option (List ℕ)) (a b : Slot) (disk' : DiskState) (fs : List (List ℕ))
-    → s ≡ after_sync (ended_by e) synced → Answered e (Some (stream fs)) left' held held' (a ∷ []) (b ∷ []) → SyncsTo synced b.device.store disk' → All IsFrame fs → length fs < 4294967295
-    → (s ≡ status.SourceFault → ⊥) → (s ≡ status.SinkFault → ⊥) → disk'.faults ≡ a.device.store.faults → a.device.store.faults < 2 ^ 64 - 1 → s ≡ status.Ok
-complete-by e s (Ok u) left' held held' a b disk' fs ends r sync all few source sink same below =
-    let is : s ≡ ended_by e = ends ∙ synced-same e u in
-    is ∙ answered-whole e left' held held' (a ∷ []) (b ∷ []) fs r all few (λ x. source (is ∙ x)) (λ x. sink (is ∙ x))
-complete-by e s (Err failed) left' held held' a b disk' fs ends r sync all few source sink same below =
-    let served : IsServed a b (at_slot 0 r.arrivals) = one-served e (Some (stream fs)) left' held held' a b r in
-    absurd (not-failed a.device.store.faults (count_failed store_failed (at_slot 0 r.arrivals)) b.device.store.faults disk'.faults served.store_faults sync.call.later sync.call.cause same below)
+module _ {D S K L : Type 0} (state : D → DiskState) (t : Tells S K L) (s : Status) (a b : Outside S K L) (disks disks' : List (Option D))
+    (fine : (slot : ℕ) → OnSlot (λ file file' _ _. NoFault (state file).faults (state file').faults) slot disks disks') where
+  answers-by : (e : RunEnd) (old new : List Slot) (fs : List (List ℕ)) → HasRun t plan.Answer e a b old new → s ≡ ended_by e → t.left a.source ≡ Some (stream fs) → All IsFrame fs → length fs < 4294967295
+      → s ≢ status.SourceFault → s ≢ status.SinkFault → s ≡ status.Ok
+  answers-by (end.Served e) old new fs ran is left_is all few source sink = absurd ran
+  answers-by (end.Answered e) old new fs ran is left_is all few source sink =
+      let P : Option (List ℕ) → Type 0 = λ l. Answered e l (t.left b.source) (t.held a.sink) (t.held b.sink) old new in
+      is ∙ answered-whole e (t.left b.source) (t.held a.sink) (t.held b.sink) old new fs (subst P left_is ran.answered) all few (λ x. source (is ∙ x)) (λ x. sink (is ∙ x))
 
-pub complete : (station : Station) (s : Status) (left' held held' : Option (List ℕ)) (file file' keep keep' : DiskState) (fs : List (List ℕ))
-    → Ran station s (Some (stream fs)) left' held held' file file' keep keep' → All IsFrame fs → length fs < 4294967295
-    → (s ≡ status.SourceFault → ⊥) → (s ≡ status.SinkFault → ⊥) → file'.faults ≡ file.faults → file.faults < 2 ^ 64 - 1 → s ≡ status.Ok
-complete station s left' held held' file file' keep keep' fs r all few source sink same below =
-    let is = ap (λ (d : DiskState). d.faults) r.begins.store in
-    complete-by r.end s r.synced left' held held' r.first r.last file' fs r.ends r.answered r.closes.sync all few source sink (same ∙ sym is) (omega (arith, is, below))
+  pub answers : (asked : Answers) (fs : List (List ℕ)) → Ran state (Answer asked) t s a b disks disks' → t.left a.source ≡ Some (stream fs) → All IsFrame fs → length fs < 4294967295
+      → s ≢ status.SourceFault → s ≢ status.SinkFault → s ≡ status.Ok
+  answers asked fs r left_is all few source sink =
+      let synced = all-synced state _ _ t plan.Answer r.exported a b disks disks' r.run fine in
+      answers-by r.exported.end r.run.first r.run.run.middle fs r.run.run.ran (r.ends ∙ all-synced-same (ended_by r.exported.end) r.exported.unsynced synced) left_is all few source sink
+
+  serves-by : (e : RunEnd) (limit idle : ℕ) (old new : List Slot) → HasRun t (plan.Serve limit idle) e a b old new → s ≡ ended_by e → s ≢ status.LinkFault 0 → s ≡ status.Ok
+  serves-by (end.Answered e) limit idle old new ran is link = absurd ran
+  serves-by (end.Served serve.Ended) limit idle old new ran is link = is
+  serves-by (end.Served serve.LinkFault) limit idle old new ran is link = absurd (link is)
+
+  pub serves : (asked : Serves) → Ran state (Serve asked) t s a b disks disks' → s ≢ status.LinkFault 0 → s ≡ status.Ok
+  serves asked r link =
+      let synced = all-synced state _ _ t (plan.Serve asked.frames asked.idle) r.exported a b disks disks' r.run fine in
+      serves-by r.exported.end asked.frames asked.idle r.run.first r.run.run.middle r.run.run.ran (r.ends ∙ all-synced-same (ended_by r.exported.end) r.exported.unsynced synced) link
+
+-- a link that didn't fail isn't told as one that did
+pub link-fine : {L : Type 0} (faults : L → ℕ) (links links' : List L) → AtFirst (λ a b. NoFault (faults a) (faults b)) links links' → AtFirst (λ a b. Rose (faults a) (faults b)) links links' → 0 < length links → ⊥
+link-fine faults [] links' fine rose some = omega (arith, some)
+link-fine faults (l ∷ links) [] fine rose some = fine
+link-fine faults (l ∷ links) (l' ∷ links') fine rose some = no-fault (faults l) (faults l') fine.0 rose.0

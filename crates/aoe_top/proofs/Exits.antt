@@ -1,179 +1,111 @@
--- What a run leaves at its end.
-use Rattle.std.proofs.Common.{◌≡◌, ℕ, List, Option, Some, None, refl, sym, ap, subst, ◌∙◌, arith, length, [], ◌∷◌}
-use Rattle.std.specs.Prelude.{IfSome, IsSomeAnd, Result, Ok, Err, slice_get}
-use Rattle.std.proofs.lemmas.List.{length-map}
-use Rattle.std.proofs.lemmas.Option.{same_Some}
+-- What a run leaves at its end, slot by slot.
+use Rattle.std.proofs.Common.{◌≡◌, ◌≤◌, ◌<◌, ◌+◌, ◌-◌, ◌*◌, ◌^◌, ℕ, zero, suc, min, List, [], ◌∷◌, length, true, false, Option, Some, None, refl, sym, subst, ◌∙◌, arith, get_or, inl, inr}
+use Rattle.std.proofs.lemmas.Bool.{cases_lt}
+use Rattle.std.proofs.lemmas.Option.{slice_get_within}
 use Rattle.std.specs.Option.{option_map}
+use Rattle.std.specs.Prelude.{IfSome, Result, Ok, Err, is_err, slice_get}
+use Rattle.aoe_base.specs.Faults.{Rose}
 use Rattle.aoe_base.specs.declared.failure.Failed.{Failed}
-use Rattle.aoe_disk.specs.State.{Contents, DiskState, BothTell, sector}
-use Rattle.aoe_disk.specs.Calls.{SyncsTo, Settles, MaySettle}
+use Rattle.aoe_disk.specs.State.{Contents, DiskState, BothTell}
+use Rattle.aoe_disk.specs.Calls.{SyncsTo, Settles}
 use Rattle.aoe_disk.proofs.Touching.{settles_kept}
-use Rattle.aoe_keep.specs.Found.{Finds}
-use Rattle.aoe_target.specs.Device.{Device, State, Holds, MayStand, state_of}
-use Rattle.aoe_target.specs.Sectors.{Sectors, Agrees, sectors_of, settles}
+use Rattle.aoe_serve.specs.Arrivals.{Arrived, AreServed, at_slot}
+use Rattle.aoe_serve.specs.Slots.{IsServed, Slot}
+use Rattle.aoe_target.specs.History.{count_failed, store_failed}
 use Rattle.aoe_target.specs.declared.station.Station.{Station}
-use Rattle.aoe_target.proofs.DeviceLemmas.{first_state}
-use Rattle.aoe_target.proofs.LawLemmas.{agrees_then, both_then, settles_agree}
-use Rattle.aoe_target.proofs.SectorLemmas.{settle_agrees, may_settle_agrees}
-use Rattle.aoe_target.specs.History.{left_by}
-use Rattle.aoe_target.specs.Mounted.{Mounted, device_of, station_of}
-use Rattle.aoe_shelf.specs.Calls.{SyncsStore}
-use Rattle.aoe_shelf.specs.Shelf.{Rack}
-use Rattle.aoe_shelf.specs.Slot.{ChangesAt}
-use Rattle.aoe_words.specs.declared.command.Answer.{Answer}
-use Rattle.aoe_serve.specs.Arrivals.{at_slot}
-use Rattle.aoe_serve.specs.Run.{Answered}
-use Rattle.aoe_serve.specs.Slots.{IsServed, Slot, slot_of, slots_of}
-use Rattle.aoe_serve.specs.declared.over_stream.AnswerEnd.{AnswerEnd}
-use Rattle.aoe_serve.specs.declared.over_stream.AnswerEnd.TheVariants as end
-use Rattle.aoe_top.specs.Ending.{ended_by}
-use Rattle.aoe_export.specs.Ending.{LeavesKnown, Outlives, after_last}
-use Rattle.aoe_top.specs.Run.{Begins, Closes, NothingLoose, Ran, after_sync, shelf_station}
-use Rattle.aoe_top.specs.declared.status.Status.{Status}
-use Rattle.aoe_top.specs.declared.status.Status.TheVariants as status
+use Rattle.aoe_export.specs.Run.{IsExported, Outside, Tells, arrivals_in, first_failed}
+use Rattle.aoe_export.specs.Slots.{IsMounted, IsOver, OverFiles}
+use Rattle.aoe_export.specs.declared.plan.Exported.{Exported}
+use Rattle.aoe_export.specs.declared.plan.Plan.{Plan}
+use Rattle.aoe_export.proofs.EndLemmas.{served_in, there}
+use Rattle.aoe_top.specs.Ending.{file_at}
+use Rattle.aoe_top.specs.Run.{NoFault, NothingLoose, OnSlot}
+use Rattle.aoe_top.proofs.OnSlots.{Disks, disks-first, disks-then, on-first, on-map, on-then}
 
--- what is known of sectors that were synced
-both_settle : (x y z : Option Sectors) → BothTell (λ a b. Agrees a (settles b)) x y → BothTell Agrees y z → BothTell Agrees x (option_map settles z)
-both_settle None None None xy yz = tt
-both_settle None None (Some c) xy yz = absurd yz
-both_settle None (Some b) z xy yz = absurd xy
-both_settle (Some a) None z xy yz = absurd xy
-both_settle (Some a) (Some b) None xy yz = absurd yz
-both_settle (Some a) (Some b) (Some c) xy yz = agrees_then a (settles b) (settles c) xy (settles_agree b c yz)
+-- a slot over these disks, from its beginning to its end
+pub record Stands {D : Type 0} (state : D → DiskState) (first last : List Slot) (slot : ℕ) (file file' keep keep' : D) : Type 0 where
+  pub a : Slot
+  pub b : Slot
+  pub at_first : slice_get first slot ≡ Some a
+  pub at_last : slice_get last slot ≡ Some b
+  pub store : a.device.store ≡ state file
+  pub back : state file' ≡ b.device.store
+  pub mounted : IsMounted (state keep) a.device.keep a.device.lists
 
-told_settled : (old new : Option Contents) → BothTell Settles old new → BothTell (λ a b. Agrees a (settles b)) (option_map sectors_of new) (option_map sectors_of old)
-told_settled None None told = tt
-told_settled None (Some y) told = absurd told
-told_settled (Some x) None told = absurd told
-told_settled (Some x) (Some y) told = settle_agrees x y told
+stands-first : {D : Type 0} (state : D → DiskState) (name : ℕ → Station) (a b : Slot) (first last : List Slot) (file file' keep keep' : D) → IsOver state name file file' keep keep' a b
+    → Stands state (a ∷ first) (b ∷ last) 0 file file' keep keep'
+stands-first state name a b first last file file' keep keep' over = record { a = a; b = b; at_first = refl; at_last = refl; store = over.store; back = over.file_back; mounted = over.mounted }
 
-told_unsettled : (old new : Option Contents) → BothTell MaySettle old new → BothTell Agrees (option_map sectors_of new) (option_map sectors_of old)
-told_unsettled None None told = tt
-told_unsettled None (Some y) told = absurd told
-told_unsettled (Some x) None told = absurd told
-told_unsettled (Some x) (Some y) told = may_settle_agrees x y told
+stands-then : {D : Type 0} (state : D → DiskState) (x y : Slot) (first last : List Slot) (slot : ℕ) (file file' keep keep' : D) → Stands state first last slot file file' keep keep'
+    → Stands state (x ∷ first) (y ∷ last) (suc slot) file file' keep keep'
+stands-then state x y first last slot file file' keep keep' s = record { a = s.a; b = s.b; at_first = s.at_first; at_last = s.at_last; store = s.store; back = s.back; mounted = s.mounted }
 
-synced_sectors : (synced : Result (Unit {0}) Failed) (old new : DiskState) (k : State) → SyncsTo synced old new → BothTell Agrees (option_map sectors_of old.contents) k.sectors
-    → BothTell Agrees (option_map sectors_of new.contents) (after_last synced k).sectors
-synced_sectors (Ok done) old new k sync agree = both_settle (option_map sectors_of new.contents) (option_map sectors_of old.contents) k.sectors (told_settled old.contents new.contents sync.contents) agree
-synced_sectors (Err failed) old new k sync agree = both_then (option_map sectors_of new.contents) (option_map sectors_of old.contents) k.sectors (told_unsettled old.contents new.contents sync.contents) agree
+-- what stands over files and keeps
+record Over {D : Type 0} (state : D → DiskState) (disks disks' : List (Option D)) (first last : List Slot) : Type 0 where
+  count : length disks ≡ 2 * length first
+  stands : (slot : ℕ) → OnSlot (Stands state first last slot) slot disks disks'
+  has : (slot : ℕ) → slot < length first → Disks slot disks disks'
 
-same_lists : (synced : Result (Unit {0}) Failed) (k : State) → (after_last synced k).lists ≡ k.lists
-same_lists (Ok done) k = refl
-same_lists (Err failed) k = refl
-
-same_crash : (synced : Result (Unit {0}) Failed) (k : State) (c : Option Contents) → IfSome c (Finds (MayStand k)) → IfSome c (Finds (MayStand (after_last synced k)))
-same_crash (Ok done) k c f = f
-same_crash (Err failed) k c f = f
-
--- a device after the last sync
-closed : (synced : Result (Unit {0}) Failed) (d : Device) (file keep : DiskState) (k : State) → Closes synced d file keep → Holds d k
-    → Holds (record { lists = d.lists; keep = keep; store = file }) (after_last synced k)
-closed synced d file keep k closes h = record {
-  lists = h.lists ∙ sym (same_lists synced k);
-  crash = let P : DiskState → Type 0 = λ s. IfSome s.contents (Finds (MayStand (after_last synced k))) in subst P (sym closes.same) (same_crash synced k d.keep.contents h.crash);
-  sectors = synced_sectors synced d.store file k closes.sync h.sectors;
-}
-
-known_left : (x y : Option (List ℕ)) (w : List ℕ) → IfSome y (λ v. x ≡ Some v) → x ≡ Some w → (image : List ℕ) → image ≡ w → IfSome y (λ v. image ≡ v)
-known_left x None w known told image is = tt
-known_left x (Some v) w known told image is = let e : w ≡ v = some_same w v (sym told ∙ known) in is ∙ e
+over-then : {D : Type 0} (state : D → DiskState) (name : ℕ → Station) (a b : Slot) (first last : List Slot) (file file' keep keep' : D) (disks disks' : List (Option D))
+    → IsOver state name file file' keep keep' a b → Over state disks disks' first last → Over state (Some file ∷ Some keep ∷ disks) (Some file' ∷ Some keep' ∷ disks') (a ∷ first) (b ∷ last)
+over-then state name a b first last file file' keep keep' disks disks' over rest = record { count = omega (arith, rest.count); stands = stand; has = disk }
   where
-    some_same : (a b : List ℕ) → (let o : Option (List ℕ) = Some a in o) ≡ Some b → a ≡ b
-    some_same a b e = cc
+    stand : (slot : ℕ) → OnSlot (Stands state (a ∷ first) (b ∷ last) slot) slot (Some file ∷ Some keep ∷ disks) (Some file' ∷ Some keep' ∷ disks')
+    stand zero = on-first (Stands state (a ∷ first) (b ∷ last) 0) file file' keep keep' disks disks' (stands-first state name a b first last file file' keep keep' over)
+    stand (suc slot) = on-then (Stands state (a ∷ first) (b ∷ last) (suc slot)) slot (Some file) (Some keep) (Some file') (Some keep') disks disks'
+        (on-map (Stands state first last slot) (Stands state (a ∷ first) (b ∷ last) (suc slot)) slot disks disks' (stands-then state a b first last slot) (rest.stands slot))
 
--- an unmarked sector isn't loose, and is as it is known
-leaves_known : (c : Contents) (k : Sectors) → Agrees (sectors_of c) k → LeavesKnown k c
-leaves_known c k agree = λ image left s unmarked.
-    known_left (Some (sector c.bytes s)) (k.known s) (sector c.bytes s) (agree.known s) refl (sector image s) (left.kept s (agree.marks s unmarked))
+    disk : (slot : ℕ) → slot < length (a ∷ first) → Disks slot (Some file ∷ Some keep ∷ disks) (Some file' ∷ Some keep' ∷ disks')
+    disk zero below = disks-first file file' keep keep' disks disks'
+    disk (suc slot) below = disks-then slot (Some file) (Some keep) (Some file') (Some keep') disks disks' (rest.has slot (omega (arith, below)))
 
-both_leave : (x : Option Contents) (y : Option Sectors) → BothTell Agrees (option_map sectors_of x) y → IfSome x (λ c. IfSome y (λ sectors. LeavesKnown sectors c))
-both_leave None y told = tt
-both_leave (Some c) None told = tt
-both_leave (Some c) (Some k) told = leaves_known c k told
+over : {D : Type 0} (state : D → DiskState) (name : ℕ → ℕ → Station) (minor : ℕ) (disks disks' : List (Option D)) (first last : List Slot) → OverFiles state name minor disks disks' first last → Over state disks disks' first last
+over state name minor (Some f ∷ Some k ∷ disks) (Some f' ∷ Some k' ∷ disks') (a ∷ first) (b ∷ last) x = over-then state (name minor) a b first last f f' k k' disks disks' x.0 (over state name (minor + 1) disks disks' first last x.1)
+over state name minor (Some f ∷ Some k ∷ disks) (Some f' ∷ Some k' ∷ disks') (a ∷ first) [] x = absurd x
+over state name minor (Some f ∷ Some k ∷ disks) (Some f' ∷ Some k' ∷ disks') [] last x = absurd x
+over state name minor (Some f ∷ Some k ∷ disks) (Some f' ∷ None ∷ disks') first last x = absurd x
+over state name minor (Some f ∷ Some k ∷ disks) (Some f' ∷ []) first last x = absurd x
+over state name minor (Some f ∷ Some k ∷ disks) (None ∷ disks') first last x = absurd x
+over state name minor (Some f ∷ Some k ∷ disks) [] first last x = absurd x
+over state name minor (Some f ∷ None ∷ disks) disks' first last x = absurd x
+over state name minor (Some f ∷ []) disks' first last x = absurd x
+over state name minor (None ∷ disks) disks' first last x = absurd x
+over state name minor [] [] [] [] x = record { count = refl; stands = λ slot f f' k k' ef. absurd cc; has = λ slot below. absurd (omega (arith, below)) }
+over state name minor [] [] [] (b ∷ last) x = absurd x
+over state name minor [] [] (a ∷ first) last x = absurd x
+over state name minor [] (d ∷ disks') first last x = absurd x
 
-outlived : (d : Device) (k : State) → Holds d k → Outlives d k
-outlived d k h = record { file = both_leave d.store.contents k.sectors h.sectors; keep = h.crash }
+-- Which sync failed.
 
--- what the frames did to the one slot
-pub one-served : (e : AnswerEnd) (left left' held held' : Option (List ℕ)) (first last : Slot) (answered : Answered e left left' held held' (first ∷ []) (last ∷ []))
-    → IsServed first last (at_slot 0 answered.arrivals)
-one-served e left left' held held' first last answered = answered.served.slots.each 0 first last refl refl
+counted : (o : Option ℕ) (k : ℕ) → option_map (λ slot. slot + 1) o ≡ Some k → (j : ℕ) × (o ≡ Some j) × (k ≡ j + 1)
+counted None k e = absurd cc
+counted (Some j) k e = let same : j + 1 ≡ k = cc in (j, refl, sym same)
 
--- a run over a slot that began so and closes so
-pub ran : (station : Station) (e : AnswerEnd) (result : Status) (synced : Result (Unit {0}) Failed) (left left' held held' : Option (List ℕ)) (first last : Slot) (file file' keep keep' : DiskState)
-    → Begins station file keep first → Answered e left left' held held' (first ∷ []) (last ∷ []) → Closes synced last.device file' keep' → result ≡ after_sync (ended_by e) synced
-    → Ran station result left left' held held' file file' keep keep'
-ran station e result synced left left' held held' first last file file' keep keep' begins answered closes ends =
-    let h = at_slot 0 answered.arrivals in
-    let served : IsServed first last h = one-served e left left' held held' first last answered in
-    let at_end = λ (k : State) (is : Holds first.device k). closed synced last.device file' keep' (left_by first.station k h) closes (served.holds k is) in
-    record {
-      first = first;
-      begins = begins;
-      end = e;
-      last = last;
-      answered = answered;
-      synced = synced;
-      closes = closes;
-      ends = ends;
-      holds = at_end;
-      outlives = outlived (record { lists = last.device.lists; keep = keep'; store = file' }) (after_last synced (left_by first.station (state_of first.device) h))
-          (at_end (state_of first.device) (first_state first.device begins.finds));
-    }
+uncounted : (o : Option ℕ) → option_map (λ slot. slot + 1) o ≡ None → o ≡ None
+uncounted None e = refl
+uncounted (Some j) e = absurd cc
 
--- the one target of the shelf that is asked for
-pub station-is : {D : Type 0} (asked : Answer) (sectors : ℕ) (shelf : Rack D D) → shelf ≡ record { major = asked.id.major; ports = asked.port ∷ []; mtu = asked.mtu; targets = [] }
-    → station_of (record { major = shelf.major; minor = asked.id.minor }) shelf.ports shelf.mtu sectors ≡ shelf_station asked sectors
-station-is asked sectors shelf e = ap (λ (rack : Rack _ _). station_of (record { major = rack.major; minor = asked.id.minor }) rack.ports rack.mtu sectors) e
+record FailedAt (results : List (Result (Unit {0}) Failed)) (k : ℕ) : Type 0 where
+  within : k < length results
+  failed : is_err (get_or results k (Ok tt)) ≡ true
 
--- the only element of a list
-pub record Only {X : Type 0} (xs : List X) : Type 0 where
-  pub element : X
-  pub is : xs ≡ element ∷ []
+failed-at : (results : List (Result (Unit {0}) Failed)) (k : ℕ) → first_failed results ≡ Some k → FailedAt results k
+failed-at [] k e = absurd cc
+failed-at (Err failed ∷ results) k e =
+    let first : 0 ≡ k = cc in
+    subst (λ (n : ℕ). FailedAt (Err failed ∷ results) n) first (record { within = omega arith; failed = refl })
+failed-at (Ok done ∷ results) k e =
+    let c = counted (first_failed results) k e in
+    let f = failed-at results c.0 c.1 in
+    let is : suc c.0 ≡ k = omega (arith, c.2) in
+    subst (λ (n : ℕ). FailedAt (Ok done ∷ results) n) is (record { within = omega (arith, f.within); failed = f.failed })
 
-pub only : {X : Type 0} (xs : List X) → length xs ≡ 1 → Only xs
-only [] one = absurd (omega (arith, one))
-only (x ∷ []) one = record { element = x; is = refl }
-only (x ∷ y ∷ xs) one = absurd (omega (arith, one))
-
--- after a run there are as many targets as before
-pub still-one : {D : Type 0} (state : D → DiskState) (e : AnswerEnd) (left left' held held' : Option (List ℕ)) (t : Mounted D D) (before after : List (Mounted D D))
-    → before ≡ t ∷ [] → Answered e left left' held held' (slots_of state state before) (slots_of state state after) → length after ≡ 1
-still-one state e left left' held held' t before after is answered =
-    sym (length-map after (slot_of state state)) ∙ answered.served.slots.count ∙ length-map before (slot_of state state) ∙ ap (λ (ts : List _). length ts) is
-
-module _ {D : Type 0} (state : D → DiskState) (station : Station) (e : AnswerEnd) (synced : Result (Unit {0}) Failed) (left left' held held' : Option (List ℕ)) (t : Mounted D D) (before after close : List (Mounted D D)) (file keep file' keep' : D) where
-  -- the disks of the target whose store was synced
-  one-closes : (u : Mounted D D) → ChangesAt 0 (SyncsStore state synced) (u ∷ []) close → IsSomeAnd (slice_get close 0) (λ x. (file' ≡ x.store) × (keep' ≡ x.keep.disk))
-      → Closes synced (device_of state state u) (state file') (state keep')
-  one-closes u change given =
-      let same : u ≡ change.before = same_Some u change.before change.found in
-      let P : List (Mounted D D) → Type 0 = λ ts. IsSomeAnd (slice_get ts 0) (λ x. (file' ≡ x.store) × (keep' ≡ x.keep.disk)) in
-      let given : (file' ≡ change.after.store) × (keep' ≡ change.after.keep.disk) = subst P change.others given in
-      let Q : D → Type 0 = λ d. SyncsTo synced (state u.store) (state d) in
-      let R : Mounted D D → Type 0 = λ b. SyncsTo synced (state b.store) (state change.after.store) in
-      record {
-        sync = subst Q (sym given.0) (subst R (sym same) change.change.syncs);
-        same = ap state (given.1 ∙ ap (λ (x : Mounted D D). x.keep.disk) (change.change.rest ∙ ap (λ (x : Mounted D D). record x { store = change.after.store }) (sym same)));
-      }
-
-  -- a run over a shelf of one target
-  pub ran-over-one : (result : Status) → before ≡ t ∷ [] → Begins station (state file) (state keep) (slot_of state state t)
-      → Answered e left left' held held' (slots_of state state before) (slots_of state state after)
-      → ChangesAt 0 (SyncsStore state synced) after close → IsSomeAnd (slice_get close 0) (λ x. (file' ≡ x.store) × (keep' ≡ x.keep.disk)) → result ≡ after_sync (ended_by e) synced
-      → Ran station result left left' held held' (state file) (state file') (state keep) (state keep')
-  ran-over-one result is begins answered change given ends =
-      let u = only after (still-one state e left left' held held' t before after is answered) in
-      let P : List (Mounted D D) → Type 0 = λ ts. Answered e left left' held held' (slots_of state state ts) (slots_of state state after) in
-      let Q : List (Mounted D D) → Type 0 = λ ts. Answered e left left' held held' (slots_of state state (t ∷ [])) (slots_of state state ts) in
-      let R : List (Mounted D D) → Type 0 = λ ts. ChangesAt 0 (SyncsStore state synced) ts close in
-      ran station e result synced left left' held held' (slot_of state state t) (slot_of state state u.element) (state file) (state file') (state keep) (state keep')
-      begins (subst Q u.is (subst P is answered)) (one-closes u.element (subst R u.is change) given) ends
-
--- the status of a run by the end of its frames
-pub ends-by : (e : AnswerEnd) (synced : Result (Unit {0}) Failed) (x s : Status) → s ≡ after_sync x synced → x ≡ ended_by e → s ≡ after_sync (ended_by e) synced
-ends-by e synced x s after is = after ∙ ap (λ (t : Status). after_sync t synced) is
+none-failed : (results : List (Result (Unit {0}) Failed)) → first_failed results ≡ None → (i : ℕ) → is_err (get_or results i (Ok tt)) ≡ false
+none-failed [] e zero = refl
+none-failed [] e (suc i) = refl
+none-failed (Err failed ∷ results) e i = absurd cc
+none-failed (Ok done ∷ results) e zero = refl
+none-failed (Ok done ∷ results) e (suc i) = none-failed results (uncounted (first_failed results) e) i
 
 not_loose : (x y : Option Contents) → BothTell Settles x y → IfSome y NothingLoose
 not_loose None None told = tt
@@ -181,15 +113,94 @@ not_loose None (Some y) told = absurd told
 not_loose (Some x) None told = tt
 not_loose (Some x) (Some y) told = settles_kept x y told
 
-settled_by : (e : AnswerEnd) (synced : Result (Unit {0}) Failed) (old new : DiskState) → SyncsTo synced old new → status.Ok ≡ after_sync (ended_by e) synced → IfSome new.contents NothingLoose
-settled_by e (Ok done) old new sync is = not_loose old.contents new.contents sync.contents
-settled_by end.Ended (Err failed) old new sync is = absurd cc
-settled_by end.SourceFault (Err failed) old new sync is = absurd cc
-settled_by end.SinkFault (Err failed) old new sync is = absurd cc
-settled_by (end.Stream at) (Err failed) old new sync is = absurd cc
-settled_by end.Limit (Err failed) old new sync is = absurd cc
+sync-done : (r : Result (Unit {0}) Failed) (old new : DiskState) → is_err r ≡ false → SyncsTo r old new → IfSome new.contents NothingLoose
+sync-done (Ok done) old new e sync = not_loose old.contents new.contents sync.contents
+sync-done (Err failed) old new e sync = absurd cc
 
--- with status Ok nothing of the file is loose
-pub settled : (station : Station) (s : Status) (left left' held held' : Option (List ℕ)) (file file' keep keep' : DiskState) → Ran station s left left' held held' file file' keep keep'
-    → s ≡ status.Ok → IfSome file'.contents NothingLoose
-settled station s left left' held held' file file' keep keep' r ok = settled_by r.end r.synced r.last.device.store file' r.closes.sync (sym ok ∙ r.ends)
+-- a sync that failed after faults that were counted
+rose_then : (a n b c : ℕ) → min (a + n) (2 ^ 64 - 1) ≤ b → b ≤ c → Rose b c → Rose a c
+rose_then a n b c before later rose few =
+    elim (cases_lt b (2 ^ 64 - 1)) [
+      | inl below ↦ let more : b < c = rose below in omega arith
+      | inr above ↦ omega arith
+    ]
+
+sync-failed : (r : Result (Unit {0}) Failed) (old new : DiskState) → is_err r ≡ true → SyncsTo r old new → Rose old.faults new.faults
+sync-failed (Ok done) old new e sync = absurd cc
+sync-failed (Err failed) old new e sync = sync.call.cause
+
+module _ {D S K L : Type 0} (state : D → DiskState) (name : ℕ → ℕ → Station) (minor : ℕ) (t : Tells S K L) (p : Plan) (e : Exported) (a b : Outside S K L) (disks disks' : List (Option D))
+    (x : IsExported state name minor t p e a b disks disks') where
+  all-over : Over state disks disks' x.first x.last
+  all-over = over state name minor disks disks' x.first x.last x.over
+
+  abbrev arrivals : List Arrived
+  arrivals = arrivals_in t p e.end a b x.first x.run.middle x.run.ran
+
+  served : AreServed x.first x.run.middle arrivals
+  served = served_in t p e.end a b x.first x.run.middle x.run.ran
+
+  pub stands : (slot : ℕ) → OnSlot (Stands state x.first x.last slot) slot disks disks'
+  stands = all-over.stands
+
+  -- the last sync of a slot
+  record LastSync (slot : ℕ) (file file' : D) : Type 0 where
+    before : DiskState
+    after : DiskState
+    sync : SyncsTo (get_or x.run.results slot (Ok tt)) before after
+    back : after ≡ state file'
+    count : ℕ
+    counted : min ((state file).faults + count) (2 ^ 64 - 1) ≤ before.faults
+
+  last-sync : (slot : ℕ) (file file' keep keep' : D) → Stands state x.first x.last slot file file' keep keep' → LastSync slot file file'
+  last-sync slot file file' keep keep' s =
+      let m = there x.run.middle slot (omega (arith, slice_get_within x.last slot s.b s.at_last, x.run.synced.slots.count)) in
+      let is : IsServed s.a m.slot (at_slot slot arrivals) = served.slots.each slot s.a m.slot s.at_first m.is in
+      let P : DiskState → Type 0 = λ d. min (d.faults + count_failed store_failed (at_slot slot arrivals)) (2 ^ 64 - 1) ≤ m.slot.device.store.faults in
+      record {
+        before = m.slot.device.store;
+        after = s.b.device.store;
+        sync = (x.run.synced.slots.each slot m.slot s.b m.is s.at_last).syncs;
+        back = sym s.back;
+        count = count_failed store_failed (at_slot slot arrivals);
+        counted = subst P s.store is.store_faults;
+      }
+
+  rose-in : (slot : ℕ) (file file' : D) → is_err (get_or x.run.results slot (Ok tt)) ≡ true → LastSync slot file file' → Rose (state file).faults (state file').faults
+  rose-in slot file file' failed l =
+      let P : DiskState → Type 0 = λ d. Rose (state file).faults d.faults in
+      subst P l.back (rose_then (state file).faults l.count l.before.faults l.after.faults l.counted l.sync.call.later (sync-failed (get_or x.run.results slot (Ok tt)) l.before l.after failed l.sync))
+
+  -- the disk of a slot that wasn't synced counted it
+  pub unsynced-rose : (slot : ℕ) → e.unsynced ≡ Some slot → OnSlot (λ file file' _ _. Rose (state file).faults (state file').faults) slot disks disks'
+  unsynced-rose slot is =
+      let f = failed-at x.run.results slot (sym x.run.unsynced ∙ is) in
+      on-map (Stands state x.first x.last slot) (λ file file' _ _. Rose (state file).faults (state file').faults) slot disks disks'
+      (λ file file' keep keep' s. rose-in slot file file' f.failed (last-sync slot file file' keep keep' s)) (stands slot)
+
+  -- there is that slot
+  pub unsynced-within : (slot : ℕ) → e.unsynced ≡ Some slot → file_at slot + 1 < length disks
+  unsynced-within slot is =
+      let f = failed-at x.run.results slot (sym x.run.unsynced ∙ is) in
+      omega (arith, f.within, x.run.synced.count, served.slots.count, all-over.count)
+
+  -- where each slot was synced no file has a loose sector
+  pub all-settled : (slot : ℕ) → e.unsynced ≡ None → OnSlot (λ _ file' _ _. IfSome (state file').contents NothingLoose) slot disks disks'
+  all-settled slot is =
+      let ok = none-failed x.run.results (sym x.run.unsynced ∙ is) slot in
+      let P : DiskState → Type 0 = λ d. IfSome d.contents NothingLoose in
+      on-map (Stands state x.first x.last slot) (λ _ file' _ _. IfSome (state file').contents NothingLoose) slot disks disks'
+      (λ file file' keep keep' s. let l = last-sync slot file file' keep keep' s in subst P l.back (sync-done (get_or x.run.results slot (Ok tt)) l.before l.after ok l.sync)) (stands slot)
+
+  -- where no file failed each slot was synced
+  pub all-synced : ((slot : ℕ) → OnSlot (λ file file' _ _. NoFault (state file).faults (state file').faults) slot disks disks') → e.unsynced ≡ None
+  all-synced fine = by e.unsynced refl
+    where
+      by : (o : Option ℕ) → e.unsynced ≡ o → o ≡ None
+      by None is = refl
+      by (Some slot) is =
+          let f = failed-at x.run.results slot (sym x.run.unsynced ∙ is) in
+          let d = all-over.has slot (omega (arith, f.within, x.run.synced.count, served.slots.count)) in
+          let none = fine slot d.file d.file' d.keep d.keep' d.file_is d.file_is' d.keep_is d.keep_is' in
+          let rose = unsynced-rose slot is d.file d.file' d.keep d.keep' d.file_is d.file_is' d.keep_is d.keep_is' none.1 in
+          absurd (omega (arith, none.0, rose))

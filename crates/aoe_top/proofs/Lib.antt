@@ -1,4 +1,4 @@
-mod Exits
 mod Complete
-mod Files
+mod Exits
+mod OnSlots
 mod Refusals

@@ -1,3 +1,3 @@
-pub mod Built
+pub mod Commands
 pub mod Ending
 pub mod Run

@@ -1,13 +1,11 @@
 //! The commands of the program, from their words to their status.
 #![tactic(auto)]
 
-mod built;
-mod device;
+mod plan;
 mod status;
 mod top;
 
-pub use aoe_words::{PortWords, ports_of};
-pub use built::files_of;
+pub use aoe_words::{PortWords, files_of, ports_of};
 pub use status::{Status, What};
 pub use top::aoe;
 

@@ -19,6 +19,8 @@ pub enum Status {
     /// The disk with that number, in the order of the files' names, failed while its keep was mounted,
     /// or when its store was synced at the end.
     DiskFault { disk: u32 },
+    /// The link with that number, in the order of the words that name links, failed.
+    LinkFault { link: u32 },
     /// An allocation was refused.
     NoMemory,
     /// The keep on the disk with that number has so many sectors, and 16 are needed.
@@ -50,6 +52,7 @@ impl Status {
             Status::SourceFault => 3,
             Status::SinkFault => 4,
             Status::DiskFault { .. } => 5,
+            Status::LinkFault { .. } => 6,
             Status::NoMemory => 7,
             Status::KeepSmall { .. } | Status::KeepBad { .. } => 8,
             Status::Stream { .. } => 11,
@@ -67,6 +70,7 @@ impl Status {
             Status::SourceFault => Blob::of(alloc, b"aoe: source fault"),
             Status::SinkFault => Blob::of(alloc, b"aoe: sink fault"),
             Status::DiskFault { disk } => disk_text(alloc, disk),
+            Status::LinkFault { link } => link_text(alloc, link),
             Status::NoMemory => Blob::of(alloc, b"aoe: no memory"),
             Status::KeepSmall { disk, sectors } => small_text(alloc, disk, sectors),
             Status::KeepBad { disk, slot } => bad_text(alloc, disk, slot),
@@ -91,6 +95,16 @@ fn disk_text(alloc: Global, disk: u32) -> Result<Blob, NoMemory>
     ensures { IfOk result (λ text. text ≡ text_of (Status.DiskFault disk)) }
 {
     match format!(in alloc; "aoe: disk fault on file {disk}") {
+        Ok(text) => Blob::of(alloc, text.as_bytes()),
+        Err(_) => Err(NoMemory),
+    }
+}
+
+/// The text for a link that failed.
+fn link_text(alloc: Global, link: u32) -> Result<Blob, NoMemory>
+    ensures { IfOk result (λ text. text ≡ text_of (Status.LinkFault link)) }
+{
+    match format!(in alloc; "aoe: link fault on port {link}") {
         Ok(text) => Blob::of(alloc, text.as_bytes()),
         Err(_) => Err(NoMemory),
     }

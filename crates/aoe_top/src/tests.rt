@@ -1,7 +1,10 @@
-use crate::{Status, aoe, files_of};
+ghost use Rattle.std.specs.Prelude.{All, IfOk, IsSome};
+
+use crate::{Status, aoe, files_of, ports_of};
 use aoe_base::Blob;
 use aoe_disk::{Loss, MemDisk};
-use aoe_io::{MemSink, MemSource};
+use aoe_frame::Frame;
+use aoe_io::{Got, Link, MemLink, MemSink, MemSource};
 use std::alloc::{AllocError, Global};
 use std::test::Fail;
 
@@ -26,70 +29,74 @@ fn words_of(alloc: Global, line: &str) -> Result<Vec<String>, AllocError> {
     Ok(words)
 }
 
-/// Runs a command over these two disks where it names files, and over none where it spells nothing.
+/// Runs a command over these disks and links, where it names as many.
 fn run_over(
     alloc: Global,
     line: &str,
     source: &mut MemSource,
     sink: &mut MemSink,
-    disks: &mut [Option<MemDisk>; 2],
-) -> Result<Status, Fail> {
+    disks: &mut [Option<MemDisk>],
+    links: &mut [MemLink],
+) -> Result<Status, Fail>
+    requires { All IsSome disks.old }
+    ensures { All IsSome disks.new }
+{
     let words = words_of(alloc, line)?;
     let words = words.as_slice();
-    let names = files_of(alloc, words)?;
-    if names.is_empty() {
-        return Ok(aoe::<_, _, MemDisk>(alloc, words, source, sink, &mut []));
+    if files_of(alloc, words)?.len() != disks.len()
+        || ports_of(alloc, words)?.len() != links.len()
+    {
+        return Err(Fail::from("other files or links"));
     }
-    if names.len() != 2 || disks[0].is_none() || disks[1].is_none() {
-        return Err(Fail::from("other files than two"));
-    }
-    Ok(aoe(alloc, words, source, sink, disks))
+    Ok(aoe(alloc, words, source, sink, disks, links))
 }
 
 /// A file and a keep of 16 zero sectors each.
-fn zero_disks(alloc: Global) -> Result<[Option<MemDisk>; 2], Fail> {
+fn zero_disks(alloc: Global) -> Result<[Option<MemDisk>; 2], Fail>
+    ensures { IfOk result (λ disks. All IsSome disks) }
+{
     Ok([
         Some(MemDisk::new(alloc, 16)?),
         Some(MemDisk::new(alloc, 16)?),
     ])
 }
 
-/// Runs a command over disks of 16 zero sectors.
+/// Runs a command over disks of 16 zero sectors and no link.
 fn run_line(
     alloc: Global,
     line: &str,
     source: &mut MemSource,
     sink: &mut MemSink,
 ) -> Result<Status, Fail> {
-    run_over(alloc, line, source, sink, &mut zero_disks(alloc)?)
+    run_over(alloc, line, source, sink, &mut zero_disks(alloc)?, &mut [])
 }
 
+/// The status of a command that names nothing.
 fn status_of(alloc: Global, line: &str) -> Result<Status, Fail> {
     let mut source = MemSource::of(alloc, b"")?;
     let mut sink = MemSink::new(alloc, 0)?;
-    run_line(alloc, line, &mut source, &mut sink)
+    run_over(alloc, line, &mut source, &mut sink, &mut [], &mut [])
 }
 
 #[test]
 fn reads_words(rt: HostRuntime) -> Result<(), Fail> {
-    let cases = [
-        ("answer 1 0 disk keep", 0),
-        (
-            "answer --mtu=9000 65534 254 d k --port 02:00:00:00:00:ff",
-            0,
-        ),
-        ("", 1),
-        ("answer 1 0 disk", 1),
-        ("answer 65535 0 d k", 1),
-        ("answer 1 0 d k --mtu 9001", 1),
-        ("serve 1 d k --local x --peers y", 1),
+    let lines = [
+        "",
+        "answer",
+        "answer 1 0 disk",
+        "answer 65535 0 d k",
+        "answer 1 0 d k --mtu 9001",
+        "serve 1 d k --local x",
+        "serve 1 d --local x --peers y",
     ];
-    for (line, code) in cases {
-        assert_eq!(rt; status_of(rt.alloc(), line)?.code(), code, "{line}");
+    for line in lines {
+        assert_eq!(rt; status_of(rt.alloc(), line)?, Status::Usage, "{line}");
     }
-    let status = status_of(rt.alloc(), "answer")?;
-    assert_eq!(rt; status, Status::Usage);
-    assert_eq!(rt; status.text(rt.alloc())?.bytes(), b"aoe: usage".as_slice());
+    assert_eq!(rt; Status::Usage.code(), 1);
+    assert_eq!(rt;
+        Status::Usage.text(rt.alloc())?.bytes(),
+        b"aoe: usage".as_slice()
+    );
     Ok(())
 }
 
@@ -162,10 +169,10 @@ fn reads_as_much_as_a_frame_carries(rt: HostRuntime) -> Result<(), Fail> {
         ];
         let mut source = MemSource::of(alloc, &READ)?;
         let mut sink = MemSink::new(alloc, 10000)?;
-        let status = run_over(alloc, line, &mut source, &mut sink, &mut disks)?;
+        let status = run_over(alloc, line, &mut source, &mut sink, &mut disks, &mut [])?;
         assert_eq!(rt; status, Status::Ok);
         assert_eq!(rt; sink.bytes().len(), written, "{line}");
-        assert_eq!(rt; &sink.bytes()[16..18], flags.as_slice(), "{line}");
+        assert_eq!(rt; sink.bytes().get(16..18), Some(flags.as_slice()), "{line}");
     }
     Ok(())
 }
@@ -270,10 +277,14 @@ const SET: [u8; 36] = [
 ];
 
 /// The status and the text of a run over these disks, and how much it wrote.
-fn ends(alloc: Global, disks: &mut [Option<MemDisk>; 2]) -> Result<(Status, Blob, usize), Fail> {
+fn ends(alloc: Global, disks: &mut [Option<MemDisk>; 2]) -> Result<(Status, Blob, usize), Fail>
+    requires { All IsSome disks.old }
+    ensures { All IsSome disks.new }
+{
     let mut source = MemSource::of(alloc, &QUERY)?;
     let mut sink = MemSink::new(alloc, 1000)?;
-    let status = run_over(alloc, "answer 1 0 disk keep", &mut source, &mut sink, disks)?;
+    let line = "answer 1 0 disk keep";
+    let status = run_over(alloc, line, &mut source, &mut sink, disks, &mut [])?;
     Ok((status, status.text(alloc)?, sink.bytes().len()))
 }
 
@@ -348,6 +359,7 @@ fn finds_the_lists_of_the_run_before(rt: HostRuntime) -> Result<(), Fail> {
         &mut source,
         &mut sink,
         &mut disks,
+        &mut [],
     )?;
     assert_eq!(rt; status, Status::Ok);
     let (Some(file), Some(keep)) = (disks[0].take(), disks[1].take()) else {
@@ -362,6 +374,7 @@ fn finds_the_lists_of_the_run_before(rt: HostRuntime) -> Result<(), Fail> {
         &mut source,
         &mut sink,
         &mut disks,
+        &mut [],
     )?;
     assert_eq!(rt; status, Status::Ok);
     let mut reply = [0u8; 62];
@@ -369,5 +382,118 @@ fn finds_the_lists_of_the_run_before(rt: HostRuntime) -> Result<(), Fail> {
     reply[33] = 2;
     reply[34..36].copy_from_slice(b"ab");
     assert_eq!(rt; sink.bytes(), reply.as_slice());
+    Ok(())
+}
+
+/// A link that brings the query, and then has ended.
+fn link_of_query(alloc: Global) -> Result<MemLink, Fail> {
+    let mut coming = Vec::new(alloc);
+    coming.push(Some(Blob::of(alloc, &QUERY[2..])?))?;
+    Ok(MemLink::of(alloc, coming, 2)?)
+}
+
+/// Two files and their keeps of 16 zero sectors each, but that the last file fails its first call
+/// where `is_failing`, and that the last keep has 15 sectors where `is_small`.
+fn four_disks(alloc: Global, is_failing: bool, is_small: bool) -> Result<[Option<MemDisk>; 4], Fail>
+    ensures { IfOk result (λ disks. All IsSome disks) }
+{
+    let mut file = MemDisk::new(alloc, 16)?;
+    if is_failing {
+        file.fail_at(1);
+    }
+    let sectors = if is_small { 15 } else { 16 };
+    Ok([
+        Some(MemDisk::new(alloc, 16)?),
+        Some(MemDisk::new(alloc, 16)?),
+        Some(file),
+        Some(MemDisk::new(alloc, sectors)?),
+    ])
+}
+
+/// Serves two slots over a link: the status, its text, and the link.
+fn serve(
+    alloc: Global,
+    options: &str,
+    disks: &mut [Option<MemDisk>; 4],
+    link: MemLink,
+) -> Result<(Status, Blob, [MemLink; 1]), Fail>
+    requires { All IsSome disks.old }
+    ensures { All IsSome disks.new }
+{
+    let line = format!(in alloc; "serve 1 d0 k0 d1 k1 --local x --peers y {options}")?;
+    let mut source = MemSource::of(alloc, b"")?;
+    let mut sink = MemSink::new(alloc, 0)?;
+    let mut links = [link];
+    let status = run_over(
+        alloc,
+        line.as_str(),
+        &mut source,
+        &mut sink,
+        disks,
+        &mut links,
+    )?;
+    Ok((status, status.text(alloc)?, links))
+}
+
+#[test]
+fn serves_slots(rt: HostRuntime) -> Result<(), Fail> {
+    let alloc = rt.alloc();
+    let mut disks = four_disks(alloc, false, false)?;
+    let (status, _, links) = serve(alloc, "--frames 1", &mut disks, link_of_query(alloc)?)?;
+    assert_eq!(rt; status, Status::Ok);
+    assert_eq!(rt; links[0].count(), 2);
+    if links[0].count() == 2 {
+        let mut reply = [0u8; 60];
+        reply[..32].copy_from_slice(&REPLY[2..]);
+        assert_eq!(rt; links[0].frame(0), reply.as_slice());
+        reply[18] = 1;
+        assert_eq!(rt; links[0].frame(1), reply.as_slice());
+    }
+    Ok(())
+}
+
+#[test]
+fn serves_until_it_is_quiet(rt: HostRuntime) -> Result<(), Fail> {
+    let alloc = rt.alloc();
+    let mut coming = Vec::new(alloc);
+    coming.push(None)?;
+    coming.push(None)?;
+    coming.push(None)?;
+    coming.push(None)?;
+    coming.push(None)?;
+    let mut disks = four_disks(alloc, false, false)?;
+    let link = MemLink::of(alloc, coming, 2)?;
+    let (status, _, mut links) = serve(alloc, "--idle 3", &mut disks, link)?;
+    assert_eq!(rt; status, Status::Ok);
+    assert_eq!(rt; links[0].count(), 0);
+    // Two of the five quiet turns are left.
+    let mut frame = Frame::new();
+    assert_eq!(rt; links[0].recv(&mut frame), Ok(Got::Quiet));
+    assert_eq!(rt; links[0].recv(&mut frame), Ok(Got::Quiet));
+    assert_eq!(rt; links[0].recv(&mut frame), Ok(Got::Ended));
+    Ok(())
+}
+
+#[test]
+fn tells_what_failed(rt: HostRuntime) -> Result<(), Fail> {
+    let alloc = rt.alloc();
+    // The link's first call or its second, the last file's sync, a small keep: how many replies are
+    // sent before.
+    let cases = [
+        (1, false, false, 6, "aoe: link fault on port 0", 0),
+        (2, false, false, 6, "aoe: link fault on port 0", 0),
+        (3, false, false, 6, "aoe: link fault on port 0", 1),
+        (0, true, false, 5, "aoe: disk fault on file 2", 2),
+        (0, false, true, 8, "aoe: keep 3: 15 sectors, 16 needed", 0),
+    ];
+    for (due, is_failing, is_small, code, text, count) in cases {
+        let mut disks = four_disks(alloc, is_failing, is_small)?;
+        let mut link = link_of_query(alloc)?;
+        link.fail_at(due);
+        let (status, told, links) = serve(alloc, "--frames 1", &mut disks, link)?;
+        assert_eq!(rt; status.code(), code);
+        assert_eq!(rt; told.bytes(), text.as_bytes());
+        assert_eq!(rt; links[0].count(), count);
+    }
     Ok(())
 }

@@ -1,85 +1,125 @@
 //! The call that the program makes.
-ghost use Rattle.std.specs.Prelude.{◌≡◌, ◌≢◌, ◌≤◌, ◌<◌, ◌-◌, ◌^◌, ◌↔◌, true, false, List, ℕ, All, drop, length, map, string_bytes, IfSome, IsSome, None, Some};
+ghost use Rattle.std.specs.Prelude.{◌≡◌, ◌≢◌, ◌≤◌, ◌<◌, ◌↔◌, List, ℕ, All, length, map, string_bytes, IfSome, IsSome, None, Some};
 ghost use Rattle.aoe_base.specs.Faults.{Rose};
 ghost use Rattle.aoe_io.specs.Stream.{stream, IsFrame};
 ghost use Rattle.aoe_lists.specs.Settings.{Settings};
-ghost use Rattle.aoe_words.specs.Words.{command};
-ghost use Rattle.aoe_top.specs.Ending.{is_refusal};
-ghost use Rattle.aoe_top.specs.Built.{answer_of, file_names};
-ghost use Rattle.aoe_top.specs.Run.{Ran, Refused, HasLists, IsBad, IsSmall, NothingLoose, OnFiles, shelf_station};
+ghost use Rattle.aoe_export.specs.Run.{AtFirst};
+ghost use Rattle.aoe_words.specs.Words.{IsInRange, command, file_count, file_names, link_count, port_words};
+ghost use Rattle.aoe_words.specs.declared.command.Answer.{Answer as Answers};
+ghost use Rattle.aoe_words.specs.declared.command.Serve.{Serve as Serves};
+ghost use Rattle.aoe_top.specs.Ending.{file_at, keep_at, refused_slot};
+ghost use Rattle.aoe_top.specs.Run.{HasLists, IsBad, IsSmall, NoFault, NothingLoose, OnSlot, Ran, Refused};
 
-use crate::built::read_answer;
-use crate::device::serve;
+use crate::plan::{plan, refused_as, status_of};
 use crate::status::Status;
 use aoe_base::NoMemory;
 use aoe_disk::Disk;
-use aoe_io::{Sink, Source};
+use aoe_export::{ExportRefusal, export};
+use aoe_io::{Link, Sink, Source};
+use aoe_words::{Command, read_words};
 use std::alloc::Global;
+
+/// Runs a command over its files and links.
+fn run_command<S: Source, K: Sink, D: Disk + Drop, L: Link>(
+    alloc: Global,
+    command: Command,
+    source: &mut S,
+    sink: &mut K,
+    disks: &mut [Option<D>],
+    links: &mut [L],
+) -> Status
+    requires range { IsInRange command }
+    requires count { length disks.old ≡ file_count command }
+    requires there { All IsSome disks.old }
+    requires links { length links.old ≡ link_count command }
+    ensures run { refused_slot result ≡ None → result ≢ Status.NoMemory → Ran D.state command
+        record { left = S.left; held = K.held; turns = L.turns; given = L.given; taken = L.taken } result
+        record { source = source.old; sink = sink.old; links = links.old } record { source = source.new; sink = sink.new; links = links.new }
+        disks.old disks.new }
+    ensures refused { (slot : ℕ) → refused_slot result ≡ Some slot → Refused D.state result slot disks.old disks.new }
+    ensures unread { IsSome (refused_slot result) → (source.new ≡ source.old) × (sink.new ≡ sink.old) × (links.new ≡ links.old) }
+    ensures memory { result ≡ Status.NoMemory → (source.new ≡ source.old) × (sink.new ≡ sink.old) × (disks.new ≡ disks.old) × (links.new ≡ links.old) }
+    ensures usage { result ≢ Status.Usage }
+    ensures there { All IsSome disks.new }
+    ensures source_fault { result ≡ Status.SourceFault → Rose (S.faults source.old) (S.faults source.new) }
+    ensures sink_fault { result ≡ Status.SinkFault → Rose (K.faults sink.old) (K.faults sink.new) }
+    ensures link_fault { (link : ℕ) → result ≡ Status.LinkFault link → (link ≡ 0) × AtFirst (λ a b. Rose (L.faults a) (L.faults b)) links.old links.new }
+{
+    let (rack, plan) = plan(command);
+    match export(alloc, rack, plan, source, sink, disks, links) {
+        Ok(exported) => status_of(exported),
+        Err(ExportRefusal::NoMemory) => Status::NoMemory,
+        Err(ExportRefusal::Keep { slot, refusal }) => refused_as(slot, refusal),
+    }
+}
 
 /// Runs the command that the words after the program's name spell.
 ///
-/// `answer SHELF SLOT FILE KEEP` mounts the keep on the second disk. Where it is refused nothing is
-/// read or written. Else each frame that the source's stream brings is answered, as the target
+/// `answer SHELF SLOT FILE KEEP` answers each frame that the source's stream brings, as the target
 /// SHELF.SLOT over the first disk and behind the port that `--port` names, with at most one frame on
-/// the sink's stream, and the first disk is synced at the end. A frame carries as much as `--mtu`
-/// says. There are as many disks as `files_of` names.
+/// the sink's stream. `serve SHELF FILE KEEP ..` answers each frame that the first link brings, as
+/// the targets SHELF.0, SHELF.1 and so on over the pairs of disks and behind the ports that `--ports`
+/// names, until `--frames` frames came or `--idle` turns in a row brought none. A frame carries as
+/// much as `--mtu` says.
 ///
-/// The words `serve ..` are no command yet. Memory is taken while the words are read, and for the
-/// shelf before the keep is mounted; then no more.
-pub fn aoe<S: Source, K: Sink, D: Disk + Drop>(
+/// The second disk of each pair is the keep of the target's lists. All keeps are mounted first, and
+/// where one is refused nothing is read, written or sent. At the end each store is synced, however
+/// the run ended. There are as many disks as `files_of` names, and as many links as `ports_of`.
+///
+/// Memory is taken while the words are read, and for the shelf before the first keep is mounted; then
+/// no more.
+pub fn aoe<S: Source, K: Sink, D: Disk + Drop, L: Link>(
     alloc: Global,
     words: &[String],
     source: &mut S,
     sink: &mut K,
     disks: &mut [Option<D>],
+    links: &mut [L],
 ) -> Status
     requires count { length disks.old ≡ length (file_names (map string_bytes words.now)) }
     requires there { All IsSome disks.old }
-    ensures usage { (result ≡ Status.Usage) ↔ (answer_of (command (map string_bytes words.now)) ≡ None) × (result ≢ Status.NoMemory) }
-    ensures unchanged { result ≡ Status.Usage → (source.new ≡ source.old) × (sink.new ≡ sink.old) × (disks.new ≡ disks.old) }
+    requires links { length links.old ≡ length (port_words (map string_bytes words.now)) }
+    ensures usage { (result ≡ Status.Usage) ↔ (command (map string_bytes words.now) ≡ None) × (result ≢ Status.NoMemory) }
+    ensures unchanged { result ≡ Status.Usage → (source.new ≡ source.old) × (sink.new ≡ sink.old) × (disks.new ≡ disks.old) × (links.new ≡ links.old) }
 
-    // The keep is refused, or the run is one of the shelf law.
-    ensures refused { is_refusal result ≡ true → OnFiles (λ file file' keep keep'. Refused D.state result file file' keep keep') disks.old disks.new }
-    ensures unread { is_refusal result ≡ true → (source.new ≡ source.old) × (sink.new ≡ sink.old) }
-    ensures run { is_refusal result ≡ false → result ≢ Status.NoMemory → IfSome (answer_of (command (map string_bytes words.now))) (λ asked. OnFiles (λ file file' keep keep'.
-        Ran (shelf_station asked (D.state file).sectors) result (S.left source.old) (S.left source.new) (K.held sink.old) (K.held sink.new)
-        (D.state file) (D.state file') (D.state keep) (D.state keep'))
+    // A keep is refused, or the run is one of the shelf law.
+    ensures refused { (slot : ℕ) → refused_slot result ≡ Some slot → Refused D.state result slot disks.old disks.new }
+    ensures unread { IsSome (refused_slot result) → (source.new ≡ source.old) × (sink.new ≡ sink.old) × (links.new ≡ links.old) }
+    ensures run { IfSome (command (map string_bytes words.now)) (λ asked. refused_slot result ≡ None → result ≢ Status.NoMemory → Ran D.state asked
+        record { left = S.left; held = K.held; turns = L.turns; given = L.given; taken = L.taken } result
+        record { source = source.old; sink = sink.old; links = links.old } record { source = source.new; sink = sink.new; links = links.new }
         disks.old disks.new) }
-    ensures settled { result ≡ Status.Ok → OnFiles (λ _ file' _ _. IfSome (D.state file').contents NothingLoose) disks.old disks.new }
-    ensures others { drop 2 disks.new ≡ drop 2 disks.old }
+    ensures settled { (slot : ℕ) → result ≡ Status.Ok → OnSlot (λ _ file' _ _. IfSome (D.state file').contents NothingLoose) slot disks.old disks.new }
     ensures there { All IsSome disks.new }
 
     // When a fault is told, and when a keep is refused.
     ensures source_fault { result ≡ Status.SourceFault → Rose (S.faults source.old) (S.faults source.new) }
     ensures sink_fault { result ≡ Status.SinkFault → Rose (K.faults sink.old) (K.faults sink.new) }
-    ensures disk_fault { (disk : ℕ) → result ≡ Status.DiskFault disk → disk ≤ 1 }
-    ensures file_fault { result ≡ Status.DiskFault 0 → OnFiles (λ file file' _ _. Rose (D.state file).faults (D.state file').faults) disks.old disks.new }
-    ensures keep_fault { result ≡ Status.DiskFault 1 → OnFiles (λ _ _ keep keep'. Rose (D.state keep).faults (D.state keep').faults) disks.old disks.new }
-    ensures keep_small { (disk sectors : ℕ) → OnFiles (λ _ _ keep _. (result ≡ Status.KeepSmall disk sectors) ↔ IsSmall (D.state keep) result disk sectors) disks.old disks.new }
-    ensures keep_bad { (disk slot : ℕ) → OnFiles (λ _ _ keep _. IfSome (D.state keep).contents (λ c.
-        (result ≡ Status.KeepBad disk slot) ↔ IsBad (D.state keep) c result disk slot)) disks.old disks.new }
-    ensures memory { result ≡ Status.NoMemory → (source.new ≡ source.old) × (sink.new ≡ sink.old) × (disks.new ≡ disks.old) }
+    ensures link_fault { (link : ℕ) → result ≡ Status.LinkFault link → (link ≡ 0) × AtFirst (λ a b. Rose (L.faults a) (L.faults b)) links.old links.new }
+    ensures disk_fault { (disk : ℕ) → result ≡ Status.DiskFault disk → disk < length disks.old }
+    ensures file_fault { (slot : ℕ) → result ≡ Status.DiskFault (file_at slot) → OnSlot (λ file file' _ _. Rose (D.state file).faults (D.state file').faults) slot disks.old disks.new }
+    ensures keep_fault { (slot : ℕ) → result ≡ Status.DiskFault (keep_at slot) → OnSlot (λ _ _ keep keep'. Rose (D.state keep).faults (D.state keep').faults) slot disks.old disks.new }
+    ensures keep_small { (slot sectors : ℕ) → OnSlot (λ _ _ keep _. (result ≡ Status.KeepSmall (keep_at slot) sectors) ↔ IsSmall (D.state keep) result slot sectors) slot disks.old disks.new }
+    ensures keep_bad { (slot bad : ℕ) → OnSlot (λ _ _ keep _. IfSome (D.state keep).contents (λ c.
+        (result ≡ Status.KeepBad (keep_at slot) bad) ↔ IsBad (D.state keep) c result slot bad)) slot disks.old disks.new }
+    ensures memory { result ≡ Status.NoMemory → (source.new ≡ source.old) × (sink.new ≡ sink.old) × (disks.new ≡ disks.old) × (links.new ≡ links.old) }
 
-    // With no fault a keep that holds lists is mounted, and then a stream of frames is answered to its end.
-    ensures mounted { (lists : Settings) → OnFiles (λ _ _ keep keep'. HasLists (D.state keep) lists
-        → (D.state keep').faults ≡ (D.state keep).faults → (D.state keep).faults < 2 ^ 64 - 1 → is_refusal result ≡ false) disks.old disks.new }
-    ensures complete { (frames : List (List ℕ)) → IsSome (answer_of (command (map string_bytes words.now))) → is_refusal result ≡ false → result ≢ Status.NoMemory
+    // With no fault keeps that hold lists are mounted, and then a stream of frames is answered to its end, and a link is served.
+    ensures mounted { (slot : ℕ) (lists : Settings) → OnSlot (λ _ _ keep keep'. HasLists (D.state keep) lists
+        → NoFault (D.state keep).faults (D.state keep').faults → refused_slot result ≢ Some slot) slot disks.old disks.new }
+    ensures answers { (asked : Answers) (frames : List (List ℕ)) → command (map string_bytes words.now) ≡ Some (Command.Answer asked) → refused_slot result ≡ None → result ≢ Status.NoMemory
         → S.left source.old ≡ Some (stream frames) → All IsFrame frames → length frames < 4294967295
-        → S.faults source.new ≡ S.faults source.old → S.faults source.old < 2 ^ 64 - 1
-        → K.faults sink.new ≡ K.faults sink.old → K.faults sink.old < 2 ^ 64 - 1
-        → OnFiles (λ file file' _ _. ((D.state file').faults ≡ (D.state file).faults) × ((D.state file).faults < 2 ^ 64 - 1)) disks.old disks.new
+        → NoFault (S.faults source.old) (S.faults source.new) → NoFault (K.faults sink.old) (K.faults sink.new)
+        → ((slot : ℕ) → OnSlot (λ file file' _ _. NoFault (D.state file).faults (D.state file').faults) slot disks.old disks.new)
+        → result ≡ Status.Ok }
+    ensures serves { (asked : Serves) → command (map string_bytes words.now) ≡ Some (Command.Serve asked) → refused_slot result ≡ None → result ≢ Status.NoMemory
+        → AtFirst (λ a b. NoFault (L.faults a) (L.faults b)) links.old links.new
+        → ((slot : ℕ) → OnSlot (λ file file' _ _. NoFault (D.state file).faults (D.state file').faults) slot disks.old disks.new)
         → result ≡ Status.Ok }
 {
-    let asked = match read_answer(alloc, words) {
-        Ok(Some(asked)) => asked,
-        Ok(None) => return Status::Usage,
-        Err(NoMemory) => return Status::NoMemory,
-    };
-    let (Some(file), Some(keep)) = (disks[0].take(), disks[1].take()) else {
-        unreachable!()
-    };
-    let (status, file, keep) = serve(alloc, &asked, source, sink, file, keep);
-    disks[0] = Some(file);
-    disks[1] = Some(keep);
-    status
+    match read_words(alloc, words) {
+        Ok(Some(command)) => run_command(alloc, command, source, sink, disks, links),
+        Ok(None) => Status::Usage,
+        Err(NoMemory) => Status::NoMemory,
+    }
 }

@@ -3,4 +3,4 @@
 
 mod link;
 
-pub use link::UdpLink;
+pub use link::{OpenRefusal, UdpLink};

@@ -12,6 +12,7 @@ use std::io;
 use std::io::ErrorKind;
 use std::net::{Net, SocketAddr, UdpSocket};
 use std::time::Duration;
+use thiserror::Error;
 
 /// How long a call waits for a frame, in milliseconds.
 const SILENCE: u64 = 10;
@@ -87,17 +88,59 @@ fn send_all(socket: &UdpSocket, peers: &[SocketAddr], frame: &[u8]) -> io::Resul
     Ok(())
 }
 
+/// Why a link isn't opened.
+#[derive(Clone, Copy, Debug, PartialEq, Eq, Error)]
+pub enum OpenRefusal {
+    #[error("no memory")]
+    NoMemory,
+
+    /// The texts of the peers are no addresses.
+    #[error("no addresses of peers")]
+    Peers,
+
+    /// The text of the local address is none, or no socket is bound to it.
+    #[error("no local socket")]
+    Local,
+}
+
+/// Want of memory, or this refusal.
+fn refusal(error: io::Error, other: OpenRefusal) -> OpenRefusal {
+    match error.kind() {
+        ErrorKind::OutOfMemory => OpenRefusal::NoMemory,
+        _ => other,
+    }
+}
+
+/// A socket at the address that a text spells, each call of which waits so long.
+fn bind<R: Net>(rt: &R, local: &[u8]) -> io::Result<UdpSocket> {
+    let socket = UdpSocket::bind(rt, read_address(local)?)?;
+    socket.set_read_timeout(Some(Duration::from_millis(SILENCE)))?;
+    Ok(socket)
+}
+
 impl UdpLink {
     /// Binds the local address and sends to the peers: texts `address:port`, those of the peers
     /// joined by commas.
-    pub fn open<R: Net>(rt: &R, alloc: Global, local: &[u8], peers: &[u8]) -> io::Result<UdpLink>
+    pub fn open<R: Net>(
+        rt: &R,
+        alloc: Global,
+        local: &[u8],
+        peers: &[u8],
+    ) -> Result<UdpLink, OpenRefusal>
         ensures turns { IfOk result (λ link. link.turns ≡ 0) }
         ensures faults { IfOk result (λ link. link.faults ≡ 0) }
     {
-        let peers = read_addresses(alloc, peers)?;
-        let datagram = vec![in alloc; 0u8; ROOM]?;
-        let socket = UdpSocket::bind(rt, read_address(local)?)?;
-        socket.set_read_timeout(Some(Duration::from_millis(SILENCE)))?;
+        let peers = match read_addresses(alloc, peers) {
+            Ok(peers) => peers,
+            Err(error) => return Err(refusal(error, OpenRefusal::Peers)),
+        };
+        let socket = match bind(rt, local) {
+            Ok(socket) => socket,
+            Err(error) => return Err(refusal(error, OpenRefusal::Local)),
+        };
+        let Ok(datagram) = vec![in alloc; 0u8; ROOM] else {
+            return Err(OpenRefusal::NoMemory);
+        };
         Ok(UdpLink {
             socket,
             peers,
@@ -152,6 +195,10 @@ mod tests {
     use super::*;
     use std::test::Fail;
 
+    /// A query config read from all shelves and slots, by 02:00:00:00:00:0a.
+    const QUERY: &[u8] =
+        b"\xff\xff\xff\xff\xff\xff\x02\0\0\0\0\x0a\x88\xa2\x10\0\xff\xff\xff\x01\0\0\0\x07\0\0\0\0\0\0\0\0";
+
     /// A link on a port that the system chose, and the text of its address.
     fn bound(rt: &HostRuntime, peers: &[u8]) -> Result<(UdpLink, String), Fail> {
         let link = UdpLink::open(rt, rt.alloc(), b"127.0.0.1:0", peers)?;
@@ -174,9 +221,9 @@ mod tests {
         // Nobody listens on the discard port: a frame to it is lost.
         let peers = format!(in rt.alloc(); "127.0.0.1:9,{first},{second}")?;
         let (mut three, _) = bound(&rt, peers.as_bytes())?;
-        three.send(b"query")?;
-        assert!(rt; brings(&mut one, b"query"));
-        assert!(rt; brings(&mut two, b"query"));
+        three.send(QUERY)?;
+        assert!(rt; brings(&mut one, QUERY));
+        assert!(rt; brings(&mut two, QUERY));
         // The longest frame, and a datagram that is none.
         let bytes = [7u8; ROOM];
         three.send(&bytes[1..])?;
@@ -197,5 +244,22 @@ mod tests {
             let read = read_addresses(rt.alloc(), text).map_or(0, |addresses| addresses.len());
             assert_eq!(rt; read, count);
         }
+    }
+
+    #[test]
+    fn refuses_texts(rt: HostRuntime) -> Result<(), Fail> {
+        let cases: [(&[u8], &[u8], OpenRefusal); 4] = [
+            (b"x", b"127.0.0.1:7000", OpenRefusal::Local),
+            (b"127.0.0.1:65536", b"127.0.0.1:7000", OpenRefusal::Local),
+            (b"127.0.0.1:0", b"y", OpenRefusal::Peers),
+            (b"x", b"127.0.0.1:7000,y", OpenRefusal::Peers),
+        ];
+        for (local, peers, refusal) in cases {
+            let opened = UdpLink::open(&rt, rt.alloc(), local, peers);
+            assert_eq!(rt; opened.err(), Some(refusal));
+        }
+        let text = format!(in rt.alloc(); "{}", OpenRefusal::Peers)?;
+        assert_eq!(rt; text.as_str(), "no addresses of peers");
+        Ok(())
     }
 }

@@ -13,7 +13,7 @@ devices-preserved c =
     let is : item ≡ get_or items c.devices.device-index item = subst P c.device-item.is c.device-item.is in
     let inside : c.devices.device-index < length xs = omega (arith, c.devices-test.true, c.devices.auto.device-items) in
     let read = item-before (device_at c.args.now.0) xs items c.devices.device-index item c.devices.invariant.devices is inside in
-    let new : Device = record { about = item.about; holds = c.next_clear.new.self } in
+    let new : Device = record { about = item.about; holds = c.next_clear.new.self; paths = item.paths } in
     let changed : new ≡ device_at c.args.now.0 item = rw c.next_clear.ensures.same refl in
     record {
       devices = items-after (device_at c.args.now.0) xs items c.devices.device-index item new c.devices.invariant.devices is inside changed;

@@ -1,93 +1,61 @@
-use Rattle.std.proofs.Common.{◌≡◌, ◌<◌, ◌∙◌, ◌-◌, ◌^◌, ℕ, List, Option, false, ap, sym, subst, arith}
-use Rattle.std.specs.Prelude.{◌↔◌, IfSome}
-use Rattle.aoe_base.specs.Faults.{Rose}
-use Rattle.aoe_top.specs.Ending.{is_refusal}
-use Rattle.aoe_top.specs.Run.{HasLists, IsBad, NothingLoose, Ran, shelf_station}
-use Rattle.aoe_top.specs.declared.status.Status.TheVariants as status
-use Rattle.aoe_top.proofs.Complete.{complete}
-use Rattle.aoe_top.proofs.Exits.{settled}
-use Rattle.aoe_top.proofs.Files.{are-two, of-files, on-files}
-use Rattle.aoe_top.proofs.Refusals.{file-fault, keep-bad, mounted}
+use Rattle.std.proofs.Common.{◌≡◌, ◌∙◌, ℕ, List, [], length, Option, None, Some, arith, refl, sym, subst}
+use Rattle.std.specs.Prelude.{IfSome, map, option_map, string_bytes}
+use Rattle.std.specs.Option.{option_map_or}
+use Rattle.aoe_words.specs.Words.{files, link_count, spelled}
+use Rattle.aoe_words.specs.declared.command.Command.{Command}
+use Rattle.aoe_words.specs.declared.command.Command.TheVariants.{Serve}
+use Rattle.aoe_words.specs.declared.command.Serve.{Serve as Serves}
+use Rattle.aoe_top.proofs.Complete.{answers, link-fine, no-fault, serves}
+use Rattle.aoe_top.proofs.OnSlots.{on-none}
+use Rattle.aoe_top.proofs.Refusals.{disk-within, file-fault, keep-bad, keep-fault, keep-small, mounted, ran-as, ran-of, settled}
 use Rattle.aoe_top.proofs.top.aoe.Goals as goal
 
-pub returns-clause-settled : goal.returns-clause-settled
-returns-clause-settled g c ok =
-    let D = g.row.D.Denot in
-    let state = g.D.Disk.state in
-    let s = c.serve-status.result.0 in
-    let file = c.in-Some-Some.file in
-    let file' = c.serve-status.result.1 in
-    let keep = c.in-Some-Some.keep in
-    let keep' = c.serve-status.result.2 in
-    let two = c.requires.count ∙ are-two _ c.in-Ok-Some.field-0 c.in-Ok-Some.asked c.in-Ok-Some.field-0-is c.in-Ok-Some.ensures.files in
-    let first = sym c.take.ensures.value ∙ c.in-Some-Some.is-0 in
-    let second = sym c.take-2.ensures.value ∙ c.in-Some-Some.is-1 in
-    let R = λ (_ file' _ _ : D). IfSome (state file').contents NothingLoose in
-    let mounts : is_refusal s ≡ false = ap is_refusal ok in
-    on-files R file file' keep keep' c.args.disks.now c.take.new.self c.take-2.new.self c.index-disks-0.result c.index-disks-1.result two first second (settled (shelf_station c.in-Ok-Some.asked (state file).sectors) s (g.S.Source.left c.args.source.now) (g.S.Source.left c.serve-status.new.source) (g.K.Sink.held c.args.sink.now) (g.K.Sink.held c.serve-status.new.sink) (state file) (state file') (state keep) (state keep') (c.serve-status.ensures.run mounts (λ f. cc)) ok)
+-- serve has one link
+linked : (n : ℕ) (o : Option Command) (asked : Serves) → o ≡ Some (Serve asked) → IfSome o (λ command. n ≡ link_count command) → n ≡ 1
+linked n None asked e count = absurd cc
+linked n (Some command) asked e count = let same : command ≡ Serve asked = cc in subst (λ (x : Command). n ≡ link_count x) same count
 
-pub returns-clause-file_fault : goal.returns-clause-file_fault
-returns-clause-file_fault g c e =
-    let D = g.row.D.Denot in
-    let state = g.D.Disk.state in
-    let s = c.serve-status.result.0 in
-    let file = c.in-Some-Some.file in
-    let file' = c.serve-status.result.1 in
-    let keep = c.in-Some-Some.keep in
-    let keep' = c.serve-status.result.2 in
-    let two = c.requires.count ∙ are-two _ c.in-Ok-Some.field-0 c.in-Ok-Some.asked c.in-Ok-Some.field-0-is c.in-Ok-Some.ensures.files in
-    let first = sym c.take.ensures.value ∙ c.in-Some-Some.is-0 in
-    let second = sym c.take-2.ensures.value ∙ c.in-Some-Some.is-1 in
-    let R = λ (file file' _ _ : D). Rose (state file).faults (state file').faults in
-    let mounts : is_refusal s ≡ false = ap is_refusal e in
-    on-files R file file' keep keep' c.args.disks.now c.take.new.self c.take-2.new.self c.index-disks-0.result c.index-disks-1.result two first second (file-fault (shelf_station c.in-Ok-Some.asked (state file).sectors) s (g.S.Source.left c.args.source.now) (g.S.Source.left c.serve-status.new.source) (g.K.Sink.held c.args.sink.now) (g.K.Sink.held c.serve-status.new.sink) (state file) (state file') (state keep) (state keep') (c.serve-status.ensures.run mounts (λ f. cc)) e)
+pub returns-in-Ok-Some-clause-run : goal.returns-in-Ok-Some-clause-run
+returns-in-Ok-Some-clause-run g c = ran-of _ _ _ _ _ _ _ _ _ _ c.in-Ok-Some.field-0-is c.in-Ok-Some.ensures.command c.run_command.ensures.run
 
-pub returns-clause-keep_bad : goal.returns-clause-keep_bad
-returns-clause-keep_bad g c disk slot =
-    let D = g.row.D.Denot in
-    let state = g.D.Disk.state in
-    let s = c.serve-status.result.0 in
-    let file = c.in-Some-Some.file in
-    let file' = c.serve-status.result.1 in
-    let keep = c.in-Some-Some.keep in
-    let keep' = c.serve-status.result.2 in
-    let two = c.requires.count ∙ are-two _ c.in-Ok-Some.field-0 c.in-Ok-Some.asked c.in-Ok-Some.field-0-is c.in-Ok-Some.ensures.files in
-    let first = sym c.take.ensures.value ∙ c.in-Some-Some.is-0 in
-    let second = sym c.take-2.ensures.value ∙ c.in-Some-Some.is-1 in
-    let R = λ (_ _ keep _ : D). IfSome (state keep).contents (λ x. (s ≡ status.KeepBad disk slot) ↔ IsBad (state keep) x s disk slot) in
-    on-files R file file' keep keep' c.args.disks.now c.take.new.self c.take-2.new.self c.index-disks-0.result c.index-disks-1.result two first second (keep-bad state s (shelf_station c.in-Ok-Some.asked (state file).sectors) (g.S.Source.left c.args.source.now) (g.S.Source.left c.serve-status.new.source) (g.K.Sink.held c.args.sink.now) (g.K.Sink.held c.serve-status.new.sink) file file' keep keep' c.serve-status.ensures.run c.serve-status.ensures.refused disk slot)
+pub returns-in-Ok-Some-clause-settled : goal.returns-in-Ok-Some-clause-settled
+returns-in-Ok-Some-clause-settled g c slot e = settled _ _ _ _ _ _ _ _ c.run_command.ensures.run c.run_command.ensures.refused slot e
 
-pub returns-clause-mounted : goal.returns-clause-mounted
-returns-clause-mounted g c lists =
-    let D = g.row.D.Denot in
-    let state = g.D.Disk.state in
-    let s = c.serve-status.result.0 in
-    let file = c.in-Some-Some.file in
-    let file' = c.serve-status.result.1 in
-    let keep = c.in-Some-Some.keep in
-    let keep' = c.serve-status.result.2 in
-    let two = c.requires.count ∙ are-two _ c.in-Ok-Some.field-0 c.in-Ok-Some.asked c.in-Ok-Some.field-0-is c.in-Ok-Some.ensures.files in
-    let first = sym c.take.ensures.value ∙ c.in-Some-Some.is-0 in
-    let second = sym c.take-2.ensures.value ∙ c.in-Some-Some.is-1 in
-    let R = λ (_ _ keep keep' : D). HasLists (state keep) lists → (state keep').faults ≡ (state keep).faults → (state keep).faults < 2 ^ 64 - 1 → is_refusal s ≡ false in
-    on-files R file file' keep keep' c.args.disks.now c.take.new.self c.take-2.new.self c.index-disks-0.result c.index-disks-1.result two first second (mounted state s (shelf_station c.in-Ok-Some.asked (state file).sectors) (g.S.Source.left c.args.source.now) (g.S.Source.left c.serve-status.new.source) (g.K.Sink.held c.args.sink.now) (g.K.Sink.held c.serve-status.new.sink) file file' keep keep' c.serve-status.ensures.run c.serve-status.ensures.refused lists)
+pub returns-in-Ok-Some-clause-disk_fault : goal.returns-in-Ok-Some-clause-disk_fault
+returns-in-Ok-Some-clause-disk_fault g c disk e = disk-within _ _ _ _ _ _ _ _ c.run_command.ensures.run c.run_command.ensures.refused disk e
 
-pub returns-clause-complete : goal.returns-clause-complete
-returns-clause-complete g c fs is mounts has_memory left_is all few source_same source_few sink_same sink_few disk =
-    let D = g.row.D.Denot in
-    let state = g.D.Disk.state in
-    let s = c.serve-status.result.0 in
-    let file = c.in-Some-Some.file in
-    let file' = c.serve-status.result.1 in
-    let keep = c.in-Some-Some.keep in
-    let keep' = c.serve-status.result.2 in
-    let two = c.requires.count ∙ are-two _ c.in-Ok-Some.field-0 c.in-Ok-Some.asked c.in-Ok-Some.field-0-is c.in-Ok-Some.ensures.files in
-    let first = sym c.take.ensures.value ∙ c.in-Some-Some.is-0 in
-    let second = sym c.take-2.ensures.value ∙ c.in-Some-Some.is-1 in
-    let R = λ (file file' _ _ : D). ((state file').faults ≡ (state file).faults) × ((state file).faults < 2 ^ 64 - 1) in
-    let same = of-files R file file' keep keep' c.args.disks.now c.take.new.self c.take-2.new.self c.index-disks-0.result c.index-disks-1.result two first second disk in
-    let P : Option (List ℕ) → Type 0 = λ left. Ran (shelf_station c.in-Ok-Some.asked (state file).sectors) s left (g.S.Source.left c.serve-status.new.source) (g.K.Sink.held c.args.sink.now) (g.K.Sink.held c.serve-status.new.sink) (state file) (state file') (state keep) (state keep') in
-    complete _ s _ _ _ (state file) (state file') (state keep) (state keep') fs (subst P left_is (c.serve-status.ensures.run mounts has_memory)) all few
-    (λ source. omega (arith, c.serve-status.ensures.source_fault source source_few, source_same))
-    (λ sink. omega (arith, c.serve-status.ensures.sink_fault sink sink_few, sink_same))
-    same.0 same.1
+pub returns-in-Ok-Some-clause-file_fault : goal.returns-in-Ok-Some-clause-file_fault
+returns-in-Ok-Some-clause-file_fault g c slot e = file-fault _ _ _ _ _ _ _ _ c.run_command.ensures.run c.run_command.ensures.refused slot e
+
+pub returns-in-Ok-Some-clause-keep_fault : goal.returns-in-Ok-Some-clause-keep_fault
+returns-in-Ok-Some-clause-keep_fault g c slot e = keep-fault _ _ _ _ _ _ _ _ c.run_command.ensures.run c.run_command.ensures.refused slot e
+
+pub returns-in-Ok-Some-clause-keep_small : goal.returns-in-Ok-Some-clause-keep_small
+returns-in-Ok-Some-clause-keep_small g c slot sectors = keep-small _ _ _ _ _ _ _ _ c.run_command.ensures.run c.run_command.ensures.refused slot sectors
+
+pub returns-in-Ok-Some-clause-keep_bad : goal.returns-in-Ok-Some-clause-keep_bad
+returns-in-Ok-Some-clause-keep_bad g c slot bad = keep-bad _ _ _ _ _ _ _ _ c.run_command.ensures.run c.run_command.ensures.refused slot bad
+
+pub returns-in-Ok-Some-clause-mounted : goal.returns-in-Ok-Some-clause-mounted
+returns-in-Ok-Some-clause-mounted g c slot lists = mounted _ _ _ _ _ _ _ _ c.run_command.ensures.run c.run_command.ensures.refused slot lists
+
+pub returns-in-Ok-Some-clause-answers : goal.returns-in-Ok-Some-clause-answers
+returns-in-Ok-Some-clause-answers g c asked fs is unrefused some_memory left_is all few source sink fine =
+    let r = ran-as _ _ _ _ _ _ _ _ _ _ _ c.in-Ok-Some.field-0-is c.in-Ok-Some.ensures.command is (c.run_command.ensures.run unrefused some_memory) in
+    answers _ _ _ _ _ _ _ fine asked fs r left_is all few (λ e. no-fault _ _ source (c.run_command.ensures.source_fault e)) (λ e. no-fault _ _ sink (c.run_command.ensures.sink_fault e))
+
+pub returns-in-Ok-Some-clause-serves : goal.returns-in-Ok-Some-clause-serves
+returns-in-Ok-Some-clause-serves g c asked is unrefused some_memory link fine =
+    let r = ran-as _ _ _ _ _ _ _ _ _ _ _ c.in-Ok-Some.field-0-is c.in-Ok-Some.ensures.command is (c.run_command.ensures.run unrefused some_memory) in
+    let count = linked _ c.in-Ok-Some.field-0 asked (c.in-Ok-Some.ensures.command ∙ is) c.in-Ok-Some.ensures.links in
+    serves _ _ _ _ _ _ _ fine asked r (λ e. link-fine g.L.Link.faults _ _ link (c.run_command.ensures.link_fault 0 e).1 (omega (arith, c.requires.links, count)))
+
+-- words that spell no command name no files
+no-files : {R : Type 0} (names : R → List (List ℕ)) (o : Option (Command × R)) → option_map (λ p. p.0) o ≡ None → length (option_map_or (λ p. names p.1) o []) ≡ 0
+no-files names None e = refl
+no-files names (Some p) e = absurd cc
+
+pub returns-in-Ok-None-clause-keep_bad : goal.returns-in-Ok-None-clause-keep_bad
+returns-in-Ok-None-clause-keep_bad g c slot bad =
+    let empty = no-files files (spelled (map string_bytes c.args.words.now)) (sym c.in-Ok-None.ensures.command ∙ c.in-Ok-None.field-0-is) in
+    on-none _ slot c.args.disks.now c.args.disks.now (omega (arith, c.requires.count, empty))

@@ -34,7 +34,7 @@ expired-smaller c =
 pub expired-preserved : goal.expired-preserved
 expired-preserved c =
     let closes = c.give_up.ensures.2 in
-    let step = left-closed c.expired.self c.give_up.new.self c.in-Some-place_of.at _ closes in
+    let step = left-closed c.expired.self c.give_up.new.self c.in-Some-place_of.at None _ closes in
     let found : place c.in-Some.ticket c.self-in-expired.inside.pending.items ≡ Some c.in-Some-place_of.at =
     ap (λ (l : List Pending). place c.in-Some.ticket l) (sym c.deref.ensures.value) ∙ sym c.place_of.ensures ∙ c.in-Some-place_of.is in
     let P : Host → Type 0 = λ h. place c.in-Some.ticket h.pending ≡ Some c.in-Some-place_of.at in

@@ -1,10 +1,11 @@
-use Rattle.std.proofs.Common.{◌≡◌, ◌<◌, ◌≤◌, ℕ, List, true, length, drop, Option, Some, None, sym, ap, subst, refl, ◌∙◌, rules}
-use Rattle.std.specs.Prelude.{slice_get, IfSome}
+use Rattle.std.proofs.Common.{nat_eq, ◌≡◌, ◌<◌, ◌≤◌, ℕ, List, true, length, drop, Option, Some, None, sym, ap, subst, refl, ◌∙◌, rules}
+use Rattle.std.specs.Prelude.{slice_get, IfSome, IsSome}
+use Rattle.std.specs.List.{find}
 use Rattle.std.proofs.lemmas.List.{take_rest}
 use Rattle.std.proofs.lemmas.Option.{slice_get_read}
 use Rattle.aoe_frame.specs.Header.{head}
 use Rattle.aoe_flight.specs.FlightTable.{Recalls}
-use Rattle.aoe_flight.specs.Outstanding.{tag_count}
+use Rattle.aoe_flight.specs.Outstanding.{flies_as, tag_count}
 use Rattle.aoe_initiator.specs.declared.pending.Pending.{Pending}
 use Rattle.aoe_initiator.specs.Host.{Host}
 use Rattle.aoe_initiator.specs.HostLaw.{is_response}
@@ -12,8 +13,8 @@ use Rattle.aoe_initiator.specs.HostLog.{commands, sent_of}
 use Rattle.aoe_initiator.specs.Op.{data_len}
 use Rattle.aoe_initiator.specs.Response.{answer, CanFill}
 use Rattle.aoe_initiator.specs.Steps.{place}
-use Rattle.aoe_initiator.proofs.AnswerLemmas.{all-untagged, flyer, flyer-placed, found-answer, if-none, none-says, not-from-at}
-use Rattle.aoe_initiator.proofs.ListLemmas.{placed-within}
+use Rattle.aoe_initiator.proofs.AnswerLemmas.{all-untagged, flyer, flyer-placed, flies-found, found-answer, if-none, no-path, none-says, not-from-at}
+use Rattle.aoe_initiator.proofs.ListLemmas.{get-there, placed-inside, placed-within}
 use Rattle.aoe_initiator.proofs.initiator.Initiator.answered.Goals as goal
 
 pub returns-in_err-ticket-clause-none : goal.returns-in_err-ticket-clause-none
@@ -43,6 +44,17 @@ returns-then-not-is_from-clause-none c = λ log m.
     let found = flyer (commands log) c.in_ok-header.header.tag c.in_ok-ticket.ticket (c.in_ok-ticket.ensures.flying_sent (sent_of (commands log)) (subst Q (sym c.self.view_is) m.sent)) in
     not-from-at c.args.self.now log c.args.frame.now c.in_ok-header.header c.in_ok-ticket.ticket c.in_ok-at.at c.is_from.result found.0 m is (subst R c.self.view_is c.in_ok-ticket.ensures.only) found.1
     (subst P c.self.view_is there) c.if-not-is_from.true c.is_from.ensures
+
+pub returns-in_err-path-clause-none : goal.returns-in_err-path-clause-none
+returns-in_err-path-clause-none c =
+    let there : place c.in_ok-ticket.ticket c.self.inside.pending.items ≡ Some c.in_ok-at.at =
+    ap (λ (l : List Pending). place c.in_ok-ticket.ticket l) (sym c.deref.ensures.value) ∙ sym c.place_of.ensures ∙ c.in_ok-at.was in
+    let inside : c.in_ok-at.at < length c.self.inside.pending.items = placed-inside (λ (q : Pending). nat_eq q.ticket.0 c.in_ok-ticket.ticket.0) c.self.inside.pending.items c.in_ok-at.at there in
+    let p = get-there c.self.inside.pending.items c.in_ok-at.at inside in
+    let S : Host → Type 0 = λ h. slice_get h.pending c.in_ok-at.at ≡ Some p.0 in
+    let hears : is_response c.args.self.now c.in_ok-header.header ≡ true = sym c.hears.ensures ∙ c.if-not-hears.false in
+    if-none c.from_residual-in_err-path.result c.args.self.now c.args.frame.now (λ log m.
+    no-path c.args.self.now log c.in_ok-header.header c.in_ok-at.at p.0 c.is_from.result m (subst S c.self.view_is p.1) hears c.if-not-is_from.false c.is_from.ensures c.in_err-path.ensures.none)
 
 pub returns-in_err-answer-clause-none : goal.returns-in_err-answer-clause-none
 returns-in_err-answer-clause-none c =
@@ -88,5 +100,17 @@ returns-clause-some c = λ log m.
     let S : Host → Type 0 = λ h. slice_get h.pending c.in_ok-at.at ≡ Some c.index.result.now in
     let Q : Host → Type 0 = λ h. Recalls h.flight (sent_of (commands log)) in
     let found = flyer (commands log) c.in_ok-header.header.tag c.in_ok-ticket.ticket (c.in_ok-ticket.ensures.flying_sent (sent_of (commands log)) (subst Q (sym c.self.view_is) m.sent)) in
-    found-answer c.args.self.now log c.args.frame.now c.in_ok-header.header c.in_ok-ticket.ticket c.in_ok-at.at c.index.result.now found.0 c.in_ok-answer.answer c.is_from.result m is found.1
-    (subst P c.self.view_is there) (subst S c.self.view_is read) hears c.if-not-is_from.false c.is_from.ensures given
+    found-answer c.args.self.now log c.args.frame.now c.in_ok-header.header c.in_ok-ticket.ticket c.in_ok-at.at c.index.result.now found.0 c.in_ok-path.path c.in_ok-answer.answer c.is_from.result m is found.1
+    (subst P c.self.view_is there) (subst S c.self.view_is read) hears c.if-not-is_from.false c.is_from.ensures c.in_ok-path.ensures.pair given
+
+pub returns-clause-there : goal.returns-clause-there
+returns-clause-there c =
+    let there : place c.in_ok-ticket.ticket c.self.inside.pending.items ≡ Some c.in_ok-at.at =
+    ap (λ (l : List Pending). place c.in_ok-ticket.ticket l) (sym c.deref.ensures.value) ∙ sym c.place_of.ensures ∙ c.in_ok-at.was in
+    let P : Host → Type 0 = λ h. place c.in_ok-ticket.ticket h.pending ≡ Some c.in_ok-at.at in
+    subst P c.self.view_is there
+
+pub returns-clause-flies : goal.returns-clause-flies
+returns-clause-flies c =
+    let P : Host → Type 0 = λ h. IsSome (find (flies_as c.in_ok-ticket.ticket.0) h.flight.commands) in
+    subst P c.self.view_is (flies-found c.in_ok-header.header.tag c.self.inside.flight c.in_ok-ticket.ticket (sym c.match_tag.ensures.flying ∙ c.in_ok-ticket.was))

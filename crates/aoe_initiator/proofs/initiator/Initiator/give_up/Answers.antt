@@ -1,4 +1,4 @@
-use Rattle.std.proofs.Common.{◌<◌, length, ap, sym, subst, arith}
+use Rattle.std.proofs.Common.{None, ◌<◌, length, ap, sym, subst, arith}
 use Rattle.aoe_flight.specs.FlightTable.{FlightTable}
 use Rattle.aoe_initiator.specs.declared.outcome.Done.{Done}
 use Rattle.aoe_initiator.specs.declared.outcome.Outcome.TheVariants.{GaveUp}
@@ -15,7 +15,7 @@ invariant_of-self c =
     let P : Host → Type 0 = λ h. c.args.at < length h.pending in
     let inside : c.args.at < length c.self.inside.pending.items = subst P (sym c.self.view_is) c.requires.there in
     let time = ap (λ (t : FlightTable). t.latest) c.close-command.ensures.flight in
-    sound-closed _ c.self.inside.clock.0 _ p.device.0 c.args.at p.ticket c.self.inside.flight c.close-command.new.flight c.self.inside.devices.items c.close-command.new.devices.items
+    sound-closed _ c.self.inside.clock.0 _ p.device.0 c.args.at p.ticket None c.self.inside.flight c.close-command.new.flight c.self.inside.devices.items c.close-command.new.devices.items
     c.self.inside.pending.items c.close-command.new.pending.items c.self.inside.done.items c.push_back_reserved.new.self.items done _ _
     (omega (arith, time, c.self.invariant.time)) c.close-command.ensures.devices c.close-command.ensures.pending c.push_back_reserved.ensures.items c.push_back_reserved.ensures.capacity inside c.self.invariant
 
@@ -27,5 +27,5 @@ returns c =
     rw (← c.self.view_is) (
       c.flying.result,
       c.flying.ensures.value,
-      closes-from _ c.args.at p (GaveUp c.flying.result.first c.self.inside.clock) _ _ _ _ inside c.close-command.ensures.command c.close-command.ensures.flight c.close-command.ensures.devices c.close-command.ensures.pending c.push_back_reserved.ensures.items,
+      closes-from _ c.args.at p None (GaveUp c.flying.result.first c.self.inside.clock) _ _ _ _ inside c.close-command.ensures.command c.close-command.ensures.flight c.close-command.ensures.devices c.close-command.ensures.pending c.push_back_reserved.ensures.items,
     )

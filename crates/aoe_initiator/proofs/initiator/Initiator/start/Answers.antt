@@ -1,5 +1,5 @@
 use Rattle.std.proofs.Common.{refl, ◌∙◌}
-use Rattle.aoe_initiator.proofs.NextLemmas.{launch-path-all, left-cleared, left-launched, left-then, quiet-exit, start-frame-all, start-next-all, start-quiet, start-sends-all, IsCleared}
+use Rattle.aoe_initiator.proofs.NextLemmas.{left-cleared, left-launched, left-then, quiet-exit, start-frame-all, start-next-all, start-path-all, start-quiet, start-sends-all, IsCleared}
 use Rattle.aoe_initiator.proofs.initiator.Initiator.start.Goals as goal
 
 cleared : (c : goal.After-launch) → IsCleared c.args.self.now c.clear.new.self c.in_ok-ticket.ticket c.in_ok-ticket.at
@@ -23,14 +23,14 @@ pub returns-clause-next : goal.returns-clause-next
 returns-clause-next c = start-next-all c.launch.result c.args.self.now c.clear.new.self _ c.in_ok-ticket.ticket c.in_ok-ticket.at _ c.clear.ensures.in_time (cleared c) c.launch.ensures.sent c.launch.ensures.free
 
 pub returns-clause-frame : goal.returns-clause-frame
-returns-clause-frame c = start-frame-all c.launch.result c.args.self.now c.clear.new.self _ c.in_ok-ticket.ticket c.in_ok-ticket.at _ (cleared c) c.launch.ensures.sent
+returns-clause-frame c = start-frame-all c.launch.result c.args.self.now c.clear.new.self _ c.in_ok-ticket.ticket c.in_ok-ticket.at _ (cleared c) c.clear.ensures.stays c.launch.ensures.sent
 
 pub returns-clause-path : goal.returns-clause-path
-returns-clause-path c = launch-path-all c.launch.result c.clear.new.self _ c.in_ok-ticket.ticket c.in_ok-ticket.at _ c.launch.ensures.sent
+returns-clause-path c = start-path-all c.launch.result c.args.self.now c.clear.new.self _ c.in_ok-ticket.ticket c.in_ok-ticket.at _ (cleared c) c.clear.ensures.stays c.launch.ensures.sent
 
 pub returns-clause-sends : goal.returns-clause-sends
 returns-clause-sends c =
-    start-sends-all c.launch.result c.args.self.now c.clear.new.self _ c.in_ok-ticket.ticket c.in_ok-ticket.at _ c.launch.ensures.in_time (cleared c) c.clear.ensures.stays c.launch.ensures.sent c.launch.ensures.recalls
+    start-sends-all c.launch.result c.args.self.now c.clear.new.self _ c.in_ok-ticket.ticket c.in_ok-ticket.at _ c.launch.ensures.in_time (cleared c) c.clear.ensures.stays c.launch.ensures.sent
 
 pub returns-clause-quiet : goal.returns-clause-quiet
 returns-clause-quiet c = start-quiet c.launch.result c.args.self.now c.clear.new.self c.in_ok-ticket.ticket c.in_ok-ticket.at (cleared c) c.launch.ensures.none
@@ -38,6 +38,6 @@ returns-clause-quiet c = start-quiet c.launch.result c.args.self.now c.clear.new
 pub returns-clause-same : goal.returns-clause-same
 returns-clause-same c =
     let first = left-cleared c.args.self.now c.clear.new.self c.clear.ensures.same c.clear.ensures.devices in
-    let second = left-launched c.clear.new.self _ c.in_ok-ticket.ticket c.in_ok-ticket.at _ _ c.launch.result c.launch.ensures.sent c.launch.ensures.unchanged in
+    let second = left-launched c.args.self.now c.clear.new.self _ c.in_ok-ticket.ticket c.in_ok-ticket.at _ c.launch.result (cleared c) c.launch.ensures.sent c.launch.ensures.none in
     let left = left-then c.args.self.now c.clear.new.self _ first second in
     (left.same, left.clock, left.last, left.waiting)

@@ -29,7 +29,7 @@ invariant_of-self-2 c =
     let inside : c.args.device.0 < length c.self.inside.devices.items = subst H (sym c.self.view_is) c.requires.attached in
     let command : Command = new_command (record { 0 = c.self.inside.last_ticket.0 + 1 }) c.kind.result c.span.result in
     let entered : c.enter.new.self ≡ with_command c.index_mut.result.now.holds command = search rules in
-    let changed : set c.self.inside.devices.items c.args.device.0 (record { about = c.index_mut.result.now.about; holds = c.enter.new.self }) ≡ change_at c.args.device.0 (device_entered command) c.self.inside.devices.items =
+    let changed : set c.self.inside.devices.items c.args.device.0 (record { about = c.index_mut.result.now.about; holds = c.enter.new.self; paths = c.index_mut.result.now.paths }) ≡ change_at c.args.device.0 (device_entered command) c.self.inside.devices.items =
     rw entered (set-change_at c.self.inside.devices.items c.args.device.0 c.index_mut.result.now (device_entered command) inside c.index_mut.ensures.value) in
     let p : Pending = record { ticket = record { 0 = c.self.inside.last_ticket.0 + 1 }; device = c.args.device; op = c.args.op; room = c.in-Ok.room } in
     let pushed : c.push_reserved.new.self.items ≡ c.self.inside.pending.items ++ p ∷ [] = c.push_reserved.ensures.items ∙ ap (λ (l : List Pending). l ++ p ∷ []) c.make_room.ensures.pending in
@@ -45,7 +45,7 @@ returns-clause-matches c = λ log m.
     let inside : c.args.device.0 < length c.self.inside.devices.items = subst H (sym c.self.view_is) c.requires.attached in
     let command : Command = new_command (record { 0 = c.self.inside.last_ticket.0 + 1 }) (kind_of c.args.op) (span_of c.args.op) in
     let entered : c.enter.new.self ≡ with_command c.index_mut.result.now.holds command = search rules in
-    let changed : set c.self.inside.devices.items c.args.device.0 (record { about = c.index_mut.result.now.about; holds = c.enter.new.self }) ≡ change_at c.args.device.0 (device_entered command) c.self.inside.devices.items =
+    let changed : set c.self.inside.devices.items c.args.device.0 (record { about = c.index_mut.result.now.about; holds = c.enter.new.self; paths = c.index_mut.result.now.paths }) ≡ change_at c.args.device.0 (device_entered command) c.self.inside.devices.items =
     rw entered (set-change_at c.self.inside.devices.items c.args.device.0 c.index_mut.result.now (device_entered command) inside c.index_mut.ensures.value) in
     let p : Pending = record { ticket = record { 0 = c.self.inside.last_ticket.0 + 1 }; device = c.args.device; op = c.args.op; room = c.in-Ok.room } in
     let pushed : c.push_reserved.new.self.items ≡ c.self.inside.pending.items ++ p ∷ [] = c.push_reserved.ensures.items ∙ ap (λ (l : List Pending). l ++ p ∷ []) c.make_room.ensures.pending in
@@ -58,7 +58,7 @@ returns-clause-same c =
     let inside : c.args.device.0 < length c.self.inside.devices.items = subst H (sym c.self.view_is) c.requires.attached in
     let command : Command = new_command (record { 0 = c.self.inside.last_ticket.0 + 1 }) (kind_of c.args.op) (span_of c.args.op) in
     let entered : c.enter.new.self ≡ with_command c.index_mut.result.now.holds command = search rules in
-    let changed : set c.self.inside.devices.items c.args.device.0 (record { about = c.index_mut.result.now.about; holds = c.enter.new.self }) ≡ change_at c.args.device.0 (device_entered command) c.self.inside.devices.items =
+    let changed : set c.self.inside.devices.items c.args.device.0 (record { about = c.index_mut.result.now.about; holds = c.enter.new.self; paths = c.index_mut.result.now.paths }) ≡ change_at c.args.device.0 (device_entered command) c.self.inside.devices.items =
     rw entered (set-change_at c.self.inside.devices.items c.args.device.0 c.index_mut.result.now (device_entered command) inside c.index_mut.ensures.value) in
     rw (← c.self.view_is) (
       record {

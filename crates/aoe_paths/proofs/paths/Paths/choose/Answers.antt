@@ -4,6 +4,7 @@ use Rattle.std.proofs.lemmas.List.{length-map}
 use Rattle.aoe_paths.specs.Path.{PathState}
 use Rattle.aoe_paths.specs.PathTable.{PathTable, in_turn, next_path, path_after}
 use Rattle.aoe_paths.proofs.ChoiceLemmas.{next-is, next-unmarked}
+use Rattle.aoe_paths.proofs.RecallLemmas.{next-recalled, recalls-chosen}
 use Rattle.aoe_paths.proofs.paths.Paths.choose.Goals as goal
 
 next : (c : goal.After-self-1) → (c.path_after-start.result + c.unwrap_or-steps.result) % c.len-count.result ≡ next_path c.args.self.now.marks c.args.self.now.chosen
@@ -26,3 +27,9 @@ returns-clause-unmarked c = λ free.
     let start : c.path_after-start.result ≡ path_after (length c.args.self.now.marks) c.args.self.now.chosen = rw (← count, ← chosen) c.path_after-start.ensures.after in
     let inside : path_after (length c.args.self.now.marks) c.args.self.now.chosen < length c.args.self.now.marks = omega (arith, start, count, c.path_after-start.ensures.within) in
     ap (λ (n : ℕ). slice_get c.args.self.now.marks n) (next c) ∙ next-unmarked c.args.self.now.marks c.args.self.now.chosen inside free
+
+pub returns-clause-next_recalled : goal.returns-clause-next_recalled
+returns-clause-next_recalled c = λ log recalls. next c ∙ next-recalled c.args.self.now log recalls
+
+pub returns-clause-recalls : goal.returns-clause-recalls
+returns-clause-recalls c = rw (← c.self.view_is) (λ log. recalls-chosen _ log _)

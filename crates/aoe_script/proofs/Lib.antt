@@ -1,0 +1,6 @@
+mod LineLemmas
+mod PairLemmas
+mod PartLemmas
+mod ScriptLemmas
+mod SplitLemmas
+mod WordLemmas

@@ -1,0 +1,5 @@
+pub mod Classes
+pub mod Forms
+pub mod Lines
+pub mod Rules
+pub mod Words

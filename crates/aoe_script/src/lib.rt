@@ -1,0 +1,31 @@
+//! Scripts: schedules of what hosts ask, of frames that are handed over, repeated or lost, and of
+//! faults and crashes. What the lines of a text say, whether each may stand where it stands, and
+//! the script that the text spells.
+#![tactic(auto)]
+
+mod classes;
+mod cuts;
+mod event;
+mod forms;
+mod line;
+mod lines;
+mod network;
+mod parts;
+mod ranges;
+mod refusal;
+mod rules;
+mod script;
+mod setup;
+mod standing;
+mod submissions;
+mod words;
+
+pub use event::{Event, Which};
+pub use forms::read_line;
+pub use line::Line;
+pub use refusal::{ScriptRefusal, Why};
+pub use script::{MAX_EVENTS, Script, read_script};
+pub use setup::{Name, Setup};
+
+#[cfg(test)]
+mod tests;

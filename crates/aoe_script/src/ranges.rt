@@ -1,0 +1,216 @@
+//! The ranges of words.
+ghost use Rattle.std.specs.Prelude.{◌≡◌, ◌==◌, nat_le, length, if◌then◌else◌};
+ghost use Rattle.std.specs.List.{list_all};
+ghost use Rattle.aoe_script.specs.Rules.{all_unique, are_ports, is_asked, is_device, is_event, is_individual, is_limit, is_missing_or, is_setup, is_span, is_within};
+
+use crate::classes::is_name;
+use crate::event::Event;
+use crate::setup::{Name, Setup};
+use aoe_base::{Blob, Mac, Ports, TargetId};
+use aoe_initiator::{Dir, MAX_DIRS};
+use arrayvec::ArrayVec;
+
+/// The first sector that has no 48-bit address.
+const END_OF_SECTORS: u64 = 281_474_976_710_656;
+
+/// Whether a number is one of these.
+fn is_within(least: u64, most: u64, n: u64) -> bool
+    ensures { result ≡ is_within least most n }
+{
+    least <= n && n <= most
+}
+
+/// Whether a number is missing or one of these.
+fn is_missing_or(least: u64, most: u64, n: Option<u64>) -> bool
+    ensures { result ≡ is_missing_or least most n }
+{
+    match n {
+        Some(n) => is_within(least, most, n),
+        None => true,
+    }
+}
+
+/// Whether an address is that of one station, and of no group.
+fn is_individual(mac: &Mac) -> bool
+    ensures { result ≡ is_individual mac.now }
+{
+    mac.0[0] % 2 == 0
+}
+
+/// Whether no address is that of a group.
+fn are_individual(ports: &[Mac]) -> bool
+    ensures { result ≡ list_all is_individual ports.now }
+{
+    ports.iter().all(|mac| is_individual(mac))
+}
+
+/// Whether no address stands twice.
+fn all_unique(ports: &[Mac]) -> bool
+    ensures { result ≡ all_unique ports.now }
+{
+    match ports {
+        [first, rest @ ..] => !rest.contains(first) && all_unique(rest),
+        [] => true,
+    }
+}
+
+/// Whether these can be the addresses of a station.
+#[tactic(auto, unfolding(crate::specs::Rules::are_ports))]
+fn are_ports(ports: &Ports) -> bool
+    ensures { result ≡ are_ports ports.now }
+{
+    let list = ports.as_slice();
+    is_within(1, 4, list.len() as u64) && are_individual(list) && all_unique(list)
+}
+
+/// Whether these say how many commands of a host fly and for how long, or neither.
+fn is_limit(room: Option<u64>, dead: Option<u64>) -> bool
+    ensures { result ≡ is_limit room dead }
+{
+    match (room, dead) {
+        (None, None) => true,
+        (Some(room), Some(dead)) => is_within(1, 16384, room) && is_within(1, 10_000_000, dead),
+        (None, Some(_)) => false,
+        (Some(_), None) => false,
+    }
+}
+
+/// Whether a device can have this name.
+fn is_device(dev: &TargetId) -> bool
+    ensures { result ≡ is_device dev.now }
+{
+    dev.major <= 65534 && dev.minor <= 254
+}
+
+/// Whether these can be a host and a device.
+fn is_asked(host: &Name, dev: &TargetId) -> bool
+    ensures { result ≡ is_asked host.now dev.now }
+{
+    is_name(host) && is_device(dev)
+}
+
+/// Whether a command on sectors can have these numbers.
+fn is_span(at: u64, count: u64) -> bool
+    ensures { result ≡ is_span at count }
+{
+    at < END_OF_SECTORS && count <= 255
+}
+
+/// Whether an action on the config string can have this text: a read has none.
+fn has_text(ccmd: u8, text: &Blob) -> bool
+    ensures { result ≡ nat_le (length text.now) (if ccmd == 0 then 0 else 1024) }
+{
+    text.bytes().len() <= if ccmd == 0 { 0 } else { 1024 }
+}
+
+/// Whether an action on the mask list can have these directives: a read has none.
+fn has_dirs(edit: bool, dirs: &ArrayVec<Dir, MAX_DIRS>) -> bool
+    ensures { result ≡ is_within (if edit then 1 else 0) (if edit then 64 else 0) (length dirs.now.items) }
+{
+    if edit {
+        is_within(1, 64, dirs.len() as u64)
+    } else {
+        dirs.len() == 0
+    }
+}
+
+/// Whether an action on the reserve list can have these addresses: a read has none.
+fn has_list(rcmd: u8, list: &ArrayVec<Mac, MAX_DIRS>) -> bool
+    ensures { result ≡ nat_le (length list.now.items) (if rcmd == 0 then 0 else 64) }
+{
+    list.len() <= if rcmd == 0 { 0 } else { 64 }
+}
+
+impl Setup {
+    /// Whether each word is in its range.
+    pub(crate) fn is_in_range(&self) -> bool
+        ensures { result ≡ is_setup self.now }
+    {
+        match self {
+            Setup::Life { ms } => *ms <= 600_000,
+            Setup::Shelf {
+                name,
+                major,
+                ports,
+                mtu,
+            } => is_name(name)
+                && *major <= 65534
+                && are_ports(ports)
+                && is_within(1500, 9000, *mtu),
+            Setup::Slot {
+                shelf,
+                minor,
+                sectors,
+                room,
+            } => {
+                is_name(shelf)
+                    && *minor <= 254
+                    && is_within(1, 65536, *sectors)
+                    && is_missing_or(1, 65536, *room)
+            }
+            Setup::Host {
+                name,
+                ports,
+                room,
+                dead,
+            } => is_name(name) && are_ports(ports) && is_limit(*room, *dead),
+            Setup::Attach { host, shelf, minor } => {
+                is_name(host) && is_name(shelf) && *minor <= 254
+            }
+        }
+    }
+}
+
+impl Event {
+    /// Whether each word is in its range.
+    pub(crate) fn is_in_range(&self) -> bool
+        ensures { result ≡ is_event self.now }
+    {
+        match self {
+            Event::Read {
+                host,
+                dev,
+                at,
+                count,
+            } => is_asked(host, dev) && is_span(*at, *count),
+            Event::Write {
+                host,
+                dev,
+                at,
+                count,
+                ..
+            } => is_asked(host, dev) && is_span(*at, *count),
+            Event::Flush { host, dev } => is_asked(host, dev),
+            Event::Identify { host, dev } => is_asked(host, dev),
+            Event::Config {
+                host,
+                dev,
+                ccmd,
+                text,
+            } => is_asked(host, dev) && *ccmd <= 4 && has_text(*ccmd, text),
+            Event::Masks {
+                host,
+                dev,
+                edit,
+                dirs,
+            } => is_asked(host, dev) && has_dirs(*edit, dirs),
+            Event::Reserve {
+                host,
+                dev,
+                rcmd,
+                list,
+            } => is_asked(host, dev) && *rcmd <= 2 && has_list(*rcmd, list),
+            Event::Tick { ms } => is_within(1, 10_000_000, *ms),
+            Event::Deliver { frame, station } => {
+                is_within(1, 4_294_967_295, *frame) && is_name(station)
+            }
+            Event::Pass { n } | Event::Skip { n } => is_within(1, 10_000, *n),
+            Event::Again => true,
+            Event::Inject { bytes } => is_within(14, 9018, bytes.bytes().len() as u64),
+            Event::Fail { dev, k, .. } | Event::Stop { dev, k, .. } => {
+                is_device(dev) && is_within(1, 1000, *k)
+            }
+            Event::Crash { shelf, .. } => is_name(shelf),
+        }
+    }
+}

@@ -1,0 +1,209 @@
+//! What is wrong with a line, by what stands before it.
+ghost use Rattle.std.specs.Prelude.{◌≡◌, ◌≤◌, ◌+◌, slice_range, true, false, not, ◌||◌, ◌&&◌, length, None};
+ghost use Rattle.std.specs.List.{list_any};
+ghost use Rattle.aoe_script.specs.Rules.{are_too_many, asked_why, attaches, declared_why, event_why, first_of, has_major, has_port, is_event, is_full, is_host_named, is_shelf, is_shelf_named, is_slot, is_slot_of, is_station_named, is_taken, known_why, named_why, setup_why, source_of, unless};
+
+use crate::event::Event;
+use crate::refusal::Why;
+use crate::setup::{Name, Setup};
+use crate::standing::{
+    any_attached, any_host, any_life, any_major, any_port, any_shelf, any_slot, any_station,
+    are_too_many, is_attached, is_full_of_hosts, is_full_of_shelves, is_full_of_slots, is_known,
+    is_taken,
+};
+use aoe_base::{Mac, TargetId};
+
+/// The first of these causes that holds.
+fn first_of(repeat: bool, size: bool, unknown: bool) -> Option<Why>
+    ensures { result ≡ first_of repeat size unknown }
+{
+    if repeat {
+        Some(Why::Repeat)
+    } else if size {
+        Some(Why::Size)
+    } else if unknown {
+        Some(Why::Unknown)
+    } else {
+        None
+    }
+}
+
+/// What stands in the way of a shelf.
+fn shelf_why(setups: &[Setup], name: &Name, major: u64, ports: &[Mac]) -> Option<Why>
+    ensures { result ≡ first_of (is_taken setups.now name.now ports.now || list_any (has_major major) setups.now) (is_full is_shelf setups.now) false }
+{
+    let repeat = is_taken(setups, name, ports) || any_major(setups, major);
+    first_of(repeat, is_full_of_shelves(setups), false)
+}
+
+/// What stands in the way of a slot.
+fn slot_why(setups: &[Setup], shelf: &Name, minor: u64, sectors: u64) -> Option<Why>
+    ensures { result ≡ first_of (list_any (is_slot shelf.now minor) setups.now)
+        (is_full (is_slot_of shelf.now) setups.now || are_too_many setups.now sectors) (not (list_any (is_shelf_named shelf.now) setups.now)) }
+{
+    let repeat = any_slot(setups, shelf, minor);
+    let size = is_full_of_slots(setups, shelf) || are_too_many(setups, sectors);
+    first_of(repeat, size, !any_shelf(setups, shelf))
+}
+
+/// What stands in the way of an attachment.
+fn attach_why(setups: &[Setup], host: &Name, shelf: &Name, minor: u64) -> Option<Why>
+    ensures { result ≡ first_of (list_any (attaches host.now shelf.now minor) setups.now) false
+        (not (list_any (is_host_named host.now) setups.now && list_any (is_slot shelf.now minor) setups.now)) }
+{
+    let repeat = any_attached(setups, host, shelf, minor);
+    let known = any_host(setups, host) && any_slot(setups, shelf, minor);
+    first_of(repeat, false, !known)
+}
+
+impl Setup {
+    /// What stands in the way of this declaration behind these.
+    fn declared_why(&self, setups: &[Setup]) -> Option<Why>
+        ensures { result ≡ declared_why setups.now self.now }
+    {
+        match self {
+            Setup::Life { .. } => first_of(any_life(setups), false, false),
+            Setup::Shelf {
+                name,
+                major,
+                ports,
+                ..
+            } => shelf_why(setups, name, *major, ports.as_slice()),
+            Setup::Slot {
+                shelf,
+                minor,
+                sectors,
+                ..
+            } => slot_why(setups, shelf, *minor, *sectors),
+            Setup::Host { name, ports, .. } => first_of(
+                is_taken(setups, name, ports.as_slice()),
+                is_full_of_hosts(setups),
+                false,
+            ),
+            Setup::Attach { host, shelf, minor } => attach_why(setups, host, shelf, *minor),
+        }
+    }
+
+    /// What is wrong with this setup line behind these, and behind an event line or none.
+    #[tactic(auto, unfolding(crate::specs::Rules::setup_why))]
+    pub(crate) fn why(&self, setups: &[Setup], behind: bool) -> Option<Why>
+        ensures { result ≡ setup_why setups.now behind self.now }
+    {
+        if !self.is_in_range() {
+            return Some(Why::Value);
+        }
+        if behind {
+            return Some(Why::Place);
+        }
+        self.declared_why(setups)
+    }
+}
+
+/// The `N` bytes from `at` on.
+fn array_at<const N: usize>(bytes: &[u8], at: usize) -> [u8; N]
+    requires { at + N ≤ length bytes.now }
+    ensures { result ≡ slice_range bytes.now at (at + N) }
+{
+    match bytes[at..at + N].first_chunk::<N>() {
+        Some(array) => *array,
+        None => unreachable!(),
+    }
+}
+
+/// The source of a frame (IEEE 802.3).
+fn source_of(frame: &[u8]) -> Mac
+    requires { 14 ≤ length frame.now }
+    ensures { result ≡ source_of frame.now }
+{
+    Mac([frame[6], frame[7], frame[8], frame[9], frame[10], frame[11]])
+}
+
+/// What is wrong where the host isn't attached to the device.
+fn asked_why(setups: &[Setup], host: &Name, dev: &TargetId) -> Option<Why>
+    ensures { result ≡ asked_why setups.now host.now dev.now }
+{
+    if is_attached(setups, host, dev) {
+        None
+    } else {
+        Some(Why::Unknown)
+    }
+}
+
+/// What is wrong where the device doesn't stand.
+fn known_why(setups: &[Setup], dev: &TargetId) -> Option<Why>
+    ensures { result ≡ known_why setups.now dev.now }
+{
+    if is_known(setups, dev) {
+        None
+    } else {
+        Some(Why::Unknown)
+    }
+}
+
+/// What is wrong where no station has this name.
+fn station_why(setups: &[Setup], name: &Name) -> Option<Why>
+    ensures { result ≡ unless (not (list_any (is_station_named name.now) setups.now)) Why.Unknown None }
+{
+    if any_station(setups, name) {
+        None
+    } else {
+        Some(Why::Unknown)
+    }
+}
+
+/// What is wrong where no shelf has this name.
+fn crash_why(setups: &[Setup], name: &Name) -> Option<Why>
+    ensures { result ≡ unless (not (list_any (is_shelf_named name.now) setups.now)) Why.Unknown None }
+{
+    if any_shelf(setups, name) {
+        None
+    } else {
+        Some(Why::Unknown)
+    }
+}
+
+/// What is wrong where the frame bears the address of a station.
+fn source_why(setups: &[Setup], frame: &[u8]) -> Option<Why>
+    requires { 14 ≤ length frame.now }
+    ensures { result ≡ unless (list_any (has_port (source_of frame.now)) setups.now) Why.Station None }
+{
+    if any_port(setups, &source_of(frame)) {
+        Some(Why::Station)
+    } else {
+        None
+    }
+}
+
+impl Event {
+    /// What this event names that doesn't stand, or must not stand.
+    fn named_why(&self, setups: &[Setup]) -> Option<Why>
+        requires { is_event self.now ≡ true }
+        ensures { result ≡ named_why setups.now self.now }
+    {
+        match self {
+            Event::Read { host, dev, .. }
+            | Event::Write { host, dev, .. }
+            | Event::Flush { host, dev }
+            | Event::Identify { host, dev }
+            | Event::Config { host, dev, .. }
+            | Event::Masks { host, dev, .. }
+            | Event::Reserve { host, dev, .. } => asked_why(setups, host, dev),
+            Event::Tick { .. } | Event::Pass { .. } | Event::Skip { .. } | Event::Again => None,
+            Event::Deliver { station, .. } => station_why(setups, station),
+            Event::Inject { bytes } => source_why(setups, bytes.bytes()),
+            Event::Fail { dev, .. } | Event::Stop { dev, .. } => known_why(setups, dev),
+            Event::Crash { shelf, .. } => crash_why(setups, shelf),
+        }
+    }
+
+    /// What is wrong with this event line behind these setup lines.
+    #[tactic(auto, unfolding(crate::specs::Rules::event_why))]
+    pub(crate) fn why(&self, setups: &[Setup]) -> Option<Why>
+        ensures { result ≡ event_why setups.now self.now }
+    {
+        if !self.is_in_range() {
+            return Some(Why::Value);
+        }
+        self.named_why(setups)
+    }
+}

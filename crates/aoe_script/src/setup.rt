@@ -1,0 +1,47 @@
+//! Setup lines: what stands before anything happens.
+use aoe_base::Ports;
+use arrayvec::ArrayVec;
+
+/// The name of a shelf or a host: a lower-case letter and up to seven lower-case letters or digits.
+pub type Name = ArrayVec<u8, 8>;
+
+/// A setup line. Each field is the word of that line.
+#[derive(Debug, Drop, PartialEq, Eq)]
+pub enum Setup {
+    /// How long a frame lives, in milliseconds.
+    Life {
+        ms: u64,
+    },
+
+    /// A shelf with its number, its addresses and the mtu that it announces.
+    Shelf {
+        name: Name,
+        major: u64,
+        ports: Ports,
+        mtu: u64,
+    },
+
+    /// A slot of a shelf, of this many sectors; `room` is that of its cache, where it has one.
+    Slot {
+        shelf: Name,
+        minor: u64,
+        sectors: u64,
+        room: Option<u64>,
+    },
+
+    /// A host with its addresses, and how many commands fly at most and for how long, where that
+    /// is given: either both are or neither is.
+    Host {
+        name: Name,
+        ports: Ports,
+        room: Option<u64>,
+        dead: Option<u64>,
+    },
+
+    /// A device that a host knows.
+    Attach {
+        host: Name,
+        shelf: Name,
+        minor: u64,
+    },
+}

@@ -1,0 +1,211 @@
+//! The lines by which hosts ask devices for something.
+ghost use Rattle.std.specs.Prelude.{◌≡◌, IfOk, option_map};
+ghost use Rattle.aoe_script.specs.Forms.{config_of, config_text, data_line, event_row, flush_of, has_config_shape, has_masks_shape, has_reserve_shape, identify_of, list_line, mask_dirs, masks_of, read_of, reserve_list, reserve_of, write_of};
+
+use crate::classes::{byte_of, bytes_of, ccmd_of, edit_of, name_of, number, rcmd_of};
+use crate::event::Event;
+use crate::line::Line;
+use crate::network::{event_row, network_line};
+use crate::parts::{dirs_of, list_of};
+use crate::words::Words;
+use aoe_base::{Blob, Mac, NoMemory, read_device};
+use aoe_initiator::{Dir, MAX_DIRS};
+use arrayvec::ArrayVec;
+use std::alloc::Global;
+
+/// `read HOST DEV AT COUNT`
+fn read_of(words: &Words) -> Option<Event>
+    ensures { result ≡ read_of words.now }
+{
+    Some(Event::Read {
+        host: name_of(words.at(1))?,
+        dev: read_device(words.at(2))?,
+        at: number(words.at(3))?,
+        count: number(words.at(4))?,
+    })
+}
+
+/// `write HOST DEV AT COUNT HH`
+fn write_of(words: &Words) -> Option<Event>
+    ensures { result ≡ write_of words.now }
+{
+    Some(Event::Write {
+        host: name_of(words.at(1))?,
+        dev: read_device(words.at(2))?,
+        at: number(words.at(3))?,
+        count: number(words.at(4))?,
+        fill: byte_of(words.at(5))?,
+    })
+}
+
+/// `flush HOST DEV`
+fn flush_of(words: &Words) -> Option<Event>
+    ensures { result ≡ flush_of words.now }
+{
+    Some(Event::Flush {
+        host: name_of(words.at(1))?,
+        dev: read_device(words.at(2))?,
+    })
+}
+
+/// `identify HOST DEV`
+fn identify_of(words: &Words) -> Option<Event>
+    ensures { result ≡ identify_of words.now }
+{
+    Some(Event::Identify {
+        host: name_of(words.at(1))?,
+        dev: read_device(words.at(2))?,
+    })
+}
+
+/// The text of an action on the config string: a read has none.
+fn config_text(alloc: Global, ccmd: u8, words: &Words) -> Result<Option<Blob>, NoMemory>
+    ensures { IfOk result (λ r. r ≡ config_text ccmd words.now) }
+{
+    if ccmd == 0 {
+        return Ok(Some(Blob::of(alloc, &[])?));
+    }
+    bytes_of(alloc, words.at(4))
+}
+
+/// `config HOST DEV read`, or an action with HEX
+fn config_of(alloc: Global, words: &Words) -> Result<Option<Event>, NoMemory>
+    ensures { IfOk result (λ r. r ≡ config_of words.now) }
+{
+    let (Some(host), Some(dev), Some(ccmd)) = (
+        name_of(words.at(1)),
+        read_device(words.at(2)),
+        ccmd_of(words.at(3)),
+    ) else {
+        return Ok(None);
+    };
+    match config_text(alloc, ccmd, words)? {
+        Some(text) => Ok(Some(Event::Config {
+            host,
+            dev,
+            ccmd,
+            text,
+        })),
+        None => Ok(None),
+    }
+}
+
+/// Whether the action on the config string has its words.
+fn has_config_shape(words: &Words) -> bool
+    ensures { result ≡ has_config_shape words.now }
+{
+    match ccmd_of(words.at(3)) {
+        Some(ccmd) => words.len() == if ccmd == 0 { 4 } else { 5 },
+        None => false,
+    }
+}
+
+/// The directives of an action on the mask list: a read has none.
+fn mask_dirs(edit: bool, words: &Words) -> Option<ArrayVec<Dir, MAX_DIRS>>
+    ensures { option_map (λ dirs. dirs.items) result ≡ mask_dirs edit words.now }
+{
+    if edit {
+        dirs_of(words.at(4))
+    } else {
+        Some(ArrayVec::new())
+    }
+}
+
+/// `masks HOST DEV read`, or `edit DIRS`
+fn masks_of(words: &Words) -> Option<Event>
+    ensures { result ≡ masks_of words.now }
+{
+    let host = name_of(words.at(1))?;
+    let dev = read_device(words.at(2))?;
+    let edit = edit_of(words.at(3))?;
+    let dirs = mask_dirs(edit, words)?;
+    Some(Event::Masks {
+        host,
+        dev,
+        edit,
+        dirs,
+    })
+}
+
+/// Whether the action on the mask list has its words.
+fn has_masks_shape(words: &Words) -> bool
+    ensures { result ≡ has_masks_shape words.now }
+{
+    match edit_of(words.at(3)) {
+        Some(edit) => words.len() == if edit { 5 } else { 4 },
+        None => false,
+    }
+}
+
+/// The addresses of an action on the reserve list: a read has none.
+fn reserve_list(rcmd: u8, words: &Words) -> Option<ArrayVec<Mac, MAX_DIRS>>
+    ensures { option_map (λ list. list.items) result ≡ reserve_list rcmd words.now }
+{
+    if rcmd == 0 {
+        Some(ArrayVec::new())
+    } else {
+        list_of(words.at(4))
+    }
+}
+
+/// `reserve HOST DEV read`, or an action with LIST
+fn reserve_of(words: &Words) -> Option<Event>
+    ensures { result ≡ reserve_of words.now }
+{
+    let host = name_of(words.at(1))?;
+    let dev = read_device(words.at(2))?;
+    let rcmd = rcmd_of(words.at(3))?;
+    let list = reserve_list(rcmd, words)?;
+    Some(Event::Reserve {
+        host,
+        dev,
+        rcmd,
+        list,
+    })
+}
+
+/// Whether the action on the reserve list has its words.
+fn has_reserve_shape(words: &Words) -> bool
+    ensures { result ≡ has_reserve_shape words.now }
+{
+    match rcmd_of(words.at(3)) {
+        Some(rcmd) => words.len() == if rcmd == 0 { 4 } else { 5 },
+        None => false,
+    }
+}
+
+/// The lines on the lists of a device, and those behind them in the grammar.
+fn list_line(alloc: Global, words: &Words) -> Result<Line, NoMemory>
+    ensures { IfOk result (λ line. line ≡ list_line words.now) }
+{
+    let first = words.at(0);
+    if first == b"config".as_slice() {
+        let config = config_of(alloc, words)?;
+        Ok(event_row(has_config_shape(words), config))
+    } else if first == b"masks".as_slice() {
+        Ok(event_row(has_masks_shape(words), masks_of(words)))
+    } else if first == b"reserve".as_slice() {
+        Ok(event_row(has_reserve_shape(words), reserve_of(words)))
+    } else {
+        network_line(alloc, words)
+    }
+}
+
+/// The lines on the sectors of a device, and those behind them in the grammar.
+pub(crate) fn data_line(alloc: Global, words: &Words) -> Result<Line, NoMemory>
+    ensures { IfOk result (λ line. line ≡ data_line words.now) }
+{
+    let first = words.at(0);
+    let count = words.len();
+    if first == b"read".as_slice() {
+        Ok(event_row(count == 5, read_of(words)))
+    } else if first == b"write".as_slice() {
+        Ok(event_row(count == 6, write_of(words)))
+    } else if first == b"flush".as_slice() {
+        Ok(event_row(count == 3, flush_of(words)))
+    } else if first == b"identify".as_slice() {
+        Ok(event_row(count == 3, identify_of(words)))
+    } else {
+        list_line(alloc, words)
+    }
+}
