@@ -16,30 +16,35 @@ use Rattle.aoe_initiator.specs.declared.op.Op.TheVariants.{Flush}
 use Rattle.aoe_initiator.specs.declared.outcome.Outcome.{Outcome}
 use Rattle.aoe_initiator.specs.HostLog.{after_end, after_send, as_sent, at_ticket, commands, one_more, outstanding, sent_of, submitted, HostCommand, Sending}
 use Rattle.aoe_initiator.specs.HostLog as log
+use Rattle.aoe_paths.specs.PathLog.{timeout_on}
 use Rattle.aoe_history.specs.declared.entry.Entry.{Entry}
 use Rattle.aoe_history.specs.declared.entry.Entry.TheVariants.{Submitted, Refused, Sent, Injected, Arrived, Took, Done, Ticked, Lost, Armed, Crashed}
-use Rattle.aoe_history.specs.Commands.{commands_of, is_of, log_of, path_of, submission, tickets, Submission}
+use Rattle.aoe_history.specs.Commands.{commands_of, is_of, log_of, path_ended, path_of, submission, tickets, Submission}
 use Rattle.aoe_history.specs.Frames.{clock}
 use Rattle.aoe_history.specs.HostLaw.{IsDone, IsSent, IsSubmitted}
 use Rattle.aoe_history.specs.Lawful.{IsLawful}
 use Rattle.aoe_history.specs.Setup.{device_no, host_called, is_called, HostSetup, Setup}
 
 module _ (host : HostSetup) where
+  abbrev pub device_in : Option Submission → DeviceNo
+  device_in None = record { 0 = 0 }
+  device_in (Some x) = device_no host x.dev
+
+  -- how long a response of a command's device to a frame of a command is waited for
+  abbrev pub timeout_at : List Entry → (c ticket : ℕ) → List ℕ → ℕ
+  timeout_at h c ticket bytes = timeout_on (log.path_log (log_of host h) (device_in (submission host h c)).0) (path_of host (submission host h ticket) bytes).0
+
   -- what was sent of a command, and whether it is done
   abbrev pub sends_of : List Entry → ℕ → Option Sending
   sends_of [] c = None
   sends_of (Sent name ticket number bytes ∷ h) c =
-      if is_of host c name ticket then Some (one_more (fields bytes).tag (record { 0 = clock h }) (path_of host (submission host h ticket) bytes) (sends_of h c)) else sends_of h c
+      if is_of host c name ticket then Some (one_more (fields bytes).tag (record { 0 = clock h }) (path_of host (submission host h ticket) bytes) (timeout_at h c ticket bytes) (sends_of h c)) else sends_of h c
   sends_of (_ ∷ h) c = sends_of h c
 
   abbrev pub was_done : List Entry → ℕ → Bool
   was_done [] c = false
   was_done (Done name ticket outcome ∷ h) c = is_of host c name ticket || was_done h c
   was_done (_ ∷ h) c = was_done h c
-
-  abbrev pub device_in : Option Submission → DeviceNo
-  device_in None = record { 0 = 0 }
-  device_in (Some x) = device_no host x.dev
 
   abbrev pub op_in : Option Submission → Op
   op_in None = Flush
@@ -72,11 +77,11 @@ same-number : (n c : ℕ) → nat_eq n c ≡ nat_eq c n
 same-number n c = grind (arith, nat_tests)
 
 -- a send, at each ticket
-sent-at : (t : Bool) (n c tag : ℕ) (now : Millis) (path : PathNo) (d : DeviceNo) (op : Op) (sends : Option Sending) (done : Bool) → t ≡ nat_eq c n →
-    at_ticket (record { 0 = c }) (after_send tag now path) (record { ticket = record { 0 = n }; device = d; op = op; sends = sends; done = done })
-    ≡ record { ticket = record { 0 = n }; device = d; op = op; sends = if t then Some (one_more tag now path sends) else sends; done = done }
-sent-at true n c tag now path d op sends done e = rw (same-number n c, ← e) refl
-sent-at false n c tag now path d op sends done e = rw (same-number n c, ← e) refl
+sent-at : (t : Bool) (n c tag : ℕ) (now : Millis) (path : PathNo) (timeouts : ℕ → ℕ) (d : DeviceNo) (op : Op) (sends : Option Sending) (done : Bool) → t ≡ nat_eq c n →
+    at_ticket (record { 0 = c }) (after_send tag now path timeouts) (record { ticket = record { 0 = n }; device = d; op = op; sends = sends; done = done })
+    ≡ record { ticket = record { 0 = n }; device = d; op = op; sends = if t then Some (one_more tag now path (timeouts d.0) sends) else sends; done = done }
+sent-at true n c tag now path timeouts d op sends done e = rw (same-number n c, ← e) refl
+sent-at false n c tag now path timeouts d op sends done e = rw (same-number n c, ← e) refl
 
 ended-at : (t : Bool) (n c : ℕ) (d : DeviceNo) (op : Op) (sends : Option Sending) (done : Bool) → t ≡ nat_eq c n →
     at_ticket (record { 0 = c }) after_end (record { ticket = record { 0 = n }; device = d; op = op; sends = sends; done = done })
@@ -117,15 +122,20 @@ above-test true n c m le lt = grind (arith, nat_tests)
 above-test false n c m le lt = refl
 
 -- a send of the host's
+abbrev timeouts-after : HostSetup → List Entry → ℕ → List ℕ → ℕ → ℕ
+timeouts-after host h c bytes n = timeout_on (log.path_log (log_of host h) n) (path_of host (submission host h c) bytes).0
+
+abbrev sending : HostSetup → List Entry → ℕ → ℕ → List ℕ → HostCommand → HostCommand
+sending host h now c bytes = at_ticket (record { 0 = c }) (after_send (fields bytes).tag (record { 0 = now }) (path_of host (submission host h c) bytes) (timeouts-after host h c bytes))
+
 sent-list : (host : HostSetup) (h : List Entry) (name : ArrayVec ℕ) (c number : ℕ) (bytes : List ℕ) → is_called host name ≡ true → Known host h
-    → map (at_ticket (record { 0 = c }) (after_send (fields bytes).tag (record { 0 = log.clock (log_of host h) }) (path_of host (submission host h c) bytes))) (commands_of host h)
-    ≡ views host (Sent name c number bytes ∷ h)
+    → map (sending host h (log.clock (log_of host h)) c bytes) (commands_of host h) ≡ views host (Sent name c number bytes ∷ h)
 sent-list host h name c number bytes e k =
-    ap (λ l. map (at_ticket (record { 0 = c }) (after_send (fields bytes).tag (record { 0 = log.clock (log_of host h) }) (path_of host (submission host h c) bytes))) l) k.list
-    ∙ map-map (at_ticket (record { 0 = c }) (after_send (fields bytes).tag (record { 0 = log.clock (log_of host h) }) (path_of host (submission host h c) bytes))) (view host h) (upto host (tickets host h))
-    ∙ map-same (λ n. at_ticket (record { 0 = c }) (after_send (fields bytes).tag (record { 0 = log.clock (log_of host h) }) (path_of host (submission host h c) bytes)) (view host h n)) (view host (Sent name c number bytes ∷ h)) (upto host (tickets host h))
-    (λ n. subst (λ t. at_ticket (record { 0 = c }) (after_send (fields bytes).tag (record { 0 = t }) (path_of host (submission host h c) bytes)) (view host h n) ≡ view host (Sent name c number bytes ∷ h) n) (sym k.time)
-    (sent-at (is_called host name && nat_eq c n) n c (fields bytes).tag (record { 0 = clock h }) (path_of host (submission host h c) bytes) (device_in host (submission host h n)) (op_in host (submission host h n)) (sends_of host h n) (was_done host h n) (own-test (is_called host name) n c e)))
+    ap (λ l. map (sending host h (log.clock (log_of host h)) c bytes) l) k.list
+    ∙ map-map (sending host h (log.clock (log_of host h)) c bytes) (view host h) (upto host (tickets host h))
+    ∙ map-same (λ n. sending host h (log.clock (log_of host h)) c bytes (view host h n)) (view host (Sent name c number bytes ∷ h)) (upto host (tickets host h))
+    (λ n. subst (λ t. sending host h t c bytes (view host h n) ≡ view host (Sent name c number bytes ∷ h) n) (sym k.time)
+    (sent-at (is_called host name && nat_eq c n) n c (fields bytes).tag (record { 0 = clock h }) (path_of host (submission host h c) bytes) (timeouts-after host h c bytes) (device_in host (submission host h n)) (op_in host (submission host h n)) (sends_of host h n) (was_done host h n) (own-test (is_called host name) n c e)))
 
 pub sent-known : (host : HostSetup) (h : List Entry) (name : ArrayVec ℕ) (c number : ℕ) (bytes : List ℕ) → (b : Bool) → is_called host name ≡ b → (b ≡ true → c ≤ tickets host h) → Known host h
     → Known host (Sent name c number bytes ∷ h)
@@ -133,16 +143,16 @@ sent-known host h name c number bytes true e le k = record {
   list = ap commands (when (is_called host name) (log.Sends (record { 0 = c }) (fields bytes).tag (path_of host (submission host h c) bytes) ∷ log_of host h) (log_of host h) e) ∙ sent-list host h name c number bytes e k;
   time = ap log.clock (when (is_called host name) (log.Sends (record { 0 = c }) (fields bytes).tag (path_of host (submission host h c) bytes) ∷ log_of host h) (log_of host h) e) ∙ k.time;
   unsubmitted = k.unsubmitted;
-  unsent = λ d lt. unless (is_called host name && nat_eq c d) (Some (one_more (fields bytes).tag (record { 0 = clock h }) (path_of host (submission host h c) bytes) (sends_of host h d))) (sends_of host h d) (above-test (is_called host name) d c (tickets host h) (le refl) lt) ∙ k.unsent d lt;
+  unsent = λ d lt. unless (is_called host name && nat_eq c d) (Some (one_more (fields bytes).tag (record { 0 = clock h }) (path_of host (submission host h c) bytes) (timeout_at host h d c bytes) (sends_of host h d))) (sends_of host h d) (above-test (is_called host name) d c (tickets host h) (le refl) lt) ∙ k.unsent d lt;
   undone = k.undone;
 }
 sent-known host h name c number bytes false e le k = record {
   list = ap commands (unless (is_called host name) (log.Sends (record { 0 = c }) (fields bytes).tag (path_of host (submission host h c) bytes) ∷ log_of host h) (log_of host h) e) ∙ k.list
       ∙ map-same (view host h) (view host (Sent name c number bytes ∷ h)) (upto host (tickets host h)) (λ n. ap (λ o. record { ticket = record { 0 = n }; device = device_in host (submission host h n); op = op_in host (submission host h n); sends = o; done = was_done host h n })
-      (sym (unless (is_called host name && nat_eq c n) (Some (one_more (fields bytes).tag (record { 0 = clock h }) (path_of host (submission host h c) bytes) (sends_of host h n))) (sends_of host h n) (other-test (is_called host name) (nat_eq c n) e))));
+      (sym (unless (is_called host name && nat_eq c n) (Some (one_more (fields bytes).tag (record { 0 = clock h }) (path_of host (submission host h c) bytes) (timeout_at host h n c bytes) (sends_of host h n))) (sends_of host h n) (other-test (is_called host name) (nat_eq c n) e))));
   time = ap log.clock (unless (is_called host name) (log.Sends (record { 0 = c }) (fields bytes).tag (path_of host (submission host h c) bytes) ∷ log_of host h) (log_of host h) e) ∙ k.time;
   unsubmitted = k.unsubmitted;
-  unsent = λ d lt. unless (is_called host name && nat_eq c d) (Some (one_more (fields bytes).tag (record { 0 = clock h }) (path_of host (submission host h c) bytes) (sends_of host h d))) (sends_of host h d) (other-test (is_called host name) (nat_eq c d) e) ∙ k.unsent d lt;
+  unsent = λ d lt. unless (is_called host name && nat_eq c d) (Some (one_more (fields bytes).tag (record { 0 = clock h }) (path_of host (submission host h c) bytes) (timeout_at host h d c bytes) (sends_of host h d))) (sends_of host h d) (other-test (is_called host name) (nat_eq c d) e) ∙ k.unsent d lt;
   undone = k.undone;
 }
 
@@ -162,17 +172,17 @@ or-none false c e = refl
 pub done-known : (host : HostSetup) (h : List Entry) (name : ArrayVec ℕ) (c : ℕ) (outcome : Outcome) → (b : Bool) → is_called host name ≡ b → (b ≡ true → c ≤ tickets host h) → Known host h
     → Known host (Done name c outcome ∷ h)
 done-known host h name c outcome true e le k = record {
-  list = ap commands (when (is_called host name) (log.Ends (record { 0 = c }) ∷ log_of host h) (log_of host h) e) ∙ done-list host h name c outcome e k;
-  time = ap log.clock (when (is_called host name) (log.Ends (record { 0 = c }) ∷ log_of host h) (log_of host h) e) ∙ k.time;
+  list = ap commands (when (is_called host name) (log.Ends (record { 0 = c }) (path_ended host h c outcome) ∷ log_of host h) (log_of host h) e) ∙ done-list host h name c outcome e k;
+  time = ap log.clock (when (is_called host name) (log.Ends (record { 0 = c }) (path_ended host h c outcome) ∷ log_of host h) (log_of host h) e) ∙ k.time;
   unsubmitted = k.unsubmitted;
   unsent = k.unsent;
   undone = λ d lt. or-none (is_called host name && nat_eq c d) (was_done host h d) (above-test (is_called host name) d c (tickets host h) (le refl) lt) ∙ k.undone d lt;
 }
 done-known host h name c outcome false e le k = record {
-  list = ap commands (unless (is_called host name) (log.Ends (record { 0 = c }) ∷ log_of host h) (log_of host h) e) ∙ k.list
+  list = ap commands (unless (is_called host name) (log.Ends (record { 0 = c }) (path_ended host h c outcome) ∷ log_of host h) (log_of host h) e) ∙ k.list
       ∙ map-same (view host h) (view host (Done name c outcome ∷ h)) (upto host (tickets host h)) (λ n. ap (λ o. record { ticket = record { 0 = n }; device = device_in host (submission host h n); op = op_in host (submission host h n); sends = sends_of host h n; done = o })
       (sym (or-none (is_called host name && nat_eq c n) (was_done host h n) (other-test (is_called host name) (nat_eq c n) e))));
-  time = ap log.clock (unless (is_called host name) (log.Ends (record { 0 = c }) ∷ log_of host h) (log_of host h) e) ∙ k.time;
+  time = ap log.clock (unless (is_called host name) (log.Ends (record { 0 = c }) (path_ended host h c outcome) ∷ log_of host h) (log_of host h) e) ∙ k.time;
   unsubmitted = k.unsubmitted;
   unsent = k.unsent;
   undone = λ d lt. or-none (is_called host name && nat_eq c d) (was_done host h d) (other-test (is_called host name) (nat_eq c d) e) ∙ k.undone d lt;
