@@ -1,5 +1,5 @@
 -- A host's commands, each by what the history says of it.
-use Rattle.std.proofs.Common.{ℕ, zero, suc, ◌+◌, ◌<◌, ◌≤◌, ◌≡◌, ◌≢◌, ◌⊎◌, inl, inr, if◌then◌else◌, max, nat_eq, Bool, true, false, not, ◌&&◌, ◌||◌, List, [], ◌∷◌, ◌++◌, map, length, Option, Some, None, refl, sym, subst, ap, ◌∙◌, arith, slice_index_or, Contains, IsSomeAnd}
+use Rattle.std.proofs.Common.{ℕ, zero, suc, ◌+◌, ◌<◌, ◌≤◌, ◌≡◌, inl, inr, if◌then◌else◌, max, nat_eq, Bool, true, false, ◌&&◌, ◌||◌, List, [], ◌∷◌, ◌++◌, map, Option, Some, None, refl, sym, subst, ap, ◌∙◌, arith, Contains, IsSomeAnd}
 use Rattle.std.proofs.lemmas.Bool.Decides.{nat_tests}
 use Rattle.std.proofs.lemmas.List.Elements.{Contains-append_cases, Contains-append_right}
 use Rattle.std.specs.List.{cons_option}
@@ -12,54 +12,18 @@ use Rattle.aoe_base.specs.declared.counted.Millis.{Millis}
 use Rattle.aoe_base.specs.declared.counted.PathNo.{PathNo}
 use Rattle.aoe_frame.specs.Header.{fields}
 use Rattle.aoe_initiator.specs.declared.op.Op.{Op}
-use Rattle.aoe_initiator.specs.declared.op.Op.TheVariants.{Flush}
 use Rattle.aoe_initiator.specs.declared.outcome.Outcome.{Outcome}
 use Rattle.aoe_initiator.specs.HostLog.{after_end, after_send, as_sent, at_ticket, commands, one_more, outstanding, sent_of, submitted, HostCommand, Sending}
 use Rattle.aoe_initiator.specs.HostLog as log
 use Rattle.aoe_paths.specs.PathLog.{timeout_on}
 use Rattle.aoe_history.specs.declared.entry.Entry.{Entry}
 use Rattle.aoe_history.specs.declared.entry.Entry.TheVariants.{Submitted, Refused, Sent, Injected, Arrived, Took, Done, Ticked, Lost, Armed, Crashed}
-use Rattle.aoe_history.specs.Commands.{commands_of, is_of, log_of, path_ended, path_of, submission, tickets, Submission}
+use Rattle.aoe_history.specs.CommandView.{device_in, op_in, sends_of, timeout_at, upto, view, views, was_done}
+use Rattle.aoe_history.specs.Commands.{commands_of, log_of, path_ended, path_of, submission, tickets, Submission}
 use Rattle.aoe_history.specs.Frames.{clock}
 use Rattle.aoe_history.specs.HostLaw.{IsDone, IsSent, IsSubmitted}
 use Rattle.aoe_history.specs.Lawful.{IsLawful}
 use Rattle.aoe_history.specs.Setup.{device_no, host_called, is_called, HostSetup, Setup}
-
-module _ (host : HostSetup) where
-  abbrev pub device_in : Option Submission → DeviceNo
-  device_in None = record { 0 = 0 }
-  device_in (Some x) = device_no host x.dev
-
-  -- how long a response of a command's device to a frame of a command is waited for
-  abbrev pub timeout_at : List Entry → (c ticket : ℕ) → List ℕ → ℕ
-  timeout_at h c ticket bytes = timeout_on (log.path_log (log_of host h) (device_in (submission host h c)).0) (path_of host (submission host h ticket) bytes).0
-
-  -- what was sent of a command, and whether it is done
-  abbrev pub sends_of : List Entry → ℕ → Option Sending
-  sends_of [] c = None
-  sends_of (Sent name ticket number bytes ∷ h) c =
-      if is_of host c name ticket then Some (one_more (fields bytes).tag (record { 0 = clock h }) (path_of host (submission host h ticket) bytes) (timeout_at h c ticket bytes) (sends_of h c)) else sends_of h c
-  sends_of (_ ∷ h) c = sends_of h c
-
-  abbrev pub was_done : List Entry → ℕ → Bool
-  was_done [] c = false
-  was_done (Done name ticket outcome ∷ h) c = is_of host c name ticket || was_done h c
-  was_done (_ ∷ h) c = was_done h c
-
-  abbrev pub op_in : Option Submission → Op
-  op_in None = Flush
-  op_in (Some x) = x.op
-
-  abbrev pub view : List Entry → ℕ → HostCommand
-  view h c = record { ticket = record { 0 = c }; device = device_in (submission host h c); op = op_in (submission host h c); sends = sends_of h c; done = was_done h c }
-
-  -- the tickets up to a number
-  abbrev pub upto : ℕ → List ℕ
-  upto zero = []
-  upto (suc n) = upto n ++ suc n ∷ []
-
-  abbrev pub views : List Entry → List HostCommand
-  views h = map (view h) (upto (tickets host h))
 
 pub map-same : {X Y : Type 0} (f g : X → Y) (xs : List X) → ((x : X) → f x ≡ g x) → map f xs ≡ map g xs
 map-same f g [] e = refl
@@ -132,10 +96,10 @@ sent-list : (host : HostSetup) (h : List Entry) (name : ArrayVec ℕ) (c number 
     → map (sending host h (log.clock (log_of host h)) c bytes) (commands_of host h) ≡ views host (Sent name c number bytes ∷ h)
 sent-list host h name c number bytes e k =
     ap (λ l. map (sending host h (log.clock (log_of host h)) c bytes) l) k.list
-    ∙ map-map (sending host h (log.clock (log_of host h)) c bytes) (view host h) (upto host (tickets host h))
-    ∙ map-same (λ n. sending host h (log.clock (log_of host h)) c bytes (view host h n)) (view host (Sent name c number bytes ∷ h)) (upto host (tickets host h))
+    ∙ map-map (sending host h (log.clock (log_of host h)) c bytes) (view host h) (upto (tickets host h))
+    ∙ map-same (λ n. sending host h (log.clock (log_of host h)) c bytes (view host h n)) (view host (Sent name c number bytes ∷ h)) (upto (tickets host h))
     (λ n. subst (λ t. sending host h t c bytes (view host h n) ≡ view host (Sent name c number bytes ∷ h) n) (sym k.time)
-    (sent-at (is_called host name && nat_eq c n) n c (fields bytes).tag (record { 0 = clock h }) (path_of host (submission host h c) bytes) (timeouts-after host h c bytes) (device_in host (submission host h n)) (op_in host (submission host h n)) (sends_of host h n) (was_done host h n) (own-test (is_called host name) n c e)))
+    (sent-at (is_called host name && nat_eq c n) n c (fields bytes).tag (record { 0 = clock h }) (path_of host (submission host h c) bytes) (timeouts-after host h c bytes) (device_in host (submission host h n)) (op_in (submission host h n)) (sends_of host h n) (was_done host h n) (own-test (is_called host name) n c e)))
 
 pub sent-known : (host : HostSetup) (h : List Entry) (name : ArrayVec ℕ) (c number : ℕ) (bytes : List ℕ) → (b : Bool) → is_called host name ≡ b → (b ≡ true → c ≤ tickets host h) → Known host h
     → Known host (Sent name c number bytes ∷ h)
@@ -148,7 +112,7 @@ sent-known host h name c number bytes true e le k = record {
 }
 sent-known host h name c number bytes false e le k = record {
   list = ap commands (unless (is_called host name) (log.Sends (record { 0 = c }) (fields bytes).tag (path_of host (submission host h c) bytes) ∷ log_of host h) (log_of host h) e) ∙ k.list
-      ∙ map-same (view host h) (view host (Sent name c number bytes ∷ h)) (upto host (tickets host h)) (λ n. ap (λ o. record { ticket = record { 0 = n }; device = device_in host (submission host h n); op = op_in host (submission host h n); sends = o; done = was_done host h n })
+      ∙ map-same (view host h) (view host (Sent name c number bytes ∷ h)) (upto (tickets host h)) (λ n. ap (λ o. record { ticket = record { 0 = n }; device = device_in host (submission host h n); op = op_in (submission host h n); sends = o; done = was_done host h n })
       (sym (unless (is_called host name && nat_eq c n) (Some (one_more (fields bytes).tag (record { 0 = clock h }) (path_of host (submission host h c) bytes) (timeout_at host h n c bytes) (sends_of host h n))) (sends_of host h n) (other-test (is_called host name) (nat_eq c n) e))));
   time = ap log.clock (unless (is_called host name) (log.Sends (record { 0 = c }) (fields bytes).tag (path_of host (submission host h c) bytes) ∷ log_of host h) (log_of host h) e) ∙ k.time;
   unsubmitted = k.unsubmitted;
@@ -161,9 +125,9 @@ done-list : (host : HostSetup) (h : List Entry) (name : ArrayVec ℕ) (c : ℕ) 
     → map (at_ticket (record { 0 = c }) after_end) (commands_of host h) ≡ views host (Done name c outcome ∷ h)
 done-list host h name c outcome e k =
     ap (λ l. map (at_ticket (record { 0 = c }) after_end) l) k.list
-    ∙ map-map (at_ticket (record { 0 = c }) after_end) (view host h) (upto host (tickets host h))
-    ∙ map-same (λ n. at_ticket (record { 0 = c }) after_end (view host h n)) (view host (Done name c outcome ∷ h)) (upto host (tickets host h))
-    (λ n. ended-at (is_called host name && nat_eq c n) n c (device_in host (submission host h n)) (op_in host (submission host h n)) (sends_of host h n) (was_done host h n) (own-test (is_called host name) n c e))
+    ∙ map-map (at_ticket (record { 0 = c }) after_end) (view host h) (upto (tickets host h))
+    ∙ map-same (λ n. at_ticket (record { 0 = c }) after_end (view host h n)) (view host (Done name c outcome ∷ h)) (upto (tickets host h))
+    (λ n. ended-at (is_called host name && nat_eq c n) n c (device_in host (submission host h n)) (op_in (submission host h n)) (sends_of host h n) (was_done host h n) (own-test (is_called host name) n c e))
 
 or-none : (b c : Bool) → b ≡ false → (b || c) ≡ c
 or-none true c e = absurd (cc)
@@ -180,7 +144,7 @@ done-known host h name c outcome true e le k = record {
 }
 done-known host h name c outcome false e le k = record {
   list = ap commands (unless (is_called host name) (log.Ends (record { 0 = c }) (path_ended host h c outcome) ∷ log_of host h) (log_of host h) e) ∙ k.list
-      ∙ map-same (view host h) (view host (Done name c outcome ∷ h)) (upto host (tickets host h)) (λ n. ap (λ o. record { ticket = record { 0 = n }; device = device_in host (submission host h n); op = op_in host (submission host h n); sends = sends_of host h n; done = o })
+      ∙ map-same (view host h) (view host (Done name c outcome ∷ h)) (upto (tickets host h)) (λ n. ap (λ o. record { ticket = record { 0 = n }; device = device_in host (submission host h n); op = op_in (submission host h n); sends = sends_of host h n; done = o })
       (sym (or-none (is_called host name && nat_eq c n) (was_done host h n) (other-test (is_called host name) (nat_eq c n) e))));
   time = ap log.clock (unless (is_called host name) (log.Ends (record { 0 = c }) (path_ended host h c outcome) ∷ log_of host h) (log_of host h) e) ∙ k.time;
   unsubmitted = k.unsubmitted;
@@ -189,14 +153,11 @@ done-known host h name c outcome false e le k = record {
 }
 
 -- a submission of the host's: its ticket is the next
-abbrev pub InUpto : HostSetup → ℕ → (ℕ → Type 0) → Type 0
-InUpto host n P = (k : ℕ) → k ≤ n → P k
-
-map-upto : {Y : Type 0} (host : HostSetup) (f g : ℕ → Y) (n : ℕ) → ((k : ℕ) → k ≤ n → f k ≡ g k) → map f (upto host n) ≡ map g (upto host n)
-map-upto host f g zero e = refl
-map-upto host f g (suc n) e =
-    map-append f (upto host n) (suc n ∷ []) ∙ ap (λ l. l ++ f (suc n) ∷ []) (map-upto host f g n (λ k le. e k (omega arith))) ∙ ap (λ y. map g (upto host n) ++ y ∷ []) (e (suc n) (omega arith))
-    ∙ sym (map-append g (upto host n) (suc n ∷ []))
+map-upto : {Y : Type 0} (f g : ℕ → Y) (n : ℕ) → ((k : ℕ) → k ≤ n → f k ≡ g k) → map f (upto n) ≡ map g (upto n)
+map-upto f g zero e = refl
+map-upto f g (suc n) e =
+    map-append f (upto n) (suc n ∷ []) ∙ ap (λ l. l ++ f (suc n) ∷ []) (map-upto f g n (λ k le. e k (omega arith))) ∙ ap (λ y. map g (upto n) ++ y ∷ []) (e (suc n) (omega arith))
+    ∙ sym (map-append g (upto n) (suc n ∷ []))
 
 next-test : (b : Bool) (n k : ℕ) → k ≤ n → (b && nat_eq (suc n) k) ≡ false
 next-test true n k le = grind (arith, nat_tests)
@@ -217,7 +178,7 @@ submitted-tickets : (host : HostSetup) (h : List Entry) (name : ArrayVec ℕ) (c
 submitted-tickets host h name c dev op e = when (is_called host name) (suc (tickets host h)) (tickets host h) e
 
 view-by : (host : HostSetup) (n : ℕ) (x : Option Submission) (sends : Option Sending) (done : Bool) → HostCommand
-view-by host n x sends done = record { ticket = record { 0 = n }; device = device_in host x; op = op_in host x; sends = sends; done = done }
+view-by host n x sends done = record { ticket = record { 0 = n }; device = device_in host x; op = op_in x; sends = sends; done = done }
 
 pub submitted-known : (host : HostSetup) (h : List Entry) (name : ArrayVec ℕ) (c : ℕ) (dev : TargetId) (op : Op) → (b : Bool) → is_called host name ≡ b → (b ≡ true → c ≡ suc (tickets host h)) → Known host h
     → Known host (Submitted name c dev op ∷ h)
@@ -228,11 +189,11 @@ submitted-known host h name c dev op true e next k =
     record {
       list = ap commands (when (is_called host name) (log.Submits (record { 0 = c }) (device_no host dev) op ∷ log_of host h) (log_of host h) e)
           ∙ ap (λ l. l ++ submitted (record { 0 = c }) (device_no host dev) op ∷ []) k.list
-          ∙ ap (λ l. l ++ submitted (record { 0 = c }) (device_no host dev) op ∷ []) (map-upto host (view host h) (view host (Submitted name c dev op ∷ h)) (tickets host h)
+          ∙ ap (λ l. l ++ submitted (record { 0 = c }) (device_no host dev) op ∷ []) (map-upto (view host h) (view host (Submitted name c dev op ∷ h)) (tickets host h)
           (λ j le. ap (λ x. view-by host j x (sends_of host h j) (was_done host h j)) (sym (unless (is_called host name && nat_eq c j) (Some (record { dev = dev; op = op })) (submission host h j) (subst (λ m. (is_called host name && nat_eq m j) ≡ false) (sym c-is) (next-test (is_called host name) (tickets host h) j le))))))
-          ∙ ap (λ y. map (view host (Submitted name c dev op ∷ h)) (upto host (tickets host h)) ++ y ∷ []) (newest c-is)
-          ∙ sym (map-append (view host (Submitted name c dev op ∷ h)) (upto host (tickets host h)) (suc (tickets host h) ∷ []))
-          ∙ ap (λ m. map (view host (Submitted name c dev op ∷ h)) (upto host m)) (sym (submitted-tickets host h name c dev op e));
+          ∙ ap (λ y. map (view host (Submitted name c dev op ∷ h)) (upto (tickets host h)) ++ y ∷ []) (newest c-is)
+          ∙ sym (map-append (view host (Submitted name c dev op ∷ h)) (upto (tickets host h)) (suc (tickets host h) ∷ []))
+          ∙ ap (λ m. map (view host (Submitted name c dev op ∷ h)) (upto m)) (sym (submitted-tickets host h name c dev op e));
       time = ap log.clock (when (is_called host name) (log.Submits (record { 0 = c }) (device_no host dev) op ∷ log_of host h) (log_of host h) e) ∙ k.time;
       unsubmitted = λ d lt. let later : suc (tickets host h) < d = subst (λ m. m < d) (submitted-tickets host h name c dev op e) lt in
           unless (is_called host name && nat_eq c d) (Some (record { dev = dev; op = op })) (submission host h d) (subst (λ m. (is_called host name && nat_eq m d) ≡ false) (sym c-is) (later-test (is_called host name) (tickets host h) d later)) ∙ k.unsubmitted d (omega arith);
@@ -249,8 +210,8 @@ submitted-known host h name c dev op true e next k =
         ∙ ap (λ o. view-by host (suc (tickets host h)) (submission host (Submitted name c dev op ∷ h) (suc (tickets host h))) (sends_of host h (suc (tickets host h))) o) (sym (k.undone (suc (tickets host h)) (omega arith)))
 submitted-known host h name c dev op false e next k = record {
   list = ap commands (unless (is_called host name) (log.Submits (record { 0 = c }) (device_no host dev) op ∷ log_of host h) (log_of host h) e) ∙ k.list
-      ∙ map-same (view host h) (view host (Submitted name c dev op ∷ h)) (upto host (tickets host h)) (λ n. ap (λ x. view-by host n x (sends_of host h n) (was_done host h n)) (sym (same n)))
-      ∙ ap (λ m. map (view host (Submitted name c dev op ∷ h)) (upto host m)) (sym (unless (is_called host name) (suc (tickets host h)) (tickets host h) e));
+      ∙ map-same (view host h) (view host (Submitted name c dev op ∷ h)) (upto (tickets host h)) (λ n. ap (λ x. view-by host n x (sends_of host h n) (was_done host h n)) (sym (same n)))
+      ∙ ap (λ m. map (view host (Submitted name c dev op ∷ h)) (upto m)) (sym (unless (is_called host name) (suc (tickets host h)) (tickets host h) e));
   time = ap log.clock (unless (is_called host name) (log.Submits (record { 0 = c }) (device_no host dev) op ∷ log_of host h) (log_of host h) e) ∙ k.time;
   unsubmitted = λ d lt. same d ∙ k.unsubmitted d (lower d lt);
   unsent = λ d lt. k.unsent d (lower d lt);
@@ -272,10 +233,10 @@ ticked-known host h ms k = record { list = k.list; time = later (log.clock (log_
 
 -- THE COMMANDS OF A LAWFUL HISTORY
 
-in-upto : (host : HostSetup) (n c : ℕ) → Contains (upto host n) c → (0 < c) × (c ≤ n)
-in-upto host zero c there = let lt = there.1 in absurd (omega arith)
-in-upto host (suc n) c there = elim (Contains-append_cases (upto host n) (suc n ∷ []) c there) [
-  | inl x ↦ (let p = in-upto host n c x in (p.0, omega arith))
+in-upto : (n c : ℕ) → Contains (upto n) c → (0 < c) × (c ≤ n)
+in-upto zero c there = let lt = there.1 in absurd (omega arith)
+in-upto (suc n) c there = elim (Contains-append_cases (upto n) (suc n ∷ []) c there) [
+  | inl x ↦ (let p = in-upto n c x in (p.0, omega arith))
   | inr x ↦ (let q = only-one (suc n) c x in (omega arith, omega arith))
 ]
   where
@@ -301,8 +262,8 @@ pub record IsView (host : HostSetup) (h : List Entry) (x : HostCommand) : Type 0
 
 pub viewed : (host : HostSetup) (h : List Entry) (x : HostCommand) → Known host h → Contains (commands_of host h) x → IsView host h x
 viewed host h x k there =
-    let c = Contains-map_from (view host h) (upto host (tickets host h)) x (subst (λ l. Contains l x) k.list there) in
-    let u = in-upto host (tickets host h) c.0 c.1 in
+    let c = Contains-map_from (view host h) (upto (tickets host h)) x (subst (λ l. Contains l x) k.list there) in
+    let u = in-upto (tickets host h) c.0 c.1 in
     record { ticket = c.0; above = u.0; submitted = u.1; is = c.2 }
 
 pub some-and : {X : Type 0} (P : X → Type 0) (o : Option X) (x : X) → o ≡ Some x → IsSomeAnd o P → P x

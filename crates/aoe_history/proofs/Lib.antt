@@ -19,3 +19,4 @@ pub mod SendLemmas
 pub mod SectorLemmas
 pub mod ArrivalLemmas
 pub mod FrameLemmas
+pub mod SentLemmas

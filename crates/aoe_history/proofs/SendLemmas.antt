@@ -1,10 +1,10 @@
 -- What a send of a host says of its earlier commands.
-use Rattle.std.proofs.Common.{ℕ, zero, suc, ◌+◌, ◌-◌, ◌*◌, ◌<◌, ◌≤◌, ◌≡◌, ◌≢◌, ◌⊎◌, inl, inr, if◌then◌else◌, cond, nat_eq, nat_lt, Bool, true, false, not, ◌&&◌, ◌||◌, List, [], ◌∷◌, ◌++◌, map, length, Option, Some, None, refl, sym, subst, ap, ◌∙◌, arith, slice_index_or, Contains}
+use Rattle.std.proofs.Common.{ℕ, ◌<◌, ◌≡◌, ◌⊎◌, inl, inr, cond, nat_lt, Bool, true, false, not, ◌&&◌, ◌||◌, List, [], ◌∷◌, map, refl, subst, arith, Contains}
 use Rattle.std.specs.List.{filter, list_any}
 use Rattle.std.proofs.lemmas.Bool.Decides.{nat_tests}
-use Rattle.std.proofs.lemmas.List.Elements.{Contains-append_cases, Contains-append_right}
+use Rattle.std.proofs.lemmas.List.Elements.{Contains-append_cases}
 use Rattle.aoe_hold.specs.declared.command.Command.{Command}
-use Rattle.aoe_hold.specs.Commands.{all_gone, conflict, finished, has_effect, is_clear, is_unsent, keeps_back, rests_on_effects}
+use Rattle.aoe_hold.specs.Commands.{all_gone, conflict, finished, has_effect, is_unsent, keeps_back, rests_on_effects}
 use Rattle.aoe_initiator.specs.HostLaw.{is_clear_at}
 use Rattle.aoe_initiator.specs.HostLog.{as_entered, entered_at, is_at, HostCommand}
 
