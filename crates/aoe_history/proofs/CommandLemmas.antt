@@ -279,7 +279,7 @@ ticket-of host h x c v e = let a : v.ticket ≡ x.ticket.0 = ap (λ z. z.ticket.
 pub sent-submitted : (s : Setup) (host : HostSetup) (h : List Entry) (c number : ℕ) (bytes : List ℕ) → Known host h → IsSent s host h c number bytes → c ≤ tickets host h
 sent-submitted s host h c number bytes k x = ticket-of host h x.frame.command c (viewed host h x.frame.command k x.frame.there) (ap (λ t. t.0) x.frame.ticket ∙ x.ticket_is)
 
-sent-of-there : (cs : List HostCommand) (o : Outstanding) → Contains (sent_of cs) o → (x : HostCommand) × Contains cs x × (as_sent x ≡ Some o)
+pub sent-of-there : (cs : List HostCommand) (o : Outstanding) → Contains (sent_of cs) o → (x : HostCommand) × Contains cs x × (as_sent x ≡ Some o)
 sent-of-there [] o c = let lt = c.1 in absurd (omega arith)
 sent-of-there (x ∷ cs) o c = go (as_sent x) refl (λ r. sent-of-there cs o r) c
   where

@@ -20,3 +20,4 @@ pub mod SectorLemmas
 pub mod ArrivalLemmas
 pub mod FrameLemmas
 pub mod SentLemmas
+pub mod ReadyLemmas

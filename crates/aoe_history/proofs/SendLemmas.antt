@@ -8,10 +8,10 @@ use Rattle.aoe_hold.specs.Commands.{all_gone, conflict, finished, has_effect, is
 use Rattle.aoe_initiator.specs.HostLaw.{is_clear_at}
 use Rattle.aoe_initiator.specs.HostLog.{as_entered, entered_at, is_at, HostCommand}
 
-only-one : {Z : Type 0} (m c : Z) → Contains (m ∷ []) c → m ≡ c
+pub only-one : {Z : Type 0} (m c : Z) → Contains (m ∷ []) c → m ≡ c
 only-one m c x = let z : x.0 ≡ 0 = (let lt = x.1 in omega arith) in rw z at x.2
 
-or-parts : (a b : Bool) → (a || b) ≡ false → (a ≡ false) × (b ≡ false)
+pub or-parts : (a b : Bool) → (a || b) ≡ false → (a ≡ false) × (b ≡ false)
 or-parts true b e = absurd (cc)
 or-parts false b e = (refl, e)
 
@@ -27,11 +27,11 @@ any-none p f q (y ∷ xs) x e there t = go (q y) refl e (λ r g. any-none p f q 
     go false qy e more (inl z) = absurd (let s : q x ≡ false = subst (λ w. q w ≡ false) (only-one y x z) qy in cc)
     go false qy e more (inr r) = more r e
 
-and-parts : (a b : Bool) → (a && b) ≡ true → (a ≡ true) × (b ≡ true)
+pub and-parts : (a b : Bool) → (a && b) ≡ true → (a ≡ true) × (b ≡ true)
 and-parts true b e = (refl, e)
 and-parts false b e = absurd (cc)
 
-not-true : (b : Bool) → not b ≡ true → b ≡ false
+pub not-true : (b : Bool) → not b ≡ true → b ≡ false
 not-true true e = absurd (cc)
 not-true false e = refl
 

@@ -77,7 +77,7 @@ pair-split (Some l) (Some r) pair e =
     let same : found_pair ≡ pair = cc in
     (ap (λ (p : Mac × Mac). Some p.0) same, ap (λ (p : Mac × Mac). Some p.1) same)
 
-some-mapped : {X Y : Type 0} (f : X → Y) (o : Option X) (y : Y) → option_map f o ≡ Some y → (x : X) × (o ≡ Some x) × (f x ≡ y)
+pub some-mapped : {X Y : Type 0} (f : X → Y) (o : Option X) (y : Y) → option_map f o ≡ Some y → (x : X) × (o ≡ Some x) × (f x ≡ y)
 some-mapped f None y e = absurd (cc)
 some-mapped f (Some x) y e = (x, refl, cc)
 
