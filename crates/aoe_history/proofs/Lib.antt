@@ -21,3 +21,4 @@ pub mod ArrivalLemmas
 pub mod FrameLemmas
 pub mod SentLemmas
 pub mod ReadyLemmas
+pub mod SourceLemmas
