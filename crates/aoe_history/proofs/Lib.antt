@@ -22,3 +22,4 @@ pub mod FrameLemmas
 pub mod SentLemmas
 pub mod ReadyLemmas
 pub mod SourceLemmas
+pub mod BaseLemmas
