@@ -67,11 +67,11 @@ keeps-base life host h n k b = record {
 
 -- A SEND OF THE HOST'S
 
-more-last : (tag : ℕ) (now : Millis) (path : PathNo) (t : ℕ) (o : Option Sending) → (one_more tag now path t o).last ≡ now
+pub more-last : (tag : ℕ) (now : Millis) (path : PathNo) (t : ℕ) (o : Option Sending) → (one_more tag now path t o).last ≡ now
 more-last tag now path t None = refl
 more-last tag now path t (Some x) = refl
 
-more-tag : (tag : ℕ) (now : Millis) (path : PathNo) (t : ℕ) (x : Sending) (o : Option Sending) → o ≡ Some x → (one_more tag now path t o).tag ≡ x.tag
+pub more-tag : (tag : ℕ) (now : Millis) (path : PathNo) (t : ℕ) (x : Sending) (o : Option Sending) → o ≡ Some x → (one_more tag now path t o).tag ≡ x.tag
 more-tag tag now path t x None e = absurd (cc)
 more-tag tag now path t x (Some y) e = let s : y ≡ x = cc in ap (λ (z : Sending). z.tag) s
 
@@ -103,32 +103,32 @@ finished-done None done e = absurd (cc)
 finished-done (Some s) true e = refl
 finished-done (Some s) false e = absurd (cc)
 
-module _ (life : ℕ) (host : HostSetup) (h : List Entry) (name : ArrayVec ℕ) (c number : ℕ) (f : List ℕ) (mine : is_called host name ≡ true) (r : IsReady life host h c f) (reads : (fields f).tag ≡ r.tag) where
-  -- what is sent of the command after it
-  abbrev pub more : ℕ → Sending
-  more d = one_more (fields f).tag (record { 0 = clock h }) (path_of host (submission host h c) f) (timeout_at host h d c f) (sends_of host h d)
+-- what is sent of a command after a frame of command `c`
+abbrev pub more : HostSetup → List Entry → ℕ → List ℕ → ℕ → Sending
+more host h c f d = one_more (fields f).tag (record { 0 = clock h }) (path_of host (submission host h c) f) (timeout_at host h d c f) (sends_of host h d)
 
+module _ (life : ℕ) (host : HostSetup) (h : List Entry) (name : ArrayVec ℕ) (c number : ℕ) (f : List ℕ) (mine : is_called host name ≡ true) (r : IsReady life host h c f) (reads : (fields f).tag ≡ r.tag) where
   abbrev pub after : List Entry
   after = Sent name c number f ∷ h
 
-  pub now-sent : sends_of host after c ≡ Some (more c)
+  pub now-sent : sends_of host after c ≡ Some (more host h c f c)
   now-sent = go (is_called host name && nat_eq c c) (own-number (is_called host name) c mine)
     where
-      go : (b : Bool) → b ≡ true → (if b then Some (more c) else sends_of host h c) ≡ Some (more c)
+      go : (b : Bool) → b ≡ true → (if b then Some (more host h c f c) else sends_of host h c) ≡ Some (more host h c f c)
       go true e = refl
       go false e = absurd (cc)
 
   -- it is the one that was sent, or another that was sent before
-  pub sent-cases : (d : ℕ) (x : Sending) → sends_of host after d ≡ Some x → ((d ≡ c) × (x ≡ more d)) ⊎ (sends_of host h d ≡ Some x)
-  sent-cases d x e = elim (some-if (is_called host name && nat_eq c d) (more d) x (sends_of host h d) e) [
+  pub sent-cases : (d : ℕ) (x : Sending) → sends_of host after d ≡ Some x → ((d ≡ c) × (x ≡ more host h c f d)) ⊎ (sends_of host h d ≡ Some x)
+  sent-cases d x e = elim (some-if (is_called host name && nat_eq c d) (more host h c f d) x (sends_of host h d) e) [
     | inl p ↦ inl (is-number (is_called host name) c d p.0, sym p.1)
     | inr q ↦ inr q
   ]
 
-  last-now : (d : ℕ) → (more d).last.0 ≤ clock h
-  last-now d = let e = more-last (fields f).tag (record { 0 = clock h }) (path_of host (submission host h c) f) (timeout_at host h d c f) (sends_of host h d) in let n : (more d).last.0 ≡ clock h = ap (λ (m : Millis). m.0) e in omega arith
+  last-now : (d : ℕ) → (more host h c f d).last.0 ≤ clock h
+  last-now d = let e = more-last (fields f).tag (record { 0 = clock h }) (path_of host (submission host h c) f) (timeout_at host h d c f) (sends_of host h d) in let n : (more host h c f d).last.0 ≡ clock h = ap (λ (m : Millis). m.0) e in omega arith
 
-  pub tag-is : (more c).tag ≡ r.tag
+  pub tag-is : (more host h c f c).tag ≡ r.tag
   tag-is = elim r.may [
     | inl first ↦ first-tag (fields f).tag (record { 0 = clock h }) (path_of host (submission host h c) f) (timeout_at host h c c f) (sends_of host h c) first.unsent ∙ reads
     | inr again ↦ more-tag (fields f).tag (record { 0 = clock h }) (path_of host (submission host h c) f) (timeout_at host h c c f) again.before (sends_of host h c) again.sent ∙ again.same
@@ -164,7 +164,7 @@ module _ (life : ℕ) (host : HostSetup) (h : List Entry) (name : ArrayVec ℕ) 
       | inl p ↦ subst (λ (z : Sending). z.last.0 ≤ clock h) (sym p.1) (last-now d)
       | inr q ↦ b.last d x q
     ];
-    done = λ d e. is-some-if (is_called host name && nat_eq c d) (more d) (sends_of host h d) (b.done d e);
+    done = λ d e. is-some-if (is_called host name && nat_eq c d) (more host h c f d) (sends_of host h d) (b.done d e);
     order = λ e d x s above lt co. elim (sent-cases e x s) [
       | inl p ↦ own-order b d above (subst (λ k. d < k) p.0 lt) (subst (λ k. in_conflict host h d k ≡ true) p.0 co)
       | inr q ↦ b.order e d x q above lt co
@@ -181,5 +181,5 @@ module _ (life : ℕ) (host : HostSetup) (h : List Entry) (name : ArrayVec ℕ) 
     ];
   }
     where
-      own-tag-of : (e : ℕ) (x : Sending) → (e ≡ c) × (x ≡ more e) → r.tag ≡ x.tag
-      own-tag-of e x p = sym (ap (λ (z : Sending). z.tag) p.1 ∙ ap (λ k. (more k).tag) p.0 ∙ tag-is)
+      own-tag-of : (e : ℕ) (x : Sending) → (e ≡ c) × (x ≡ more host h c f e) → r.tag ≡ x.tag
+      own-tag-of e x p = sym (ap (λ (z : Sending). z.tag) p.1 ∙ ap (λ k. (more host h c f k).tag) p.0 ∙ tag-is)

@@ -23,3 +23,4 @@ pub mod SentLemmas
 pub mod ReadyLemmas
 pub mod SourceLemmas
 pub mod BaseLemmas
+pub mod EntryLemmas
