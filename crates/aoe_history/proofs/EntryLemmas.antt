@@ -150,7 +150,8 @@ done-flies s host h c outcome k (inr x) =
 
 -- FRAMES
 
-pub AreSentFor : HostSetup → List Entry → List SentFrame → Type 0
+-- of these frames those of the host's
+abbrev pub AreSentFor : HostSetup → List Entry → List SentFrame → Type 0
 AreSentFor host h fs = (k : ℕ) (f : SentFrame) → numbered fs k ≡ Some f → reading.is_from host f.bytes ≡ true → IsSentFor host h f
 
 pub numbered-cases : (g : SentFrame) (fs : List SentFrame) (k : ℕ) (f : SentFrame) → numbered (g ∷ fs) k ≡ Some f → (g ≡ f) ⊎ (numbered fs k ≡ Some f)
@@ -170,12 +171,10 @@ keeps-sent life host h n f k b x = record {
 }
 
 pub keeps-frames : (life : ℕ) (host : HostSetup) (h n : List Entry) (fs : List SentFrame) → Keeps host h n → Base life host h → AreSentFor host h fs → AreSentFor host n fs
-unfolding AreSentFor
 keeps-frames life host h n fs k b all number f e from = keeps-sent life host h n f k b (all number f e from)
 
 -- one more frame, which isn't the host's
 pub foreign-frame : (host : HostSetup) (h : List Entry) (g : SentFrame) (fs : List SentFrame) → (reading.is_from host g.bytes ≡ true → ⊥) → AreSentFor host h fs → AreSentFor host h (g ∷ fs)
-unfolding AreSentFor
 foreign-frame host h g fs foreign all number f e from = elim (numbered-cases g fs number f e) [
   | inl z ↦ absurd (foreign (subst (λ (x : SentFrame). reading.is_from host x.bytes ≡ true) (sym z) from))
   | inr q ↦ all number f q from
@@ -222,7 +221,6 @@ module _ (life : ℕ) (host : HostSetup) (h : List Entry) (name : ArrayVec ℕ) 
   }
 
   pub sent-frames : Base life host h → (fs : List SentFrame) → AreSentFor host h fs → AreSentFor host (Sent name c number f ∷ h) (record { bytes = f; birth = clock h } ∷ fs)
-  unfolding AreSentFor
   sent-frames b fs all k g e from = elim (numbered-cases (record { bytes = f; birth = clock h }) fs k g e) [
     | inl z ↦ subst (λ (x : SentFrame). IsSentFor host (Sent name c number f ∷ h) x) z new-sent
     | inr q ↦ still-sent b g (all k g q from)

@@ -24,3 +24,4 @@ pub mod ReadyLemmas
 pub mod SourceLemmas
 pub mod BaseLemmas
 pub mod EntryLemmas
+pub mod HostLemmas
