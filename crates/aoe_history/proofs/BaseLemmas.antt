@@ -134,7 +134,7 @@ module _ (life : ℕ) (host : HostSetup) (h : List Entry) (name : ArrayVec ℕ) 
     | inr again ↦ more-tag (fields f).tag (record { 0 = clock h }) (path_of host (submission host h c) f) (timeout_at host h c c f) again.before (sends_of host h c) again.sent ∙ again.same
   ]
 
-  own-order : (b : Base life host h) (d : ℕ) → 0 < d → d < c → in_conflict host h d c ≡ true → was_done host h d ≡ true
+  pub own-order : (b : Base life host h) (d : ℕ) → 0 < d → d < c → in_conflict host h d c ≡ true → was_done host h d ≡ true
   own-order b d above lt co = elim r.may [
     | inl first ↦ finished-done (sends_of host h d) (was_done host h d) (first.past d above lt co).done
     | inr again ↦ b.order c d again.before again.sent above lt co

@@ -16,6 +16,7 @@ use Rattle.aoe_history.specs.Setup.{host_called, is_called, slot_of, is_slot, Ho
 use Rattle.aoe_history.proofs.BaseLemmas.{keeps-base, sent-base, Base, Keeps}
 use Rattle.aoe_history.proofs.CommandLemmas.{known, some-and, IsNamed, Known}
 use Rattle.aoe_history.proofs.EntryLemmas.{done-flies, done-keeps, foreign-frame, keeps-frames, named, sent-frames, sent-keeps, submitted-keeps, AreSentFor}
+use Rattle.aoe_history.proofs.GoneLemmas.{keeps-gone, sent-gone, AreGone}
 use Rattle.aoe_history.proofs.ReadyLemmas.{ready, IsReady}
 use Rattle.aoe_history.proofs.SentLemmas.{found, host-there, request-header}
 use Rattle.aoe_history.proofs.SourceLemmas.{foreign-source, replied-source, request-source, some-such}
@@ -23,6 +24,7 @@ use Rattle.aoe_history.proofs.SourceLemmas.{foreign-source, replied-source, requ
 pub record Holds (s : Setup) (host : HostSetup) (h : List Entry) : Type 0 where
   pub base : Base s.life host h
   pub frames : AreSentFor host h (frames h)
+  pub gone : AreGone s.life host h
 
 module _ (s : Setup) (host : HostSetup) (mine : IsNamed s host) (ok : IsSetup s) (there : Contains s.hosts host) where
   -- an entry that adds no frame and sends nothing
@@ -30,6 +32,7 @@ module _ (s : Setup) (host : HostSetup) (mine : IsNamed s host) (ok : IsSetup s)
   kept h n k e x = record {
     base = keeps-base s.life host h n k x.base;
     frames = subst (λ fs. AreSentFor host n fs) (sym e) (keeps-frames s.life host h n (frames h) k x.base x.frames);
+    gone = keeps-gone s.life host h n k x.base x.gone;
   }
 
   tag-read : (h : List Entry) (c : ℕ) (f : List ℕ) (r : IsReady s.life host h c f) → (fields f).tag ≡ r.tag
@@ -41,6 +44,7 @@ module _ (s : Setup) (host : HostSetup) (mine : IsNamed s host) (ok : IsSetup s)
       record {
         base = sent-base s.life host h name c number f own r (tag-read h c f r) x.base;
         frames = sent-frames s.life host h name c number f own r (tag-read h c f r) x.base (frames h) x.frames;
+        gone = sent-gone s.life host h name c number f own r (tag-read h c f r) x.base x.gone;
       }
   sent h name c number f lawful law false other x =
       let k = sent-keeps host h name c number f other in
@@ -51,6 +55,7 @@ module _ (s : Setup) (host : HostSetup) (mine : IsNamed s host) (ok : IsSetup s)
         frames = foreign-frame host (Sent name c number f ∷ h) (record { bytes = f; birth = clock h }) (frames h)
             (λ from. let same = request-source s o.0 host h c number f ok its.0 there o.2 from in let own : is_called host name ≡ true = subst (λ (z : HostSetup). is_called z name ≡ true) (sym same) its.1 in cc)
             (keeps-frames s.life host h (Sent name c number f ∷ h) (frames h) k x.base x.frames);
+        gone = keeps-gone s.life host h (Sent name c number f ∷ h) k x.base x.gone;
       }
 
   arrived : (h : List Entry) (dev : TargetId) (frame : ℕ) (fate : Fate) → IsSomeAnd (slot_of s dev) (λ slot. IsArrival s slot h frame fate) → Holds s host h → Holds s host (Arrived dev frame fate ∷ h)
@@ -65,12 +70,14 @@ module _ (s : Setup) (host : HostSetup) (mine : IsNamed s host) (ok : IsSetup s)
         frames = foreign-frame host (Arrived dev frame (Replied e number r) ∷ h) (record { bytes = r; birth = clock h }) (frames h)
             (λ from. replied-source s host slot.0 h slot.2.bytes r e number ok there (found (λ z. is_slot z dev) s.slots slot.0 slot.1).0 slot.2.law from)
             (keeps-frames s.life host h (Arrived dev frame (Replied e number r) ∷ h) (frames h) k x.base x.frames);
+        gone = keeps-gone s.life host h (Arrived dev frame (Replied e number r) ∷ h) k x.base x.gone;
       }
 
   pub holds : (h : List Entry) → IsLawful s h → Holds s host h
   holds [] l = record {
     base = record { bounds = λ c x e. absurd (cc); last = λ c x e. absurd (cc); done = λ c e. absurd (cc); order = λ c d x e a lt co. absurd (cc); tags = λ c d x y p q u v t. absurd (cc) };
     frames = λ k f e from. absurd (cc);
+    gone = λ c d x y p q above lt co eff rests. absurd (cc);
   }
   holds (Submitted name c dev op ∷ h) l = kept h (Submitted name c dev op ∷ h)
       (submitted-keeps host h name c dev op (λ e. (some-and (λ x. IsSubmitted s x h c dev op) (host_called s name) host (mine name e) l.0).next)) refl (holds h l.1)
@@ -83,6 +90,7 @@ module _ (s : Setup) (host : HostSetup) (mine : IsNamed s host) (ok : IsSetup s)
         base = keeps-base s.life host h (Injected number f ∷ h) k x.base;
         frames = foreign-frame host (Injected number f ∷ h) (record { bytes = f; birth = clock h }) (frames h) (λ from. foreign-source s host h number f there l.0 from)
             (keeps-frames s.life host h (Injected number f ∷ h) (frames h) k x.base x.frames);
+        gone = keeps-gone s.life host h (Injected number f ∷ h) k x.base x.gone;
       }
   holds (Arrived dev frame fate ∷ h) l = arrived h dev frame fate l.0 (holds h l.1)
   holds (Took name frame stale ∷ h) l = kept h (Took name frame stale ∷ h) (record { sends = λ c. refl; done = λ c e. e; ended = λ c e. inl e; time = omega arith; count = omega arith; submissions = λ c le. refl }) refl (holds h l.1)

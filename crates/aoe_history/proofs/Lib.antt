@@ -24,4 +24,5 @@ pub mod ReadyLemmas
 pub mod SourceLemmas
 pub mod BaseLemmas
 pub mod EntryLemmas
+pub mod GoneLemmas
 pub mod HostLemmas

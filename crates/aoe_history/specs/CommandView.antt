@@ -4,7 +4,7 @@ use Rattle.aoe_base.specs.declared.address.Mac.{Mac}
 use Rattle.aoe_base.specs.declared.counted.DeviceNo.{DeviceNo}
 use Rattle.aoe_flight.specs.Outstanding.{rest_time}
 use Rattle.aoe_frame.specs.Header.{fields}
-use Rattle.aoe_hold.specs.Commands.{conflict}
+use Rattle.aoe_hold.specs.Commands.{conflict, is_gone}
 use Rattle.aoe_initiator.specs.declared.device.Attached.{Attached}
 use Rattle.aoe_initiator.specs.declared.op.Op.{Op}
 use Rattle.aoe_initiator.specs.declared.op.Op.TheVariants.{Flush}
@@ -69,6 +69,10 @@ views host h = map (view host h) (upto (tickets host h))
 -- a command that was sent flies, or it is done and rests: a response to its last frame can still arrive
 abbrev pub is_live : ℕ → HostSetup → List Entry → ℕ → Sending → Bool
 is_live life host h c x = not (was_done host h c && nat_lt (rest_time life) (clock h - x.last.0))
+
+-- a command that was sent flies, or a frame of it can still arrive
+abbrev pub is_active : ℕ → HostSetup → List Entry → ℕ → Sending → Bool
+is_active life host h c x = not (was_done host h c && is_gone life (clock h) x.last.0)
 
 -- two commands are for one device, and must keep their order there
 abbrev pub in_conflict : HostSetup → List Entry → ℕ → ℕ → Bool
