@@ -37,10 +37,10 @@ pub record Keeps (host : HostSetup) (h n : List Entry) : Type 0 where
   pub submissions : (c : ℕ) → c ≤ tickets host h → submission host n c ≡ submission host h c
 
 -- a conflict, by what was submitted
-abbrev clash : HostSetup → Option Submission → Option Submission → Bool
+abbrev pub clash : HostSetup → Option Submission → Option Submission → Bool
 clash host x y = nat_eq (device_in host x).0 (device_in host y).0 && conflict (record { ticket = record { 0 = 0 }; kind = kind_of (op_in x); span = span_of (op_in x); stage = Unsent }) (record { ticket = record { 0 = 0 }; kind = kind_of (op_in y); span = span_of (op_in y); stage = Unsent })
 
-by-submissions : (host : HostSetup) (h : List Entry) (d c : ℕ) → in_conflict host h d c ≡ clash host (submission host h d) (submission host h c)
+pub by-submissions : (host : HostSetup) (h : List Entry) (d c : ℕ) → in_conflict host h d c ≡ clash host (submission host h d) (submission host h c)
 by-submissions host h d c = refl
 
 pub same-conflict : (host : HostSetup) (h n : List Entry) (d c : ℕ) → submission host n d ≡ submission host h d → submission host n c ≡ submission host h c → in_conflict host n d c ≡ in_conflict host h d c

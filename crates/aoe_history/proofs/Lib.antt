@@ -26,3 +26,4 @@ pub mod BaseLemmas
 pub mod EntryLemmas
 pub mod GoneLemmas
 pub mod HostLemmas
+pub mod ApartLemmas

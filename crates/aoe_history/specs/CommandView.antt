@@ -1,6 +1,7 @@
 -- A host's commands, each by what the history says of it, and what a frame of one is.
 use Rattle.std.specs.Prelude.{ℕ, zero, suc, ◌≡◌, ◌≤◌, ◌-◌, Bool, true, false, not, ◌&&◌, ◌||◌, nat_eq, nat_lt, List, [], ◌∷◌, ◌++◌, map, Option, Some, None, slice_get, if◌then◌else◌}
 use Rattle.aoe_base.specs.declared.address.Mac.{Mac}
+use Rattle.aoe_base.specs.declared.address.TargetId.{TargetId}
 use Rattle.aoe_base.specs.declared.counted.DeviceNo.{DeviceNo}
 use Rattle.aoe_flight.specs.Outstanding.{rest_time}
 use Rattle.aoe_frame.specs.Header.{fields}
@@ -17,7 +18,7 @@ use Rattle.aoe_history.specs.declared.entry.Entry.{Entry}
 use Rattle.aoe_history.specs.declared.entry.Entry.TheVariants.{Sent, Done}
 use Rattle.aoe_history.specs.Commands.{is_of, log_of, path_of, submission, tickets, Submission}
 use Rattle.aoe_history.specs.Frames.{clock}
-use Rattle.aoe_history.specs.Setup.{device_no, HostSetup}
+use Rattle.aoe_history.specs.Setup.{device_no, is_slot, HostSetup, SlotSetup}
 
 -- the device that a command is for, and what it asks of it
 abbrev pub device_in : HostSetup → Option Submission → DeviceNo
@@ -96,3 +97,9 @@ pub record IsSentFor (host : HostSetup) (h : List Entry) (frame : SentFrame) : T
   pub sent : sends_of host h ticket ≡ Some sending
   pub request : IsRequest host (view host h ticket).device (view host h ticket).op sending.tag frame.bytes
   pub time : frame.birth ≤ sending.last.0
+
+-- a command asks this of a slot
+pub record AsksAt (slot : SlotSetup) (o : Option Submission) (op : Op) : Type 0 where
+  pub dev : TargetId
+  pub is : o ≡ Some (record { dev = dev; op = op })
+  pub slot_is : is_slot slot dev ≡ true

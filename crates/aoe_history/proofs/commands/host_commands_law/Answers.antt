@@ -23,5 +23,8 @@ returns-clause-done_once_sent c = λ s host h x. (holds-of s host h x).base.done
 pub returns-clause-in_order : goal.returns-clause-in_order
 returns-clause-in_order c = λ s host h x later earlier sent above lt conflict. let y = there (sends_of host h later) sent in (holds-of s host h x).base.order later earlier y.0 y.1 above lt conflict
 
+pub returns-clause-earlier_gone : goal.returns-clause-earlier_gone
+returns-clause-earlier_gone c = λ s host h x later earlier a b sent before lt conflict effect rests. let k = holds-of s host h x in k.gone later earlier a b sent before (k.base.bounds earlier b before).0 lt conflict effect rests
+
 pub returns-clause-tags_differ : goal.returns-clause-tags_differ
 returns-clause-tags_differ c = λ s host h x. (holds-of s host h x).base.tags
