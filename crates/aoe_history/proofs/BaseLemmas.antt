@@ -95,9 +95,6 @@ is-some-if : (b : Bool) (x : Sending) (o : Option Sending) → is_some o ≡ tru
 is-some-if true x o e = refl
 is-some-if false x o e = e
 
-some-none : (o : Option Sending) (x : Sending) → o ≡ None → o ≡ Some x → ⊥
-some-none o x p q = let e : Some x ≡ None = sym q ∙ p in cc
-
 finished-done : (sends : Option Sending) (done : Bool) → finished (stage sends done) ≡ true → done ≡ true
 finished-done None done e = absurd (cc)
 finished-done (Some s) true e = refl

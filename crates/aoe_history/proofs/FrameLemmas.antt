@@ -1,20 +1,10 @@
--- The frames of a history, each with the command that it was sent for or answers.
+-- The frames of a history that can still be handed over.
 use Rattle.std.proofs.Common.{if◌then◌else◌, nat_le, ◌==◌, ℕ, suc, ◌+◌, ◌-◌, ◌≤◌, ◌≡◌, Bool, true, false, List, [], ◌∷◌, length, Option, Some, None, refl, ap, ◌∙◌, arith}
 use Rattle.std.proofs.lemmas.Bool.Decides.{nat_tests}
 use Rattle.std.specs.Option.{option_and_then, option_map_or}
 use Rattle.aoe_net.specs.Network.{fresh_bytes, numbered, SentFrame}
 use Rattle.aoe_history.specs.declared.entry.Entry.{Entry}
-use Rattle.aoe_history.specs.declared.entry.Entry.TheVariants.{Sent, Injected, Arrived}
-use Rattle.aoe_history.specs.declared.entry.Fate.TheVariants.{Replied}
-use Rattle.aoe_history.specs.Frames.{arriving, bytes_of, clock, frames, network, next_number}
-
--- the ticket of the command that the frame with a number was sent for, or answers; 0 for a frame from elsewhere
-abbrev pub ticket_of : List Entry → ℕ → ℕ
-ticket_of [] k = 0
-ticket_of (Sent name ticket number bytes ∷ h) k = if k == next_number h then ticket else ticket_of h k
-ticket_of (Injected number bytes ∷ h) k = if k == next_number h then 0 else ticket_of h k
-ticket_of (Arrived dev frame (Replied effect number bytes) ∷ h) k = if k == next_number h then ticket_of h frame else ticket_of h k
-ticket_of (_ ∷ h) k = ticket_of h k
+use Rattle.aoe_history.specs.Frames.{arriving, bytes_of, clock, frames, network}
 
 -- when the frame with a number was sent
 abbrev pub birth_of : List Entry → ℕ → ℕ
@@ -57,24 +47,3 @@ arrives life h k f e = go (numbered (frames h) k) refl e
           there = number-within (frames h) k g q;
           fresh = rw q (omega arith);
         }
-
--- a new frame leaves the older ones
-pub older : (g : SentFrame) (fs : List SentFrame) (k : ℕ) → k ≤ length fs → numbered (g ∷ fs) k ≡ numbered fs k
-older g fs k le = go (k == suc (length fs)) (not-next k (length fs) le)
-  where
-    not-next : (k n : ℕ) → k ≤ n → (k == suc n) ≡ false
-    not-next k n le = grind (arith, nat_tests)
-
-    go : (b : Bool) → b ≡ false → (if b then Some g else numbered fs k) ≡ numbered fs k
-    go true e = absurd (cc)
-    go false e = refl
-
-pub newest : (g : SentFrame) (fs : List SentFrame) → numbered (g ∷ fs) (suc (length fs)) ≡ Some g
-newest g fs = go (suc (length fs) == suc (length fs)) (self (suc (length fs)))
-  where
-    self : (n : ℕ) → (n == n) ≡ true
-    self n = grind (arith, nat_tests)
-
-    go : (b : Bool) → b ≡ true → (if b then Some g else numbered fs (suc (length fs))) ≡ Some g
-    go true e = refl
-    go false e = absurd (cc)

@@ -14,16 +14,14 @@ mod CentralGroups
 mod RequestLemmas
 mod ReplyLemmas
 mod ConversationLemmas
-pub mod CommandLemmas
-pub mod SendLemmas
-pub mod SectorLemmas
-pub mod ArrivalLemmas
-pub mod FrameLemmas
-pub mod SentLemmas
-pub mod ReadyLemmas
-pub mod SourceLemmas
-pub mod BaseLemmas
-pub mod EntryLemmas
-pub mod GoneLemmas
-pub mod HostLemmas
-pub mod ApartLemmas
+mod CommandLemmas
+mod SendLemmas
+mod FrameLemmas
+mod SentLemmas
+mod ReadyLemmas
+mod SourceLemmas
+mod BaseLemmas
+mod EntryLemmas
+mod GoneLemmas
+mod HostLemmas
+mod ApartLemmas

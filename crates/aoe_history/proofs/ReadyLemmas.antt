@@ -98,9 +98,6 @@ never-sent (Some s) false e = absurd (cc)
 differs : (a b : ℕ) → nat_eq a b ≡ false → a ≢ b
 differs a b e p = grind (arith, nat_tests)
 
-same-numbers : (a b c : ℕ) → a ≡ c → nat_eq a b ≡ nat_eq c b
-same-numbers a b c e = ap (λ x. nat_eq x b) e
-
 first-send : (s : Setup) (host : HostSetup) (h : List Entry) (c : ℕ) (sent : step.Sent) → Known host h → 0 < c → c ≤ tickets host h → sent.ticket.0 ≡ c
     → IsNextBy false (host_after s host h) (commands_of host h) sent → IsFirstSend s.life host h c sent.tag
 first-send s host h c sent k above le ticket may =
