@@ -14,3 +14,14 @@ mod CentralGroups
 mod RequestLemmas
 mod ReplyLemmas
 mod ConversationLemmas
+mod CommandLemmas
+mod SendLemmas
+mod FrameLemmas
+mod SentLemmas
+mod ReadyLemmas
+mod SourceLemmas
+mod BaseLemmas
+mod EntryLemmas
+mod GoneLemmas
+mod HostLemmas
+mod ApartLemmas

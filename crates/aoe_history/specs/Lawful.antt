@@ -1,5 +1,6 @@
 -- Which entry may come next, by the shelf law, the host law and the network.
 use Rattle.std.specs.Prelude.{ℕ, ◌≡◌, Bool, false, List, [], ◌∷◌, Some, IsSomeAnd}
+use Rattle.arrayvec.specs.ArrayVec.{ArrayVec}
 use Rattle.aoe_base.specs.declared.address.TargetId.{TargetId}
 use Rattle.aoe_frame.specs.Header.{fields}
 use Rattle.aoe_initiator.specs.declared.op.Op.{Op}
@@ -9,7 +10,7 @@ use Rattle.aoe_history.specs.declared.entry.Fate.{Fate}
 use Rattle.aoe_history.specs.declared.entry.Fate.TheVariants.{Replied}
 use Rattle.aoe_history.specs.Frames.{arriving, next_number}
 use Rattle.aoe_history.specs.HostLaw.{IsDone, IsRefused, IsSent, IsSubmitted, IsTaken}
-use Rattle.aoe_history.specs.Setup.{host_called, is_port, slot_of, HostSetup, Setup, SlotSetup}
+use Rattle.aoe_history.specs.Setup.{host_called, is_port, slot_of, HostSetup, IsSetup, Setup, SlotSetup}
 use Rattle.aoe_history.specs.ShelfLaw.{KeepsArming, KeepsLists, KeepsShelfLaw}
 
 -- a reply is the next frame
@@ -53,3 +54,10 @@ MayCome s h (Crashed dev lists how) = IsSomeAnd (slot_of s dev) (λ slot. KeepsL
 abbrev pub IsLawful : Setup → List Entry → Type 0
 IsLawful s [] = Unit {0}
 IsLawful s (e ∷ h) = MayCome s h e × IsLawful s h
+
+-- a lawful history, and one of its hosts
+pub record HasHost (s : Setup) (host : HostSetup) (h : List Entry) : Type 0 where
+  pub setup : IsSetup s
+  pub name : ArrayVec ℕ
+  pub called : host_called s name ≡ Some host
+  pub lawful : IsLawful s h

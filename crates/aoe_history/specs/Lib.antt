@@ -3,6 +3,7 @@ pub mod Frames
 pub mod Slots
 pub mod ShelfLaw
 pub mod Commands
+pub mod CommandView
 pub mod HostLaw
 pub mod Reading
 pub mod Lawful

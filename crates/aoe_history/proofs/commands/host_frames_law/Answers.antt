@@ -1,0 +1,9 @@
+use Rattle.aoe_history.proofs.ApartLemmas.{arriving-active}
+use Rattle.aoe_history.proofs.HostLemmas.{holds-of}
+use Rattle.aoe_history.proofs.commands.host_frames_law.Goals as goal
+
+pub returns-clause-requests : goal.returns-clause-requests
+returns-clause-requests c = λ s host h x. (holds-of s host h x).frames
+
+pub returns-clause-active : goal.returns-clause-active
+returns-clause-active c = λ s host h x. arriving-active s.life host h
