@@ -25,3 +25,4 @@ mod EntryLemmas
 mod GoneLemmas
 mod HostLemmas
 mod ApartLemmas
+mod AskedLemmas

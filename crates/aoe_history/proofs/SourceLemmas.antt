@@ -169,6 +169,6 @@ replied-source s host slot h f r e number ok mine there law from = ok.shelf_port
 -- a request of a host
 pub request-source : (s : Setup) (o host : HostSetup) (h : List Entry) (c number : ℕ) (f : List ℕ) → IsSetup s → Contains s.hosts o → Contains s.hosts host → IsSent s o h c number f → is_from host f ≡ true → host ≡ o
 request-source s o host h c number f ok other mine x from =
-    let r = spelled-request s o h x.frame.command.op x.frame.command.device x.sent.path x.sent.tag f x.frame.bytes in
-    let is = request-header s o x.frame.command.device x.frame.command.op x.sent.tag f ok other x.tag_fits r in
+    let r = spelled-request s o h x.frame.command.op x.frame.command.device x.sent.path x.sent.tag f x.tag_fits x.frame.bytes in
+    let is = request-header s o x.frame.command.device x.frame.command.op x.sent.tag f ok other r in
     ok.host_ports host o r.local mine other (subst (λ (z : Header). holds host.ports z.src ≡ true) is from) r.own
