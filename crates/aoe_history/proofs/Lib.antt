@@ -26,3 +26,6 @@ mod GoneLemmas
 mod HostLemmas
 mod ApartLemmas
 mod AskedLemmas
+mod SectorLemmas
+mod ArrivalLemmas
+mod DeedLemmas
