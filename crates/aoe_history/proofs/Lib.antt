@@ -29,3 +29,4 @@ mod AskedLemmas
 mod SectorLemmas
 mod ArrivalLemmas
 mod DeedLemmas
+mod AtLemmas
