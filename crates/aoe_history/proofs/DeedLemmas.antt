@@ -78,7 +78,7 @@ step-still station f (step.Change next args) c (Replied effect.Edited n r) s a =
 step-still station f (step.Change next args) c (Replied effect.EditFault n r) s a = (refl, refl)
 step-still station f (step.Change next args) c fate s a = absurd a
 
-step-sectors : (x : Step) (fate : Fate) (k : State) → (after_step x (fate_at fate) k).sectors ≡ k.sectors
+pub step-sectors : (x : Step) (fate : Fate) (k : State) → (after_step x (fate_at fate) k).sectors ≡ k.sectors
 step-sectors step.Silent fate k = refl
 step-sectors (step.Reply error args) fate k = refl
 step-sectors (step.Change next args) Ignored k = refl

@@ -30,3 +30,4 @@ mod SectorLemmas
 mod ArrivalLemmas
 mod DeedLemmas
 mod AtLemmas
+mod ArriveLemmas
