@@ -31,3 +31,4 @@ mod ArrivalLemmas
 mod DeedLemmas
 mod AtLemmas
 mod ArriveLemmas
+mod TrueLemmas
