@@ -32,3 +32,5 @@ mod DeedLemmas
 mod AtLemmas
 mod ArriveLemmas
 mod TrueLemmas
+mod EndLemmas
+mod PassLemmas

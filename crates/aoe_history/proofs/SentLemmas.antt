@@ -64,7 +64,7 @@ host-there s name host e = found (λ x. is_called x name) s.hosts host e
 
 -- DEVICES
 
-device-at : (ports : List Mac) (life now n : ℕ) (cs : List HostCommand) (ds : List Attached) (k : ℕ) (d : Device) → slice_get (devices_of ports life now cs n ds) k ≡ Some d → slice_get ds k ≡ Some d.about
+pub device-at : (ports : List Mac) (life now n : ℕ) (cs : List HostCommand) (ds : List Attached) (k : ℕ) (d : Device) → slice_get (devices_of ports life now cs n ds) k ≡ Some d → slice_get ds k ≡ Some d.about
 device-at ports life now n cs [] k d e = absurd (cc)
 device-at ports life now n cs (a ∷ ds) zero d e = ap (λ (o : Option Device). option_map (λ (x : Device). x.about) o) e
 device-at ports life now n cs (a ∷ ds) (suc k) d e = device-at ports life now (n + 1) cs ds k d e
