@@ -34,3 +34,5 @@ mod ArriveLemmas
 mod TrueLemmas
 mod EndLemmas
 mod PassLemmas
+mod DoneLemmas
+mod ToldLemmas

@@ -36,22 +36,22 @@ unless : {X : Type 0} (b : Bool) (x y : X) → b ≡ false → (if b then x else
 unless true x y e = absurd (cc)
 unless false x y e = refl
 
-when : {X : Type 0} (b : Bool) (x y : X) → b ≡ true → (if b then x else y) ≡ x
+pub when : {X : Type 0} (b : Bool) (x y : X) → b ≡ true → (if b then x else y) ≡ x
 when true x y e = refl
 when false x y e = absurd (cc)
 
-or-true : (b c : Bool) → c ≡ true → (b || c) ≡ true
+pub or-true : (b c : Bool) → c ≡ true → (b || c) ≡ true
 or-true true c e = refl
 or-true false c e = e
 
 -- ARRIVALS
 
-alone-is : (t own al : Bool) → (if t then own && al else al) ≡ true → (al ≡ true) × (t ≡ true → own ≡ true)
+pub alone-is : (t own al : Bool) → (if t then own && al else al) ≡ true → (al ≡ true) × (t ≡ true → own ≡ true)
 alone-is true true al e = (e, λ z. refl)
 alone-is true false al e = absurd (cc)
 alone-is false own al e = (e, λ z. absurd (cc))
 
-allowed-unless : (t : Bool) (v : List ℕ) (may : Option (List (List ℕ))) → IsAllowed (Some v) may → IsAllowed (Some v) (if t then None else may)
+pub allowed-unless : (t : Bool) (v : List ℕ) (may : Option (List (List ℕ))) → IsAllowed (Some v) may → IsAllowed (Some v) (if t then None else may)
 allowed-unless true v may x = tt
 allowed-unless false v may x = x
 

@@ -24,7 +24,7 @@ allowed-new v (Some ws) = inl refl
 pub allowed-any : (o : Option (List ℕ)) → IsAllowed o None
 allowed-any o = tt
 
-none-allowed : (may : Option (List (List ℕ))) → IsAllowed None may → may ≡ None
+pub none-allowed : (may : Option (List (List ℕ))) → IsAllowed None may → may ≡ None
 none-allowed None a = refl
 none-allowed (Some ws) a = absurd a
 

@@ -95,17 +95,17 @@ has-head station k f r e x = go (is_some (head f)) refl x
     go true p y = p
     go false p y = absurd (cc)
 
-is-long : (f : List ℕ) → is_some (head f) ≡ true → 24 ≤ length f
+pub is-long : (f : List ℕ) → is_some (head f) ≡ true → 24 ≤ length f
 is-long f e = go (nat_le 24 (length f)) (slice_index f 12 == 136) (slice_index f 13 == 162) refl e
   where
     go : (c p q : Bool) → nat_le 24 (length f) ≡ c → is_some (if c && p && q then Some (fields f) else None) ≡ true → 24 ≤ length f
     go true p q is x = grind (arith, nat_tests)
     go false p q is x = absurd (cc)
 
-source-length : (f : List ℕ) → 24 ≤ length f → length (fields f).src.0 ≡ 6
+pub source-length : (f : List ℕ) → 24 ≤ length f → length (fields f).src.0 ≡ 6
 source-length f le = simp (length-take, length-drop) (omega arith)
 
-split-off : (a b c d e f g x z : List ℕ) → a ++ b ++ c ++ d ++ e ++ f ++ g ++ x ++ z ≡ a ++ (b ++ (c ++ (d ++ (e ++ (f ++ (g ++ (x ++ z)))))))
+pub split-off : (a b c d e f g x z : List ℕ) → a ++ b ++ c ++ d ++ e ++ f ++ g ++ x ++ z ≡ a ++ (b ++ (c ++ (d ++ (e ++ (f ++ (g ++ (x ++ z)))))))
 split-off a b c d e f g x z =
     append_assoc (a ++ b ++ c ++ d ++ e ++ f ++ g) x z ∙ append_assoc (a ++ b ++ c ++ d ++ e ++ f) g (x ++ z) ∙ append_assoc (a ++ b ++ c ++ d ++ e) f (g ++ (x ++ z))
     ∙ append_assoc (a ++ b ++ c ++ d) e (f ++ (g ++ (x ++ z))) ∙ append_assoc (a ++ b ++ c) d (e ++ (f ++ (g ++ (x ++ z)))) ∙ append_assoc (a ++ b) c (d ++ (e ++ (f ++ (g ++ (x ++ z)))))
@@ -125,7 +125,7 @@ first-holds : (ports : List Mac) (a : Mac) → 0 < length ports → holds ports 
 first-holds [] a lt = absurd (omega arith)
 first-holds (b ∷ ports) a lt = rw (same-self b) refl
 
-port-holds : (station : Station) (h : Header) → 0 < length station.ports.items → holds station.ports.items (reply_port station h) ≡ true
+pub port-holds : (station : Station) (h : Header) → 0 < length station.ports.items → holds station.ports.items (reply_port station h) ≡ true
 port-holds station h lt = go (holds station.ports.items h.dst) refl
   where
     go : (b : Bool) → holds station.ports.items h.dst ≡ b → holds station.ports.items (if b then h.dst else get_or station.ports.items 0 h.dst) ≡ true
