@@ -36,3 +36,4 @@ mod EndLemmas
 mod PassLemmas
 mod DoneLemmas
 mod ToldLemmas
+mod ReadLemmas

@@ -148,7 +148,7 @@ some-such P None a = absurd a
 some-such P (Some x) a = (x, refl, a)
 
 -- what none of a list is
-none-there : {X : Type 0} (p : X → Bool) (xs : List X) (x : X) → list_any p xs ≡ false → Contains xs x → p x ≡ false
+pub none-there : {X : Type 0} (p : X → Bool) (xs : List X) (x : X) → list_any p xs ≡ false → Contains xs x → p x ≡ false
 none-there p [] x e there = let lt = there.1 in absurd (omega arith)
 none-there p (y ∷ xs) x e there = let parts = or-parts (p y) (list_any p xs) e in elim (Contains-append_cases (y ∷ []) xs x there) [
   | inl z ↦ subst (λ w. p w ≡ false) (only-one y x z) parts.0
