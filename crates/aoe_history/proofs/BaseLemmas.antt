@@ -47,7 +47,7 @@ pub same-conflict : (host : HostSetup) (h n : List Entry) (d c : ℕ) → submis
 same-conflict host h n d c p q = by-submissions host n d c ∙ ap (λ x. clash host x (submission host n c)) p ∙ ap (λ x. clash host (submission host h d) x) q ∙ sym (by-submissions host h d c)
 
 -- a command that is live was so before
-live-by : (rest now later last : ℕ) (done done2 : Bool) → now ≤ later → (done ≡ true → done2 ≡ true) → not (done2 && nat_lt rest (later - last)) ≡ true → not (done && nat_lt rest (now - last)) ≡ true
+pub live-by : (rest now later last : ℕ) (done done2 : Bool) → now ≤ later → (done ≡ true → done2 ≡ true) → not (done2 && nat_lt rest (later - last)) ≡ true → not (done && nat_lt rest (now - last)) ≡ true
 live-by rest now later last false done2 le d e = refl
 live-by rest now later last true true le d e = grind (arith, nat_tests)
 live-by rest now later last true false le d e = absurd (let x = d refl in cc)

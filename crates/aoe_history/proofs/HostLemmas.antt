@@ -36,7 +36,7 @@ module _ (s : Setup) (host : HostSetup) (mine : IsNamed s host) (ok : IsSetup s)
   }
 
   tag-read : (h : List Entry) (c : ℕ) (f : List ℕ) (r : IsReady s.life host h c f) → (fields f).tag ≡ r.tag
-  tag-read h c f r = ap (λ (x : Header). x.tag) (request-header s host (view host h c).device (view host h c).op r.tag f ok there r.small r.request)
+  tag-read h c f r = ap (λ (x : Header). x.tag) (request-header s host (view host h c).device (view host h c).op r.tag f ok there r.request)
 
   sent : (h : List Entry) (name : ArrayVec ℕ) (c number : ℕ) (f : List ℕ) → IsLawful s h → IsSomeAnd (host_called s name) (λ o. IsSent s o h c number f) → (b : Bool) → is_called host name ≡ b → Holds s host h → Holds s host (Sent name c number f ∷ h)
   sent h name c number f lawful law true own x =

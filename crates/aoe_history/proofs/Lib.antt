@@ -25,3 +25,15 @@ mod EntryLemmas
 mod GoneLemmas
 mod HostLemmas
 mod ApartLemmas
+mod AskedLemmas
+mod SectorLemmas
+mod ArrivalLemmas
+mod DeedLemmas
+mod AtLemmas
+mod ArriveLemmas
+mod TrueLemmas
+mod EndLemmas
+mod PassLemmas
+mod DoneLemmas
+mod ToldLemmas
+mod ReadLemmas

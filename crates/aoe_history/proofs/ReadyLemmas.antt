@@ -34,7 +34,6 @@ pub record IsRepeatSend (host : HostSetup) (h : List Entry) (c tag : ℕ) : Type
 
 pub record IsReady (life : ℕ) (host : HostSetup) (h : List Entry) (c : ℕ) (f : List ℕ) : Type 0 where
   pub tag : ℕ
-  pub small : tag < 4294967296
   pub above : 0 < c
   pub submitted : c ≤ tickets host h
   pub request : IsRequest host (view host h c).device (view host h c).op tag f
@@ -133,11 +132,10 @@ repeat-send s host h c sent k ticket may =
 pub ready : (s : Setup) (host : HostSetup) (h : List Entry) (c number : ℕ) (f : List ℕ) → Known host h → IsSent s host h c number f → IsReady s.life host h c f
 ready s host h c number f k x = record {
   tag = x.sent.tag;
-  small = x.tag_fits;
   above = above;
   submitted = le;
   request = subst (λ t. IsRequest host (view host h t).device (view host h t).op x.sent.tag f) same
-      (subst (λ (z : HostCommand). IsRequest host z.device z.op x.sent.tag f) (sym v.is) (spelled-request s host h x.frame.command.op x.frame.command.device x.sent.path x.sent.tag f x.frame.bytes));
+      (subst (λ (z : HostCommand). IsRequest host z.device z.op x.sent.tag f) (sym v.is) (spelled-request s host h x.frame.command.op x.frame.command.device x.sent.path x.sent.tag f x.tag_fits x.frame.bytes));
   may = go x.sent.again x.may;
 }
   where

@@ -64,7 +64,7 @@ host-there s name host e = found (λ x. is_called x name) s.hosts host e
 
 -- DEVICES
 
-device-at : (ports : List Mac) (life now n : ℕ) (cs : List HostCommand) (ds : List Attached) (k : ℕ) (d : Device) → slice_get (devices_of ports life now cs n ds) k ≡ Some d → slice_get ds k ≡ Some d.about
+pub device-at : (ports : List Mac) (life now n : ℕ) (cs : List HostCommand) (ds : List Attached) (k : ℕ) (d : Device) → slice_get (devices_of ports life now cs n ds) k ≡ Some d → slice_get ds k ≡ Some d.about
 device-at ports life now n cs [] k d e = absurd (cc)
 device-at ports life now n cs (a ∷ ds) zero d e = ap (λ (o : Option Device). option_map (λ (x : Device). x.about) o) e
 device-at ports life now n cs (a ∷ ds) (suc k) d e = device-at ports life now (n + 1) cs ds k d e
@@ -86,8 +86,8 @@ some-then f None y e = absurd (cc)
 some-then f (Some x) y e = (x, refl, e)
 
 -- what is spelled for a command is its request
-pub spelled-request : (s : Setup) (host : HostSetup) (h : List Entry) (op : Op) (device : DeviceNo) (path : PathNo) (tag : ℕ) (f : List ℕ) → spelled_for (host_after s host h) op device path tag ≡ Some f → IsRequest host device op tag f
-spelled-request s host h op device path tag f e =
+pub spelled-request : (s : Setup) (host : HostSetup) (h : List Entry) (op : Op) (device : DeviceNo) (path : PathNo) (tag : ℕ) (f : List ℕ) → tag < 4294967296 → spelled_for (host_after s host h) op device path tag ≡ Some f → IsRequest host device op tag f
+spelled-request s host h op device path tag f small e =
     let there = some-then (λ (d : Device). option_map (λ pair. request op d.about.id pair.1 pair.0 tag) (pair_at host.ports d.about.remotes.items path.0)) (slice_get (host_after s host h).devices device.0) f e in
     let d = there.0 in
     let spelt = some-mapped (λ pair. request op d.about.id pair.1 pair.0 tag) (pair_at host.ports d.about.remotes.items path.0) f there.2 in
@@ -99,6 +99,7 @@ spelled-request s host h op device path tag f e =
       remote = spelt.0.1;
       own = holds-at host.ports (path.0 / length d.about.remotes.items) spelt.0.0 ends.0;
       other = holds-at d.about.remotes.items (path.0 % length d.about.remotes.items) spelt.0.1 ends.1;
+      fits = small;
       is = sym spelt.2;
     }
 
@@ -108,9 +109,9 @@ same-id : (a b : TargetId) → same_id a b ≡ true → (a.major ≡ b.major) ×
 same-id a b e = (grind (arith, nat_tests), grind (arith, nat_tests))
 
 -- a request's header fits, and is read in it
-pub request-fits : (s : Setup) (host : HostSetup) (device : DeviceNo) (op : Op) (tag : ℕ) (f : List ℕ) → IsSetup s → Contains s.hosts host → tag < 4294967296 → (r : IsRequest host device op tag f)
+pub request-fits : (s : Setup) (host : HostSetup) (device : DeviceNo) (op : Op) (tag : ℕ) (f : List ℕ) → IsSetup s → Contains s.hosts host → (r : IsRequest host device op tag f)
     → Fits (request_header op r.about.id r.remote r.local tag)
-request-fits s host device op tag f ok mine small r =
+request-fits s host device op tag f ok mine r =
     let a : IsAttachedTo s r.about = ok.attached host r.about mine (contains-at host.devices device.0 r.about r.there) in
     let there = found (λ slot. is_slot slot r.about.id) s.slots a.slot a.there in
     let port : holds a.slot.station.ports.items r.remote ≡ true = subst (λ (z : ArrayVec Mac). holds z.items r.remote ≡ true) a.remotes r.other in
@@ -122,11 +123,11 @@ request-fits s host device op tag f ok mine small r =
       version = omega arith;
       flags = inl refl;
       major = (let e = id.0 in omega arith);
-      tag = small;
+      tag = r.fits;
     }
 
-pub request-header : (s : Setup) (host : HostSetup) (device : DeviceNo) (op : Op) (tag : ℕ) (f : List ℕ) → IsSetup s → Contains s.hosts host → tag < 4294967296 → (r : IsRequest host device op tag f)
+pub request-header : (s : Setup) (host : HostSetup) (device : DeviceNo) (op : Op) (tag : ℕ) (f : List ℕ) → IsSetup s → Contains s.hosts host → (r : IsRequest host device op tag f)
     → fields f ≡ request_header op r.about.id r.remote r.local tag
-request-header s host device op tag f ok mine small r =
+request-header s host device op tag f ok mine r =
     ap fields r.is ∙ fields-are (request op r.about.id r.remote r.local tag) (request_header op r.about.id r.remote r.local tag)
-    (request-head op r.about.id r.remote r.local tag (request-fits s host device op tag f ok mine small r))
+    (request-head op r.about.id r.remote r.local tag (request-fits s host device op tag f ok mine r))

@@ -95,17 +95,17 @@ has-head station k f r e x = go (is_some (head f)) refl x
     go true p y = p
     go false p y = absurd (cc)
 
-is-long : (f : List ℕ) → is_some (head f) ≡ true → 24 ≤ length f
+pub is-long : (f : List ℕ) → is_some (head f) ≡ true → 24 ≤ length f
 is-long f e = go (nat_le 24 (length f)) (slice_index f 12 == 136) (slice_index f 13 == 162) refl e
   where
     go : (c p q : Bool) → nat_le 24 (length f) ≡ c → is_some (if c && p && q then Some (fields f) else None) ≡ true → 24 ≤ length f
     go true p q is x = grind (arith, nat_tests)
     go false p q is x = absurd (cc)
 
-source-length : (f : List ℕ) → 24 ≤ length f → length (fields f).src.0 ≡ 6
+pub source-length : (f : List ℕ) → 24 ≤ length f → length (fields f).src.0 ≡ 6
 source-length f le = simp (length-take, length-drop) (omega arith)
 
-split-off : (a b c d e f g x z : List ℕ) → a ++ b ++ c ++ d ++ e ++ f ++ g ++ x ++ z ≡ a ++ (b ++ (c ++ (d ++ (e ++ (f ++ (g ++ (x ++ z)))))))
+pub split-off : (a b c d e f g x z : List ℕ) → a ++ b ++ c ++ d ++ e ++ f ++ g ++ x ++ z ≡ a ++ (b ++ (c ++ (d ++ (e ++ (f ++ (g ++ (x ++ z)))))))
 split-off a b c d e f g x z =
     append_assoc (a ++ b ++ c ++ d ++ e ++ f ++ g) x z ∙ append_assoc (a ++ b ++ c ++ d ++ e ++ f) g (x ++ z) ∙ append_assoc (a ++ b ++ c ++ d ++ e) f (g ++ (x ++ z))
     ∙ append_assoc (a ++ b ++ c ++ d) e (f ++ (g ++ (x ++ z))) ∙ append_assoc (a ++ b ++ c) d (e ++ (f ++ (g ++ (x ++ z)))) ∙ append_assoc (a ++ b) c (d ++ (e ++ (f ++ (g ++ (x ++ z)))))
@@ -125,7 +125,7 @@ first-holds : (ports : List Mac) (a : Mac) → 0 < length ports → holds ports 
 first-holds [] a lt = absurd (omega arith)
 first-holds (b ∷ ports) a lt = rw (same-self b) refl
 
-port-holds : (station : Station) (h : Header) → 0 < length station.ports.items → holds station.ports.items (reply_port station h) ≡ true
+pub port-holds : (station : Station) (h : Header) → 0 < length station.ports.items → holds station.ports.items (reply_port station h) ≡ true
 port-holds station h lt = go (holds station.ports.items h.dst) refl
   where
     go : (b : Bool) → holds station.ports.items h.dst ≡ b → holds station.ports.items (if b then h.dst else get_or station.ports.items 0 h.dst) ≡ true
@@ -148,7 +148,7 @@ some-such P None a = absurd a
 some-such P (Some x) a = (x, refl, a)
 
 -- what none of a list is
-none-there : {X : Type 0} (p : X → Bool) (xs : List X) (x : X) → list_any p xs ≡ false → Contains xs x → p x ≡ false
+pub none-there : {X : Type 0} (p : X → Bool) (xs : List X) (x : X) → list_any p xs ≡ false → Contains xs x → p x ≡ false
 none-there p [] x e there = let lt = there.1 in absurd (omega arith)
 none-there p (y ∷ xs) x e there = let parts = or-parts (p y) (list_any p xs) e in elim (Contains-append_cases (y ∷ []) xs x there) [
   | inl z ↦ subst (λ w. p w ≡ false) (only-one y x z) parts.0
@@ -169,6 +169,6 @@ replied-source s host slot h f r e number ok mine there law from = ok.shelf_port
 -- a request of a host
 pub request-source : (s : Setup) (o host : HostSetup) (h : List Entry) (c number : ℕ) (f : List ℕ) → IsSetup s → Contains s.hosts o → Contains s.hosts host → IsSent s o h c number f → is_from host f ≡ true → host ≡ o
 request-source s o host h c number f ok other mine x from =
-    let r = spelled-request s o h x.frame.command.op x.frame.command.device x.sent.path x.sent.tag f x.frame.bytes in
-    let is = request-header s o x.frame.command.device x.frame.command.op x.sent.tag f ok other x.tag_fits r in
+    let r = spelled-request s o h x.frame.command.op x.frame.command.device x.sent.path x.sent.tag f x.tag_fits x.frame.bytes in
+    let is = request-header s o x.frame.command.device x.frame.command.op x.sent.tag f ok other r in
     ok.host_ports host o r.local mine other (subst (λ (z : Header). holds host.ports z.src ≡ true) is from) r.own

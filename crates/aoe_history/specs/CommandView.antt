@@ -1,22 +1,26 @@
 -- A host's commands, each by what the history says of it, and what a frame of one is.
-use Rattle.std.specs.Prelude.{ℕ, zero, suc, ◌≡◌, ◌≤◌, ◌-◌, Bool, true, false, not, ◌&&◌, ◌||◌, nat_eq, nat_lt, List, [], ◌∷◌, ◌++◌, map, Option, Some, None, slice_get, if◌then◌else◌}
+use Rattle.std.specs.Prelude.{ℕ, zero, suc, ◌≡◌, ◌≤◌, ◌<◌, ◌-◌, Bool, true, false, not, ◌&&◌, ◌||◌, nat_eq, nat_lt, List, [], ◌∷◌, ◌++◌, map, drop, Option, Some, None, slice_get, if◌then◌else◌}
 use Rattle.aoe_base.specs.declared.address.Mac.{Mac}
 use Rattle.aoe_base.specs.declared.address.TargetId.{TargetId}
 use Rattle.aoe_base.specs.declared.counted.DeviceNo.{DeviceNo}
+use Rattle.aoe_ata.specs.Decision.{written}
+use Rattle.aoe_ata.specs.declared.decision.AtaAnswer.{AtaAnswer}
 use Rattle.aoe_flight.specs.Outstanding.{rest_time}
 use Rattle.aoe_frame.specs.Header.{fields}
 use Rattle.aoe_hold.specs.Commands.{conflict, is_gone}
 use Rattle.aoe_initiator.specs.declared.device.Attached.{Attached}
 use Rattle.aoe_initiator.specs.declared.op.Op.{Op}
-use Rattle.aoe_initiator.specs.declared.op.Op.TheVariants.{Flush}
+use Rattle.aoe_initiator.specs.declared.op.Op.TheVariants.{Flush, Write}
 use Rattle.aoe_initiator.specs.HostLog.{as_entered, one_more, path_log, HostCommand, Sending}
-use Rattle.aoe_initiator.specs.Request.{request}
+use Rattle.aoe_initiator.specs.Op.{span_of}
+use Rattle.aoe_initiator.specs.Request.{request, CanSpell}
 use Rattle.aoe_lists.specs.Addresses.{holds}
 use Rattle.aoe_net.specs.Network.{SentFrame}
 use Rattle.aoe_paths.specs.PathLog.{timeout_on}
 use Rattle.aoe_history.specs.declared.entry.Entry.{Entry}
 use Rattle.aoe_history.specs.declared.entry.Entry.TheVariants.{Sent, Done}
 use Rattle.aoe_history.specs.Commands.{is_of, log_of, path_of, submission, tickets, Submission}
+use Rattle.aoe_history.specs.Conversation.{asked_for, HasSectors}
 use Rattle.aoe_history.specs.Frames.{clock}
 use Rattle.aoe_history.specs.Setup.{device_no, is_slot, HostSetup, SlotSetup}
 
@@ -79,7 +83,7 @@ is_active life host h c x = not (was_done host h c && is_gone life (clock h) x.l
 abbrev pub in_conflict : HostSetup → List Entry → ℕ → ℕ → Bool
 in_conflict host h d c = nat_eq (view host h d).device.0 (view host h c).device.0 && conflict (as_entered (view host h d)) (as_entered (view host h c))
 
--- a frame is the request of an operation: with a tag, from a port of the host to a port of the device
+-- a frame is the request of an operation: with a tag of four bytes, from a port of the host to a port of the device
 pub record IsRequest (host : HostSetup) (device : DeviceNo) (op : Op) (tag : ℕ) (f : List ℕ) : Type 0 where
   pub about : Attached
   pub there : slice_get host.devices device.0 ≡ Some about
@@ -87,6 +91,7 @@ pub record IsRequest (host : HostSetup) (device : DeviceNo) (op : Op) (tag : ℕ
   pub remote : Mac
   pub own : holds host.ports local ≡ true
   pub other : holds about.remotes.items remote ≡ true
+  pub fits : tag < 4294967296
   pub is : f ≡ request op about.id remote local tag
 
 -- a frame in the network was sent for a command of the host: it is its request, with the command's tag, and it was sent no later than
@@ -103,3 +108,18 @@ pub record AsksAt (slot : SlotSetup) (o : Option Submission) (op : Op) : Type 0 
   pub dev : TargetId
   pub is : o ≡ Some (record { dev = dev; op = op })
   pub slot_is : is_slot slot dev ≡ true
+
+-- what a host asked: a frame has room for it, a read or a write has sectors, and it is for a device of the host's
+pub record IsAskable (host : HostSetup) (x : Submission) : Type 0 where
+  pub can : CanSpell x.op
+  pub sectors : HasSectors x.op
+  pub about : Attached
+  pub place : slice_get host.devices (device_no host x.dev).0 ≡ Some about
+  pub id : about.id ≡ x.dev
+
+-- a slot that takes a frame as an ATA command is the one that the frame's command is for, and is told what the command asks, with the
+-- data of a write
+pub record IsUnderstood (slot : SlotSetup) (x : Submission) (f : List ℕ) (answer : AtaAnswer) : Type 0 where
+  pub slot_is : is_slot slot x.dev ≡ true
+  pub answer_is : answer ≡ asked_for slot.station.sectors x.op
+  pub bytes_are : (at : ℕ) (bytes : List ℕ) → x.op ≡ Write at bytes → written (drop 24 f) (span_of (Write at bytes)) ≡ bytes

@@ -81,6 +81,7 @@ pub record IsSetup (s : Setup) : Type 0 where
   pub host_ports : (a b : HostSetup) (port : Mac) → Contains s.hosts a → Contains s.hosts b → holds a.ports port ≡ true → holds b.ports port ≡ true → a ≡ b
   pub shelf_ports : (host : HostSetup) (slot : SlotSetup) (port : Mac) → Contains s.hosts host → Contains s.slots slot → holds host.ports port ≡ true
       → holds slot.station.ports.items port ≡ true → ⊥
+  pub slot_names : (slot : SlotSetup) → Contains s.slots slot → slot_of s slot.station.id ≡ Some slot
   pub some_port : (slot : SlotSetup) → Contains s.slots slot → 0 < length slot.station.ports.items
   pub majors : (slot : SlotSetup) → Contains s.slots slot → slot.station.id.major < 65535
   pub minors : (slot : SlotSetup) → Contains s.slots slot → slot.station.id.minor < 255

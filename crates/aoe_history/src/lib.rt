@@ -10,12 +10,14 @@ mod commands;
 mod conversation;
 mod entry;
 mod history;
+mod reading;
 
 pub use cases::{worked_histories, worked_values, wrong_hosts, wrong_networks, wrong_shelves};
 pub use commands::{host_commands_law, host_frames_law, host_writes_law};
 pub use conversation::{requests_are_understood, responses_tell_truly};
 pub use entry::{Entry, Fate};
 pub use history::History;
+pub use reading::read_law;
 
 #[cfg(test)]
 mod tests;
