@@ -2,7 +2,7 @@ ghost use Rattle.std.specs.Prelude.{IfOk};
 ghost use Rattle.aoe_transcript.specs.Print.{HasCause, IsAsked};
 
 use crate::runs::put_runs;
-use crate::{print_entry, print_history};
+use crate::{Summary, print_entry, print_history, print_summary};
 use aoe_base::{Blob, Mac, Millis, NoMemory, Span, TargetId};
 use aoe_disk::Loss;
 use aoe_history::{Entry, Fate, History};
@@ -369,5 +369,26 @@ fn prints_the_oldest_first(rt: HostRuntime) -> Result<(), Fail> {
     history.push(Entry::Ticked { ms: 5 })?;
     history.push(Entry::Lost { frame: 1 })?;
     assert!(rt; is(print_history(rt.alloc(), &history), "tick 5\nlost 1\n")?);
+    Ok(())
+}
+
+#[test]
+fn prints_a_summary(rt: HostRuntime) -> Result<(), Fail> {
+    let summary = Summary {
+        events: 12,
+        frames: 10,
+        sent: 5,
+        again: 1,
+        arrived: 6,
+        done: 4,
+        lost: 2,
+        crashed: 3,
+    };
+    assert!(rt;
+        is(
+            print_summary(rt.alloc(), &summary),
+            "summary events 12 frames 10 sent 5 again 1 arrived 6 done 4 lost 2 crashed 3\n"
+        )?
+    );
     Ok(())
 }
