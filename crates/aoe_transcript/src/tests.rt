@@ -185,6 +185,18 @@ fn crashed(alloc: Global) -> Result<Blob, NoMemory> {
     print_entry(alloc, &crashed)
 }
 
+fn crashed_with_lists(alloc: Global) -> Result<Blob, NoMemory> {
+    let mut lists = Lists::new();
+    let _ = lists.config.try_extend_from_slice(b"ab");
+    lists.masks.push(MAC);
+    let crashed = Entry::Crashed {
+        dev: DEV,
+        lists,
+        mode: Loss::Old,
+    };
+    print_entry(alloc, &crashed)
+}
+
 fn told(alloc: Global) -> Result<Blob, NoMemory> {
     let mut args = Args::new();
     let _ = args.try_extend_from_slice(&[2, 1, 2, 0, 0, 0, 0, 0x0b]);
@@ -360,6 +372,8 @@ fn prints_faults(rt: HostRuntime) -> Result<(), Fail> {
         )?
     );
     assert!(rt; is(crashed(alloc), "crashed e1.0 config - masks - reserves -\n")?);
+    let listed = "crashed e1.0 config 6162 masks 02000000000b reserves -\n";
+    assert!(rt; is(crashed_with_lists(alloc), listed)?);
     Ok(())
 }
 
