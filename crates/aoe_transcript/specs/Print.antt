@@ -1,5 +1,5 @@
 -- The lines of a transcript: one for each entry of a history, of words that single spaces part.
-use Rattle.std.specs.Prelude.{ℕ, ◌≡◌, ◌≢◌, ◌*◌, ◌/◌, ◌==◌, true, List, [], ◌∷◌, ◌++◌, length, map, replicate, reverse, Option, Some, None, if◌then◌else◌, codes, decimal, slice_index, ⊤}
+use Rattle.std.specs.Prelude.{ℕ, ◌≡◌, ◌≢◌, ◌*◌, ◌/◌, ◌==◌, Bool, true, List, [], ◌∷◌, ◌++◌, length, map, replicate, reverse, Option, Some, None, if◌then◌else◌, is_some, codes, decimal, slice_index, ⊤}
 use Rattle.std.specs.List.{flat_map, join_with_byte}
 use Rattle.arrayvec.specs.ArrayVec.{ArrayVec}
 use Rattle.aoe_base.specs.Names.{pair_text}
@@ -107,6 +107,10 @@ outcome_words (AtaError status error) = codes "ata" ∷ pair_text status ∷ pai
 outcome_words (AoeError code) = codes "aoe" ∷ decimal code ∷ []
 outcome_words (GaveUp first latest) = codes "gave-up" ∷ []
 
+-- whether the power is lost in the call for which a disk is armed, or only the call fails
+abbrev pub armed_text : Bool → Text
+armed_text stops = if stops then codes "stop" else codes "fail"
+
 -- ---- lines
 
 abbrev pub entry_words : Entry → List Text
@@ -119,8 +123,7 @@ entry_words (Took host frame stale) = codes "took" ∷ host.items ∷ decimal fr
 entry_words (Done host ticket outcome) = codes "done" ∷ host.items ∷ decimal ticket ∷ outcome_words outcome
 entry_words (Ticked ms) = codes "tick" ∷ decimal ms ∷ []
 entry_words (Lost frame) = codes "lost" ∷ decimal frame ∷ []
-entry_words (Armed dev which k None) = codes "armed" ∷ device_text dev ∷ which_text which ∷ codes "fail" ∷ decimal k ∷ []
-entry_words (Armed dev which k (Some mode)) = codes "armed" ∷ device_text dev ∷ which_text which ∷ codes "stop" ∷ decimal k ∷ []
+entry_words (Armed dev which k mode) = codes "armed" ∷ device_text dev ∷ which_text which ∷ armed_text (is_some mode) ∷ decimal k ∷ []
 entry_words (Crashed dev lists mode) =
     codes "crashed" ∷ device_text dev ∷ codes "config" ∷ bytes_text lists.config ∷ codes "masks" ∷ addresses_text lists.masks
     ∷ codes "reserves" ∷ addresses_text lists.reserves ∷ []

@@ -1,7 +1,7 @@
 //! The text of what happened.
 ghost use Rattle.std.specs.Prelude.{◌≡◌, ◌++◌, ◌∷◌, [], codes, decimal, if◌then◌else◌, IfOk, OnOk};
 ghost use Rattle.aoe_script.specs.Print.{bytes_text, device_text, spaced, spelled, which_text};
-ghost use Rattle.aoe_transcript.specs.Print.{addresses_text, entry_text, entry_words, CanPrint};
+ghost use Rattle.aoe_transcript.specs.Print.{addresses_text, armed_text, entry_text, entry_words, CanPrint};
 
 use crate::outcome::{put_fate, put_outcome};
 use crate::submission::{put_refusal, put_submitted};
@@ -31,21 +31,24 @@ fn put_of_device(out: &mut Vec<u8>, word: &[u8], dev: &TargetId) -> Result<(), N
     put_device(out, dev)
 }
 
-/// Adds the disk of a device and the device call for which it is armed.
+/// Adds the line of a disk that is armed, without its end.
 fn put_armed(
     out: &mut Vec<u8>,
     dev: &TargetId,
     which: Which,
-    word: &[u8],
     k: u64,
+    stops: bool,
 ) -> Result<(), NoMemory>
-    ensures { OnOk result (out.new.items ≡ out.old.items ++ spelled (codes "armed" ∷ device_text dev.now ∷ which_text which ∷ word.now ∷ decimal k ∷ [])) }
+    ensures { OnOk result (out.new.items ≡ out.old.items ++ spelled (codes "armed" ∷ device_text dev.now ∷ which_text which ∷ armed_text stops ∷ decimal k ∷ [])) }
 {
     put_of_device(out, b"armed", dev)?;
     put(out, b" ")?;
     put_which(out, which)?;
-    put(out, b" ")?;
-    put_count(out, word, k)
+    if stops {
+        put_count(out, b" stop", k)
+    } else {
+        put_count(out, b" fail", k)
+    }
 }
 
 /// Adds addresses without colons, joined by commas, or a hyphen for none.
@@ -128,14 +131,8 @@ fn put_entry(out: &mut Vec<u8>, entry: &Entry) -> Result<(), NoMemory>
             dev,
             which,
             k,
-            mode: None,
-        } => put_armed(out, dev, *which, b"fail", *k),
-        Entry::Armed {
-            dev,
-            which,
-            k,
-            mode: Some(_),
-        } => put_armed(out, dev, *which, b"stop", *k),
+            mode,
+        } => put_armed(out, dev, *which, *k, mode.is_some()),
         Entry::Crashed { dev, lists, .. } => {
             put_of_device(out, b"crashed", dev)?;
             put_lists(out, lists)
