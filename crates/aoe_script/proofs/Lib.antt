@@ -1,4 +1,4 @@
-mod JoinLemmas
+pub mod JoinLemmas
 mod LineLemmas
 mod PairLemmas
 mod PartLemmas

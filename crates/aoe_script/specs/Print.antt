@@ -1,5 +1,5 @@
 -- The spelling of lines: words that single spaces part, numbers without leading zeros.
-use Rattle.std.specs.Prelude.{ℕ, ◌==◌, List, [], ◌∷◌, ◌++◌, length, map, Option, Some, None, if◌then◌else◌, codes, decimal}
+use Rattle.std.specs.Prelude.{ℕ, Bool, ◌==◌, List, [], ◌∷◌, ◌++◌, length, map, Option, Some, None, if◌then◌else◌, codes, decimal}
 use Rattle.std.specs.List.{flat_map, join_with_byte}
 use Rattle.aoe_base.specs.Names.{mac_text, pair_text}
 use Rattle.aoe_base.specs.declared.address.Mac.{Mac}
@@ -60,6 +60,16 @@ ccmd_text ccmd =
 abbrev pub rcmd_text : ℕ → Text
 rcmd_text rcmd = if rcmd == 0 then codes "read" else if rcmd == 1 then codes "set" else if rcmd == 2 then codes "force" else decimal rcmd
 
+-- an action on the lists of a device: a read of the config string has no text, one of the reserve list no addresses
+abbrev pub config_words : ℕ → List ℕ → List Text
+config_words ccmd text = ccmd_text ccmd ∷ (if ccmd == 0 then [] else bytes_text text ∷ [])
+
+abbrev pub masks_words : Bool → List Dir → List Text
+masks_words edit dirs = if edit then codes "edit" ∷ dirs_text dirs ∷ [] else codes "read" ∷ []
+
+abbrev pub reserve_words : ℕ → List Mac → List Text
+reserve_words rcmd list = rcmd_text rcmd ∷ (if rcmd == 0 then [] else list_text list ∷ [])
+
 abbrev pub optional_word : Option ℕ → List Text
 optional_word None = []
 optional_word (Some n) = decimal n ∷ []
@@ -78,9 +88,9 @@ event_words (Read host dev at count) = codes "read" ∷ host.items ∷ device_te
 event_words (Write host dev at count fill) = codes "write" ∷ host.items ∷ device_text dev ∷ decimal at ∷ decimal count ∷ pair_text fill ∷ []
 event_words (Flush host dev) = codes "flush" ∷ host.items ∷ device_text dev ∷ []
 event_words (Identify host dev) = codes "identify" ∷ host.items ∷ device_text dev ∷ []
-event_words (Config host dev ccmd text) = codes "config" ∷ host.items ∷ device_text dev ∷ ccmd_text ccmd ∷ (if ccmd == 0 then [] else bytes_text text ∷ [])
-event_words (Masks host dev edit dirs) = codes "masks" ∷ host.items ∷ device_text dev ∷ (if edit then codes "edit" ∷ dirs_text dirs.items ∷ [] else codes "read" ∷ [])
-event_words (Reserve host dev rcmd list) = codes "reserve" ∷ host.items ∷ device_text dev ∷ rcmd_text rcmd ∷ (if rcmd == 0 then [] else list_text list.items ∷ [])
+event_words (Config host dev ccmd text) = codes "config" ∷ host.items ∷ device_text dev ∷ config_words ccmd text
+event_words (Masks host dev edit dirs) = codes "masks" ∷ host.items ∷ device_text dev ∷ masks_words edit dirs.items
+event_words (Reserve host dev rcmd list) = codes "reserve" ∷ host.items ∷ device_text dev ∷ reserve_words rcmd list.items
 event_words (Tick ms) = codes "tick" ∷ decimal ms ∷ []
 event_words (Deliver frame station) = codes "deliver" ∷ decimal frame ∷ station.items ∷ []
 event_words (Pass n) = codes "pass" ∷ decimal n ∷ []

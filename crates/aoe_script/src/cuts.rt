@@ -28,7 +28,7 @@ pub(crate) fn until(text: &[u8], byte: u8) -> usize
 }
 
 /// How many bytes of this value stand at the front.
-pub(crate) fn run(text: &[u8], byte: u8) -> usize
+pub fn run(text: &[u8], byte: u8) -> usize
     ensures place { result ≡ position_or_len (λ c. not (c == byte)) text.now }
     ensures within { result ≤ length text.now }
 {
@@ -39,7 +39,7 @@ pub(crate) fn run(text: &[u8], byte: u8) -> usize
 }
 
 /// What stands from a place on.
-pub(crate) fn from(text: &[u8], at: usize) -> &[u8]
+pub fn from(text: &[u8], at: usize) -> &[u8]
     requires { at ≤ length text.now }
     ensures { result.now ≡ drop at text.now }
 {

@@ -4,7 +4,7 @@
 #![tactic(auto)]
 
 mod classes;
-mod cuts;
+pub mod cuts;
 mod event;
 mod forms;
 mod line;
@@ -17,7 +17,7 @@ mod refusal;
 mod rules;
 mod script;
 mod setup;
-mod spelling;
+pub mod spelling;
 mod standing;
 mod submissions;
 mod words;

@@ -6,22 +6,13 @@ use crate::event::{Event, Which};
 use crate::script::Script;
 use crate::setup::{Name, Setup};
 use crate::spelling::{
-    put, put_bytes, put_ccmd, put_device, put_dirs, put_list, put_macs, put_mode, put_number,
-    put_pair, put_rcmd, put_which,
+    put, put_bytes, put_config_words, put_count, put_device, put_macs, put_masks_words, put_mode,
+    put_named, put_pair, put_reserve_words, put_which,
 };
 use aoe_base::{Blob, Mac, NoMemory, TargetId};
 use aoe_initiator::{Dir, MAX_DIRS};
 use arrayvec::ArrayVec;
 use std::alloc::Global;
-
-/// Adds a word and a number behind it.
-fn put_count(out: &mut Vec<u8>, word: &[u8], n: u64) -> Result<(), NoMemory>
-    ensures { OnOk result (out.new.items ≡ out.old.items ++ (word.now ++ 32 ∷ decimal n)) }
-{
-    put(out, word)?;
-    put(out, b" ")?;
-    put_number(out, n)
-}
 
 /// Adds a number behind a space, where there is one.
 fn put_optional(out: &mut Vec<u8>, n: Option<u64>) -> Result<(), NoMemory>
@@ -31,15 +22,6 @@ fn put_optional(out: &mut Vec<u8>, n: Option<u64>) -> Result<(), NoMemory>
         Some(n) => put_count(out, b"", n),
         None => Ok(()),
     }
-}
-
-/// Adds a word and a name behind it.
-fn put_named(out: &mut Vec<u8>, word: &[u8], name: &Name) -> Result<(), NoMemory>
-    ensures { OnOk result (out.new.items ≡ out.old.items ++ (word.now ++ 32 ∷ name.now.items)) }
-{
-    put(out, word)?;
-    put(out, b" ")?;
-    put(out, name.as_slice())
 }
 
 /// Adds a word, a host and a device.
@@ -144,13 +126,7 @@ fn put_config(
     ensures { OnOk result (out.new.items ≡ out.old.items ++ spelled (event_words (Event.Config host.now dev.now ccmd text.now))) }
 {
     put_asked(out, b"config", host, dev)?;
-    put(out, b" ")?;
-    put_ccmd(out, ccmd)?;
-    if ccmd == 0 {
-        return Ok(());
-    }
-    put(out, b" ")?;
-    put_bytes(out, text.bytes())
+    put_config_words(out, ccmd, text)
 }
 
 /// Adds `masks`, without its end.
@@ -164,11 +140,7 @@ fn put_masks(
     ensures { OnOk result (out.new.items ≡ out.old.items ++ spelled (event_words (Event.Masks host.now dev.now edit dirs.now))) }
 {
     put_asked(out, b"masks", host, dev)?;
-    if !edit {
-        return put(out, b" read");
-    }
-    put(out, b" edit ")?;
-    put_dirs(out, dirs.as_slice())
+    put_masks_words(out, edit, dirs)
 }
 
 /// Adds `reserve`, without its end.
@@ -182,13 +154,7 @@ fn put_reserve(
     ensures { OnOk result (out.new.items ≡ out.old.items ++ spelled (event_words (Event.Reserve host.now dev.now rcmd list.now))) }
 {
     put_asked(out, b"reserve", host, dev)?;
-    put(out, b" ")?;
-    put_rcmd(out, rcmd)?;
-    if rcmd == 0 {
-        return Ok(());
-    }
-    put(out, b" ")?;
-    put_list(out, list.as_slice())
+    put_reserve_words(out, rcmd, list)
 }
 
 /// Adds the disk of a device and the number of its call, behind a word.

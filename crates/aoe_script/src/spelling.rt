@@ -1,18 +1,20 @@
-//! How words are spelled.
-ghost use Rattle.std.specs.Prelude.{◌≡◌, ◌++◌, ◌<◌, decimal, map, OnOk};
+//! How words are spelled: each of these adds to a text.
+ghost use Rattle.std.specs.Prelude.{◌≡◌, ◌++◌, ◌∷◌, ◌<◌, decimal, map, OnOk};
 ghost use Rattle.std.specs.List.{join_with_byte};
 ghost use Rattle.std.specs.Char.{digit_char};
 ghost use Rattle.aoe_base.specs.Names.{mac_text, pair_text};
-ghost use Rattle.aoe_script.specs.Print.{between, bytes_text, ccmd_text, device_text, dir_text, dirs_text, list_text, macs_text, mode_text, rcmd_text, which_text};
+ghost use Rattle.aoe_script.specs.Print.{between, bytes_text, ccmd_text, config_words, device_text, dir_text, dirs_text, list_text, macs_text, masks_words, mode_text, rcmd_text, reserve_words, spaced, which_text};
 
 use crate::event::Which;
-use aoe_base::{Mac, NoMemory, TargetId};
+use crate::setup::Name;
+use aoe_base::{Blob, Mac, NoMemory, TargetId};
 use aoe_disk::Loss;
-use aoe_initiator::Dir;
+use aoe_initiator::{Dir, MAX_DIRS};
+use arrayvec::ArrayVec;
 use itoa::Buffer;
 
 /// Adds bytes.
-pub(crate) fn put(out: &mut Vec<u8>, bytes: &[u8]) -> Result<(), NoMemory>
+pub fn put(out: &mut Vec<u8>, bytes: &[u8]) -> Result<(), NoMemory>
     ensures { OnOk result (out.new.items ≡ out.old.items ++ bytes.now) }
 {
     match out.extend_from_slice(bytes) {
@@ -22,11 +24,29 @@ pub(crate) fn put(out: &mut Vec<u8>, bytes: &[u8]) -> Result<(), NoMemory>
 }
 
 /// Adds a number without leading zeros.
-pub(crate) fn put_number(out: &mut Vec<u8>, n: u64) -> Result<(), NoMemory>
+pub fn put_number(out: &mut Vec<u8>, n: u64) -> Result<(), NoMemory>
     ensures { OnOk result (out.new.items ≡ out.old.items ++ decimal n) }
 {
     let mut buffer = Buffer::new();
     put(out, buffer.format(n).as_bytes())
+}
+
+/// Adds a word and a number behind it.
+pub fn put_count(out: &mut Vec<u8>, word: &[u8], n: u64) -> Result<(), NoMemory>
+    ensures { OnOk result (out.new.items ≡ out.old.items ++ (word.now ++ 32 ∷ decimal n)) }
+{
+    put(out, word)?;
+    put(out, b" ")?;
+    put_number(out, n)
+}
+
+/// Adds a word and a name behind it.
+pub fn put_named(out: &mut Vec<u8>, word: &[u8], name: &Name) -> Result<(), NoMemory>
+    ensures { OnOk result (out.new.items ≡ out.old.items ++ (word.now ++ 32 ∷ name.now.items)) }
+{
+    put(out, word)?;
+    put(out, b" ")?;
+    put(out, name.as_slice())
 }
 
 /// The hexadecimal digit of a value.
@@ -42,14 +62,14 @@ fn digit(value: u8) -> u8
 }
 
 /// Adds a byte as two digits.
-pub(crate) fn put_pair(out: &mut Vec<u8>, byte: u8) -> Result<(), NoMemory>
+pub fn put_pair(out: &mut Vec<u8>, byte: u8) -> Result<(), NoMemory>
     ensures { OnOk result (out.new.items ≡ out.old.items ++ pair_text byte) }
 {
     put(out, &[digit(byte / 16), digit(byte % 16)])
 }
 
 /// Adds what stands before the part at a place: nothing before the first.
-fn put_between(out: &mut Vec<u8>, i: usize, byte: u8) -> Result<(), NoMemory>
+pub fn put_between(out: &mut Vec<u8>, i: usize, byte: u8) -> Result<(), NoMemory>
     ensures { OnOk result (out.new.items ≡ out.old.items ++ between byte i) }
 {
     if i == 0 { Ok(()) } else { put(out, &[byte]) }
@@ -85,7 +105,7 @@ pub(crate) fn put_macs(out: &mut Vec<u8>, macs: &[Mac]) -> Result<(), NoMemory>
 }
 
 /// Adds addresses, or a hyphen for none.
-pub(crate) fn put_list(out: &mut Vec<u8>, macs: &[Mac]) -> Result<(), NoMemory>
+fn put_list(out: &mut Vec<u8>, macs: &[Mac]) -> Result<(), NoMemory>
     ensures { OnOk result (out.new.items ≡ out.old.items ++ list_text macs.now) }
 {
     if macs.is_empty() {
@@ -105,7 +125,7 @@ fn put_dir(out: &mut Vec<u8>, dir: &Dir) -> Result<(), NoMemory>
 }
 
 /// Adds directives, joined by commas.
-pub(crate) fn put_dirs(out: &mut Vec<u8>, dirs: &[Dir]) -> Result<(), NoMemory>
+fn put_dirs(out: &mut Vec<u8>, dirs: &[Dir]) -> Result<(), NoMemory>
     ensures { OnOk result (out.new.items ≡ out.old.items ++ dirs_text dirs.now) }
 {
     'dirs: for (i, dir) in dirs.iter().enumerate() {
@@ -116,7 +136,7 @@ pub(crate) fn put_dirs(out: &mut Vec<u8>, dirs: &[Dir]) -> Result<(), NoMemory>
 }
 
 /// Adds bytes as digits, or a hyphen for none.
-pub(crate) fn put_bytes(out: &mut Vec<u8>, bytes: &[u8]) -> Result<(), NoMemory>
+pub fn put_bytes(out: &mut Vec<u8>, bytes: &[u8]) -> Result<(), NoMemory>
     ensures { OnOk result (out.new.items ≡ out.old.items ++ bytes_text bytes.now) }
 {
     if bytes.is_empty() {
@@ -129,7 +149,7 @@ pub(crate) fn put_bytes(out: &mut Vec<u8>, bytes: &[u8]) -> Result<(), NoMemory>
 }
 
 /// Adds the name of a device.
-pub(crate) fn put_device(out: &mut Vec<u8>, dev: &TargetId) -> Result<(), NoMemory>
+pub fn put_device(out: &mut Vec<u8>, dev: &TargetId) -> Result<(), NoMemory>
     ensures { OnOk result (out.new.items ≡ out.old.items ++ device_text dev.now) }
 {
     put(out, b"e")?;
@@ -139,7 +159,7 @@ pub(crate) fn put_device(out: &mut Vec<u8>, dev: &TargetId) -> Result<(), NoMemo
 }
 
 /// Adds the name of a disk.
-pub(crate) fn put_which(out: &mut Vec<u8>, which: Which) -> Result<(), NoMemory>
+pub fn put_which(out: &mut Vec<u8>, which: Which) -> Result<(), NoMemory>
     ensures { OnOk result (out.new.items ≡ out.old.items ++ which_text which) }
 {
     match which {
@@ -164,7 +184,7 @@ pub(crate) fn put_mode(out: &mut Vec<u8>, mode: Loss) -> Result<(), NoMemory>
 }
 
 /// Adds an action on the config string.
-pub(crate) fn put_ccmd(out: &mut Vec<u8>, ccmd: u8) -> Result<(), NoMemory>
+fn put_ccmd(out: &mut Vec<u8>, ccmd: u8) -> Result<(), NoMemory>
     ensures { OnOk result (out.new.items ≡ out.old.items ++ ccmd_text ccmd) }
 {
     match ccmd {
@@ -178,7 +198,7 @@ pub(crate) fn put_ccmd(out: &mut Vec<u8>, ccmd: u8) -> Result<(), NoMemory>
 }
 
 /// Adds an action on the reserve list.
-pub(crate) fn put_rcmd(out: &mut Vec<u8>, rcmd: u8) -> Result<(), NoMemory>
+fn put_rcmd(out: &mut Vec<u8>, rcmd: u8) -> Result<(), NoMemory>
     ensures { OnOk result (out.new.items ≡ out.old.items ++ rcmd_text rcmd) }
 {
     match rcmd {
@@ -187,4 +207,49 @@ pub(crate) fn put_rcmd(out: &mut Vec<u8>, rcmd: u8) -> Result<(), NoMemory>
         2 => put(out, b"force"),
         _ => put_number(out, u64::from(rcmd)),
     }
+}
+
+/// Adds the words of an action on the config string behind those of its device: a read has no text.
+pub fn put_config_words(out: &mut Vec<u8>, ccmd: u8, text: &Blob) -> Result<(), NoMemory>
+    ensures { OnOk result (out.new.items ≡ out.old.items ++ spaced (config_words ccmd text.now)) }
+{
+    put(out, b" ")?;
+    put_ccmd(out, ccmd)?;
+    if ccmd == 0 {
+        return Ok(());
+    }
+    put(out, b" ")?;
+    put_bytes(out, text.bytes())
+}
+
+/// Adds the words of an action on the mask list behind those of its device.
+pub fn put_masks_words(
+    out: &mut Vec<u8>,
+    edit: bool,
+    dirs: &ArrayVec<Dir, MAX_DIRS>,
+) -> Result<(), NoMemory>
+    ensures { OnOk result (out.new.items ≡ out.old.items ++ spaced (masks_words edit dirs.now.items)) }
+{
+    if !edit {
+        return put(out, b" read");
+    }
+    put(out, b" edit ")?;
+    put_dirs(out, dirs.as_slice())
+}
+
+/// Adds the words of an action on the reserve list behind those of its device: a read has no list.
+pub fn put_reserve_words(
+    out: &mut Vec<u8>,
+    rcmd: u8,
+    list: &ArrayVec<Mac, MAX_DIRS>,
+) -> Result<(), NoMemory>
+    ensures { OnOk result (out.new.items ≡ out.old.items ++ spaced (reserve_words rcmd list.now.items)) }
+{
+    put(out, b" ")?;
+    put_rcmd(out, rcmd)?;
+    if rcmd == 0 {
+        return Ok(());
+    }
+    put(out, b" ")?;
+    put_list(out, list.as_slice())
 }

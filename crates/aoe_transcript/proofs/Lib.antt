@@ -1,0 +1,4 @@
+mod HistoryLemmas
+mod RunLemmas
+mod SubmissionLemmas
+mod TestLemmas

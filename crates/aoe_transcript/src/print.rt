@@ -1,0 +1,160 @@
+//! The text of what happened.
+ghost use Rattle.std.specs.Prelude.{◌≡◌, ◌++◌, ◌∷◌, [], codes, decimal, if◌then◌else◌, IfOk, OnOk};
+ghost use Rattle.aoe_script.specs.Print.{bytes_text, device_text, spaced, spelled, which_text};
+ghost use Rattle.aoe_transcript.specs.Print.{addresses_text, armed_text, entry_text, entry_words, CanPrint};
+
+use crate::outcome::{put_fate, put_outcome};
+use crate::submission::{put_refusal, put_submitted};
+use aoe_base::{Blob, Mac, NoMemory, TargetId};
+use aoe_history::Entry;
+use aoe_lists::Lists;
+use aoe_script::spelling::{
+    put, put_between, put_bytes, put_count, put_device, put_named, put_which,
+};
+use aoe_script::{Name, Which};
+use std::alloc::Global;
+
+/// Adds a word, a host and a number.
+fn put_of_host(out: &mut Vec<u8>, word: &[u8], host: &Name, n: u64) -> Result<(), NoMemory>
+    ensures { OnOk result (out.new.items ≡ out.old.items ++ spelled (word.now ∷ host.now.items ∷ decimal n ∷ [])) }
+{
+    put_named(out, word, host)?;
+    put_count(out, b"", n)
+}
+
+/// Adds a word and a device.
+fn put_of_device(out: &mut Vec<u8>, word: &[u8], dev: &TargetId) -> Result<(), NoMemory>
+    ensures { OnOk result (out.new.items ≡ out.old.items ++ spelled (word.now ∷ device_text dev.now ∷ [])) }
+{
+    put(out, word)?;
+    put(out, b" ")?;
+    put_device(out, dev)
+}
+
+/// Adds the line of a disk that is armed, without its end.
+fn put_armed(
+    out: &mut Vec<u8>,
+    dev: &TargetId,
+    which: Which,
+    k: u64,
+    stops: bool,
+) -> Result<(), NoMemory>
+    ensures { OnOk result (out.new.items ≡ out.old.items ++ spelled (codes "armed" ∷ device_text dev.now ∷ which_text which ∷ armed_text stops ∷ decimal k ∷ [])) }
+{
+    put_of_device(out, b"armed", dev)?;
+    put(out, b" ")?;
+    put_which(out, which)?;
+    if stops {
+        put_count(out, b" stop", k)
+    } else {
+        put_count(out, b" fail", k)
+    }
+}
+
+/// Adds addresses without colons, joined by commas, or a hyphen for none.
+fn put_addresses(out: &mut Vec<u8>, macs: &[Mac]) -> Result<(), NoMemory>
+    ensures { OnOk result (out.new.items ≡ out.old.items ++ addresses_text macs.now) }
+{
+    if macs.is_empty() {
+        return put(out, b"-");
+    }
+    'macs: for (i, mac) in macs.iter().enumerate() {
+        put_between(out, i, b',')?;
+        put_bytes(out, &mac.0)?;
+    }
+    Ok(())
+}
+
+/// Adds the lists of a device, each behind its name.
+fn put_lists(out: &mut Vec<u8>, lists: &Lists) -> Result<(), NoMemory>
+    ensures { OnOk result (out.new.items ≡ out.old.items ++ spaced (codes "config" ∷ bytes_text lists.now.config ∷ codes "masks" ∷ addresses_text lists.now.masks ∷ codes "reserves" ∷ addresses_text lists.now.reserves ∷ [])) }
+{
+    put(out, b" config ")?;
+    put_bytes(out, lists.config.as_slice())?;
+    put(out, b" masks ")?;
+    put_addresses(out, lists.masks.as_slice())?;
+    put(out, b" reserves ")?;
+    put_addresses(out, lists.reserves.as_slice())
+}
+
+/// Adds the line of a frame that a host was handed, without its end.
+fn put_took(out: &mut Vec<u8>, host: &Name, frame: u64, stale: bool) -> Result<(), NoMemory>
+    ensures { OnOk result (out.new.items ≡ out.old.items ++ spelled (codes "took" ∷ host.now.items ∷ decimal frame ∷ (if stale then codes "stale" ∷ [] else []))) }
+{
+    put_of_host(out, b"took", host, frame)?;
+    if stale { put(out, b" stale") } else { Ok(()) }
+}
+
+/// Adds the line of an entry, without its end.
+fn put_entry(out: &mut Vec<u8>, entry: &Entry) -> Result<(), NoMemory>
+    requires { CanPrint entry.now }
+    ensures { OnOk result (out.new.items ≡ out.old.items ++ spelled (entry_words entry.now)) }
+{
+    match entry {
+        Entry::Submitted {
+            host,
+            ticket,
+            dev,
+            op,
+        } => put_submitted(out, host, *ticket, dev, op),
+        Entry::Refused { host, refusal } => {
+            put_named(out, b"refuse", host)?;
+            put_refusal(out, *refusal)
+        }
+        Entry::Sent {
+            host,
+            ticket,
+            frame,
+            ..
+        } => {
+            put_of_host(out, b"sent", host, *ticket)?;
+            put_count(out, b"", *frame)
+        }
+        Entry::Injected { frame, .. } => put_count(out, b"inject", *frame),
+        Entry::Arrived { dev, frame, fate } => {
+            put_of_device(out, b"arrive", dev)?;
+            put_count(out, b"", *frame)?;
+            put_fate(out, fate)
+        }
+        Entry::Took { host, frame, stale } => put_took(out, host, *frame, *stale),
+        Entry::Done {
+            host,
+            ticket,
+            outcome,
+        } => {
+            put_of_host(out, b"done", host, *ticket)?;
+            put_outcome(out, outcome)
+        }
+        Entry::Ticked { ms } => put_count(out, b"tick", *ms),
+        Entry::Lost { frame } => put_count(out, b"lost", *frame),
+        Entry::Armed {
+            dev,
+            which,
+            k,
+            mode,
+        } => put_armed(out, dev, *which, *k, mode.is_some()),
+        Entry::Crashed { dev, lists, .. } => {
+            put_of_device(out, b"crashed", dev)?;
+            put_lists(out, lists)
+        }
+    }
+}
+
+/// Adds the line of an entry.
+pub(crate) fn put_line(out: &mut Vec<u8>, entry: &Entry) -> Result<(), NoMemory>
+    requires { CanPrint entry.now }
+    ensures { OnOk result (out.new.items ≡ out.old.items ++ entry_text entry.now) }
+{
+    put_entry(out, entry)?;
+    put(out, b"\n")
+}
+
+/// The line of an entry.
+pub fn print_entry(alloc: Global, entry: &Entry) -> Result<Blob, NoMemory>
+    requires { CanPrint entry.now }
+    ensures { IfOk result (λ text. text ≡ entry_text entry.now) }
+{
+    let mut out = Vec::new(alloc);
+    put_line(&mut out, entry)?;
+    Blob::of(alloc, out.as_slice())
+}
