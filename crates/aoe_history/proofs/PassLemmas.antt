@@ -171,7 +171,10 @@ sent-passes life host slot h name c number f s b = record {
     again : (d : ℕ) (x : Sending) → sends_of host h d ≡ Some x → (t : Bool) → (is_called host name && nat_eq c d) ≡ t → (y : Sending) × (sends_of host (Sent name c number f ∷ h) d ≡ Some y) × (y.tag ≡ x.tag) × (x.last.0 ≤ y.last.0)
     again d x e true q =
         let l = b.last d x e in
-        let n : (base.more host h c f d).last.0 ≡ clock h = ap (λ (m : Millis). m.0) (base.more-last (fields f).tag (record { 0 = clock h }) (path_of host (submission host h c) f) (timeout_at host h d c f) (sends_of host h d)) in
-        (base.more host h c f d, when (is_called host name && nat_eq c d) (Some (base.more host h c f d)) (sends_of host h d) q,
-        base.more-tag (fields f).tag (record { 0 = clock h }) (path_of host (submission host h c) f) (timeout_at host h d c f) x (sends_of host h d) e, omega arith)
+        let n : (base.more host h c f d).last.0 ≡ clock h = ap (λ (m : Millis). m.0) (base.more-last (fields f).tag (record { 0 = clock h }) (path_of host (submission host h c) f) (timeout_at host h d c f) (sends_of host h d)) in (
+          base.more host h c f d,
+          when (is_called host name && nat_eq c d) (Some (base.more host h c f d)) (sends_of host h d) q,
+          base.more-tag (fields f).tag (record { 0 = clock h }) (path_of host (submission host h c) f) (timeout_at host h d c f) x (sends_of host h d) e,
+          omega arith,
+        )
     again d x e false q = (x, unless (is_called host name && nat_eq c d) (Some (base.more host h c f d)) (sends_of host h d) q ∙ e, refl, omega arith)
