@@ -117,9 +117,6 @@ none-some : (o : Option Sending) → o ≡ None → is_some o ≡ false
 none-some None e = refl
 none-some (Some x) e = absurd (cc)
 
-some-other : (o : Option Sending) (x : Sending) → o ≡ Some x → is_some o ≡ true
-some-other o x e = ap (λ z. is_some z) e
-
 clash-of : (b : Bool) → b ≡ true → b ≡ false → ⊥
 clash-of true p q = cc
 clash-of false p q = cc

@@ -69,10 +69,6 @@ unless : {X : Type 0} (b : Bool) (x y : X) → b ≡ false → (if b then x else
 unless true x y e = absurd (cc)
 unless false x y e = refl
 
-both-true : (b c t : Bool) → b ≡ true → (b && c) ≡ t → c ≡ t
-both-true true c t e q = q
-both-true false c t e q = absurd (cc)
-
 own-test : (b : Bool) (n c : ℕ) → b ≡ true → (b && nat_eq c n) ≡ nat_eq c n
 own-test true n c e = refl
 own-test false n c e = absurd (cc)

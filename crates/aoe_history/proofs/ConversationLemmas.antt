@@ -85,9 +85,6 @@ read-told station h k e reply a span args fits can says is tells none =
 by-answer : (station : Station) (k : State) (h : Header) (args : AtaArgs) (x y : AtaAnswer) (fate : Fate) → x ≡ y → AllowsAta station k.sectors h args x fate → AllowsAta station k.sectors h args y fate
 by-answer station k h args x y fate e allows = subst (λ z. AllowsAta station k.sectors h args z fate) e allows
 
-effect-is : (e e2 : Effect) (r r2 : List ℕ) → replied e r ≡ replied e2 r2 → e ≡ e2
-effect-is e e2 r r2 p = cc
-
 read-by : (b : Bool) (station : Station) (h : Header) (k : State) (e : Effect) (reply : List ℕ) (a : Answer) (span : Span) (args : AtaArgs) → Fits h → CanReply station h → answer (Read span) (fields reply) (drop 24 reply) ≡ Some a
     → AllowsAta station k.sectors h args (if b then Give span else NotFound) (replied e reply) → TellsTruly (Read span) k e reply a
 read-by true station h k effect.None reply a span args fits can says x = read-told station h k effect.None reply a span args fits can says x.1 x.2 refl

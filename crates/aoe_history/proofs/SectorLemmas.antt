@@ -21,9 +21,6 @@ pub allowed-new : (v : List ℕ) (may : Option (List (List ℕ))) → IsAllowed 
 allowed-new v None = tt
 allowed-new v (Some ws) = inl refl
 
-pub allowed-any : (o : Option (List ℕ)) → IsAllowed o None
-allowed-any o = tt
-
 pub none-allowed : (may : Option (List (List ℕ))) → IsAllowed None may → may ≡ None
 none-allowed None a = refl
 none-allowed (Some ws) a = absurd a

@@ -1,6 +1,7 @@
 use Rattle.std.proofs.Common.{◌≡◌, true, Option, Some, None, is_some, refl}
 use Rattle.aoe_initiator.specs.HostLog.{Sending}
 use Rattle.aoe_history.specs.CommandView.{sends_of}
+use Rattle.aoe_history.proofs.AskedLemmas.{asked-of}
 use Rattle.aoe_history.proofs.HostLemmas.{holds-of, known-of}
 use Rattle.aoe_history.proofs.commands.host_commands_law.Goals as goal
 
@@ -10,6 +11,9 @@ there (Some x) e = (x, refl)
 
 pub returns-clause-commands : goal.returns-clause-commands
 returns-clause-commands c = λ s host h x. (known-of s host h x).list
+
+pub returns-clause-askable : goal.returns-clause-askable
+returns-clause-askable c = asked-of
 
 pub returns-clause-sent_once_submitted : goal.returns-clause-sent_once_submitted
 returns-clause-sent_once_submitted c = λ s host h x. (holds-of s host h x).base.bounds

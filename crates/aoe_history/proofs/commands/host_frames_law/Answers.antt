@@ -1,4 +1,5 @@
 use Rattle.aoe_history.proofs.ApartLemmas.{arriving-active}
+use Rattle.aoe_history.proofs.AskedLemmas.{understood}
 use Rattle.aoe_history.proofs.HostLemmas.{holds-of}
 use Rattle.aoe_history.proofs.commands.host_frames_law.Goals as goal
 
@@ -7,3 +8,6 @@ returns-clause-requests c = λ s host h x. (holds-of s host h x).frames
 
 pub returns-clause-active : goal.returns-clause-active
 returns-clause-active c = λ s host h x. arriving-active s.life host h
+
+pub returns-clause-understood : goal.returns-clause-understood
+returns-clause-understood c = understood
