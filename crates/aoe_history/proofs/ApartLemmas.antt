@@ -18,8 +18,9 @@ use Rattle.aoe_history.specs.CommandView.{in_conflict, is_active, op_in, sends_o
 use Rattle.aoe_history.specs.Frames.{arriving, clock, frames}
 use Rattle.aoe_history.specs.Setup.{device_no, is_slot, HostSetup, SlotSetup}
 use Rattle.aoe_history.proofs.BaseLemmas.{by-submissions, clash, Base}
-use Rattle.aoe_history.proofs.FrameLemmas.{arrives}
+use Rattle.aoe_history.proofs.FrameLemmas.{birth_of, arrives}
 use Rattle.aoe_history.proofs.GoneLemmas.{AreGone}
+use Rattle.std.specs.Option.{option_map_or}
 
 pub record WritesTo (slot : SlotSetup) (o : Option Submission) (s : ℕ) (v : List ℕ) : Type 0 where
   pub at : ℕ
@@ -189,5 +190,5 @@ pub arriving-active : (life : ℕ) (host : HostSetup) (h : List Entry) (number :
     → is_active life host h x.ticket x.sending ≡ true
 arriving-active life host h number frame e fresh x =
     let a = arrives life h number frame.bytes fresh in
-    let born : Rattle.aoe_history.proofs.FrameLemmas.birth_of h number ≡ frame.birth = ap (λ o. Rattle.std.specs.Option.option_map_or (λ (f : SentFrame). f.birth) o 0) e in
+    let born : birth_of h number ≡ frame.birth = ap (λ o. option_map_or (λ (f : SentFrame). f.birth) o 0) e in
     still-on life (clock h) frame.birth x.sending.last.0 (was_done host h x.ticket) (let le = a.fresh in omega arith) x.time

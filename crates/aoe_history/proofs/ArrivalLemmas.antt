@@ -10,17 +10,17 @@ use Rattle.aoe_frame.specs.declared.header.Header.{Header}
 use Rattle.aoe_target.specs.declared.heard.Effect.{Effect}
 use Rattle.aoe_target.specs.declared.heard.Effect.TheVariants as effect
 use Rattle.aoe_target.specs.declared.station.Station.{Station}
-use Rattle.aoe_target.specs.Law.{after_ata, AllowsAta}
+use Rattle.aoe_target.specs.Law.{replied, after_ata, AllowsAta}
 use Rattle.aoe_target.specs.Reply.{data_of}
 use Rattle.aoe_target.specs.Sectors.{in_span, value_in, Sectors}
 use Rattle.aoe_history.specs.declared.entry.Fate.{Fate}
 use Rattle.aoe_history.specs.declared.entry.Fate.TheVariants.{Ignored, Silent, Cut, Replied}
-use Rattle.aoe_history.specs.Slots.{answer_puts, fate_at, stores}
+use Rattle.aoe_history.specs.Slots.{effect_breaks, answer_puts, fate_at, stores}
 
 -- whether an arrival left the sector in doubt, by what the device was told to do
 abbrev pub breaks_by : AtaAnswer → Fate → ℕ → Bool
 breaks_by answer Cut s = answer_puts answer s
-breaks_by answer (Replied e number bytes) s = Rattle.aoe_history.specs.Slots.effect_breaks e s
+breaks_by answer (Replied e number bytes) s = effect_breaks e s
 breaks_by answer fate s = false
 
 -- a sector, its mark, and what the arrival did to it
@@ -53,12 +53,12 @@ cut-at : (b : Bool) (span : Span) (f : List ℕ) (s : ℕ) (x : Sectors) → in_
 cut-at true span f s x e = spoils span refl e (rw e refl) refl e
 cut-at false span f s x e = shows None (rw e (same (x.known s))) (rw e refl) refl e
 
-fate-effect : (e e2 : Effect) (r r2 : List ℕ) → Rattle.aoe_target.specs.Law.replied e r ≡ Rattle.aoe_target.specs.Law.replied e2 r2 → e ≡ e2
+fate-effect : (e e2 : Effect) (r r2 : List ℕ) → replied e r ≡ replied e2 r2 → e ≡ e2
 fate-effect e e2 r r2 p = cc
 
-plain-effect : (answer : AtaAnswer) (f : List ℕ) (e : Effect) (n s : ℕ) (r r2 : List ℕ) (x : Sectors) → Rattle.aoe_target.specs.Law.replied e r ≡ Rattle.aoe_target.specs.Law.replied effect.None r2
-    → after_ata f answer (Rattle.aoe_target.specs.Law.replied effect.None r) x ≡ x → Deed answer f (Replied e n r) s x (after_ata f answer (Rattle.aoe_target.specs.Law.replied e r) x)
-plain-effect answer f e n s r r2 x p q = subst (λ z. Deed answer f (Replied z n r) s x (after_ata f answer (Rattle.aoe_target.specs.Law.replied z r) x)) (sym (fate-effect e effect.None r r2 p))
+plain-effect : (answer : AtaAnswer) (f : List ℕ) (e : Effect) (n s : ℕ) (r r2 : List ℕ) (x : Sectors) → replied e r ≡ replied effect.None r2
+    → after_ata f answer (replied effect.None r) x ≡ x → Deed answer f (Replied e n r) s x (after_ata f answer (replied e r) x)
+plain-effect answer f e n s r r2 x p q = subst (λ z. Deed answer f (Replied z n r) s x (after_ata f answer (replied z r) x)) (sym (fate-effect e effect.None r r2 p))
     (subst (λ y. Deed answer f (Replied effect.None n r) s x y) (sym q) (idle answer f (Replied effect.None n r) s x refl refl))
 
 pub deed : (station : Station) (k : Option Sectors) (h : Header) (args : AtaArgs) (f : List ℕ) (s : ℕ) (x : Sectors) (answer : AtaAnswer) (fate : Fate) → AllowsAta station k h args answer (fate_at fate)

@@ -1,6 +1,6 @@
 -- What holds of a sector of a slot for a host after an arrival.
 use Rattle.std.proofs.Common.{ℕ, ◌+◌, ◌-◌, ◌/◌, ◌≡◌, if◌then◌else◌, nat_le, Bool, true, false, ◌&&◌, ◌||◌, List, [], ◌∷◌, drop, length, Option, Some, None, is_some, IsSomeAnd, refl, sym, subst, ap, ◌∙◌, Contains}
-use Rattle.std.specs.Option.{option_and_then, option_map_or}
+use Rattle.std.specs.Option.{option_or, option_map, option_and_then}
 use Rattle.aoe_base.specs.declared.address.TargetId.{TargetId}
 use Rattle.aoe_base.specs.declared.sectors.Span.{Span}
 use Rattle.aoe_ata.specs.Decision.{written}
@@ -11,7 +11,7 @@ use Rattle.aoe_initiator.specs.declared.op.Op.TheVariants.{Read, Write, Flush, I
 use Rattle.aoe_initiator.specs.Op.{span_of}
 use Rattle.aoe_net.specs.Network.{fresh_bytes, numbered, SentFrame}
 use Rattle.aoe_target.specs.declared.verdict.Verdict.{Verdict}
-use Rattle.aoe_target.specs.declared.verdict.Verdict.TheVariants.{Ata}
+use Rattle.aoe_target.specs.declared.verdict.Verdict.TheVariants.{Lists, Silent, Ignored, Ata}
 use Rattle.aoe_target.specs.Sectors.{in_span, value_in, Sectors}
 use Rattle.aoe_history.specs.declared.entry.Entry.{Entry}
 use Rattle.aoe_history.specs.declared.entry.Entry.TheVariants.{Submitted, Refused, Sent, Injected, Arrived, Took, Done, Ticked, Lost, Armed, Crashed}
@@ -23,15 +23,20 @@ use Rattle.aoe_history.specs.Frames.{arriving, bytes_of, clock, frames, network}
 use Rattle.aoe_history.specs.Lawful.{HasHost, IsArrival}
 use Rattle.aoe_history.specs.Reading.{allowed, alone, is_from, safe, spoiled}
 use Rattle.aoe_history.specs.Setup.{is_slot, slot_of, HostSetup, IsSetup, Setup, SlotSetup}
-use Rattle.aoe_history.specs.Slots.{after_frame, breaks, fate_at, known_after, marked_after, slot_after, state_after, stores, verdict_after, Slot}
+use Rattle.aoe_history.specs.Slots.{marked_in, after_crash, left_sectors, after_frame, breaks, fate_at, known_after, marked_after, slot_after, state_after, stores, verdict_after, Slot}
 use Rattle.aoe_history.proofs.ApartLemmas.{arriving-active, one-write}
 use Rattle.aoe_history.proofs.AskedLemmas.{ids-same, there-of, understood}
 use Rattle.aoe_history.proofs.AtLemmas.{flying-active, landed, wr, At, IsFlying, IsUnderWay}
-use Rattle.aoe_history.proofs.DeedLemmas.{acts, known_in, put, showed, spoilt, synced, Act}
+use Rattle.aoe_history.proofs.DeedLemmas.{step-sectors, acts, known_in, put, showed, spoilt, synced, Act}
 use Rattle.aoe_history.proofs.FrameLemmas.{arrives}
 use Rattle.aoe_history.proofs.HostLemmas.{holds-of}
 use Rattle.aoe_history.proofs.SectorLemmas.{breaks_it, learns, syncs, Sector}
 use Rattle.aoe_history.proofs.SectorLemmas as sector
+use Rattle.aoe_history.specs.ShelfLaw.{KeepsShelfLaw}
+use Rattle.aoe_history.proofs.SourceLemmas.{some-such}
+use Rattle.aoe_target.specs.Law.{step_of, after_ata, after_step}
+use Rattle.aoe_target.specs.Device.{State}
+use Rattle.aoe_lists.specs.Step.{Step}
 
 -- FRAMES
 
@@ -139,10 +144,10 @@ module _ (s : Setup) (host : HostSetup) (h : List Entry) (run : HasHost s host h
       0 v false (IsUnderWay s.life host h) k2 (λ d a. a) (λ e. absurd (cc)))
 
   pub by-act : (k : ℕ) (f : List ℕ) (fate : Fate) (k2 : Option (List ℕ)) (m2 : Bool) → arriving s.life h k ≡ Some f → Act (verdict_after slot h f) f fate sct (known_after slot h sct) k2 (marked_after slot h sct) m2 → At s.life host slot h sct
-      → After true (Rattle.aoe_history.specs.Slots.stores fate sct) (breaks (verdict_after slot h f) fate sct) (is_from host f) k2 m2
+      → After true (stores fate sct) (breaks (verdict_after slot h f) fate sct) (is_from host f) k2 m2
   by-act k f fate k2 m2 fresh (showed shown p q a b) x =
       subst (λ st. After true st (breaks (verdict_after slot h f) fate sct) (is_from host f) k2 m2) (sym a) (subst (λ br. After true false br (is_from host f) k2 m2) (sym b)
-      (subst (λ o. After true false false (is_from host f) o m2) (sym p) (subst (λ m. After true false false (is_from host f) (Rattle.std.specs.Option.option_or (known_after slot h sct) shown) m) (sym q)
+      (subst (λ o. After true false false (is_from host f) o m2) (sym p) (subst (λ m. After true false false (is_from host f) (option_or (known_after slot h sct) shown) m) (sym q)
       (learns (IsFlying host h) (IsUnderWay s.life host h) (wr host slot h sct) (landed host slot h sct) (known_after slot h sct) (marked_after slot h sct) (alone host slot h sct) (safe host slot h sct) (spoiled host slot h sct) (allowed host slot h sct) x
       shown (IsUnderWay s.life host h) (λ d a. a)))))
   by-act k f fate k2 m2 fresh (put d span v answer inside p q a b) x =
@@ -166,14 +171,14 @@ sectors-there slot (Sent name t number f ∷ h) = sectors-there slot h
 sectors-there slot (Injected number f ∷ h) = sectors-there slot h
 sectors-there slot (Arrived dev frame fate ∷ h) = go (is_slot slot dev) (sectors-there slot h)
   where
-    by-change : (c : Rattle.aoe_lists.specs.Step.Step) (fate : Fate) (k : Rattle.aoe_target.specs.Device.State) → (x : Sectors) × (k.sectors ≡ Some x) → (x : Sectors) × ((Rattle.aoe_target.specs.Law.after_step c (fate_at fate) k).sectors ≡ Some x)
+    by-change : (c : Step) (fate : Fate) (k : State) → (x : Sectors) × (k.sectors ≡ Some x) → (x : Sectors) × ((after_step c (fate_at fate) k).sectors ≡ Some x)
     by-change c fate k p = (p.0, Rattle.aoe_history.proofs.DeedLemmas.step-sectors c fate k ∙ p.1)
 
-    by-verdict : (v : Verdict) (f : List ℕ) (k : Rattle.aoe_target.specs.Device.State) → (x : Sectors) × (k.sectors ≡ Some x) → (x : Sectors) × ((Rattle.aoe_target.specs.Law.after slot.station f v (fate_at fate) k).sectors ≡ Some x)
-    by-verdict (Ata d) f k p = (_, ap (λ o. Rattle.std.specs.Option.option_map (Rattle.aoe_target.specs.Law.after_ata f d.answer (fate_at fate)) o) p.1)
-    by-verdict (Rattle.aoe_target.specs.declared.verdict.Verdict.TheVariants.Lists c) f k p = by-change (Rattle.aoe_target.specs.Law.step_of slot.station k.lists f c) fate k p
-    by-verdict Rattle.aoe_target.specs.declared.verdict.Verdict.TheVariants.Ignored f k p = p
-    by-verdict Rattle.aoe_target.specs.declared.verdict.Verdict.TheVariants.Silent f k p = p
+    by-verdict : (v : Verdict) (f : List ℕ) (k : State) → (x : Sectors) × (k.sectors ≡ Some x) → (x : Sectors) × ((Rattle.aoe_target.specs.Law.after slot.station f v (fate_at fate) k).sectors ≡ Some x)
+    by-verdict (Ata d) f k p = (_, ap (λ o. option_map (after_ata f d.answer (fate_at fate)) o) p.1)
+    by-verdict (Lists c) f k p = by-change (step_of slot.station k.lists f c) fate k p
+    by-verdict Ignored f k p = p
+    by-verdict Silent f k p = p
     by-verdict (Rattle.aoe_target.specs.declared.verdict.Verdict.TheVariants.Refused e) f k p = p
 
     go : (b : Bool) → (x : Sectors) × ((state_after slot h).sectors ≡ Some x) → (x : Sectors) × ((if b then after_frame slot (bytes_of h frame) fate (slot_after slot h) else slot_after slot h).state.sectors ≡ Some x)
@@ -186,18 +191,18 @@ sectors-there slot (Lost frame ∷ h) = sectors-there slot h
 sectors-there slot (Armed dev which n mode ∷ h) = sectors-there slot h
 sectors-there slot (Crashed dev lists how ∷ h) = go (is_slot slot dev) (sectors-there slot h)
   where
-    go : (b : Bool) → (x : Sectors) × ((state_after slot h).sectors ≡ Some x) → (x : Sectors) × ((if b then Rattle.aoe_history.specs.Slots.after_crash slot lists how (slot_after slot h) else slot_after slot h).state.sectors ≡ Some x)
-    go true p = (_, ap (λ o. Rattle.std.specs.Option.option_map (Rattle.aoe_history.specs.Slots.left_sectors slot (slot_after slot h).unsettled how) o) p.1)
+    go : (b : Bool) → (x : Sectors) × ((state_after slot h).sectors ≡ Some x) → (x : Sectors) × ((if b then after_crash slot lists how (slot_after slot h) else slot_after slot h).state.sectors ≡ Some x)
+    go true p = (_, ap (λ o. option_map (left_sectors slot (slot_after slot h).unsettled how) o) p.1)
     go false p = p
 
 -- the slot after an arrival
-pub act-after : (s : Setup) (slot : SlotSetup) (h : List Entry) (dev : TargetId) (k : ℕ) (fate : Fate) (f : List ℕ) → is_slot slot dev ≡ true → Rattle.aoe_history.specs.ShelfLaw.KeepsShelfLaw slot h f fate → bytes_of h k ≡ f → (sct : ℕ)
+pub act-after : (s : Setup) (slot : SlotSetup) (h : List Entry) (dev : TargetId) (k : ℕ) (fate : Fate) (f : List ℕ) → is_slot slot dev ≡ true → KeepsShelfLaw slot h f fate → bytes_of h k ≡ f → (sct : ℕ)
     → Act (verdict_after slot h f) f fate sct (known_after slot h sct) (known_after slot (Arrived dev k fate ∷ h) sct) (marked_after slot h sct) (marked_after slot (Arrived dev k fate ∷ h) sct)
 act-after s slot h dev k fate f is law bytes sct =
     let x = sectors-there slot h in
     let a = acts slot.station (state_after slot h) f (verdict_after slot h f) fate sct x.0 x.1 law in
     let same : slot_after slot (Arrived dev k fate ∷ h) ≡ after_frame slot f fate (slot_after slot h) = when (is_slot slot dev) (after_frame slot (bytes_of h k) fate (slot_after slot h)) (slot_after slot h) is ∙ ap (λ z. after_frame slot z fate (slot_after slot h)) bytes in
-    subst (λ (z : Slot). Act (verdict_after slot h f) f fate sct (known_after slot h sct) (known_in z.state.sectors sct) (marked_after slot h sct) (Rattle.aoe_history.specs.Slots.marked_in z.state.sectors sct)) (sym same) a
+    subst (λ (z : Slot). Act (verdict_after slot h f) f fate sct (known_after slot h sct) (known_in z.state.sectors sct) (marked_after slot h sct) (marked_in z.state.sectors sct)) (sym same) a
   where
     when : {X : Type 0} (b : Bool) (x y : X) → b ≡ true → (if b then x else y) ≡ x
     when true x y e = refl
@@ -207,11 +212,11 @@ module _ (s : Setup) (host : HostSetup) (h : List Entry) (run : HasHost s host h
   elsewhere : (dev : TargetId) (k : ℕ) (fate : Fate) (t st br own : Bool) → t ≡ false → slot_after slot (Arrived dev k fate ∷ h) ≡ slot_after slot h → At s.life host slot h sct
       → After s host h run slot there sct t st br own (known_after slot (Arrived dev k fate ∷ h) sct) (marked_after slot (Arrived dev k fate ∷ h) sct)
   elsewhere dev k fate true st br own e same x = absurd (cc)
-  elsewhere dev k fate false st br own e same x = subst (λ (z : Slot). After s host h run slot there sct false st br own (known_in z.state.sectors sct) (Rattle.aoe_history.specs.Slots.marked_in z.state.sectors sct)) (sym same) x
+  elsewhere dev k fate false st br own e same x = subst (λ (z : Slot). After s host h run slot there sct false st br own (known_in z.state.sectors sct) (marked_in z.state.sectors sct)) (sym same) x
 
-  here : (dev : TargetId) (k : ℕ) (fate : Fate) (f : List ℕ) (t : Bool) → t ≡ true → bytes_of h k ≡ f → After s host h run slot there sct true (Rattle.aoe_history.specs.Slots.stores fate sct) (breaks (verdict_after slot h f) fate sct) (is_from host f) (known_after slot (Arrived dev k fate ∷ h) sct) (marked_after slot (Arrived dev k fate ∷ h) sct)
-      → After s host h run slot there sct t (Rattle.aoe_history.specs.Slots.stores fate sct) (breaks (verdict_after slot h (bytes_of h k)) fate sct) (is_from host (bytes_of h k)) (known_after slot (Arrived dev k fate ∷ h) sct) (marked_after slot (Arrived dev k fate ∷ h) sct)
-  here dev k fate f true e bytes x = subst (λ (z : List ℕ). After s host h run slot there sct true (Rattle.aoe_history.specs.Slots.stores fate sct) (breaks (verdict_after slot h z) fate sct) (is_from host z) (known_after slot (Arrived dev k fate ∷ h) sct) (marked_after slot (Arrived dev k fate ∷ h) sct)) (sym bytes) x
+  here : (dev : TargetId) (k : ℕ) (fate : Fate) (f : List ℕ) (t : Bool) → t ≡ true → bytes_of h k ≡ f → After s host h run slot there sct true (stores fate sct) (breaks (verdict_after slot h f) fate sct) (is_from host f) (known_after slot (Arrived dev k fate ∷ h) sct) (marked_after slot (Arrived dev k fate ∷ h) sct)
+      → After s host h run slot there sct t (stores fate sct) (breaks (verdict_after slot h (bytes_of h k)) fate sct) (is_from host (bytes_of h k)) (known_after slot (Arrived dev k fate ∷ h) sct) (marked_after slot (Arrived dev k fate ∷ h) sct)
+  here dev k fate f true e bytes x = subst (λ (z : List ℕ). After s host h run slot there sct true (stores fate sct) (breaks (verdict_after slot h z) fate sct) (is_from host z) (known_after slot (Arrived dev k fate ∷ h) sct) (marked_after slot (Arrived dev k fate ∷ h) sct)) (sym bytes) x
   here dev k fate f false e bytes x = absurd (cc)
 
   pub arrived-at : (dev : TargetId) (k : ℕ) (fate : Fate) → IsSomeAnd (slot_of s dev) (λ z. IsArrival s z h k fate) → At s.life host slot h sct → At s.life host slot (Arrived dev k fate ∷ h) sct
@@ -222,7 +227,7 @@ module _ (s : Setup) (host : HostSetup) (h : List Entry) (run : HasHost s host h
       unless false x y e = refl
 
       go : (t : Bool) → is_slot slot dev ≡ t → At s.life host slot (Arrived dev k fate ∷ h) sct
-      go false e = elsewhere dev k fate (is_slot slot dev) (Rattle.aoe_history.specs.Slots.stores fate sct) (breaks (verdict_after slot h (bytes_of h k)) fate sct) (is_from host (bytes_of h k)) e
+      go false e = elsewhere dev k fate (is_slot slot dev) (stores fate sct) (breaks (verdict_after slot h (bytes_of h k)) fate sct) (is_from host (bytes_of h k)) e
           (unless (is_slot slot dev) (after_frame slot (bytes_of h k) fate (slot_after slot h)) (slot_after slot h) e) x
       go true e =
           let o = Rattle.aoe_history.proofs.SourceLemmas.some-such (λ z. IsArrival s z h k fate) (slot_of s dev) law in

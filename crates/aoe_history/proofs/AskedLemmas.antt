@@ -1,6 +1,6 @@
 -- What a host asks of its devices, and which slot takes its frames.
 use Rattle.std.proofs.Common.{ℕ, zero, suc, ◌+◌, ◌/◌, ◌%◌, ◌<◌, ◌≤◌, ◌≡◌, ◌≢◌, ◌⊎◌, inl, inr, if◌then◌else◌, nat_eq, nat_lt, ◌==◌, Bool, true, false, ◌&&◌, ◌||◌, List, [], ◌∷◌, drop, length, get_or, Option, Some, None, refl, sym, subst, ap, ◌∙◌, arith, Contains}
-use Rattle.std.specs.Prelude.{position, slice_get}
+use Rattle.std.specs.Prelude.{unwrap_or, position, slice_get}
 use Rattle.std.specs.Option.{option_and_then}
 use Rattle.std.proofs.lemmas.Bool.Decides.{nat_tests}
 use Rattle.std.proofs.lemmas.List.Quantifiers.{position-Some}
@@ -118,7 +118,7 @@ askable s host h c dev op ok mine x =
       can = both.0;
       sectors = both.1;
       about = a.0;
-      place = ap (λ o. slice_get host.devices (Rattle.std.specs.Prelude.unwrap_or o 0)) x.attached ∙ a.1;
+      place = ap (λ o. slice_get host.devices (unwrap_or o 0)) x.attached ∙ a.1;
       id = a.2;
     }
 

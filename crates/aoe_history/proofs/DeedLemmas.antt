@@ -13,12 +13,14 @@ use Rattle.aoe_target.specs.declared.station.Station.{Station}
 use Rattle.aoe_target.specs.declared.verdict.Verdict.{Verdict}
 use Rattle.aoe_target.specs.declared.verdict.Verdict.TheVariants.{Ata, Ignored as Ignores, Lists, Refused, Silent as Hushes}
 use Rattle.aoe_target.specs.Device.{State}
-use Rattle.aoe_target.specs.Law.{after, after_ata, after_step, step_of, Allows, AllowsStep}
+use Rattle.aoe_target.specs.Law.{silent, ignored, replied, after, after_ata, after_step, step_of, Allows, AllowsStep}
 use Rattle.aoe_target.specs.Sectors.{in_span, value_in, Sectors}
 use Rattle.aoe_history.specs.declared.entry.Fate.{Fate}
 use Rattle.aoe_history.specs.declared.entry.Fate.TheVariants.{Ignored, Silent, Cut, Replied}
 use Rattle.aoe_history.specs.Slots.{breaks, fate_at, marked_in, stores}
 use Rattle.aoe_history.proofs.ArrivalLemmas.{breaks_by, deed, puts, shows, spoils, syncs, Deed}
+use Rattle.aoe_target.specs.declared.verdict.ListCommand.{ListCommand}
+use Rattle.aoe_target.specs.Reply.{spelled, repeated, step_reply}
 
 abbrev pub known_in : Option Sectors → ℕ → Option (List ℕ)
 known_in o s = option_and_then (λ (k : Sectors). k.known s) o
@@ -52,27 +54,27 @@ ata-act d f fate s x y (spoils span is inside q a b) = spoilt d span refl is ins
 ata-act d f fate s x y (syncs is p q a b) = synced p q a (same-breaks d fate s ∙ b)
 
 -- a reply without an effect, and none
-no-effect : (v : Verdict) (fate : Fate) (s : ℕ) (r : List ℕ) → fate_at fate ≡ Rattle.aoe_target.specs.Law.replied effect.None r → (stores fate s ≡ false) × (breaks v fate s ≡ false)
+no-effect : (v : Verdict) (fate : Fate) (s : ℕ) (r : List ℕ) → fate_at fate ≡ replied effect.None r → (stores fate s ≡ false) × (breaks v fate s ≡ false)
 no-effect v Ignored s r e = absurd (cc)
 no-effect v Silent s r e = absurd (cc)
 no-effect v Cut s r e = absurd (cc)
 no-effect v (Replied x n q) s r e = let p : x ≡ effect.None = cc in (rw p refl, rw p refl)
 
-was-silent : (v : Verdict) (fate : Fate) (s : ℕ) → fate_at fate ≡ Rattle.aoe_target.specs.Law.silent → (stores fate s ≡ false) × (breaks v fate s ≡ false)
+was-silent : (v : Verdict) (fate : Fate) (s : ℕ) → fate_at fate ≡ silent → (stores fate s ≡ false) × (breaks v fate s ≡ false)
 was-silent v Silent s e = (refl, refl)
 was-silent v Ignored s e = absurd (cc)
 was-silent v Cut s e = absurd (cc)
 was-silent v (Replied x n q) s e = absurd (cc)
 
-was-ignored : (v : Verdict) (fate : Fate) (s : ℕ) → fate_at fate ≡ Rattle.aoe_target.specs.Law.ignored → (stores fate s ≡ false) × (breaks v fate s ≡ false)
+was-ignored : (v : Verdict) (fate : Fate) (s : ℕ) → fate_at fate ≡ ignored → (stores fate s ≡ false) × (breaks v fate s ≡ false)
 was-ignored v Ignored s e = (refl, refl)
 was-ignored v Silent s e = absurd (cc)
 was-ignored v Cut s e = absurd (cc)
 was-ignored v (Replied x n q) s e = absurd (cc)
 
-step-still : (station : Station) (f : List ℕ) (x : Step) (c : Rattle.aoe_target.specs.declared.verdict.ListCommand.ListCommand) (fate : Fate) (s : ℕ) → AllowsStep station f x (fate_at fate) → (stores fate s ≡ false) × (breaks (Lists c) fate s ≡ false)
+step-still : (station : Station) (f : List ℕ) (x : Step) (c : ListCommand) (fate : Fate) (s : ℕ) → AllowsStep station f x (fate_at fate) → (stores fate s ≡ false) × (breaks (Lists c) fate s ≡ false)
 step-still station f step.Silent c fate s a = was-silent (Lists c) fate s a
-step-still station f (step.Reply error args) c fate s a = no-effect (Lists c) fate s (Rattle.aoe_target.specs.Reply.step_reply station f error args) a
+step-still station f (step.Reply error args) c fate s a = no-effect (Lists c) fate s (step_reply station f error args) a
 step-still station f (step.Change next args) c Cut s a = (refl, refl)
 step-still station f (step.Change next args) c (Replied effect.Edited n r) s a = (refl, refl)
 step-still station f (step.Change next args) c (Replied effect.EditFault n r) s a = (refl, refl)
@@ -100,7 +102,7 @@ pub acts : (station : Station) (k : State) (f : List ℕ) (v : Verdict) (fate : 
     → Act v f fate s (known_in k.sectors s) (known_in (after station f v (fate_at fate) k).sectors s) (marked_in k.sectors s) (marked_in (after station f v (fate_at fate) k).sectors s)
 acts station k f Ignores fate s x e a = still Ignores f fate s k.sectors k.sectors refl (was-ignored Ignores fate s a)
 acts station k f Hushes fate s x e a = still Hushes f fate s k.sectors k.sectors refl (was-silent Hushes fate s a)
-acts station k f (Refused error) fate s x e a = still (Refused error) f fate s k.sectors k.sectors refl (no-effect (Refused error) fate s (Rattle.aoe_target.specs.Reply.spelled station (fields f) (Some error) (Rattle.aoe_target.specs.Reply.repeated f)) a)
+acts station k f (Refused error) fate s x e a = still (Refused error) f fate s k.sectors k.sectors refl (no-effect (Refused error) fate s (spelled station (fields f) (Some error) (repeated f)) a)
 acts station k f (Lists c) fate s x e a = still (Lists c) f fate s k.sectors (after_step (step_of station k.lists f c) (fate_at fate) k).sectors (step-sectors (step_of station k.lists f c) fate k) (step-still station f (step_of station k.lists f c) c fate s a)
 acts station k f (Ata d) fate s x e a =
     subst (λ (o : Option Sectors). Act (Ata d) f fate s (known_in o s) (known_in (option_map (after_ata f d.answer (fate_at fate)) o) s) (marked_in o s) (marked_in (option_map (after_ata f d.answer (fate_at fate)) o) s)) (sym e)

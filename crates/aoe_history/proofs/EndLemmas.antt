@@ -1,7 +1,7 @@
 -- A response that ends a command says what is so.
 use Rattle.std.proofs.Common.{ℕ, ◌+◌, ◌-◌, ◌*◌, ◌≤◌, ◌≡◌, if◌then◌else◌, nat_eq, nat_lt, Bool, true, false, not, ◌&&◌, List, drop, Option, Some, None, refl, sym, subst, ap, ◌∙◌, arith, Contains}
 use Rattle.std.specs.Prelude.{slice_get}
-use Rattle.std.specs.Option.{option_and_then}
+use Rattle.std.specs.Option.{option_map_or, option_and_then}
 use Rattle.std.proofs.lemmas.Bool.Decides.{nat_tests}
 use Rattle.arrayvec.specs.ArrayVec.{ArrayVec}
 use Rattle.aoe_base.specs.declared.address.Mac.{Mac}
@@ -38,6 +38,7 @@ use Rattle.aoe_history.proofs.RequestLemmas.{fields-are}
 use Rattle.aoe_history.proofs.SendLemmas.{and-parts, not-true}
 use Rattle.aoe_history.proofs.SentLemmas.{contains-at, device-at, host-there}
 use Rattle.aoe_history.proofs.TrueLemmas.{AreTrue, IsReplyTo, IsTrue, SaysOf}
+use Rattle.aoe_net.specs.Network.{SentFrame}
 
 -- what a response to a command is
 pub record IsAnswerTo (host : Host) (c : HostCommand) (f : List ℕ) (a : Answer) : Type 0 where
@@ -135,7 +136,7 @@ response-true s host h run slot there sct c x outcome true_ones sub is ans =
     } in
     let t : IsTrue s.life host slot h sct g.0 = true_ones ans.number g.0 g.1 (subst (λ z. IsReplyTo host slot z) (sym g.2) to) in
     let fresh = (arrives s.life h ans.number ans.bytes ans.fresh).fresh in
-    let born : birth_of h ans.number ≡ g.0.birth = ap (λ o. Rattle.std.specs.Option.option_map_or (λ (f : Rattle.aoe_net.specs.Network.SentFrame). f.birth) o 0) g.1 in
+    let born : birth_of h ans.number ≡ g.0.birth = ap (λ o. option_map_or (λ (f : SentFrame). f.birth) o 0) g.1 in
     let one_live : is_live s.life host h t.ticket t.sending ≡ true = still-live s.life (clock h) g.0.birth t.sending.last.0 (was_done host h t.ticket) (omega (arith, fresh, born)) t.time in
     let own_live : is_live s.life host h c p.sending ≡ true = live-flying (rest_time s.life) (clock h) p.sending.last.0 (was_done host h c) p.flying in
     let tags : t.sending.tag ≡ p.sending.tag = sym t.tag ∙ ap (λ f. (fields f).tag) g.2 ∙ sym p.tag in

@@ -1,7 +1,7 @@
 -- How each kind of entry keeps what holds of a host's commands and frames.
 use Rattle.std.proofs.Common.{ℕ, suc, ◌-◌, ◌≤◌, ◌≡◌, ◌⊎◌, inl, inr, if◌then◌else◌, nat_eq, nat_le, ◌==◌, Bool, true, false, not, ◌&&◌, ◌||◌, List, ◌∷◌, drop, length, Option, Some, None, is_some, refl, sym, subst, ap, ◌∙◌, arith}
 use Rattle.std.specs.List.{find}
-use Rattle.std.specs.Option.{option_and_then, option_map}
+use Rattle.std.specs.Option.{option_and_then}
 use Rattle.std.specs.Str.{bytes_eq}
 use Rattle.std.proofs.lemmas.Bool.Decides.{nat_tests}
 use Rattle.std.proofs.lemmas.Slice.Eq.{bytes_eq-Decides}
@@ -33,6 +33,8 @@ use Rattle.aoe_history.proofs.BaseLemmas as base
 use Rattle.aoe_history.proofs.CommandLemmas.{sent-of-there, viewed, IsNamed, Known}
 use Rattle.aoe_history.proofs.SendLemmas.{and-parts, not-true}
 use Rattle.aoe_history.proofs.SentLemmas.{host-there, some-mapped}
+use Rattle.aoe_base.specs.declared.counted.Millis.{Millis}
+use Rattle.std.specs.Prelude.{slice_get}
 
 -- a host is the one that its name names
 pub named : (s : Setup) (name : ArrayVec ℕ) (host : HostSetup) → host_called s name ≡ Some host → IsNamed s host
@@ -126,7 +128,7 @@ answered-flies host c f a e = go (head f) e
     go None p = absurd (cc)
     go (Some h) p =
         let all = taken-if (is_answered host c h) (answer c.op h (drop 24 f)) a p in
-        let outer = and-parts (is_response host h && (not c.done && has_tag h.tag c.sends)) (is_from (Rattle.std.specs.Prelude.slice_get host.devices c.device.0) c.op h) all in
+        let outer = and-parts (is_response host h && (not c.done && has_tag h.tag c.sends)) (is_from (slice_get host.devices c.device.0) c.op h) all in
         let inner = and-parts (is_response host h) (not c.done && has_tag h.tag c.sends) outer.0 in
         let own = and-parts (not c.done) (has_tag h.tag c.sends) inner.1 in
         (tagged h.tag c.sends own.1, not-true c.done own.0)
@@ -189,7 +191,7 @@ module _ (life : ℕ) (host : HostSetup) (h : List Entry) (name : ArrayVec ℕ) 
 
       later : g.birth ≤ (base.more host h c f x.ticket).last.0
       later = let t = x.time in let l = b.last x.ticket x.sending x.sent in
-          let n : (base.more host h c f x.ticket).last.0 ≡ clock h = ap (λ (m : Rattle.aoe_base.specs.declared.counted.Millis.Millis). m.0) (base.more-last (fields f).tag (record { 0 = clock h }) (path_of host (submission host h c) f) (timeout_at host h x.ticket c f) (sends_of host h x.ticket)) in omega arith
+          let n : (base.more host h c f x.ticket).last.0 ≡ clock h = ap (λ (m : Millis). m.0) (base.more-last (fields f).tag (record { 0 = clock h }) (path_of host (submission host h c) f) (timeout_at host h x.ticket c f) (sends_of host h x.ticket)) in omega arith
 
       go : (t : Bool) → (is_called host name && nat_eq c x.ticket) ≡ t → IsSentFor host (Sent name c number f ∷ h) g
       go true e = record {
@@ -217,7 +219,7 @@ module _ (life : ℕ) (host : HostSetup) (h : List Entry) (name : ArrayVec ℕ) 
     sending = base.more host h c f c;
     sent = base.now-sent life host h name c number f mine r reads;
     request = subst (λ t. IsRequest host (view host h c).device (view host h c).op t f) (sym (base.tag-is life host h name c number f mine r reads)) r.request;
-    time = (let n : (base.more host h c f c).last.0 ≡ clock h = ap (λ (m : Rattle.aoe_base.specs.declared.counted.Millis.Millis). m.0) (base.more-last (fields f).tag (record { 0 = clock h }) (path_of host (submission host h c) f) (timeout_at host h c c f) (sends_of host h c)) in omega arith);
+    time = (let n : (base.more host h c f c).last.0 ≡ clock h = ap (λ (m : Millis). m.0) (base.more-last (fields f).tag (record { 0 = clock h }) (path_of host (submission host h c) f) (timeout_at host h c c f) (sends_of host h c)) in omega arith);
   }
 
   pub sent-frames : Base life host h → (fs : List SentFrame) → AreSentFor host h fs → AreSentFor host (Sent name c number f ∷ h) (record { bytes = f; birth = clock h } ∷ fs)

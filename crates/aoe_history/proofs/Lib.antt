@@ -37,3 +37,4 @@ mod PassLemmas
 mod DoneLemmas
 mod ToldLemmas
 mod ReadLemmas
+mod SetupLemmas

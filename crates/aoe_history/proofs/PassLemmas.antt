@@ -15,11 +15,11 @@ use Rattle.aoe_history.specs.declared.entry.Entry.TheVariants.{Sent, Arrived, Cr
 use Rattle.aoe_history.specs.declared.entry.Fate.{Fate}
 use Rattle.aoe_history.specs.Commands.{path_of, submission, was_sent, writes}
 use Rattle.aoe_history.specs.CommandView.{sends_of, timeout_at, AsksAt}
-use Rattle.aoe_history.specs.Frames.{bytes_of, clock}
+use Rattle.aoe_history.specs.Frames.{arriving, bytes_of, clock}
 use Rattle.aoe_history.specs.Lawful.{HasHost, IsArrival}
 use Rattle.aoe_history.specs.Reading.{allowed, alone, also, is_first, is_from, loses, safe, spoiled, IsAllowed}
 use Rattle.aoe_history.specs.Setup.{is_called, is_slot, slot_of, HostSetup, Setup, SlotSetup}
-use Rattle.aoe_history.specs.Slots.{after_crash, after_frame, breaks, known_after, left_sectors, marked_after, marked_in, slot_after, stores, verdict_after, Slot}
+use Rattle.aoe_history.specs.Slots.{lost, after_crash, after_frame, breaks, known_after, left_sectors, marked_after, marked_in, slot_after, stores, verdict_after, Slot}
 use Rattle.aoe_history.proofs.ApartLemmas.{none-beside-flush}
 use Rattle.aoe_history.proofs.ArriveLemmas.{act-after, sectors-there, slot-is, writer, Writer}
 use Rattle.aoe_history.proofs.AtLemmas.{landed, wr, At, IsFlying, IsUnderWay}
@@ -31,6 +31,7 @@ use Rattle.aoe_history.proofs.HostLemmas.{holds-of}
 use Rattle.aoe_history.proofs.SectorLemmas.{allowed-also, crashes, Sector}
 use Rattle.aoe_history.proofs.SourceLemmas.{some-such}
 use Rattle.aoe_history.proofs.TrueLemmas.{Passes}
+use Rattle.std.specs.Prelude.{is_some}
 
 unless : {X : Type 0} (b : Bool) (x y : X) → b ≡ false → (if b then x else y) ≡ y
 unless true x y e = absurd (cc)
@@ -74,7 +75,7 @@ module _ (s : Setup) (host : HostSetup) (h : List Entry) (run : HasHost s host h
       was : (alone host slot h sct ≡ true) × ((is_slot slot dev && (stores fate sct || breaks (verdict_after slot h (bytes_of h k)) fate sct)) ≡ true → is_from host (bytes_of h k) ≡ true)
       was = alone-is (is_slot slot dev && (stores fate sct || breaks (verdict_after slot h (bytes_of h k)) fate sct)) (is_from host (bytes_of h k)) (alone host slot h sct) al
 
-      by-act : (f : List ℕ) → bytes_of h k ≡ f → Rattle.aoe_history.specs.Frames.arriving s.life h k ≡ Some f → is_slot slot dev ≡ true
+      by-act : (f : List ℕ) → bytes_of h k ≡ f → arriving s.life h k ≡ Some f → is_slot slot dev ≡ true
           → Act (verdict_after slot h f) f fate sct (known_after slot h sct) (known_after slot (Arrived dev k fate ∷ h) sct) (marked_after slot h sct) (marked_after slot (Arrived dev k fate ∷ h) sct) → marked_after slot (Arrived dev k fate ∷ h) sct ≡ false
       by-act f bytes fresh is (showed shown p q a b) = q ∙ m was.0
       by-act f bytes fresh is (put d span v ans inside p q a b) =
@@ -97,7 +98,7 @@ module _ (s : Setup) (host : HostSetup) (h : List Entry) (run : HasHost s host h
     sent = λ c x e. (x, e, refl, omega arith);
     flying = λ c d. d;
     asked = λ c x e. refl;
-    stored = λ c l. or-true (is_slot slot dev && stores fate sct && Rattle.std.specs.Prelude.is_some (sends_of host h c)) (landed host slot h sct c) l;
+    stored = λ c l. or-true (is_slot slot dev && stores fate sct && is_some (sends_of host h c)) (landed host slot h sct c) l;
     marks = λ c fl d asks m al. marks-after dev k fate c law fl asks m al;
     reads = λ c span fl d asks i v m al.
         allowed-unless (is_slot slot dev && breaks (verdict_after slot h (bytes_of h k)) fate sct) v (allowed host slot h sct)
@@ -131,9 +132,9 @@ pub crashed-at : (life : ℕ) (host : HostSetup) (slot : SlotSetup) (h : List En
 crashed-at life host slot h dev lists how s x = go (is_slot slot dev)
   where
     left : (o : Option Sectors) (y : Sectors) → o ≡ Some y → (m : Bool) → marked_in o s ≡ m
-        → known_in (option_map (left_sectors slot (slot_after slot h).unsettled how) o) s ≡ (if m then Rattle.aoe_history.specs.Slots.lost slot.cache (slot_after slot h).unsettled how s (y.known s) (y.settled s) else known_in o s)
-    left o y e m q = subst (λ z. known_in (option_map (left_sectors slot (slot_after slot h).unsettled how) z) s ≡ (if m then Rattle.aoe_history.specs.Slots.lost slot.cache (slot_after slot h).unsettled how s (y.known s) (y.settled s) else known_in z s)) (sym e)
-        (ap (λ b. if b then Rattle.aoe_history.specs.Slots.lost slot.cache (slot_after slot h).unsettled how s (y.known s) (y.settled s) else y.known s) (subst (λ z. marked_in z s ≡ m) e q))
+        → known_in (option_map (left_sectors slot (slot_after slot h).unsettled how) o) s ≡ (if m then lost slot.cache (slot_after slot h).unsettled how s (y.known s) (y.settled s) else known_in o s)
+    left o y e m q = subst (λ z. known_in (option_map (left_sectors slot (slot_after slot h).unsettled how) z) s ≡ (if m then lost slot.cache (slot_after slot h).unsettled how s (y.known s) (y.settled s) else known_in z s)) (sym e)
+        (ap (λ b. if b then lost slot.cache (slot_after slot h).unsettled how s (y.known s) (y.settled s) else y.known s) (subst (λ z. marked_in z s ≡ m) e q))
 
     go : (b : Bool) → Sector (IsFlying host h) (IsUnderWay life host h) (wr host slot h s) (landed host slot h s) (known_in (if b then after_crash slot lists how (slot_after slot h) else slot_after slot h).state.sectors s)
         (marked_in (if b then after_crash slot lists how (slot_after slot h) else slot_after slot h).state.sectors s) (alone host slot h s) (safe host slot h s) (if b then loses host slot h s || spoiled host slot h s else spoiled host slot h s)
@@ -149,7 +150,7 @@ crashed-at life host slot h dev lists how s x = go (is_slot slot dev)
         (crashes (IsFlying host h) (IsUnderWay life host h) (wr host slot h s) (landed host slot h s) (known_after slot h s) (marked_after slot h s) (alone host slot h s) (safe host slot h s) (spoiled host slot h s) (allowed host slot h s) l (IsUnderWay life host h) (λ d a. a) x))
       where
         lost-value : Sectors → Option (List ℕ)
-        lost-value y = Rattle.aoe_history.specs.Slots.lost slot.cache (slot_after slot h).unsettled how s (y.known s) (y.settled s)
+        lost-value y = lost slot.cache (slot_after slot h).unsettled how s (y.known s) (y.settled s)
 
 -- SENDS
 

@@ -7,7 +7,7 @@ use Rattle.aoe_flight.specs.declared.outstanding.Outstanding.{Outstanding}
 use Rattle.aoe_flight.specs.Outstanding.{has_tag, is_over, rest_time}
 use Rattle.aoe_hold.specs.Commands.{conflict, unsent}
 use Rattle.aoe_initiator.specs.declared.step.Sent as step
-use Rattle.aoe_initiator.specs.HostLaw.{IsNextBy}
+use Rattle.aoe_initiator.specs.HostLaw.{is_clear_at, IsNextBy}
 use Rattle.aoe_initiator.specs.HostLog.{as_entered, as_sent, outstanding, sent_of, stage, HostCommand, Sending}
 use Rattle.aoe_history.specs.declared.entry.Entry.{Entry}
 use Rattle.aoe_history.specs.Commands.{commands_of, host_after, tickets}
@@ -18,6 +18,7 @@ use Rattle.aoe_history.specs.Setup.{HostSetup, Setup}
 use Rattle.aoe_history.proofs.CommandLemmas.{sent-of-there, viewed, IsView, Known}
 use Rattle.aoe_history.proofs.SendLemmas.{and-parts, clear-past, clear-unsent, not-true, only-one, or-parts, IsPast}
 use Rattle.aoe_history.proofs.SentLemmas.{some-mapped, spelled-request}
+use Rattle.std.specs.Option.{option_map}
 
 -- a command is sent for the first time
 pub record IsFirstSend (life : ℕ) (host : HostSetup) (h : List Entry) (c tag : ℕ) : Type 0 where
@@ -103,11 +104,11 @@ first-send s host h c sent k above le ticket may =
     let v = viewed host h may.command k may.there in
     let same : v.ticket ≡ c = ap (λ (x : HostCommand). x.ticket.0) v.is ∙ ap (λ t. t.0) may.ticket ∙ ticket in
     let is : view host h c ≡ may.command = subst (λ t. view host h t ≡ may.command) same v.is in
-    let clear = subst (λ (x : HostCommand). Rattle.aoe_initiator.specs.HostLaw.is_clear_at s.life (clock h) (commands_of host h) x ≡ true) (sym is) may.clear in
+    let clear = subst (λ (x : HostCommand). is_clear_at s.life (clock h) (commands_of host h) x ≡ true) (sym is) may.clear in
     record {
       unsent = never-sent (sends_of host h c) (was_done host h c) (clear-unsent s.life (clock h) (commands_of host h) (view host h c) clear);
       free = λ d y above2 le2 sends alive. differs y.tag sent.tag (none-of (has_tag sent.tag) (λ o. not (is_over (rest_time s.life) (clock h) o)) (sent_of (commands_of host h)) (outstanding (view host h d) y) may.free
-          (sent-there (commands_of host h) (view host h d) (outstanding (view host h d) y) (view-there host h d k above2 le2) (ap (λ o. Rattle.std.specs.Option.option_map (outstanding (view host h d)) o) sends)) alive);
+          (sent-there (commands_of host h) (view host h d) (outstanding (view host h d) y) (view-there host h d k above2 le2) (ap (λ o. option_map (outstanding (view host h d)) o) sends)) alive);
       past = λ d above2 lt co. let p = and-parts (nat_eq (view host h d).device.0 (view host h c).device.0) (conflict (as_entered (view host h d)) (as_entered (view host h c))) co in
           clear-past s.life (clock h) (commands_of host h) (view host h c) (view host h d) clear (view-there host h d k above2 (omega arith)) p.0 lt p.1;
     }

@@ -29,7 +29,7 @@ use Rattle.aoe_target.specs.Device.{State}
 use Rattle.aoe_target.specs.Law.{replied, step_of, Allows, AllowsAta, AllowsStep}
 use Rattle.aoe_target.specs.Reply.{data_of, error_args, identity, repeated, reply_port, spelled}
 use Rattle.aoe_target.specs.Sectors.{Sectors}
-use Rattle.aoe_target.specs.Verdict.{verdict}
+use Rattle.aoe_target.specs.Verdict.{judged, verdict}
 use Rattle.aoe_history.specs.declared.entry.Entry.{Entry}
 use Rattle.aoe_history.specs.HostLaw.{IsSent}
 use Rattle.aoe_history.specs.Lawful.{IsForeign}
@@ -91,7 +91,7 @@ pub has-head : (station : Station) (k : State) (f r : List ℕ) (e : Effect) →
 unfolding verdict
 has-head station k f r e x = go (is_some (head f)) refl x
   where
-    go : (b : Bool) → is_some (head f) ≡ b → Allows station k f (if b then Rattle.aoe_target.specs.Verdict.judged station k.lists (fields f) (drop 24 f) else Ignored) (replied e r) → is_some (head f) ≡ true
+    go : (b : Bool) → is_some (head f) ≡ b → Allows station k f (if b then judged station k.lists (fields f) (drop 24 f) else Ignored) (replied e r) → is_some (head f) ≡ true
     go true p y = p
     go false p y = absurd (cc)
 

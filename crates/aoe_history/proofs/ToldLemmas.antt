@@ -52,6 +52,8 @@ use Rattle.aoe_history.proofs.SectorLemmas.{none-allowed}
 use Rattle.aoe_history.proofs.SentLemmas.{found, host-there, request-fits, request-header}
 use Rattle.aoe_history.proofs.SourceLemmas.{has-head, is-long, port-holds, replies, some-such, source-length, split-off, IsReply}
 use Rattle.aoe_history.proofs.TrueLemmas.{IsReplyTo, IsTrue, SaysOf}
+use Rattle.std.specs.Option.{option_map, option_map_or, option_and_then}
+use Rattle.aoe_net.specs.Network.{SentFrame}
 
 -- the destination of a frame with this header
 destination-is : (h : Header) (args : List ℕ) → length h.dst.0 ≡ 6 → (fields (padded (header_bytes h ++ args))).dst ≡ h.dst
@@ -70,7 +72,7 @@ step-synced station f r step.Silent a = cc
 step-synced station f r (step.Reply error args) a = cc
 step-synced station f r (step.Change next args) a = a
 
-no-mark : (o : Option Sectors) (s : ℕ) → marked_in (Rattle.std.specs.Option.option_map settles o) s ≡ false
+no-mark : (o : Option Sectors) (s : ℕ) → marked_in (option_map settles o) s ≡ false
 no-mark None s = refl
 no-mark (Some x) s = refl
 
@@ -92,7 +94,7 @@ shown-allowed life host slot h s span data_bytes x inside al tells =
     let t : Tells span data_bytes y.0 = subst (λ o. IfSome o (Tells span data_bytes)) y.1 tells in
     let p = inside-at span.at span.count s inside in
     let shown = subst (λ k. IfSome (y.0.known k) (λ v. value_in span data_bytes s ≡ v)) p.0 (t (s - span.at) p.1) in
-    let known : known_after slot h s ≡ y.0.known s = ap (λ o. Rattle.std.specs.Option.option_and_then (λ (k : Sectors). k.known s) o) y.1 in
+    let known : known_after slot h s ≡ y.0.known s = ap (λ o. option_and_then (λ (k : Sectors). k.known s) o) y.1 in
     go (y.0.known s) shown (subst (λ o. IsAllowed o (allowed host slot h s)) known (x.value al))
   where
     go : (o : Option (List ℕ)) → IfSome o (λ v. value_in span data_bytes s ≡ v) → IsAllowed o (allowed host slot h s) → IsAllowed (Some (value_in span data_bytes s)) (allowed host slot h s)
@@ -178,7 +180,7 @@ module _ (s : Setup) (host : HostSetup) (h : List Entry) (run : HasHost s host h
       let is : is_slot slot dev ≡ true = subst (λ z. same_id z dev ≡ true) (sym id) its.1 in
       let same : other ≡ slot = slot-is s slot other dev run.setup there o.1 is in
       let law_here : Allows slot.station (state_after slot h) f (verdict_after slot h f) (replied e r) = subst (λ (z : SlotSetup). Allows z.station (state_after z h) f (verdict_after z h f) (replied e r)) same o.2.law in
-      let born : birth_of h k ≡ g.0.birth = ap (λ q. Rattle.std.specs.Option.option_map_or (λ (z : Rattle.aoe_net.specs.Network.SentFrame). z.birth) q 0) g.1 in
+      let born : birth_of h k ≡ g.0.birth = ap (λ q. option_map_or (λ (z : SentFrame). z.birth) q 0) g.1 in
       record {
         ticket = sent.ticket;
         sending = sent.sending;

@@ -18,6 +18,7 @@ ghost use Rattle.aoe_history.specs.Frames.{clock, frames};
 ghost use Rattle.aoe_history.specs.Groups.{Enters, Follows, Got, Hand, Shelf};
 ghost use Rattle.aoe_history.specs.Lawful.{IsLawful, MayCome};
 ghost use Rattle.aoe_history.specs.Reading.{allowed, alone, safe, spoiled};
+ghost use Rattle.aoe_history.specs.Setup.{IsSetup};
 ghost use Rattle.aoe_history.specs.Slots.{known_after, marked_after, zero_sector};
 
 /// A law: each entry of the worked histories could come after those before it.
@@ -37,8 +38,9 @@ pub fn worked_histories()
     ensures cached { IsLawful (setup_with (Some 8) (host_a ∷ [])) (read_after_crash zero_sector) }
 {}
 
-/// A law: what the worked histories say of time, frames and sectors.
+/// A law: their setup is one, and what the worked histories say of time, frames and sectors.
 pub fn worked_values()
+    ensures is_setup { IsSetup setup }
     ensures clock { clock central_case ≡ 2001 }
     ensures frames { length (frames central_case) ≡ 6 }
     ensures known { known_after slot central_case 3 ≡ Some (full 0x5a) }

@@ -20,9 +20,10 @@ ghost use Rattle.aoe_history.specs.Reading.{is_from};
 ghost use Rattle.aoe_history.specs.Setup.{HostSetup, Setup, SlotSetup};
 
 /// A law: in every lawful history the commands of a host are what the history says of them. What is
-/// submitted has room in a frame, and is for a device of the host's. Only what was submitted is sent, and only what was sent is done. Of two commands in conflict the later
-/// one is sent only once the earlier one is done, and where it rests on effects, only once no frame
-/// of an earlier write or edit can arrive any more. No two commands that fly or rest have one tag.
+/// submitted has room in a frame, and is for a device of the host's. Only what was submitted is sent,
+/// and only what was sent is done. Of two commands in conflict the later one is sent only once the
+/// earlier one is done, and where it rests on effects, only once no frame of an earlier write or edit
+/// can arrive any more. No two commands that fly or rest have one tag.
 pub fn host_commands_law()
     ensures commands { (s : Setup) (host : HostSetup) (h : List Entry) → HasHost s host h → commands_of host h ≡ views host h }
     ensures askable { (s : Setup) (host : HostSetup) (h : List Entry) → HasHost s host h → (c : ℕ) (x : Submission)
@@ -46,8 +47,8 @@ pub fn host_commands_law()
 
 /// A law: in every lawful history a frame in the network whose source is a port of the host is the
 /// request of one of the host's commands that were sent, with its tag. While it can arrive, the
-/// command flies, or it is done and a frame of it can still arrive. Only the slot that the command is
-/// for takes it as an ATA command, and is told what the command asks.
+/// command flies, or it is done and a frame of it can still arrive. Only the slot that the command
+/// is for takes it as an ATA command, and is told what the command asks.
 pub fn host_frames_law()
     ensures requests { (s : Setup) (host : HostSetup) (h : List Entry) → HasHost s host h → (number : ℕ) (frame : SentFrame)
         → numbered (frames h) number ≡ Some frame → is_from host frame.bytes ≡ true → IsSentFor host h frame }

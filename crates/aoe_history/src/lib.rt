@@ -2,7 +2,8 @@
 //!
 //! A [`History`] has an [`Entry`] for each thing that happened, in order. What its entries say of
 //! times, frames, sectors and commands, which entry may come next by the shelf law, the host law
-//! and the network, and what a host may then read of a sector, stands in specs/.
+//! and the network, and what a host may then read of a sector, stands in specs/. That every lawful
+//! history keeps the law of what is read is [`read_law`].
 #![tactic(auto)]
 
 mod cases;
