@@ -1,5 +1,6 @@
 //! The entries of a run.
-ghost use Rattle.std.specs.Prelude.{◌≡◌, ◌<◌, [], ◌∷◌, length, reverse, slice_get, Some, OnOk, OnErr};
+ghost use Rattle.std.specs.Prelude.{◌≡◌, ◌<◌, [], ◌∷◌, ◌++◌, length, reverse, slice_get, Some, IfNone, OnOk, OnErr};
+ghost use Rattle.std.specs.Option.{option_to_list};
 
 use crate::Entry;
 use aoe_base::NoMemory;
@@ -55,5 +56,13 @@ impl History {
             Ok(()) => Ok(()),
             Err(_) => Err(NoMemory),
         }
+    }
+
+    /// Takes back what was pushed last.
+    pub fn pop(&mut self) -> Option<Entry>
+        ensures last { self.old ≡ option_to_list result ++ self.new }
+        ensures none { IfNone result (self.old ≡ []) }
+    {
+        self.entries.pop()
     }
 }

@@ -44,7 +44,7 @@ fn shelf_of(words: &Words) -> Option<Setup>
     })
 }
 
-/// `slot NAME MINOR SECTORS`, or with `ROOM` behind it
+/// `slot NAME MINOR SECTORS`
 fn slot_of(words: &Words) -> Option<Setup>
     ensures { result ≡ slot_of words.now }
 {
@@ -52,7 +52,6 @@ fn slot_of(words: &Words) -> Option<Setup>
         shelf: name_of(words.at(1))?,
         minor: number(words.at(2))?,
         sectors: number(words.at(3))?,
-        room: optional_number(words, 4)?,
     })
 }
 
@@ -103,7 +102,7 @@ fn setup_line(alloc: Global, words: &Words) -> Result<Line, NoMemory>
     } else if first == b"shelf".as_slice() {
         Ok(setup_row(count == 5, shelf_of(words)))
     } else if first == b"slot".as_slice() {
-        Ok(setup_row(count == 4 || count == 5, slot_of(words)))
+        Ok(setup_row(count == 4, slot_of(words)))
     } else if first == b"host".as_slice() {
         Ok(setup_row(count == 3 || count == 5, host_of(words)))
     } else if first == b"attach".as_slice() {

@@ -55,12 +55,10 @@ fn put_setup(out: &mut Vec<u8>, setup: &Setup) -> Result<(), NoMemory>
             shelf,
             minor,
             sectors,
-            room,
         } => {
             put_named(out, b"slot", shelf)?;
             put_count(out, b"", *minor)?;
-            put_count(out, b"", *sectors)?;
-            put_optional(out, *room)
+            put_count(out, b"", *sectors)
         }
         Setup::Host {
             name,

@@ -1,7 +1,7 @@
 //! The ranges of words.
 ghost use Rattle.std.specs.Prelude.{◌≡◌, ◌==◌, nat_le, length, if◌then◌else◌};
 ghost use Rattle.std.specs.List.{list_all};
-ghost use Rattle.aoe_script.specs.Rules.{all_unique, are_ports, is_asked, is_device, is_event, is_individual, is_limit, is_missing_or, is_setup, is_span, is_within};
+ghost use Rattle.aoe_script.specs.Rules.{all_unique, are_ports, is_asked, is_device, is_event, is_individual, is_limit, is_setup, is_span, is_within};
 
 use crate::classes::is_name;
 use crate::event::Event;
@@ -18,16 +18,6 @@ fn is_within(least: u64, most: u64, n: u64) -> bool
     ensures { result ≡ is_within least most n }
 {
     least <= n && n <= most
-}
-
-/// Whether a number is missing or one of these.
-fn is_missing_or(least: u64, most: u64, n: Option<u64>) -> bool
-    ensures { result ≡ is_missing_or least most n }
-{
-    match n {
-        Some(n) => is_within(least, most, n),
-        None => true,
-    }
 }
 
 /// Whether an address is that of one station, and of no group.
@@ -141,13 +131,7 @@ impl Setup {
                 shelf,
                 minor,
                 sectors,
-                room,
-            } => {
-                is_name(shelf)
-                    && *minor <= 254
-                    && is_within(1, 65536, *sectors)
-                    && is_missing_or(1, 65536, *room)
-            }
+            } => is_name(shelf) && *minor <= 254 && is_within(1, 65536, *sectors),
             Setup::Host {
                 name,
                 ports,

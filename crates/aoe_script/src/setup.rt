@@ -21,12 +21,11 @@ pub enum Setup {
         mtu: u64,
     },
 
-    /// A slot of a shelf, of this many sectors; `room` is that of its cache, where it has one.
+    /// A slot of a shelf, of this many sectors.
     Slot {
         shelf: Name,
         minor: u64,
         sectors: u64,
-        room: Option<u64>,
     },
 
     /// A host with its addresses, and how many commands fly at most and for how long, where that
