@@ -1,0 +1,94 @@
+-- What the setup lines of a script declare, in the words of histories.
+use Rattle.std.specs.Prelude.{ℕ, ◌≡◌, Bool, List, [], ◌∷◌, Option, Some, None, option_map, option_and_then, unwrap_or, is_some, if◌then◌else◌}
+use Rattle.std.specs.List.{filter_map, find, flat_map}
+use Rattle.arrayvec.specs.ArrayVec.{ArrayVec}
+use Rattle.aoe_base.specs.declared.address.Mac.{Mac}
+use Rattle.aoe_initiator.specs.declared.device.Attached.{Attached}
+use Rattle.aoe_target.specs.Mounted.{station_of}
+use Rattle.aoe_history.specs.Groups.{Station}
+use Rattle.aoe_history.specs.Groups.Station as station
+use Rattle.aoe_history.specs.Setup.{HostSetup, Setup, SlotSetup}
+use Rattle.aoe_script.specs.declared.setup.Setup.{Setup as Line}
+use Rattle.aoe_script.specs.declared.setup.Setup.TheVariants.{Life, Shelf, Slot, Host, Attach}
+use Rattle.aoe_script.specs.Rules.{is_shelf_named, is_slot, same}
+
+-- how long a frame can be handed over, where no line says it
+abbrev pub default_life : ℕ
+default_life = 2000
+
+-- how many commands of a host fly or rest, and after how many milliseconds one is given up, where its line doesn't say it
+abbrev pub default_room : ℕ
+default_room = 4096
+
+abbrev pub default_dead : ℕ
+default_dead = 180000
+
+abbrev pub life_in : Line → Option ℕ
+life_in (Life ms) = Some ms
+life_in line = None
+
+-- a slot line, where its shelf has this number, these ports and this mtu
+abbrev pub slot_at : ℕ → List Mac → ℕ → Line → Option SlotSetup
+slot_at major ports mtu (Slot shelf minor sectors) =
+    Some (record { station = station_of record { major = major; minor = minor } ports mtu sectors; cache = None })
+slot_at major ports mtu line = None
+
+abbrev pub slot_of_shelf : ArrayVec ℕ → ℕ → List Mac → ℕ → Line → Option SlotSetup
+slot_of_shelf name major ports mtu (Slot shelf minor sectors) =
+    if same shelf name then slot_at major ports mtu (Slot shelf minor sectors) else None
+slot_of_shelf name major ports mtu line = None
+
+-- the slots of a shelf, in the order of their lines
+abbrev pub slots_of_shelf : List Line → Line → List SlotSetup
+slots_of_shelf lines (Shelf name major ports mtu) = filter_map (slot_of_shelf name major ports.items mtu) lines
+slots_of_shelf lines line = []
+
+-- the slot of a shelf that a line names
+abbrev pub slot_by : Line → Line → Option SlotSetup
+slot_by (Shelf name major ports mtu) line = slot_at major ports.items mtu line
+slot_by other line = None
+
+abbrev pub slot_named : List Line → ArrayVec ℕ → ℕ → Option SlotSetup
+slot_named lines shelf minor =
+    option_and_then (λ (s : Line). option_and_then (slot_by s) (find (is_slot shelf minor) lines)) (find (is_shelf_named shelf) lines)
+
+-- what a host knows of a slot that it is attached to
+abbrev pub about : SlotSetup → Attached
+about slot = record { id = slot.station.id; remotes = slot.station.ports; total = slot.station.sectors; max = slot.station.max }
+
+abbrev pub attached_to : List Line → ArrayVec ℕ → Line → Option Attached
+attached_to lines host (Attach other shelf minor) = if same other host then option_map about (slot_named lines shelf minor) else None
+attached_to lines host line = None
+
+abbrev pub host_in : List Line → Line → Option HostSetup
+host_in lines (Host name ports room dead) = Some (record {
+  name = name.items;
+  ports = ports.items;
+  room = unwrap_or room default_room;
+  dead = unwrap_or dead default_dead;
+  devices = filter_map (attached_to lines name) lines;
+})
+host_in lines line = None
+
+-- what setup lines declare: the slots stand by their shelves, and shelves, slots and hosts in the order of their lines
+abbrev pub setup_of : List Line → Setup
+setup_of lines = record {
+  life = unwrap_or (option_and_then life_in (find (λ line. is_some (life_in line)) lines)) default_life;
+  hosts = filter_map (host_in lines) lines;
+  slots = flat_map (slots_of_shelf lines) lines;
+}
+
+-- a station with its name and its ports
+pub record Placed : Type 0 where
+  pub name : ArrayVec ℕ
+  pub ports : List Mac
+  pub station : Station
+
+abbrev pub placed : Line → Option Placed
+placed (Shelf name major ports mtu) = Some (record { name = name; ports = ports.items; station = station.Shelf major })
+placed (Host name ports room dead) = Some (record { name = name; ports = ports.items; station = station.Host name })
+placed line = None
+
+-- all stations, in the order of their lines
+abbrev pub stations_of : List Line → List Placed
+stations_of lines = filter_map placed lines

@@ -1,0 +1,7 @@
+//! What the setup lines of a script declare: hosts and slots that a history can speak of, and that
+//! nothing is wrong with them.
+#![tactic(auto)]
+
+mod laws;
+
+pub use laws::layout_law;

@@ -1,0 +1,78 @@
+-- A shelf in a run: what its disks hold, and how they are armed, is what the history says of them.
+use Rattle.std.specs.Prelude.{ℕ, ◌≡◌, ◌≢◌, ◌-◌, ◌*◌, ◌<◌, ◌≤◌, ◌⊎◌, Bool, true, false, not, ◌&&◌, List, [], ◌∷◌, length, slice_get, Option, Some, None, is_some, IfNone, IfSome}
+use Rattle.std.specs.List.{list_any}
+use Rattle.std.specs.Option.{option_and_then}
+use Rattle.aoe_base.specs.declared.address.TargetId.{TargetId}
+use Rattle.aoe_disk.specs.Memory.{state_of, Memory}
+use Rattle.aoe_disk.specs.State.{Schedule}
+use Rattle.aoe_disk.specs.declared.loss.Loss.{Loss}
+use Rattle.aoe_initiator.specs.HostLaw.{same_id}
+use Rattle.aoe_shelf.specs.Shelf.{Rack}
+use Rattle.aoe_target.specs.Device.{Holds}
+use Rattle.aoe_target.specs.Mounted.{device_of, Mounted}
+use Rattle.aoe_history.specs.declared.entry.Entry.{Entry}
+use Rattle.aoe_history.specs.declared.entry.Entry.TheVariants.{Arrived, Armed, Crashed}
+use Rattle.aoe_history.specs.Setup.{is_slot, slot_of, Setup, SlotSetup}
+use Rattle.aoe_history.specs.ShelfLaw.{stretch, struck_frame, Stretch}
+use Rattle.aoe_history.specs.Slots.{state_after}
+use Rattle.aoe_script.specs.declared.event.Which.{Which}
+use Rattle.aoe_script.specs.declared.event.Which.TheVariants.{Store, Keep}
+use Rattle.aoe_racks.specs.declared.rack.Stops.{Stops}
+
+-- a shelf over disks in memory, and for each slot what a stop leaves that one of its disks is armed with
+pub record MemoryRack : Type 0 where
+  pub shelf : Rack Memory Memory
+  pub stops : List Stops
+
+-- how many calls of a disk one frame comes to: a change of the lists makes six of the keep, a command on sectors one of the store
+abbrev pub calls_per : Which → ℕ
+calls_per Keep = 6
+calls_per Store = 1
+
+-- the call that the disk is armed for is still to come
+pub record IsPending (which : Which) (x : Stretch) (d : Schedule) : Type 0 where
+  pub before : calls_per which * x.frames < x.k
+  pub due : d.due ≡ Some (Some (x.k - calls_per which * x.frames))
+
+-- it was made
+pub record IsSpent (which : Which) (x : Stretch) (d : Schedule) : Type 0 where
+  pub after : struck_frame which x.k ≤ x.frames
+  pub due : d.due ≡ Some None
+
+-- how a disk is armed, by its stretch: a disk that isn't armed for a stop fails one call
+abbrev pub IsDue : Which → Option Stretch → Schedule → Type 0
+IsDue which None d = d.due ≡ Some None
+IsDue which (Some x) d = IfNone x.mode (is_some d.armed ≡ true) × (IsPending which x d ⊎ IsSpent which x d)
+
+-- what a stop leaves that a disk is armed with
+abbrev pub stop_in : Option Stretch → Option Loss
+stop_in x = option_and_then (λ (s : Stretch). s.mode) x
+
+-- a slot's disks are what the history says of them
+pub record IsServing (slot : SlotSetup) (h : List Entry) (t : Mounted Memory Memory) (stops : Stops) : Type 0 where
+  pub station : t.station ≡ slot.station
+  pub direct : slot.cache ≡ None
+  pub holds : Holds (device_of state_of state_of t) (state_after slot h)
+  pub store_due : IfSome (state_of t.store).schedule (IsDue Store (stretch Store slot h))
+  pub keep_due : IfSome (state_of t.keep.disk).schedule (IsDue Keep (stretch Keep slot h))
+  pub store_stop : stops.store ≡ stop_in (stretch Store slot h)
+  pub keep_stop : stops.keep ≡ stop_in (stretch Keep slot h)
+
+-- and those of each slot of a shelf
+pub record Serves (slots : List SlotSetup) (h : List Entry) (x : MemoryRack) : Type 0 where
+  pub count : length x.shelf.targets ≡ length slots
+  pub stops : length x.stops ≡ length slots
+  pub each : (i : ℕ) (slot : SlotSetup) (t : Mounted Memory Memory) (stops : Stops) → slice_get slots i ≡ Some slot
+      → slice_get x.shelf.targets i ≡ Some t → slice_get x.stops i ≡ Some stops → IsServing slot h t stops
+
+-- the slots of a shelf are slots of the setup, and no two have one name
+pub record AreSlots (s : Setup) (slots : List SlotSetup) : Type 0 where
+  pub there : (i : ℕ) (slot : SlotSetup) → slice_get slots i ≡ Some slot → slot_of s slot.station.id ≡ Some slot
+  pub apart : (i j : ℕ) (a b : SlotSetup) → slice_get slots i ≡ Some a → slice_get slots j ≡ Some b → i ≢ j → is_slot a b.station.id ≡ false
+
+-- an entry that says nothing of these slots
+abbrev pub is_apart : List SlotSetup → Entry → Bool
+is_apart slots (Arrived dev frame fate) = not (list_any (λ slot. is_slot slot dev) slots)
+is_apart slots (Armed dev which k mode) = not (list_any (λ slot. is_slot slot dev) slots)
+is_apart slots (Crashed dev lists how) = not (list_any (λ slot. is_slot slot dev) slots)
+is_apart slots entry = true

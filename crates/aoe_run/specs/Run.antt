@@ -1,0 +1,45 @@
+-- A run as contracts see it.
+use Rattle.std.specs.Prelude.{ℕ, ◌≡◌, ◌≤◌, Bool, true, false, List, [], ◌∷◌}
+use Rattle.aoe_net.specs.Network.{IsFull, Network}
+use Rattle.aoe_history.specs.declared.entry.Entry.{Entry}
+use Rattle.aoe_history.specs.declared.entry.Entry.TheVariants.{Sent, Injected, Arrived, Ticked}
+use Rattle.aoe_history.specs.declared.entry.Fate.TheVariants.{Replied}
+use Rattle.aoe_history.specs.Frames.{clock, frames, network}
+use Rattle.aoe_history.specs.Lawful.{MayCome}
+use Rattle.aoe_history.specs.Setup.{Setup}
+
+-- how long a frame can be handed over after its sending, and what happened, the latest first
+pub record Recorded : Type 0 where
+  pub life : ℕ
+  pub entries : List Entry
+
+-- one thing more happened
+abbrev pub with_entry : Recorded → Entry → Recorded
+with_entry run entry = record run { entries = entry ∷ run.entries }
+
+-- no frame came of it, and no time went by
+abbrev pub is_plain : Entry → Bool
+is_plain (Sent host ticket number bytes) = false
+is_plain (Injected number bytes) = false
+is_plain (Arrived dev frame (Replied effect number bytes)) = false
+is_plain (Ticked ms) = false
+is_plain entry = true
+
+-- the network in which the frames of a run are
+abbrev pub network_of : Recorded → Network
+network_of run = network run.life run.entries
+
+-- a network has the frames of a history, none of them from a later time
+pub record Carries (life now : ℕ) (h : List Entry) (net : Network) : Type 0 where
+  pub life_is : net.life ≡ life
+  pub sent : net.sent ≡ frames h
+  pub past : net.latest ≤ now
+  pub time : now ≡ clock h
+
+-- no room: the next entry could be one of which a frame comes that the network has no room for
+pub record MeetsFull (s : Setup) (h : List Entry) : Type 0 where
+  pub entry : Entry
+  pub may_come : MayCome s h entry
+  pub bytes : List ℕ
+  pub brings : frames (entry ∷ h) ≡ record { bytes = bytes; birth = clock h } ∷ frames h
+  pub full : IsFull (network s.life h) bytes

@@ -1,0 +1,28 @@
+use super::*;
+use aoe_base::{FrameNo, Millis, TargetId, Ticket};
+use aoe_history::Entry;
+use aoe_script::Name;
+use aoe_target::Effect;
+use std::test::Fail;
+
+#[test]
+fn keeps_frames_as_its_history_says(rt: HostRuntime) -> Result<(), Fail> {
+    let mut run = Run::new(rt.alloc(), Millis(2000));
+    let mut host = Name::new();
+    let _ = host.try_extend_from_slice(b"a");
+    run.send(&host, Ticket(1), b"ask")?;
+    run.tick(5)?;
+    let dev = TargetId { major: 1, minor: 0 };
+    run.reply(dev, FrameNo(1), Effect::None, b"answer")?;
+    run.inject(b"other")?;
+    run.note(Entry::Lost { frame: 3 })?;
+    assert_eq!(rt; run.frames(), 3);
+    assert_eq!(rt; run.total_bytes(), 14);
+    assert_eq!(rt; run.clock(), Millis(5));
+    assert_eq!(rt; run.history().count(), 5);
+    assert_eq!(rt; run.fetch(FrameNo(2)), Some(b"answer".as_slice()));
+    run.tick(1996)?;
+    assert!(rt; run.fetch(FrameNo(1)).is_none());
+    assert!(rt; run.fetch(FrameNo(2)).is_some());
+    Ok(())
+}
