@@ -12,9 +12,9 @@ use Rattle.aoe_paths.specs.PathTable.{IsDistinct}
 use Rattle.aoe_history.specs.declared.entry.Entry.{Entry}
 use Rattle.aoe_history.specs.declared.entry.Entry.TheVariants.{Submitted, Refused, Sent, Took, Done as Finished, Ticked}
 use Rattle.aoe_history.specs.Commands.{log_of, path_ended, tickets}
-use Rattle.aoe_history.specs.Frames.{arriving, clock}
+use Rattle.aoe_history.specs.Frames.{clock}
 use Rattle.aoe_history.specs.Groups.{Got}
-use Rattle.aoe_history.specs.HostLaw.{IsResponse}
+use Rattle.aoe_history.specs.HostLaw.{IsAnswered}
 use Rattle.aoe_history.specs.Setup.{host_called, is_called, HostSetup, Setup}
 
 -- a host: its name, and what its core keeps
@@ -56,13 +56,6 @@ log_with host None h = log_of host h
 log_with host (Some got) h =
     if is_told host got then Ends (record { 0 = got.ticket }) (path_ended host h got.ticket got.outcome) ∷ log_of host h else log_of host h
 
--- a response that can still be handed over ended a command of a host
-pub record IsGot (s : Setup) (h : List Entry) (got : Got) : Type 0 where
-  pub number : ℕ
-  pub bytes : List ℕ
-  pub fresh : arriving s.life h number ≡ Some bytes
-  pub response : IsResponse s got.host h bytes got.ticket got.outcome
-
 -- two logs tell the same
 pub record TellsSame (a b : List Event) : Type 0 where
   pub time : log_clock a ≡ log_clock b
@@ -79,7 +72,7 @@ pub record Awaits (s : Setup) (host : HostSetup) (got : Option Got) (h : List En
   pub matches : Matches log x.core
   pub same : TellsSame (Advances (record { 0 = clock h }) ∷ log) (log_with host got h)
   pub waiting : x.core.waiting ≡ told_of host got
-  pub response : IfSome got (IsGot s h)
+  pub response : IfSome got (λ x. is_told host x ≡ true → IsAnswered s host h x.ticket x.outcome)
 
 -- an entry that says nothing of a host, and in which no time goes by
 abbrev pub is_apart : HostSetup → Entry → Bool

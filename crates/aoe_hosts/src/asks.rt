@@ -1,13 +1,41 @@
 //! What an event line asks of a host.
-ghost use Rattle.std.specs.Prelude.{◌≡◌, true, is_some, IfSome, IfOk};
+ghost use Rattle.std.specs.Prelude.{◌≡◌, ◌<◌, ◌*◌, true, is_some, replicate, IfOk, IfSome};
 ghost use Rattle.aoe_initiator.specs.Op.{CanSubmit};
 ghost use Rattle.aoe_script.specs.Rules.{is_event};
 ghost use Rattle.aoe_hosts.specs.Asks.{submission_in};
 
-use aoe_base::{Blob, NoMemory, Span};
-use aoe_initiator::Op;
+use aoe_base::{Blob, Mac, NoMemory, Span};
+use aoe_initiator::{Dir, MAX_DIRS, Op};
 use aoe_script::Event;
+use arrayvec::ArrayVec;
 use std::alloc::Global;
+
+/// The bytes of a write of so many sectors: every one is the same.
+fn filled(alloc: Global, count: u64, fill: u8) -> Result<Blob, NoMemory>
+    requires { count < 256 }
+    ensures { IfOk result (λ bytes. bytes ≡ replicate (512 * count) fill) }
+{
+    match Vec::from_elem(alloc, fill, 512 * count as usize) {
+        Ok(bytes) => Blob::of(alloc, bytes.as_slice()),
+        Err(_) => Err(NoMemory),
+    }
+}
+
+fn dirs_of(dirs: &ArrayVec<Dir, MAX_DIRS>) -> ArrayVec<Dir, MAX_DIRS>
+    ensures { result ≡ dirs.now }
+{
+    let mut copy = ArrayVec::new();
+    let _ = copy.try_extend_from_slice(dirs);
+    copy
+}
+
+fn list_of(list: &ArrayVec<Mac, MAX_DIRS>) -> ArrayVec<Mac, MAX_DIRS>
+    ensures { result ≡ list.now }
+{
+    let mut copy = ArrayVec::new();
+    let _ = copy.try_extend_from_slice(list);
+    copy
+}
 
 /// The operation that an event line submits.
 pub fn op_of(alloc: Global, event: &Event) -> Result<Op, NoMemory>
@@ -16,5 +44,33 @@ pub fn op_of(alloc: Global, event: &Event) -> Result<Op, NoMemory>
     ensures op { IfOk result (λ op. IfSome (submission_in event.now) (λ x. op ≡ x.op)) }
     ensures can { IfOk result (λ op. CanSubmit op) }
 {
-    todo!()
+    match event {
+        Event::Read { at, count, .. } => Ok(Op::Read(Span {
+            at: *at,
+            count: *count as u32,
+        })),
+        Event::Write {
+            at,
+            count,
+            fill,
+            ..
+        } => {
+            let bytes = filled(alloc, *count, *fill)?;
+            Ok(Op::Write { at: *at, bytes })
+        }
+        Event::Identify { .. } => Ok(Op::Identify),
+        Event::Config { ccmd, text, .. } => {
+            let text = Blob::of(alloc, text.bytes())?;
+            Ok(Op::Config { ccmd: *ccmd, text })
+        }
+        Event::Masks { edit, dirs, .. } => Ok(Op::Masks {
+            edit: *edit,
+            dirs: dirs_of(dirs),
+        }),
+        Event::Reserve { rcmd, list, .. } => Ok(Op::Reserve {
+            rcmd: *rcmd,
+            list: list_of(list),
+        }),
+        _ => Ok(Op::Flush),
+    }
 }

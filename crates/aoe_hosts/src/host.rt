@@ -1,57 +1,187 @@
 //! A host and its steps.
-ghost use Rattle.std.specs.Prelude.{◌≡◌, ◌<◌, ◌≤◌, ◌^◌, ◌-◌, ◌∷◌, ◌×◌, List, Option, None, Some, true, is_some, length, position, map, Err, IfOk, IfSome, OnErr, OnOk};
-ghost use Rattle.aoe_history.specs.declared.entry.Entry.{Entry};
+ghost use Rattle.std.specs.Prelude.{◌≡◌, ◌+◌, ◌<◌, ◌≤◌, ◌^◌, ◌-◌, ◌∷◌, ◌×◌, List, [], Option, None, Some, true, is_some, length, position, map, unwrap_or, IfOk, IfSome, IsSomeAnd, OnErr, OnOk};
 ghost use Rattle.aoe_history.specs.Frames.{arriving};
-ghost use Rattle.aoe_history.specs.Groups.{submitted_as, Got, Takes, Turn, TurnSome};
+ghost use Rattle.aoe_history.specs.Groups.{submitted_as, Got, Takes};
 ghost use Rattle.aoe_history.specs.Lawful.{IsLawful};
 ghost use Rattle.aoe_history.specs.Setup.{HostSetup, Setup};
 ghost use Rattle.aoe_hosts.specs.Asks.{submission_in};
 ghost use Rattle.aoe_hosts.specs.Host.{Awaits, IsSettled};
-ghost use Rattle.aoe_run.specs.Run.{MeetsFull};
+ghost use Rattle.aoe_initiator.specs.Host.{new_device, new_host, with_device, Matches};
+ghost use Rattle.aoe_initiator.specs.HostLaw.{attach_refusal, same_id};
+ghost use Rattle.aoe_initiator.specs.HostLog.{Event as LogEvent};
+ghost use Rattle.aoe_paths.specs.PathTable.{IsDistinct};
+ghost use Rattle.aoe_script.specs.Rules.{is_event};
 
-use aoe_base::{FrameNo, Millis, NoMemory, Ports, TargetId};
-use aoe_frame::Frame;
-use aoe_initiator::Initiator;
-use aoe_net::NetRefusal;
+use crate::asks::op_of;
+use aoe_base::{DeviceNo, FrameNo, Millis, NoMemory, Ports, TargetId};
+use aoe_history::Entry;
+use aoe_initiator::{Initiator, SubmitRefusal, Taken};
 use aoe_run::Run;
 use aoe_script::{Event, Name};
+use std::alloc::Global;
+use std::marker::Model;
 
-// The contracts of the steps, to be kept word for word (names of parameters may change):
-//
-// new(alloc, name: Name, ports: &Ports, life: Millis, room: u32, dead: Millis) -> Result<NamedHost, NoMemory>
-//     requires as Initiator::new
-//     ensures value { IfOk result (λ x. x ≡ record { name = name; core = new_host ports.now.items life.0 room dead.0 }) }
-//     ensures matches { IfOk result (λ x. Matches [] x.core) }
-// name(&self) -> &Name
-// attach(&mut self, dev: TargetId, remotes: &Ports, total: u64, max: u32) -> Result<(), NoMemory>
-//     requires as Initiator::attach, and that it isn't refused: attach_refusal dev remotes.now.items self.old.core.devices ≡ None
-//     ensures ok { OnOk result (self.new ≡ record self.old { core = with_device self.old.core (new_device ..) }) }
-//     ensures matches { OnOk result ((log : List Event) → Matches log self.old.core → Matches log self.new.core) }
-//     ensures err { OnErr result (self.new ≡ self.old) }
-// submit(&mut self, run: &mut Run, dev: TargetId, event: &Event) -> Result<(), NoMemory>
-//     requires submits { IfSome-form: submission_in event.now is Some x with x.dev ≡ dev }
-//     requires range { is_event event.now ≡ true }
-//     requires attached { is_some (position (λ d. same_id d.about.id dev) self.old.core.devices) ≡ true }
-//     requires few { self.old.core.last_ticket < 2 ^ 64 - 1 }
-//     ensures life { run.new.life ≡ run.old.life }
-//     ensures ok { OnOk result ((s : Setup) (host : HostSetup) → IsSettled s host run.old.entries self.old → IsLawful s run.old.entries
-//         → IfSome (submission_in event.now) (λ x. (run.new.entries ≡ submitted_as s host run.old.entries self.old.name x.dev x.op ∷ run.old.entries)
-//         × IsLawful s run.new.entries × Awaits s host None run.new.entries self.new)) }
-//     ensures name/tickets { OnOk result: self.new.core.last_ticket ≤ self.old.core.last_ticket + 1, self.new.name ≡ self.old.name }
-//     ensures err { OnErr result (run.new ≡ run.old) }
-// take(&mut self, run: &mut Run, number: FrameNo, frame: &[u8]) -> Result<(), NoMemory>
-//     ensures life, name, tickets stay
-//     ensures ok { OnOk result ((s : Setup) (host : HostSetup) → IsSettled s host run.old.entries self.old → IsLawful s run.old.entries
-//         → arriving s.life run.old.entries number.0 ≡ Some frame.now
-//         → (got : Option Got) × Takes s host self.old.name number.0 frame.now run.old.entries got run.new.entries
-//         × IsLawful s run.new.entries × Awaits s host got run.new.entries self.new) }
-//     ensures err { OnErr result (run.new ≡ run.old) }
-// turn(&mut self, run: &mut Run, out: &mut Frame) -> Result<(), NetRefusal>
-//     ensures life, name, tickets stay
-//     ensures ok { OnOk result ((s : Setup) (host : HostSetup) (got : Option Got) → Awaits s host got run.old.entries self.old
-//         → IsLawful s run.old.entries → Turn s host got run.old.entries run.new.entries
-//         × IsLawful s run.new.entries × IsSettled s host run.new.entries self.new) }
-//     ensures err { OnErr result ((s : Setup) (host : HostSetup) (got : Option Got) → Awaits s host got run.old.entries self.old
-//         → IsLawful s run.old.entries → TurnSome host got run.old.entries run.new.entries × IsLawful s run.new.entries) }
-//     ensures full { result ≡ Err NetRefusal.Full → (s : Setup) (host : HostSetup) (got : Option Got) → Awaits s host got run.old.entries self.old
-//         → IsLawful s run.old.entries → MeetsFull s run.new.entries }
+/// A host in a run. Each step is true of every setup and history in which the host keeps what the
+/// history says of it, and says which entries come to it.
+#[derive(Drop)]
+pub struct NamedHost {
+    pub(crate) alloc: Global,
+    pub(crate) name: Name,
+
+    /// The names of its devices, in the order of attachment.
+    pub(crate) ids: Vec<TargetId>,
+
+    pub(crate) core: Initiator,
+}
+
+impl Model for NamedHost {
+    ghost use Rattle.aoe_hosts.specs.Host.{NamedHost as Seen};
+    ghost use Rattle.aoe_hosts.specs.Ids.{AreIds};
+
+    ghost Value = { Seen };
+
+    ghost view = { λ x. record { name = x.name; core = x.core } };
+
+    ghost invariant = { λ x. AreIds x.ids.items x.core.devices };
+}
+
+impl NamedHost {
+    /// A host with these ports, attached to no device. A frame can arrive as long as `life` after
+    /// it was sent, at most `room` commands fly or rest, and a command is given up after `dead`.
+    pub fn new(
+        alloc: Global,
+        name: Name,
+        ports: &Ports,
+        life: Millis,
+        room: u32,
+        dead: Millis,
+    ) -> Result<NamedHost, NoMemory>
+        requires port { 0 < length ports.now.items }
+        requires differ { IsDistinct ports.now.items }
+        requires life { life.0 ≤ 600000 }
+        requires some_room { 0 < room }
+        requires room { room ≤ 16384 }
+        requires dead { 0 < dead.0 }
+        ensures value { IfOk result (λ x. x ≡ record { name = name; core = new_host ports.now.items life.0 room dead.0 }) }
+        ensures matches { IfOk result (λ x. Matches [] x.core) }
+    {
+        let core = Initiator::new(alloc, ports, life, room, dead)?;
+        Ok(NamedHost {
+            alloc,
+            name,
+            ids: Vec::new(alloc),
+            core,
+        })
+    }
+
+    /// The name.
+    pub fn name(&self) -> &Name
+        ensures { result.now ≡ self.now.name }
+    {
+        &self.name
+    }
+
+    /// Attaches a device of `total` sectors that takes at most `max` of them in one command, and
+    /// whose shelf has the ports `remotes`.
+    pub fn attach(
+        &mut self,
+        dev: TargetId,
+        remotes: &Ports,
+        total: u64,
+        max: u32,
+    ) -> Result<(), NoMemory>
+        requires differ { IsDistinct remotes.now.items }
+        requires total { total ≤ 2 ^ 48 }
+        requires some { 0 < max }
+        requires max { max ≤ 17 }
+        requires few { length self.old.core.devices < 2 ^ 32 - 1 }
+        requires allowed { attach_refusal dev remotes.now.items self.old.core.devices ≡ None }
+        ensures ok { OnOk result (self.new ≡ record self.old {
+          core = with_device self.old.core
+              (new_device self.old.core.ports dev remotes.now.items total max self.old.core.life);
+        }) }
+        ensures matches { OnOk result ((log : List LogEvent) → Matches log self.old.core → Matches log self.new.core) }
+        ensures err { OnErr result (self.new ≡ self.old) }
+    {
+        if self.ids.reserve(1).is_err() {
+            return Err(NoMemory);
+        }
+        match self.core.attach(dev, remotes, total, max) {
+            Ok(_) => {
+                self.ids.push_reserved(dev);
+                Ok(())
+            }
+            Err(_) => Err(NoMemory),
+        }
+    }
+
+    /// The number of the device with a name.
+    fn device(&self, dev: TargetId) -> DeviceNo
+        requires attached { is_some (position (λ d. same_id d.about.id dev) self.now.core.devices) ≡ true }
+        ensures place { position (λ d. same_id d.about.id dev) self.now.core.devices ≡ Some result.0 }
+        ensures inside { result.0 < length self.now.core.devices }
+    {
+        let place = self.ids.iter().position(|id| *id == dev);
+        DeviceNo(place.unwrap_or(0) as u32)
+    }
+
+    /// Submits what an event line asks for. It is taken, or refused.
+    pub fn submit(&mut self, run: &mut Run, dev: TargetId, event: &Event) -> Result<(), NoMemory>
+        requires submits { IsSomeAnd (submission_in event.now) (λ x. x.dev ≡ dev) }
+        requires range { is_event event.now ≡ true }
+        requires attached { is_some (position (λ d. same_id d.about.id dev) self.old.core.devices) ≡ true }
+        requires few { self.old.core.last_ticket < 2 ^ 64 - 1 }
+        ensures life { run.new.life ≡ run.old.life }
+        ensures ok { OnOk result ((s : Setup) (host : HostSetup) → IsSettled s host run.old.entries self.old → IsLawful s run.old.entries
+            → IfSome (submission_in event.now) (λ x.
+            (run.new.entries ≡ submitted_as s host run.old.entries self.old.name x.dev x.op ∷ run.old.entries)
+            × IsLawful s run.new.entries × Awaits s host None run.new.entries self.new)) }
+        ensures name { OnOk result (self.new.name ≡ self.old.name) }
+        ensures tickets { OnOk result (self.new.core.last_ticket ≤ self.old.core.last_ticket + 1) }
+        ensures err { OnErr result (run.new ≡ run.old) }
+    {
+        let device = self.device(dev);
+        let host = name_of(&self.name);
+        let op = op_of(self.alloc, event)?;
+        let copy = op_of(self.alloc, event)?;
+        match self.core.submit(device, op) {
+            Ok(ticket) => run.note(Entry::Submitted {
+                host,
+                ticket: ticket.0,
+                dev,
+                op: copy,
+            }),
+            Err((SubmitRefusal::NoMemory, _)) => Err(NoMemory),
+            Err((refusal, _)) => run.note(Entry::Refused { host, refusal }),
+        }
+    }
+
+    /// Takes a frame that can be handed over: the response that ends a command, or a stale one.
+    pub fn take(&mut self, run: &mut Run, number: FrameNo, frame: &[u8]) -> Result<(), NoMemory>
+        ensures life { run.new.life ≡ run.old.life }
+        ensures ok { OnOk result ((s : Setup) (host : HostSetup) → IsSettled s host run.old.entries self.old → IsLawful s run.old.entries
+            → arriving s.life run.old.entries number.0 ≡ Some frame.now
+            → (got : Option Got) × Takes s host self.old.name number.0 frame.now run.old.entries got run.new.entries
+            × IsLawful s run.new.entries × Awaits s host got run.new.entries self.new) }
+        ensures name { OnOk result (self.new.name ≡ self.old.name) }
+        ensures tickets { OnOk result (self.new.core.last_ticket ≡ self.old.core.last_ticket) }
+        ensures err { OnErr result (run.new ≡ run.old) }
+    {
+        let host = name_of(&self.name);
+        let taken = self.core.receive(frame);
+        run.note(Entry::Took {
+            host,
+            frame: u64::from(number.0),
+            stale: matches!(taken, Taken::Stale),
+        })
+    }
+}
+
+/// A copy of a name.
+pub(crate) fn name_of(name: &Name) -> Name
+    ensures { result ≡ name.now }
+{
+    let mut copy = Name::new();
+    let _ = copy.try_extend_from_slice(name);
+    copy
+}
