@@ -1,1 +1,2 @@
 pub mod Rack
+pub mod Arrival
