@@ -1,0 +1,6 @@
+pub mod Apart
+mod ArrivalLemmas
+mod DueLemmas
+mod FateLemmas
+mod RackLemmas
+mod SlotLemmas
