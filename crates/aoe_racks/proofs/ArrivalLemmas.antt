@@ -88,7 +88,7 @@ pub same-or : (a b : ℕ) → (a ≡ b) ⊎ (a ≢ b)
 same-or zero zero = inl refl
 same-or zero (suc b) = inr (λ e. omega (arith, e))
 same-or (suc a) zero = inr (λ e. omega (arith, e))
-same-or (suc a) (suc b) = elim same-or a b [ inl e ↦ inl (ap suc e) | inr n ↦ inr (λ e. n (omega (arith, e))) ]
+same-or (suc a) (suc b) = elim (same-or a b) [ inl e ↦ inl (ap suc e) | inr n ↦ inr (λ e. n (omega (arith, e))) ]
 
 pub at-place : {X : Type 0} (xs : List X) (i j : ℕ) (a b : X) → j ≡ i → slice_get xs i ≡ Some a → slice_get xs j ≡ Some b → a ≡ b
 at-place xs i j a b e p q = same_Some a b (sym p ∙ ap (slice_get xs) (sym e) ∙ q)
@@ -103,7 +103,7 @@ module _ (slots : List SlotSetup) (apart : AreApart slots) (i : ℕ) (slot : Slo
   serves-on stops at k here = record {
     count = length-changed i Change x.shelf.targets y.shelf.targets change ∙ k.count;
     stops = ap length same ∙ k.stops;
-    each = λ j other t last a b c. elim same-or j i [
+    each = λ j other t last a b c. elim (same-or j i) [
       | inl e ↦
           subst (λ (w : SlotSetup). IsServing w (Arrived slot.station.id frame fate ∷ h) t last) (at-place slots i j slot other e found a)
           (subst (λ (w : Mounted Memory Memory). IsServing slot (Arrived slot.station.id frame fate ∷ h) w last) (at-place y.shelf.targets i j change.after t e (get-after i Change x.shelf.targets y.shelf.targets change) b)
@@ -117,7 +117,7 @@ module _ (slots : List SlotSetup) (apart : AreApart slots) (i : ℕ) (slot : Slo
   stands-on k here = record {
     count = length-changed i Change x.shelf.targets y.shelf.targets change ∙ k.count;
     stops = ap length same ∙ k.stops;
-    each = λ j other t a b. elim same-or j i [
+    each = λ j other t a b. elim (same-or j i) [
       | inl e ↦
           subst (λ (w : SlotSetup). IsStanding w (Arrived slot.station.id frame fate ∷ h) t) (at-place slots i j slot other e found a)
           (subst (λ (w : Mounted Memory Memory). IsStanding slot (Arrived slot.station.id frame fate ∷ h) w) (at-place y.shelf.targets i j change.after t e (get-after i Change x.shelf.targets y.shelf.targets change) b) here)
@@ -147,8 +147,8 @@ module _ (s : Setup) (slots : List SlotSetup) (i number : ℕ) (f : List ℕ) (h
     goes-on none =
         let fate : Fate = noted None w (next_number h) out in
         let z : Continues slot h f fate (Arrived slot.station.id number fate ∷ h) c.after stops =
-            continues slot h f w out c.before c.after stops served taken (runs-on stops w none) (next_number h) (Arrived slot.station.id number fate ∷ h)
-            (follows slot h number f fate (bytes-arriving s.life h number f r.fresh)) in
+        continues slot h f w out c.before c.after stops served taken (runs-on stops w none) (next_number h) (Arrived slot.station.id number fate ∷ h)
+        (follows slot h number f fate (bytes-arriving s.life h number f r.fresh)) in
         record {
           slot = slot;
           found = found;
@@ -166,8 +166,8 @@ module _ (s : Setup) (slots : List SlotSetup) (i number : ℕ) (f : List ℕ) (h
     is-cut : (how : Loss) → stop_at stops w ≡ Some how → IsCut s slots i number f how h (Arrived slot.station.id number Cut ∷ h) y
     is-cut how some =
         let z : Breaks slot h f how (Arrived slot.station.id number Cut ∷ h) c.after =
-            breaks slot h f w out c.before c.after stops served taken how (Arrived slot.station.id number Cut ∷ h)
-            (follows slot h number f Cut (bytes-arriving s.life h number f r.fresh)) (stop-of stops how w some) in
+        breaks slot h f w out c.before c.after stops served taken how (Arrived slot.station.id number Cut ∷ h)
+        (follows slot h number f Cut (bytes-arriving s.life h number f r.fresh)) (stop-of stops how w some) in
         record {
           slot = slot;
           found = found;

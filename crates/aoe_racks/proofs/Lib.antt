@@ -1,3 +1,4 @@
+mod ArmLemmas
 pub mod Apart
 mod ArrivalLemmas
 mod DueLemmas

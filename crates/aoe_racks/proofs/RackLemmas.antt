@@ -1,6 +1,7 @@
 -- What holds of the fields of a shelf in a run, after one target changed.
-use Rattle.std.proofs.Common.{◌≡◌, ◌≢◌, ◌<◌, ◌⊎◌, inl, inr, ℕ, List, length, Some, refl, sym, ap, subst, ◌∙◌}
+use Rattle.std.proofs.Common.{◌≡◌, ◌≢◌, ◌<◌, ◌⊎◌, inl, inr, ℕ, Bool, true, false, List, length, Some, refl, sym, ap, subst, ◌∙◌}
 use Rattle.std.proofs.lemmas.Option.{same_Some}
+use Rattle.std.proofs.lemmas.Bool.{OnTrue_at}
 use Rattle.std.specs.Prelude.{slice_get}
 use Rattle.aoe_base.specs.declared.address.Mac.{Mac}
 use Rattle.aoe_disk.specs.Memory.{state_of, Memory}
@@ -8,6 +9,10 @@ use Rattle.aoe_shelf.specs.Shelf.{Rack}
 use Rattle.aoe_shelf.specs.Slot.{ChangesAt}
 use Rattle.aoe_shelf.proofs.SlotLemmas.{get-after, get-other, length-changed}
 use Rattle.aoe_target.specs.Mounted.{station_of, Mounted}
+use Rattle.aoe_target.specs.Receive.{calls_store}
+use Rattle.aoe_target.specs.Turn.{Receives}
+use Rattle.aoe_target.specs.Verdict.{verdict}
+use Rattle.aoe_target.specs.declared.heard.Heard.{Heard}
 use Rattle.aoe_target.specs.declared.station.Station.{Station}
 use Rattle.aoe_racks.specs.declared.rack.Stops.{Stops}
 use Rattle.aoe_racks.specs.Rack.{IsRack, IsTargetOf}
@@ -29,9 +34,12 @@ module _ (major : ℕ) (a b : Rack Memory Memory) (stops : List Stops) (k : IsRa
     (rest : b ≡ record a { targets = b.targets }) (same : IsSameTarget change.before change.after) where
   -- each target is one that was there
   was : (j : ℕ) (t : Mounted Memory Memory) → slice_get b.targets j ≡ Some t → (u : Mounted Memory Memory) × (slice_get a.targets j ≡ Some u) × IsSameTarget u t
-  was j t at = elim same-or j i [
-    | inl e ↦ (change.before, ap (slice_get a.targets) e ∙ change.found,
-        subst (λ (w : Mounted Memory Memory). IsSameTarget change.before w) (at-place b.targets i j change.after t e (get-after i Change a.targets b.targets change) at) same)
+  was j t at = elim (same-or j i) [
+    | inl e ↦ (
+      change.before,
+      ap (slice_get a.targets) e ∙ change.found,
+      subst (λ (w : Mounted Memory Memory). IsSameTarget change.before w) (at-place b.targets i j change.after t e (get-after i Change a.targets b.targets change) at) same,
+    )
     | inr ne ↦ (t, sym (get-other i Change a.targets b.targets change j ne) ∙ at, record { station = refl; sectors = refl })
   ]
 
@@ -45,3 +53,11 @@ module _ (major : ℕ) (a b : Rack Memory Memory) (stops : List Stops) (k : IsRa
         let w = was l u bt in
         k.apart j l v.0 w.0 v.1 w.1 ne (sym (ap (λ (z : Station). z.id.minor) v.2.station) ∙ same_minor ∙ ap (λ (z : Station). z.id.minor) w.2.station);
   })
+
+-- a target that is handed a frame keeps its name and its size
+pub receives-same : (t u : Mounted Memory Memory) (f : List ℕ) (w : Heard) (out : List ℕ) → Receives state_of state_of t u f w out → IsSameTarget t u
+receives-same t u f w out r = go (calls_store (verdict t.station t.keep.lists f)) refl
+  where
+    go : (b : Bool) → calls_store (verdict t.station t.keep.lists f) ≡ b → IsSameTarget t u
+    go true e = record { station = r.station; sectors = (OnTrue_at {b = calls_store (verdict t.station t.keep.lists f)} e r.call).sectors }
+    go false e = record { station = r.station; sectors = ap (λ (m : Memory). (state_of m).sectors) (r.idle e) }
