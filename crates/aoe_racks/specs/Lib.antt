@@ -1,1 +1,3 @@
 pub mod Rack
+pub mod Arming
+pub mod Arrival

@@ -1,6 +1,8 @@
 //! A shelf in a run: each of its steps, and what it adds to the history.
 #![tactic(auto)]
 
+mod arrive;
+mod crash;
 mod rack;
 
 pub use rack::{MemoryRack, Stops};
