@@ -1,0 +1,7 @@
+mod ArmLemmas
+pub mod Apart
+mod ArrivalLemmas
+mod DueLemmas
+mod FateLemmas
+mod RackLemmas
+mod SlotLemmas

@@ -6,8 +6,6 @@ use Rattle.aoe_base.specs.declared.address.Mac.{Mac}
 use Rattle.aoe_base.specs.declared.address.TargetId.{TargetId}
 use Rattle.aoe_disk.specs.Memory.{state_of, Memory}
 use Rattle.aoe_disk.specs.State.{BothTell, Schedule}
-use Rattle.aoe_disk.specs.declared.armed.Arm.{Arm}
-use Rattle.aoe_disk.specs.declared.armed.Arm.TheVariants.{Fail, Stop}
 use Rattle.aoe_disk.specs.declared.loss.Loss.{Loss}
 use Rattle.aoe_keep.specs.Found.{Finds}
 use Rattle.aoe_shelf.specs.Shelf.{Rack}
@@ -72,11 +70,6 @@ IsDue which (Some x) d = IfNone x.mode (is_some d.armed ≡ true) × (IsPending 
 -- what a stop leaves that a disk is armed with
 abbrev pub stop_in : Option Stretch → Option Loss
 stop_in x = option_and_then (λ (s : Stretch). s.mode) x
-
--- a disk is armed for its k-th call: the call fails, or the power is lost in it
-abbrev pub arm_of : ℕ → Option Loss → Arm
-arm_of k None = Fail k
-arm_of k (Some how) = Stop k
 
 -- both say the same of each of the first n sectors. A history says something of sectors behind the last one too, which no frame
 -- reaches

@@ -1,14 +1,13 @@
 //! A frame that comes to a shelf.
-ghost use Rattle.std.specs.Prelude.{List, ◌≡◌, Err, IfOk, None, OnErr, OnOk, Some, length};
+ghost use Rattle.std.specs.Prelude.{List, ◌≡◌, ◌<◌, Err, IfErr, IfOk, OnErr, OnOk, length, true};
 ghost use Rattle.aoe_history.specs.declared.entry.Entry.TheVariants.{Arrived};
 ghost use Rattle.aoe_history.specs.Frames.{arriving, next_number};
 ghost use Rattle.aoe_history.specs.Groups.{ArriveAtEach, ArriveAtSome};
 ghost use Rattle.aoe_history.specs.Lawful.{IsLawful};
 ghost use Rattle.aoe_history.specs.Setup.{Setup, SlotSetup};
-ghost use Rattle.aoe_net.specs.Network.{IsFull};
-ghost use Rattle.aoe_racks.specs.Arrival.{noted, stop_at, ComesTo, IsReached};
+ghost use Rattle.aoe_racks.specs.Arrival.{noted, stop_at, ComesTo, IsReached, IsReplyFull};
 ghost use Rattle.aoe_racks.specs.Rack.{AreSlots, Serves};
-ghost use Rattle.aoe_run.specs.Run.{network_of, with_entry, MeetsFull};
+ghost use Rattle.aoe_run.specs.Run.{is_plain, network_of, with_entry, MeetsFull};
 
 use crate::{MemoryRack, Stops};
 use aoe_base::{FrameNo, NoMemory, TargetId};
@@ -35,6 +34,10 @@ fn stop_at(stops: Stops, heard: Heard) -> Option<Loss>
 
 /// Takes down an arrival of which no frame comes.
 fn note(run: &mut Run, dev: TargetId, number: FrameNo, fate: Fate) -> Result<(), NetRefusal>
+    requires { is_plain (Arrived dev number.0 fate) ≡ true }
+    ensures ok { OnOk result (run.new ≡ with_entry run.old (Arrived dev number.0 fate)) }
+    ensures err { OnErr result (run.new ≡ run.old) }
+    ensures cause { IfErr result (λ e. e ≡ NetRefusal.NoMemory) }
 {
     let entry = Entry::Arrived {
         dev,
@@ -59,6 +62,7 @@ fn take_down(
     ensures ok { OnOk result (run.new ≡ with_entry run.old
         (Arrived dev number.0 (noted stop heard (next_number run.old.entries) out.now.items))) }
     ensures err { OnErr result (run.new ≡ run.old) }
+    ensures full { result ≡ Err NetRefusal.Full → IsReplyFull stop heard (network_of run.old) out.now.items }
 {
     if stop.is_some() {
         return note(run, dev, number, Fate::Cut);
@@ -80,12 +84,23 @@ impl MemoryRack {
         frame: &[u8],
         out: &mut Frame,
     ) -> Result<Option<Loss>, NetRefusal>
+        requires { slot < length self.old.shelf.targets }
+        ensures life { run.new.life ≡ run.old.life }
+        ensures comes { IfOk result (λ stop. (s : Setup) (slots : List SlotSetup) → IsReached s slots number.0 frame.now run.old.entries self.old
+            → ComesTo s slots slot number.0 frame.now stop run.old.entries run.new.entries self.new) }
+        ensures err { OnErr result (run.new ≡ run.old) }
+        ensures full { result ≡ Err NetRefusal.Full → (s : Setup) (slots : List SlotSetup)
+            → IsReached s slots number.0 frame.now run.old.entries self.old → MeetsFull s run.new.entries }
+        ensures count { length self.new.shelf.targets ≡ length self.old.shelf.targets }
+        ensures major { self.new.shelf.major ≡ self.old.shelf.major }
     {
         let dev = self.shelf.id(slot);
         let heard = self.shelf.receive_slot(slot, frame, out);
         let stop = stop_at(self.stops[slot], heard);
-        take_down(run, dev, number, heard, stop, out)?;
-        Ok(stop)
+        match take_down(run, dev, number, heard, stop, out) {
+            Ok(()) => Ok(stop),
+            Err(refusal) => Err(refusal),
+        }
     }
 
     /// A frame comes to each target in turn, and each reply into the network. Where a disk fails in a

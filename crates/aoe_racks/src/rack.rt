@@ -1,10 +1,13 @@
 //! A shelf over disks in memory.
 ghost use Rattle.std.specs.Prelude.{List, ◌≡◌, ◌<◌, ◌≤◌, ◌^◌, ◌++◌, ◌∷◌, [], IfOk, IsSomeAnd, None, OnErr, OnOk, false, length, map, slice_get};
+ghost use Rattle.aoe_disk.specs.Arming.{number_of};
 ghost use Rattle.aoe_history.specs.declared.entry.Entry.TheVariants.{Armed};
 ghost use Rattle.aoe_history.specs.Setup.{SlotSetup};
-ghost use Rattle.aoe_racks.specs.Rack.{arm_of, AreApart, Serves};
+ghost use Rattle.aoe_racks.specs.Arming.{arm_of, with_stop, ArmsDisk};
+ghost use Rattle.aoe_racks.specs.Rack.{AreApart, Serves};
 ghost use Rattle.aoe_run.specs.Run.{with_entry};
 ghost use Rattle.aoe_shelf.specs.Shelf.{has_minor};
+ghost use Rattle.aoe_shelf.specs.Slot.{ChangesAt};
 ghost use Rattle.aoe_target.specs.Mounted.{station_of};
 
 use crate::seat::{mount, seat};
@@ -54,6 +57,31 @@ impl Model for MemoryRack {
     ghost invariant = { λ x. rack.IsRack x.major x.shelf x.stops.items };
 }
 
+impl Stops {
+    /// Of a slot of which no disk is armed with a stop.
+    pub fn none() -> Stops
+        ensures { result ≡ record { store = None; keep = None } }
+    {
+        Stops {
+            store: None,
+            keep: None,
+        }
+    }
+
+    /// One of the disks is armed.
+    fn with(self, which: Which, mode: Option<Loss>) -> Stops
+        ensures { result ≡ with_stop which mode self }
+    {
+        match which {
+            Which::Store => Stops {
+                store: mode,
+                ..self
+            },
+            Which::Keep => Stops { keep: mode, ..self },
+        }
+    }
+}
+
 /// The call fails, or the power is lost in it.
 fn arm_of(k: u32, mode: Option<Loss>) -> Arm
     ensures { result ≡ arm_of k mode }
@@ -61,6 +89,19 @@ fn arm_of(k: u32, mode: Option<Loss>) -> Arm
     match mode {
         None => Arm::Fail(k),
         Some(_) => Arm::Stop(k),
+    }
+}
+
+/// Arms one of the two disks of the target at the slot.
+fn arm_disk(shelf: &mut Shelf<Direct<MemDisk>, MemDisk>, slot: usize, which: Which, arm: Arm)
+    requires slot { slot < length shelf.old.targets }
+    requires number { 0 < number_of arm }
+    ensures arms { ChangesAt slot (ArmsDisk which arm) shelf.old.targets shelf.new.targets }
+    ensures rest { shelf.new ≡ record shelf.old { targets = shelf.new.targets } }
+{
+    match which {
+        Which::Store => shelf.arm_store(slot, arm),
+        Which::Keep => shelf.arm_keep(slot, arm),
     }
 }
 
@@ -166,17 +207,9 @@ impl MemoryRack {
             mode,
         };
         run.note(entry)?;
-        let arm = arm_of(k as u32, mode);
-        match which {
-            Which::Store => {
-                self.shelf.arm_store(slot, arm);
-                self.stops[slot].store = mode;
-            }
-            Which::Keep => {
-                self.shelf.arm_keep(slot, arm);
-                self.stops[slot].keep = mode;
-            }
-        }
+        arm_disk(&mut self.shelf, slot, which, arm_of(k as u32, mode));
+        let stops = self.stops[slot];
+        self.stops[slot] = stops.with(which, mode);
         Ok(())
     }
 }
