@@ -35,13 +35,17 @@ pub record IsTargetOf (major : ℕ) (ports : List Mac) (mtu : ℕ) (t : Mounted 
   pub known : State
   pub holds : Holds (device_of state_of state_of t) known
 
--- what holds of the fields of a shelf in a run: a stop for each target, and each target has a minor of its own
+-- the targets of a shelf: each has a minor of its own
+pub record AreTargets (shelf : Rack Memory Memory) : Type 0 where
+  pub each : (i : ℕ) (t : Mounted Memory Memory) → slice_get shelf.targets i ≡ Some t → IsTargetOf shelf.major shelf.ports shelf.mtu t
+  pub apart : (i j : ℕ) (a b : Mounted Memory Memory) → slice_get shelf.targets i ≡ Some a → slice_get shelf.targets j ≡ Some b → i ≢ j
+      → a.station.id.minor ≢ b.station.id.minor
+
+-- what holds of the fields of a shelf in a run, with a stop for each target
 pub record IsRack (major : ℕ) (shelf : Rack Memory Memory) (stops : List Stops) : Type 0 where
   pub number : shelf.major ≡ major
   pub count : length stops ≡ length shelf.targets
-  pub targets : (i : ℕ) (t : Mounted Memory Memory) → slice_get shelf.targets i ≡ Some t → IsTargetOf shelf.major shelf.ports shelf.mtu t
-  pub apart : (i j : ℕ) (a b : Mounted Memory Memory) → slice_get shelf.targets i ≡ Some a → slice_get shelf.targets j ≡ Some b → i ≢ j
-      → a.station.id.minor ≢ b.station.id.minor
+  pub targets : AreTargets shelf
 
 -- how many calls of a disk one frame comes to: a change of the lists makes six of the keep, a command on sectors one of the store
 abbrev pub calls_per : Which → ℕ

@@ -4,6 +4,7 @@
 mod arrive;
 mod crash;
 mod rack;
+mod seat;
 
 pub use rack::{MemoryRack, Stops};
 

@@ -1,5 +1,5 @@
 //! A shelf over disks in memory.
-ghost use Rattle.std.specs.Prelude.{List, ◌≡◌, ◌<◌, ◌≤◌, ◌^◌, ◌++◌, ◌∷◌, [], IfOk, IsSomeAnd, None, OnErr, OnOk, false, length, slice_get};
+ghost use Rattle.std.specs.Prelude.{List, ◌≡◌, ◌<◌, ◌≤◌, ◌^◌, ◌++◌, ◌∷◌, [], IfOk, IsSomeAnd, None, OnErr, OnOk, false, length, map, slice_get};
 ghost use Rattle.aoe_disk.specs.Arming.{number_of};
 ghost use Rattle.aoe_history.specs.declared.entry.Entry.TheVariants.{Armed};
 ghost use Rattle.aoe_history.specs.Setup.{SlotSetup};
@@ -10,6 +10,7 @@ ghost use Rattle.aoe_shelf.specs.Shelf.{has_minor};
 ghost use Rattle.aoe_shelf.specs.Slot.{ChangesAt};
 ghost use Rattle.aoe_target.specs.Mounted.{station_of};
 
+use crate::seat::{mount, seat};
 use aoe_base::{NoMemory, Ports, TargetId};
 use aoe_disk::{Arm, Loss, MemDisk};
 use aoe_history::Entry;
@@ -24,8 +25,11 @@ use std::marker::Model;
 /// How many targets a shelf has room for.
 pub(crate) const MAX_TARGETS: usize = 16;
 
+/// How many sectors the disk of a keep has.
+const KEEP_SECTORS: u64 = 16;
+
 /// What a stop leaves that one of the two disks of a slot is armed with, where it is.
-#[derive(Clone, Copy, Debug, PartialEq, Eq)]
+#[derive(Clone, Copy, Debug, Default, PartialEq, Eq)]
 pub struct Stops {
     pub store: Option<Loss>,
     pub keep: Option<Loss>,
@@ -113,7 +117,12 @@ impl MemoryRack {
           stops = [];
         }) }
     {
-        Err(NoMemory)
+        Ok(MemoryRack {
+            alloc,
+            major,
+            shelf: Shelf::new(alloc, major, ports, mtu)?,
+            stops: ArrayVec::new(),
+        })
     }
 
     /// Adds a target of zeros with empty lists behind the others.
@@ -126,9 +135,24 @@ impl MemoryRack {
           station = station_of record { major = self.old.shelf.major; minor = minor } self.old.shelf.ports self.old.shelf.mtu sectors;
           cache = None;
         } ∷ []) [] self.new) }
+        ensures added { OnOk result (map (λ t. t.station) self.new.shelf.targets
+            ≡ map (λ t. t.station) self.old.shelf.targets ++ station_of record { major = self.old.shelf.major; minor = minor } self.old.shelf.ports
+                self.old.shelf.mtu sectors ∷ []) }
+        ensures rest { self.new.shelf ≡ record self.old.shelf { targets = self.new.shelf.targets } }
         ensures err { OnErr result (self.new ≡ self.old) }
     {
-        Err(NoMemory)
+        let (Ok(store), Ok(keep)) = (
+            MemDisk::new(alloc, sectors),
+            MemDisk::new(alloc, KEEP_SECTORS),
+        ) else {
+            return Err(NoMemory);
+        };
+        seat(&mut self.shelf, minor, store, mount(keep));
+        self.stops.push(Stops {
+            store: None,
+            keep: None,
+        });
+        Ok(())
     }
 
     /// Its number.

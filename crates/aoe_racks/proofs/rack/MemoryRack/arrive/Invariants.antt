@@ -2,7 +2,7 @@ use Rattle.std.proofs.Common.{◌≡◌, List, length}
 use Rattle.aoe_history.specs.Setup.{Setup, SlotSetup}
 use Rattle.aoe_racks.specs.Arrival.{IsReached}
 use Rattle.aoe_racks.proofs.ArrivalLemmas.{Passes}
-use Rattle.aoe_racks.proofs.arrive.MemoryRack.arrive.Given as goal
+use Rattle.aoe_racks.proofs.rack.MemoryRack.arrive.Given as goal
 
 abbrev pub invariant-slots : goal.invariant-slots
 invariant-slots l = record {
