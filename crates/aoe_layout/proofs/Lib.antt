@@ -1,0 +1,2 @@
+pub mod GoodLines
+pub mod ListLemmas
