@@ -1,5 +1,5 @@
 -- What a setup line says in which nothing is wrong behind those before it, kind by kind.
-use Rattle.std.proofs.Common.{ℕ, ◌<◌, ◌≤◌, ◌≡◌, ◌∙◌, Bool, true, false, not, ◌||◌, ◌&&◌, List, length, take, Option, Some, None, refl, sym, ap, arith, count_by, nat_le, sum_by}
+use Rattle.std.proofs.Common.{ℕ, ◌<◌, ◌≤◌, ◌≡◌, Bool, true, false, not, ◌||◌, ◌&&◌, List, length, take, Option, Some, None, refl, count_by, nat_le}
 use Rattle.std.specs.Prelude.{slice_get}
 use Rattle.std.specs.List.{list_all, list_any}
 use Rattle.std.proofs.lemmas.Bool.{and_parts, leb-false, leb-true, not-false, or_parts}
@@ -12,7 +12,7 @@ use Rattle.aoe_script.specs.declared.setup.Setup.{Setup as Line}
 use Rattle.aoe_script.specs.declared.setup.Setup.TheVariants.{Life, Shelf, Slot, Host, Attach}
 use Rattle.aoe_script.specs.Classes.{is_name}
 use Rattle.aoe_script.specs.Lines.{IsScript, ScriptLines}
-use Rattle.aoe_script.specs.Rules.{all_unique, are_ports, are_too_many, attaches, declared_why, first_of, has_major, has_port, is_full, is_host, is_host_named, is_individual, is_life, is_limit, is_setup, is_shelf, is_shelf_named, is_slot, is_slot_of, is_station_named, is_taken, is_within, setup_why, unless}
+use Rattle.aoe_script.specs.Rules.{all_unique, are_ports, are_too_many, attaches, declared_why, first_of, has_major, has_port, is_full, is_host, is_host_named, is_individual, is_limit, is_setup, is_shelf, is_shelf_named, is_slot, is_slot_of, is_station_named, is_taken, is_within, setup_why, unless}
 
 -- ---- causes that don't hold
 

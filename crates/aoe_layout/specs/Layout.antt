@@ -1,5 +1,5 @@
 -- What the setup lines of a script declare, in the words of histories.
-use Rattle.std.specs.Prelude.{ℕ, ◌≡◌, ◌∷◌, Bool, List, [], length, All, slice_get, Option, Some, None, option_map, option_and_then, unwrap_or, is_some, if◌then◌else◌}
+use Rattle.std.specs.Prelude.{ℕ, ◌≡◌, List, [], length, All, slice_get, Option, Some, None, option_map, option_and_then, unwrap_or, is_some, if◌then◌else◌}
 use Rattle.std.specs.List.{filter_map, find, flat_map}
 use Rattle.arrayvec.specs.ArrayVec.{ArrayVec}
 use Rattle.aoe_base.specs.declared.address.Mac.{Mac}

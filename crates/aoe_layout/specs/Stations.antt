@@ -1,5 +1,5 @@
 -- What holds of the stations that setup lines declare, and of the events behind them.
-use Rattle.std.specs.Prelude.{ℕ, ◌≡◌, ◌≢◌, ◌≤◌, ◌<◌, ◌^◌, true, false, List, length, slice_get, Option, Some, is_some, IsSome}
+use Rattle.std.specs.Prelude.{ℕ, ◌≡◌, ◌≢◌, ◌≤◌, ◌<◌, true, false, List, length, slice_get, Option, Some, IsSome}
 use Rattle.arrayvec.specs.ArrayVec.{ArrayVec}
 use Rattle.aoe_base.specs.declared.address.Mac.{Mac}
 use Rattle.aoe_base.specs.declared.address.TargetId.{TargetId}
@@ -13,7 +13,7 @@ use Rattle.aoe_script.specs.declared.event.Event.{Event}
 use Rattle.aoe_script.specs.declared.event.Event.TheVariants.{Read, Write, Flush, Identify, Config, Masks, Reserve, Tick, Deliver, Pass, Skip, Again, Inject, Fail, Stop, Crash}
 use Rattle.aoe_script.specs.declared.setup.Setup.{Setup as Line}
 use Rattle.aoe_script.specs.declared.setup.Setup.TheVariants.{Shelf, Host}
-use Rattle.aoe_layout.specs.Layout.{host_of, placed, slots_of_shelf, stations_of, Placed}
+use Rattle.aoe_layout.specs.Layout.{host_of, slots_of_shelf, stations_of, Placed}
 
 -- ---- hosts
 
