@@ -1,0 +1,6 @@
+mod HostAlike
+mod LogSame
+mod SubmissionLemmas
+mod TellLemmas
+mod PathNo
+mod SendLemmas

@@ -1,5 +1,5 @@
 //! A host and its steps.
-ghost use Rattle.std.specs.Prelude.{◌≡◌, ◌+◌, ◌<◌, ◌≤◌, ◌^◌, ◌-◌, ◌∷◌, ◌×◌, List, [], Option, None, Some, true, is_some, length, position, map, unwrap_or, IfOk, IfSome, IsSomeAnd, OnErr, OnOk};
+ghost use Rattle.std.specs.Prelude.{◌≡◌, ◌+◌, ◌<◌, ◌≤◌, ◌^◌, ◌-◌, ◌∷◌, List, [], Option, None, Some, true, is_some, length, position, map, unwrap_or, IfOk, IfSome, IsSomeAnd, OnErr, OnOk};
 ghost use Rattle.aoe_history.specs.Frames.{arriving};
 ghost use Rattle.aoe_history.specs.Groups.{submitted_as, Got, Takes};
 ghost use Rattle.aoe_history.specs.Lawful.{IsLawful};
