@@ -1,6 +1,15 @@
+pub mod Apart
+pub mod Called
+pub mod Commands
 mod HostAlike
+mod IdLemmas
+pub mod Leaves
 mod LogSame
-mod SubmissionLemmas
-mod TellLemmas
 mod PathNo
+pub mod PathNo
+pub mod Same
 mod SendLemmas
+mod SubmissionLemmas
+mod SubmitLemmas
+mod TakeLemmas
+mod TellLemmas

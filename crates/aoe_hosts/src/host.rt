@@ -1,5 +1,7 @@
 //! A host and its steps.
-ghost use Rattle.std.specs.Prelude.{◌≡◌, ◌+◌, ◌<◌, ◌≤◌, ◌^◌, ◌-◌, ◌∷◌, List, [], Option, None, Some, true, is_some, length, position, map, unwrap_or, IfOk, IfSome, IsSomeAnd, OnErr, OnOk};
+ghost use Rattle.std.specs.Prelude.{ℕ, ◌≡◌, ◌≢◌, ◌+◌, ◌<◌, ◌≤◌, ◌^◌, ◌-◌, ◌∷◌, List, [], Option, None, Some, true, is_some, length, position, map, unwrap_or, IfOk, IfSome, IsSomeAnd, OnErr, OnOk};
+ghost use Rattle.aoe_history.specs.declared.entry.Entry.{Entry as Happened};
+ghost use Rattle.aoe_history.specs.declared.entry.Entry.TheVariants.{Refused, Took};
 ghost use Rattle.aoe_history.specs.Frames.{arriving};
 ghost use Rattle.aoe_history.specs.Groups.{submitted_as, Got, Takes};
 ghost use Rattle.aoe_history.specs.Lawful.{IsLawful};
@@ -9,13 +11,15 @@ ghost use Rattle.aoe_hosts.specs.Host.{Awaits, IsSettled};
 ghost use Rattle.aoe_initiator.specs.Host.{new_device, new_host, with_device, Matches};
 ghost use Rattle.aoe_initiator.specs.HostLaw.{attach_refusal, same_id};
 ghost use Rattle.aoe_initiator.specs.HostLog.{Event as LogEvent};
+ghost use Rattle.aoe_initiator.specs.Op.{CanSubmit};
 ghost use Rattle.aoe_paths.specs.PathTable.{IsDistinct};
+ghost use Rattle.aoe_run.specs.Run.{is_plain};
 ghost use Rattle.aoe_script.specs.Rules.{is_event};
 
 use crate::asks::op_of;
 use aoe_base::{DeviceNo, FrameNo, Millis, NoMemory, Ports, TargetId};
 use aoe_history::Entry;
-use aoe_initiator::{Initiator, SubmitRefusal, Taken};
+use aoe_initiator::{Initiator, Op, SubmitRefusal, Taken, held_law};
 use aoe_run::Run;
 use aoe_script::{Event, Name};
 use std::alloc::Global;
@@ -43,6 +47,27 @@ impl Model for NamedHost {
     ghost view = { λ x. record { name = x.name; core = x.core } };
 
     ghost invariant = { λ x. AreIds x.ids.items x.core.devices };
+}
+
+/// The place of a name.
+fn place_of(ids: &[TargetId], dev: TargetId) -> Option<usize>
+    ensures { result ≡ position (λ id. same_id id dev) ids.now }
+{
+    ids.iter().position(|id| *id == dev)
+}
+
+/// What is taken down of a refusal. There is nothing to take down where there is no memory.
+fn refused(host: Name, refusal: SubmitRefusal) -> Result<Entry, NoMemory>
+    ensures entry { IfOk result (λ entry. entry ≡ Refused host refusal) }
+    ensures cause { OnOk result (refusal ≢ SubmitRefusal.NoMemory) }
+{
+    match refusal {
+        SubmitRefusal::NoMemory => Err(NoMemory),
+        SubmitRefusal::OutOfRange
+        | SubmitRefusal::TooLong { .. }
+        | SubmitRefusal::Backlog { .. }
+        | SubmitRefusal::Empty => Ok(Entry::Refused { host, refusal }),
+    }
 }
 
 impl NamedHost {
@@ -121,7 +146,7 @@ impl NamedHost {
         ensures place { position (λ d. same_id d.about.id dev) self.now.core.devices ≡ Some result.0 }
         ensures inside { result.0 < length self.now.core.devices }
     {
-        let place = self.ids.iter().position(|id| *id == dev);
+        let place = place_of(&self.ids, dev);
         DeviceNo(place.unwrap_or(0) as u32)
     }
 
@@ -140,19 +165,51 @@ impl NamedHost {
         ensures tickets { OnOk result (self.new.core.last_ticket ≤ self.old.core.last_ticket + 1) }
         ensures err { OnErr result (run.new ≡ run.old) }
     {
-        let device = self.device(dev);
-        let host = name_of(&self.name);
         let op = op_of(self.alloc, event)?;
         let copy = op_of(self.alloc, event)?;
+        let entry = self.enter(dev, op, copy)?;
+        run.note(entry)
+    }
+
+    /// Hands an operation to the core, and gives what is taken down of it, with a copy of the
+    /// operation.
+    fn enter(&mut self, dev: TargetId, op: Op, copy: Op) -> Result<Entry, NoMemory>
+        requires same { copy ≡ op }
+        requires can { CanSubmit op }
+        requires attached { is_some (position (λ d. same_id d.about.id dev) self.old.core.devices) ≡ true }
+        requires few { self.old.core.last_ticket < 2 ^ 64 - 1 }
+        ensures plain { IfOk result (λ entry. is_plain entry ≡ true) }
+        ensures ok { IfOk result (λ entry. (s : Setup) (host : HostSetup) (h : List Happened) → IsSettled s host h self.old → IsLawful s h
+            → (entry ≡ submitted_as s host h self.old.name dev op) × IsLawful s (entry ∷ h) × IsSettled s host (entry ∷ h) self.new) }
+        ensures name { OnOk result (self.new.name ≡ self.old.name) }
+        ensures tickets { OnOk result (self.new.core.last_ticket ≤ self.old.core.last_ticket + 1) }
+    {
+        held_law();
+        let device = self.device(dev);
+        let host = name_of(&self.name);
         match self.core.submit(device, op) {
-            Ok(ticket) => run.note(Entry::Submitted {
+            Ok(ticket) => Ok(Entry::Submitted {
                 host,
                 ticket: ticket.0,
                 dev,
                 op: copy,
             }),
-            Err((SubmitRefusal::NoMemory, _)) => Err(NoMemory),
-            Err((refusal, _)) => run.note(Entry::Refused { host, refusal }),
+            Err((refusal, _)) => refused(host, refusal),
+        }
+    }
+
+    /// Hands a frame to the core: whether it is stale.
+    fn hear(&mut self, frame: &[u8]) -> bool
+        ensures heard { (s : Setup) (host : HostSetup) (h : List Happened) (number : ℕ) → IsSettled s host h self.old → IsLawful s h
+            → arriving s.life h number ≡ Some frame.now
+            → (got : Option Got) × Takes s host self.old.name number frame.now h got (Took self.old.name number result ∷ h)
+            × IsLawful s (Took self.old.name number result ∷ h) × Awaits s host got (Took self.old.name number result ∷ h) self.new }
+        ensures name { self.new.name ≡ self.old.name }
+        ensures tickets { self.new.core.last_ticket ≡ self.old.core.last_ticket }
+    {
+        match self.core.receive(frame) {
+            Taken::Finished(_) => false,
+            Taken::Stale => true,
         }
     }
 
@@ -168,11 +225,11 @@ impl NamedHost {
         ensures err { OnErr result (run.new ≡ run.old) }
     {
         let host = name_of(&self.name);
-        let taken = self.core.receive(frame);
+        let stale = self.hear(frame);
         run.note(Entry::Took {
             host,
             frame: u64::from(number.0),
-            stale: matches!(taken, Taken::Stale),
+            stale,
         })
     }
 }
