@@ -5,3 +5,5 @@ mod DueLemmas
 mod FateLemmas
 mod RackLemmas
 mod SlotLemmas
+mod WithinLemmas
+mod CrashLemmas
