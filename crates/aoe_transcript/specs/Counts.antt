@@ -44,7 +44,7 @@ abbrev pub sends_again : Entry → List Entry → Bool
 sends_again (Sent host ticket frame bytes) h = list_any (sends host.items ticket) h
 sends_again _ h = false
 
--- how many do
+-- the frames of a history that weren't the first of their command
 abbrev pub repeats : List Entry → ℕ
 repeats [] = 0
 repeats (entry ∷ h) = repeats h + (if sends_again entry h then 1 else 0)

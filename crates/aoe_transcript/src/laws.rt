@@ -19,8 +19,9 @@ pub fn submitted_lines_ask()
     ensures { (host : ArrayVec ℕ) (dev : TargetId) (op : Op) → IsAsked op → op_of (asking host dev op) ≡ Some op }
 {}
 
-/// A lawful history can be printed if all that was submitted is what event lines ask for: the host
-/// law takes bytes of a write that aren't all equal, and lists and strings beside a read.
+/// A lawful history can be printed if all that was submitted is what event lines ask for. The host
+/// law alone doesn't say so: it takes a write whose bytes differ, a read of a list or of the config
+/// string beside which one is given, and an edit without directives.
 pub fn lawful_histories_print()
     ensures { (s : Setup) (h : List Entry) → IsLawful s h → All IsFromLine h → All CanPrint h }
 {}

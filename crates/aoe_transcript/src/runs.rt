@@ -22,7 +22,7 @@ fn next_run(bytes: &[u8]) -> Option<(u8, usize, &[u8])>
 }
 
 /// Adds a run.
-fn put_run(out: &mut Vec<u8>, byte: u8, count: usize) -> Result<(), NoMemory>
+fn put_repeated(out: &mut Vec<u8>, byte: u8, count: usize) -> Result<(), NoMemory>
     ensures { OnOk result (out.new.items ≡ out.old.items ++ repeated_text record { byte = byte; count = count }) }
 {
     put_pair(out, byte)?;
@@ -37,10 +37,10 @@ pub(crate) fn put_runs(out: &mut Vec<u8>, bytes: &[u8]) -> Result<(), NoMemory>
     let Some((byte, count, mut rest)) = next_run(bytes) else {
         return Ok(());
     };
-    put_run(out, byte, count)?;
+    put_repeated(out, byte, count)?;
     'runs: while let Some((byte, count, next)) = next_run(rest) {
         put(out, b",")?;
-        put_run(out, byte, count)?;
+        put_repeated(out, byte, count)?;
         rest = next;
     }
     Ok(())
