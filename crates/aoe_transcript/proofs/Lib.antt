@@ -1,4 +1,6 @@
+mod CountLemmas
 mod HistoryLemmas
+mod LawfulLemmas
 mod RunLemmas
 mod SubmissionLemmas
 mod TestLemmas

@@ -4,7 +4,7 @@ use Rattle.std.specs.Prelude.{slice_index}
 use Rattle.std.specs.List.{flat_map, join_with_byte, position_or_len}
 use Rattle.std.proofs.lemmas.List.{append-nil}
 use Rattle.std.proofs.lemmas.Bool.{eqb-true, eq-eqb}
-use Rattle.aoe_transcript.specs.Print.{run_text, runs_text}
+use Rattle.aoe_transcript.specs.Print.{repeated_text, runs_text}
 use Rattle.aoe_transcript.specs.Runs.{led_by, longest_runs, AreLongest, AreRunsOf, Run}
 
 -- ---- the first run
@@ -62,24 +62,24 @@ first_run (b ∷ bytes) rest byte count some is long behind =
 
 -- runs behind others, each behind a comma
 abbrev pub behind : List Run → List ℕ
-behind runs = flat_map (λ run. 44 ∷ run_text run) runs
+behind runs = flat_map (λ run. 44 ∷ repeated_text run) runs
 
-join_first : (run : Run) (runs : List Run) → join_with_byte 44 (map run_text (run ∷ runs)) ≡ run_text run ++ behind runs
-join_first run [] = sym (append-nil (run_text run))
-join_first run (other ∷ runs) = ap (λ t. run_text run ++ (44 ∷ t)) (join_first other runs)
+join_first : (run : Run) (runs : List Run) → join_with_byte 44 (map repeated_text (run ∷ runs)) ≡ repeated_text run ++ behind runs
+join_first run [] = sym (append-nil (repeated_text run))
+join_first run (other ∷ runs) = ap (λ t. repeated_text run ++ (44 ∷ t)) (join_first other runs)
 
-pub text_begins : (start new bytes rest : List ℕ) (run : Run) → longest_runs bytes ≡ run ∷ longest_runs rest → new ≡ start ++ run_text run
+pub text_begins : (start new bytes rest : List ℕ) (run : Run) → longest_runs bytes ≡ run ∷ longest_runs rest → new ≡ start ++ repeated_text run
     → start ++ runs_text bytes ≡ new ++ behind (longest_runs rest)
 text_begins start new bytes rest run is new_is =
-    ap (λ runs. start ++ join_with_byte 44 (map run_text runs)) is ∙ ap (λ t. start ++ t) (join_first run (longest_runs rest))
-    ∙ sym (append_assoc start (run_text run) (behind (longest_runs rest))) ∙ ap (λ t. t ++ behind (longest_runs rest)) (sym new_is)
+    ap (λ runs. start ++ join_with_byte 44 (map repeated_text runs)) is ∙ ap (λ t. start ++ t) (join_first run (longest_runs rest))
+    ∙ sym (append_assoc start (repeated_text run) (behind (longest_runs rest))) ∙ ap (λ t. t ++ behind (longest_runs rest)) (sym new_is)
 
 pub text_goes_on : (whole out mid new rest more : List ℕ) (run : Run) → whole ≡ out ++ behind (longest_runs rest) → longest_runs rest ≡ run ∷ longest_runs more
-    → mid ≡ out ++ 44 ∷ [] → new ≡ mid ++ run_text run → whole ≡ new ++ behind (longest_runs more)
+    → mid ≡ out ++ 44 ∷ [] → new ≡ mid ++ repeated_text run → whole ≡ new ++ behind (longest_runs more)
 text_goes_on whole out mid new rest more run so_far is mid_is new_is =
     so_far ∙ ap (λ runs. out ++ behind runs) is
-    ∙ sym (append_assoc out (44 ∷ run_text run) (behind (longest_runs more)))
-    ∙ ap (λ t. t ++ behind (longest_runs more)) (sym (append_assoc out (44 ∷ []) (run_text run)) ∙ ap (λ t. t ++ run_text run) (sym mid_is) ∙ sym new_is)
+    ∙ sym (append_assoc out (44 ∷ repeated_text run) (behind (longest_runs more)))
+    ∙ ap (λ t. t ++ behind (longest_runs more)) (sym (append_assoc out (44 ∷ []) (repeated_text run)) ∙ ap (λ t. t ++ repeated_text run) (sym mid_is) ∙ sym new_is)
 
 pub text_ends : (whole out rest : List ℕ) → whole ≡ out ++ behind (longest_runs rest) → longest_runs rest ≡ [] → out ≡ whole
 text_ends whole out rest so_far is = sym (so_far ∙ ap (λ runs. out ++ behind runs) is ∙ append-nil out)

@@ -1,3 +1,5 @@
+pub mod Counting
+pub mod Counts
 pub mod Print
 pub mod Runs
 pub mod Summary

@@ -15,6 +15,7 @@ use Rattle.aoe_initiator.specs.declared.outcome.Outcome.{Outcome}
 use Rattle.aoe_initiator.specs.declared.outcome.Outcome.TheVariants.{Read as GaveData, Written, Flushed, Told, AtaError, AoeError, GaveUp}
 use Rattle.aoe_initiator.specs.declared.refusal.SubmitRefusal.{SubmitRefusal}
 use Rattle.aoe_initiator.specs.declared.refusal.SubmitRefusal.TheVariants.{NoMemory, OutOfRange, TooLong, Backlog, Empty}
+use Rattle.aoe_lists.specs.Settings.{Settings}
 use Rattle.aoe_script.specs.Print.{bytes_text, device_text, event_words, line_text, which_text}
 use Rattle.aoe_script.specs.Rules.{is_event}
 use Rattle.aoe_script.specs.Words.{Text}
@@ -56,11 +57,11 @@ asking host dev (ReserveOp rcmd list) = Reserve host dev rcmd list
 -- ---- words
 
 -- bytes as their longest runs, joined by commas (44): a byte, an asterisk (42) and how often it stands there
-abbrev pub run_text : Run → Text
-run_text run = pair_text run.byte ++ 42 ∷ decimal run.count
+abbrev pub repeated_text : Run → Text
+repeated_text run = pair_text run.byte ++ 42 ∷ decimal run.count
 
 abbrev pub runs_text : List ℕ → Text
-runs_text bytes = join_with_byte 44 (map run_text (longest_runs bytes))
+runs_text bytes = join_with_byte 44 (map repeated_text (longest_runs bytes))
 
 -- addresses of twelve digits, joined by commas; a hyphen for none
 abbrev pub digits_text : Mac → Text
@@ -111,6 +112,11 @@ outcome_words (GaveUp first latest) = codes "gave-up" ∷ []
 abbrev pub armed_text : Bool → Text
 armed_text stops = if stops then codes "stop" else codes "fail"
 
+-- the lists of a device, each behind its name
+abbrev pub list_words : Settings → List Text
+list_words lists =
+    codes "config" ∷ bytes_text lists.config ∷ codes "masks" ∷ addresses_text lists.masks ∷ codes "reserves" ∷ addresses_text lists.reserves ∷ []
+
 -- ---- lines
 
 abbrev pub entry_words : Entry → List Text
@@ -124,9 +130,7 @@ entry_words (Done host ticket outcome) = codes "done" ∷ host.items ∷ decimal
 entry_words (Ticked ms) = codes "tick" ∷ decimal ms ∷ []
 entry_words (Lost frame) = codes "lost" ∷ decimal frame ∷ []
 entry_words (Armed dev which k mode) = codes "armed" ∷ device_text dev ∷ which_text which ∷ armed_text (is_some mode) ∷ decimal k ∷ []
-entry_words (Crashed dev lists mode) =
-    codes "crashed" ∷ device_text dev ∷ codes "config" ∷ bytes_text lists.config ∷ codes "masks" ∷ addresses_text lists.masks
-    ∷ codes "reserves" ∷ addresses_text lists.reserves ∷ []
+entry_words (Crashed dev lists mode) = codes "crashed" ∷ device_text dev ∷ list_words lists
 
 abbrev pub entry_text : Entry → Text
 entry_text entry = line_text (entry_words entry)
@@ -140,6 +144,11 @@ abbrev pub CanPrint : Entry → Type 0
 CanPrint (Submitted host ticket dev op) = IsAsked op
 CanPrint (Refused host refusal) = HasCause refusal
 CanPrint _ = ⊤
+
+-- what was submitted is what an event line asks for
+abbrev pub IsFromLine : Entry → Type 0
+IsFromLine (Submitted host ticket dev op) = IsAsked op
+IsFromLine _ = ⊤
 
 -- the lines of a history, the oldest first; its latest entry stands in front
 abbrev pub history_text : List Entry → Text

@@ -1,12 +1,13 @@
 //! The text of what happened.
 ghost use Rattle.std.specs.Prelude.{◌≡◌, ◌++◌, ◌∷◌, [], codes, decimal, if◌then◌else◌, IfOk, OnOk};
-ghost use Rattle.aoe_script.specs.Print.{bytes_text, device_text, spaced, spelled, which_text};
-ghost use Rattle.aoe_transcript.specs.Print.{addresses_text, armed_text, entry_text, entry_words, CanPrint};
+ghost use Rattle.aoe_script.specs.Print.{device_text, spaced, spelled, which_text};
+ghost use Rattle.aoe_transcript.specs.Print.{addresses_text, armed_text, entry_text, entry_words, fate_words, list_words, outcome_words, refusal_words, CanPrint, HasCause};
 
 use crate::outcome::{put_fate, put_outcome};
 use crate::submission::{put_refusal, put_submitted};
 use aoe_base::{Blob, Mac, NoMemory, TargetId};
-use aoe_history::Entry;
+use aoe_history::{Entry, Fate};
+use aoe_initiator::{Outcome, SubmitRefusal};
 use aoe_lists::Lists;
 use aoe_script::spelling::{
     put, put_between, put_bytes, put_count, put_device, put_named, put_which,
@@ -67,7 +68,7 @@ fn put_addresses(out: &mut Vec<u8>, macs: &[Mac]) -> Result<(), NoMemory>
 
 /// Adds the lists of a device, each behind its name.
 fn put_lists(out: &mut Vec<u8>, lists: &Lists) -> Result<(), NoMemory>
-    ensures { OnOk result (out.new.items ≡ out.old.items ++ spaced (codes "config" ∷ bytes_text lists.now.config ∷ codes "masks" ∷ addresses_text lists.now.masks ∷ codes "reserves" ∷ addresses_text lists.now.reserves ∷ [])) }
+    ensures { OnOk result (out.new.items ≡ out.old.items ++ spaced (list_words lists.now)) }
 {
     put(out, b" config ")?;
     put_bytes(out, lists.config.as_slice())?;
@@ -77,12 +78,54 @@ fn put_lists(out: &mut Vec<u8>, lists: &Lists) -> Result<(), NoMemory>
     put_addresses(out, lists.reserves.as_slice())
 }
 
+/// Adds the line of a slot that lost its power, without its end.
+fn put_crashed(out: &mut Vec<u8>, dev: &TargetId, lists: &Lists) -> Result<(), NoMemory>
+    ensures { OnOk result (out.new.items ≡ out.old.items ++ spelled (codes "crashed" ∷ device_text dev.now ∷ list_words lists.now)) }
+{
+    put_of_device(out, b"crashed", dev)?;
+    put_lists(out, lists)
+}
+
 /// Adds the line of a frame that a host was handed, without its end.
 fn put_took(out: &mut Vec<u8>, host: &Name, frame: u64, stale: bool) -> Result<(), NoMemory>
     ensures { OnOk result (out.new.items ≡ out.old.items ++ spelled (codes "took" ∷ host.now.items ∷ decimal frame ∷ (if stale then codes "stale" ∷ [] else []))) }
 {
     put_of_host(out, b"took", host, frame)?;
     if stale { put(out, b" stale") } else { Ok(()) }
+}
+
+/// Adds the line of a refusal, without its end.
+fn put_refused(out: &mut Vec<u8>, host: &Name, refusal: SubmitRefusal) -> Result<(), NoMemory>
+    requires { HasCause refusal }
+    ensures { OnOk result (out.new.items ≡ out.old.items ++ spelled (codes "refuse" ∷ host.now.items ∷ refusal_words refusal)) }
+{
+    put_named(out, b"refuse", host)?;
+    put_refusal(out, refusal)
+}
+
+/// Adds the line of a command that ended, without its end.
+fn put_done(out: &mut Vec<u8>, host: &Name, ticket: u64, outcome: &Outcome) -> Result<(), NoMemory>
+    ensures { OnOk result (out.new.items ≡ out.old.items ++ spelled (codes "done" ∷ host.now.items ∷ decimal ticket ∷ outcome_words outcome.now)) }
+{
+    put_of_host(out, b"done", host, ticket)?;
+    put_outcome(out, outcome)
+}
+
+/// Adds the line of a frame that a host sent, without its end.
+fn put_sent(out: &mut Vec<u8>, host: &Name, ticket: u64, frame: u64) -> Result<(), NoMemory>
+    ensures { OnOk result (out.new.items ≡ out.old.items ++ spelled (codes "sent" ∷ host.now.items ∷ decimal ticket ∷ decimal frame ∷ [])) }
+{
+    put_of_host(out, b"sent", host, ticket)?;
+    put_count(out, b"", frame)
+}
+
+/// Adds the line of a frame that came to a target, without its end.
+fn put_arrived(out: &mut Vec<u8>, dev: &TargetId, frame: u64, fate: &Fate) -> Result<(), NoMemory>
+    ensures { OnOk result (out.new.items ≡ out.old.items ++ spelled (codes "arrive" ∷ device_text dev.now ∷ decimal frame ∷ fate_words fate.now)) }
+{
+    put_of_device(out, b"arrive", dev)?;
+    put_count(out, b"", frame)?;
+    put_fate(out, fate)
 }
 
 /// Adds the line of an entry, without its end.
@@ -97,34 +140,21 @@ fn put_entry(out: &mut Vec<u8>, entry: &Entry) -> Result<(), NoMemory>
             dev,
             op,
         } => put_submitted(out, host, *ticket, dev, op),
-        Entry::Refused { host, refusal } => {
-            put_named(out, b"refuse", host)?;
-            put_refusal(out, *refusal)
-        }
+        Entry::Refused { host, refusal } => put_refused(out, host, *refusal),
         Entry::Sent {
             host,
             ticket,
             frame,
             ..
-        } => {
-            put_of_host(out, b"sent", host, *ticket)?;
-            put_count(out, b"", *frame)
-        }
+        } => put_sent(out, host, *ticket, *frame),
         Entry::Injected { frame, .. } => put_count(out, b"inject", *frame),
-        Entry::Arrived { dev, frame, fate } => {
-            put_of_device(out, b"arrive", dev)?;
-            put_count(out, b"", *frame)?;
-            put_fate(out, fate)
-        }
+        Entry::Arrived { dev, frame, fate } => put_arrived(out, dev, *frame, fate),
         Entry::Took { host, frame, stale } => put_took(out, host, *frame, *stale),
         Entry::Done {
             host,
             ticket,
             outcome,
-        } => {
-            put_of_host(out, b"done", host, *ticket)?;
-            put_outcome(out, outcome)
-        }
+        } => put_done(out, host, *ticket, outcome),
         Entry::Ticked { ms } => put_count(out, b"tick", *ms),
         Entry::Lost { frame } => put_count(out, b"lost", *frame),
         Entry::Armed {
@@ -133,10 +163,7 @@ fn put_entry(out: &mut Vec<u8>, entry: &Entry) -> Result<(), NoMemory>
             k,
             mode,
         } => put_armed(out, dev, *which, *k, mode.is_some()),
-        Entry::Crashed { dev, lists, .. } => {
-            put_of_device(out, b"crashed", dev)?;
-            put_lists(out, lists)
-        }
+        Entry::Crashed { dev, lists, .. } => put_crashed(out, dev, lists),
     }
 }
 

@@ -1,6 +1,6 @@
 //! Bytes as runs of equal ones.
 ghost use Rattle.std.specs.Prelude.{◌≡◌, ◌++◌, ◌<◌, [], ◌∷◌, length, IfNone, IfSome, OnOk};
-ghost use Rattle.aoe_transcript.specs.Print.{run_text, runs_text};
+ghost use Rattle.aoe_transcript.specs.Print.{repeated_text, runs_text};
 ghost use Rattle.aoe_transcript.specs.Runs.{longest_runs};
 
 use aoe_base::NoMemory;
@@ -22,8 +22,8 @@ fn next_run(bytes: &[u8]) -> Option<(u8, usize, &[u8])>
 }
 
 /// Adds a run.
-fn put_run(out: &mut Vec<u8>, byte: u8, count: usize) -> Result<(), NoMemory>
-    ensures { OnOk result (out.new.items ≡ out.old.items ++ run_text record { byte = byte; count = count }) }
+fn put_repeated(out: &mut Vec<u8>, byte: u8, count: usize) -> Result<(), NoMemory>
+    ensures { OnOk result (out.new.items ≡ out.old.items ++ repeated_text record { byte = byte; count = count }) }
 {
     put_pair(out, byte)?;
     put(out, b"*")?;
@@ -37,10 +37,10 @@ pub(crate) fn put_runs(out: &mut Vec<u8>, bytes: &[u8]) -> Result<(), NoMemory>
     let Some((byte, count, mut rest)) = next_run(bytes) else {
         return Ok(());
     };
-    put_run(out, byte, count)?;
+    put_repeated(out, byte, count)?;
     'runs: while let Some((byte, count, next)) = next_run(rest) {
         put(out, b",")?;
-        put_run(out, byte, count)?;
+        put_repeated(out, byte, count)?;
         rest = next;
     }
     Ok(())

@@ -55,14 +55,21 @@ fn put_ends(out: &mut Vec<u8>, summary: &Summary) -> Result<(), NoMemory>
     put_count(out, b" crashed", summary.crashed)
 }
 
+/// Adds the line of a summary.
+pub(crate) fn put_summary(out: &mut Vec<u8>, summary: &Summary) -> Result<(), NoMemory>
+    ensures { OnOk result (out.new.items ≡ out.old.items ++ summary_text summary.now) }
+{
+    put(out, b"summary")?;
+    put_frames(out, summary)?;
+    put_ends(out, summary)?;
+    put(out, b"\n")
+}
+
 /// The line of a summary.
 pub fn print_summary(alloc: Global, summary: &Summary) -> Result<Blob, NoMemory>
     ensures { IfOk result (λ text. text ≡ summary_text summary.now) }
 {
     let mut out = Vec::new(alloc);
-    put(&mut out, b"summary")?;
-    put_frames(&mut out, summary)?;
-    put_ends(&mut out, summary)?;
-    put(&mut out, b"\n")?;
+    put_summary(&mut out, summary)?;
     Blob::of(alloc, out.as_slice())
 }

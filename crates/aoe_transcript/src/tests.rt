@@ -1,8 +1,8 @@
-ghost use Rattle.std.specs.Prelude.{IfOk};
-ghost use Rattle.aoe_transcript.specs.Print.{HasCause, IsAsked};
+ghost use Rattle.std.specs.Prelude.{All, IfOk, OnOk};
+ghost use Rattle.aoe_transcript.specs.Print.{CanPrint, HasCause, IsAsked};
 
 use crate::runs::put_runs;
-use crate::{Summary, print_entry, print_history, print_summary};
+use crate::{Summary, print_entry, print_history, print_run, print_summary, summarize};
 use aoe_base::{Blob, Mac, Millis, NoMemory, Span, TargetId};
 use aoe_disk::Loss;
 use aoe_history::{Entry, Fate, History};
@@ -18,10 +18,14 @@ const DEV: TargetId = TargetId { major: 1, minor: 0 };
 
 const MAC: Mac = Mac([2, 0, 0, 0, 0, 0x0b]);
 
-fn host() -> Name {
+fn named(letter: u8) -> Name {
     let mut name = Name::new();
-    name.push(b'a');
+    name.push(letter);
     name
+}
+
+fn host() -> Name {
+    named(b'a')
 }
 
 fn reads() -> Op
@@ -221,6 +225,60 @@ fn config(alloc: Global) -> Result<Blob, NoMemory> {
     submitted(alloc, configures(alloc)?)
 }
 
+/// A frame of a host's first command.
+fn push_sent(alloc: Global, history: &mut History, letter: u8, frame: u64) -> Result<(), NoMemory>
+    requires { All CanPrint history.old }
+    ensures { OnOk result (All CanPrint history.new) }
+{
+    history.push(Entry::Sent {
+        host: named(letter),
+        ticket: 1,
+        frame,
+        bytes: Blob::of(alloc, b"frame")?,
+    })
+}
+
+/// The reply to the first frame, which is frame 3.
+fn push_reply(alloc: Global, history: &mut History) -> Result<(), NoMemory>
+    requires { All CanPrint history.old }
+    ensures { OnOk result (All CanPrint history.new) }
+{
+    history.push(Entry::Arrived {
+        dev: DEV,
+        frame: 1,
+        fate: Fate::Replied {
+            effect: Effect::None,
+            frame: 3,
+            bytes: Blob::of(alloc, b"frame")?,
+        },
+    })
+}
+
+/// The end of the first command.
+fn push_done(history: &mut History) -> Result<(), NoMemory>
+    requires { All CanPrint history.old }
+    ensures { OnOk result (All CanPrint history.new) }
+{
+    history.push(Entry::Done {
+        host: named(b'a'),
+        ticket: 1,
+        outcome: Outcome::Flushed,
+    })
+}
+
+/// Two hosts whose tickets are equal: each sends a frame, and one of them a second one.
+fn two_hosts(alloc: Global) -> Result<History, NoMemory>
+    ensures { IfOk result (All CanPrint) }
+{
+    let mut history = History::new(alloc);
+    push_sent(alloc, &mut history, b'a', 1)?;
+    push_sent(alloc, &mut history, b'b', 2)?;
+    push_reply(alloc, &mut history)?;
+    push_sent(alloc, &mut history, b'a', 4)?;
+    push_done(&mut history)?;
+    Ok(history)
+}
+
 #[test]
 fn prints_submissions(rt: HostRuntime) -> Result<(), Fail> {
     let alloc = rt.alloc();
@@ -404,5 +462,32 @@ fn prints_a_summary(rt: HostRuntime) -> Result<(), Fail> {
             "summary events 12 frames 10 sent 5 again 1 arrived 6 done 4 lost 2 crashed 3\n"
         )?
     );
+    Ok(())
+}
+
+#[test]
+fn counts_repeats_of_each_host(rt: HostRuntime) -> Result<(), Fail> {
+    let counts = summarize(rt.alloc(), 6, &two_hosts(rt.alloc())?)?;
+    assert!(rt;
+        is(
+            print_summary(rt.alloc(), &counts),
+            "summary events 6 frames 4 sent 3 again 1 arrived 1 done 1 lost 0 crashed 0\n"
+        )?
+    );
+    Ok(())
+}
+
+#[test]
+fn prints_a_run(rt: HostRuntime) -> Result<(), Fail> {
+    let text = "\
+sent a 1 1
+sent b 1 2
+arrive e1.0 1 none reply 3
+sent a 1 4
+done a 1 flushed
+summary events 6 frames 4 sent 3 again 1 arrived 1 done 1 lost 0 crashed 0
+";
+    let history = two_hosts(rt.alloc())?;
+    assert!(rt; is(print_run(rt.alloc(), 6, &history), text)?);
     Ok(())
 }
