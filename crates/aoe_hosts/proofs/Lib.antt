@@ -1,9 +1,15 @@
-pub mod PathNo
-pub mod Same
-pub mod Leaves
 pub mod Apart
 pub mod Called
 pub mod Commands
+mod HostAlike
 mod IdLemmas
+pub mod Leaves
+mod LogSame
+mod PathNo
+pub mod PathNo
+pub mod Same
+mod SendLemmas
+mod SubmissionLemmas
 mod SubmitLemmas
 mod TakeLemmas
+mod TellLemmas

@@ -46,6 +46,8 @@ host-same s host x y name same is = record {
   devices = same.devices ∙ is.devices;
   distinct = is.distinct;
   remotes = is.remotes;
+  addresses = is.addresses;
+  remote_addresses = is.remote_addresses;
 }
 
 -- a clock that goes on to the time that it has

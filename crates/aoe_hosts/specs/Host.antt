@@ -1,7 +1,8 @@
 -- A host in a run: what it keeps is what the history says of it.
-use Rattle.std.specs.Prelude.{ℕ, ◌≡◌, ◌≤◌, Bool, true, false, not, List, [], ◌∷◌, map, Option, Some, None, if◌then◌else◌, All, IfSome}
+use Rattle.std.specs.Prelude.{ℕ, ◌≡◌, ◌≤◌, Bool, true, false, not, List, [], ◌∷◌, map, Option, Some, None, if◌then◌else◌, All, IfSome, length}
 use Rattle.std.specs.Str.{bytes_eq}
 use Rattle.arrayvec.specs.ArrayVec.{ArrayVec}
+use Rattle.aoe_base.specs.declared.address.Mac.{Mac}
 use Rattle.aoe_initiator.specs.declared.device.Attached.{Attached}
 use Rattle.aoe_initiator.specs.declared.device.Device.{Device}
 use Rattle.aoe_initiator.specs.declared.outcome.Done.{Done}
@@ -22,6 +23,10 @@ pub record NamedHost : Type 0 where
   pub name : ArrayVec ℕ
   pub core : Host
 
+-- each address has six bytes
+abbrev pub AreAddresses : List Mac → Type 0
+AreAddresses ports = All (λ (a : Mac). length a.0 ≡ 6) ports
+
 -- what never changes of a host is as the setup says
 pub record IsHost (s : Setup) (host : HostSetup) (x : NamedHost) : Type 0 where
   pub called : host_called s x.name ≡ Some host
@@ -32,6 +37,8 @@ pub record IsHost (s : Setup) (host : HostSetup) (x : NamedHost) : Type 0 where
   pub devices : map (λ (d : Device). d.about) x.core.devices ≡ host.devices
   pub distinct : IsDistinct host.ports
   pub remotes : All (λ (d : Attached). IsDistinct d.remotes.items) host.devices
+  pub addresses : AreAddresses host.ports
+  pub remote_addresses : All (λ (d : Attached). AreAddresses d.remotes.items) host.devices
 
 -- after its turn a host keeps what the history says of it, and has nothing more to tell
 pub record IsSettled (s : Setup) (host : HostSetup) (h : List Entry) (x : NamedHost) : Type 0 where

@@ -1,3 +1,4 @@
 pub mod Asks
 pub mod Host
 pub mod Ids
+pub mod Turns

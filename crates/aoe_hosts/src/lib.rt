@@ -3,6 +3,7 @@
 
 mod asks;
 mod host;
+mod turn;
 
 pub use asks::op_of;
 pub use host::NamedHost;
