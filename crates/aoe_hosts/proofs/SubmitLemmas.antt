@@ -1,6 +1,6 @@
 -- What a host submits, by what it keeps and by the history.
 use Rattle.std.proofs.Common.{ℕ, suc, ◌+◌, ◌<◌, ◌≡◌, true, List, ◌∷◌, length, map, Option, Some, None, refl, sym, subst, ap, ◌∙◌, arith, add-one}
-use Rattle.std.specs.Prelude.{◌≢◌, position, slice_get, unwrap_or, IfErr, IfNone, IfOk, IfSome, OnErr, Result, Ok, Err}
+use Rattle.std.specs.Prelude.{◌≢◌, IsSomeAnd, OnOk, position, slice_get, unwrap_or, IfErr, IfNone, IfOk, IfSome, OnErr, Result, Ok, Err}
 use Rattle.std.specs.Option.{option_and_then}
 use Rattle.std.proofs.lemmas.List.{length-map}
 use Rattle.arrayvec.specs.ArrayVec.{ArrayVec}
@@ -11,13 +11,13 @@ use Rattle.aoe_base.specs.declared.failure.NoMemory.{NoMemory}
 use Rattle.aoe_hold.specs.Commands.{unsent_count}
 use Rattle.aoe_history.specs.declared.entry.Entry.{Entry}
 use Rattle.aoe_history.specs.declared.entry.Entry.TheVariants.{Refused, Submitted}
-use Rattle.aoe_history.specs.Commands.{host_after, log_of, tickets}
+use Rattle.aoe_history.specs.Commands.{host_after, log_of, tickets, Submission}
 use Rattle.aoe_history.specs.Groups.{submit_entry, submitted_as}
 use Rattle.aoe_history.specs.HostLaw.{IsRefused, IsSubmitted}
 use Rattle.aoe_history.specs.Lawful.{IsLawful}
 use Rattle.aoe_history.specs.Setup.{device_no, device_place, host_called, is_called, HostSetup, Setup}
-use Rattle.aoe_hosts.specs.Host.{IsSettled, NamedHost}
-use Rattle.aoe_hosts.proofs.Apart.{settled-apart}
+use Rattle.aoe_hosts.specs.Host.{Awaits, IsSettled, NamedHost}
+use Rattle.aoe_hosts.proofs.Apart.{awaits-settled, settled-apart}
 use Rattle.aoe_hosts.proofs.Called.{is-called, of-called}
 use Rattle.aoe_hosts.proofs.Commands.{about, about-after, about-kept, unsent-after}
 use Rattle.aoe_hosts.proofs.IdLemmas.{place-about}
@@ -184,3 +184,20 @@ pub devices-stay : (x z : Host) (answer : Answer) → IfOk answer (λ t. IsSame 
     → map (λ (d : Device). d.about) z.devices ≡ map (λ (d : Device). d.about) x.devices
 devices-stay x z (Ok t) same unchanged = same.0.devices
 devices-stay x z (Err e) same unchanged = ap (λ (k : Host). map (λ (d : Device). d.about) k.devices) unchanged
+
+pub on-ok : {A E : Type 0} (r : Result A E) (Q P : Type 0) → (Q → P) → OnOk r Q → OnOk r P
+on-ok (Ok a) Q P f q = f q
+on-ok (Err e) Q P f q = tt
+
+-- what an event line submits is taken down, and the host awaits its turn
+pub submitted-with : (o : Option Submission) (s : Setup) (host : HostSetup) (h m : List Entry) (x z : NamedHost) (dev : TargetId) (op : Op) (entry : Entry)
+    → IsSomeAnd o (λ a. a.dev ≡ dev) → IfSome o (λ a. op ≡ a.op) → m ≡ entry ∷ h
+    → (entry ≡ submitted_as s host h x.name dev op) × IsLawful s (entry ∷ h) × IsSettled s host (entry ∷ h) z
+    → IfSome o (λ a. (m ≡ submitted_as s host h x.name a.dev a.op ∷ h) × IsLawful s m × Awaits s host None m z)
+submitted-with None s host h m x z dev op entry for asks is t = tt
+submitted-with (Some a) s host h m x z dev op entry for asks is t =
+    (
+      is ∙ ap (λ (e : Entry). e ∷ h) (t.0 ∙ ap (λ (d : TargetId). submitted_as s host h x.name d op) (sym for) ∙ ap (λ (o : Op). submitted_as s host h x.name a.dev o) asks),
+      subst (λ (l : List Entry). IsLawful s l) (sym is) t.1,
+      subst (λ (l : List Entry). Awaits s host None l z) (sym is) (awaits-settled s host (entry ∷ h) z t.2)
+    )
