@@ -5,7 +5,6 @@ mod HostAlike
 mod IdLemmas
 pub mod Leaves
 mod LogSame
-mod PathNo
 pub mod PathNo
 pub mod Same
 mod SendLemmas
