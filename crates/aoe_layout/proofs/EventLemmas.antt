@@ -108,7 +108,7 @@ module _ (lines : List Line) (good : AreGood lines) where
       let d = about (slot_with x.major x.ports.items x.mtu dev.minor x.sectors) in
       let p = device-at lines good a.at host s.name dev.minor a.there x in
       let id : same_id d.id dev ≡ true
-            = and_from (nat_eq x.major dev.major) (nat_eq dev.minor dev.minor) (eq-eqb x.major dev.major (one-shelf s.name dev.minor x s.at dev.major s.ports s.mtu s.there)) (eq-eqb dev.minor dev.minor refl) in
+      = and_from (nat_eq x.major dev.major) (nat_eq dev.minor dev.minor) (eq-eqb x.major dev.major (one-shelf s.name dev.minor x s.at dev.major s.ports s.mtu s.there)) (eq-eqb dev.minor dev.minor refl) in
       record {
         host = host_of lines host h.1.items h.2 h.3;
         called = host-called lines good h.0 host h.1 h.2 h.3 h.4;
@@ -143,15 +143,15 @@ module _ (lines : List Line) (good : AreGood lines) where
   no-port port none =
       or_from (list_any (λ (host : HostSetup). holds host.ports port) (setup_of lines).hosts) (list_any (λ (slot : SlotSetup). holds slot.station.ports.items port) (setup_of lines).slots)
       (none-any (λ (host : HostSetup). holds host.ports port) (setup_of lines).hosts
-        (λ i host e t. let h = host-from lines i host e in
-            let f : holds h.ports.items port ≡ false = none-passes (has_port port) lines h.at (Host h.name h.ports h.room h.dead) none h.there in
-            let g : holds h.ports.items port ≡ true = in-host lines good host h port t in
-            cc))
+      (λ i host e t. let h = host-from lines i host e in
+      let f : holds h.ports.items port ≡ false = none-passes (has_port port) lines h.at (Host h.name h.ports h.room h.dead) none h.there in
+      let g : holds h.ports.items port ≡ true = in-host lines good host h port t in
+      cc))
       (none-any (λ (slot : SlotSetup). holds slot.station.ports.items port) (setup_of lines).slots
-        (λ i slot e t. let x = slot-from lines good slot (record { at = i; there = e }) in
-            let f : holds x.line.ports.items port ≡ false = none-passes (has_port port) lines x.line.at (Shelf x.name x.line.major x.line.ports x.line.mtu) none x.line.shelf_there in
-            let g : holds x.line.ports.items port ≡ true = in-slot lines good slot x port t in
-            cc))
+      (λ i slot e t. let x = slot-from lines good slot (record { at = i; there = e }) in
+      let f : holds x.line.ports.items port ≡ false = none-passes (has_port port) lines x.line.at (Shelf x.name x.line.major x.line.ports x.line.mtu) none x.line.shelf_there in
+      let g : holds x.line.ports.items port ≡ true = in-slot lines good slot x port t in
+      cc))
     where
       none-any : {X : Type 0} (p : X → Bool) (xs : List X) → ((i : ℕ) (x : X) → slice_get xs i ≡ Some x → p x ≡ true → ⊥) → list_any p xs ≡ false
       none-any p xs never = go (list_any p xs) refl

@@ -152,7 +152,7 @@ pub record AreGood (lines : List Line) : Type 0 where
 pub are-good : (script : ScriptLines) → IsScript script → AreGood script.setups
 are-good script is =
     let why : (k : ℕ) (line : Line) → slice_get script.setups k ≡ Some line → setup_why (take k script.setups) false line ≡ None
-          = λ k line e. MatchOption-at_some Unit (λ l. setup_why (take k script.setups) false l ≡ None) line e (is.setups k) in
+    = λ k line e. MatchOption-at_some Unit (λ l. setup_why (take k script.setups) false l ≡ None) line e (is.setups k) in
     record {
       life = λ k ms e. good-life (take k script.setups) ms (why k (Life ms) e);
       shelf = λ k name major ports mtu e. good-shelf (take k script.setups) name major ports mtu (why k (Shelf name major ports mtu) e);

@@ -132,7 +132,7 @@ module _ (lines : List Line) (good : AreGood lines) where
           differ : (t : Bool) → (x.minor == y.minor) ≡ t → is_slot c d.station.id ≡ false
           differ true is =
               let f : ((x.minor == y.minor) && same name name) ≡ false
-                    = none-before lines good (is_slot_line name y.minor) i j (Slot name x.minor x.sectors) lt (p ∙ ap Some x.line_is) (good.slot j name y.minor y.sectors (q ∙ ap Some y.line_is)).new in
+              = none-before lines good (is_slot_line name y.minor) i j (Slot name x.minor x.sectors) lt (p ∙ ap Some x.line_is) (good.slot j name y.minor y.sectors (q ∙ ap Some y.line_is)).new in
               let g : ((x.minor == y.minor) && same name name) ≡ true = and_from (x.minor == y.minor) (same name name) is (same-self name) in
               absurd cc
           differ false is =
@@ -168,8 +168,8 @@ module _ (lines : List Line) (good : AreGood lines) where
     all-of-shelf = filter-piece (λ slot. nat_eq slot.station.id.major major) (slots_of_shelf lines) lines k (Shelf name major ports mtu) there
         (λ y p. eq-eqb y.station.id.major major (sym (major-of name major ports.items mtu y p)))
         (λ i a y ne e p. let h = has-slot lines a y p in
-            ne_eqb y.station.id.major major
-            (λ s. shelves-differ lines good i k h.major major h.name name h.ports ports h.mtu mtu (e ∙ ap Some h.line_is) there ne (major-of h.name h.major h.ports.items h.mtu y h.inside ∙ s)))
+        ne_eqb y.station.id.major major
+        (λ s. shelves-differ lines good i k h.major major h.name name h.ports ports h.mtu mtu (e ∙ ap Some h.line_is) there ne (major-of h.name h.major h.ports.items h.mtu y h.inside ∙ s)))
 
     slots-of-shelf : AreSlots (setup_of lines) (slots_of_shelf lines (Shelf name major ports mtu))
     slots-of-shelf = record {
@@ -181,7 +181,7 @@ module _ (lines : List Line) (good : AreGood lines) where
     few-of-shelf : length (slots_of_shelf lines (Shelf name major ports mtu)) ≤ 16
     few-of-shelf =
         let kept : length (filter_map (slot_of_shelf name major ports.items mtu) lines) ≤ length (filter (is_slot_of name) lines)
-              = length-filtered (slot_of_shelf name major ports.items mtu) (is_slot_of name) lines (λ x y e. let d = declares-by name major ports.items mtu x y e in ap (is_slot_of name) d.line_is ∙ same-self name) in
+        = length-filtered (slot_of_shelf name major ports.items mtu) (is_slot_of name) lines (λ x y e. let d = declares-by name major ports.items mtu x y e in ap (is_slot_of name) d.line_is ∙ same-self name) in
         let most : length (filter (is_slot_of name) lines) ≤ 16 = few-of (is_slot_of name) 16 lines by-kind in
         omega arith
       where

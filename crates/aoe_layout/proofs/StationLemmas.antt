@@ -1,5 +1,5 @@
 -- The stations of good lines, by their names and addresses.
-use Rattle.std.proofs.Common.{Option, ℕ, ◌<◌, ◌≡◌, ◌≢◌, ◌∙◌, ◌⊎◌, inl, inr, Bool, true, false, ◌||◌, List, take, Some, refl, sym, ap, subst, arith}
+use Rattle.std.proofs.Common.{Option, ℕ, ◌<◌, ◌≡◌, ◌≢◌, ◌∙◌, ◌⊎◌, inl, inr, Bool, true, false, List, take, Some, refl, sym, ap, subst, arith}
 use Rattle.std.specs.Prelude.{slice_get}
 use Rattle.std.specs.List.{list_any}
 use Rattle.std.proofs.lemmas.Bool.{cases_order, or_cases}
@@ -117,8 +117,8 @@ module _ (lines : List Line) (good : AreGood lines) where
       go (Life ms) k e t = absurd cc
       go (Shelf other major ports mtu) k e t =
           elim (or_cases (same other name) false t) [
-            inl is ↦ is-station (Shelf other major ports mtu) k (record { name = other; ports = ports.items; station = ShelfStation major }) e refl (same-is other name is)
-          | inr never ↦ absurd cc
+            | inl is ↦ is-station (Shelf other major ports mtu) k (record { name = other; ports = ports.items; station = ShelfStation major }) e refl (same-is other name is)
+            | inr never ↦ absurd cc
           ]
       go (Slot shelf minor sectors) k e t = absurd cc
       go (Host other ports room dead) k e t = is-station (Host other ports room dead) k (record { name = other; ports = ports.items; station = HostStation other }) e refl (same-is other name t)
