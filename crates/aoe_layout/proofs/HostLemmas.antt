@@ -22,15 +22,15 @@ use Rattle.aoe_layout.proofs.ListLemmas.{apart-by, filtered-at, find-by, from-fi
 
 -- ---- host lines
 
-record IsHostLine (lines : List Line) (line : Line) (host : HostSetup) : Type 0 where
-  name : ArrayVec ℕ
-  ports : ArrayVec Mac
-  room : Option ℕ
-  dead : Option ℕ
-  line_is : line ≡ Host name ports room dead
-  host_is : host_of lines name ports.items room dead ≡ host
+pub record IsHostLine (lines : List Line) (line : Line) (host : HostSetup) : Type 0 where
+  pub name : ArrayVec ℕ
+  pub ports : ArrayVec Mac
+  pub room : Option ℕ
+  pub dead : Option ℕ
+  pub line_is : line ≡ Host name ports room dead
+  pub host_is : host_of lines name ports.items room dead ≡ host
 
-host-line : (lines : List Line) (line : Line) (host : HostSetup) → host_in lines line ≡ Some host → IsHostLine lines line host
+pub host-line : (lines : List Line) (line : Line) (host : HostSetup) → host_in lines line ≡ Some host → IsHostLine lines line host
 host-line lines (Life ms) host e = absurd (none-some host e)
 host-line lines (Shelf name major ports mtu) host e = absurd (none-some host e)
 host-line lines (Slot shelf minor sectors) host e = absurd (none-some host e)

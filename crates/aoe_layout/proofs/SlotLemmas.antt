@@ -11,7 +11,7 @@ use Rattle.aoe_initiator.specs.HostLaw.{same_id}
 use Rattle.aoe_history.specs.Setup.{is_slot, shelf_of, slot_of, SlotSetup}
 use Rattle.aoe_script.specs.declared.setup.Setup.{Setup as Line}
 use Rattle.aoe_script.specs.declared.setup.Setup.TheVariants.{Life, Shelf, Slot, Host, Attach}
-use Rattle.aoe_script.specs.Rules.{is_slot as is_slot_line, is_slot_of, same}
+use Rattle.aoe_script.specs.Rules.{is_shelf, is_slot as is_slot_line, is_slot_of, same}
 use Rattle.aoe_layout.specs.Layout.{major_in, majors_of, setup_of, slot_of_shelf, slot_with, slots_of_shelf}
 use Rattle.aoe_layout.specs.Stations.{AreSlots, HasShelves}
 use Rattle.aoe_layout.proofs.GoodLines.{AreGood}
@@ -210,11 +210,25 @@ module _ (lines : List Line) (good : AreGood lines) where
   pub number-there : (k : ℕ) (name : ArrayVec ℕ) (major : ℕ) (ports : ArrayVec Mac) (mtu : ℕ) → slice_get lines k ≡ Some (Shelf name major ports mtu) → Contains (majors_of lines) major
   number-there k name major ports mtu e = contains-at (majors_of lines) major (filtered-at major_in lines k (Shelf name major ports mtu) major e refl)
 
+  few-shelves : length (majors_of lines) ≤ 16
+  few-shelves =
+      let kept : length (majors_of lines) ≤ length (filter is_shelf lines) = length-filtered major_in is_shelf lines (λ x m e. let l = major-line x m e in ap is_shelf l.line_is) in
+      let most : length (filter is_shelf lines) ≤ 16 = few-of is_shelf 16 lines by-kind in
+      omega arith
+    where
+      by-kind : (i : ℕ) (x : Line) → slice_get lines i ≡ Some x → is_shelf x ≡ true → count_by is_shelf (take i lines) < 16
+      by-kind i (Life ms) e s = absurd cc
+      by-kind i (Shelf name major ports mtu) e s = (good.shelf i name major ports mtu e).few
+      by-kind i (Slot shelf minor sectors) e s = absurd cc
+      by-kind i (Host name ports room dead) e s = absurd cc
+      by-kind i (Attach host shelf minor) e s = absurd cc
+
   pub has-shelves : HasShelves lines (setup_of lines)
   has-shelves = record {
     all = all-of-shelf;
     slots = slots-of-shelf;
     few = few-of-shelf;
+    few_shelves = few-shelves;
     by_number = by-number;
     numbers = λ i j a b p q ne. by-order i j a b p q ne (cases_order i j);
   }

@@ -33,7 +33,7 @@ pub record AreSlots (s : Setup) (slots : List SlotSetup) : Type 0 where
   pub there : (i : ℕ) (slot : SlotSetup) → slice_get slots i ≡ Some slot → slot_of s slot.station.id ≡ Some slot
   pub apart : (i j : ℕ) (a b : SlotSetup) → slice_get slots i ≡ Some a → slice_get slots j ≡ Some b → i ≢ j → is_slot a b.station.id ≡ false
 
--- the slots with the number of a shelf line are those of its shelf, 16 at most, and no two shelves have one number
+-- the slots with the number of a shelf line are those of its shelf, 16 at most, and of 16 shelves at most no two have one number
 pub record HasShelves (lines : List Line) (s : Setup) : Type 0 where
   pub all : (k : ℕ) (name : ArrayVec ℕ) (major : ℕ) (ports : ArrayVec Mac) (mtu : ℕ) → slice_get lines k ≡ Some (Shelf name major ports mtu)
       → shelf_of s major ≡ slots_of_shelf lines (Shelf name major ports mtu)
@@ -41,6 +41,7 @@ pub record HasShelves (lines : List Line) (s : Setup) : Type 0 where
       → AreSlots s (slots_of_shelf lines (Shelf name major ports mtu))
   pub few : (k : ℕ) (name : ArrayVec ℕ) (major : ℕ) (ports : ArrayVec Mac) (mtu : ℕ) → slice_get lines k ≡ Some (Shelf name major ports mtu)
       → length (slots_of_shelf lines (Shelf name major ports mtu)) ≤ 16
+  pub few_shelves : length (majors_of lines) ≤ 16
   pub by_number : (i major : ℕ) → slice_get (majors_of lines) i ≡ Some major → AreSlots s (shelf_of s major)
   pub numbers : (i j a b : ℕ) → slice_get (majors_of lines) i ≡ Some a → slice_get (majors_of lines) j ≡ Some b → i ≢ j → a ≢ b
 
@@ -80,6 +81,7 @@ pub record IsSlot (slot : SlotSetup) : Type 0 where
 
 pub record HasRanges (s : Setup) : Type 0 where
   pub life : s.life ≤ 600000
+  pub few_hosts : length s.hosts ≤ 16
   pub hosts : (i : ℕ) (host : HostSetup) → slice_get s.hosts i ≡ Some host → IsHost host
   pub slots : (i : ℕ) (slot : SlotSetup) → slice_get s.slots i ≡ Some slot → IsSlot slot
 
