@@ -244,15 +244,12 @@ kept-at p (y ∷ xs) k x e passes = go (p y) refl k e (λ j s. kept-at p xs j x 
     go false is zero e more = absurd (let t = ap p (same_Some y x e) in cc)
     go false is (suc k) e more = more k e
 
-filter-joined : {X : Type 0} (p : X → Bool) (xs ys : List X) → filter p (xs ++ ys) ≡ filter p xs ++ filter p ys
-filter-joined p xs ys = filter-append p xs ys
-
-pub filter-all : {X : Type 0} (p : X → Bool) (xs : List X) → ((k : ℕ) (x : X) → slice_get xs k ≡ Some x → p x ≡ true) → filter p xs ≡ xs
+filter-all : {X : Type 0} (p : X → Bool) (xs : List X) → ((k : ℕ) (x : X) → slice_get xs k ≡ Some x → p x ≡ true) → filter p xs ≡ xs
 filter-all p [] all = refl
 filter-all p (x ∷ xs) all =
     ap (λ b. cond b (x ∷ filter p xs) (filter p xs)) (all 0 x refl) ∙ ap (λ ys. x ∷ ys) (filter-all p xs (λ k y e. all (suc k) y e))
 
-pub filter-none : {X : Type 0} (p : X → Bool) (xs : List X) → ((k : ℕ) (x : X) → slice_get xs k ≡ Some x → p x ≡ false) → filter p xs ≡ []
+filter-none : {X : Type 0} (p : X → Bool) (xs : List X) → ((k : ℕ) (x : X) → slice_get xs k ≡ Some x → p x ≡ false) → filter p xs ≡ []
 filter-none p [] none = refl
 filter-none p (x ∷ xs) none =
     ap (λ b. cond b (x ∷ filter p xs) (filter p xs)) (none 0 x refl) ∙ filter-none p xs (λ k y e. none (suc k) y e)
