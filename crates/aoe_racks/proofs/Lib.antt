@@ -5,3 +5,4 @@ mod DueLemmas
 mod FateLemmas
 mod RackLemmas
 mod SlotLemmas
+mod WithinLemmas
