@@ -1,6 +1,7 @@
 mod ArmLemmas
 pub mod Apart
 mod ArrivalLemmas
+mod CrashLemmas
 mod DueLemmas
 mod FateLemmas
 mod RackLemmas
