@@ -98,9 +98,10 @@ impl MemoryRack {
         let heard = self.shelf.receive_slot(slot, frame, out);
         let stop = stop_at(self.stops[slot], heard);
         match take_down(run, dev, number, heard, stop, out) {
-            Ok(()) => Ok(stop),
-            Err(refusal) => Err(refusal),
+            Ok(()) => {}
+            Err(refusal) => return Err(refusal),
         }
+        Ok(stop)
     }
 
     /// A frame comes to each target in turn, and each reply into the network. Where a disk fails in a
