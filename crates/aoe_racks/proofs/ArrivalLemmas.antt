@@ -246,6 +246,12 @@ drop-at [] i slot e = absurd (cc)
 drop-at (x ∷ xs) zero slot e = ap (λ z. z ∷ xs) (same_Some x slot e)
 drop-at (x ∷ xs) (suc i) slot e = drop-at xs i slot e
 
+-- the power wasn't lost
+pub goes-of : (o : Option Loss) (s : Setup) (slots : List SlotSetup) (i number : ℕ) (f : List ℕ) (h m : List Entry) (x : MemoryRack) → ((how : Loss) → o ≡ Some how → ⊥) → ComesTo s slots i number f o h m x
+    → GoesOn s slots i number f h m x
+goes-of None s slots i number f h m x whole p = p
+goes-of (Some how) s slots i number f h m x whole p = absurd (whole how refl)
+
 -- a frame came to the first slots of a shelf
 pub record Passes (s : Setup) (slots : List SlotSetup) (i number : ℕ) (f : List ℕ) (h m : List Entry) (x : MemoryRack) : Type 0 where
   pub reached : IsReached s slots number f m x
