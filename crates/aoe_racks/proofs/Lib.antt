@@ -6,4 +6,6 @@ mod FateLemmas
 mod RackLemmas
 mod SlotLemmas
 mod WithinLemmas
+mod FrontLemmas
 mod CrashLemmas
+mod HistoryLemmas
