@@ -8,6 +8,7 @@ use Rattle.aoe_base.specs.declared.address.TargetId.{TargetId}
 use Rattle.aoe_disk.specs.Arming.{number_of, Arms, ArmsTo}
 use Rattle.aoe_disk.specs.Memory.{schedule_of, state_of, Memory}
 use Rattle.aoe_disk.specs.State.{BothTell, Contents, Schedule}
+use Rattle.aoe_disk.specs.declared.armed.Arm.{Arm}
 use Rattle.aoe_disk.specs.declared.loss.Loss.{Loss}
 use Rattle.aoe_keep.specs.Found.{Finds}
 use Rattle.aoe_keep.specs.Keep.{Kept}
@@ -16,7 +17,7 @@ use Rattle.aoe_shelf.specs.Slot.{ChangesAt}
 use Rattle.aoe_shelf.proofs.SlotLemmas.{get-after, get-other, length-changed}
 use Rattle.aoe_target.specs.Device.{Holds, MayStand, State}
 use Rattle.aoe_target.specs.Mounted.{device_of, Mounted}
-use Rattle.aoe_target.specs.Sectors.{sectors_of, Agrees}
+use Rattle.aoe_target.specs.Sectors.{sectors_of, Agrees, Sectors}
 use Rattle.aoe_history.specs.declared.entry.Entry.{Entry}
 use Rattle.aoe_history.specs.declared.entry.Entry.TheVariants.{Armed}
 use Rattle.aoe_history.specs.Setup.{is_slot, SlotSetup}
@@ -26,7 +27,7 @@ use Rattle.aoe_script.specs.declared.event.Which.{Which}
 use Rattle.aoe_script.specs.declared.event.Which.TheVariants.{Store, Keep}
 use Rattle.aoe_racks.specs.declared.rack.Stops.{Stops}
 use Rattle.aoe_racks.specs.Arming.{arm_of, with_stop, ArmsDisk}
-use Rattle.aoe_racks.specs.Rack.{calls_per, stop_in, AreApart, IsDue, IsServing, MemoryRack, Serves}
+use Rattle.aoe_racks.specs.Rack.{calls_per, stop_in, AreApart, IsDue, IsServing, MemoryRack, SameWithin, Serves}
 use Rattle.aoe_racks.proofs.Apart.{if-false, if-true, says-armed, serves-still, there}
 use Rattle.aoe_racks.proofs.ArrivalLemmas.{at-place, same-or}
 use Rattle.aoe_racks.proofs.RackLemmas.{IsSameTarget}
@@ -92,7 +93,7 @@ store-armed slot h k mode t m stops first s a =
       holds = record {
         lists = s.holds.lists;
         crash = s.holds.crash;
-        sectors = subst (λ (o : Option Contents). BothTell Agrees (option_map sectors_of o) (state_after slot h).sectors) (sym a.contents) s.holds.sectors;
+        sectors = subst (λ (o : Option Contents). BothTell (SameWithin slot.station.sectors) (option_map sectors_of o) (state_after slot h).sectors) (sym a.contents) s.holds.sectors;
       };
       store_due = subst (λ (o : Option Stretch). IsDue Store o (schedule_of m.arming m.out)) (sym mine) (due-begun Store k mode t.store m first a);
       keep_due = subst (λ (o : Option Stretch). IsDue Keep o (schedule_of t.keep.disk.arming t.keep.disk.out)) (sym other) s.keep_due;
@@ -129,10 +130,26 @@ armed Keep slot h k mode t u stops first s a =
     subst (λ (w : Mounted Memory Memory). IsServing slot (Armed slot.station.id Keep k mode ∷ h) w (record stops { keep = mode })) (sym a.rest)
     (keep-armed slot h k mode t u.keep.disk u.keep.lists stops first s a.lists a.arms)
 
--- a target that is armed keeps its name and its size
-pub armed-same : (which : Which) (k : ℕ) (mode : Option Loss) (t u : Mounted Memory Memory) → ArmsDisk which (arm_of k mode) t u → IsSameTarget t u
-armed-same Store k mode t u a = record { station = ap (λ (z : Mounted Memory Memory). z.station) a.rest; sectors = a.arms.sectors }
-armed-same Keep k mode t u a = record { station = ap (λ (z : Mounted Memory Memory). z.station) a.rest; sectors = ap (λ (z : Mounted Memory Memory). (state_of z.store).sectors) a.rest }
+-- a target that is armed is the same one: its disks hold what they held
+same-sectors : (a b : Option Contents) (k : Option Sectors) → b ≡ a → BothTell Agrees (option_map sectors_of a) k → BothTell Agrees (option_map sectors_of b) k
+same-sectors a b k e p = subst (λ (o : Option Contents). BothTell Agrees (option_map sectors_of o) k) (sym e) p
+
+same-finds : (a b : Option Contents) (k : State) → b ≡ a → IfSome a (Finds (MayStand k)) → IfSome b (Finds (MayStand k))
+same-finds a b k e p = subst (λ (o : Option Contents). IfSome o (Finds (MayStand k))) (sym e) p
+
+pub armed-same : (which : Which) (arm : Arm) (t u : Mounted Memory Memory) → ArmsDisk which arm t u → IsSameTarget t u
+armed-same Store arm t u a = subst (λ (w : Mounted Memory Memory). IsSameTarget t w) (sym a.rest) (record {
+  station = refl;
+  sectors = a.arms.sectors;
+  room = refl;
+  known = λ k h. (k, record { lists = h.lists; crash = h.crash; sectors = same-sectors (state_of t.store).contents (state_of u.store).contents k.sectors a.arms.contents h.sectors });
+})
+armed-same Keep arm t u a = subst (λ (w : Mounted Memory Memory). IsSameTarget t w) (sym a.rest) (record {
+  station = refl;
+  sectors = refl;
+  room = a.arms.sectors;
+  known = λ k h. (k, record { lists = a.lists ∙ h.lists; crash = same-finds (state_of t.keep.disk).contents (state_of u.keep.disk).contents k a.arms.contents h.crash; sectors = h.sectors });
+})
 
 -- ONE SLOT OF A SHELF
 

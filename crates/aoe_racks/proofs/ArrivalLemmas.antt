@@ -140,7 +140,7 @@ module _ (s : Setup) (slots : List SlotSetup) (i number : ℕ) (f : List ℕ) (h
     taken = takes slot h f w out c.before c.after (serving-stands slot h c.before stops served) c.change
 
     may-come : (fate : Fate) → KeepsShelfLaw slot h f fate → KeepsArming slot h f fate → IsNumbered (next_number h) fate → MayCome s h (Arrived slot.station.id number fate)
-    may-come fate law arming numbered = subst (λ (o : Option SlotSetup). IsSomeAnd o (λ z. IsArrival s z h number fate)) (sym (r.slots.there i slot found))
+    may-come fate law arming numbered = subst (λ (o : Option SlotSetup). IsSomeAnd o (λ z. IsArrival s z h number fate)) (sym (r.shelf.there i slot found))
         (record { bytes = f; fresh = r.fresh; law = law; arming = arming; numbered = numbered })
 
     goes-on : stop_at stops w ≡ None → GoesOn s slots i number f h (Arrived slot.station.id number (noted None w (next_number h) out) ∷ h) y
@@ -156,8 +156,8 @@ module _ (s : Setup) (slots : List SlotSetup) (i number : ℕ) (f : List ℕ) (h
           uncut = noted-uncut w (next_number h) out;
           entry = refl;
           reached = record {
-            slots = r.slots;
-            serves = serves-on slots r.slots.apart i slot found h number fate x y c same stops at r.serves z.serving;
+            shelf = r.shelf;
+            serves = serves-on slots r.shelf.apart i slot found h number fate x y c same stops at r.serves z.serving;
             lawful = (may-come fate z.law z.arming (noted-number None w (next_number h) out), r.lawful);
             fresh = still-arriving s.life h number f slot.station.id number fate r.fresh;
           };
@@ -173,7 +173,7 @@ module _ (s : Setup) (slots : List SlotSetup) (i number : ℕ) (f : List ℕ) (h
           found = found;
           stop = z.stop;
           entry = refl;
-          stands = stands-on slots r.slots.apart i slot found h number Cut x y c same (serves-stands slots h x r.serves) z.standing;
+          stands = stands-on slots r.shelf.apart i slot found h number Cut x y c same (serves-stands slots h x r.serves) z.standing;
           lawful = (may-come Cut z.law z.arming tt, r.lawful);
         }
 

@@ -62,7 +62,8 @@ restarted_lists how a b k finds r =
     same_ok : (x y : Settings) → (let o : Result Settings ℕ = Ok x in o) ≡ Ok y → x ≡ y
     same_ok x y e = cc
 
-idle : (o x : Option ℕ) (m : ℕ) (s : Bool) → o ≡ None → MovesDue m false s o x → x ≡ None
+-- no call is due after those that none was due before
+pub idle : (o x : Option ℕ) (m : ℕ) (s : Bool) → o ≡ None → MovesDue m false s o x → x ≡ None
 idle None x m s e p = p.1
 idle (Some k) x m s e p = absurd (cc)
 

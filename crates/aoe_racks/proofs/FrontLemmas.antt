@@ -1,5 +1,5 @@
 -- The last target of a shelf, and those before it.
-use Rattle.std.proofs.Common.{◌≡◌, ◌≢◌, ◌<◌, ◌⊎◌, ◌||◌, ◌==◌, inl, inr, ℕ, zero, suc, Bool, true, false, List, [], ◌∷◌, ◌++◌, length, map, replicate, Option, Some, None, refl, sym, ap, subst, ◌∙◌, arith}
+use Rattle.std.proofs.Common.{◌≡◌, ◌≢◌, ◌<◌, ◌⊎◌, ◌||◌, ◌==◌, inl, inr, ℕ, zero, suc, Bool, true, false, List, [], ◌∷◌, ◌++◌, length, map, replicate, take, Option, Some, None, refl, sym, ap, subst, ◌∙◌, arith}
 use Rattle.std.specs.Prelude.{slice_get}
 use Rattle.std.specs.List.{list_any}
 use Rattle.std.proofs.lemmas.Bool.Decides.{nat_tests}
@@ -8,8 +8,10 @@ use Rattle.aoe_disk.specs.Memory.{Memory}
 use Rattle.aoe_disk.specs.declared.loss.Loss.{Loss}
 use Rattle.aoe_shelf.specs.Shelf.{has_minor, Rack}
 use Rattle.aoe_target.specs.Mounted.{Mounted}
+use Rattle.aoe_target.specs.declared.station.Station.{Station}
 use Rattle.aoe_racks.specs.Crash.{RestartEach, Restarts}
 use Rattle.aoe_racks.specs.Rack.{AreTargets, IsTargetOf}
+use Rattle.aoe_racks.proofs.CrashLemmas.{restarted_target}
 
 -- THE FRONT OF A LIST
 
@@ -86,7 +88,7 @@ module _ (shelf : Rack Memory Memory) (front : List (Mounted Memory Memory)) (t 
   }
 
   -- those before the last one have other minors
-  front_apart : (i : ℕ) (u : Mounted Memory Memory) → slice_get front i ≡ Some u → u.station.id.minor ≢ t.station.id.minor
+  pub front_apart : (i : ℕ) (u : Mounted Memory Memory) → slice_get front i ≡ Some u → u.station.id.minor ≢ t.station.id.minor
   front_apart i u at = k.apart i (length front) u t (in_front i u at) at_last (λ e. omega (arith, e, slice_get_within front i u at))
 
 -- one target more
@@ -137,3 +139,32 @@ pub restart_minor : (how : Loss) (xs ys : List (Mounted Memory Memory)) (minor :
 restart_minor how xs ys minor r other = minor_other ys minor (λ i b at.
     let a = there xs i (omega (arith, slice_get_within ys i b at, r.count)) in
     λ e. other i a.0 a.1 (ap (λ z. z.id.minor) (sym (r.each i a.0 b a.1 at).station) ∙ e))
+
+pub get_take : {X : Type 0} (n : ℕ) (xs : List X) (i : ℕ) (x : X) → slice_get (take n xs) i ≡ Some x → slice_get xs i ≡ Some x
+get_take zero xs i x e = absurd (cc)
+get_take (suc n) [] i x e = e
+get_take (suc n) (a ∷ xs) zero x e = e
+get_take (suc n) (a ∷ xs) (suc i) x e = get_take n xs i x e
+
+-- the same targets, by their stations
+pub same_stations : (how : Loss) (xs ys : List (Mounted Memory Memory)) → RestartEach how xs ys → map (λ (t : Mounted Memory Memory). t.station) ys ≡ map (λ (t : Mounted Memory Memory). t.station) xs
+same_stations how [] [] r = refl
+same_stations how [] (y ∷ ys) r = absurd (omega (arith, r.count))
+same_stations how (x ∷ xs) [] r = absurd (omega (arith, r.count))
+same_stations how (x ∷ xs) (y ∷ ys) r =
+    ap (λ (z : Station). z ∷ map (λ (t : Mounted Memory Memory). t.station) ys) (r.each 0 x y refl refl).station
+    ∙ ap (λ (l : List Station). x.station ∷ l) (same_stations how xs ys (record { count = omega (arith, r.count); each = λ i a b p q. r.each (suc i) a b p q }))
+
+-- and they are targets of the shelf still
+pub restart_targets : (how : Loss) (shelf : Rack Memory Memory) (ys : List (Mounted Memory Memory)) → AreTargets shelf → RestartEach how shelf.targets ys → AreTargets (record shelf { targets = ys })
+restart_targets how shelf ys k r = record {
+  each = λ i b at. let a = was i b at in restarted_target how a.0 b (r.each i a.0 b a.1 at) shelf.major shelf.ports shelf.mtu (k.each i a.0 a.1);
+  apart = λ i j b c p q ne.
+      let a = was i b p in
+      let d = was j c q in
+      λ e. k.apart i j a.0 d.0 a.1 d.1 ne
+      (ap (λ (z : Station). z.id.minor) (sym (r.each i a.0 b a.1 p).station) ∙ e ∙ ap (λ (z : Station). z.id.minor) (r.each j d.0 c d.1 q).station);
+}
+  where
+    was : (i : ℕ) (b : Mounted Memory Memory) → slice_get ys i ≡ Some b → (a : Mounted Memory Memory) × (slice_get shelf.targets i ≡ Some a)
+    was i b at = there shelf.targets i (omega (arith, slice_get_within ys i b at, r.count))

@@ -1,8 +1,9 @@
 -- What a history says of slots that lost their power.
-use Rattle.std.proofs.Common.{◌≡◌, ◌≢◌, ◌<◌, ◌≤◌, ◌⊎◌, ◌&&◌, inl, inr, nat_eq, ℕ, zero, suc, Bool, true, false, List, [], ◌∷◌, ◌++◌, length, map, take, replicate, Option, Some, None, refl, sym, ap, subst, ◌∙◌, arith}
-use Rattle.std.specs.Prelude.{slice_get, IsSomeAnd}
+use Rattle.std.proofs.Common.{◌≡◌, ◌≢◌, ◌<◌, ◌≤◌, ◌⊎◌, ◌+◌, ◌&&◌, inl, inr, nat_eq, ℕ, zero, suc, Bool, true, false, List, [], ◌∷◌, ◌++◌, length, map, take, replicate, Option, Some, None, refl, sym, ap, subst, ◌∙◌, arith}
+use Rattle.std.specs.Prelude.{slice_get, Err, IsSomeAnd, Ok, OnErr, OnOk, Result}
 use Rattle.std.proofs.lemmas.Bool.Decides.{nat_tests}
-use Rattle.std.proofs.lemmas.Option.{same_Some, slice_get_within}
+use Rattle.std.proofs.lemmas.List.{length-take, take_more}
+use Rattle.std.proofs.lemmas.Option.{get_or_from_slice_get, same_Some, slice_get_within}
 use Rattle.aoe_base.specs.declared.address.TargetId.{TargetId}
 use Rattle.std.specs.Option.{option_map}
 use Rattle.aoe_disk.specs.Arming.{number_of}
@@ -20,6 +21,7 @@ use Rattle.aoe_history.specs.Lawful.{IsLawful, MayCome}
 use Rattle.aoe_history.specs.Setup.{is_slot, slot_of, Setup, SlotSetup}
 use Rattle.aoe_history.specs.ShelfLaw.{stretch, KeepsLists, Stretch}
 use Rattle.aoe_history.specs.Slots.{after_crash, slot_after, state_after, Slot}
+use Rattle.aoe_run.specs.Run.{with_entry, Recorded}
 use Rattle.aoe_script.specs.declared.event.Which.{Which}
 use Rattle.aoe_script.specs.declared.event.Which.TheVariants.{Store, Keep}
 use Rattle.aoe_racks.specs.declared.rack.Stops.{Stops}
@@ -27,7 +29,7 @@ use Rattle.aoe_racks.specs.Crash.{with_crashes, RestartEach, Restarts}
 use Rattle.aoe_racks.specs.Rack.{stop_in, AreApart, AreSlots, HoldsWithin, IsDue, IsServing, IsStanding, MemoryRack, Serves, Stands}
 use Rattle.aoe_racks.proofs.Apart.{if-true, says-crashed, there, SaysSame}
 use Rattle.aoe_racks.proofs.CrashLemmas.{keep_unarmed, restarted_holds, restarted_lists, store_unarmed}
-use Rattle.aoe_racks.proofs.FrontLemmas.{get_replicate}
+use Rattle.aoe_racks.proofs.FrontLemmas.{get_replicate, get_take}
 
 own_name : (id : TargetId) → same_id id id ≡ true
 own_name id = both (nat_eq id.major id.major) (nat_eq id.minor id.minor) (itself id.major) (itself id.minor)
@@ -181,3 +183,45 @@ module _ (slots : List SlotSetup) (h : List Entry) (how : Loss) (x : MemoryRack)
         serving apart i slot t a (ap (λ (l : List (Mounted Memory Memory)). slice_get l i) (sym targets) ∙ b) z
         (get_replicate n i (record { store = None; keep = None }) z (ap (λ (l : List Stops). slice_get l i) (sym stops) ∙ c));
   }
+
+-- A CRASH
+
+-- one entry more was taken down
+pub crash_noted : (how : Loss) (ts : List (Mounted Memory Memory)) (i : ℕ) (first old new : Recorded) → old ≡ record first { entries = with_crashes how (take i ts) first.entries }
+    → IsSomeAnd (slice_get ts i) (λ t. new ≡ with_entry old (Crashed t.station.id t.keep.lists how)) → new ≡ record first { entries = with_crashes how (take (i + 1) ts) first.entries }
+crash_noted how ts i first old new so_far p = go (slice_get ts i) refl p
+  where
+    go : (o : Option (Mounted Memory Memory)) → slice_get ts i ≡ o → IsSomeAnd o (λ t. new ≡ with_entry old (Crashed t.station.id t.keep.lists how)) → new ≡ record first { entries = with_crashes how (take (i + 1) ts) first.entries }
+    go None at p = absurd p
+    go (Some t) at p =
+        let more : take (i + 1) ts ≡ take i ts ++ t ∷ [] =
+        take_more ts i t (slice_get_within ts i t at) ∙ ap (λ (u : Mounted Memory Memory). take i ts ++ u ∷ []) (get_or_from_slice_get ts i t t at) in
+        p ∙ ap (λ (z : Recorded). with_entry z (Crashed t.station.id t.keep.lists how)) so_far
+        ∙ ap (λ (m : List Entry). record first { entries = m })
+            (sym (ap (λ (l : List (Mounted Memory Memory)). with_crashes how l first.entries) more ∙ with_crashes_more how (take i ts) t first.entries))
+
+pub on_ok : {T E A B : Type 0} (r : Result T E) → OnOk r A → (A → B) → OnOk r B
+on_ok (Ok x) p f = f p
+on_ok (Err e) p f = tt
+
+pub on_err : {T E A B : Type 0} (r : Result T E) → OnErr r A → (A → B) → OnErr r B
+on_err (Ok x) p f = tt
+on_err (Err e) p f = f p
+
+module _ (s : Setup) (slots : List SlotSetup) (h : List Entry) (how : Loss) (x : MemoryRack) (ys : List (Mounted Memory Memory)) (are : AreSlots s slots) (k : Stands slots h x) (lawful : IsLawful s h) (r : RestartEach how x.shelf.targets ys) where
+  pub all_noted : (y : MemoryRack) → y.shelf.targets ≡ ys → (n : ℕ) → y.stops ≡ replicate n (record { store = None; keep = None }) → length y.stops ≡ length ys → (m : List Entry) → m ≡ with_crashes how ys h
+      → CrashEach how slots h m × IsLawful s m × Serves slots m y
+  all_noted y targets n stops count m is =
+      let may = may_restart slots h how x ys k r in
+      let size : length ys ≡ length slots = r.count ∙ k.count in
+      subst (λ (z : List Entry). CrashEach how slots h z × IsLawful s z × Serves slots z y) (sym is) (
+        crash_each s how slots ys h are size may,
+        (crash_some s how slots ys h are (omega (arith, size)) may lawful).1,
+        serves_again slots h how x ys k r are.apart y targets n stops (count ∙ size),
+      )
+
+  pub some_noted : (n : ℕ) (m : List Entry) → m ≡ with_crashes how (take n ys) h → CrashSome how slots h m × IsLawful s m
+  some_noted n m is =
+      let may = may_restart slots h how x ys k r in
+      subst (λ (z : List Entry). CrashSome how slots h z × IsLawful s z) (sym is)
+      (crash_some s how slots (take n ys) h are (omega (arith, length-take n ys, r.count, k.count)) (record { each = λ i slot t a b. may.each i slot t a (get_take n ys i t b) }) lawful)

@@ -18,7 +18,7 @@ use Rattle.aoe_target.specs.declared.heard.Effect.TheVariants as effect
 use Rattle.aoe_target.specs.declared.heard.Heard.{Heard}
 use Rattle.aoe_target.specs.declared.heard.Heard.TheVariants as heard
 use Rattle.aoe_target.specs.declared.station.Station.{Station}
-use Rattle.aoe_target.specs.Device.{Holds, State}
+use Rattle.aoe_target.specs.Device.{State}
 use Rattle.aoe_target.specs.Law.{after, cut, replied, Allows, IsStep}
 use Rattle.aoe_target.specs.Law as target
 use Rattle.aoe_target.specs.Mounted.{device_of, Mounted}
@@ -38,10 +38,11 @@ use Rattle.aoe_script.specs.declared.event.Which.{Which}
 use Rattle.aoe_script.specs.declared.event.Which.TheVariants.{Store, Keep}
 use Rattle.aoe_racks.specs.declared.rack.Stops.{Stops}
 use Rattle.aoe_racks.specs.Arrival.{noted, stop_at}
-use Rattle.aoe_racks.specs.Rack.{stop_in, IsDue, IsServing, IsStanding}
+use Rattle.aoe_racks.specs.Rack.{stop_in, HoldsWithin, IsDue, IsServing, IsStanding}
 use Rattle.aoe_racks.proofs.Apart.{if-true}
 use Rattle.aoe_racks.proofs.DueLemmas.{due-then, met, IsMet}
 use Rattle.aoe_racks.proofs.FateLemmas.{faulty-calls, keep-loss, noted-fate, noted-struck, of_keep, of_store, one-disk, store-loss, unkept-calls, IsLoss, Runs, StopOf}
+use Rattle.aoe_racks.proofs.WithinLemmas.{held, known_in, stepped, StepsWithin}
 
 -- A SLOT AFTER AN ARRIVAL
 
@@ -84,7 +85,7 @@ follows slot h number f fate bytes =
 pub record Takes (slot : SlotSetup) (h : List Entry) (f : List ℕ) (x : Heard) (out : List ℕ) (t u : Mounted Memory Memory) : Type 0 where
   pub station : u.station ≡ slot.station
   pub allowed : Allows slot.station (state_after slot h) f (verdict_after slot h f) (fate_of x out)
-  pub holds : Holds (device_of state_of state_of u) (after slot.station f (verdict_after slot h f) (fate_of x out) (state_after slot h))
+  pub holds : HoldsWithin slot.station.sectors (device_of state_of state_of u) (after slot.station f (verdict_after slot h f) (fate_of x out) (state_after slot h))
   pub call : calls Store slot h f ≡ true → IsRun 1 (is_faulty x) (state_of t.store) (state_of u.store)
   pub idle : calls Store slot h f ≡ false → u.store ≡ t.store
   pub edit : calls Keep slot h f ≡ true → IsRun 6 (is_unkept x) (state_of t.keep.disk) (state_of u.keep.disk)
@@ -205,7 +206,7 @@ module _ (slot : SlotSetup) (h : List Entry) (f : List ℕ) (x : Heard) (out : L
       serving = record {
         station = z.station;
         direct = k.direct;
-        holds = subst (λ (s : State). Holds (device_of state_of state_of u) s)
+        holds = subst (λ (s : State). HoldsWithin slot.station.sectors (device_of state_of state_of u) s)
             (sym (flow.state ∙ ap (λ w. after slot.station f (verdict_after slot h f) w (state_after slot h)) (noted-fate x fresh out))) z.holds;
         store_due = subst (λ (o : Option Stretch). IsDue Store o (schedule_of u.store.arming u.store.out)) (sym (flow.stretches Store)) (store-then (calls Store slot h f) refl);
         keep_due = subst (λ (o : Option Stretch). IsDue Keep o (schedule_of u.keep.disk.arming u.keep.disk.out)) (sym (flow.stretches Keep)) (keep-then (calls Keep slot h f) refl);
@@ -219,7 +220,7 @@ module _ (slot : SlotSetup) (h : List Entry) (f : List ℕ) (x : Heard) (out : L
   standing e n is flow loss = record {
     station = z.station;
     direct = k.direct;
-    holds = subst (λ (s : State). Holds (device_of state_of state_of u) s)
+    holds = subst (λ (s : State). HoldsWithin slot.station.sectors (device_of state_of state_of u) s)
         (ap (λ w. after slot.station f (verdict_after slot h f) (fate_of w out) (state_after slot h)) is ∙ loss.left ∙ sym flow.state) z.holds;
   }
 

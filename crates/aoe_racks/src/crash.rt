@@ -8,8 +8,8 @@ ghost use Rattle.aoe_racks.specs.Crash.{with_crashes, Loses, RestartEach};
 ghost use Rattle.aoe_racks.specs.Rack.{AreSlots, AreTargets, Serves, Stands};
 ghost use Rattle.aoe_run.specs.Run.{with_entry};
 
-use crate::seat::{MemShelf, mount, seat};
 use crate::rack::MAX_TARGETS;
+use crate::seat::{MemShelf, mount, seat};
 use crate::{MemoryRack, Stops};
 use aoe_base::NoMemory;
 use aoe_disk::{Disk, Loss, MemDisk};

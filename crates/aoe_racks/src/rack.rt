@@ -137,7 +137,7 @@ impl MemoryRack {
         } ∷ []) [] self.new) }
         ensures added { OnOk result (map (λ t. t.station) self.new.shelf.targets
             ≡ map (λ t. t.station) self.old.shelf.targets ++ station_of record { major = self.old.shelf.major; minor = minor } self.old.shelf.ports
-                self.old.shelf.mtu sectors ∷ []) }
+            self.old.shelf.mtu sectors ∷ []) }
         ensures rest { self.new.shelf ≡ record self.old.shelf { targets = self.new.shelf.targets } }
         ensures err { OnErr result (self.new ≡ self.old) }
     {
