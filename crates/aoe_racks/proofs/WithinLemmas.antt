@@ -9,6 +9,7 @@ use Rattle.aoe_disk.specs.State.{sector, BothTell}
 use Rattle.aoe_frame.specs.Header.{fields, head}
 use Rattle.aoe_frame.specs.declared.refusal.AoeError.TheVariants.{BadArgument}
 use Rattle.aoe_frame.specs.declared.header.Header.{Header}
+use Rattle.aoe_frame.specs.declared.refusal.AoeError.TheVariants.{BadArgument}
 use Rattle.aoe_ata.specs.Args.{registers}
 use Rattle.aoe_ata.specs.Command.{command_of}
 use Rattle.aoe_ata.specs.Decision.{answer_of, decision, is_taken, written}

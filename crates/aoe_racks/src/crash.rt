@@ -78,10 +78,7 @@ fn no_stops(count: usize) -> ArrayVec<Stops, MAX_TARGETS>
 {
     let mut stops = ArrayVec::new();
     'slots: for _ in 0..count {
-        stops.push(Stops {
-            store: None,
-            keep: None,
-        });
+        stops.push(Stops::none());
     }
     stops
 }

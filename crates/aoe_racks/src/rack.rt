@@ -148,10 +148,7 @@ impl MemoryRack {
             return Err(NoMemory);
         };
         seat(&mut self.shelf, minor, store, mount(keep));
-        self.stops.push(Stops {
-            store: None,
-            keep: None,
-        });
+        self.stops.push(Stops::none());
         Ok(())
     }
 
