@@ -26,8 +26,8 @@ pub returns-in-Ok-clause-ok : goal.returns-in-Ok-clause-ok
 returns-in-Ok-clause-ok c s slots shelf serves lawful fresh =
     let p = c.slots.invariant.passes s slots (record { shelf = shelf; serves = serves; lawful = lawful; fresh = fresh }) in
     let cut : IsCut s slots c.slots.slot c.args.number.0 c.args.frame.now c.in-Some.how c.slots.run.entries c.arrive_at.new.run.entries c.arrive_at.new.self =
-        subst (λ (o : Option Loss). ComesTo s slots c.slots.slot c.args.number.0 c.args.frame.now o c.slots.run.entries c.arrive_at.new.run.entries c.arrive_at.new.self) c.in-Some.is
-        (c.in_ok-how.ensures.comes s slots p.reached) in
+    subst (λ (o : Option Loss). ComesTo s slots c.slots.slot c.args.number.0 c.args.frame.now o c.slots.run.entries c.arrive_at.new.run.entries c.arrive_at.new.self) c.in-Some.is
+    (c.in_ok-how.ensures.comes s slots p.reached) in
     let crashed = c.in-Ok.ensures.ok s slots shelf cut.stands cut.lawful in
     (crashed-each s slots c.slots.slot _ _ _ _ _ p c.in-Some.how _ _ _ cut crashed.0, crashed.1, crashed.2)
 
@@ -35,8 +35,8 @@ pub returns-in-Err-clause-err : goal.returns-in-Err-clause-err
 returns-in-Err-clause-err c s slots shelf serves lawful fresh =
     let p = c.slots.invariant.passes s slots (record { shelf = shelf; serves = serves; lawful = lawful; fresh = fresh }) in
     let cut : IsCut s slots c.slots.slot c.args.number.0 c.args.frame.now c.in-Some.how c.slots.run.entries c.arrive_at.new.run.entries c.arrive_at.new.self =
-        subst (λ (o : Option Loss). ComesTo s slots c.slots.slot c.args.number.0 c.args.frame.now o c.slots.run.entries c.arrive_at.new.run.entries c.arrive_at.new.self) c.in-Some.is
-        (c.in_ok-how.ensures.comes s slots p.reached) in
+    subst (λ (o : Option Loss). ComesTo s slots c.slots.slot c.args.number.0 c.args.frame.now o c.slots.run.entries c.arrive_at.new.run.entries c.arrive_at.new.self) c.in-Some.is
+    (c.in_ok-how.ensures.comes s slots p.reached) in
     let crashed = c.in-Err.ensures.err s slots shelf cut.stands cut.lawful in
     (crashed-some s slots c.slots.slot _ _ _ _ _ p c.in-Some.how _ _ _ cut crashed.0, crashed.1)
 
@@ -49,6 +49,7 @@ slots-preserved c = record {
   life = c.arrive_at.ensures.life ∙ c.slots.invariant.life;
   count = c.arrive_at.ensures.count ∙ c.slots.invariant.count;
   major = c.arrive_at.ensures.major ∙ c.slots.invariant.major;
+  stations = c.arrive_at.ensures.stations ∙ c.slots.invariant.stations;
 }
 
 pub returns-clause-ok : goal.returns-clause-ok

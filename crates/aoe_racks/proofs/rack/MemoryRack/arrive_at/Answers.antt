@@ -1,9 +1,12 @@
 -- What is known when the frame was handed to the target: one turn.
-use Rattle.std.proofs.Common.{◌≡◌, Err, refl, sym, ap, subst, ◌∙◌}
+use Rattle.std.proofs.Common.{◌≡◌, Err, map, refl, sym, ap, subst, ◌∙◌}
 use Rattle.aoe_net.specs.declared.refusal.NetRefusal.TheVariants.{Full}
+use Rattle.aoe_disk.specs.Memory.{Memory}
+use Rattle.aoe_target.specs.Mounted.{Mounted}
 use Rattle.aoe_run.specs.Run.{Recorded, MeetsFull}
+use Rattle.aoe_racks.specs.Rack.{MemoryRack}
 use Rattle.aoe_racks.proofs.ArrivalLemmas.{turn-comes, turn-full, IsTurn}
-use Rattle.aoe_racks.proofs.RackLemmas.{rack-kept, receives-same}
+use Rattle.aoe_racks.proofs.RackLemmas.{rack-kept, receives-same, stations-kept}
 use Rattle.aoe_racks.proofs.rack.MemoryRack.arrive_at.Goals as goal
 
 pub invariant_of-self : goal.invariant_of-self
@@ -44,3 +47,13 @@ returns-clause-comes c s slots reached =
       is = c.stop_at-stop.ensures;
     } in
     turn-comes _ _ _ _ _ _ _ _ _ _ _ turn s slots _ _ _ c.self.view_is reached _ (ap (λ (r : Recorded). r.entries) came)
+
+pub returns-in-Err-clause-stations : goal.returns-in-Err-clause-stations
+returns-in-Err-clause-stations c =
+    let r = c.receive_slot-heard.ensures in
+    stations-kept c.args.slot _ _ _ r.receives r.receives.change.station ∙ ap (λ (x : MemoryRack). map (λ (t : Mounted Memory Memory). t.station) x.shelf.targets) c.self.view_is
+
+pub returns-clause-stations : goal.returns-clause-stations
+returns-clause-stations c =
+    let r = c.receive_slot-heard.ensures in
+    stations-kept c.args.slot _ _ _ r.receives r.receives.change.station ∙ ap (λ (x : MemoryRack). map (λ (t : Mounted Memory Memory). t.station) x.shelf.targets) c.self.view_is
