@@ -83,7 +83,7 @@ seated_again how shelf r t minor store disk keep k rest name lost lost_keep moun
 
 -- DISKS OF ZEROS
 
-zero_in : (n i : ℕ) → get_or (replicate n 0) i 0 ≡ 0
+zero_in : (n i : ℕ) → ◌≡◌ {A = ℕ} (get_or (replicate n 0) i 0) 0
 zero_in zero i = refl
 zero_in (suc n) zero = refl
 zero_in (suc n) (suc i) = zero_in n i
@@ -91,7 +91,7 @@ zero_in (suc n) (suc i) = zero_in n i
 no_gate : (n k : ℕ) → is_open (replicate n 0) k ≡ false
 no_gate n k = ap (λ m. m == 0xa7) first
   where
-    first : get_or (sector (replicate n 0) (8 * k)) 0 0 ≡ 0
+    first : ◌≡◌ {A = ℕ} (get_or (sector (replicate n 0) (8 * k)) 0 0) 0
     first =
         let low : 0 < 512 = omega arith in
         rw (get_or-take, get_or-drop) (zero_in n (512 * (8 * k) + 0))
@@ -171,7 +171,7 @@ module _ (major : ℕ) (ports : List Mac) (mtu minor n m : ℕ) (store disk : Me
     both_served (inr a) (inr b) (inl c) = absurd (omega (arith, slice_get_within x.stops i z c, a.0, k.stops))
 
   -- the shelf serves the new slot too
-  new_serves : (slots : List SlotSetup) (x y : MemoryRack) → y.shelf.targets ≡ x.shelf.targets ++ new_target ∷ [] → y.stops ≡ x.stops ++ record { store = None; keep = None } ∷ [] → Serves slots [] x → Serves (slots ++ new_setup ∷ []) [] y
+  pub new_serves : (slots : List SlotSetup) (x y : MemoryRack) → y.shelf.targets ≡ x.shelf.targets ++ new_target ∷ [] → y.stops ≡ x.stops ++ record { store = None; keep = None } ∷ [] → Serves slots [] x → Serves (slots ++ new_setup ∷ []) [] y
   new_serves slots x y targets stops k = record {
     count = ap length targets ∙ length_last x.shelf.targets new_target ∙ ap suc k.count ∙ sym (length_last slots new_setup);
     stops = ap length stops ∙ length_last x.stops none ∙ ap suc k.stops ∙ sym (length_last slots new_setup);
@@ -182,7 +182,7 @@ module _ (major : ℕ) (ports : List Mac) (mtu minor n m : ℕ) (store disk : Me
   }
 
   -- and its station stands behind the others
-  new_station : (xs : List (Mounted Memory Memory)) → map (λ (t : Mounted Memory Memory). t.station) (xs ++ new_target ∷ []) ≡ map (λ (t : Mounted Memory Memory). t.station) xs ++ station_of (record { major = major; minor = minor }) ports mtu n ∷ []
+  pub new_station : (xs : List (Mounted Memory Memory)) → map (λ (t : Mounted Memory Memory). t.station) (xs ++ new_target ∷ []) ≡ map (λ (t : Mounted Memory Memory). t.station) xs ++ station_of (record { major = major; minor = minor }) ports mtu n ∷ []
   new_station xs =
       map-append (λ (t : Mounted Memory Memory). t.station) xs (new_target ∷ [])
       ∙ ap (λ k. map (λ (t : Mounted Memory Memory). t.station) xs ++ station_of (record { major = major; minor = minor }) ports mtu k ∷ []) (zeros_sectors n store zeros)
