@@ -20,6 +20,7 @@ const ROOM: u64 = 4096;
 const DEAD: u64 = 180_000;
 
 /// The words of a shelf line behind its name.
+#[derive(Clone, Copy)]
 struct ShelfLine<'a> {
     major: u64,
     ports: &'a Ports,
