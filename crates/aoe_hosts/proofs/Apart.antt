@@ -1,5 +1,5 @@
 -- Hosts of which nothing is said, hosts in time that goes by, and a host of which nothing was said yet.
-use Rattle.std.proofs.Common.{ℕ, ◌+◌, ◌≤◌, ◌≡◌, if◌then◌else◌, Bool, true, false, max, List, [], ◌∷◌, Option, Some, None, refl, sym, subst, ap, ◌∙◌, arith, Contains}
+use Rattle.std.proofs.Common.{ℕ, ◌+◌, ◌≤◌, ◌≡◌, if◌then◌else◌, true, false, List, [], ◌∷◌, Option, Some, None, refl, sym, subst, ap, ◌∙◌, arith, Contains}
 use Rattle.std.specs.Prelude.{IfSome}
 use Rattle.aoe_base.specs.declared.counted.PathNo.{PathNo}
 use Rattle.aoe_history.specs.declared.entry.Entry.{Entry}

@@ -25,7 +25,6 @@ use Rattle.aoe_hosts.proofs.Leaves.{leaves, unless, when}
 use Rattle.aoe_initiator.specs.declared.device.Attached.{Attached}
 use Rattle.aoe_initiator.specs.declared.device.Device.{Device}
 use Rattle.aoe_initiator.specs.declared.op.Op.{Op}
-use Rattle.aoe_initiator.specs.declared.response.Answer.{Answer}
 use Rattle.aoe_initiator.specs.Host.{Host}
 use Rattle.aoe_initiator.specs.HostLaw.{answer_to, has_tag, is_answered, is_from, is_response, same_id}
 use Rattle.aoe_initiator.specs.HostLog.{after_end, after_send, at_ticket, clock as log_clock, commands, entered_at, path_log, submitted, HostCommand}

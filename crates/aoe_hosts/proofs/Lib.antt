@@ -4,6 +4,7 @@ pub mod Commands
 mod HostAlike
 mod IdLemmas
 pub mod Leaves
+mod LogSame
 pub mod PathNo
 pub mod Same
 mod SendLemmas

@@ -1,21 +1,23 @@
 -- What a host submits, by what it keeps and by the history.
-use Rattle.std.proofs.Common.{ℕ, suc, ◌+◌, ◌≤◌, ◌<◌, ◌≡◌, true, List, [], ◌∷◌, length, Option, Some, None, refl, sym, subst, ap, ◌∙◌, arith, add-one}
-use Rattle.std.specs.Prelude.{position, slice_get, unwrap_or}
-use Rattle.std.specs.Option.{option_and_then, option_map_or}
+use Rattle.std.proofs.Common.{ℕ, suc, ◌+◌, ◌<◌, ◌≡◌, true, List, ◌∷◌, length, map, Option, Some, None, refl, sym, subst, ap, ◌∙◌, arith, add-one}
+use Rattle.std.specs.Prelude.{◌≢◌, IsSomeAnd, OnOk, position, slice_get, unwrap_or, IfErr, IfNone, IfOk, IfSome, OnErr, Result, Ok, Err}
+use Rattle.std.specs.Option.{option_and_then}
 use Rattle.std.proofs.lemmas.List.{length-map}
+use Rattle.arrayvec.specs.ArrayVec.{ArrayVec}
 use Rattle.aoe_base.specs.declared.address.TargetId.{TargetId}
 use Rattle.aoe_base.specs.declared.counted.DeviceNo.{DeviceNo}
 use Rattle.aoe_base.specs.declared.counted.Ticket.{Ticket}
+use Rattle.aoe_base.specs.declared.failure.NoMemory.{NoMemory}
 use Rattle.aoe_hold.specs.Commands.{unsent_count}
 use Rattle.aoe_history.specs.declared.entry.Entry.{Entry}
 use Rattle.aoe_history.specs.declared.entry.Entry.TheVariants.{Refused, Submitted}
-use Rattle.aoe_history.specs.Commands.{commands_of, host_after, log_of, tickets}
+use Rattle.aoe_history.specs.Commands.{host_after, log_of, tickets, Submission}
 use Rattle.aoe_history.specs.Groups.{submit_entry, submitted_as}
 use Rattle.aoe_history.specs.HostLaw.{IsRefused, IsSubmitted}
 use Rattle.aoe_history.specs.Lawful.{IsLawful}
 use Rattle.aoe_history.specs.Setup.{device_no, device_place, host_called, is_called, HostSetup, Setup}
-use Rattle.aoe_hosts.specs.Host.{IsSettled, NamedHost}
-use Rattle.aoe_hosts.proofs.Apart.{settled-apart}
+use Rattle.aoe_hosts.specs.Host.{Awaits, IsSettled, NamedHost}
+use Rattle.aoe_hosts.proofs.Apart.{awaits-settled, settled-apart}
 use Rattle.aoe_hosts.proofs.Called.{is-called, of-called}
 use Rattle.aoe_hosts.proofs.Commands.{about, about-after, about-kept, unsent-after}
 use Rattle.aoe_hosts.proofs.IdLemmas.{place-about}
@@ -25,6 +27,7 @@ use Rattle.aoe_initiator.specs.declared.device.Attached.{Attached}
 use Rattle.aoe_initiator.specs.declared.device.Device.{Device}
 use Rattle.aoe_initiator.specs.declared.op.Op.{Op}
 use Rattle.aoe_initiator.specs.declared.refusal.SubmitRefusal.{SubmitRefusal}
+use Rattle.aoe_initiator.specs.declared.refusal.SubmitRefusal.TheVariants.{NoMemory as NoRoom}
 use Rattle.aoe_initiator.specs.Host.{Host, IsSame, Matches}
 use Rattle.aoe_initiator.specs.HostLaw.{held_at, op_refusal, or_backlog, same_id, submit_refusal}
 use Rattle.aoe_initiator.specs.HostLog.{commands, entered_at, Event}
@@ -115,3 +118,86 @@ module _ (s : Setup) (host : HostSetup) (h : List Entry) (x : NamedHost) (dev : 
     ),
     settled-apart s host (Refused x.name refusal) h x refl y,
   )
+
+-- ---- what is taken down
+
+abbrev pub IsEntry : NamedHost → NamedHost → TargetId → Op → Entry → Type 0
+IsEntry x z dev op entry = (s : Setup) (host : HostSetup) (h : List Entry) → IsSettled s host h x → IsLawful s h
+    → (entry ≡ submitted_as s host h x.name dev op) × IsLawful s (entry ∷ h) × IsSettled s host (entry ∷ h) z
+
+abbrev pub Answer : Type 0
+Answer = Result Ticket (SubmitRefusal × Op)
+
+same-host : (a b : NamedHost) → a.name ≡ b.name → a.core ≡ b.core → a ≡ b
+same-host a b name core = ap (λ (k : Host). let n : NamedHost = record { name = a.name; core = k } in n) core ∙ ap (λ (l : ArrayVec ℕ). let n : NamedHost = record { name = l; core = b.core } in n) name
+
+not-refused : (o : Option SubmitRefusal) (t : Ticket) (op : Op) → IfSome o (λ r. let a : Answer = Ok t in a ≡ Err (r, op)) → o ≡ None
+not-refused None t op e = refl
+not-refused (Some r) t op e = absurd (cc)
+
+refused-as : (o : Option SubmitRefusal) (r : SubmitRefusal) (p op : Op) → IfSome o (λ q. let a : Answer = Err (r, p) in a ≡ Err (q, op)) → IfNone o (let e : SubmitRefusal × Op = (r, p) in e ≡ (NoRoom, op)) → r ≢ NoRoom → o ≡ Some r
+refused-as None r p op some none other = absurd (other (ap (λ (e : SubmitRefusal × Op). e.0) none))
+refused-as (Some q) r p op some none other =
+    let pair : SubmitRefusal × Op = (r, p) in
+    let said : SubmitRefusal × Op = (q, op) in
+    let is : pair ≡ said = cc in
+    ap (λ (e : SubmitRefusal × Op). Some e.0) (sym is)
+
+by-answer : (x z : NamedHost) (dev : TargetId) (device : DeviceNo) (op copy : Op) (n : ArrayVec ℕ) → IsHeldLaw → position (λ (d : Device). same_id d.about.id dev) x.core.devices ≡ Some device.0
+    → device.0 < length x.core.devices → CanSubmit op → copy ≡ op → n ≡ x.name → z.name ≡ x.name → (answer : Answer)
+    → IfSome (submit_refusal x.core device.0 op) (λ r. answer ≡ Err (r, op))
+    → IfNone (submit_refusal x.core device.0 op) (IfErr answer (λ e. e ≡ (NoRoom, op)))
+    → IfOk answer (λ t. t.0 ≡ x.core.last_ticket + 1)
+    → IfOk answer (λ t. (log : List Event) → Matches log x.core → Matches (Submits t device op ∷ log) z.core)
+    → IfOk answer (λ t. IsSame x.core z.core × (z.core.clock ≡ x.core.clock) × (z.core.last_ticket ≡ t.0) × (z.core.waiting ≡ x.core.waiting))
+    → OnErr answer (z.core ≡ x.core)
+    → (entry : Entry) → IfOk answer (λ t. entry ≡ Submitted n t.0 dev copy) → IfErr answer (λ e. (entry ≡ Refused n e.0) × (e.0 ≢ NoRoom)) → IsEntry x z dev op entry
+by-answer x z dev device op copy n law place inside can copied named name (Ok t) no_refusal memory next matches same unchanged entry is other s host h y lawful =
+    let is_entry : entry ≡ Submitted x.name t.0 dev op = is ∙ ap (λ (l : ArrayVec ℕ). Submitted l t.0 dev copy) named ∙ ap (λ (o : Op). Submitted x.name t.0 dev o) copied in
+    subst (λ (e : Entry). (e ≡ submitted_as s host h x.name dev op) × IsLawful s (e ∷ h) × IsSettled s host (e ∷ h) z) (sym is_entry)
+    (taken s host h x dev device op law y lawful place inside z t can (not-refused (submit_refusal x.core device.0 op) t op no_refusal) name same.0 same.1 same.2 same.3 next matches)
+by-answer x z dev device op copy n law place inside can copied named name (Err (r, p)) refusal memory next matches same unchanged entry is other s host h y lawful =
+    let is_entry : entry ≡ Refused x.name r = other.0 ∙ ap (λ (l : ArrayVec ℕ). Refused l r) named in
+    subst (λ (e : Entry). (e ≡ submitted_as s host h x.name dev op) × IsLawful s (e ∷ h) × IsSettled s host (e ∷ h) z) (sym is_entry)
+    (subst (λ (w : NamedHost). (Refused x.name r ≡ submitted_as s host h x.name dev op) × IsLawful s (Refused x.name r ∷ h) × IsSettled s host (Refused x.name r ∷ h) w) (sym (same-host z x name unchanged))
+    (refused s host h x dev device op law y lawful place inside r can (refused-as (submit_refusal x.core device.0 op) r p op refusal memory other.1)))
+
+-- what is taken down of an operation, by what the core answers
+pub entered : (x z : NamedHost) (dev : TargetId) (device : DeviceNo) (op copy : Op) (n : ArrayVec ℕ) → IsHeldLaw → position (λ (d : Device). same_id d.about.id dev) x.core.devices ≡ Some device.0
+    → device.0 < length x.core.devices → CanSubmit op → copy ≡ op → n ≡ x.name → z.name ≡ x.name → (answer : Answer)
+    → IfSome (submit_refusal x.core device.0 op) (λ r. answer ≡ Err (r, op))
+    → IfNone (submit_refusal x.core device.0 op) (IfErr answer (λ e. e ≡ (NoRoom, op)))
+    → IfOk answer (λ t. t.0 ≡ x.core.last_ticket + 1)
+    → IfOk answer (λ t. (log : List Event) → Matches log x.core → Matches (Submits t device op ∷ log) z.core)
+    → IfOk answer (λ t. IsSame x.core z.core × (z.core.clock ≡ x.core.clock) × (z.core.last_ticket ≡ t.0) × (z.core.waiting ≡ x.core.waiting))
+    → OnErr answer (z.core ≡ x.core)
+    → (result : Result Entry NoMemory)
+    → IfOk result (λ entry. IfOk answer (λ t. entry ≡ Submitted n t.0 dev copy))
+    → IfOk result (λ entry. IfErr answer (λ e. (entry ≡ Refused n e.0) × (e.0 ≢ NoRoom)))
+    → IfOk result (IsEntry x z dev op)
+entered x z dev device op copy n law place inside can copied named name said refusal memory next matches same unchanged (Ok entry) is other =
+    by-answer x z dev device op copy n law place inside can copied named name said refusal memory next matches same unchanged entry is other
+entered x z dev device op copy n law place inside can copied named name said refusal memory next matches same unchanged (Err e) is other = tt
+
+-- the devices stay, whatever the core answers
+pub devices-stay : (x z : Host) (answer : Answer) → IfOk answer (λ t. IsSame x z × (z.clock ≡ x.clock) × (z.last_ticket ≡ t.0) × (z.waiting ≡ x.waiting)) → OnErr answer (z ≡ x)
+    → map (λ (d : Device). d.about) z.devices ≡ map (λ (d : Device). d.about) x.devices
+devices-stay x z (Ok t) same unchanged = same.0.devices
+devices-stay x z (Err e) same unchanged = ap (λ (k : Host). map (λ (d : Device). d.about) k.devices) unchanged
+
+pub on-ok : {A E : Type 0} (r : Result A E) (Q P : Type 0) → (Q → P) → OnOk r Q → OnOk r P
+on-ok (Ok a) Q P f q = f q
+on-ok (Err e) Q P f q = tt
+
+-- what an event line submits is taken down, and the host awaits its turn
+pub submitted-with : (o : Option Submission) (s : Setup) (host : HostSetup) (h m : List Entry) (x z : NamedHost) (dev : TargetId) (op : Op) (entry : Entry)
+    → IsSomeAnd o (λ a. a.dev ≡ dev) → IfSome o (λ a. op ≡ a.op) → m ≡ entry ∷ h
+    → (entry ≡ submitted_as s host h x.name dev op) × IsLawful s (entry ∷ h) × IsSettled s host (entry ∷ h) z
+    → IfSome o (λ a. (m ≡ submitted_as s host h x.name a.dev a.op ∷ h) × IsLawful s m × Awaits s host None m z)
+submitted-with None s host h m x z dev op entry for asks is t = tt
+submitted-with (Some a) s host h m x z dev op entry for asks is t =
+    (
+      is ∙ ap (λ (e : Entry). e ∷ h) (t.0 ∙ ap (λ (d : TargetId). submitted_as s host h x.name d op) (sym for) ∙ ap (λ (o : Op). submitted_as s host h x.name a.dev o) asks),
+      subst (λ (l : List Entry). IsLawful s l) (sym is) t.1,
+      subst (λ (l : List Entry). Awaits s host None l z) (sym is) (awaits-settled s host (entry ∷ h) z t.2)
+    )

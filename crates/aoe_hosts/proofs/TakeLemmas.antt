@@ -1,5 +1,5 @@
 -- What a host takes, by what it keeps and by the history.
-use Rattle.std.proofs.Common.{ℕ, ◌≤◌, ◌≡◌, if◌then◌else◌, Bool, true, false, not, ◌&&◌, List, [], ◌∷◌, ◌++◌, Option, Some, None, refl, sym, subst, ap, ◌∙◌, arith, Contains}
+use Rattle.std.proofs.Common.{ℕ, ◌≡◌, if◌then◌else◌, Bool, true, false, not, ◌&&◌, List, [], ◌∷◌, ◌++◌, Option, Some, None, refl, sym, subst, ap, ◌∙◌, arith, Contains}
 use Rattle.std.specs.Prelude.{◌==◌, nat_le, length, drop, option_map, slice_get, slice_index, slice_index_or, All}
 use Rattle.std.specs.Option.{option_map_or}
 use Rattle.std.proofs.lemmas.Option.{get_or_from_slice_get, slice_get_within}
@@ -16,7 +16,7 @@ use Rattle.aoe_history.specs.declared.entry.Entry.TheVariants.{Took}
 use Rattle.aoe_history.specs.Commands.{commands_of, last_response, log_of, path_back, path_between, path_ended, submission, Submission}
 use Rattle.aoe_history.specs.Frames.{arriving, bytes_of, clock}
 use Rattle.aoe_history.specs.Groups.{Got, Takes}
-use Rattle.aoe_history.specs.HostLaw.{IsAnswered, IsResponse, IsStale}
+use Rattle.aoe_history.specs.HostLaw.{IsResponse, IsStale}
 use Rattle.aoe_history.specs.Lawful.{IsLawful, IsTaking}
 use Rattle.aoe_history.specs.Setup.{host_called, is_called, path_no, HostSetup, Setup}
 use Rattle.aoe_hosts.specs.Host.{is_told, log_with, Awaits, IsHost, IsSettled, NamedHost, TellsSame}
@@ -37,7 +37,7 @@ use Rattle.aoe_initiator.specs.declared.step.Taken.TheVariants.{Finished, Stale}
 use Rattle.aoe_initiator.specs.Host.{Host, IsSame, Matches}
 use Rattle.aoe_initiator.specs.HostLaw.{answer_to, CameOn}
 use Rattle.aoe_initiator.specs.HostLaw as core
-use Rattle.aoe_initiator.specs.HostLog.{commands, Event, HostCommand}
+use Rattle.aoe_initiator.specs.HostLog.{Event, HostCommand}
 use Rattle.aoe_initiator.specs.HostLog.Event.{Advances, Ends}
 use Rattle.aoe_initiator.specs.Response.{outcome_of}
 use Rattle.aoe_paths.specs.PathTable.{pair_at, IsDistinct}

@@ -1,7 +1,7 @@
 //! A host and its steps.
-ghost use Rattle.std.specs.Prelude.{ℕ, ◌≡◌, ◌≢◌, ◌+◌, ◌<◌, ◌≤◌, ◌^◌, ◌-◌, ◌∷◌, List, [], Option, None, Some, true, is_some, length, position, map, unwrap_or, IfOk, IfSome, IsSomeAnd, OnErr, OnOk};
+ghost use Rattle.std.specs.Prelude.{ℕ, ◌≡◌, ◌≢◌, ◌+◌, ◌<◌, ◌≤◌, ◌^◌, ◌-◌, ◌∷◌, List, [], Option, None, Some, true, is_some, length, position, map, unwrap_or, IfErr, IfOk, IfSome, IsSomeAnd, OnErr, OnOk};
 ghost use Rattle.aoe_history.specs.declared.entry.Entry.{Entry as Happened};
-ghost use Rattle.aoe_history.specs.declared.entry.Entry.TheVariants.{Refused, Took};
+ghost use Rattle.aoe_history.specs.declared.entry.Entry.TheVariants.{Refused, Submitted, Took};
 ghost use Rattle.aoe_history.specs.Frames.{arriving};
 ghost use Rattle.aoe_history.specs.Groups.{submitted_as, Got, Takes};
 ghost use Rattle.aoe_history.specs.Lawful.{IsLawful};
@@ -17,7 +17,7 @@ ghost use Rattle.aoe_run.specs.Run.{is_plain};
 ghost use Rattle.aoe_script.specs.Rules.{is_event};
 
 use crate::asks::op_of;
-use aoe_base::{DeviceNo, FrameNo, Millis, NoMemory, Ports, TargetId};
+use aoe_base::{DeviceNo, FrameNo, Millis, NoMemory, Ports, TargetId, Ticket};
 use aoe_history::Entry;
 use aoe_initiator::{Initiator, Op, SubmitRefusal, Taken, held_law};
 use aoe_run::Run;
@@ -56,17 +56,27 @@ fn place_of(ids: &[TargetId], dev: TargetId) -> Option<usize>
     ids.iter().position(|id| *id == dev)
 }
 
-/// What is taken down of a refusal. There is nothing to take down where there is no memory.
-fn refused(host: Name, refusal: SubmitRefusal) -> Result<Entry, NoMemory>
-    ensures entry { IfOk result (λ entry. entry ≡ Refused host refusal) }
-    ensures cause { OnOk result (refusal ≢ SubmitRefusal.NoMemory) }
+/// What is taken down of what the core answered, with a copy of the operation. There is nothing to
+/// take down where there is no memory.
+fn entry_of(
+    host: Name,
+    dev: TargetId,
+    copy: Op,
+    answer: Result<Ticket, (SubmitRefusal, Op)>,
+) -> Result<Entry, NoMemory>
+    ensures plain { IfOk result (λ entry. is_plain entry ≡ true) }
+    ensures taken { IfOk result (λ entry. IfOk answer (λ ticket. entry ≡ Submitted host ticket.0 dev copy)) }
+    ensures refused { IfOk result (λ entry. IfErr answer (λ e. (entry ≡ Refused host e.0) × (e.0 ≢ SubmitRefusal.NoMemory))) }
 {
-    match refusal {
-        SubmitRefusal::NoMemory => Err(NoMemory),
-        SubmitRefusal::OutOfRange
-        | SubmitRefusal::TooLong { .. }
-        | SubmitRefusal::Backlog { .. }
-        | SubmitRefusal::Empty => Ok(Entry::Refused { host, refusal }),
+    match answer {
+        Ok(ticket) => Ok(Entry::Submitted {
+            host,
+            ticket: ticket.0,
+            dev,
+            op: copy,
+        }),
+        Err((SubmitRefusal::NoMemory, _)) => Err(NoMemory),
+        Err((refusal, _)) => Ok(Entry::Refused { host, refusal }),
     }
 }
 
@@ -187,15 +197,8 @@ impl NamedHost {
         held_law();
         let device = self.device(dev);
         let host = name_of(&self.name);
-        match self.core.submit(device, op) {
-            Ok(ticket) => Ok(Entry::Submitted {
-                host,
-                ticket: ticket.0,
-                dev,
-                op: copy,
-            }),
-            Err((refusal, _)) => refused(host, refusal),
-        }
+        let answer = self.core.submit(device, op);
+        entry_of(host, dev, copy, answer)
     }
 
     /// Hands a frame to the core: whether it is stale.

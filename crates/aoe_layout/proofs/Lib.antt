@@ -1,0 +1,9 @@
+pub mod EventLemmas
+pub mod GoodLines
+pub mod HostLemmas
+pub mod LineLemmas
+pub mod ListLemmas
+pub mod RangeLemmas
+pub mod SetupLemmas
+pub mod SlotLemmas
+pub mod StationLemmas

@@ -1,12 +1,12 @@
 -- What the setup lines of a script declare, in the words of histories.
-use Rattle.std.specs.Prelude.{ℕ, ◌≡◌, Bool, List, [], ◌∷◌, Option, Some, None, option_map, option_and_then, unwrap_or, is_some, if◌then◌else◌}
+use Rattle.std.specs.Prelude.{ℕ, ◌≡◌, List, [], length, All, slice_get, Option, Some, None, option_map, option_and_then, unwrap_or, is_some, if◌then◌else◌}
 use Rattle.std.specs.List.{filter_map, find, flat_map}
 use Rattle.arrayvec.specs.ArrayVec.{ArrayVec}
 use Rattle.aoe_base.specs.declared.address.Mac.{Mac}
 use Rattle.aoe_initiator.specs.declared.device.Attached.{Attached}
 use Rattle.aoe_target.specs.Mounted.{station_of}
 use Rattle.aoe_history.specs.Groups.{Station}
-use Rattle.aoe_history.specs.Groups.Station as station
+use Rattle.aoe_history.specs.Groups.Station.{Shelf as ShelfStation, Host as HostStation}
 use Rattle.aoe_history.specs.Setup.{HostSetup, Setup, SlotSetup}
 use Rattle.aoe_script.specs.declared.setup.Setup.{Setup as Line}
 use Rattle.aoe_script.specs.declared.setup.Setup.TheVariants.{Life, Shelf, Slot, Host, Attach}
@@ -27,15 +27,17 @@ abbrev pub life_in : Line → Option ℕ
 life_in (Life ms) = Some ms
 life_in line = None
 
+-- a slot of the shelf with this number, these ports and this mtu
+abbrev pub slot_with : (major : ℕ) → List Mac → (mtu minor sectors : ℕ) → SlotSetup
+slot_with major ports mtu minor sectors = record { station = station_of record { major = major; minor = minor } ports mtu sectors; cache = None }
+
 -- a slot line, where its shelf has this number, these ports and this mtu
 abbrev pub slot_at : ℕ → List Mac → ℕ → Line → Option SlotSetup
-slot_at major ports mtu (Slot shelf minor sectors) =
-    Some (record { station = station_of record { major = major; minor = minor } ports mtu sectors; cache = None })
+slot_at major ports mtu (Slot shelf minor sectors) = Some (slot_with major ports mtu minor sectors)
 slot_at major ports mtu line = None
 
 abbrev pub slot_of_shelf : ArrayVec ℕ → ℕ → List Mac → ℕ → Line → Option SlotSetup
-slot_of_shelf name major ports mtu (Slot shelf minor sectors) =
-    if same shelf name then slot_at major ports mtu (Slot shelf minor sectors) else None
+slot_of_shelf name major ports mtu (Slot shelf minor sectors) = if same shelf name then Some (slot_with major ports mtu minor sectors) else None
 slot_of_shelf name major ports mtu line = None
 
 -- the slots of a shelf, in the order of their lines
@@ -60,14 +62,21 @@ abbrev pub attached_to : List Line → ArrayVec ℕ → Line → Option Attached
 attached_to lines host (Attach other shelf minor) = if same other host then option_map about (slot_named lines shelf minor) else None
 attached_to lines host line = None
 
-abbrev pub host_in : List Line → Line → Option HostSetup
-host_in lines (Host name ports room dead) = Some (record {
+-- the devices of a host, in the order of their lines
+abbrev pub devices_of : List Line → ArrayVec ℕ → List Attached
+devices_of lines host = filter_map (attached_to lines host) lines
+
+abbrev pub host_of : List Line → ArrayVec ℕ → List Mac → (room dead : Option ℕ) → HostSetup
+host_of lines name ports room dead = record {
   name = name.items;
-  ports = ports.items;
+  ports = ports;
   room = unwrap_or room default_room;
   dead = unwrap_or dead default_dead;
-  devices = filter_map (attached_to lines name) lines;
-})
+  devices = devices_of lines name;
+}
+
+abbrev pub host_in : List Line → Line → Option HostSetup
+host_in lines (Host name ports room dead) = Some (host_of lines name ports.items room dead)
 host_in lines line = None
 
 -- what setup lines declare: the slots stand by their shelves, and shelves, slots and hosts in the order of their lines
@@ -78,6 +87,16 @@ setup_of lines = record {
   slots = flat_map (slots_of_shelf lines) lines;
 }
 
+-- the addresses of a line
+abbrev pub addresses_in : Line → List Mac
+addresses_in (Shelf name major ports mtu) = ports.items
+addresses_in (Host name ports room dead) = ports.items
+addresses_in line = []
+
+-- each address of the lines has six bytes
+pub record HasMacs (lines : List Line) : Type 0 where
+  pub six : (k : ℕ) (line : Line) → slice_get lines k ≡ Some line → All (λ mac. length mac.0 ≡ 6) (addresses_in line)
+
 -- a station with its name and its ports
 pub record Placed : Type 0 where
   pub name : ArrayVec ℕ
@@ -85,8 +104,8 @@ pub record Placed : Type 0 where
   pub station : Station
 
 abbrev pub placed : Line → Option Placed
-placed (Shelf name major ports mtu) = Some (record { name = name; ports = ports.items; station = station.Shelf major })
-placed (Host name ports room dead) = Some (record { name = name; ports = ports.items; station = station.Host name })
+placed (Shelf name major ports mtu) = Some (record { name = name; ports = ports.items; station = ShelfStation major })
+placed (Host name ports room dead) = Some (record { name = name; ports = ports.items; station = HostStation name })
 placed line = None
 
 -- all stations, in the order of their lines

@@ -1,11 +1,26 @@
 //! What holds of the stations that a script declares.
-ghost use Rattle.std.specs.Prelude.{List};
+ghost use Rattle.std.specs.Prelude.{◌≡◌, List, None, true};
 ghost use Rattle.aoe_history.specs.Setup.{IsSetup};
-ghost use Rattle.aoe_layout.specs.Layout.{setup_of};
+ghost use Rattle.aoe_layout.specs.Layout.{setup_of, HasMacs};
+ghost use Rattle.aoe_layout.specs.Stations.{CanCome, HasHosts, HasRanges, HasShelves, HasStations};
+ghost use Rattle.aoe_script.specs.declared.event.Event.{Event};
 ghost use Rattle.aoe_script.specs.Lines.{IsScript, ScriptLines};
+ghost use Rattle.aoe_script.specs.Rules.{event_why, is_event};
 
 /// A law: the setup lines of every script declare stations of which each has an address and a name
-/// of its own, and attach hosts to slots that are there.
+/// of its own, and attach hosts to slots that are there. That an address has six bytes is known
+/// from its type alone, where code reads it.
 pub fn layout_law()
-    ensures setup { (script : ScriptLines) → IsScript script → IsSetup (setup_of script.setups) }
+    ensures setup { (script : ScriptLines) → IsScript script → HasMacs script.setups → IsSetup (setup_of script.setups) }
+    ensures hosts { (script : ScriptLines) → IsScript script → HasHosts script.setups (setup_of script.setups) }
+    ensures shelves { (script : ScriptLines) → IsScript script → HasShelves script.setups (setup_of script.setups) }
+    ensures ranges { (script : ScriptLines) → IsScript script → HasRanges (setup_of script.setups) }
+    ensures stations { (script : ScriptLines) → IsScript script → HasStations script.setups }
+{}
+
+/// A law: an event line in which nothing is wrong behind the setup lines of a script speaks of
+/// stations and devices that are there, and its words are in their ranges.
+pub fn events_law()
+    ensures comes { (script : ScriptLines) (event : Event) → IsScript script → event_why script.setups event ≡ None → CanCome script.setups (setup_of script.setups) event }
+    ensures ranges { (script : ScriptLines) (event : Event) → event_why script.setups event ≡ None → is_event event ≡ true }
 {}

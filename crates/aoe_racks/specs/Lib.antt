@@ -1,1 +1,4 @@
 pub mod Rack
+pub mod Arming
+pub mod Arrival
+pub mod Crash

@@ -1,6 +1,7 @@
 //! The clock, the network and the history of a run.
-ghost use Rattle.std.specs.Prelude.{◌≡◌, ◌≢◌, ◌+◌, ◌<◌, ◌≤◌, ◌^◌, [], length, option_map, true, IfOk, OnErr, OnOk, Err};
+ghost use Rattle.std.specs.Prelude.{◌≡◌, ◌≢◌, ◌+◌, ◌<◌, ◌≤◌, ◌^◌, List, [], ◌∷◌, length, option_map, true, IfOk, OnErr, OnOk, Err};
 ghost use Rattle.aoe_net.specs.Network.{total_bytes, IsFull};
+ghost use Rattle.aoe_history.specs.declared.entry.Entry.{Entry};
 ghost use Rattle.aoe_history.specs.declared.entry.Entry.TheVariants.{Sent, Injected, Arrived, Ticked};
 ghost use Rattle.aoe_history.specs.declared.entry.Fate.TheVariants.{Replied};
 ghost use Rattle.aoe_history.specs.Frames.{arriving, clock, frames, next_number};
@@ -32,6 +33,13 @@ impl Model for Run {
     ghost view = { λ r. record { life = r.life.0; entries = r.history } };
 
     ghost invariant = { λ r. Carries r.life.0 r.clock.0 r.history r.net };
+}
+
+/// Takes back what was pushed last.
+fn take_back(history: &mut History)
+    ensures { (last : Entry) (before : List Entry) → history.old ≡ last ∷ before → history.new ≡ before }
+{
+    let _ = history.pop();
 }
 
 impl Run {
@@ -125,7 +133,7 @@ impl Run {
         match self.net.send(self.clock, frame) {
             Ok(_) => Ok(()),
             Err(refusal) => {
-                let _ = self.history.pop();
+                take_back(&mut self.history);
                 Err(refusal)
             }
         }

@@ -1,0 +1,11 @@
+use Rattle.std.proofs.Common.{ap}
+use Rattle.aoe_hosts.specs.Asks.{submission_in}
+use Rattle.aoe_hosts.proofs.SubmitLemmas.{on-ok, submitted-with}
+use Rattle.aoe_hosts.proofs.host.NamedHost.submit.Goals as goal
+use Rattle.aoe_run.specs.Run.{Recorded}
+
+pub returns-clause-ok : goal.returns-clause-ok
+returns-clause-ok c = on-ok c.note.result _ _
+    (λ is s host y lawful. submitted-with (submission_in c.args.event.now) s host c.args.run.now.entries c.note.new.self.entries c.args.self.now c.enter.new.self c.args.dev c.in_ok-op.op c.in_ok-entry.entry
+    c.requires.submits c.in_ok-op.ensures.op (ap (λ (r : Recorded). r.entries) is) (c.in_ok-entry.ensures.ok s host c.args.run.now.entries y lawful))
+    c.note.ensures.ok

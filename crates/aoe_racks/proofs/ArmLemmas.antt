@@ -1,0 +1,172 @@
+-- A disk of a slot is armed: its stretch begins.
+use Rattle.std.proofs.Common.{◌≡◌, ◌≢◌, ◌<◌, ◌≤◌, ◌-◌, ◌*◌, ◌&&◌, ◌⊎◌, inl, inr, ℕ, Bool, true, false, List, ◌∷◌, length, Option, Some, None, is_some, refl, sym, ap, subst, ◌∙◌, arith}
+use Rattle.std.proofs.lemmas.List.{length-set}
+use Rattle.std.proofs.lemmas.Option.{same_Some, slice_get_within}
+use Rattle.std.specs.Prelude.{slice_get, IfNone, IfSome, IsSomeAnd}
+use Rattle.std.specs.Option.{option_map}
+use Rattle.aoe_base.specs.declared.address.TargetId.{TargetId}
+use Rattle.aoe_disk.specs.Arming.{number_of, Arms, ArmsTo}
+use Rattle.aoe_disk.specs.Memory.{schedule_of, state_of, Memory}
+use Rattle.aoe_disk.specs.State.{BothTell, Contents, Schedule}
+use Rattle.aoe_disk.specs.declared.loss.Loss.{Loss}
+use Rattle.aoe_keep.specs.Found.{Finds}
+use Rattle.aoe_keep.specs.Keep.{Kept}
+use Rattle.aoe_lists.specs.Settings.{Settings}
+use Rattle.aoe_shelf.specs.Slot.{ChangesAt}
+use Rattle.aoe_shelf.proofs.SlotLemmas.{get-after, get-other, length-changed}
+use Rattle.aoe_target.specs.Device.{Holds, MayStand, State}
+use Rattle.aoe_target.specs.Mounted.{device_of, Mounted}
+use Rattle.aoe_target.specs.Sectors.{sectors_of, Agrees}
+use Rattle.aoe_history.specs.declared.entry.Entry.{Entry}
+use Rattle.aoe_history.specs.declared.entry.Entry.TheVariants.{Armed}
+use Rattle.aoe_history.specs.Setup.{is_slot, SlotSetup}
+use Rattle.aoe_history.specs.ShelfLaw.{same_disk, stretch, Stretch}
+use Rattle.aoe_history.specs.Slots.{state_after}
+use Rattle.aoe_script.specs.declared.event.Which.{Which}
+use Rattle.aoe_script.specs.declared.event.Which.TheVariants.{Store, Keep}
+use Rattle.aoe_racks.specs.declared.rack.Stops.{Stops}
+use Rattle.aoe_racks.specs.Arming.{arm_of, with_stop, ArmsDisk}
+use Rattle.aoe_racks.specs.Rack.{calls_per, stop_in, AreApart, IsDue, IsServing, MemoryRack, Serves}
+use Rattle.aoe_racks.proofs.Apart.{if-false, if-true, says-armed, serves-still, there}
+use Rattle.aoe_racks.proofs.ArrivalLemmas.{at-place, same-or}
+use Rattle.aoe_racks.proofs.RackLemmas.{IsSameTarget}
+use Rattle.aoe_racks.proofs.SlotLemmas.{same-self}
+
+-- the stretch of a disk that was just armed
+abbrev pub begun : ℕ → Option Loss → Stretch
+begun k mode = record { k = k; mode = mode; frames = 0; struck = false }
+
+number-is : (k : ℕ) (mode : Option Loss) → number_of (arm_of k mode) ≡ k
+number-is k None = refl
+number-is k (Some how) = refl
+
+some-of : (o : Option ℕ) → IsSomeAnd o (λ n. n ≤ 1) → is_some o ≡ true
+some-of None p = absurd p
+some-of (Some n) p = refl
+
+-- a disk just armed
+due-begun : (which : Which) (k : ℕ) (mode : Option Loss) (m n : Memory) → 0 < k → ArmsTo (arm_of k mode) (state_of m) (state_of n) → IsDue which (Some (begun k mode)) (schedule_of n.arming n.out)
+due-begun which k mode m n first a = (counts mode a.schedule, inl (record { before = none which; due = ap Some (due a.schedule ∙ ap Some (number-is k mode ∙ whole which)) }))
+  where
+    none : (w : Which) → calls_per w * 0 < k
+    none Store = omega (arith, first)
+    none Keep = omega (arith, first)
+
+    whole : (w : Which) → k ≡ k - calls_per w * 0
+    whole Store = omega arith
+    whole Keep = omega arith
+
+    due : Arms (arm_of k mode) (schedule_of m.arming m.out) (schedule_of n.arming n.out) → option_map number_of n.arming ≡ Some (number_of (arm_of k mode))
+    due s = s.due
+
+    counts : (o : Option Loss) → Arms (arm_of k o) (schedule_of m.arming m.out) (schedule_of n.arming n.out) → IfNone o (is_some (schedule_of n.arming n.out).armed ≡ true)
+    counts None s = some-of (schedule_of n.arming n.out).armed s.armed
+    counts (Some how) s = tt
+
+and-true : (a b : Bool) → a ≡ true → b ≡ true → (a && b) ≡ true
+and-true true b p q = q
+and-true false b p q = p
+
+and-other : (a b : Bool) → b ≡ false → (a && b) ≡ false
+and-other true b q = q
+and-other false b q = refl
+
+module _ (slot : SlotSetup) (h : List Entry) (which disk : Which) (k : ℕ) (mode : Option Loss) where
+  stretch-begun : same_disk disk which ≡ true → stretch disk slot (Armed slot.station.id which k mode ∷ h) ≡ Some (begun k mode)
+  stretch-begun e = if-true (is_slot slot slot.station.id && same_disk disk which) (Some (begun k mode)) (stretch disk slot h)
+      (and-true (is_slot slot slot.station.id) (same_disk disk which) (same-self slot.station.id) e)
+
+  stretch-other : same_disk disk which ≡ false → stretch disk slot (Armed slot.station.id which k mode ∷ h) ≡ stretch disk slot h
+  stretch-other e = if-false (is_slot slot slot.station.id && same_disk disk which) (Some (begun k mode)) (stretch disk slot h)
+      (and-other (is_slot slot slot.station.id) (same_disk disk which) e)
+
+-- the store's disk is armed
+store-armed : (slot : SlotSetup) (h : List Entry) (k : ℕ) (mode : Option Loss) (t : Mounted Memory Memory) (m : Memory) (stops : Stops) → 0 < k → IsServing slot h t stops
+    → ArmsTo (arm_of k mode) (state_of t.store) (state_of m) → IsServing slot (Armed slot.station.id Store k mode ∷ h) (record t { store = m }) (record stops { store = mode })
+store-armed slot h k mode t m stops first s a =
+    let mine = stretch-begun slot h Store Store k mode refl in
+    let other = stretch-other slot h Store Keep k mode refl in
+    record {
+      station = s.station;
+      direct = s.direct;
+      holds = record {
+        lists = s.holds.lists;
+        crash = s.holds.crash;
+        sectors = subst (λ (o : Option Contents). BothTell Agrees (option_map sectors_of o) (state_after slot h).sectors) (sym a.contents) s.holds.sectors;
+      };
+      store_due = subst (λ (o : Option Stretch). IsDue Store o (schedule_of m.arming m.out)) (sym mine) (due-begun Store k mode t.store m first a);
+      keep_due = subst (λ (o : Option Stretch). IsDue Keep o (schedule_of t.keep.disk.arming t.keep.disk.out)) (sym other) s.keep_due;
+      store_stop = ap stop_in (sym mine);
+      keep_stop = s.keep_stop ∙ ap stop_in (sym other);
+    }
+
+-- that of the keep is
+keep-armed : (slot : SlotSetup) (h : List Entry) (k : ℕ) (mode : Option Loss) (t : Mounted Memory Memory) (m : Memory) (lists : Settings) (stops : Stops) → 0 < k → IsServing slot h t stops → lists ≡ t.keep.lists
+    → ArmsTo (arm_of k mode) (state_of t.keep.disk) (state_of m)
+    → IsServing slot (Armed slot.station.id Keep k mode ∷ h) (record t { keep = record { disk = m; lists = lists } }) (record stops { keep = mode })
+keep-armed slot h k mode t m lists stops first s same a =
+    let mine = stretch-begun slot h Keep Keep k mode refl in
+    let other = stretch-other slot h Keep Store k mode refl in
+    record {
+      station = s.station;
+      direct = s.direct;
+      holds = record {
+        lists = same ∙ s.holds.lists;
+        crash = subst (λ (o : Option Contents). IfSome o (Finds (MayStand (state_after slot h)))) (sym a.contents) s.holds.crash;
+        sectors = s.holds.sectors;
+      };
+      store_due = subst (λ (o : Option Stretch). IsDue Store o (schedule_of t.store.arming t.store.out)) (sym other) s.store_due;
+      keep_due = subst (λ (o : Option Stretch). IsDue Keep o (schedule_of m.arming m.out)) (sym mine) (due-begun Keep k mode t.keep.disk m first a);
+      store_stop = s.store_stop ∙ ap stop_in (sym other);
+      keep_stop = ap stop_in (sym mine);
+    }
+
+armed : (which : Which) (slot : SlotSetup) (h : List Entry) (k : ℕ) (mode : Option Loss) (t u : Mounted Memory Memory) (stops : Stops) → 0 < k → IsServing slot h t stops → ArmsDisk which (arm_of k mode) t u
+    → IsServing slot (Armed slot.station.id which k mode ∷ h) u (with_stop which mode stops)
+armed Store slot h k mode t u stops first s a =
+    subst (λ (w : Mounted Memory Memory). IsServing slot (Armed slot.station.id Store k mode ∷ h) w (record stops { store = mode })) (sym a.rest) (store-armed slot h k mode t u.store stops first s a.arms)
+armed Keep slot h k mode t u stops first s a =
+    subst (λ (w : Mounted Memory Memory). IsServing slot (Armed slot.station.id Keep k mode ∷ h) w (record stops { keep = mode })) (sym a.rest)
+    (keep-armed slot h k mode t u.keep.disk u.keep.lists stops first s a.lists a.arms)
+
+-- a target that is armed keeps its name and its size
+pub armed-same : (which : Which) (k : ℕ) (mode : Option Loss) (t u : Mounted Memory Memory) → ArmsDisk which (arm_of k mode) t u → IsSameTarget t u
+armed-same Store k mode t u a = record { station = ap (λ (z : Mounted Memory Memory). z.station) a.rest; sectors = a.arms.sectors }
+armed-same Keep k mode t u a = record { station = ap (λ (z : Mounted Memory Memory). z.station) a.rest; sectors = ap (λ (z : Mounted Memory Memory). (state_of z.store).sectors) a.rest }
+
+-- ONE SLOT OF A SHELF
+
+module _ (slots : List SlotSetup) (apart : AreApart slots) (i : ℕ) (h : List Entry) (which : Which) (k : ℕ) (mode : Option Loss) (first : 0 < k) (x y : MemoryRack) (stops : Stops) (at : slice_get x.stops i ≡ Some stops)
+    (c : ChangesAt i (ArmsDisk which (arm_of k mode)) x.shelf.targets y.shelf.targets) (d : ChangesAt i (λ a b. b ≡ with_stop which mode a) x.stops y.stops) (s : Serves slots h x) where
+  module _ (slot : SlotSetup) (found : slice_get slots i ≡ Some slot) where
+    here : IsServing slot (Armed slot.station.id which k mode ∷ h) c.after d.after
+    here =
+        let stop : with_stop which mode d.before ≡ d.after = sym d.change in
+        subst (λ (w : Stops). IsServing slot (Armed slot.station.id which k mode ∷ h) c.after w) stop
+        (armed which slot h k mode c.before c.after d.before first (s.each i slot c.before d.before found c.found d.found) c.change)
+
+    serves-armed : Serves slots (Armed slot.station.id which k mode ∷ h) y
+    serves-armed = record {
+      count = length-changed i (ArmsDisk which (arm_of k mode)) x.shelf.targets y.shelf.targets c ∙ s.count;
+      stops = length-changed i _ x.stops y.stops d ∙ s.stops;
+      each = λ j other t last a b e. elim (same-or j i) [
+        | inl is ↦
+            subst (λ (w : SlotSetup). IsServing w (Armed slot.station.id which k mode ∷ h) t last) (at-place slots i j slot other is found a)
+            (subst (λ (w : Mounted Memory Memory). IsServing slot (Armed slot.station.id which k mode ∷ h) w last) (at-place y.shelf.targets i j c.after t is (get-after i (ArmsDisk which (arm_of k mode)) x.shelf.targets y.shelf.targets c) b)
+            (subst (λ (w : Stops). IsServing slot (Armed slot.station.id which k mode ∷ h) c.after w) (at-place y.stops i j d.after last is (get-after i _ x.stops y.stops d) e) here))
+        | inr ne ↦ serves-still other h (Armed slot.station.id which k mode ∷ h) t last (says-armed other h slot.station.id (apart j i other slot a found ne) which k mode)
+            (s.each j other t last a (sym (get-other i (ArmsDisk which (arm_of k mode)) x.shelf.targets y.shelf.targets c j ne) ∙ b) (sym (get-other i _ x.stops y.stops d j ne) ∙ e))
+      ];
+    }
+
+    -- the name that the target has in code
+    named : (dev : TargetId) → IsSomeAnd (slice_get x.shelf.targets i) (λ t. dev ≡ t.station.id) → slot.station.id ≡ dev
+    named dev p =
+        let mine : dev ≡ c.before.station.id = subst (λ (o : Option (Mounted Memory Memory)). IsSomeAnd o (λ t. dev ≡ t.station.id)) c.found p in
+        sym (mine ∙ ap (λ z. z.id) (s.each i slot c.before d.before found c.found d.found).station)
+
+  -- the disks of the shelf are then what the history says, of which the arming is the latest entry
+  pub shelf-armed : (dev : TargetId) → IsSomeAnd (slice_get x.shelf.targets i) (λ t. dev ≡ t.station.id) → Serves slots (Armed dev which k mode ∷ h) y
+  shelf-armed dev p =
+      let slot = there slots i (omega (arith, slice_get_within x.shelf.targets i c.before c.found, s.count)) in
+      subst (λ (z : TargetId). Serves slots (Armed z which k mode ∷ h) y) (named slot.0 slot.1 dev p) (serves-armed slot.0 slot.1)

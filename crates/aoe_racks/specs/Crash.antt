@@ -1,0 +1,41 @@
+-- What a loss of power leaves of a shelf over disks in memory.
+use Rattle.std.specs.Prelude.{ℕ, ◌≡◌, List, [], ◌∷◌, length, slice_get, Some}
+use Rattle.aoe_disk.specs.Loss.{IsLeft}
+use Rattle.aoe_disk.specs.Memory.{contents_of, fresh, state_of, Memory}
+use Rattle.aoe_disk.specs.State.{CanLeave}
+use Rattle.aoe_disk.specs.declared.loss.Loss.{Loss}
+use Rattle.aoe_keep.specs.Found.{AlwaysFinds}
+use Rattle.aoe_keep.specs.Keep.{Kept, Mounts}
+use Rattle.aoe_target.specs.Mounted.{Mounted}
+use Rattle.aoe_history.specs.declared.entry.Entry.{Entry}
+use Rattle.aoe_history.specs.declared.entry.Entry.TheVariants.{Crashed}
+
+-- a disk that lost its power, opened again: as many sectors, none of them loose, and nothing armed
+pub record Loses (how : Loss) (old new : Memory) : Type 0 where
+  pub image : IsLeft how old.bytes old.settled old.loose new.bytes
+  pub allowed : CanLeave (contents_of old) new.bytes
+  pub rest : new ≡ record (fresh new.bytes) { faults = old.faults; calls = old.calls }
+  pub sectors : length new.loose ≡ length old.loose
+
+-- the lists that stand on a disk of which no call fails
+pub record IsMounted (disk : Memory) (k : Kept Memory) : Type 0 where
+  pub mounts : Mounts (state_of disk) (state_of k.disk) k.lists
+  pub finds : AlwaysFinds (state_of k.disk) k.lists
+
+-- a target that lost its power and was mounted again
+pub record Restarts (how : Loss) (old new : Mounted Memory Memory) : Type 0 where
+  pub station : new.station ≡ old.station
+  pub store : Loses how old.store new.store
+  pub disk : Memory
+  pub keep : Loses how old.keep.disk disk
+  pub mounted : IsMounted disk new.keep
+
+-- and each of a shelf
+pub record RestartEach (how : Loss) (old new : List (Mounted Memory Memory)) : Type 0 where
+  pub count : length new ≡ length old
+  pub each : (i : ℕ) (a b : Mounted Memory Memory) → slice_get old i ≡ Some a → slice_get new i ≡ Some b → Restarts how a b
+
+-- what a history has of it, in the order of the targets
+abbrev pub with_crashes : Loss → List (Mounted Memory Memory) → List Entry → List Entry
+with_crashes how [] h = h
+with_crashes how (t ∷ targets) h = with_crashes how targets (Crashed t.station.id t.keep.lists how ∷ h)

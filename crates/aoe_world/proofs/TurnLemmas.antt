@@ -1,0 +1,142 @@
+-- The turns of hosts, one after another.
+use Rattle.std.proofs.Common.{ℕ, zero, suc, ◌≡◌, ◌≢◌, ◌≤◌, ◌<◌, Bool, true, false, not, List, [], ◌∷◌, length, Option, Some, None, refl, sym, ap, subst, ◌∙◌, arith, inl, inr, take}
+use Rattle.std.specs.Prelude.{slice_get, slice_set}
+use Rattle.std.proofs.lemmas.Bool.{cases_lt}
+use Rattle.std.proofs.lemmas.Option.{same_Some, slice_get_within}
+use Rattle.arrayvec.specs.ArrayVec.{ArrayVec}
+use Rattle.aoe_history.specs.declared.entry.Entry.{Entry}
+use Rattle.aoe_history.specs.Groups.{Got, Turn, Turns, TurnSome, TurnsSome}
+use Rattle.aoe_history.specs.Lawful.{IsLawful}
+use Rattle.aoe_history.specs.Setup.{is_called, shelf_of, HostSetup, Setup}
+use Rattle.aoe_hosts.proofs.Apart.{awaits-apart, settled-apart}
+use Rattle.aoe_hosts.specs.Host.{is_apart as is_apart_of_host, Awaits, IsSettled, NamedHost}
+use Rattle.aoe_racks.proofs.Apart.{serves-apart}
+use Rattle.aoe_racks.specs.Rack.{is_apart as is_apart_of_slots, MemoryRack, Serves}
+use Rattle.aoe_world.proofs.AddsLemmas.{adds-keep, turn-adds, Adds, TellsOf}
+use Rattle.aoe_world.specs.Stage.{AllServe, AllSettled, HadTurns, IsNetwork}
+
+-- LISTS
+
+pub there : {X : Type 0} (xs : List X) (i : ℕ) → i < length xs → (x : X) × (slice_get xs i ≡ Some x)
+there [] i lt = absurd (omega (arith, lt))
+there (x ∷ xs) zero lt = (x, refl)
+there (x ∷ xs) (suc i) lt = there xs i (omega (arith, lt))
+
+pub get-set : {X : Type 0} (xs : List X) (i j : ℕ) (y : X) → j ≢ i → slice_get (slice_set xs i y) j ≡ slice_get xs j
+get-set [] i j y apart = refl
+get-set (x ∷ xs) zero zero y apart = absurd (apart refl)
+get-set (x ∷ xs) zero (suc j) y apart = refl
+get-set (x ∷ xs) (suc i) zero y apart = refl
+get-set (x ∷ xs) (suc i) (suc j) y apart = get-set xs i j y (λ same. apart (ap suc same))
+
+pub set-get : {X : Type 0} (xs : List X) (i : ℕ) (x y : X) → slice_get xs i ≡ Some x → slice_get (slice_set xs i y) i ≡ Some y
+set-get [] i x y e = absurd (cc)
+set-get (z ∷ xs) zero x y e = refl
+set-get (z ∷ xs) (suc i) x y e = set-get xs i x y e
+
+pub length-set : {X : Type 0} (xs : List X) (i : ℕ) (y : X) → length (slice_set xs i y) ≡ length xs
+length-set [] i y = refl
+length-set (x ∷ xs) zero y = refl
+length-set (x ∷ xs) (suc i) y = ap suc (length-set xs i y)
+
+-- TURNS
+
+-- one more turn, behind those of the hosts before
+pub turns-more : (s : Setup) (hosts : List HostSetup) (i : ℕ) (host : HostSetup) (got : Option Got) (h n m : List Entry) → slice_get hosts i ≡ Some host
+    → Turns s (take i hosts) got h n → Turn s host got n m → Turns s (take (suc i) hosts) got h m
+turns-more s [] i host got h n m e before turn = absurd (cc)
+turns-more s (o ∷ hosts) zero host got h n m e before turn =
+    let is : o ≡ host = same_Some o host e in
+    let at : n ≡ h = before in
+    (m, subst (λ (z : HostSetup). Turn s z got h m) (sym is) (subst (λ k. Turn s host got k m) at turn), refl)
+turns-more s (o ∷ hosts) (suc i) host got h n m e (k, first, rest) turn = (k, first, turns-more s hosts i host got k n m e rest turn)
+
+-- a turn that came in part, behind those of the hosts before
+pub turns-some : (s : Setup) (hosts : List HostSetup) (i : ℕ) (host : HostSetup) (got : Option Got) (h n m : List Entry) → slice_get hosts i ≡ Some host
+    → Turns s (take i hosts) got h n → TurnSome host got n m → TurnsSome s hosts got h m
+turns-some s [] i host got h n m e before turn = absurd (cc)
+turns-some s (o ∷ hosts) zero host got h n m e before turn =
+    let is : o ≡ host = same_Some o host e in
+    let at : n ≡ h = before in
+    inl (subst (λ (z : HostSetup). TurnSome z got h m) (sym is) (subst (λ k. TurnSome host got k m) at turn))
+turns-some s (o ∷ hosts) (suc i) host got h n m e (k, first, rest) turn = inr (k, first, turns-some s hosts i host got k n m e rest turn)
+
+take-all : {X : Type 0} (xs : List X) → take (length xs) xs ≡ xs
+take-all [] = refl
+take-all (x ∷ xs) = ap (λ ys. x ∷ ys) (take-all xs)
+
+pub turns-all : (s : Setup) (hosts : List HostSetup) (i : ℕ) (got : Option Got) (h m : List Entry) → i ≡ length hosts → Turns s (take i hosts) got h m → Turns s hosts got h m
+turns-all s hosts i got h m e turns = subst (λ hs. Turns s hs got h m) (ap (λ n. take n hosts) e ∙ take-all hosts) turns
+
+-- WHAT A TURN LEAVES OF THE OTHERS
+
+not-false : (b : Bool) → b ≡ false → not b ≡ true
+not-false false e = refl
+not-false true e = absurd (cc)
+
+-- what a host tells says nothing of another host
+pub apart-hosts : (s : Setup) (majors : List ℕ) (i j : ℕ) (a b : HostSetup) → IsNetwork s majors → slice_get s.hosts i ≡ Some a → slice_get s.hosts j ≡ Some b → i ≢ j
+    → TellsOf (is_apart_of_host b) a
+apart-hosts s majors i j a b net ea eb apart = record {
+  done = λ name ticket outcome called. not-false (is_called b name) (net.names i j a b name ea eb apart called);
+  sent = λ name ticket number bytes called. not-false (is_called b name) (net.names i j a b name ea eb apart called);
+}
+
+-- nor of a shelf
+pub apart-slots : (major : ℕ) (s : Setup) (a : HostSetup) → TellsOf (is_apart_of_slots (shelf_of s major)) a
+apart-slots major s a = record { done = λ name ticket outcome called. refl; sent = λ name ticket number bytes called. refl }
+
+pub settled-adds : (s : Setup) (host : HostSetup) (x : NamedHost) (h m : List Entry) → Adds (is_apart_of_host host) h m → IsSettled s host h x → IsSettled s host m x
+settled-adds s host x h m a k = adds-keep (is_apart_of_host host) (λ n. IsSettled s host n x) (λ e n t z. settled-apart s host n e x t z) h m a k
+
+pub awaits-adds : (s : Setup) (host : HostSetup) (got : Option Got) (x : NamedHost) (h m : List Entry) → Adds (is_apart_of_host host) h m → Awaits s host got h x → Awaits s host got m x
+awaits-adds s host got x h m a k = adds-keep (is_apart_of_host host) (λ n. Awaits s host got n x) (λ e n t z. awaits-apart s host got n e x t z) h m a k
+
+pub serves-adds : (slots : _) (x : MemoryRack) (h m : List Entry) → Adds (is_apart_of_slots slots) h m → Serves slots h x → Serves slots m x
+serves-adds slots x h m a k = adds-keep (is_apart_of_slots slots) (λ n. Serves slots n x) (λ e n t z. serves-apart slots e n x t z) h m a k
+
+module _ (s : Setup) (majors : List ℕ) (got : Option Got) (i : ℕ) (host : HostSetup) (x : NamedHost) (hosts : List NamedHost) (h m : List Entry) (net : IsNetwork s majors) (at : slice_get s.hosts i ≡ Some host) (turn : Turn s host got h m) (done : IsSettled s host m x) where
+  -- the i-th host had its turn, and the others are as they were
+  pub one-more : HadTurns s got h i hosts → HadTurns s got m (suc i) (slice_set hosts i x)
+  one-more k = record {
+    count = length-set hosts i x ∙ k.count;
+    settled = λ j other y ej ey below.
+        elim (cases_lt j i) [
+          | inl before ↦
+              let apart : j ≢ i = (λ e. omega (arith, e, before)) in
+              let same : slice_get hosts j ≡ Some y = sym (get-set hosts i j x apart) ∙ ey in
+              settled-adds s other y h m (turn-adds (is_apart_of_host other) s host got h m (apart-hosts s majors i j host other net at ej (λ e. apart (sym e))) turn)
+              (k.settled j other y ej same before)
+          | inr after ↦
+              let is : j ≡ i = omega (arith, after, below) in
+              settled-here j other y is ej ey
+        ];
+    waiting = λ j other y ej ey above.
+        let apart : j ≢ i = (λ e. omega (arith, e, above)) in
+        let same : slice_get hosts j ≡ Some y = sym (get-set hosts i j x apart) ∙ ey in
+        awaits-adds s other got y h m (turn-adds (is_apart_of_host other) s host got h m (apart-hosts s majors i j host other net at ej (λ e. apart (sym e))) turn)
+        (k.waiting j other y ej same (omega (arith, above)));
+  }
+    where
+      settled-here : (j : ℕ) (other : HostSetup) (y : NamedHost) → j ≡ i → slice_get s.hosts j ≡ Some other → slice_get (slice_set hosts i x) j ≡ Some y → IsSettled s other m y
+      settled-here j other y is ej ey =
+          let eo : host ≡ other = same_Some host other (sym at ∙ ap (slice_get s.hosts) (sym is) ∙ ej) in
+          let z = there hosts i (inside k) in
+          let ex : x ≡ y = same_Some x y (sym (set-get hosts i z.0 x z.1) ∙ ap (slice_get (slice_set hosts i x)) (sym is) ∙ ey) in
+          subst (λ (w : NamedHost). IsSettled s other m w) ex (subst (λ (o : HostSetup). IsSettled s o m x) eo done)
+      inside : HadTurns s got h i hosts → i < length hosts
+      inside k = let w = slice_get_within s.hosts i host at in omega (arith, w, k.count)
+
+  pub serve-on : (shelves : List MemoryRack) → AllServe s majors h shelves → AllServe s majors m shelves
+  serve-on shelves k = record {
+    count = k.count;
+    number = k.number;
+    each = λ j major y em ey. serves-adds (shelf_of s major) y h m (turn-adds (is_apart_of_slots (shelf_of s major)) s host got h m (apart-slots major s host) turn) (k.each j major y em ey);
+  }
+
+-- once every host had its turn all are settled
+pub all-settled : (s : Setup) (got : Option Got) (h : List Entry) (k : ℕ) (hosts : List NamedHost) → k ≡ length hosts → HadTurns s got h k hosts → AllSettled s h hosts
+all-settled s got h k hosts e t = record {
+  count = t.count;
+  each = λ i host x eh ex. t.settled i host x eh ex (let w = slice_get_within hosts i x ex in omega (arith, w, e));
+}

@@ -1,0 +1,92 @@
+-- The stations of a world between two acts, and within one.
+use Rattle.std.specs.Prelude.{ℕ, ◌≡◌, ◌≢◌, ◌<◌, ◌≤◌, true, false, List, length, slice_get, Option, Some, None, Result, Ok, Err}
+use Rattle.arrayvec.specs.ArrayVec.{ArrayVec}
+use Rattle.aoe_history.specs.declared.entry.Entry.{Entry}
+use Rattle.aoe_history.specs.Groups.{Act, Follows, Got, Group, IsBegun, Station, Turns, TurnsSome}
+use Rattle.aoe_history.specs.Groups.Station as station
+use Rattle.aoe_history.specs.Lawful.{IsLawful}
+use Rattle.aoe_history.specs.Setup.{host_called, is_called, shelf_of, HostSetup, IsSetup, Setup}
+use Rattle.aoe_hosts.specs.Host.{Awaits, IsSettled, NamedHost}
+use Rattle.aoe_layout.specs.Layout.{Placed}
+use Rattle.aoe_racks.specs.Rack.{AreSlots, MemoryRack, Serves}
+use Rattle.aoe_net.specs.declared.refusal.NetRefusal.{NetRefusal}
+use Rattle.aoe_net.specs.declared.refusal.NetRefusal.TheVariants.{Full}
+use Rattle.aoe_run.specs.Run.{MeetsFull}
+use Rattle.aoe_world.specs.declared.stage.Stage.{Stage}
+use Rattle.aoe_world.specs.Schedule.{FollowsSome}
+use Rattle.aoe_world.specs.declared.place.At.{At}
+use Rattle.aoe_world.specs.declared.place.At.TheVariants as at
+use Rattle.aoe_world.specs.declared.place.Place.{Place}
+
+-- hosts of different names, and shelves of different numbers
+pub record IsNetwork (s : Setup) (majors : List ℕ) : Type 0 where
+  pub setup : IsSetup s
+  pub called : (i : ℕ) (host : HostSetup) (name : ArrayVec ℕ) → slice_get s.hosts i ≡ Some host → is_called host name ≡ true
+      → host_called s name ≡ Some host
+  pub names : (i j : ℕ) (a b : HostSetup) (name : ArrayVec ℕ) → slice_get s.hosts i ≡ Some a → slice_get s.hosts j ≡ Some b → i ≢ j
+      → is_called a name ≡ true → is_called b name ≡ false
+  pub majors_differ : (i j a b : ℕ) → slice_get majors i ≡ Some a → slice_get majors j ≡ Some b → i ≢ j → a ≢ b
+  pub slots : (i major : ℕ) → slice_get majors i ≡ Some major → AreSlots s (shelf_of s major)
+
+-- each host had its turn
+pub record AllSettled (s : Setup) (h : List Entry) (hosts : List NamedHost) : Type 0 where
+  pub count : length hosts ≡ length s.hosts
+  pub each : (i : ℕ) (host : HostSetup) (x : NamedHost) → slice_get s.hosts i ≡ Some host → slice_get hosts i ≡ Some x → IsSettled s host h x
+
+-- the hosts before the k-th had their turn, and the others didn't
+pub record HadTurns (s : Setup) (got : Option Got) (h : List Entry) (k : ℕ) (hosts : List NamedHost) : Type 0 where
+  pub count : length hosts ≡ length s.hosts
+  pub settled : (i : ℕ) (host : HostSetup) (x : NamedHost) → slice_get s.hosts i ≡ Some host → slice_get hosts i ≡ Some x → i < k → IsSettled s host h x
+  pub waiting : (i : ℕ) (host : HostSetup) (x : NamedHost) → slice_get s.hosts i ≡ Some host → slice_get hosts i ≡ Some x → k ≤ i → Awaits s host got h x
+
+-- each shelf is what the history says of it
+pub record AllServe (s : Setup) (majors : List ℕ) (h : List Entry) (shelves : List MemoryRack) : Type 0 where
+  pub count : length shelves ≡ length majors
+  pub number : (i major : ℕ) (x : MemoryRack) → slice_get majors i ≡ Some major → slice_get shelves i ≡ Some x → x.shelf.major ≡ major
+  pub each : (i major : ℕ) (x : MemoryRack) → slice_get majors i ≡ Some major → slice_get shelves i ≡ Some x → Serves (shelf_of s major) h x
+
+-- a world between two acts
+pub record IsReady (s : Setup) (majors : List ℕ) (stage : Stage) : Type 0 where
+  pub life : stage.run.life ≡ s.life
+  pub lawful : IsLawful s stage.run.entries
+  pub hosts_are : AllSettled s stage.run.entries stage.hosts.items
+  pub shelves_are : AllServe s majors stage.run.entries stage.shelves.items
+
+-- a world in an act, before the turn of the k-th host
+pub record IsTurning (s : Setup) (majors : List ℕ) (got : Option Got) (k : ℕ) (stage : Stage) : Type 0 where
+  pub life : stage.run.life ≡ s.life
+  pub lawful : IsLawful s stage.run.entries
+  pub hosts_are : HadTurns s got stage.run.entries k stage.hosts.items
+  pub shelves_are : AllServe s majors stage.run.entries stage.shelves.items
+
+-- what no refusal takes from a history: it is lawful, and where the network was full it could go on by a frame for which there is no room
+pub record IsLeft (s : Setup) (refusal : NetRefusal) (h : List Entry) : Type 0 where
+  pub lawful : IsLawful s h
+  pub full : refusal ≡ Full → MeetsFull s h
+
+-- each host had its turn, or as many as could
+abbrev pub Settles : {T : Type 0} → Result T NetRefusal → Setup → List ℕ → Option Got → Stage → Stage → Type 0
+Settles (Ok u) s majors got old new = Turns s s.hosts got old.run.entries new.run.entries × IsReady s majors new
+Settles (Err refusal) s majors got old new = TurnsSome s s.hosts got old.run.entries new.run.entries × IsLeft s refusal new.run.entries
+
+-- an act was done: its group of entries, or as much of it as could come
+abbrev pub Does : {T : Type 0} → Result T NetRefusal → Setup → List ℕ → Act → Stage → Stage → Type 0
+Does (Ok u) s majors act old new = Group s old.run.entries act new.run.entries × IsReady s majors new
+Does (Err refusal) s majors act old new = IsBegun s old.run.entries act new.run.entries × IsLeft s refusal new.run.entries
+
+-- acts were done one after another
+abbrev pub DoesAll : {T : Type 0} → Result T NetRefusal → Setup → List ℕ → List Act → Stage → Stage → Type 0
+DoesAll (Ok u) s majors acts old new = Follows s acts old.run.entries new.run.entries × IsReady s majors new
+DoesAll (Err refusal) s majors acts old new = FollowsSome s acts old.run.entries new.run.entries × IsLeft s refusal new.run.entries
+
+-- where a station stands among the shelves or the hosts
+abbrev pub IsAt : Setup → List ℕ → At → Station → Type 0
+IsAt s majors (at.Shelf i) (station.Shelf major) = slice_get majors i ≡ Some major
+IsAt s majors (at.Host i) (station.Host name) = (host : HostSetup) × (slice_get s.hosts i ≡ Some host) × (is_called host name ≡ true)
+IsAt s majors place other = ⊥
+
+-- the stations in the order of their lines
+pub record ArePlaces (s : Setup) (majors : List ℕ) (stations : List Placed) (places : List Place) : Type 0 where
+  pub count : length places ≡ length stations
+  pub each : (i : ℕ) (p : Placed) (place : Place) → slice_get stations i ≡ Some p → slice_get places i ≡ Some place
+      → (place.name ≡ p.name) × (place.ports.items ≡ p.ports) × IsAt s majors place.at p.station

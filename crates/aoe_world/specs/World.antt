@@ -1,0 +1,69 @@
+-- A world: a script's setup lines, and what came of the events so far.
+use Rattle.std.specs.Prelude.{ℕ, suc, ◌≡◌, ◌+◌, ◌*◌, ◌≤◌, List, length, Option, Some, None, IfSome, Result, Ok, Err}
+use Rattle.std.specs.List.{filter_map}
+use Rattle.aoe_net.specs.declared.refusal.NetRefusal.{NetRefusal}
+use Rattle.aoe_net.specs.Network.{total_bytes}
+use Rattle.aoe_history.specs.declared.entry.Entry.{Entry}
+use Rattle.aoe_history.specs.Commands.{tickets}
+use Rattle.aoe_history.specs.Frames.{clock, frames, network}
+use Rattle.aoe_history.specs.Lawful.{IsLawful}
+use Rattle.aoe_history.specs.Setup.{HostSetup, Setup}
+use Rattle.aoe_layout.specs.Layout.{setup_of, stations_of}
+use Rattle.aoe_run.specs.Run.{MeetsFull}
+use Rattle.aoe_script.specs.declared.event.Event.{Event}
+use Rattle.aoe_script.specs.declared.setup.Setup.{Setup as Line}
+use Rattle.aoe_script.specs.declared.setup.Setup.TheVariants.{Shelf}
+use Rattle.aoe_script.specs.Lines.{IsScript, ScriptLines}
+use Rattle.aoe_world.specs.declared.place.Place.{Place}
+use Rattle.aoe_world.specs.declared.refusal.WorldRefusal.{WorldRefusal}
+use Rattle.aoe_world.specs.declared.refusal.WorldRefusal.TheVariants.{NetFull, NoMemory}
+use Rattle.aoe_world.specs.declared.stage.Stage.{Stage}
+use Rattle.aoe_world.specs.Schedule.{Comes, ComesSome}
+use Rattle.aoe_world.specs.Stage.{ArePlaces, IsLeft, IsNetwork, IsReady}
+
+-- what contracts see: the setup lines, what happened (the latest first), the number of the frame that is passed or skipped next, how
+-- many events were stepped, and why it goes no further
+pub record Stepped : Type 0 where
+  pub lines : List Line
+  pub entries : List Entry
+  pub cursor : ℕ
+  pub events : ℕ
+  pub refused : Option WorldRefusal
+
+-- the numbers of the shelves in the order of their lines
+abbrev pub major_in : Line → Option ℕ
+major_in (Shelf name major ports mtu) = Some major
+major_in line = None
+
+abbrev pub majors_of : List Line → List ℕ
+majors_of lines = filter_map major_in lines
+
+-- a network that is full has so many frames and bytes, and the history could go on by a frame for which there is no room
+abbrev pub IsRefusedAt : Setup → List Entry → WorldRefusal → Type 0
+IsRefusedAt s h NoMemory = Unit {0}
+IsRefusedAt s h (NetFull count bytes) = (count ≡ length (frames h)) × (bytes ≡ total_bytes (network s.life h)) × MeetsFull s h
+
+-- the stations of a script's setup lines, and a cursor on the frames so far or just behind them
+pub record IsStaged (script : ScriptLines) (places : List Place) (stage : Stage) (cursor : ℕ) : Type 0 where
+  pub good : IsScript script
+  pub network_is : IsNetwork (setup_of script.setups) (majors_of script.setups)
+  pub places_are : ArePlaces (setup_of script.setups) (majors_of script.setups) (stations_of script.setups) places
+  pub from_one : 1 ≤ cursor
+  pub within : cursor ≤ suc (length (frames stage.run.entries))
+
+-- what came of an event
+abbrev pub Runs : {T : Type 0} → Result T NetRefusal → List Line → Event → (cursor behind : ℕ) → Stage → Stage → Type 0
+Runs (Ok u) lines e cursor behind old new =
+    Comes (setup_of lines) lines e cursor old.run.entries behind new.run.entries × IsReady (setup_of lines) (majors_of lines) new
+Runs (Err refusal) lines e cursor behind old new =
+    ComesSome (setup_of lines) lines e cursor old.run.entries new.run.entries × IsLeft (setup_of lines) refusal new.run.entries
+
+-- what holds of the fields of a world: as long as it isn't refused its stations are what the history says of them
+pub record IsWorld (script : ScriptLines) (places : List Place) (stage : Stage) (cursor events : ℕ) (refused : Option WorldRefusal) : Type 0 where
+  pub staged : IsStaged script places stage cursor
+  pub lawful : IsLawful (setup_of script.setups) stage.run.entries
+  pub ready : refused ≡ None → IsReady (setup_of script.setups) (majors_of script.setups) stage
+  pub refusal : IfSome refused (IsRefusedAt (setup_of script.setups) stage.run.entries)
+  pub time : clock stage.run.entries ≤ 10000000 * events
+  pub tickets_are : (host : HostSetup) → tickets host stage.run.entries ≤ events
+  pub few : events ≤ 50000

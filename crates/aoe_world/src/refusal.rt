@@ -1,0 +1,14 @@
+//! Why a world goes no further.
+use thiserror::Error;
+
+/// Why a world goes no further.
+#[derive(Clone, Copy, Debug, PartialEq, Eq, Error)]
+pub enum WorldRefusal {
+    /// An allocation was refused.
+    #[error("no memory")]
+    NoMemory,
+
+    /// The network has no room for the next frame: it has so many frames, of so many bytes together.
+    #[error("the network is full: {frames} frames, {bytes} bytes")]
+    NetFull { frames: u32, bytes: u64 },
+}

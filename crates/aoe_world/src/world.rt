@@ -1,0 +1,120 @@
+//! A world: a run of a script's events through its shelves and its hosts.
+ghost use Rattle.std.specs.Prelude.{◌≡◌, ◌+◌, ◌<◌, ◌×◌, [], length, None, Some, Err, IfErr, IfNone, IfOk, IfSome, OnErr, OnOk};
+ghost use Rattle.aoe_history.specs.Lawful.{IsLawful};
+ghost use Rattle.aoe_history.specs.Reading.{HasReadLaw};
+ghost use Rattle.aoe_history.specs.Setup.{IsSetup};
+ghost use Rattle.aoe_layout.specs.Layout.{setup_of};
+ghost use Rattle.aoe_script.specs.Rules.{event_why};
+ghost use Rattle.aoe_world.specs.Schedule.{Comes, ComesSome};
+ghost use Rattle.aoe_world.specs.World.{IsRefusedAt};
+
+use crate::refusal::WorldRefusal;
+use crate::replay::Replay;
+use aoe_base::NoMemory;
+use aoe_history::{History, read_law};
+use aoe_net::NetRefusal;
+use aoe_script::{Event, Script};
+use std::alloc::Global;
+use std::marker::Model;
+
+/// A run of the events of a script, each after the one before it, through shelves with disks in
+/// memory and hosts.
+#[derive(Drop)]
+pub struct World<'a> {
+    replay: Replay<'a>,
+
+    /// How many events were stepped.
+    events: u32,
+
+    /// Why it goes no further.
+    refusal: Option<WorldRefusal>,
+}
+
+impl Model for World<'_> {
+    ghost use Rattle.aoe_world.specs.World.{IsWorld, Stepped};
+
+    ghost Value = { Stepped };
+
+    ghost view = { λ w. record {
+      lines = w.replay.script.now.setups;
+      entries = w.replay.stage.run.entries;
+      cursor = w.replay.cursor;
+      events = w.events;
+      refused = w.refusal;
+    } };
+
+    ghost invariant = { λ w. IsWorld w.replay.script.now w.replay.places.items w.replay.stage w.replay.cursor w.events w.refusal };
+}
+
+impl<'a> World<'a> {
+    /// A world of the stations that a script declares: disks of zeros, empty lists, an empty
+    /// network, and a clock at 0.
+    pub fn new(alloc: Global, script: &'a Script) -> Result<World<'a>, NoMemory>
+        ensures new { IfOk result (λ world. world ≡ record { lines = script.now.setups; entries = []; cursor = 1; events = 0; refused = None }) }
+        ensures setup { IsSetup (setup_of script.now.setups) }
+    {
+        let replay = Replay::new(alloc, script)?;
+        Ok(World {
+            replay,
+            events: 0,
+            refusal: None,
+        })
+    }
+}
+
+impl World<'_> {
+    /// How many events were stepped.
+    pub fn events(&self) -> u32
+        ensures { result ≡ self.now.events }
+    {
+        self.events
+    }
+
+    /// What happened.
+    pub fn history(&self) -> &History
+        ensures history { result.now ≡ self.now.entries }
+        ensures lawful { IsLawful (setup_of self.now.lines) self.now.entries }
+    {
+        self.replay.stage.run.history()
+    }
+
+    fn refused(&self, refusal: NetRefusal) -> WorldRefusal {
+        match refusal {
+            NetRefusal::NoMemory => WorldRefusal::NoMemory,
+            NetRefusal::Full => WorldRefusal::NetFull {
+                frames: self.replay.stage.run.frames(),
+                bytes: self.replay.stage.run.total_bytes(),
+            },
+        }
+    }
+
+    /// Runs an event. After a refusal every step answers that refusal, and nothing more happens.
+    pub fn step(&mut self, event: &Event) -> Result<(), WorldRefusal>
+        requires good { event_why self.old.lines event.now ≡ None }
+        requires few { self.old.events < 50000 }
+        ensures refused { IfSome self.old.refused (λ refusal. (result ≡ Err refusal) × (self.new ≡ self.old)) }
+        ensures comes { OnOk result (Comes (setup_of self.old.lines) self.old.lines event.now self.old.cursor self.old.entries self.new.cursor self.new.entries) }
+        ensures begins { IfNone self.old.refused (OnErr result (ComesSome (setup_of self.old.lines) self.old.lines event.now self.old.cursor self.old.entries self.new.entries)) }
+        ensures why { IfErr result (λ refusal. (self.new.refused ≡ Some refusal) × IsRefusedAt (setup_of self.new.lines) self.new.entries refusal) }
+        ensures lawful { IsLawful (setup_of self.new.lines) self.new.entries }
+        ensures reading { HasReadLaw (setup_of self.new.lines) self.new.entries }
+        ensures events { OnOk result ((self.new.events ≡ self.old.events + 1) × (self.new.refused ≡ None)) }
+        ensures lines { self.new.lines ≡ self.old.lines }
+    {
+        read_law();
+        if let Some(refusal) = self.refusal {
+            return Err(refusal);
+        }
+        match self.replay.run(event) {
+            Ok(()) => {
+                self.events += 1;
+                Ok(())
+            }
+            Err(refusal) => {
+                let refusal = self.refused(refusal);
+                self.refusal = Some(refusal);
+                Err(refusal)
+            }
+        }
+    }
+}
