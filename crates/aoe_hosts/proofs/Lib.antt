@@ -4,7 +4,6 @@ pub mod Commands
 mod HostAlike
 mod IdLemmas
 pub mod Leaves
-mod LogSame
 pub mod PathNo
 pub mod Same
 mod SendLemmas
