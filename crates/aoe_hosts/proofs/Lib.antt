@@ -4,11 +4,10 @@ pub mod Commands
 mod HostAlike
 mod IdLemmas
 pub mod Leaves
-mod LogSame
 pub mod PathNo
 pub mod Same
 mod SendLemmas
-mod SubmissionLemmas
 mod SubmitLemmas
 mod TakeLemmas
 mod TellLemmas
+mod TurnLemmas

@@ -38,16 +38,11 @@ use Rattle.aoe_hosts.specs.Host.{AreAddresses, IsHost, IsSettled, NamedHost}
 use Rattle.aoe_hosts.specs.Turns.{HasSent}
 use Rattle.aoe_hosts.proofs.HostAlike.{alike, frame-alike, next-alike, path-alike, quiet-alike}
 use Rattle.aoe_hosts.proofs.PathNo.{path-given}
-use Rattle.aoe_hosts.proofs.SubmissionLemmas.{its-submission}
-use Rattle.aoe_hosts.proofs.TellLemmas.{host-kept, is-its}
+use Rattle.aoe_hosts.proofs.Called.{is-called, of-called}
+use Rattle.aoe_hosts.proofs.Commands.{submitted-of}
+use Rattle.aoe_hosts.proofs.Leaves.{when}
+use Rattle.aoe_hosts.proofs.Same.{host-same}
 use Rattle.aoe_run.specs.Run.{MeetsFull}
-
-some-and : {X : Type 0} (P : X → Type 0) (o : Option X) (x : X) → o ≡ Some x → P x → IsSomeAnd o P
-some-and P o x e p = subst (λ z. IsSomeAnd z P) (sym e) p
-
-when : {X : Type 0} (b : Bool) (x y : X) → b ≡ true → (if b then x else y) ≡ x
-when true x y e = refl
-when false x y e = absurd (cc)
 
 -- HEADERS
 
@@ -137,16 +132,16 @@ its-path s host x op device path tag f asked is small r at =
 
 -- THE FRAME THAT IS SENT
 
-module _ (s : Setup) (host : HostSetup) (h : List Entry) (x : NamedHost) (settled : IsSettled s host h x) (sent : step.Sent) (f : List ℕ) (frame : IsFrameOf x.core (commands_of host h) sent f) (small : sent.tag < 4294967296) where
+module _ (s : Setup) (host : HostSetup) (h : List Entry) (x : NamedHost) (settled : IsSettled s host h x) (lawful : IsLawful s h) (sent : step.Sent) (f : List ℕ) (frame : IsFrameOf x.core (commands_of host h) sent f) (small : sent.tag < 4294967296) where
   of : IsRequest host frame.command.op frame.command.device sent.path sent.tag f
   of = spelled-request s host x frame.command.op frame.command.device sent.path sent.tag f settled.is frame.bytes
 
   path-back : path_of host (submission host h sent.ticket.0) f ≡ sent.path
   path-back =
-      let asked = its-submission host h 0 frame.command settled.matches.tickets frame.there in
+      let asked = submitted-of s host x.name settled.is.called h lawful frame.command frame.there in
       ap (λ (t : Ticket). path_of host (submission host h t.0) f) (sym frame.ticket)
-      ∙ ap (λ (o : Option Submission). path_of host o f) asked.1
-      ∙ its-path s host x frame.command.op frame.command.device sent.path sent.tag f asked.0 settled.is small of asked.2
+      ∙ ap (λ (o : Option Submission). path_of host o f) asked.there
+      ∙ its-path s host x frame.command.op frame.command.device sent.path sent.tag f asked.asked settled.is small of (sym asked.device)
 
   tag-back : (fields f).tag ≡ sent.tag
   tag-back = (its-header s host x frame.command.op frame.command.device sent.path sent.tag f settled.is small of).tag
@@ -154,7 +149,7 @@ module _ (s : Setup) (host : HostSetup) (h : List Entry) (x : NamedHost) (settle
   -- the history says of the frame what the host did
   pub log-sent : log_of host (Sent x.name sent.ticket.0 (next_number h) f ∷ h) ≡ Sends sent.ticket sent.tag sent.path ∷ log_of host h
   log-sent =
-      when (is_called host x.name) (Sends sent.ticket (fields f).tag (path_of host (submission host h sent.ticket.0) f) ∷ log_of host h) (log_of host h) (is-its s x.name host settled.is.called)
+      when (is_called host x.name) (Sends sent.ticket (fields f).tag (path_of host (submission host h sent.ticket.0) f) ∷ log_of host h) (log_of host h) (is-called s x.name host settled.is.called)
       ∙ ap (λ (tag : ℕ). Sends sent.ticket tag (path_of host (submission host h sent.ticket.0) f) ∷ log_of host h) tag-back
       ∙ ap (λ (path : PathNo). Sends sent.ticket sent.tag path ∷ log_of host h) path-back
 
@@ -164,13 +159,10 @@ pub record Pulled (old : Host) (sent : step.Sent) (f : List ℕ) (new : Host) : 
   pub frame : (log : List Event) → Matches log old → IsFrameOf old (commands log) sent f
   pub path : (log : List Event) → Matches log old → IsOnNextPath old log sent
   pub sends : (log : List Event) → Matches log old → Matches (Sends sent.ticket sent.tag sent.path ∷ log) new
-  pub same : IsSame old new
-  pub time : new.clock ≡ old.clock
-  pub last : new.last_ticket ≡ old.last_ticket
-  pub waiting : new.waiting ≡ old.waiting
+  pub same : IsSame old new × (new.clock ≡ old.clock) × (new.last_ticket ≡ old.last_ticket) × (new.waiting ≡ old.waiting)
   pub small : sent.tag < 4294967296
 
-module _ (s : Setup) (host : HostSetup) (h : List Entry) (x : NamedHost) (settled : IsSettled s host h x) (sent : step.Sent) (f : List ℕ) (new : Host) (pulled : Pulled x.core sent f new) where
+module _ (s : Setup) (host : HostSetup) (h : List Entry) (x : NamedHost) (settled : IsSettled s host h x) (lawful : IsLawful s h) (sent : step.Sent) (f : List ℕ) (new : Host) (pulled : Pulled x.core sent f new) where
   pub may-come : MayCome s h (Sent x.name sent.ticket.0 (next_number h) f)
   may-come =
       let same = alike s host h x settled.is settled.time in
@@ -183,17 +175,17 @@ module _ (s : Setup) (host : HostSetup) (h : List Entry) (x : NamedHost) (settle
         tag_fits = pulled.small;
         number_is = refl;
       } in
-      some-and (λ z. IsSent s z h sent.ticket.0 (next_number h) f) (host_called s x.name) host settled.is.called sends
+      of-called (λ z. IsSent s z h sent.ticket.0 (next_number h) f) (host_called s x.name) host settled.is.called sends
 
   pub settled-sent : IsSettled s host (Sent x.name sent.ticket.0 (next_number h) f ∷ h) (record { name = x.name; core = new })
   settled-sent =
-      let log = log-sent s host h x settled sent f (pulled.frame (log_of host h) settled.matches) pulled.small in
+      let log = log-sent s host h x settled lawful sent f (pulled.frame (log_of host h) settled.matches) pulled.small in
       record {
-        is = host-kept s host x (record { name = x.name; core = new }) refl pulled.same settled.is;
-        last = pulled.last ∙ settled.last;
-        time = pulled.time ∙ settled.time;
+        is = host-same s host x (record { name = x.name; core = new }) refl pulled.same.0 settled.is;
+        last = pulled.same.2 ∙ settled.last;
+        time = pulled.same.1 ∙ settled.time;
         matches = subst (λ (l : List Event). Matches l new) (sym log) (pulled.sends (log_of host h) settled.matches);
-        waiting = pulled.waiting ∙ settled.waiting;
+        waiting = pulled.same.3 ∙ settled.waiting;
       }
 
   -- no room is there for it
@@ -207,11 +199,21 @@ sent-more s host name h m n x sent f new is_name is pulled before =
     let e : Entry = Sent x.name sent.ticket.0 (next_number m) f in
     let sends : HasSent s name h (e ∷ m) = record {
       sends = subst (λ (z : ArrayVec ℕ). SendsSome name h (Sent z sent.ticket.0 (next_number m) f ∷ m)) (sym is_name) (sends_one sent.ticket.0 (next_number m) f before.0.sends);
-      lawful = (may-come s host m x before.1 sent f new pulled, before.0.lawful);
+      lawful = (may-come s host m x before.1 before.0.lawful sent f new pulled, before.0.lawful);
     } in
-    subst (λ (l : List Entry). HasSent s name h l × IsSettled s host l (record { name = x.name; core = new })) (sym is) (sends, settled-sent s host m x before.1 sent f new pulled)
+    subst (λ (l : List Entry). HasSent s name h l × IsSettled s host l (record { name = x.name; core = new })) (sym is) (sends, settled-sent s host m x before.1 before.0.lawful sent f new pulled)
 
 -- nothing more may be sent
-pub quiet-after : (s : Setup) (host : HostSetup) (h : List Entry) (x : NamedHost) → IsSettled s host h x → ((log : List Event) → Matches log x.core → IsQuiet x.core (commands log))
-    → IsQuiet (host_after s host h) (commands_of host h)
-quiet-after s host h x settled quiet = quiet-alike x.core (host_after s host h) (commands_of host h) (alike s host h x settled.is settled.time) (quiet (log_of host h) settled.matches)
+pub settled-quiet : (s : Setup) (host : HostSetup) (h : List Entry) (x : NamedHost) (new : Host) → IsSettled s host h x → ((log : List Event) → Matches log x.core → IsQuiet x.core (commands log)) → ((log : List Event) → Matches log x.core → Matches log new)
+    → IsSame x.core new × (new.clock ≡ x.core.clock) × (new.last_ticket ≡ x.core.last_ticket) × (new.waiting ≡ x.core.waiting)
+    → IsSettled s host h (record { name = x.name; core = new }) × IsQuiet (host_after s host h) (commands_of host h)
+settled-quiet s host h x new settled quiet stays same = (
+  record {
+    is = host-same s host x (record { name = x.name; core = new }) refl same.0 settled.is;
+    last = same.2 ∙ settled.last;
+    time = same.1 ∙ settled.time;
+    matches = stays (log_of host h) settled.matches;
+    waiting = same.3 ∙ settled.waiting;
+  },
+  quiet-alike x.core (host_after s host h) (commands_of host h) (alike s host h x settled.is settled.time) (quiet (log_of host h) settled.matches),
+)

@@ -1,10 +1,12 @@
 -- A host tells its outcomes: that of the response, then the commands that it gives up.
 use Rattle.std.proofs.Common.{ℕ, suc, cond, ◌+◌, ◌≡◌, ◌≤◌, ◌⊎◌, inl, inr, max, if◌then◌else◌, Bool, true, false, List, [], ◌∷◌, ◌++◌, length, map, reverse, Option, Some, None, refl, sym, subst, ap, ◌∙◌, arith, append-nil, append_assoc, IsSomeAnd}
-use Rattle.std.specs.Prelude.{All, IfSome}
+use Rattle.std.specs.Prelude.{All, IfSome, Result, Ok, Err, OnErr, OnOk}
 use Rattle.std.specs.List.{find}
 use Rattle.std.proofs.lemmas.List.{reverse-append, reverse-reverse, length-append}
 use Rattle.arrayvec.specs.ArrayVec.{ArrayVec}
 use Rattle.aoe_base.specs.declared.counted.Millis.{Millis}
+use Rattle.aoe_base.specs.declared.counted.PathNo.{PathNo}
+use Rattle.aoe_base.specs.declared.counted.Ticket.{Ticket}
 use Rattle.aoe_flight.specs.declared.outstanding.Outstanding.{Outstanding}
 use Rattle.aoe_flight.specs.Outstanding.{is_expired, lower, IsFirst}
 use Rattle.aoe_initiator.specs.declared.device.Device.{Device}
@@ -12,8 +14,9 @@ use Rattle.aoe_initiator.specs.declared.outcome.Done.{Done}
 use Rattle.aoe_initiator.specs.declared.outcome.Outcome.{Outcome}
 use Rattle.aoe_initiator.specs.Host.{Host, IsSame, Matches}
 use Rattle.aoe_initiator.specs.HostLaw.{ended, given_up, GaveUpInTurn}
-use Rattle.aoe_initiator.specs.HostLog.{clock as log_clock, commands, sent_of, Event, HostCommand}
+use Rattle.aoe_initiator.specs.HostLog.{after_end, after_response, at_ticket, clock as log_clock, commands, path_log, sent_of, with_ticket, Event, HostCommand}
 use Rattle.aoe_initiator.specs.HostLog.Event.{Advances, Ends}
+use Rattle.aoe_paths.specs.PathLog.{PathEvent}
 use Rattle.aoe_history.specs.declared.entry.Entry.{Entry}
 use Rattle.aoe_history.specs.declared.entry.Entry.TheVariants.{Done as Finished}
 use Rattle.aoe_history.specs.Commands.{commands_of, log_of, path_ended, tickets}
@@ -25,14 +28,41 @@ use Rattle.aoe_history.specs.Lawful.{IsLawful, MayCome}
 use Rattle.aoe_history.specs.Setup.{host_called, is_called, HostSetup, Setup}
 use Rattle.aoe_hosts.specs.Host.{is_told, log_with, told_of, Awaits, IsHost, IsSettled, NamedHost, TellsSame}
 use Rattle.aoe_hosts.specs.Turns.{noted, HasBegun, HasTold, Notes}
-use Rattle.aoe_hosts.proofs.LogSame.{matches-same, matches-waiting, tells-ended}
+use Rattle.aoe_hosts.proofs.Called.{is-called, of-called}
+use Rattle.aoe_hosts.proofs.Leaves.{when}
+use Rattle.aoe_hosts.proofs.Same.{host-same, matches-same}
 
-some-and : {X : Type 0} (P : X → Type 0) (o : Option X) (x : X) → o ≡ Some x → P x → IsSomeAnd o P
-some-and P o x e p = subst (λ z. IsSomeAnd z P) (sym e) p
+-- LOGS
 
-when : {X : Type 0} (b : Bool) (x y : X) → b ≡ true → (if b then x else y) ≡ x
-when true x y e = refl
-when false x y e = absurd (cc)
+tells-end : (a b : List Event) (ticket : Ticket) (path : Option PathNo) → TellsSame a b → TellsSame (Ends ticket path ∷ a) (Ends ticket path ∷ b)
+tells-end a b ticket path same = record {
+  time = same.time;
+  commands_are = ap (λ (cs : List HostCommand). map (at_ticket ticket after_end) cs) same.commands_are;
+  paths = λ n. ap (λ (now : ℕ). after_response n path now (with_ticket ticket (commands a)) (path_log a n)) same.time
+      ∙ ap (λ (cs : List HostCommand). after_response n path (log_clock b) (with_ticket ticket cs) (path_log a n)) same.commands_are
+      ∙ ap (λ (l : List PathEvent). after_response n path (log_clock b) (with_ticket ticket (commands b)) l) (same.paths n);
+}
+
+pub tells-ended : (a b : List Event) (dones : List Done) → TellsSame a b → TellsSame (ended dones a) (ended dones b)
+tells-ended a b [] same = same
+tells-ended a b (d ∷ dones) same = tells-end (ended dones a) (ended dones b) d.ticket None (tells-ended a b dones same)
+
+-- the outcomes that wait are no part of it
+pub matches-waiting : (log : List Event) (x : Host) (waiting : List Done) → Matches log x → Matches log (record x { waiting = waiting })
+matches-waiting log x waiting m = record {
+  time = m.time;
+  tickets = m.tickets;
+  last = m.last;
+  attached = m.attached;
+  flew = m.flew;
+  pending = m.pending;
+  rest = m.rest;
+  room = m.room;
+  dead = m.dead;
+  sent = m.sent;
+  entered = m.entered;
+  paths = m.paths;
+}
 
 -- THE COMMANDS THAT ARE GIVEN UP
 
@@ -67,7 +97,7 @@ gave-up s host name h log now (d ∷ dones) called own lawful time same given =
     = when (is_called host name) (Ends o.ticket None ∷ log_of host m) (log_of host m) own in
     record {
       gives = subst (λ (e : Done). GivesUp name h (Finished name e.ticket.0 e.outcome ∷ m)) (sym is) (gives_one o.ticket.0 o.flying.first (record { 0 = now }) before.gives);
-      lawful = (some-and (λ z. IsDone s z m d.ticket.0 d.outcome) (host_called s name) host called may, before.lawful);
+      lawful = (of-called (λ z. IsDone s z m d.ticket.0 d.outcome) (host_called s name) host called may, before.lawful);
       log = subst (λ (e : Done). log_of host (Finished name e.ticket.0 e.outcome ∷ m) ≡ Ends e.ticket None ∷ log_of host m) (sym is) log_given ∙ ap (λ (l : List Event). Ends d.ticket None ∷ l) before.log;
       time = before.time;
       tickets_are = before.tickets_are;
@@ -85,7 +115,7 @@ pub record IsTold (s : Setup) (host : HostSetup) (name : ArrayVec ℕ) (got : Op
 
 module _ (s : Setup) (host : HostSetup) (name : ArrayVec ℕ) (h : List Entry) (ticket : ℕ) (outcome : Outcome) (called : host_called s name ≡ Some host) (own : is_called host name ≡ true) where
   lawful-by : (b : Bool) → IsLawful s h → (b ≡ true → IsAnswered s host h ticket outcome) → IsLawful s (if b then Finished name ticket outcome ∷ h else h)
-  lawful-by true lawful answered = (some-and (λ z. IsDone s z h ticket outcome) (host_called s name) host called (inl (answered refl)), lawful)
+  lawful-by true lawful answered = (of-called (λ z. IsDone s z h ticket outcome) (host_called s name) host called (inl (answered refl)), lawful)
   lawful-by false lawful answered = lawful
 
   log-by : (b : Bool) → log_of host (if b then Finished name ticket outcome ∷ h else h) ≡ (if b then Ends (record { 0 = ticket }) (path_ended host h ticket outcome) ∷ log_of host h else log_of host h)
@@ -187,37 +217,9 @@ pub record Advanced (x : NamedHost) (h : List Entry) (core : Host) : Type 0 wher
   pub same : IsSame x.core core
   pub last : core.last_ticket ≡ x.core.last_ticket
 
--- what never changes stays as the setup says
-pub host-kept : (s : Setup) (host : HostSetup) (x y : NamedHost) → y.name ≡ x.name → IsSame x.core y.core → IsHost s host x → IsHost s host y
-host-kept s host x y name same is = record {
-  called = ap (λ (n : ArrayVec ℕ). host_called s n) name ∙ is.called;
-  ports = same.ports ∙ is.ports;
-  life = same.life ∙ is.life;
-  room = same.room ∙ is.room;
-  dead = same.dead ∙ is.dead;
-  devices = same.devices ∙ is.devices;
-  distinct = is.distinct;
-  remotes = is.remotes;
-  addresses = is.addresses;
-  remote_addresses = is.remote_addresses;
-}
-
-found : (name : ArrayVec ℕ) (hosts : List HostSetup) (host : HostSetup) → find (λ (x : HostSetup). is_called x name) hosts ≡ Some host → is_called host name ≡ true
-found name [] host e = absurd (cc)
-found name (y ∷ hosts) host e = go (is_called y name) refl e (λ r. found name hosts host r)
-  where
-    go : (b : Bool) → is_called y name ≡ b → cond b (Some y) (find (λ (x : HostSetup). is_called x name) hosts) ≡ Some host
-        → (find (λ (x : HostSetup). is_called x name) hosts ≡ Some host → is_called host name ≡ true) → is_called host name ≡ true
-    go true q e more = let same : y ≡ host = cc in subst (λ (z : HostSetup). is_called z name ≡ true) same q
-    go false q e more = more e
-
--- a host that is found by a name is called so
-pub is-its : (s : Setup) (name : ArrayVec ℕ) (host : HostSetup) → host_called s name ≡ Some host → is_called host name ≡ true
-is-its s name host e = found name s.hosts host e
-
 module _ (s : Setup) (host : HostSetup) (got : Option Got) (h : List Entry) (x : NamedHost) (a : Awaits s host got h x) (lawful : IsLawful s h) (core : Host) (went : Advanced x h core) where
   own : is_called host x.name ≡ true
-  own = is-its s x.name host a.is.called
+  own = is-called s x.name host a.is.called
 
   first : IsTold s host x.name got h
   first = told-first s host x.name got h a.is.called own lawful a.response
@@ -293,7 +295,7 @@ module _ (s : Setup) (host : HostSetup) (got : Option Got) (h : List Entry) (x :
         none_late = late;
         lawful = n.lawful;
         settled = record {
-          is = host-kept s host x z refl kept a.is;
+          is = host-same s host x z refl kept a.is;
           last = went.last ∙ a.last ∙ sym (n.tickets_are ∙ first.tickets_are);
           time = time ∙ sym now;
           matches = matches-waiting (log_of host e) core [] matches;
@@ -301,3 +303,26 @@ module _ (s : Setup) (host : HostSetup) (got : Option Got) (h : List Entry) (x :
         };
       } in
       subst (λ (l : List Entry). HasTold s host got h l y) (sym is) (subst (λ (v : NamedHost). HasTold s host got h e v) (sym is_y) all)
+
+-- one outcome more is taken down
+pub noted-more : (name : ArrayVec ℕ) (waiting left rest : List Done) (d : Done) (h m n : List Entry) → Notes name waiting left h m → left ≡ d ∷ rest → n ≡ Finished name d.ticket.0 d.outcome ∷ m → Notes name waiting rest h n
+noted-more name waiting left rest d h m n notes is more = record {
+  dones = d ∷ notes.dones;
+  waited = notes.waited ∙ ap (λ (l : List Done). reverse notes.dones ++ l) is ∙ sym (append_assoc (reverse notes.dones) (d ∷ []) rest) ∙ ap (λ (l : List Done). l ++ rest) (sym (reverse-append (d ∷ []) notes.dones));
+  is = more ∙ ap (λ (l : List Entry). Finished name d.ticket.0 d.outcome ∷ l) notes.is;
+}
+
+-- and nothing else changes
+pub told-same : (before x : NamedHost) (name : ArrayVec ℕ) (core new : Host) → (let z : NamedHost = record { name = name; core = core } in z) ≡ x → x ≡ record before { core = record before.core { waiting = x.core.waiting } } → new ≡ record core { waiting = new.waiting }
+    → (let z : NamedHost = record { name = name; core = new } in z) ≡ record before { core = record before.core { waiting = new.waiting } }
+told-same before x name core new is same step =
+    ap (λ (c : Host). let z : NamedHost = record { name = name; core = c } in z) step
+    ∙ ap (λ (v : NamedHost). let z : NamedHost = record { name = v.name; core = record v.core { waiting = new.waiting } } in z) (is ∙ same)
+
+pub by-ok : {T E P Q : Type 0} (r : Result T E) → OnOk r P → (P → Q) → OnOk r Q
+by-ok (Ok x) p f = f p
+by-ok (Err e) p f = tt
+
+pub by-err : {T E P Q : Type 0} (r : Result T E) → OnErr r P → (P → Q) → OnErr r Q
+by-err (Ok x) p f = tt
+by-err (Err e) p f = f p
