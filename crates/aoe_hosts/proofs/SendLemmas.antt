@@ -159,10 +159,7 @@ pub record Pulled (old : Host) (sent : step.Sent) (f : List ℕ) (new : Host) : 
   pub frame : (log : List Event) → Matches log old → IsFrameOf old (commands log) sent f
   pub path : (log : List Event) → Matches log old → IsOnNextPath old log sent
   pub sends : (log : List Event) → Matches log old → Matches (Sends sent.ticket sent.tag sent.path ∷ log) new
-  pub same : IsSame old new
-  pub time : new.clock ≡ old.clock
-  pub last : new.last_ticket ≡ old.last_ticket
-  pub waiting : new.waiting ≡ old.waiting
+  pub same : IsSame old new × (new.clock ≡ old.clock) × (new.last_ticket ≡ old.last_ticket) × (new.waiting ≡ old.waiting)
   pub small : sent.tag < 4294967296
 
 module _ (s : Setup) (host : HostSetup) (h : List Entry) (x : NamedHost) (settled : IsSettled s host h x) (lawful : IsLawful s h) (sent : step.Sent) (f : List ℕ) (new : Host) (pulled : Pulled x.core sent f new) where
@@ -184,11 +181,11 @@ module _ (s : Setup) (host : HostSetup) (h : List Entry) (x : NamedHost) (settle
   settled-sent =
       let log = log-sent s host h x settled lawful sent f (pulled.frame (log_of host h) settled.matches) pulled.small in
       record {
-        is = host-same s host x (record { name = x.name; core = new }) refl pulled.same settled.is;
-        last = pulled.last ∙ settled.last;
-        time = pulled.time ∙ settled.time;
+        is = host-same s host x (record { name = x.name; core = new }) refl pulled.same.0 settled.is;
+        last = pulled.same.2 ∙ settled.last;
+        time = pulled.same.1 ∙ settled.time;
         matches = subst (λ (l : List Event). Matches l new) (sym log) (pulled.sends (log_of host h) settled.matches);
-        waiting = pulled.waiting ∙ settled.waiting;
+        waiting = pulled.same.3 ∙ settled.waiting;
       }
 
   -- no room is there for it

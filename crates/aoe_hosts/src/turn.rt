@@ -103,3 +103,57 @@ impl NamedHost {
         }
     }
 }
+
+#[cfg(test)]
+mod tests {
+    use super::*;
+    use aoe_base::{Mac, Millis, Ports, TargetId};
+    use aoe_initiator::Outcome;
+    use aoe_script::{Event, Name};
+    use std::test::Fail;
+
+    const DEVICE: TargetId = TargetId { major: 1, minor: 0 };
+
+    fn ports(last: u8) -> Ports {
+        let mut ports = Ports::new();
+        let _ = ports.try_extend_from_slice(&[Mac([2, 0, 0, 0, 0, last])]);
+        ports
+    }
+
+    #[test]
+    fn sends_and_gives_up(rt: HostRuntime) -> Result<(), Fail> {
+        let mut run = Run::new(rt.alloc(), Millis(2000));
+        let (life, dead) = (Millis(2000), Millis(30_000));
+        let mut host = NamedHost::new(rt.alloc(), Name::new(), &ports(1), life, 4, dead)?;
+        host.attach(DEVICE, &ports(2), 8, 2)?;
+        let event = Event::Flush {
+            host: Name::new(),
+            dev: DEVICE,
+        };
+        host.submit(&mut run, DEVICE, &event)?;
+
+        let mut out = Frame::new();
+        host.turn(&mut run, &mut out)?;
+        assert_eq!(rt; run.history().count(), 2);
+        assert!(rt; matches!(run.history().entry(1), Entry::Sent { ticket: 1, .. }));
+        assert_eq!(rt; out.len(), 60);
+
+        assert_eq!(rt; run.clock(), Millis(0));
+        run.tick(30_000)?;
+        host.turn(&mut run, &mut out)?;
+        assert_eq!(rt; run.history().count(), 4);
+        assert!(rt;
+            matches!(
+                run.history().entry(3),
+                Entry::Done {
+                    outcome: Outcome::GaveUp {
+                        first: Millis(0),
+                        ..
+                    },
+                    ..
+                }
+            )
+        );
+        Ok(())
+    }
+}
