@@ -69,6 +69,19 @@ minor_here (u ∷ ts) minor (suc i) t e at = minor_here ts minor i t (rest (u.st
     rest true b q = absurd (cc)
     rest false b q = q
 
+-- the minors of a shelf with one target more
+pub more_minors : (ts : List (Mounted Memory Memory)) (t : Mounted Memory Memory) (m : ℕ) → has_minor (ts ++ t ∷ []) m ≡ (has_minor ts m || t.station.id.minor == m)
+more_minors [] t m = last (t.station.id.minor == m)
+  where
+    last : (b : Bool) → (b || false) ≡ (false || b)
+    last true = refl
+    last false = refl
+more_minors (u ∷ ts) t m = ap (λ (b : Bool). u.station.id.minor == m || b) (more_minors ts t m) ∙ grouped (u.station.id.minor == m) (has_minor ts m) (t.station.id.minor == m)
+  where
+    grouped : (a b c : Bool) → (a || (b || c)) ≡ ((a || b) || c)
+    grouped true b c = refl
+    grouped false b c = refl
+
 -- THE TARGETS OF A SHELF
 
 module _ (shelf : Rack Memory Memory) (front : List (Mounted Memory Memory)) (t : Mounted Memory Memory) (is : shelf.targets ≡ front ++ t ∷ []) (k : AreTargets shelf) where
