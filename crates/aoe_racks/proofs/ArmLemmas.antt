@@ -1,9 +1,11 @@
 -- A disk of a slot is armed: its stretch begins.
-use Rattle.std.proofs.Common.{◌≡◌, ◌≢◌, ◌<◌, ◌≤◌, ◌-◌, ◌*◌, ◌&&◌, ◌⊎◌, inl, inr, ℕ, Bool, true, false, List, ◌∷◌, length, Option, Some, None, is_some, refl, sym, ap, subst, ◌∙◌, arith}
+use Rattle.std.proofs.Common.{◌≡◌, ◌≢◌, ◌<◌, ◌≤◌, ◌-◌, ◌*◌, ◌&&◌, ◌⊎◌, inl, inr, ℕ, Bool, true, false, List, ◌∷◌, length, get_or, Option, Some, None, is_some, refl, sym, ap, subst, ◌∙◌, arith}
 use Rattle.std.proofs.lemmas.List.{length-set}
-use Rattle.std.proofs.lemmas.Option.{same_Some, slice_get_within}
-use Rattle.std.specs.Prelude.{slice_get, IfNone, IfSome, IsSomeAnd}
+use Rattle.std.proofs.lemmas.Option.{slice_get-get_or, slice_get_within}
+use Rattle.std.specs.List.{refill}
+use Rattle.std.specs.Prelude.{slice_get, slice_set, IfNone, IfSome, IsSomeAnd}
 use Rattle.std.specs.Option.{option_map}
+use Rattle.arrayvec.proofs.ArrayVecLemmas.{items-with_items}
 use Rattle.aoe_base.specs.declared.address.TargetId.{TargetId}
 use Rattle.aoe_disk.specs.Arming.{number_of, Arms, ArmsTo}
 use Rattle.aoe_disk.specs.Memory.{schedule_of, state_of, Memory}
@@ -13,6 +15,7 @@ use Rattle.aoe_disk.specs.declared.loss.Loss.{Loss}
 use Rattle.aoe_keep.specs.Found.{Finds}
 use Rattle.aoe_keep.specs.Keep.{Kept}
 use Rattle.aoe_lists.specs.Settings.{Settings}
+use Rattle.aoe_shelf.specs.Shelf.{Rack}
 use Rattle.aoe_shelf.specs.Slot.{ChangesAt}
 use Rattle.aoe_shelf.proofs.SlotLemmas.{get-after, get-other, length-changed}
 use Rattle.aoe_target.specs.Device.{Holds, MayStand, State}
@@ -27,10 +30,10 @@ use Rattle.aoe_script.specs.declared.event.Which.{Which}
 use Rattle.aoe_script.specs.declared.event.Which.TheVariants.{Store, Keep}
 use Rattle.aoe_racks.specs.declared.rack.Stops.{Stops}
 use Rattle.aoe_racks.specs.Arming.{arm_of, with_stop, ArmsDisk}
-use Rattle.aoe_racks.specs.Rack.{calls_per, stop_in, AreApart, IsDue, IsServing, MemoryRack, SameWithin, Serves}
+use Rattle.aoe_racks.specs.Rack.{calls_per, stop_in, AreApart, IsDue, IsRack, IsServing, MemoryRack, SameWithin, Serves}
 use Rattle.aoe_racks.proofs.Apart.{if-false, if-true, says-armed, serves-still, there}
 use Rattle.aoe_racks.proofs.ArrivalLemmas.{at-place, same-or}
-use Rattle.aoe_racks.proofs.RackLemmas.{IsSameTarget}
+use Rattle.aoe_racks.proofs.RackLemmas.{rack-kept, IsSameTarget}
 use Rattle.aoe_racks.proofs.SlotLemmas.{same-self}
 
 -- the stretch of a disk that was just armed
@@ -187,3 +190,46 @@ module _ (slots : List SlotSetup) (apart : AreApart slots) (i : ℕ) (h : List E
   shelf-armed dev p =
       let slot = there slots i (omega (arith, slice_get_within x.shelf.targets i c.before c.found, s.count)) in
       subst (λ (z : TargetId). Serves slots (Armed z which k mode ∷ h) y) (named slot.0 slot.1 dev p) (serves-armed slot.0 slot.1)
+
+-- what the code knows of an arming: how the targets changed, and the stops by what was read of them
+pub record IsArming (i : ℕ) (which : Which) (k : ℕ) (mode : Option Loss) (arm : Arm) (a b : Rack Memory Memory) (items read xs : List Stops) (old new : Stops) (dev : TargetId) (x : MemoryRack) : Type 0 where
+  pub first : 0 < k
+  pub armed : arm ≡ arm_of k mode
+  pub change : ChangesAt i (ArmsDisk which arm) a.targets b.targets
+  pub rest : b ≡ record a { targets = b.targets }
+  pub view : record { shelf = a; stops = items } ≡ x
+  pub name : IsSomeAnd (slice_get x.shelf.targets i) (λ t. dev ≡ t.station.id)
+  pub count : length items ≡ length a.targets
+  pub before : read ≡ items
+  pub after : xs ≡ items
+  pub is : new ≡ with_stop which mode (get_or read i old)
+
+refilled : (items : List Stops) (i : ℕ) (new : Stops) → refill (length items) items (slice_set items i new) ≡ slice_set items i new
+refilled items i new = items-with_items (record { items = items }) (slice_set items i new) (length-set items i new)
+
+module _ (i : ℕ) (which : Which) (k : ℕ) (mode : Option Loss) (arm : Arm) (a b : Rack Memory Memory) (items read xs : List Stops) (old new : Stops) (dev : TargetId) (x : MemoryRack)
+    (z : IsArming i which k mode arm a b items read xs old new dev x) where
+  stops-then : refill (length items) items (slice_set xs i new) ≡ slice_set items i new
+  stops-then = ap (λ l. refill (length items) items (slice_set l i new)) z.after ∙ refilled items i new
+
+  within : i < length items
+  within = omega (arith, slice_get_within a.targets i z.change.before z.change.found, z.count)
+
+  pub arming-kept : (major : ℕ) → IsRack major a items → IsRack major b (refill (length items) items (slice_set xs i new))
+  arming-kept major r = subst (λ (l : List Stops). IsRack major b l) (sym stops-then)
+      (rack-kept a b r.targets i z.change z.rest (armed-same which arm z.change.before z.change.after z.change.change) major items (slice_set items i new) r (length-set items i new))
+
+  pub arming-serves : (slots : List SlotSetup) → AreApart slots → (h : List Entry) → Serves slots h x → Serves slots (Armed dev which k mode ∷ h) (record { shelf = b; stops = refill (length items) items (slice_set xs i new) })
+  arming-serves slots apart h s =
+      let stops : ChangesAt i (λ p q. q ≡ with_stop which mode p) items (slice_set items i new) = record {
+        before = get_or items i old;
+        after = new;
+        found = slice_get-get_or items i old within;
+        others = refl;
+        change = z.is ∙ ap (λ (l : List Stops). with_stop which mode (get_or l i old)) z.before;
+      } in
+      let change : ChangesAt i (ArmsDisk which (arm_of k mode)) a.targets b.targets = subst (λ (w : Arm). ChangesAt i (ArmsDisk which w) a.targets b.targets) z.armed z.change in
+      let name : IsSomeAnd (slice_get a.targets i) (λ t. dev ≡ t.station.id) = subst (λ (v : MemoryRack). IsSomeAnd (slice_get v.shelf.targets i) (λ t. dev ≡ t.station.id)) (sym z.view) z.name in
+      subst (λ (l : List Stops). Serves slots (Armed dev which k mode ∷ h) (record { shelf = b; stops = l })) (sym stops-then)
+      (shelf-armed slots apart i h which k mode z.first (record { shelf = a; stops = items }) (record { shelf = b; stops = slice_set items i new }) (get_or items i old)
+      (slice_get-get_or items i old within) change stops (subst (λ (v : MemoryRack). Serves slots h v) (sym z.view) s) dev name)

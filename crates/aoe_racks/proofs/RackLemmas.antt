@@ -1,8 +1,8 @@
 -- What holds of the fields of a shelf in a run, after one target changed.
-use Rattle.std.proofs.Common.{◌≡◌, ◌≢◌, ◌<◌, ◌≤◌, ◌⊎◌, inl, inr, ℕ, Bool, true, false, List, length, Some, refl, sym, ap, subst, ◌∙◌}
+use Rattle.std.proofs.Common.{◌≡◌, ◌≢◌, ◌<◌, ◌≤◌, ◌⊎◌, inl, inr, ℕ, zero, suc, Bool, true, false, List, [], ◌∷◌, length, map, Some, refl, sym, ap, subst, ◌∙◌}
 use Rattle.std.proofs.lemmas.Option.{same_Some}
 use Rattle.std.proofs.lemmas.Bool.{OnTrue_at}
-use Rattle.std.specs.Prelude.{slice_get}
+use Rattle.std.specs.Prelude.{slice_get, slice_set}
 use Rattle.aoe_base.specs.declared.address.Mac.{Mac}
 use Rattle.aoe_disk.specs.Memory.{state_of, Memory}
 use Rattle.aoe_keep.specs.Keep.{Kept}
@@ -86,3 +86,14 @@ receives-same t u f w out r = record {
     keep : (b : Bool) → edits t.station t.keep.lists f (verdict t.station t.keep.lists f) ≡ b → (state_of u.keep.disk).sectors ≡ (state_of t.keep.disk).sectors
     keep true e = (OnTrue_at {b = edits t.station t.keep.lists f (verdict t.station t.keep.lists f)} e r.edit).calls.sectors
     keep false e = ap (λ (m : Kept Memory). (state_of m.disk).sectors) (r.unedited e)
+
+map-changed : {X Y : Type 0} (f : X → Y) (xs : List X) (i : ℕ) (x y : X) → slice_get xs i ≡ Some x → f y ≡ f x → map f (slice_set xs i y) ≡ map f xs
+map-changed f [] i x y at same = refl
+map-changed f (w ∷ xs) zero x y at same = ap (λ z. z ∷ map f xs) (same ∙ ap f (sym (same_Some w x at)))
+map-changed f (w ∷ xs) (suc i) x y at same = ap (λ l. f w ∷ l) (map-changed f xs i x y at same)
+
+-- all targets keep what never changes of them
+pub stations-kept : (i : ℕ) (Change : Mounted Memory Memory → Mounted Memory Memory → Type 0) (a b : List (Mounted Memory Memory)) (c : ChangesAt i Change a b) → c.after.station ≡ c.before.station
+    → map (λ (t : Mounted Memory Memory). t.station) b ≡ map (λ (t : Mounted Memory Memory). t.station) a
+stations-kept i Change a b c same =
+    ap (λ l. map (λ (t : Mounted Memory Memory). t.station) l) c.others ∙ map-changed (λ (t : Mounted Memory Memory). t.station) a i c.before c.after c.found same

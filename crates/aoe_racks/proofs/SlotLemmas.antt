@@ -46,7 +46,7 @@ use Rattle.aoe_racks.proofs.WithinLemmas.{held, known_in, stepped, StepsWithin}
 
 -- A SLOT AFTER AN ARRIVAL
 
-same-self : (id : TargetId) → same_id id id ≡ true
+pub same-self : (id : TargetId) → same_id id id ≡ true
 same-self id = both (nat_eq id.major id.major) (nat_eq id.minor id.minor) (itself id.major) (itself id.minor)
   where
     both : (a b : Bool) → a ≡ true → b ≡ true → (a && b) ≡ true
@@ -93,8 +93,10 @@ pub record Takes (slot : SlotSetup) (h : List Entry) (f : List ℕ) (x : Heard) 
 
 pub takes : (slot : SlotSetup) (h : List Entry) (f : List ℕ) (x : Heard) (out : List ℕ) (t u : Mounted Memory Memory) → IsStanding slot h t → Receives state_of state_of t u f x out → Takes slot h f x out t u
 takes slot h f x out t u k r =
-    let step : IsStep slot.station (state_after slot h) f (fate_of x out) (device_of state_of state_of u) =
-    subst (λ (z : Station). IsStep z (state_after slot h) f (fate_of x out) (device_of state_of state_of u)) k.station (r.step (state_after slot h) k.holds) in
+    let known : State = known_in t (state_after slot h) in
+    let step : StepsWithin slot.station (state_after slot h) f (fate_of x out) u =
+    stepped slot.station (state_after slot h) f (fate_of x out) t u k.holds
+    (subst (λ (z : Station). IsStep z known f (fate_of x out) (device_of state_of state_of u)) k.station (r.step known (held slot.station.sectors t (state_after slot h) k.holds))) in
     let store : calls_store (verdict t.station t.keep.lists f) ≡ calls Store slot h f =
     ap (λ (z : Station). calls_store (verdict z t.keep.lists f)) k.station ∙ ap (λ (l : Settings). calls_store (verdict slot.station l f)) k.holds.lists in
     let keep : edits t.station t.keep.lists f (verdict t.station t.keep.lists f) ≡ calls Keep slot h f =

@@ -7,6 +7,7 @@ use Rattle.aoe_base.specs.declared.sectors.Span.{Span}
 use Rattle.aoe_disk.specs.Memory.{contents_of, state_of, Memory}
 use Rattle.aoe_disk.specs.State.{sector, BothTell}
 use Rattle.aoe_frame.specs.Header.{fields, head}
+use Rattle.aoe_frame.specs.declared.refusal.AoeError.TheVariants.{BadArgument}
 use Rattle.aoe_frame.specs.declared.header.Header.{Header}
 use Rattle.aoe_frame.specs.declared.refusal.AoeError.TheVariants.{BadArgument}
 use Rattle.aoe_ata.specs.Args.{registers}
@@ -314,8 +315,7 @@ module _ (station : Station) (k : State) (f : List ℕ) (fate : Fate) (t u : Mou
       let s : Step = step_of station k.lists f command in
       (a, kept (after_step s fate k) (step_sectors s fate k) (subst (λ (z : State). Holds (device_of state_of state_of u) z) (step_known t s fate k) hold))
   by_verdict (verdict.Ata d) r a hold =
-      let own : Sectors = sectors_of (contents_of t.store) in
-      (
+      let own : Sectors = sectors_of (contents_of t.store) in (
         allows_within station.sectors station (Some own) k.sectors h.sectors (fields f) d.args d.answer fate r a,
         record {
           lists = hold.lists;
