@@ -11,6 +11,7 @@ use Rattle.aoe_target.specs.Mounted.{Mounted}
 use Rattle.aoe_target.specs.declared.station.Station.{Station}
 use Rattle.aoe_racks.specs.Crash.{RestartEach, Restarts}
 use Rattle.aoe_racks.specs.Rack.{AreTargets, IsTargetOf}
+use Rattle.aoe_racks.proofs.Apart.{there}
 use Rattle.aoe_racks.proofs.CrashLemmas.{restarted_target}
 
 -- THE FRONT OF A LIST
@@ -126,13 +127,8 @@ more_targets shelf t k here other = record {
 
 -- A RESTART
 
-there : {X : Type 0} (xs : List X) (i : ℕ) → i < length xs → (x : X) × (slice_get xs i ≡ Some x)
-there [] i lt = absurd (omega (arith, lt))
-there (x ∷ xs) zero lt = (x, refl)
-there (x ∷ xs) (suc i) lt = there xs i (omega (arith, lt))
-
 -- of a target, and of those before it
-pub restart_more : (how : Loss) (xs ys : List (Mounted Memory Memory)) (x y : Mounted Memory Memory) → RestartEach how xs ys → Restarts how x y → RestartEach how (xs ++ x ∷ []) (ys ++ y ∷ [])
+restart_more : (how : Loss) (xs ys : List (Mounted Memory Memory)) (x y : Mounted Memory Memory) → RestartEach how xs ys → Restarts how x y → RestartEach how (xs ++ x ∷ []) (ys ++ y ∷ [])
 restart_more how xs ys x y r one = record {
   count = length_last ys y ∙ ap suc r.count ∙ sym (length_last xs x);
   each = λ i a b p q. elim (get_split xs x i a p) [
@@ -146,6 +142,14 @@ restart_more how xs ys x y r one = record {
     ]
   ];
 }
+
+-- the last target was added again
+pub restart_last : (how : Loss) (before front : List (Mounted Memory Memory)) (x y : Mounted Memory Memory) (r new : Rack Memory Memory) → before ≡ front ++ x ∷ [] → new ≡ record r { targets = r.targets ++ y ∷ [] } → RestartEach how front r.targets
+    → Restarts how x y → RestartEach how before new.targets
+restart_last how before front x y r new is added each one =
+    let targets : new.targets ≡ r.targets ++ y ∷ [] = ap (λ (z : Rack Memory Memory). z.targets) added in
+    subst (λ (l : List (Mounted Memory Memory)). RestartEach how l new.targets) (sym is)
+    (subst (λ (l : List (Mounted Memory Memory)). RestartEach how (front ++ x ∷ []) l) (sym targets) (restart_more how front r.targets x y each one))
 
 -- no minor is new
 pub restart_minor : (how : Loss) (xs ys : List (Mounted Memory Memory)) (minor : ℕ) → RestartEach how xs ys → ((i : ℕ) (t : Mounted Memory Memory) → slice_get xs i ≡ Some t → t.station.id.minor ≢ minor) → has_minor ys minor ≡ false

@@ -30,16 +30,7 @@ use Rattle.aoe_racks.specs.Rack.{stop_in, AreApart, AreSlots, HoldsWithin, IsDue
 use Rattle.aoe_racks.proofs.Apart.{if-true, says-crashed, there, SaysSame}
 use Rattle.aoe_racks.proofs.CrashLemmas.{keep_unarmed, restarted_holds, restarted_lists, store_unarmed}
 use Rattle.aoe_racks.proofs.FrontLemmas.{get_replicate, get_take}
-
-own_name : (id : TargetId) → same_id id id ≡ true
-own_name id = both (nat_eq id.major id.major) (nat_eq id.minor id.minor) (itself id.major) (itself id.minor)
-  where
-    both : (a b : Bool) → a ≡ true → b ≡ true → (a && b) ≡ true
-    both true b p q = q
-    both false b p q = p
-
-    itself : (a : ℕ) → nat_eq a a ≡ true
-    itself a = grind (arith, nat_tests)
+use Rattle.aoe_racks.proofs.SlotLemmas.{same-self}
 
 -- ONE SLOT
 
@@ -153,7 +144,7 @@ module _ (slots : List SlotSetup) (h : List Entry) (how : Loss) (x : MemoryRack)
 
   module _ (apart : AreApart slots) (i : ℕ) (slot : SlotSetup) (t : Mounted Memory Memory) (a : slice_get slots i ≡ Some slot) (b : slice_get ys i ≡ Some t) where
     crashed : CrashesTo slot t.keep.lists how h (with_crashes how ys h)
-    crashed = struck slot how ys i t h b (ap (λ (z : Station). is_slot slot z.id) (may_restart.each i slot t a b).0 ∙ own_name slot.station.id) (λ j u c ne. other_name apart i j slot u a c ne)
+    crashed = struck slot how ys i t h b (ap (λ (z : Station). is_slot slot z.id) (may_restart.each i slot t a b).0 ∙ same-self slot.station.id) (λ j u c ne. other_name apart i j slot u a c ne)
 
     serving : (stops : Stops) → record { store = None; keep = None } ≡ stops → IsServing slot (with_crashes how ys h) t stops
     serving stops is =
@@ -198,7 +189,7 @@ crash_noted how ts i first old new so_far p = go (slice_get ts i) refl p
         take_more ts i t (slice_get_within ts i t at) ∙ ap (λ (u : Mounted Memory Memory). take i ts ++ u ∷ []) (get_or_from_slice_get ts i t t at) in
         p ∙ ap (λ (z : Recorded). with_entry z (Crashed t.station.id t.keep.lists how)) so_far
         ∙ ap (λ (m : List Entry). record first { entries = m })
-            (sym (ap (λ (l : List (Mounted Memory Memory)). with_crashes how l first.entries) more ∙ with_crashes_more how (take i ts) t first.entries))
+        (sym (ap (λ (l : List (Mounted Memory Memory)). with_crashes how l first.entries) more ∙ with_crashes_more how (take i ts) t first.entries))
 
 pub on_ok : {T E A B : Type 0} (r : Result T E) → OnOk r A → (A → B) → OnOk r B
 on_ok (Ok x) p f = f p

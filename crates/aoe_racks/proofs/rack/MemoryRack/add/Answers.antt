@@ -39,19 +39,19 @@ returns-clause-serves c =
     let x : MemoryRack = record { shelf = shelf; stops = c.self.inside.stops.items } in
     let y : MemoryRack = record { shelf = c.seat.new.shelf; stops = c.push.new.self.items } in
     let P : MemoryRack → Type 0 = λ z. (slots : List SlotSetup) → Serves slots [] z
-            → Serves (slots ++ record { station = station_of (record { major = z.shelf.major; minor = c.args.minor }) z.shelf.ports z.shelf.mtu c.args.sectors; cache = None } ∷ []) [] y in
+    → Serves (slots ++ record { station = station_of (record { major = z.shelf.major; minor = c.args.minor }) z.shelf.ports z.shelf.mtu c.args.sectors; cache = None } ∷ []) [] y in
     subst P c.self.view_is (λ slots k.
-        new_serves shelf.major shelf.ports shelf.mtu c.args.minor c.args.sectors 8192 c.in-Ok-Ok.store c.in-Ok-Ok.keep c.mount.result c.in-Ok-Ok.ensures c.in-Ok-Ok.ensures' c.mount.ensures
-            slots x y (ap (λ (z : Rack Memory Memory). z.targets) c.seat.ensures) (c.push.ensures.items ∙ ap (λ (z : Stops). c.self.inside.stops.items ++ z ∷ []) c.none.ensures) k)
+    new_serves shelf.major shelf.ports shelf.mtu c.args.minor c.args.sectors 8192 c.in-Ok-Ok.store c.in-Ok-Ok.keep c.mount.result c.in-Ok-Ok.ensures c.in-Ok-Ok.ensures' c.mount.ensures
+    slots x y (ap (λ (z : Rack Memory Memory). z.targets) c.seat.ensures) (c.push.ensures.items ∙ ap (λ (z : Stops). c.self.inside.stops.items ++ z ∷ []) c.none.ensures) k)
 
 pub returns-clause-added : goal.returns-clause-added
 returns-clause-added c =
     let shelf = c.self.inside.shelf in
     let stations : List (Mounted Memory Memory) → List Station = λ ts. map (λ t. t.station) ts in
     let P : MemoryRack → Type 0 = λ z. stations c.seat.new.shelf.targets
-            ≡ stations z.shelf.targets ++ station_of (record { major = z.shelf.major; minor = c.args.minor }) z.shelf.ports z.shelf.mtu c.args.sectors ∷ [] in
+    ≡ stations z.shelf.targets ++ station_of (record { major = z.shelf.major; minor = c.args.minor }) z.shelf.ports z.shelf.mtu c.args.sectors ∷ [] in
     subst P c.self.view_is (ap (λ (z : Rack Memory Memory). stations z.targets) c.seat.ensures
-        ∙ new_station shelf.major shelf.ports shelf.mtu c.args.minor c.args.sectors 8192 c.in-Ok-Ok.store c.in-Ok-Ok.keep c.mount.result c.in-Ok-Ok.ensures c.in-Ok-Ok.ensures' c.mount.ensures shelf.targets)
+    ∙ new_station shelf.major shelf.ports shelf.mtu c.args.minor c.args.sectors 8192 c.in-Ok-Ok.store c.in-Ok-Ok.keep c.mount.result c.in-Ok-Ok.ensures c.in-Ok-Ok.ensures' c.mount.ensures shelf.targets)
 
 pub returns-clause-count : goal.returns-clause-count
 returns-clause-count c =

@@ -21,16 +21,16 @@ invariant_of-self c = record {
 pub returns-clause-ok : goal.returns-clause-ok
 returns-clause-ok c = on_ok c.note_each.result c.note_each.ensures.ok (λ e s slots are k lawful.
     all_noted s slots c.args.run.now.entries c.args.how (record { shelf = c.self.inside.shelf; stops = c.self.inside.stops.items }) c.restart.new.shelf.targets are
-        (subst (λ (x : MemoryRack). Stands slots c.args.run.now.entries x) (sym c.self.view_is) k) lawful c.restart.ensures.restarts
-        (record { shelf = c.restart.new.shelf; stops = c.no_stops-self-inside.result.items }) refl c.count.result c.no_stops-self-inside.ensures
-        (ap length c.no_stops-self-inside.ensures ∙ length-replicate c.count.result _ ∙ c.count.ensures.count)
-        c.note_each.new.run.entries (ap (λ (r : Recorded). r.entries) e))
+    (subst (λ (x : MemoryRack). Stands slots c.args.run.now.entries x) (sym c.self.view_is) k) lawful c.restart.ensures.restarts
+    (record { shelf = c.restart.new.shelf; stops = c.no_stops-self-inside.result.items }) refl c.count.result c.no_stops-self-inside.ensures
+    (ap length c.no_stops-self-inside.ensures ∙ length-replicate c.count.result _ ∙ c.count.ensures.count)
+    c.note_each.new.run.entries (ap (λ (r : Recorded). r.entries) e))
 
 pub returns-clause-err : goal.returns-clause-err
 returns-clause-err c = on_err c.note_each.result c.note_each.ensures.err (λ e s slots are k lawful.
     some_noted s slots c.args.run.now.entries c.args.how (record { shelf = c.self.inside.shelf; stops = c.self.inside.stops.items }) c.restart.new.shelf.targets are
-        (subst (λ (x : MemoryRack). Stands slots c.args.run.now.entries x) (sym c.self.view_is) k) lawful c.restart.ensures.restarts
-        e.0 c.note_each.new.run.entries (ap (λ (r : Recorded). r.entries) e.1))
+    (subst (λ (x : MemoryRack). Stands slots c.args.run.now.entries x) (sym c.self.view_is) k) lawful c.restart.ensures.restarts
+    e.0 c.note_each.new.run.entries (ap (λ (r : Recorded). r.entries) e.1))
 
 pub returns-clause-stations : goal.returns-clause-stations
 returns-clause-stations c =
