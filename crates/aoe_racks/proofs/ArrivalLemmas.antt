@@ -1,5 +1,5 @@
 -- A frame that comes to one slot of a shelf, and to one after the other.
-use Rattle.std.proofs.Common.{◌≡◌, ◌≢◌, ◌<◌, ◌≤◌, ◌+◌, ◌==◌, ◌⊎◌, inl, inr, ℕ, zero, suc, Bool, true, false, if◌then◌else◌, List, [], ◌∷◌, length, get_or, drop, Option, Some, None, refl, sym, ap, subst, ◌∙◌, arith}
+use Rattle.std.proofs.Common.{◌≡◌, ◌≢◌, ◌<◌, ◌≤◌, ◌==◌, ◌⊎◌, inl, inr, ℕ, zero, suc, Bool, true, false, if◌then◌else◌, List, [], ◌∷◌, length, get_or, drop, Option, Some, None, refl, sym, ap, subst, ◌∙◌, arith}
 use Rattle.std.proofs.lemmas.Bool.Decides.{nat_tests}
 use Rattle.std.proofs.lemmas.List.{drop_all}
 use Rattle.std.proofs.lemmas.Option.{same_Some, slice_get-get_or, slice_get_within}
@@ -23,7 +23,7 @@ use Rattle.aoe_history.specs.declared.entry.Fate.{Fate}
 use Rattle.aoe_history.specs.declared.entry.Fate.TheVariants.{Cut, Ignored, Replied, Silent}
 use Rattle.aoe_history.specs.Frames.{arriving, bytes_of, clock, frames, network, next_number}
 use Rattle.aoe_history.specs.Groups.{ArriveAtEach, ArriveAtSome, CrashEach, CrashSome}
-use Rattle.aoe_history.specs.Lawful.{IsArrival, IsLawful, IsNumbered, MayCome}
+use Rattle.aoe_history.specs.Lawful.{IsArrival, IsNumbered, MayCome}
 use Rattle.aoe_history.specs.Setup.{Setup, SlotSetup}
 use Rattle.aoe_history.specs.ShelfLaw.{KeepsArming, KeepsShelfLaw}
 use Rattle.aoe_run.specs.Run.{MeetsFull}

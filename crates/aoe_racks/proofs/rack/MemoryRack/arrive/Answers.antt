@@ -1,15 +1,13 @@
 -- Each exit, by what is known of the slots that the frame came to.
-use Rattle.std.proofs.Common.{◌≡◌, ◌≤◌, ◌+◌, suc, List, length, Option, Some, None, Ok, Err, refl, sym, ap, subst, ◌∙◌, arith, add-one}
+use Rattle.std.proofs.Common.{◌≡◌, ◌≤◌, length, Option, Ok, Err, sym, ap, subst, ◌∙◌, arith, add-one}
 use Rattle.std.specs.Prelude.{OnErr, Result}
 use Rattle.aoe_disk.specs.declared.loss.Loss.{Loss}
-use Rattle.aoe_history.specs.Frames.{arriving}
 use Rattle.aoe_history.specs.Groups.{ArriveAtSome}
 use Rattle.aoe_history.specs.Lawful.{IsLawful}
-use Rattle.aoe_history.specs.Setup.{Setup, SlotSetup}
 use Rattle.aoe_run.specs.Run.{Recorded}
-use Rattle.aoe_racks.specs.Arrival.{ComesTo, GoesOn, IsCut, IsReached}
+use Rattle.aoe_racks.specs.Arrival.{ComesTo, IsCut}
 use Rattle.aoe_racks.specs.Rack.{MemoryRack}
-use Rattle.aoe_racks.proofs.ArrivalLemmas.{crashed-each, crashed-some, goes-of, passes-all, passes-on, passes-some, Passes}
+use Rattle.aoe_racks.proofs.ArrivalLemmas.{crashed-each, crashed-some, goes-of, passes-all, passes-on, passes-some}
 use Rattle.aoe_racks.proofs.rack.MemoryRack.arrive.Goals as goal
 
 on-err : {T E : Type 0} (r : Result T E) (P : Type 0) → P → OnErr r P
