@@ -1,15 +1,12 @@
 -- What a history says of slots that lost their power.
-use Rattle.std.proofs.Common.{◌≡◌, ◌≢◌, ◌<◌, ◌≤◌, ◌⊎◌, ◌+◌, ◌&&◌, inl, inr, nat_eq, ℕ, zero, suc, Bool, true, false, List, [], ◌∷◌, ◌++◌, length, map, take, replicate, Option, Some, None, refl, sym, ap, subst, ◌∙◌, arith}
+use Rattle.std.proofs.Common.{◌≡◌, ◌≢◌, ◌≤◌, ◌+◌, inl, inr, ℕ, zero, suc, true, false, List, [], ◌∷◌, ◌++◌, length, take, replicate, Option, Some, None, refl, sym, ap, subst, ◌∙◌, arith}
 use Rattle.std.specs.Prelude.{slice_get, Err, IsSomeAnd, Ok, OnErr, OnOk, Result}
-use Rattle.std.proofs.lemmas.Bool.Decides.{nat_tests}
 use Rattle.std.proofs.lemmas.List.{length-take, take_more}
 use Rattle.std.proofs.lemmas.Option.{get_or_from_slice_get, same_Some, slice_get_within}
-use Rattle.aoe_base.specs.declared.address.TargetId.{TargetId}
 use Rattle.std.specs.Option.{option_map}
 use Rattle.aoe_disk.specs.Arming.{number_of}
 use Rattle.aoe_disk.specs.Memory.{schedule_of, state_of, Memory}
 use Rattle.aoe_disk.specs.declared.loss.Loss.{Loss}
-use Rattle.aoe_initiator.specs.HostLaw.{same_id}
 use Rattle.aoe_lists.specs.Settings.{Settings}
 use Rattle.aoe_target.specs.Device.{MayStand}
 use Rattle.aoe_target.specs.Mounted.{device_of, Mounted}
@@ -18,15 +15,15 @@ use Rattle.aoe_history.specs.declared.entry.Entry.{Entry}
 use Rattle.aoe_history.specs.declared.entry.Entry.TheVariants.{Crashed}
 use Rattle.aoe_history.specs.Groups.{CrashEach, CrashSome}
 use Rattle.aoe_history.specs.Lawful.{IsLawful, MayCome}
-use Rattle.aoe_history.specs.Setup.{is_slot, slot_of, Setup, SlotSetup}
+use Rattle.aoe_history.specs.Setup.{is_slot, Setup, SlotSetup}
 use Rattle.aoe_history.specs.ShelfLaw.{stretch, KeepsLists, Stretch}
 use Rattle.aoe_history.specs.Slots.{after_crash, slot_after, state_after, Slot}
 use Rattle.aoe_run.specs.Run.{with_entry, Recorded}
 use Rattle.aoe_script.specs.declared.event.Which.{Which}
 use Rattle.aoe_script.specs.declared.event.Which.TheVariants.{Store, Keep}
 use Rattle.aoe_racks.specs.declared.rack.Stops.{Stops}
-use Rattle.aoe_racks.specs.Crash.{with_crashes, RestartEach, Restarts}
-use Rattle.aoe_racks.specs.Rack.{stop_in, AreApart, AreSlots, HoldsWithin, IsDue, IsServing, IsStanding, MemoryRack, Serves, Stands}
+use Rattle.aoe_racks.specs.Crash.{with_crashes, RestartEach}
+use Rattle.aoe_racks.specs.Rack.{stop_in, AreApart, AreSlots, HoldsWithin, IsDue, IsServing, MemoryRack, Serves, Stands}
 use Rattle.aoe_racks.proofs.Apart.{if-true, says-crashed, there, SaysSame}
 use Rattle.aoe_racks.proofs.CrashLemmas.{keep_unarmed, restarted_holds, restarted_lists, store_unarmed}
 use Rattle.aoe_racks.proofs.FrontLemmas.{get_replicate, get_take}

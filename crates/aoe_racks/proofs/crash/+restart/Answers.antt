@@ -1,10 +1,9 @@
-use Rattle.std.proofs.Common.{◌≡◌, ◌<◌, ◌++◌, ◌∷◌, [], List, length, refl, sym, ap, subst, ◌∙◌, arith}
+use Rattle.std.proofs.Common.{◌≡◌, length, sym, ap, subst, ◌∙◌, arith}
 use Rattle.aoe_disk.specs.Memory.{contents_of, Memory}
 use Rattle.aoe_disk.specs.State.{CanLeave}
 use Rattle.aoe_keep.specs.Keep.{Kept}
 use Rattle.aoe_shelf.specs.Shelf.{Rack}
-use Rattle.aoe_target.specs.Mounted.{Mounted}
-use Rattle.aoe_racks.specs.Crash.{Loses, RestartEach}
+use Rattle.aoe_racks.specs.Crash.{Loses}
 use Rattle.aoe_racks.specs.Rack.{AreTargets}
 use Rattle.aoe_racks.proofs.FrontLemmas.{front_apart, front_targets, last_target, length_last, restart_last, restart_minor}
 use Rattle.aoe_racks.proofs.SeatLemmas.{last_name, not_refused, seated, seated_again}

@@ -1,4 +1,4 @@
-use Rattle.std.proofs.Common.{suc, ◌≡◌, ◌||◌, ◌==◌, ◌++◌, None, ◌∷◌, [], List, length, map, replicate, refl, sym, ap, subst, ◌∙◌, arith}
+use Rattle.std.proofs.Common.{suc, ◌≡◌, ◌||◌, ◌==◌, ◌++◌, None, ◌∷◌, [], List, length, map, sym, ap, subst, ◌∙◌, arith}
 use Rattle.aoe_disk.specs.Memory.{Memory}
 use Rattle.aoe_keep.specs.Found.{found}
 use Rattle.aoe_lists.specs.Settings.{empty_settings}

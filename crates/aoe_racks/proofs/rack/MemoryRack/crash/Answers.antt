@@ -1,11 +1,9 @@
-use Rattle.std.proofs.Common.{◌≡◌, ◌∷◌, [], List, length, map, replicate, refl, sym, ap, subst, ◌∙◌, arith}
+use Rattle.std.proofs.Common.{length, map, refl, sym, ap, subst, ◌∙◌}
 use Rattle.std.proofs.lemmas.List.{length-replicate}
 use Rattle.aoe_disk.specs.Memory.{Memory}
 use Rattle.aoe_shelf.specs.Shelf.{Rack}
 use Rattle.aoe_target.specs.Mounted.{Mounted}
-use Rattle.aoe_target.specs.declared.station.Station.{Station}
 use Rattle.aoe_run.specs.Run.{Recorded}
-use Rattle.aoe_racks.specs.declared.rack.Stops.{Stops}
 use Rattle.aoe_racks.specs.Rack.{AreTargets, MemoryRack, Stands}
 use Rattle.aoe_racks.proofs.FrontLemmas.{restart_targets, same_stations}
 use Rattle.aoe_racks.proofs.HistoryLemmas.{all_noted, on_err, on_ok, some_noted}
