@@ -1,8 +1,10 @@
 //! The text of a script.
-ghost use Rattle.std.specs.Prelude.{◌≡◌, ◌++◌, ◌∷◌, [], decimal, IfOk, OnOk};
+ghost use Rattle.std.specs.Prelude.{◌≡◌, ◌≤◌, ◌++◌, ◌∷◌, [], decimal, length, IfOk, None, OnOk};
+ghost use Rattle.aoe_script.specs.Lines.{refusal, script_of};
 ghost use Rattle.aoe_script.specs.Print.{device_text, event_words, optional_word, script_text, setup_words, spaced, spelled, which_text};
 
 use crate::event::{Event, Which};
+use crate::laws::printed_script_reads_back;
 use crate::script::Script;
 use crate::setup::{Name, Setup};
 use crate::spelling::{
@@ -243,10 +245,13 @@ fn put_event(out: &mut Vec<u8>, event: &Event) -> Result<(), NoMemory>
 }
 
 /// The text of a script: one line for each setup line and each event, whose words single spaces
-/// part.
+/// part. It reads back, unless it is longer than a text may be.
 pub fn print_script(alloc: Global, script: &Script) -> Result<Blob, NoMemory>
-    ensures { IfOk result (λ text. text ≡ script_text script.now) }
+    ensures text { IfOk result (λ text. text ≡ script_text script.now) }
+    ensures reads { IfOk result (λ text. script_of text ≡ script.now) }
+    ensures accepted { IfOk result (λ text. length text ≤ 16777216 → refusal text ≡ None) }
 {
+    printed_script_reads_back();
     let mut out = Vec::new(alloc);
     'setups: for i in 0..script.setups() {
         put_setup(&mut out, script.setup(i))?;
