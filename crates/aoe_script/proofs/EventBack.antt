@@ -1,12 +1,10 @@
 -- The words of an event line say what it asks.
-use Rattle.std.proofs.Common.{◌≡◌, ◌↔◌, ◌^◌, ◌<◌, ◌==◌, ℕ, true, ◌&&◌, List, length, Some, nat_lt, nat_le, refl, arith, lit<}
+use Rattle.std.proofs.Common.{◌≡◌, ◌^◌, ◌<◌, ◌==◌, ℕ, true, ◌&&◌, List, length, nat_lt, nat_le, refl, arith, lit<}
 use Rattle.std.specs.Prelude.{All, if◌then◌else◌}
 use Rattle.std.proofs.lemmas.Bool.{and_parts}
 use Rattle.std.proofs.lemmas.Bool.Decides.{nat_tests}
 use Rattle.arrayvec.specs.ArrayVec.{ArrayVec}
-use Rattle.aoe_base.specs.declared.address.Mac.{Mac}
 use Rattle.aoe_base.specs.declared.address.TargetId.{TargetId}
-use Rattle.aoe_base.specs.Names.{IsNameOf, device_of, mac_of, mac_text}
 use Rattle.aoe_disk.specs.declared.loss.Loss.{Loss}
 use Rattle.aoe_script.specs.declared.event.Event.{Event}
 use Rattle.aoe_script.specs.declared.event.Event.TheVariants.{Read, Write, Flush, Identify, Config, Masks, Reserve, Tick, Deliver, Pass, Skip, Again, Inject, Fail, Stop, Crash}
@@ -17,10 +15,11 @@ use Rattle.aoe_script.specs.Forms.{said}
 use Rattle.aoe_script.specs.Print.{event_words}
 use Rattle.aoe_script.specs.Rules.{is_asked, is_device, is_event, is_span, is_within}
 use Rattle.aoe_script.specs.Types.{FitsEvent, FitsLoss, IsByte}
-use Rattle.aoe_script.proofs.NamedLemmas.{device_back, device_word, mode_back, mode_word, name_back, name_word, which_back, which_word}
+use Rattle.aoe_script.proofs.NamedLemmas.{DeviceLaw, device_back, device_word, mode_back, mode_word, name_back, name_word, which_back, which_word}
+use Rattle.aoe_script.proofs.ListedLemmas.{AddressLaw}
 use Rattle.aoe_script.proofs.PlainLemmas.{both_true}
-use Rattle.aoe_script.proofs.SetupBack.{IsSaid, number_is, small_of}
-use Rattle.aoe_script.proofs.WrittenLemmas.{bytes_back, bytes_word, number_word}
+use Rattle.aoe_script.proofs.SaidLemmas.{IsSaid, most_of, small_of}
+use Rattle.aoe_script.proofs.WrittenLemmas.{bytes_back, bytes_word, number_is, number_word}
 use Rattle.aoe_script.proofs.AskedBack.{config_is, flush_is, identify_is, masks_is, read_is, reserve_is, write_is}
 
 tick_is : (ms : ℕ) → ms < 2 ^ 64 → IsSaid (event_words (Tick ms)) (Asks (Tick ms))
@@ -59,7 +58,7 @@ crash_is shelf mode named fits = record {
   few = omega arith;
 }
 
-module _ (devices : (id : TargetId) (text : List ℕ) → (device_of text ≡ Some id) ↔ IsNameOf id text) (dev : TargetId) (known : is_device dev ≡ true) where
+module _ (devices : DeviceLaw) (dev : TargetId) (known : is_device dev ≡ true) where
   fail_is : (which : Which) (k : ℕ) → k < 2 ^ 64 → IsSaid (event_words (Fail dev which k)) (Asks (Fail dev which k))
   unfolding said
   fail_is which k small = record {
@@ -76,17 +75,13 @@ module _ (devices : (id : TargetId) (text : List ℕ) → (device_of text ≡ So
     few = omega arith;
   }
 
-most_of : (least most n : ℕ) → most < 2 ^ 64 → is_within least most n ≡ true → n < 2 ^ 64
-most_of least most n fits e = small_of most n fits (and_parts (nat_le least n) (nat_le n most) e).1
-
 span_of : (at count : ℕ) → is_span at count ≡ true → (at < 2 ^ 64) × (count < 2 ^ 64)
 span_of at count e =
     let h = and_parts (nat_lt at 281474976710656) (nat_le count 255) e in
     let low : at < 281474976710656 = grind (arith, nat_tests) in
     (omega (arith, low), small_of 255 count (lit< tt) h.1)
 
-module _ (law : (mac : Mac) → length mac.0 ≡ 6 → All (λ b. b < 2 ^ 8) mac.0 → mac_of (mac_text mac) ≡ Some mac)
-    (devices : (id : TargetId) (text : List ℕ) → (device_of text ≡ Some id) ↔ IsNameOf id text) where
+module _ (law : AddressLaw) (devices : DeviceLaw) where
   pub event_is : (event : Event) → is_event event ≡ true → FitsEvent event → IsSaid (event_words event) (Asks event)
   event_is (Read host dev at count) e fits =
       let h = and_parts (is_asked host dev) (is_span at count) e in

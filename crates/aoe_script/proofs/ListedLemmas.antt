@@ -85,7 +85,11 @@ module _ {T : Type 0} (read : Text → Option T) (write : T → Text) where
 
 -- ---- addresses
 
-module _ (law : (mac : Mac) → length mac.0 ≡ 6 → All (λ b. b < 2 ^ 8) mac.0 → mac_of (mac_text mac) ≡ Some mac) where
+-- an address is read from its text
+abbrev pub AddressLaw : Type 0
+AddressLaw = (mac : Mac) → length mac.0 ≡ 6 → All (λ b. b < 2 ^ 8) mac.0 → mac_of (mac_text mac) ≡ Some mac
+
+module _ (law : AddressLaw) where
   macs_written : (macs : List Mac) → AllByRecursion IsAddress macs → AllByRecursion (IsWritten mac_of mac_text) macs
   macs_written [] h = tt
   macs_written (mac ∷ macs) h = (record { back = law mac h.0.six h.0.bytes; part = mac_part mac h.0; long = mac_long mac h.0 }, macs_written macs h.1)

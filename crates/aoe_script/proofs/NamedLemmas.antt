@@ -19,7 +19,7 @@ use Rattle.aoe_script.specs.Print.{device_text, mode_text, which_text}
 use Rattle.aoe_script.specs.Rules.{is_device}
 use Rattle.aoe_script.specs.Types.{FitsLoss}
 use Rattle.aoe_script.proofs.PlainLemmas.{all_append, all_weaker, both_true, is_plain, is_word}
-use Rattle.aoe_script.proofs.WrittenLemmas.{digits_plain, number_back}
+use Rattle.aoe_script.proofs.WrittenLemmas.{digits_plain, number_back, number_is}
 
 pub a_word : (c : ℕ) (word : List ℕ) → list_all is_plain (c ∷ word) ≡ true → is_word (c ∷ word) ≡ true
 a_word c word e = both_true _ _ (lt-ltb 0 _ (omega arith)) e
@@ -56,7 +56,11 @@ device_word dev e =
     let low : dev.minor < 2 ^ 64 = grind (arith, nat_tests) in
     a_word 101 (decimal dev.major ++ 46 ∷ decimal dev.minor) (all_append is_plain (decimal dev.major) (46 ∷ decimal dev.minor) (digits_plain dev.major high) (digits_plain dev.minor low))
 
-pub device_back : ((id : TargetId) (text : List ℕ) → (device_of text ≡ Some id) ↔ IsNameOf id text) → (dev : TargetId) → is_device dev ≡ true → device_of (device_text dev) ≡ Some dev
+-- which texts are read as a device
+abbrev pub DeviceLaw : Type 0
+DeviceLaw = (id : TargetId) (text : List ℕ) → (device_of text ≡ Some id) ↔ IsNameOf id text
+
+pub device_back : DeviceLaw → (dev : TargetId) → is_device dev ≡ true → device_of (device_text dev) ≡ Some dev
 device_back law dev e =
     let h = and_parts (nat_le dev.major 65534) (nat_le dev.minor 254) e in
     let high : dev.major ≤ 65534 = grind (arith, nat_tests) in
@@ -91,6 +95,6 @@ mode_back Old fits = refl
 mode_back Torn fits = refl
 mode_back (Mix x) fits =
     let long : nat_lt 4 (4 + length (decimal x)) ≡ true = lt-ltb 4 _ (omega (arith, decimal_nonempty x fits)) in
-    let back : number (decimal x) ≡ Some x = number_back x 18446744073709551615 fits (omega (arith, fits)) in
+    let back = number_is x fits in
     let test : nat_lt 4 (length (codes "mix:" ++ decimal x)) ≡ true = ap (nat_lt 4) (length-append (codes "mix:") (decimal x)) ∙ long in
     ap (λ b. if b && true then option_map Mix (number (decimal x)) else None) test ∙ ap (option_map Mix) back

@@ -1,29 +1,24 @@
 -- The words of a setup line say what it declares.
-use Rattle.std.proofs.Common.{◌≡◌, ◌^◌, ◌<◌, ◌≤◌, ℕ, true, ◌&&◌, List, length, Option, Some, None, nat_le, refl, arith, lit<}
-use Rattle.std.specs.Prelude.{All, decimal}
+use Rattle.std.proofs.Common.{◌≡◌, ◌^◌, ◌<◌, ◌≤◌, ℕ, true, ◌&&◌, length, Option, Some, None, nat_le, refl, arith, lit<}
+use Rattle.std.specs.Prelude.{All}
 use Rattle.std.specs.List.{list_all}
 use Rattle.std.proofs.lemmas.Bool.{and_parts}
 use Rattle.std.proofs.lemmas.Bool.Decides.{nat_tests}
 use Rattle.arrayvec.specs.ArrayVec.{ArrayVec}
 use Rattle.aoe_base.specs.declared.address.Mac.{Mac}
-use Rattle.aoe_base.specs.Names.{mac_of, mac_text}
-use Rattle.aoe_script.specs.declared.line.Line.{Line}
 use Rattle.aoe_script.specs.declared.line.Line.TheVariants.{Declares}
 use Rattle.aoe_script.specs.declared.setup.Setup.{Setup}
 use Rattle.aoe_script.specs.declared.setup.Setup.TheVariants.{Life, Shelf, Slot, Host, Attach}
-use Rattle.aoe_script.specs.Classes.{is_name, number}
+use Rattle.aoe_script.specs.Classes.{is_name}
 use Rattle.aoe_script.specs.Forms.{said}
 use Rattle.aoe_script.specs.Print.{setup_words}
 use Rattle.aoe_script.specs.Rules.{all_unique, are_ports, is_individual, is_limit, is_setup, is_within}
 use Rattle.aoe_script.specs.Types.{FitsSetup, IsAddress}
-use Rattle.aoe_script.specs.Words.{Text}
-use Rattle.aoe_script.proofs.ListedLemmas.{macs_word, ports_back}
+use Rattle.aoe_script.proofs.ListedLemmas.{AddressLaw, macs_word, ports_back}
 use Rattle.aoe_script.proofs.NamedLemmas.{name_back, name_word}
-use Rattle.aoe_script.proofs.PlainLemmas.{both_true, is_word}
-use Rattle.aoe_script.proofs.WrittenLemmas.{number_back, number_word}
-
-pub number_is : (n : ℕ) → n < 2 ^ 64 → number (decimal n) ≡ Some n
-number_is n small = number_back n 18446744073709551615 small (omega (arith, small))
+use Rattle.aoe_script.proofs.PlainLemmas.{both_true}
+use Rattle.aoe_script.proofs.SaidLemmas.{IsSaid, most_of, small_of}
+use Rattle.aoe_script.proofs.WrittenLemmas.{number_is, number_word}
 
 few_ports : (ports : ArrayVec Mac) → are_ports ports ≡ true → (0 < length ports.items) × (length ports.items ≤ 4)
 unfolding are_ports
@@ -32,94 +27,56 @@ few_ports ports e =
     let g = (and_parts (is_within 1 4 (length ports.items)) (list_all is_individual ports.items) h.0).0 in
     (grind (arith, nat_tests), grind (arith, nat_tests))
 
-pub small_of : (most n : ℕ) → most < 2 ^ 64 → nat_le n most ≡ true → n < 2 ^ 64
-small_of most n fits e = let le : n ≤ most = grind (arith, nat_tests) in omega (arith, fits, le)
-
--- the words say it, each is one, and there are no more than seven
-pub record IsSaid (ws : List Text) (line : Line) : Type 0 where
-  pub said_is : said ws ≡ line
-  pub are_words : list_all is_word ws ≡ true
-  pub few : length ws ≤ 7
-
-module _ (law : (mac : Mac) → length mac.0 ≡ 6 → All (λ b. b < 2 ^ 8) mac.0 → mac_of (mac_text mac) ≡ Some mac) where
-  life_said : (ms : ℕ) → ms < 2 ^ 64 → said (setup_words (Life ms)) ≡ Declares (Life ms)
-  unfolding said
-  life_said ms small = rw (number_is ms small) refl
-
-  shelf_said : (name : ArrayVec ℕ) (major : ℕ) (ports : ArrayVec Mac) (mtu : ℕ) → is_name name ≡ true → major < 2 ^ 64 → are_ports ports ≡ true → mtu < 2 ^ 64 → All IsAddress ports.items
-      → said (setup_words (Shelf name major ports mtu)) ≡ Declares (Shelf name major ports mtu)
-  unfolding said
-  shelf_said name major ports mtu named high are low fits =
-      let few = few_ports ports are in
-      rw (name_back name named, number_is major high, ports_back law ports.items few.0 few.1 fits, number_is mtu low) refl
-
-  slot_said : (shelf : ArrayVec ℕ) (minor sectors : ℕ) → is_name shelf ≡ true → minor < 2 ^ 64 → sectors < 2 ^ 64 → said (setup_words (Slot shelf minor sectors)) ≡ Declares (Slot shelf minor sectors)
-  unfolding said
-  slot_said shelf minor sectors named low small = rw (name_back shelf named, number_is minor low, number_is sectors small) refl
-
-  host_said : (name : ArrayVec ℕ) (ports : ArrayVec Mac) → is_name name ≡ true → are_ports ports ≡ true → All IsAddress ports.items
-      → said (setup_words (Host name ports None None)) ≡ Declares (Host name ports None None)
-  unfolding said
-  host_said name ports named are fits =
-      let few = few_ports ports are in
-      rw (name_back name named, ports_back law ports.items few.0 few.1 fits) refl
-
-  limited_said : (name : ArrayVec ℕ) (ports : ArrayVec Mac) (room dead : ℕ) → is_name name ≡ true → are_ports ports ≡ true → room < 2 ^ 64 → dead < 2 ^ 64 → All IsAddress ports.items
-      → said (setup_words (Host name ports (Some room) (Some dead))) ≡ Declares (Host name ports (Some room) (Some dead))
-  unfolding said
-  limited_said name ports room dead named are high low fits =
-      let few = few_ports ports are in
-      rw (name_back name named, ports_back law ports.items few.0 few.1 fits, number_is room high, number_is dead low) refl
-
-  attach_said : (host shelf : ArrayVec ℕ) (minor : ℕ) → is_name host ≡ true → is_name shelf ≡ true → minor < 2 ^ 64 → said (setup_words (Attach host shelf minor)) ≡ Declares (Attach host shelf minor)
-  unfolding said
-  attach_said host shelf minor named other low = rw (name_back host named, name_back shelf other, number_is minor low) refl
-
-  -- ---- the words
-
+module _ (law : AddressLaw) where
   life_is : (ms : ℕ) → ms < 2 ^ 64 → IsSaid (setup_words (Life ms)) (Declares (Life ms))
+  unfolding said
   life_is ms small = record {
-    said_is = life_said ms small;
+    said_is = rw (number_is ms small) refl;
     are_words = both_true _ _ (number_word ms small) refl;
     few = omega arith;
   }
 
   shelf_is : (name : ArrayVec ℕ) (major : ℕ) (ports : ArrayVec Mac) (mtu : ℕ) → is_name name ≡ true → major < 2 ^ 64 → are_ports ports ≡ true → mtu < 2 ^ 64 → All IsAddress ports.items
       → IsSaid (setup_words (Shelf name major ports mtu)) (Declares (Shelf name major ports mtu))
+  unfolding said
   shelf_is name major ports mtu named high are low fits = record {
-    said_is = shelf_said name major ports mtu named high are low fits;
+    said_is = rw (name_back name named, number_is major high, ports_back law ports.items (few_ports ports are).0 (few_ports ports are).1 fits, number_is mtu low) refl;
     are_words = both_true _ _ (name_word name named) (both_true _ _ (number_word major high)
         (both_true _ _ (macs_word law ports.items (few_ports ports are).0 fits) (both_true _ _ (number_word mtu low) refl)));
     few = omega arith;
   }
 
   slot_is : (shelf : ArrayVec ℕ) (minor sectors : ℕ) → is_name shelf ≡ true → minor < 2 ^ 64 → sectors < 2 ^ 64 → IsSaid (setup_words (Slot shelf minor sectors)) (Declares (Slot shelf minor sectors))
+  unfolding said
   slot_is shelf minor sectors named low small = record {
-    said_is = slot_said shelf minor sectors named low small;
+    said_is = rw (name_back shelf named, number_is minor low, number_is sectors small) refl;
     are_words = both_true _ _ (name_word shelf named) (both_true _ _ (number_word minor low) (both_true _ _ (number_word sectors small) refl));
     few = omega arith;
   }
 
   host_is : (name : ArrayVec ℕ) (ports : ArrayVec Mac) → is_name name ≡ true → are_ports ports ≡ true → All IsAddress ports.items
       → IsSaid (setup_words (Host name ports None None)) (Declares (Host name ports None None))
+  unfolding said
   host_is name ports named are fits = record {
-    said_is = host_said name ports named are fits;
+    said_is = rw (name_back name named, ports_back law ports.items (few_ports ports are).0 (few_ports ports are).1 fits) refl;
     are_words = both_true _ _ (name_word name named) (both_true _ _ (macs_word law ports.items (few_ports ports are).0 fits) refl);
     few = omega arith;
   }
 
   limited_is : (name : ArrayVec ℕ) (ports : ArrayVec Mac) (room dead : ℕ) → is_name name ≡ true → are_ports ports ≡ true → room < 2 ^ 64 → dead < 2 ^ 64 → All IsAddress ports.items
       → IsSaid (setup_words (Host name ports (Some room) (Some dead))) (Declares (Host name ports (Some room) (Some dead)))
+  unfolding said
   limited_is name ports room dead named are high low fits = record {
-    said_is = limited_said name ports room dead named are high low fits;
+    said_is = rw (name_back name named, ports_back law ports.items (few_ports ports are).0 (few_ports ports are).1 fits, number_is room high, number_is dead low) refl;
     are_words = both_true _ _ (name_word name named) (both_true _ _ (macs_word law ports.items (few_ports ports are).0 fits)
         (both_true _ _ (number_word room high) (both_true _ _ (number_word dead low) refl)));
     few = omega arith;
   }
 
   attach_is : (host shelf : ArrayVec ℕ) (minor : ℕ) → is_name host ≡ true → is_name shelf ≡ true → minor < 2 ^ 64 → IsSaid (setup_words (Attach host shelf minor)) (Declares (Attach host shelf minor))
+  unfolding said
   attach_is host shelf minor named other low = record {
-    said_is = attach_said host shelf minor named other low;
+    said_is = rw (name_back host named, name_back shelf other, number_is minor low) refl;
     are_words = both_true _ _ (name_word host named) (both_true _ _ (name_word shelf other) (both_true _ _ (number_word minor low) refl));
     few = omega arith;
   }
@@ -131,9 +88,7 @@ module _ (law : (mac : Mac) → length mac.0 ≡ 6 → All (λ b. b < 2 ^ 8) mac
   limits_is name ports (Some room) None named are limit fits = absurd cc
   limits_is name ports (Some room) (Some dead) named are limit fits =
       let h = and_parts (is_within 1 16384 room) (is_within 1 10000000 dead) limit in
-      let high = (and_parts (nat_le 1 room) (nat_le room 16384) h.0).1 in
-      let low = (and_parts (nat_le 1 dead) (nat_le dead 10000000) h.1).1 in
-      limited_is name ports room dead named are (small_of 16384 room (lit< tt) high) (small_of 10000000 dead (lit< tt) low) fits
+      limited_is name ports room dead named are (most_of 1 16384 room (lit< tt) h.0) (most_of 1 10000000 dead (lit< tt) h.1) fits
 
   pub setup_is : (setup : Setup) → is_setup setup ≡ true → FitsSetup setup → IsSaid (setup_words setup) (Declares setup)
   setup_is (Life ms) e fits = life_is ms (small_of 600000 ms (lit< tt) e)
@@ -141,13 +96,11 @@ module _ (law : (mac : Mac) → length mac.0 ≡ 6 → All (λ b. b < 2 ^ 8) mac
       let h = and_parts (is_name name && nat_le major 65534 && are_ports ports) (is_within 1500 9000 mtu) e in
       let g = and_parts (is_name name && nat_le major 65534) (are_ports ports) h.0 in
       let f = and_parts (is_name name) (nat_le major 65534) g.0 in
-      let low = (and_parts (nat_le 1500 mtu) (nat_le mtu 9000) h.1).1 in
-      shelf_is name major ports mtu f.0 (small_of 65534 major (lit< tt) f.1) g.1 (small_of 9000 mtu (lit< tt) low) fits
+      shelf_is name major ports mtu f.0 (small_of 65534 major (lit< tt) f.1) g.1 (most_of 1500 9000 mtu (lit< tt) h.1) fits
   setup_is (Slot shelf minor sectors) e fits =
       let h = and_parts (is_name shelf && nat_le minor 254) (is_within 1 65536 sectors) e in
       let g = and_parts (is_name shelf) (nat_le minor 254) h.0 in
-      let most = (and_parts (nat_le 1 sectors) (nat_le sectors 65536) h.1).1 in
-      slot_is shelf minor sectors g.0 (small_of 254 minor (lit< tt) g.1) (small_of 65536 sectors (lit< tt) most)
+      slot_is shelf minor sectors g.0 (small_of 254 minor (lit< tt) g.1) (most_of 1 65536 sectors (lit< tt) h.1)
   setup_is (Host name ports room dead) e fits =
       let h = and_parts (is_name name && are_ports ports) (is_limit room dead) e in
       let g = and_parts (is_name name) (are_ports ports) h.0 in

@@ -11,7 +11,7 @@ use Rattle.std.proofs.lemmas.Str.{digit_value-digit_char}
 use Rattle.std.proofs.lemmas.Str.Parse.{IsNumeralModel, numerals_by_weight}
 use Rattle.aoe_base.specs.Decimal.{decimal_value, number_of}
 use Rattle.aoe_base.specs.Names.{is_hex_digit, pair_text}
-use Rattle.aoe_script.specs.Classes.{at_most, byte_of, bytes_of, each, pair, pairs}
+use Rattle.aoe_script.specs.Classes.{at_most, byte_of, bytes_of, each, number, pair, pairs}
 use Rattle.aoe_script.specs.Print.{bytes_text}
 use Rattle.aoe_script.proofs.PlainLemmas.{all_append, all_weaker, both_true, is_part, is_plain, is_word}
 
@@ -45,6 +45,9 @@ number_back n max small most =
     let same = digits_value-decimal own n small in
     let fits : nat_le n max ≡ true = grind (arith, nat_tests) in
     rw (some, few, digits, same, fits) refl
+
+pub number_is : (n : ℕ) → n < 2 ^ 64 → number (decimal n) ≡ Some n
+number_is n small = number_back n 18446744073709551615 small (omega (arith, small))
 
 -- ---- bytes
 
