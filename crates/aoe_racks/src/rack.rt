@@ -111,10 +111,11 @@ impl MemoryRack {
         requires ports { 1 ≤ length ports.items }
         requires shortest { 1500 ≤ mtu }
         requires longest { mtu ≤ 9000 }
-        ensures { IfOk result (λ x. x ≡ record {
+        ensures value { IfOk result (λ x. x ≡ record {
           shelf = record { major = major; ports = ports.items; mtu = mtu; targets = [] };
           stops = [];
         }) }
+        ensures serves { IfOk result (Serves [] []) }
     {
         Ok(MemoryRack {
             major,
