@@ -1,2 +1,3 @@
 mod AddsLemmas
 mod TurnLemmas
+mod ActLemmas
