@@ -1,3 +1,4 @@
 mod AddsLemmas
 mod TurnLemmas
 mod ActLemmas
+mod HostActLemmas

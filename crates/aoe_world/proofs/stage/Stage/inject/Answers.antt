@@ -13,7 +13,7 @@ returns-in-Ok c s majors net k foreign =
     let mid = record c.args.self.now { run = c.inject.new.self } in
     let run = c.in-Ok.ensures.ok in
     act-done c.settle.result s majors (Inject c.args.frame.now) None c.args.self.now mid c.settle.new.self (refl, ap (λ r. r.entries) run)
-    (c.settle.ensures s majors None net
+    (c.settle.ensures.settles s majors None net
     (turning-by s majors c.args.self.now mid (Injected (next_number c.args.self.now.run.entries) c.args.frame.now) k (record { source = foreign; number_is = refl }) run refl refl
     (λ host. refl) (λ slots. refl)))
 

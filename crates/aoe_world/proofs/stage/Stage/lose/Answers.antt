@@ -10,4 +10,4 @@ returns-in-Ok c s majors net k =
     let mid = record c.args.self.now { run = c.note.new.self } in
     let run = c.in-Ok.ensures.ok in
     act-done c.settle.result s majors (Lose c.args.frame) None c.args.self.now mid c.settle.new.self (refl, ap (λ r. r.entries) run)
-    (c.settle.ensures s majors None net (turning-by s majors c.args.self.now mid (Lost c.args.frame) k tt run refl refl (λ host. refl) (λ slots. refl)))
+    (c.settle.ensures.settles s majors None net (turning-by s majors c.args.self.now mid (Lost c.args.frame) k tt run refl refl (λ host. refl) (λ slots. refl)))
