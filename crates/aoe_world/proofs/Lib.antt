@@ -2,3 +2,4 @@ mod AddsLemmas
 mod TurnLemmas
 mod ActLemmas
 mod HostActLemmas
+mod ShelfActLemmas
