@@ -1,5 +1,5 @@
 -- What an event line says in which nothing is wrong behind good setup lines.
-use Rattle.std.proofs.Common.{ℕ, ◌≡◌, ◌∙◌, Bool, true, false, not, ◌&&◌, ◌==◌, List, length, Some, None, nat_eq, refl, sym, ap, subst}
+use Rattle.std.proofs.Common.{Contains, ℕ, ◌≡◌, ◌∙◌, Bool, true, false, not, ◌&&◌, ◌==◌, List, length, Some, None, nat_eq, refl, sym, ap, subst}
 use Rattle.std.specs.Prelude.{slice_get}
 use Rattle.std.specs.List.{list_any}
 use Rattle.std.proofs.lemmas.Bool.{and_from, and_parts, eq-eqb, eqb-true, not-false, or_from}
@@ -10,7 +10,7 @@ use Rattle.aoe_base.specs.declared.address.TargetId.{TargetId}
 use Rattle.aoe_initiator.specs.declared.device.Attached.{Attached}
 use Rattle.aoe_initiator.specs.HostLaw.{same_id}
 use Rattle.aoe_lists.specs.Addresses.{holds}
-use Rattle.aoe_history.specs.Setup.{is_port, slot_of, HostSetup, SlotSetup}
+use Rattle.aoe_history.specs.Setup.{is_port, shelf_of, slot_of, HostSetup, SlotSetup}
 use Rattle.aoe_script.specs.declared.event.Event.{Event}
 use Rattle.aoe_script.specs.declared.event.Event.TheVariants.{Read, Write, Flush, Identify, Config, Masks, Reserve, Tick, Deliver, Pass, Skip, Again, Inject, Fail, Stop, Crash}
 use Rattle.aoe_script.specs.declared.refusal.Why.TheVariants.{Station, Unknown, Value}
@@ -25,8 +25,8 @@ use Rattle.aoe_layout.proofs.HostLemmas.{device-at, host-called, host-from}
 use Rattle.aoe_layout.proofs.LineLemmas.{host-before, same-is, shelf-found, shelf-there, slot-line, slot-line-of, SlotLine}
 use Rattle.aoe_layout.proofs.ListLemmas.{any-from, any-passes, none-passes, position-some}
 use Rattle.aoe_layout.proofs.SetupLemmas.{in-host, in-slot}
-use Rattle.aoe_layout.proofs.SlotLemmas.{slot-found, slot-from, slot-placed}
-use Rattle.aoe_layout.proofs.StationLemmas.{station-called}
+use Rattle.aoe_layout.proofs.SlotLemmas.{number-there, slot-inside, slot-found, slot-from, slot-placed}
+use Rattle.aoe_layout.proofs.StationLemmas.{host-station, shelf-station, station-called}
 
 pub why-parts : (lines : List Line) (event : Event) → event_why lines event ≡ None → (is_event event ≡ true) × (named_why lines event ≡ None)
 unfolding event_why
@@ -97,7 +97,7 @@ module _ (lines : List Line) (good : AreGood lines) where
       major-in (Shelf name major ports mtu) = major
       major-in line = 0
 
-  is-asked : (host : ArrayVec ℕ) (dev : TargetId) → asked_why lines host dev ≡ None → IsAsked (setup_of lines) host dev
+  is-asked : (host : ArrayVec ℕ) (dev : TargetId) → asked_why lines host dev ≡ None → IsAsked lines (setup_of lines) host dev
   is-asked host dev e =
       let known = not-false (is_attached lines host dev) (unless-none (not (is_attached lines host dev)) Unknown None e).0 in
       let s = attached-shelf lines host dev known in
@@ -108,14 +108,15 @@ module _ (lines : List Line) (good : AreGood lines) where
       let d = about (slot_with x.major x.ports.items x.mtu dev.minor x.sectors) in
       let p = device-at lines good a.at host s.name dev.minor a.there x in
       let id : same_id d.id dev ≡ true
-            = and_from (nat_eq x.major dev.major) (nat_eq dev.minor dev.minor) (eq-eqb x.major dev.major (one-shelf s.name dev.minor x s.at dev.major s.ports s.mtu s.there)) (eq-eqb dev.minor dev.minor refl) in
+      = and_from (nat_eq x.major dev.major) (nat_eq dev.minor dev.minor) (eq-eqb x.major dev.major (one-shelf s.name dev.minor x s.at dev.major s.ports s.mtu s.there)) (eq-eqb dev.minor dev.minor refl) in
       record {
         host = host_of lines host h.1.items h.2 h.3;
         called = host-called lines good h.0 host h.1 h.2 h.3 h.4;
         device = position-some (λ (z : Attached). same_id z.id dev) (devices_of lines host) (any-from (λ (z : Attached). same_id z.id dev) (devices_of lines host) p.at d p.there id);
+        station = host-station lines good h.0 host h.1 h.2 h.3 h.4;
       }
 
-  is-there : (dev : TargetId) → known_why lines dev ≡ None → IsThere (setup_of lines) dev
+  is-there : (dev : TargetId) → known_why lines dev ≡ None → IsThere lines (setup_of lines) dev
   is-there dev e =
       let known = not-false (is_known lines dev) (unless-none (not (is_known lines dev)) Unknown None e).0 in
       let s = known-shelf lines dev known in
@@ -123,28 +124,34 @@ module _ (lines : List Line) (good : AreGood lines) where
       let slot = slot_with x.major x.ports.items x.mtu dev.minor x.sectors in
       let m = one-shelf s.name dev.minor x s.at dev.major s.ports s.mtu s.there in
       let id : slot.station.id ≡ dev = ap (λ n. let i : TargetId = record { major = n; minor = dev.minor } in i) m in
-      record { slot = slot; there = subst (λ z. slot_of (setup_of lines) z ≡ Some slot) id (slot-found lines good slot (slot-placed lines good s.name dev.minor x)) }
+      record {
+        slot = slot;
+        called = id;
+        there = subst (λ z. slot_of (setup_of lines) z ≡ Some slot) id (slot-found lines good slot (slot-placed lines good s.name dev.minor x));
+        number = number-there lines good s.at s.name dev.major s.ports s.mtu s.there;
+        inside = subst (λ n. Contains (shelf_of (setup_of lines) n) slot) m (slot-inside lines good s.name dev.minor x);
+      }
 
   is-shelf : (name : ArrayVec ℕ) → unless (not (list_any (is_shelf_named name) lines)) Unknown None ≡ None → IsShelf lines name
   is-shelf name e =
       let any = not-false (list_any (is_shelf_named name) lines) (unless-none (not (list_any (is_shelf_named name) lines)) Unknown None e).0 in
       let s = shelf-there lines good name any in
-      record { at = s.0; major = s.1; ports = s.2; mtu = s.3; there = s.4 }
+      record { at = s.0; major = s.1; ports = s.2; mtu = s.3; there = s.4; found = shelf-station lines good s.0 name s.1 s.2 s.3 s.4 }
 
   -- an address of no line is the port of no station
   no-port : (port : Mac) → list_any (has_port port) lines ≡ false → is_port (setup_of lines) port ≡ false
   no-port port none =
       or_from (list_any (λ (host : HostSetup). holds host.ports port) (setup_of lines).hosts) (list_any (λ (slot : SlotSetup). holds slot.station.ports.items port) (setup_of lines).slots)
       (none-any (λ (host : HostSetup). holds host.ports port) (setup_of lines).hosts
-        (λ i host e t. let h = host-from lines i host e in
-            let f : holds h.ports.items port ≡ false = none-passes (has_port port) lines h.at (Host h.name h.ports h.room h.dead) none h.there in
-            let g : holds h.ports.items port ≡ true = in-host lines good host h port t in
-            cc))
+      (λ i host e t. let h = host-from lines i host e in
+      let f : holds h.ports.items port ≡ false = none-passes (has_port port) lines h.at (Host h.name h.ports h.room h.dead) none h.there in
+      let g : holds h.ports.items port ≡ true = in-host lines good host h port t in
+      cc))
       (none-any (λ (slot : SlotSetup). holds slot.station.ports.items port) (setup_of lines).slots
-        (λ i slot e t. let x = slot-from lines good slot (record { at = i; there = e }) in
-            let f : holds x.line.ports.items port ≡ false = none-passes (has_port port) lines x.line.at (Shelf x.name x.line.major x.line.ports x.line.mtu) none x.line.shelf_there in
-            let g : holds x.line.ports.items port ≡ true = in-slot lines good slot x port t in
-            cc))
+      (λ i slot e t. let x = slot-from lines good slot (record { at = i; there = e }) in
+      let f : holds x.line.ports.items port ≡ false = none-passes (has_port port) lines x.line.at (Shelf x.name x.line.major x.line.ports x.line.mtu) none x.line.shelf_there in
+      let g : holds x.line.ports.items port ≡ true = in-slot lines good slot x port t in
+      cc))
     where
       none-any : {X : Type 0} (p : X → Bool) (xs : List X) → ((i : ℕ) (x : X) → slice_get xs i ≡ Some x → p x ≡ true → ⊥) → list_any p xs ≡ false
       none-any p xs never = go (list_any p xs) refl
@@ -164,7 +171,7 @@ module _ (lines : List Line) (good : AreGood lines) where
   can-come (Tick ms) e = within 1 10000000 ms e.0
   can-come (Deliver frame station) e =
       let w = within 1 4294967295 frame (and_parts (is_within 1 4294967295 frame) (is_name station) e.0).0 in
-      (station-called lines station (not-false (list_any (is_station_named station) lines) (unless-none (not (list_any (is_station_named station) lines)) Unknown None e.1).0), w.0, w.1)
+      (station-called lines good station (not-false (list_any (is_station_named station) lines) (unless-none (not (list_any (is_station_named station) lines)) Unknown None e.1).0), w.0, w.1)
   can-come (Pass n) e = within 1 10000 n e.0
   can-come (Skip n) e = within 1 10000 n e.0
   can-come Again e = tt

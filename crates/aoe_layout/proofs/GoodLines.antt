@@ -64,6 +64,7 @@ pub record GoodShelf (before : List Line) (name : ArrayVec ℕ) (major : ℕ) (p
   pub new_name : list_any (is_station_named name) before ≡ false
   pub new_ports : list_any (λ mac. list_any (has_port mac) before) ports.items ≡ false
   pub new_number : list_any (has_major major) before ≡ false
+  pub few : count_by is_shelf before < 16
 
 pub record GoodSlot (before : List Line) (shelf : ArrayVec ℕ) (minor sectors : ℕ) : Type 0 where
   pub number : minor ≤ 254
@@ -78,6 +79,7 @@ pub record GoodHost (before : List Line) (name : ArrayVec ℕ) (ports : ArrayVec
   pub limit : is_limit room dead ≡ true
   pub new_name : list_any (is_station_named name) before ≡ false
   pub new_ports : list_any (λ mac. list_any (has_port mac) before) ports.items ≡ false
+  pub few : count_by is_host before < 16
 
 pub record GoodAttach (before : List Line) (host shelf : ArrayVec ℕ) (minor : ℕ) : Type 0 where
   pub new : list_any (attaches host shelf minor) before ≡ false
@@ -105,6 +107,7 @@ good-shelf before name major ports mtu e =
       new_name = t.0;
       new_ports = t.1;
       new_number = g.1;
+      few = fewer is_shelf before f.1;
     }
 
 good-slot : (before : List Line) (shelf : ArrayVec ℕ) (minor sectors : ℕ) → setup_why before false (Slot shelf minor sectors) ≡ None → GoodSlot before shelf minor sectors
@@ -131,7 +134,7 @@ good-host before name ports room dead e =
     let b = and_parts (is_name name) (are_ports ports) a.0 in
     let f = first-none (is_taken before name ports.items) (is_full is_host before) false w.1 in
     let t = or_parts (list_any (is_station_named name) before) (list_any (λ mac. list_any (has_port mac) before) ports.items) f.0 in
-    record { ports_are = good-ports ports b.1; limit = a.1; new_name = t.0; new_ports = t.1 }
+    record { ports_are = good-ports ports b.1; limit = a.1; new_name = t.0; new_ports = t.1; few = fewer is_host before f.1 }
 
 good-attach : (before : List Line) (host shelf : ArrayVec ℕ) (minor : ℕ) → setup_why before false (Attach host shelf minor) ≡ None → GoodAttach before host shelf minor
 good-attach before host shelf minor e =
@@ -152,7 +155,7 @@ pub record AreGood (lines : List Line) : Type 0 where
 pub are-good : (script : ScriptLines) → IsScript script → AreGood script.setups
 are-good script is =
     let why : (k : ℕ) (line : Line) → slice_get script.setups k ≡ Some line → setup_why (take k script.setups) false line ≡ None
-          = λ k line e. MatchOption-at_some Unit (λ l. setup_why (take k script.setups) false l ≡ None) line e (is.setups k) in
+    = λ k line e. MatchOption-at_some Unit (λ l. setup_why (take k script.setups) false l ≡ None) line e (is.setups k) in
     record {
       life = λ k ms e. good-life (take k script.setups) ms (why k (Life ms) e);
       shelf = λ k name major ports mtu e. good-shelf (take k script.setups) name major ports mtu (why k (Shelf name major ports mtu) e);

@@ -22,15 +22,15 @@ use Rattle.aoe_layout.proofs.ListLemmas.{apart-by, filtered-at, find-by, from-fi
 
 -- ---- host lines
 
-record IsHostLine (lines : List Line) (line : Line) (host : HostSetup) : Type 0 where
-  name : ArrayVec ℕ
-  ports : ArrayVec Mac
-  room : Option ℕ
-  dead : Option ℕ
-  line_is : line ≡ Host name ports room dead
-  host_is : host_of lines name ports.items room dead ≡ host
+pub record IsHostLine (lines : List Line) (line : Line) (host : HostSetup) : Type 0 where
+  pub name : ArrayVec ℕ
+  pub ports : ArrayVec Mac
+  pub room : Option ℕ
+  pub dead : Option ℕ
+  pub line_is : line ≡ Host name ports room dead
+  pub host_is : host_of lines name ports.items room dead ≡ host
 
-host-line : (lines : List Line) (line : Line) (host : HostSetup) → host_in lines line ≡ Some host → IsHostLine lines line host
+pub host-line : (lines : List Line) (line : Line) (host : HostSetup) → host_in lines line ≡ Some host → IsHostLine lines line host
 host-line lines (Life ms) host e = absurd (none-some host e)
 host-line lines (Shelf name major ports mtu) host e = absurd (none-some host e)
 host-line lines (Slot shelf minor sectors) host e = absurd (none-some host e)
@@ -100,7 +100,7 @@ module _ (lines : List Line) (good : AreGood lines) where
   device-at k host shelf minor e x =
       let d = about (slot_with x.major x.ports.items x.mtu minor x.sectors) in
       let gives : attached_to lines host (Attach host shelf minor) ≡ Some d
-            = ap (λ b. cond b (option_map about (slot_named lines shelf minor)) None) (same-self host) ∙ ap (option_map about) (slot-is lines good shelf minor x) in
+      = ap (λ b. cond b (option_map about (slot_named lines shelf minor)) None) (same-self host) ∙ ap (option_map about) (slot-is lines good shelf minor x) in
       filtered-at (attached_to lines host) lines k (Attach host shelf minor) d e gives
 
   -- no two devices of a host have one name
@@ -139,10 +139,10 @@ module _ (lines : List Line) (good : AreGood lines) where
               let s = one-shelf c d x.shelf y.shelf x.minor y.minor l.0 m.0 l.1 m.1 is in
               let n : x.shelf ≡ y.shelf = one-name x.shelf y.shelf x.minor y.minor l.0 m.0 s.0 in
               let f : (((x.minor == y.minor) && same host host) && same x.shelf y.shelf) ≡ false
-                    = none-before lines good (attaches host y.shelf y.minor) i j (Attach host x.shelf x.minor) lt (p ∙ ap Some x.line_is) (good.attach j host y.shelf y.minor (q ∙ ap Some y.line_is)).new in
+              = none-before lines good (attaches host y.shelf y.minor) i j (Attach host x.shelf x.minor) lt (p ∙ ap Some x.line_is) (good.attach j host y.shelf y.minor (q ∙ ap Some y.line_is)).new in
               let g : (((x.minor == y.minor) && same host host) && same x.shelf y.shelf) ≡ true
-                    = and_from ((x.minor == y.minor) && same host host) (same x.shelf y.shelf) (and_from (x.minor == y.minor) (same host host) (eq-eqb x.minor y.minor s.1) (same-self host))
-                    ((bytes_eq-Decides x.shelf.items y.shelf.items).1 (ap (λ z. z.items) n)) in
+              = and_from ((x.minor == y.minor) && same host host) (same x.shelf y.shelf) (and_from (x.minor == y.minor) (same host host) (eq-eqb x.minor y.minor s.1) (same-self host))
+              ((bytes_eq-Decides x.shelf.items y.shelf.items).1 (ap (λ z. z.items) n)) in
               absurd cc
           differ false is = is
 
@@ -154,7 +154,7 @@ module _ (lines : List Line) (good : AreGood lines) where
       go : (i j : ℕ) (a b : Line) → i < j → slice_get lines i ≡ Some a → slice_get lines j ≡ Some b → (c d : HostSetup) → IsHostLine lines a c → IsHostLine lines b d → bytes_eq c.name d.name ≡ false
       go i j a b lt p q c d x y =
           let t : bytes_eq x.name.items y.name.items ≡ false
-                = (names-behind lines good i j (Host x.name x.ports x.room x.dead) y.name lt (p ∙ ap Some x.line_is) (good.host j y.name y.ports y.room y.dead (q ∙ ap Some y.line_is)).new_name).1 in
+          = (names-behind lines good i j (Host x.name x.ports x.room x.dead) y.name lt (p ∙ ap Some x.line_is) (good.host j y.name y.ports y.room y.dead (q ∙ ap Some y.line_is)).new_name).1 in
           subst (λ z. bytes_eq z.name d.name ≡ false) x.host_is (subst (λ z. bytes_eq x.name.items z.name ≡ false) y.host_is t)
 
   found-host : (i : ℕ) (host : HostSetup) (name : ArrayVec ℕ) → slice_get (setup_of lines).hosts i ≡ Some host → is_called host name ≡ true → host_called (setup_of lines) name ≡ Some host
@@ -183,6 +183,6 @@ module _ (lines : List Line) (good : AreGood lines) where
     names = λ i j a b name p q ne called.
         let n : a.name ≡ name.items = (bytes_eq-Decides a.name name.items).0 called in
         let t : bytes_eq b.name a.name ≡ false
-              = apart-by (λ (x y : HostSetup). bytes_eq x.name y.name) (setup_of lines).hosts (λ x y s. turn x.name y.name s) hosts-apart j i b a q p (λ s. ne (sym s)) in
+        = apart-by (λ (x y : HostSetup). bytes_eq x.name y.name) (setup_of lines).hosts (λ x y s. turn x.name y.name s) hosts-apart j i b a q p (λ s. ne (sym s)) in
         subst (λ z. bytes_eq b.name z ≡ false) n t;
   }

@@ -234,15 +234,22 @@ ordered-pieces R f (x ∷ xs) each o =
 
 -- ---- a filter that keeps one piece
 
-filter-joined : {X : Type 0} (p : X → Bool) (xs ys : List X) → filter p (xs ++ ys) ≡ filter p xs ++ filter p ys
-filter-joined p xs ys = filter-append p xs ys
+pub kept-at : {X : Type 0} (p : X → Bool) (xs : List X) (k : ℕ) (x : X) → slice_get xs k ≡ Some x → p x ≡ true → Place (filter p xs) x
+kept-at p [] k x e passes = absurd (none-some x e)
+kept-at p (y ∷ xs) k x e passes = go (p y) refl k e (λ j s. kept-at p xs j x s passes)
+  where
+    go : (b : Bool) → p y ≡ b → (k : ℕ) → slice_get (y ∷ xs) k ≡ Some x → ((j : ℕ) → slice_get xs j ≡ Some x → Place (filter p xs) x) → Place (cond b (y ∷ filter p xs) (filter p xs)) x
+    go true is zero e more = record { at = 0; there = e }
+    go true is (suc k) e more = let m = more k e in record { at = suc m.at; there = m.there }
+    go false is zero e more = absurd (let t = ap p (same_Some y x e) in cc)
+    go false is (suc k) e more = more k e
 
-pub filter-all : {X : Type 0} (p : X → Bool) (xs : List X) → ((k : ℕ) (x : X) → slice_get xs k ≡ Some x → p x ≡ true) → filter p xs ≡ xs
+filter-all : {X : Type 0} (p : X → Bool) (xs : List X) → ((k : ℕ) (x : X) → slice_get xs k ≡ Some x → p x ≡ true) → filter p xs ≡ xs
 filter-all p [] all = refl
 filter-all p (x ∷ xs) all =
     ap (λ b. cond b (x ∷ filter p xs) (filter p xs)) (all 0 x refl) ∙ ap (λ ys. x ∷ ys) (filter-all p xs (λ k y e. all (suc k) y e))
 
-pub filter-none : {X : Type 0} (p : X → Bool) (xs : List X) → ((k : ℕ) (x : X) → slice_get xs k ≡ Some x → p x ≡ false) → filter p xs ≡ []
+filter-none : {X : Type 0} (p : X → Bool) (xs : List X) → ((k : ℕ) (x : X) → slice_get xs k ≡ Some x → p x ≡ false) → filter p xs ≡ []
 filter-none p [] none = refl
 filter-none p (x ∷ xs) none =
     ap (λ b. cond b (x ∷ filter p xs) (filter p xs)) (none 0 x refl) ∙ filter-none p xs (λ k y e. none (suc k) y e)

@@ -1,7 +1,7 @@
 -- The ranges of what good lines declare.
-use Rattle.std.proofs.Common.{ℕ, zero, suc, ◌<◌, ◌≤◌, ◌≡◌, true, not, List, [], ◌∷◌, Option, Some, None, get_or, refl, sym, ap, subst, arith}
+use Rattle.std.proofs.Common.{length, count_by, take, ℕ, zero, suc, ◌<◌, ◌≤◌, ◌≡◌, true, not, List, [], ◌∷◌, Option, Some, None, get_or, refl, sym, ap, subst, arith}
 use Rattle.std.specs.Prelude.{slice_get, is_some, option_and_then, unwrap_or}
-use Rattle.std.specs.List.{find}
+use Rattle.std.specs.List.{filter, find}
 use Rattle.std.specs.Str.{bytes_eq}
 use Rattle.std.proofs.lemmas.Bool.{and_parts, not-true}
 use Rattle.std.proofs.lemmas.Option.{slice_get-get_or}
@@ -13,12 +13,12 @@ use Rattle.aoe_paths.specs.PathTable.{IsDistinct}
 use Rattle.aoe_history.specs.Setup.{HostSetup, SlotSetup}
 use Rattle.aoe_script.specs.declared.setup.Setup.{Setup as Line}
 use Rattle.aoe_script.specs.declared.setup.Setup.TheVariants.{Life, Shelf, Slot, Host, Attach}
-use Rattle.aoe_script.specs.Rules.{all_unique, holds, is_limit, is_within}
-use Rattle.aoe_layout.specs.Layout.{default_dead, default_life, default_room, host_of, life_in, setup_of}
+use Rattle.aoe_script.specs.Rules.{is_host as is_host_line, all_unique, holds, is_limit, is_within}
+use Rattle.aoe_layout.specs.Layout.{host_in, default_dead, default_life, default_room, host_of, life_in, setup_of}
 use Rattle.aoe_layout.specs.Stations.{ArePorts, HasRanges, IsDevice, IsHost, IsSlot}
 use Rattle.aoe_layout.proofs.GoodLines.{within, AreGood, GoodPorts}
-use Rattle.aoe_layout.proofs.HostLemmas.{device-from, devices-apart, host-from, DeviceFrom, HostFrom}
-use Rattle.aoe_layout.proofs.ListLemmas.{apart-by, none-passes}
+use Rattle.aoe_layout.proofs.HostLemmas.{host-line, device-from, devices-apart, host-from, DeviceFrom, HostFrom}
+use Rattle.aoe_layout.proofs.ListLemmas.{few-of, length-filtered, apart-by, none-passes}
 use Rattle.aoe_layout.proofs.SetupLemmas.{most-sectors}
 use Rattle.aoe_layout.proofs.SlotLemmas.{same-turn, slot-from, SlotFrom}
 
@@ -107,9 +107,23 @@ module _ (lines : List Line) (good : AreGood lines) where
         apart = λ i j a b p q ne. apart-by (λ (x y : Attached). same_id x.id y.id) (host_of lines h.name h.ports.items h.room h.dead).devices (λ x y. same-turn x.id y.id) (devices-apart lines good h.name) i j a b p q ne;
       })
 
+  few-hosts : length (setup_of lines).hosts ≤ 16
+  few-hosts =
+      let kept : length (setup_of lines).hosts ≤ length (filter is_host_line lines) = length-filtered (host_in lines) is_host_line lines (λ x h e. ap is_host_line (host-line lines x h e).line_is) in
+      let most : length (filter is_host_line lines) ≤ 16 = few-of is_host_line 16 lines by-kind in
+      omega arith
+    where
+      by-kind : (i : ℕ) (x : Line) → slice_get lines i ≡ Some x → is_host_line x ≡ true → count_by is_host_line (take i lines) < 16
+      by-kind i (Life ms) e s = absurd cc
+      by-kind i (Shelf name major ports mtu) e s = absurd cc
+      by-kind i (Slot shelf minor sectors) e s = absurd cc
+      by-kind i (Host name ports room dead) e s = (good.host i name ports room dead e).few
+      by-kind i (Attach host shelf minor) e s = absurd cc
+
   pub has-ranges : HasRanges (setup_of lines)
   has-ranges = record {
     life = life-by lines good.life;
+    few_hosts = few-hosts;
     hosts = λ i host e. is-host host (host-from lines i host e);
     slots = λ i slot e. is-slot slot (slot-from lines good slot (record { at = i; there = e }));
   }

@@ -45,7 +45,7 @@ module _ (lines : List Line) (good : AreGood lines) where
   two-kinds : (host : HostSetup) (slot : SlotSetup) (x : HostFrom lines host) (y : SlotFrom lines slot) → x.at ≡ y.line.at → ⊥
   two-kinds host slot x y e =
       let one : Host x.name x.ports x.room x.dead ≡ Shelf y.name y.line.major y.line.ports y.line.mtu
-            = same_Some (Host x.name x.ports x.room x.dead) (Shelf y.name y.line.major y.line.ports y.line.mtu) (sym x.there ∙ ap (slice_get lines) e ∙ y.line.shelf_there) in
+      = same_Some (Host x.name x.ports x.room x.dead) (Shelf y.name y.line.major y.line.ports y.line.mtu) (sym x.there ∙ ap (slice_get lines) e ∙ y.line.shelf_there) in
       cc
 
   attached-to : (d : Attached) → DeviceFrom lines d → IsAttachedTo (setup_of lines) d

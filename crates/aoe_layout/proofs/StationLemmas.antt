@@ -1,8 +1,8 @@
 -- The stations of good lines, by their names and addresses.
-use Rattle.std.proofs.Common.{ℕ, ◌<◌, ◌≡◌, ◌≢◌, ◌∙◌, ◌⊎◌, inl, inr, Bool, true, false, ◌||◌, List, take, Some, refl, sym, ap, subst, arith}
+use Rattle.std.proofs.Common.{Option, ℕ, ◌<◌, ◌≡◌, ◌≢◌, ◌∙◌, ◌⊎◌, inl, inr, Bool, true, false, List, take, Some, refl, sym, ap, subst, arith}
 use Rattle.std.specs.Prelude.{slice_get}
 use Rattle.std.specs.List.{list_any}
-use Rattle.std.proofs.lemmas.Bool.{cases_order}
+use Rattle.std.proofs.lemmas.Bool.{cases_order, or_cases}
 use Rattle.std.proofs.lemmas.Option.{none-some, same_Some}
 use Rattle.arrayvec.specs.ArrayVec.{ArrayVec}
 use Rattle.aoe_base.specs.declared.address.Mac.{Mac}
@@ -10,11 +10,12 @@ use Rattle.aoe_lists.specs.Addresses.{holds}
 use Rattle.aoe_script.specs.declared.setup.Setup.{Setup as Line}
 use Rattle.aoe_script.specs.declared.setup.Setup.TheVariants.{Life, Shelf, Slot, Host, Attach}
 use Rattle.aoe_script.specs.Rules.{is_host_named, is_shelf_named, is_station_named, same}
-use Rattle.aoe_layout.specs.Layout.{addresses_in, placed, stations_of, Placed}
+use Rattle.aoe_history.specs.Groups.Station.{Shelf as ShelfStation, Host as HostStation}
+use Rattle.aoe_layout.specs.Layout.{addresses_in, placed, station_named, stations_of, Placed}
 use Rattle.aoe_layout.specs.Stations.{HasStations, IsStation}
 use Rattle.aoe_layout.proofs.GoodLines.{AreGood}
 use Rattle.aoe_layout.proofs.LineLemmas.{names-behind, one-line, same-is, same-self}
-use Rattle.aoe_layout.proofs.ListLemmas.{any-passes, filtered-at, ordered-filtered, Ordered}
+use Rattle.aoe_layout.proofs.ListLemmas.{any-passes, find-by, filtered-at, ordered-filtered, Ordered}
 
 -- the line of a station has its addresses and its name
 ports-in : (line : Line) (p : Placed) → placed line ≡ Some p → addresses_in line ≡ p.ports
@@ -61,8 +62,18 @@ module _ (lines : List Line) (good : AreGood lines) where
           let same-place : i ≡ j = one-line lines good i j a b port p q (ap (λ z. holds z port) (ports-in a c x) ∙ s) (ap (λ z. holds z port) (ports-in b d y) ∙ t) in
           absurd (omega arith)
 
+  -- it is found by its name
+  pub found-station : (i : ℕ) (p : Placed) → slice_get (stations_of lines) i ≡ Some p → station_named lines p.name ≡ Some p
+  found-station i p e =
+      find-by (λ (a b : Placed). same a.name b.name) (stations_of lines) i p (λ j k a b lt s t. differ (same a.name b.name) refl (names-differ j k a b lt s t)) e (same-self p.name)
+    where
+      differ : {a b : ArrayVec ℕ} (t : Bool) → same a b ≡ t → a ≢ b → same a b ≡ false
+      differ {a} {b} true is ne = absurd (ne (same-is a b is))
+      differ false is ne = is
+
   pub has-stations : HasStations lines
   has-stations = record {
+    found = found-station;
     names = λ i j a b p q ne. by-order i j a b p q ne (cases_order i j);
     ports = λ i j a b port p q s t. one-place i j a b port p q s t (cases_order i j);
   }
@@ -78,19 +89,37 @@ module _ (lines : List Line) (good : AreGood lines) where
       one-place i j a b port p q s t (inr (inl lt)) = absurd (ports-differ i j a b lt p q port s t)
       one-place i j a b port p q s t (inr (inr lt)) = absurd (ports-differ j i b a lt q p port t s)
 
--- a station with this name
-pub station-called : (lines : List Line) (name : ArrayVec ℕ) → list_any (is_station_named name) lines ≡ true → IsStation lines name
-station-called lines name any =
-    let s = any-passes (is_station_named name) lines any in
-    go s.x s.at s.there s.passes
-  where
-    go : (line : Line) (k : ℕ) → slice_get lines k ≡ Some line → is_station_named name line ≡ true → IsStation lines name
-    go (Life ms) k e t = absurd cc
-    go (Shelf other major ports mtu) k e t = shelf-case (same other name) refl t
-      where
-        shelf-case : (b : Bool) → same other name ≡ b → (b || false) ≡ true → IsStation lines name
-        shelf-case true is t = let p = filtered-at placed lines k (Shelf other major ports mtu) _ e refl in record { at = p.at; place = _; there = p.there; called = same-is other name is }
-        shelf-case false is t = absurd cc
-    go (Slot shelf minor sectors) k e t = absurd cc
-    go (Host other ports room dead) k e t = let p = filtered-at placed lines k (Host other ports room dead) _ e refl in record { at = p.at; place = _; there = p.there; called = same-is other name t }
-    go (Attach host shelf minor) k e t = absurd cc
+  -- those of host lines and of shelf lines
+  pub host-station : (k : ℕ) (name : ArrayVec ℕ) (ports : ArrayVec Mac) (room dead : Option ℕ) → slice_get lines k ≡ Some (Host name ports room dead)
+      → station_named lines name ≡ Some record { name = name; ports = ports.items; station = HostStation name }
+  host-station k name ports room dead e =
+      let place : Placed = record { name = name; ports = ports.items; station = HostStation name } in
+      let p = filtered-at placed lines k (Host name ports room dead) place e refl in
+      found-station p.at place p.there
+
+  pub shelf-station : (k : ℕ) (name : ArrayVec ℕ) (major : ℕ) (ports : ArrayVec Mac) (mtu : ℕ) → slice_get lines k ≡ Some (Shelf name major ports mtu)
+      → station_named lines name ≡ Some record { name = name; ports = ports.items; station = ShelfStation major }
+  shelf-station k name major ports mtu e =
+      let place : Placed = record { name = name; ports = ports.items; station = ShelfStation major } in
+      let p = filtered-at placed lines k (Shelf name major ports mtu) place e refl in
+      found-station p.at place p.there
+
+  -- a station with this name
+  pub station-called : (name : ArrayVec ℕ) → list_any (is_station_named name) lines ≡ true → IsStation lines name
+  station-called name any = let s = any-passes (is_station_named name) lines any in go s.x s.at s.there s.passes
+    where
+      is-station : (line : Line) (k : ℕ) (p : Placed) → slice_get lines k ≡ Some line → placed line ≡ Some p → p.name ≡ name → IsStation lines name
+      is-station line k p e gives called =
+          let at = filtered-at placed lines k line p e gives in
+          record { at = at.at; place = p; there = at.there; called = called; found = subst (λ n. station_named lines n ≡ Some p) called (found-station at.at p at.there) }
+
+      go : (line : Line) (k : ℕ) → slice_get lines k ≡ Some line → is_station_named name line ≡ true → IsStation lines name
+      go (Life ms) k e t = absurd cc
+      go (Shelf other major ports mtu) k e t =
+          elim (or_cases (same other name) false t) [
+            | inl is ↦ is-station (Shelf other major ports mtu) k (record { name = other; ports = ports.items; station = ShelfStation major }) e refl (same-is other name is)
+            | inr never ↦ absurd cc
+          ]
+      go (Slot shelf minor sectors) k e t = absurd cc
+      go (Host other ports room dead) k e t = is-station (Host other ports room dead) k (record { name = other; ports = ports.items; station = HostStation other }) e refl (same-is other name t)
+      go (Attach host shelf minor) k e t = absurd cc

@@ -111,3 +111,15 @@ placed line = None
 -- all stations, in the order of their lines
 abbrev pub stations_of : List Line → List Placed
 stations_of lines = filter_map placed lines
+
+-- the one with this name
+abbrev pub station_named : List Line → ArrayVec ℕ → Option Placed
+station_named lines name = find (λ (p : Placed). same p.name name) (stations_of lines)
+
+-- the numbers of the shelves, in the order of their lines
+abbrev pub major_in : Line → Option ℕ
+major_in (Shelf name major ports mtu) = Some major
+major_in line = None
+
+abbrev pub majors_of : List Line → List ℕ
+majors_of lines = filter_map major_in lines

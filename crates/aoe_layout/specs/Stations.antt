@@ -1,5 +1,5 @@
 -- What holds of the stations that setup lines declare, and of the events behind them.
-use Rattle.std.specs.Prelude.{ℕ, ◌≡◌, ◌≢◌, ◌≤◌, ◌<◌, true, false, List, length, slice_get, Option, Some, IsSome}
+use Rattle.std.specs.Prelude.{ℕ, ◌≡◌, ◌≢◌, ◌≤◌, ◌<◌, true, false, List, length, slice_get, Option, Some, Contains, IsSome}
 use Rattle.arrayvec.specs.ArrayVec.{ArrayVec}
 use Rattle.aoe_base.specs.declared.address.Mac.{Mac}
 use Rattle.aoe_base.specs.declared.address.TargetId.{TargetId}
@@ -13,7 +13,8 @@ use Rattle.aoe_script.specs.declared.event.Event.{Event}
 use Rattle.aoe_script.specs.declared.event.Event.TheVariants.{Read, Write, Flush, Identify, Config, Masks, Reserve, Tick, Deliver, Pass, Skip, Again, Inject, Fail, Stop, Crash}
 use Rattle.aoe_script.specs.declared.setup.Setup.{Setup as Line}
 use Rattle.aoe_script.specs.declared.setup.Setup.TheVariants.{Shelf, Host}
-use Rattle.aoe_layout.specs.Layout.{host_of, slots_of_shelf, stations_of, Placed}
+use Rattle.aoe_history.specs.Groups.Station.{Shelf as ShelfStation, Host as HostStation}
+use Rattle.aoe_layout.specs.Layout.{majors_of, station_named, host_of, slots_of_shelf, stations_of, Placed}
 
 -- ---- hosts
 
@@ -32,7 +33,7 @@ pub record AreSlots (s : Setup) (slots : List SlotSetup) : Type 0 where
   pub there : (i : ℕ) (slot : SlotSetup) → slice_get slots i ≡ Some slot → slot_of s slot.station.id ≡ Some slot
   pub apart : (i j : ℕ) (a b : SlotSetup) → slice_get slots i ≡ Some a → slice_get slots j ≡ Some b → i ≢ j → is_slot a b.station.id ≡ false
 
--- the slots with the number of a shelf line are those of its shelf, 16 at most, and no two shelves have one number
+-- the slots with the number of a shelf line are those of its shelf, 16 at most, and of 16 shelves at most no two have one number
 pub record HasShelves (lines : List Line) (s : Setup) : Type 0 where
   pub all : (k : ℕ) (name : ArrayVec ℕ) (major : ℕ) (ports : ArrayVec Mac) (mtu : ℕ) → slice_get lines k ≡ Some (Shelf name major ports mtu)
       → shelf_of s major ≡ slots_of_shelf lines (Shelf name major ports mtu)
@@ -40,8 +41,9 @@ pub record HasShelves (lines : List Line) (s : Setup) : Type 0 where
       → AreSlots s (slots_of_shelf lines (Shelf name major ports mtu))
   pub few : (k : ℕ) (name : ArrayVec ℕ) (major : ℕ) (ports : ArrayVec Mac) (mtu : ℕ) → slice_get lines k ≡ Some (Shelf name major ports mtu)
       → length (slots_of_shelf lines (Shelf name major ports mtu)) ≤ 16
-  pub numbers : (i j : ℕ) (a b : ArrayVec ℕ) (m n : ℕ) (p q : ArrayVec Mac) (x y : ℕ) → slice_get lines i ≡ Some (Shelf a m p x)
-      → slice_get lines j ≡ Some (Shelf b n q y) → i ≢ j → m ≢ n
+  pub few_shelves : length (majors_of lines) ≤ 16
+  pub by_number : (i major : ℕ) → slice_get (majors_of lines) i ≡ Some major → AreSlots s (shelf_of s major)
+  pub numbers : (i j a b : ℕ) → slice_get (majors_of lines) i ≡ Some a → slice_get (majors_of lines) j ≡ Some b → i ≢ j → a ≢ b
 
 -- ---- ranges
 
@@ -79,13 +81,15 @@ pub record IsSlot (slot : SlotSetup) : Type 0 where
 
 pub record HasRanges (s : Setup) : Type 0 where
   pub life : s.life ≤ 600000
+  pub few_hosts : length s.hosts ≤ 16
   pub hosts : (i : ℕ) (host : HostSetup) → slice_get s.hosts i ≡ Some host → IsHost host
   pub slots : (i : ℕ) (slot : SlotSetup) → slice_get s.slots i ≡ Some slot → IsSlot slot
 
 -- ---- stations
 
--- no two stations have one name or one address
+-- a station is found by its name, and no two have one name or one address
 pub record HasStations (lines : List Line) : Type 0 where
+  pub found : (i : ℕ) (p : Placed) → slice_get (stations_of lines) i ≡ Some p → station_named lines p.name ≡ Some p
   pub names : (i j : ℕ) (a b : Placed) → slice_get (stations_of lines) i ≡ Some a → slice_get (stations_of lines) j ≡ Some b → i ≢ j → a.name ≢ b.name
   pub ports : (i j : ℕ) (a b : Placed) (port : Mac) → slice_get (stations_of lines) i ≡ Some a → slice_get (stations_of lines) j ≡ Some b
       → holds a.ports port ≡ true → holds b.ports port ≡ true → i ≡ j
@@ -93,15 +97,19 @@ pub record HasStations (lines : List Line) : Type 0 where
 -- ---- events
 
 -- the host is there, and attached to the device
-pub record IsAsked (s : Setup) (name : ArrayVec ℕ) (dev : TargetId) : Type 0 where
+pub record IsAsked (lines : List Line) (s : Setup) (name : ArrayVec ℕ) (dev : TargetId) : Type 0 where
   pub host : HostSetup
   pub called : host_called s name ≡ Some host
   pub device : IsSome (device_place host dev)
+  pub station : station_named lines name ≡ Some record { name = name; ports = host.ports; station = HostStation name }
 
--- the device is a slot
-pub record IsThere (s : Setup) (dev : TargetId) : Type 0 where
+-- the device is a slot of a shelf
+pub record IsThere (lines : List Line) (s : Setup) (dev : TargetId) : Type 0 where
   pub slot : SlotSetup
+  pub called : slot.station.id ≡ dev
   pub there : slot_of s dev ≡ Some slot
+  pub number : Contains (majors_of lines) dev.major
+  pub inside : Contains (shelf_of s dev.major) slot
 
 -- a station has the name
 pub record IsStation (lines : List Line) (name : ArrayVec ℕ) : Type 0 where
@@ -109,6 +117,7 @@ pub record IsStation (lines : List Line) (name : ArrayVec ℕ) : Type 0 where
   pub place : Placed
   pub there : slice_get (stations_of lines) at ≡ Some place
   pub called : place.name ≡ name
+  pub found : station_named lines name ≡ Some place
 
 -- a shelf has the name
 pub record IsShelf (lines : List Line) (name : ArrayVec ℕ) : Type 0 where
@@ -117,22 +126,23 @@ pub record IsShelf (lines : List Line) (name : ArrayVec ℕ) : Type 0 where
   pub ports : ArrayVec Mac
   pub mtu : ℕ
   pub there : slice_get lines at ≡ Some (Shelf name major ports mtu)
+  pub found : station_named lines name ≡ Some record { name = name; ports = ports.items; station = ShelfStation major }
 
 -- an event speaks of stations and devices that are there, and its numbers are in their ranges
 abbrev pub CanCome : List Line → Setup → Event → Type 0
-CanCome lines s (Read host dev at count) = IsAsked s host dev
-CanCome lines s (Write host dev at count fill) = IsAsked s host dev
-CanCome lines s (Flush host dev) = IsAsked s host dev
-CanCome lines s (Identify host dev) = IsAsked s host dev
-CanCome lines s (Config host dev ccmd text) = IsAsked s host dev
-CanCome lines s (Masks host dev edit dirs) = IsAsked s host dev
-CanCome lines s (Reserve host dev rcmd list) = IsAsked s host dev
+CanCome lines s (Read host dev at count) = IsAsked lines s host dev
+CanCome lines s (Write host dev at count fill) = IsAsked lines s host dev
+CanCome lines s (Flush host dev) = IsAsked lines s host dev
+CanCome lines s (Identify host dev) = IsAsked lines s host dev
+CanCome lines s (Config host dev ccmd text) = IsAsked lines s host dev
+CanCome lines s (Masks host dev edit dirs) = IsAsked lines s host dev
+CanCome lines s (Reserve host dev rcmd list) = IsAsked lines s host dev
 CanCome lines s (Tick ms) = (1 ≤ ms) × (ms ≤ 10000000)
 CanCome lines s (Deliver frame station) = IsStation lines station × (1 ≤ frame) × (frame ≤ 4294967295)
 CanCome lines s (Pass n) = (1 ≤ n) × (n ≤ 10000)
 CanCome lines s (Skip n) = (1 ≤ n) × (n ≤ 10000)
 CanCome lines s Again = Unit {0}
 CanCome lines s (Inject bytes) = (is_port s (fields bytes).src ≡ false) × (14 ≤ length bytes) × (length bytes ≤ 9018)
-CanCome lines s (Fail dev which k) = IsThere s dev × (1 ≤ k) × (k ≤ 1000)
-CanCome lines s (Stop dev which k mode) = IsThere s dev × (1 ≤ k) × (k ≤ 1000)
+CanCome lines s (Fail dev which k) = IsThere lines s dev × (1 ≤ k) × (k ≤ 1000)
+CanCome lines s (Stop dev which k mode) = IsThere lines s dev × (1 ≤ k) × (k ≤ 1000)
 CanCome lines s (Crash shelf mode) = IsShelf lines shelf

@@ -1,6 +1,7 @@
 //! What holds of the stations that a script declares.
-ghost use Rattle.std.specs.Prelude.{◌≡◌, List, None, true};
+ghost use Rattle.std.specs.Prelude.{◌≡◌, [], List, None, true};
 ghost use Rattle.aoe_history.specs.Setup.{IsSetup};
+ghost use Rattle.aoe_layout.specs.Example.{expected, lines};
 ghost use Rattle.aoe_layout.specs.Layout.{setup_of, HasMacs};
 ghost use Rattle.aoe_layout.specs.Stations.{CanCome, HasHosts, HasRanges, HasShelves, HasStations};
 ghost use Rattle.aoe_script.specs.declared.event.Event.{Event};
@@ -23,4 +24,11 @@ pub fn layout_law()
 pub fn events_law()
     ensures comes { (script : ScriptLines) (event : Event) → IsScript script → event_why script.setups event ≡ None → CanCome script.setups (setup_of script.setups) event }
     ensures ranges { (script : ScriptLines) (event : Event) → event_why script.setups event ≡ None → is_event event ≡ true }
+{}
+
+/// The setup of the worked cases is that of these lines, and a script can have them.
+pub fn worked_layout()
+    ensures setup { setup_of lines ≡ expected }
+    ensures script { IsScript (record { setups = lines; events = [] }) }
+    ensures macs { HasMacs lines }
 {}

@@ -4,4 +4,4 @@
 
 mod laws;
 
-pub use laws::{events_law, layout_law};
+pub use laws::{events_law, layout_law, worked_layout};
