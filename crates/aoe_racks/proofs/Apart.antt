@@ -8,7 +8,6 @@ use Rattle.aoe_base.specs.declared.address.TargetId.{TargetId}
 use Rattle.aoe_disk.specs.declared.loss.Loss.{Loss}
 use Rattle.aoe_disk.specs.Memory.{state_of, Memory}
 use Rattle.aoe_lists.specs.Settings.{Settings}
-use Rattle.aoe_target.specs.Device.{Holds}
 use Rattle.aoe_target.specs.Mounted.{device_of, Mounted}
 use Rattle.aoe_history.specs.declared.entry.Entry.{Entry}
 use Rattle.aoe_history.specs.declared.entry.Entry.TheVariants.{Submitted, Refused, Sent, Injected, Arrived, Took, Done, Ticked, Lost, Armed, Crashed}
@@ -20,7 +19,7 @@ use Rattle.aoe_history.specs.Slots.{after_crash, after_frame, slot_after, Slot}
 use Rattle.aoe_script.specs.declared.event.Which.{Which}
 use Rattle.aoe_script.specs.declared.event.Which.TheVariants.{Store, Keep}
 use Rattle.aoe_racks.specs.declared.rack.Stops.{Stops}
-use Rattle.aoe_racks.specs.Rack.{is_apart, stop_in, IsDue, IsServing, IsStanding, MemoryRack, Serves, Stands}
+use Rattle.aoe_racks.specs.Rack.{is_apart, stop_in, HoldsWithin, IsDue, IsServing, IsStanding, MemoryRack, Serves, Stands}
 
 -- there is an element at each place of a list
 pub there : {X : Type 0} (xs : List X) (i : ℕ) → i < length xs → (x : X) × (slice_get xs i ≡ Some x)
@@ -49,14 +48,14 @@ pub stands-still : (slot : SlotSetup) (h n : List Entry) (t : Mounted Memory Mem
 stands-still slot h n t same k = record {
   station = k.station;
   direct = k.direct;
-  holds = subst (λ (z : Slot). Holds (device_of state_of state_of t) z.state) (sym same.known) k.holds;
+  holds = subst (λ (z : Slot). HoldsWithin slot.station.sectors (device_of state_of state_of t) z.state) (sym same.known) k.holds;
 }
 
 pub serves-still : (slot : SlotSetup) (h n : List Entry) (t : Mounted Memory Memory) (stops : Stops) → SaysSame slot h n → IsServing slot h t stops → IsServing slot n t stops
 serves-still slot h n t stops same k = record {
   station = k.station;
   direct = k.direct;
-  holds = subst (λ (z : Slot). Holds (device_of state_of state_of t) z.state) (sym same.known) k.holds;
+  holds = subst (λ (z : Slot). HoldsWithin slot.station.sectors (device_of state_of state_of t) z.state) (sym same.known) k.holds;
   store_due = subst (λ (z : Option Stretch). IfSome (state_of t.store).schedule (IsDue Store z)) (sym (same.stretches Store)) k.store_due;
   keep_due = subst (λ (z : Option Stretch). IfSome (state_of t.keep.disk).schedule (IsDue Keep z)) (sym (same.stretches Keep)) k.keep_due;
   store_stop = k.store_stop ∙ ap stop_in (sym (same.stretches Store));

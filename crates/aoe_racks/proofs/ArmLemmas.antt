@@ -1,22 +1,26 @@
 -- A disk of a slot is armed: its stretch begins.
-use Rattle.std.proofs.Common.{◌≡◌, ◌≢◌, ◌<◌, ◌≤◌, ◌-◌, ◌*◌, ◌&&◌, ◌⊎◌, inl, inr, ℕ, Bool, true, false, List, ◌∷◌, length, Option, Some, None, is_some, refl, sym, ap, subst, ◌∙◌, arith}
+use Rattle.std.proofs.Common.{◌≡◌, ◌≢◌, ◌<◌, ◌≤◌, ◌-◌, ◌*◌, ◌&&◌, ◌⊎◌, inl, inr, ℕ, Bool, true, false, List, ◌∷◌, length, get_or, Option, Some, None, is_some, refl, sym, ap, subst, ◌∙◌, arith}
 use Rattle.std.proofs.lemmas.List.{length-set}
-use Rattle.std.proofs.lemmas.Option.{same_Some, slice_get_within}
-use Rattle.std.specs.Prelude.{slice_get, IfNone, IfSome, IsSomeAnd}
+use Rattle.std.proofs.lemmas.Option.{slice_get-get_or, slice_get_within}
+use Rattle.std.specs.List.{refill}
+use Rattle.std.specs.Prelude.{slice_get, slice_set, IfNone, IfSome, IsSomeAnd}
 use Rattle.std.specs.Option.{option_map}
+use Rattle.arrayvec.proofs.ArrayVecLemmas.{items-with_items}
 use Rattle.aoe_base.specs.declared.address.TargetId.{TargetId}
 use Rattle.aoe_disk.specs.Arming.{number_of, Arms, ArmsTo}
 use Rattle.aoe_disk.specs.Memory.{schedule_of, state_of, Memory}
 use Rattle.aoe_disk.specs.State.{BothTell, Contents, Schedule}
+use Rattle.aoe_disk.specs.declared.armed.Arm.{Arm}
 use Rattle.aoe_disk.specs.declared.loss.Loss.{Loss}
 use Rattle.aoe_keep.specs.Found.{Finds}
 use Rattle.aoe_keep.specs.Keep.{Kept}
 use Rattle.aoe_lists.specs.Settings.{Settings}
+use Rattle.aoe_shelf.specs.Shelf.{Rack}
 use Rattle.aoe_shelf.specs.Slot.{ChangesAt}
 use Rattle.aoe_shelf.proofs.SlotLemmas.{get-after, get-other, length-changed}
 use Rattle.aoe_target.specs.Device.{Holds, MayStand, State}
 use Rattle.aoe_target.specs.Mounted.{device_of, Mounted}
-use Rattle.aoe_target.specs.Sectors.{sectors_of, Agrees}
+use Rattle.aoe_target.specs.Sectors.{sectors_of, Agrees, Sectors}
 use Rattle.aoe_history.specs.declared.entry.Entry.{Entry}
 use Rattle.aoe_history.specs.declared.entry.Entry.TheVariants.{Armed}
 use Rattle.aoe_history.specs.Setup.{is_slot, SlotSetup}
@@ -26,10 +30,10 @@ use Rattle.aoe_script.specs.declared.event.Which.{Which}
 use Rattle.aoe_script.specs.declared.event.Which.TheVariants.{Store, Keep}
 use Rattle.aoe_racks.specs.declared.rack.Stops.{Stops}
 use Rattle.aoe_racks.specs.Arming.{arm_of, with_stop, ArmsDisk}
-use Rattle.aoe_racks.specs.Rack.{calls_per, stop_in, AreApart, IsDue, IsServing, MemoryRack, Serves}
+use Rattle.aoe_racks.specs.Rack.{calls_per, stop_in, AreApart, IsDue, IsRack, IsServing, MemoryRack, SameWithin, Serves}
 use Rattle.aoe_racks.proofs.Apart.{if-false, if-true, says-armed, serves-still, there}
 use Rattle.aoe_racks.proofs.ArrivalLemmas.{at-place, same-or}
-use Rattle.aoe_racks.proofs.RackLemmas.{IsSameTarget}
+use Rattle.aoe_racks.proofs.RackLemmas.{rack-kept, IsSameTarget}
 use Rattle.aoe_racks.proofs.SlotLemmas.{same-self}
 
 -- the stretch of a disk that was just armed
@@ -92,7 +96,7 @@ store-armed slot h k mode t m stops first s a =
       holds = record {
         lists = s.holds.lists;
         crash = s.holds.crash;
-        sectors = subst (λ (o : Option Contents). BothTell Agrees (option_map sectors_of o) (state_after slot h).sectors) (sym a.contents) s.holds.sectors;
+        sectors = subst (λ (o : Option Contents). BothTell (SameWithin slot.station.sectors) (option_map sectors_of o) (state_after slot h).sectors) (sym a.contents) s.holds.sectors;
       };
       store_due = subst (λ (o : Option Stretch). IsDue Store o (schedule_of m.arming m.out)) (sym mine) (due-begun Store k mode t.store m first a);
       keep_due = subst (λ (o : Option Stretch). IsDue Keep o (schedule_of t.keep.disk.arming t.keep.disk.out)) (sym other) s.keep_due;
@@ -129,10 +133,26 @@ armed Keep slot h k mode t u stops first s a =
     subst (λ (w : Mounted Memory Memory). IsServing slot (Armed slot.station.id Keep k mode ∷ h) w (record stops { keep = mode })) (sym a.rest)
     (keep-armed slot h k mode t u.keep.disk u.keep.lists stops first s a.lists a.arms)
 
--- a target that is armed keeps its name and its size
-pub armed-same : (which : Which) (k : ℕ) (mode : Option Loss) (t u : Mounted Memory Memory) → ArmsDisk which (arm_of k mode) t u → IsSameTarget t u
-armed-same Store k mode t u a = record { station = ap (λ (z : Mounted Memory Memory). z.station) a.rest; sectors = a.arms.sectors }
-armed-same Keep k mode t u a = record { station = ap (λ (z : Mounted Memory Memory). z.station) a.rest; sectors = ap (λ (z : Mounted Memory Memory). (state_of z.store).sectors) a.rest }
+-- a target that is armed is the same one: its disks hold what they held
+same-sectors : (a b : Option Contents) (k : Option Sectors) → b ≡ a → BothTell Agrees (option_map sectors_of a) k → BothTell Agrees (option_map sectors_of b) k
+same-sectors a b k e p = subst (λ (o : Option Contents). BothTell Agrees (option_map sectors_of o) k) (sym e) p
+
+same-finds : (a b : Option Contents) (k : State) → b ≡ a → IfSome a (Finds (MayStand k)) → IfSome b (Finds (MayStand k))
+same-finds a b k e p = subst (λ (o : Option Contents). IfSome o (Finds (MayStand k))) (sym e) p
+
+pub armed-same : (which : Which) (arm : Arm) (t u : Mounted Memory Memory) → ArmsDisk which arm t u → IsSameTarget t u
+armed-same Store arm t u a = subst (λ (w : Mounted Memory Memory). IsSameTarget t w) (sym a.rest) (record {
+  station = refl;
+  sectors = a.arms.sectors;
+  room = refl;
+  known = λ k h. (k, record { lists = h.lists; crash = h.crash; sectors = same-sectors (state_of t.store).contents (state_of u.store).contents k.sectors a.arms.contents h.sectors });
+})
+armed-same Keep arm t u a = subst (λ (w : Mounted Memory Memory). IsSameTarget t w) (sym a.rest) (record {
+  station = refl;
+  sectors = refl;
+  room = a.arms.sectors;
+  known = λ k h. (k, record { lists = a.lists ∙ h.lists; crash = same-finds (state_of t.keep.disk).contents (state_of u.keep.disk).contents k a.arms.contents h.crash; sectors = h.sectors });
+})
 
 -- ONE SLOT OF A SHELF
 
@@ -170,3 +190,46 @@ module _ (slots : List SlotSetup) (apart : AreApart slots) (i : ℕ) (h : List E
   shelf-armed dev p =
       let slot = there slots i (omega (arith, slice_get_within x.shelf.targets i c.before c.found, s.count)) in
       subst (λ (z : TargetId). Serves slots (Armed z which k mode ∷ h) y) (named slot.0 slot.1 dev p) (serves-armed slot.0 slot.1)
+
+-- what the code knows of an arming: how the targets changed, and the stops by what was read of them
+pub record IsArming (i : ℕ) (which : Which) (k : ℕ) (mode : Option Loss) (arm : Arm) (a b : Rack Memory Memory) (items read xs : List Stops) (old new : Stops) (dev : TargetId) (x : MemoryRack) : Type 0 where
+  pub first : 0 < k
+  pub armed : arm ≡ arm_of k mode
+  pub change : ChangesAt i (ArmsDisk which arm) a.targets b.targets
+  pub rest : b ≡ record a { targets = b.targets }
+  pub view : record { shelf = a; stops = items } ≡ x
+  pub name : IsSomeAnd (slice_get x.shelf.targets i) (λ t. dev ≡ t.station.id)
+  pub count : length items ≡ length a.targets
+  pub before : read ≡ items
+  pub after : xs ≡ items
+  pub is : new ≡ with_stop which mode (get_or read i old)
+
+refilled : (items : List Stops) (i : ℕ) (new : Stops) → refill (length items) items (slice_set items i new) ≡ slice_set items i new
+refilled items i new = items-with_items (record { items = items }) (slice_set items i new) (length-set items i new)
+
+module _ (i : ℕ) (which : Which) (k : ℕ) (mode : Option Loss) (arm : Arm) (a b : Rack Memory Memory) (items read xs : List Stops) (old new : Stops) (dev : TargetId) (x : MemoryRack)
+    (z : IsArming i which k mode arm a b items read xs old new dev x) where
+  stops-then : refill (length items) items (slice_set xs i new) ≡ slice_set items i new
+  stops-then = ap (λ l. refill (length items) items (slice_set l i new)) z.after ∙ refilled items i new
+
+  within : i < length items
+  within = omega (arith, slice_get_within a.targets i z.change.before z.change.found, z.count)
+
+  pub arming-kept : (major : ℕ) → IsRack major a items → IsRack major b (refill (length items) items (slice_set xs i new))
+  arming-kept major r = subst (λ (l : List Stops). IsRack major b l) (sym stops-then)
+      (rack-kept a b r.targets i z.change z.rest (armed-same which arm z.change.before z.change.after z.change.change) major items (slice_set items i new) r (length-set items i new))
+
+  pub arming-serves : (slots : List SlotSetup) → AreApart slots → (h : List Entry) → Serves slots h x → Serves slots (Armed dev which k mode ∷ h) (record { shelf = b; stops = refill (length items) items (slice_set xs i new) })
+  arming-serves slots apart h s =
+      let stops : ChangesAt i (λ p q. q ≡ with_stop which mode p) items (slice_set items i new) = record {
+        before = get_or items i old;
+        after = new;
+        found = slice_get-get_or items i old within;
+        others = refl;
+        change = z.is ∙ ap (λ (l : List Stops). with_stop which mode (get_or l i old)) z.before;
+      } in
+      let change : ChangesAt i (ArmsDisk which (arm_of k mode)) a.targets b.targets = subst (λ (w : Arm). ChangesAt i (ArmsDisk which w) a.targets b.targets) z.armed z.change in
+      let name : IsSomeAnd (slice_get a.targets i) (λ t. dev ≡ t.station.id) = subst (λ (v : MemoryRack). IsSomeAnd (slice_get v.shelf.targets i) (λ t. dev ≡ t.station.id)) (sym z.view) z.name in
+      subst (λ (l : List Stops). Serves slots (Armed dev which k mode ∷ h) (record { shelf = b; stops = l })) (sym stops-then)
+      (shelf-armed slots apart i h which k mode z.first (record { shelf = a; stops = items }) (record { shelf = b; stops = slice_set items i new }) (get_or items i old)
+      (slice_get-get_or items i old within) change stops (subst (λ (v : MemoryRack). Serves slots h v) (sym z.view) s) dev name)

@@ -1,14 +1,15 @@
 -- A frame that comes to one slot of a shelf, and to one after the other.
-use Rattle.std.proofs.Common.{◌≡◌, ◌≢◌, ◌<◌, ◌≤◌, ◌+◌, ◌==◌, ◌⊎◌, inl, inr, ℕ, zero, suc, Bool, true, false, if◌then◌else◌, List, [], ◌∷◌, length, drop, Option, Some, None, refl, sym, ap, subst, ◌∙◌, arith}
+use Rattle.std.proofs.Common.{◌≡◌, ◌≢◌, ◌<◌, ◌≤◌, ◌+◌, ◌==◌, ◌⊎◌, inl, inr, ℕ, zero, suc, Bool, true, false, if◌then◌else◌, List, [], ◌∷◌, length, get_or, drop, Option, Some, None, refl, sym, ap, subst, ◌∙◌, arith}
 use Rattle.std.proofs.lemmas.Bool.Decides.{nat_tests}
 use Rattle.std.proofs.lemmas.List.{drop_all}
-use Rattle.std.proofs.lemmas.Option.{same_Some, slice_get_within}
+use Rattle.std.proofs.lemmas.Option.{same_Some, slice_get-get_or, slice_get_within}
 use Rattle.std.specs.Prelude.{slice_get, IsSomeAnd}
 use Rattle.std.specs.Option.{option_and_then, option_map_or}
 use Rattle.aoe_base.specs.declared.address.TargetId.{TargetId}
 use Rattle.aoe_disk.specs.Memory.{state_of, Memory}
 use Rattle.aoe_disk.specs.declared.loss.Loss.{Loss}
 use Rattle.aoe_net.specs.Network.{fresh_bytes, numbered, IsFull, SentFrame}
+use Rattle.aoe_shelf.specs.Shelf.{Rack}
 use Rattle.aoe_shelf.specs.Slot.{ChangesAt}
 use Rattle.aoe_shelf.proofs.SlotLemmas.{get-after, get-other, length-changed}
 use Rattle.aoe_target.specs.declared.heard.Effect.{Effect}
@@ -59,7 +60,7 @@ number-within (g ∷ fs) number x e = go (number == suc (length fs)) refl e (λ 
 
 -- a frame has its number after one frame more
 still-numbered : (g : SentFrame) (fs : List SentFrame) (number : ℕ) (x : SentFrame) → numbered fs number ≡ Some x → numbered (g ∷ fs) number ≡ Some x
-still-numbered g fs number x e = if-false (number == suc (length fs)) (Some g) (numbered fs number) (other number (suc (length fs)) (number-within fs number x e)) ∙ e
+still-numbered g fs number x e = if-false (number == suc (length fs)) (Some g) (numbered fs number) (other number (suc (length fs)) (omega (arith, number-within fs number x e))) ∙ e
   where
     other : (a b : ℕ) → a < b → (a == b) ≡ false
     other a b lt = grind (arith, nat_tests)
@@ -140,7 +141,7 @@ module _ (s : Setup) (slots : List SlotSetup) (i number : ℕ) (f : List ℕ) (h
     taken = takes slot h f w out c.before c.after (serving-stands slot h c.before stops served) c.change
 
     may-come : (fate : Fate) → KeepsShelfLaw slot h f fate → KeepsArming slot h f fate → IsNumbered (next_number h) fate → MayCome s h (Arrived slot.station.id number fate)
-    may-come fate law arming numbered = subst (λ (o : Option SlotSetup). IsSomeAnd o (λ z. IsArrival s z h number fate)) (sym (r.slots.there i slot found))
+    may-come fate law arming numbered = subst (λ (o : Option SlotSetup). IsSomeAnd o (λ z. IsArrival s z h number fate)) (sym (r.shelf.there i slot found))
         (record { bytes = f; fresh = r.fresh; law = law; arming = arming; numbered = numbered })
 
     goes-on : stop_at stops w ≡ None → GoesOn s slots i number f h (Arrived slot.station.id number (noted None w (next_number h) out) ∷ h) y
@@ -156,8 +157,8 @@ module _ (s : Setup) (slots : List SlotSetup) (i number : ℕ) (f : List ℕ) (h
           uncut = noted-uncut w (next_number h) out;
           entry = refl;
           reached = record {
-            slots = r.slots;
-            serves = serves-on slots r.slots.apart i slot found h number fate x y c same stops at r.serves z.serving;
+            shelf = r.shelf;
+            serves = serves-on slots r.shelf.apart i slot found h number fate x y c same stops at r.serves z.serving;
             lawful = (may-come fate z.law z.arming (noted-number None w (next_number h) out), r.lawful);
             fresh = still-arriving s.life h number f slot.station.id number fate r.fresh;
           };
@@ -173,7 +174,7 @@ module _ (s : Setup) (slots : List SlotSetup) (i number : ℕ) (f : List ℕ) (h
           found = found;
           stop = z.stop;
           entry = refl;
-          stands = stands-on slots r.slots.apart i slot found h number Cut x y c same (serves-stands slots h x r.serves) z.standing;
+          stands = stands-on slots r.shelf.apart i slot found h number Cut x y c same (serves-stands slots h x r.serves) z.standing;
           lawful = (may-come Cut z.law z.arming tt, r.lawful);
         }
 
@@ -207,21 +208,49 @@ module _ (s : Setup) (slots : List SlotSetup) (i number : ℕ) (f : List ℕ) (h
       subst (λ (z : List Entry). ComesTo s slots i number f stop h z y) entry (comes slot.0 slot.1 stop (sym is))
 
   -- or its reply is the next frame, for which there is no room
-  pub meets-no-room : (stop : Option Loss) → stop ≡ stop_at stops w → IsReplyFull stop w (network s.life h) out → MeetsFull s h
-  meets-no-room stop is p = go stop w is refl p
+  pub meets-no-room : (life : ℕ) (stop : Option Loss) → stop ≡ stop_at stops w → IsReplyFull stop w (network life h) out → MeetsFull s h
+  meets-no-room life stop is p = go stop w is refl p
     where
-      go : (o : Option Loss) (v : Heard) → o ≡ stop_at stops w → w ≡ v → IsReplyFull o v (network s.life h) out → MeetsFull s h
+      go : (o : Option Loss) (v : Heard) → o ≡ stop_at stops w → w ≡ v → IsReplyFull o v (network life h) out → MeetsFull s h
       go None (heard.Replied e) is same p = let slot = slot-here in meets-full slot.0 slot.1 e (sym is) same p
       go None heard.Ignored is same p = absurd p
       go None heard.Silent is same p = absurd p
       go (Some how) v is same p = absurd p
 
+-- what the code knows of one arrival: how the targets changed, and the stop by what was read of the stops
+pub record IsTurn (i : ℕ) (f : List ℕ) (w : Heard) (out : List ℕ) (a b : Rack Memory Memory) (items xs : List Stops) (d : Stops) (dev : TargetId) (stop : Option Loss) : Type 0 where
+  pub change : ChangesAt i (λ t u. Receives state_of state_of t u f w out) a.targets b.targets
+  pub name : IsSomeAnd (slice_get a.targets i) (λ t. dev ≡ t.station.id)
+  pub count : length items ≡ length a.targets
+  pub read : xs ≡ items
+  pub is : stop ≡ stop_at (get_or xs i d) w
+
+module _ (i : ℕ) (f : List ℕ) (w : Heard) (out : List ℕ) (a b : Rack Memory Memory) (items xs : List Stops) (d : Stops) (dev : TargetId) (stop : Option Loss) (z : IsTurn i f w out a b items xs d dev stop) where
+  stops-at : slice_get items i ≡ Some (get_or xs i d)
+  stops-at = slice_get-get_or items i d (omega (arith, slice_get_within a.targets i z.change.before z.change.found, z.count)) ∙ ap (λ (l : List Stops). Some (get_or l i d)) (sym z.read)
+
+  module _ (s : Setup) (slots : List SlotSetup) (number : ℕ) (h : List Entry) (x : MemoryRack) (is : record { shelf = a; stops = items } ≡ x) (r : IsReached s slots number f h x) where
+    before : IsReached s slots number f h (record { shelf = a; stops = items })
+    before = subst (λ (v : MemoryRack). IsReached s slots number f h v) (sym is) r
+
+    pub turn-comes : (m : List Entry) → m ≡ Arrived dev number (noted stop w (next_number h) out) ∷ h → ComesTo s slots i number f stop h m (record { shelf = b; stops = items })
+    turn-comes m e = comes-to s slots i number f h (record { shelf = a; stops = items }) (record { shelf = b; stops = items }) w out (get_or xs i d) before z.change refl stops-at dev stop m z.name z.is e
+
+    pub turn-full : (life : ℕ) → IsReplyFull stop w (network life h) out → MeetsFull s h
+    turn-full life p = meets-no-room s slots i number f h (record { shelf = a; stops = items }) (record { shelf = b; stops = items }) w out (get_or xs i d) before z.change refl stops-at life stop z.is p
+
 -- ONE SLOT AFTER THE OTHER
 
-drop-at : (slots : List SlotSetup) (i : ℕ) (slot : SlotSetup) → slice_get slots i ≡ Some slot → drop i slots ≡ slot ∷ drop (i + 1) slots
+drop-at : (slots : List SlotSetup) (i : ℕ) (slot : SlotSetup) → slice_get slots i ≡ Some slot → drop i slots ≡ slot ∷ drop (suc i) slots
 drop-at [] i slot e = absurd (cc)
 drop-at (x ∷ xs) zero slot e = ap (λ z. z ∷ xs) (same_Some x slot e)
 drop-at (x ∷ xs) (suc i) slot e = drop-at xs i slot e
+
+-- the power wasn't lost
+pub goes-of : (o : Option Loss) (s : Setup) (slots : List SlotSetup) (i number : ℕ) (f : List ℕ) (h m : List Entry) (x : MemoryRack) → ((how : Loss) → o ≡ Some how → ⊥) → ComesTo s slots i number f o h m x
+    → GoesOn s slots i number f h m x
+goes-of None s slots i number f h m x whole p = p
+goes-of (Some how) s slots i number f h m x whole p = absurd (whole how refl)
 
 -- a frame came to the first slots of a shelf
 pub record Passes (s : Setup) (slots : List SlotSetup) (i number : ℕ) (f : List ℕ) (h m : List Entry) (x : MemoryRack) : Type 0 where
@@ -233,15 +262,15 @@ pub passes-none : (s : Setup) (slots : List SlotSetup) (number : ℕ) (f : List 
 passes-none s slots number f h x r = record { reached = r; each = λ n p. p; some = λ n p. p }
 
 module _ (s : Setup) (slots : List SlotSetup) (i number : ℕ) (f : List ℕ) (h m : List Entry) (x : MemoryRack) (p : Passes s slots i number f h m x) where
-  pub passes-on : (n : List Entry) (y : MemoryRack) → GoesOn s slots i number f m n y → Passes s slots (i + 1) number f h n y
-  passes-on n y g =
+  pub passes-on : (j : ℕ) (n : List Entry) (y : MemoryRack) → j ≡ suc i → GoesOn s slots i number f m n y → Passes s slots j number f h n y
+  passes-on j n y next g =
       let at = drop-at slots i g.slot g.found in
       record {
         reached = g.reached;
         each = λ l q. p.each l (subst (λ (z : List SlotSetup). ArriveAtEach number f slots z m l) (sym at)
-            (inl (g.fate, g.uncut, subst (λ (z : List Entry). ArriveAtEach number f slots (drop (i + 1) slots) z l) g.entry q)));
+            (inl (g.fate, g.uncut, subst (λ (z : List Entry). ArriveAtEach number f slots (drop (suc i) slots) z l) g.entry (subst (λ z. ArriveAtEach number f slots (drop z slots) n l) next q))));
         some = λ l q. p.some l (subst (λ (z : List SlotSetup). ArriveAtSome number f slots z m l) (sym at)
-            (inr (inl (g.fate, g.uncut, subst (λ (z : List Entry). ArriveAtSome number f slots (drop (i + 1) slots) z l) g.entry q))));
+            (inr (inl (g.fate, g.uncut, subst (λ (z : List Entry). ArriveAtSome number f slots (drop (suc i) slots) z l) g.entry (subst (λ z. ArriveAtSome number f slots (drop z slots) n l) next q)))));
       }
 
   pub passes-all : length slots ≤ i → ArriveAtEach number f slots slots h m

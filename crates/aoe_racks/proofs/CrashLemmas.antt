@@ -1,19 +1,16 @@
 -- A target that lost its power and was mounted again, and what is known of it.
-use Rattle.std.proofs.Common.{◌≡◌, ◌<◌, ◌≤◌, ◌*◌, ◌/◌, ◌+◌, ◌⊎◌, inl, inr, ℕ, Bool, true, false, if◌then◌else◌, List, length, replicate, Option, Some, None, Ok, refl, sym, ap, subst, ◌∙◌, arith}
-use Rattle.std.specs.Prelude.{IfSome, Result}
+use Rattle.std.proofs.Common.{◌≡◌, ◌<◌, ◌≤◌, ◌*◌, ◌/◌, ◌+◌, ◌⊎◌, inl, inr, ℕ, Bool, true, false, if◌then◌else◌, List, length, replicate, Option, Some, None, refl, sym, ap, subst, ◌∙◌, arith}
+use Rattle.std.specs.Prelude.{is_none, Ok, Result}
 use Rattle.std.specs.Option.{option_map}
 use Rattle.aoe_base.specs.declared.address.Mac.{Mac}
 use Rattle.aoe_disk.specs.Arming.{number_of}
 use Rattle.aoe_disk.specs.Calls.{IsRun, MovesDue}
-use Rattle.aoe_disk.specs.Memory.{contents_of, schedule_of, state_of, Memory}
+use Rattle.aoe_disk.specs.Memory.{armed_of, contents_of, state_of, Memory}
 use Rattle.aoe_disk.specs.State.{is_loose, sector, BothTell, HasShape}
 use Rattle.aoe_disk.specs.declared.armed.Arm.{Arm}
 use Rattle.aoe_disk.specs.declared.loss.Loss.{Loss}
 use Rattle.aoe_disk.proofs.Pieces.{is_loose-replicate}
 use Rattle.aoe_keep.specs.Found.{found, AlwaysFinds, Finds}
-use Rattle.aoe_keep.specs.Keep.{IsRefused}
-use Rattle.aoe_keep.specs.declared.refusal.MountRefusal.{MountRefusal}
-use Rattle.aoe_keep.specs.declared.refusal.MountRefusal.TheVariants.{Failed, TooSmall, BadKeep}
 use Rattle.aoe_lists.specs.Settings.{Settings}
 use Rattle.aoe_target.specs.Device.{Holds, MayStand, State}
 use Rattle.aoe_target.specs.Device as device
@@ -65,21 +62,8 @@ restarted_lists how a b k finds r =
     same_ok : (x y : Settings) → (let o : Result Settings ℕ = Ok x in o) ≡ Ok y → x ≡ y
     same_ok x y e = cc
 
--- of a disk of which no call fails, on which lists stand, a mounting isn't refused
-module _ (disk left : Memory) (lists : Settings) (room : 16 ≤ length disk.loose) (stands : found disk.bytes ≡ Ok lists) (unarmed : disk.arming ≡ None) where
-  never_due : (o : Option Arm) (m : ℕ) (s : Bool) (x : Option ℕ) → o ≡ None → MovesDue m true s (option_map number_of o) x → ⊥
-  never_due None m s x e p = let no : true ≡ false → ⊥ = λ q. (cc) in no p.0
-  never_due (Some arm) m s x e p = absurd (cc)
-
-  pub mount_is_taken : (e : MountRefusal) → IsRefused state_of disk e left → ⊥
-  mount_is_taken (TooSmall sectors) r = omega (arith, r.0, r.1, room)
-  mount_is_taken Failed r = never_due disk.arming r.2.calls _ _ unarmed r.2.run.schedule.due
-  mount_is_taken (BadKeep k) r = not_both (found disk.bytes) lists k stands r.1.0
-    where
-      not_both : (o : Result Settings ℕ) (l : Settings) (k : ℕ) → o ≡ Ok l → o ≡ Rattle.std.specs.Prelude.Err k → ⊥
-      not_both o l k p q = absurd (cc)
-
-idle : (o x : Option ℕ) (m : ℕ) (s : Bool) → o ≡ None → MovesDue m false s o x → x ≡ None
+-- no call is due after those that none was due before
+pub idle : (o x : Option ℕ) (m : ℕ) (s : Bool) → o ≡ None → MovesDue m false s o x → x ≡ None
 idle None x m s e p = p.1
 idle (Some k) x m s e p = absurd (cc)
 
@@ -91,7 +75,7 @@ module _ (how : Loss) (a b : Mounted Memory Memory) (r : Restarts how a b) where
   disk_unarmed = ap (λ (m : Memory). option_map number_of m.arming) r.keep.rest
 
   pub keep_unarmed : option_map number_of b.keep.disk.arming ≡ None
-  keep_unarmed = idle (option_map number_of r.disk.arming) (option_map number_of b.keep.disk.arming) r.mounted.mounts.run.calls _ disk_unarmed r.mounted.mounts.run.run.schedule.due
+  keep_unarmed = idle (option_map number_of r.disk.arming) (option_map number_of b.keep.disk.arming) r.mounted.mounts.run.calls (is_none (armed_of r.disk.arming)) disk_unarmed r.mounted.mounts.run.run.schedule.due
 
   -- what is known of it after the crash
   pub restarted_holds : (n : ℕ) (slot : SlotSetup) (before : Slot) → slot.cache ≡ None → HoldsWithin n (device_of state_of state_of a) before.state

@@ -18,7 +18,7 @@ use Rattle.aoe_target.specs.declared.heard.Effect.TheVariants as effect
 use Rattle.aoe_target.specs.declared.heard.Heard.{Heard}
 use Rattle.aoe_target.specs.declared.heard.Heard.TheVariants as heard
 use Rattle.aoe_target.specs.declared.station.Station.{Station}
-use Rattle.aoe_target.specs.Device.{Holds, State}
+use Rattle.aoe_target.specs.Device.{State}
 use Rattle.aoe_target.specs.Law.{after, cut, replied, Allows, IsStep}
 use Rattle.aoe_target.specs.Law as target
 use Rattle.aoe_target.specs.Mounted.{device_of, Mounted}
@@ -38,14 +38,15 @@ use Rattle.aoe_script.specs.declared.event.Which.{Which}
 use Rattle.aoe_script.specs.declared.event.Which.TheVariants.{Store, Keep}
 use Rattle.aoe_racks.specs.declared.rack.Stops.{Stops}
 use Rattle.aoe_racks.specs.Arrival.{noted, stop_at}
-use Rattle.aoe_racks.specs.Rack.{stop_in, IsDue, IsServing, IsStanding}
+use Rattle.aoe_racks.specs.Rack.{stop_in, HoldsWithin, IsDue, IsServing, IsStanding}
 use Rattle.aoe_racks.proofs.Apart.{if-true}
 use Rattle.aoe_racks.proofs.DueLemmas.{due-then, met, IsMet}
 use Rattle.aoe_racks.proofs.FateLemmas.{faulty-calls, keep-loss, noted-fate, noted-struck, of_keep, of_store, one-disk, store-loss, unkept-calls, IsLoss, Runs, StopOf}
+use Rattle.aoe_racks.proofs.WithinLemmas.{held, known_in, stepped, StepsWithin}
 
 -- A SLOT AFTER AN ARRIVAL
 
-same-self : (id : TargetId) → same_id id id ≡ true
+pub same-self : (id : TargetId) → same_id id id ≡ true
 same-self id = both (nat_eq id.major id.major) (nat_eq id.minor id.minor) (itself id.major) (itself id.minor)
   where
     both : (a b : Bool) → a ≡ true → b ≡ true → (a && b) ≡ true
@@ -84,7 +85,7 @@ follows slot h number f fate bytes =
 pub record Takes (slot : SlotSetup) (h : List Entry) (f : List ℕ) (x : Heard) (out : List ℕ) (t u : Mounted Memory Memory) : Type 0 where
   pub station : u.station ≡ slot.station
   pub allowed : Allows slot.station (state_after slot h) f (verdict_after slot h f) (fate_of x out)
-  pub holds : Holds (device_of state_of state_of u) (after slot.station f (verdict_after slot h f) (fate_of x out) (state_after slot h))
+  pub holds : HoldsWithin slot.station.sectors (device_of state_of state_of u) (after slot.station f (verdict_after slot h f) (fate_of x out) (state_after slot h))
   pub call : calls Store slot h f ≡ true → IsRun 1 (is_faulty x) (state_of t.store) (state_of u.store)
   pub idle : calls Store slot h f ≡ false → u.store ≡ t.store
   pub edit : calls Keep slot h f ≡ true → IsRun 6 (is_unkept x) (state_of t.keep.disk) (state_of u.keep.disk)
@@ -92,8 +93,10 @@ pub record Takes (slot : SlotSetup) (h : List Entry) (f : List ℕ) (x : Heard) 
 
 pub takes : (slot : SlotSetup) (h : List Entry) (f : List ℕ) (x : Heard) (out : List ℕ) (t u : Mounted Memory Memory) → IsStanding slot h t → Receives state_of state_of t u f x out → Takes slot h f x out t u
 takes slot h f x out t u k r =
-    let step : IsStep slot.station (state_after slot h) f (fate_of x out) (device_of state_of state_of u) =
-    subst (λ (z : Station). IsStep z (state_after slot h) f (fate_of x out) (device_of state_of state_of u)) k.station (r.step (state_after slot h) k.holds) in
+    let known : State = known_in t (state_after slot h) in
+    let step : StepsWithin slot.station (state_after slot h) f (fate_of x out) u =
+    stepped slot.station (state_after slot h) f (fate_of x out) t u k.holds
+    (subst (λ (z : Station). IsStep z known f (fate_of x out) (device_of state_of state_of u)) k.station (r.step known (held slot.station.sectors t (state_after slot h) k.holds))) in
     let store : calls_store (verdict t.station t.keep.lists f) ≡ calls Store slot h f =
     ap (λ (z : Station). calls_store (verdict z t.keep.lists f)) k.station ∙ ap (λ (l : Settings). calls_store (verdict slot.station l f)) k.holds.lists in
     let keep : edits t.station t.keep.lists f (verdict t.station t.keep.lists f) ≡ calls Keep slot h f =
@@ -205,7 +208,7 @@ module _ (slot : SlotSetup) (h : List Entry) (f : List ℕ) (x : Heard) (out : L
       serving = record {
         station = z.station;
         direct = k.direct;
-        holds = subst (λ (s : State). Holds (device_of state_of state_of u) s)
+        holds = subst (λ (s : State). HoldsWithin slot.station.sectors (device_of state_of state_of u) s)
             (sym (flow.state ∙ ap (λ w. after slot.station f (verdict_after slot h f) w (state_after slot h)) (noted-fate x fresh out))) z.holds;
         store_due = subst (λ (o : Option Stretch). IsDue Store o (schedule_of u.store.arming u.store.out)) (sym (flow.stretches Store)) (store-then (calls Store slot h f) refl);
         keep_due = subst (λ (o : Option Stretch). IsDue Keep o (schedule_of u.keep.disk.arming u.keep.disk.out)) (sym (flow.stretches Keep)) (keep-then (calls Keep slot h f) refl);
@@ -219,7 +222,7 @@ module _ (slot : SlotSetup) (h : List Entry) (f : List ℕ) (x : Heard) (out : L
   standing e n is flow loss = record {
     station = z.station;
     direct = k.direct;
-    holds = subst (λ (s : State). Holds (device_of state_of state_of u) s)
+    holds = subst (λ (s : State). HoldsWithin slot.station.sectors (device_of state_of state_of u) s)
         (ap (λ w. after slot.station f (verdict_after slot h f) (fate_of w out) (state_after slot h)) is ∙ loss.left ∙ sym flow.state) z.holds;
   }
 

@@ -1,5 +1,5 @@
 -- What is known of a device of so many sectors, and what a frame leaves of it.
-use Rattle.std.proofs.Common.{◌≡◌, ◌<◌, ◌≤◌, ◌+◌, ◌||◌, ◌==◌, cond, ℕ, Bool, true, false, not, nat_le, if◌then◌else◌, List, drop, Option, Some, None, is_some, refl, sym, ap, subst, ◌∙◌, arith}
+use Rattle.std.proofs.Common.{◌≡◌, ◌<◌, ◌≤◌, ◌+◌, ◌-◌, ◌&&◌, ◌||◌, ◌==◌, cond, ℕ, Bool, true, false, not, nat_le, if◌then◌else◌, List, drop, length, Option, Some, None, is_some, refl, sym, ap, subst, ◌∙◌, arith}
 use Rattle.std.specs.Prelude.{IfSome, Ok, Err}
 use Rattle.std.specs.Option.{option_map, option_or}
 use Rattle.std.proofs.lemmas.Bool.Decides.{nat_tests}
@@ -7,10 +7,12 @@ use Rattle.aoe_base.specs.declared.sectors.Span.{Span}
 use Rattle.aoe_disk.specs.Memory.{contents_of, state_of, Memory}
 use Rattle.aoe_disk.specs.State.{sector, BothTell}
 use Rattle.aoe_frame.specs.Header.{fields, head}
+use Rattle.aoe_frame.specs.declared.refusal.AoeError.TheVariants.{BadArgument}
 use Rattle.aoe_frame.specs.declared.header.Header.{Header}
+use Rattle.aoe_frame.specs.declared.refusal.AoeError.TheVariants.{BadArgument}
 use Rattle.aoe_ata.specs.Args.{registers}
 use Rattle.aoe_ata.specs.Command.{command_of}
-use Rattle.aoe_ata.specs.Decision.{answer_of, decision, written}
+use Rattle.aoe_ata.specs.Decision.{answer_of, decision, is_taken, written}
 use Rattle.aoe_ata.specs.declared.args.AtaArgs.{AtaArgs}
 use Rattle.aoe_ata.specs.declared.command.AtaCommand.{AtaCommand}
 use Rattle.aoe_ata.specs.declared.command.AtaCommand.TheVariants as command
@@ -180,9 +182,9 @@ answer_end n command.Unknown = tt
 
 decided_end : (n max : ℕ) (args : List ℕ) → Ranged n (decided (decision n max args))
 unfolding decision
-decided_end n max args = go _
+decided_end n max args = go (nat_le 12 (length args) && is_taken max (length args - 12) (command_of (registers args)))
   where
-    go : (b : Bool) → Ranged n (decided (if b then Ok (record { args = registers args; answer = answer_of n (command_of (registers args)) }) else Err _))
+    go : (b : Bool) → Ranged n (decided (if b then Ok (record { args = registers args; answer = answer_of n (command_of (registers args)) }) else Err BadArgument))
     go true = answer_end n (command_of (registers args))
     go false = tt
 
@@ -313,8 +315,7 @@ module _ (station : Station) (k : State) (f : List ℕ) (fate : Fate) (t u : Mou
       let s : Step = step_of station k.lists f command in
       (a, kept (after_step s fate k) (step_sectors s fate k) (subst (λ (z : State). Holds (device_of state_of state_of u) z) (step_known t s fate k) hold))
   by_verdict (verdict.Ata d) r a hold =
-      let own : Sectors = sectors_of (contents_of t.store) in
-      (
+      let own : Sectors = sectors_of (contents_of t.store) in (
         allows_within station.sectors station (Some own) k.sectors h.sectors (fields f) d.args d.answer fate r a,
         record {
           lists = hold.lists;

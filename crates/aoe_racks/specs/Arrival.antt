@@ -37,7 +37,7 @@ IsReplyFull (Some how) h net out = ⊥
 
 -- a frame that can be handed over comes to a shelf
 pub record IsReached (s : Setup) (slots : List SlotSetup) (number : ℕ) (f : List ℕ) (h : List Entry) (x : MemoryRack) : Type 0 where
-  pub slots : AreSlots s slots
+  pub shelf : AreSlots s slots
   pub serves : Serves slots h x
   pub lawful : IsLawful s h
   pub fresh : arriving s.life h number ≡ Some f

@@ -1,5 +1,5 @@
 //! A frame that comes to a shelf.
-ghost use Rattle.std.specs.Prelude.{List, ◌≡◌, ◌<◌, Err, IfErr, IfOk, OnErr, OnOk, length, true};
+ghost use Rattle.std.specs.Prelude.{List, ◌≡◌, ◌<◌, Err, IfErr, IfOk, OnErr, OnOk, length, map, true};
 ghost use Rattle.aoe_history.specs.declared.entry.Entry.TheVariants.{Arrived};
 ghost use Rattle.aoe_history.specs.Frames.{arriving, next_number};
 ghost use Rattle.aoe_history.specs.Groups.{ArriveAtEach, ArriveAtSome};
@@ -93,14 +93,16 @@ impl MemoryRack {
             → IsReached s slots number.0 frame.now run.old.entries self.old → MeetsFull s run.new.entries }
         ensures count { length self.new.shelf.targets ≡ length self.old.shelf.targets }
         ensures major { self.new.shelf.major ≡ self.old.shelf.major }
+        ensures stations { map (λ t. t.station) self.new.shelf.targets ≡ map (λ t. t.station) self.old.shelf.targets }
     {
         let dev = self.shelf.id(slot);
         let heard = self.shelf.receive_slot(slot, frame, out);
         let stop = stop_at(self.stops[slot], heard);
         match take_down(run, dev, number, heard, stop, out) {
-            Ok(()) => Ok(stop),
-            Err(refusal) => Err(refusal),
+            Ok(()) => {}
+            Err(refusal) => return Err(refusal),
         }
+        Ok(stop)
     }
 
     /// A frame comes to each target in turn, and each reply into the network. Where a disk fails in a
@@ -124,6 +126,7 @@ impl MemoryRack {
             → Serves slots run.old.entries self.old → IsLawful s run.old.entries
             → arriving s.life run.old.entries number.0 ≡ Some frame.now → MeetsFull s run.new.entries }
         ensures major { self.new.shelf.major ≡ self.old.shelf.major }
+        ensures stations { map (λ t. t.station) self.new.shelf.targets ≡ map (λ t. t.station) self.old.shelf.targets }
     {
         'slots: for slot in 0..self.shelf.count() {
             if let Some(how) = self.arrive_at(run, slot, number, frame, out)? {

@@ -8,8 +8,8 @@ ghost use Rattle.aoe_racks.specs.Crash.{with_crashes, Loses, RestartEach};
 ghost use Rattle.aoe_racks.specs.Rack.{AreSlots, AreTargets, Serves, Stands};
 ghost use Rattle.aoe_run.specs.Run.{with_entry};
 
-use crate::seat::{MemShelf, mount, seat};
 use crate::rack::MAX_TARGETS;
+use crate::seat::{MemShelf, mount, seat};
 use crate::{MemoryRack, Stops};
 use aoe_base::NoMemory;
 use aoe_disk::{Disk, Loss, MemDisk};
@@ -78,10 +78,7 @@ fn no_stops(count: usize) -> ArrayVec<Stops, MAX_TARGETS>
 {
     let mut stops = ArrayVec::new();
     'slots: for _ in 0..count {
-        stops.push(Stops {
-            store: None,
-            keep: None,
-        });
+        stops.push(Stops::none());
     }
     stops
 }

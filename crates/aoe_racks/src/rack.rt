@@ -39,7 +39,6 @@ pub struct Stops {
 /// the run, for every setup of which the disks are what the history says of its slots.
 #[derive(Drop)]
 pub struct MemoryRack {
-    pub(crate) alloc: Global,
     pub(crate) major: u16,
     pub(crate) shelf: Shelf<Direct<MemDisk>, MemDisk>,
 
@@ -118,7 +117,6 @@ impl MemoryRack {
         }) }
     {
         Ok(MemoryRack {
-            alloc,
             major,
             shelf: Shelf::new(alloc, major, ports, mtu)?,
             stops: ArrayVec::new(),
@@ -137,7 +135,7 @@ impl MemoryRack {
         } ∷ []) [] self.new) }
         ensures added { OnOk result (map (λ t. t.station) self.new.shelf.targets
             ≡ map (λ t. t.station) self.old.shelf.targets ++ station_of record { major = self.old.shelf.major; minor = minor } self.old.shelf.ports
-                self.old.shelf.mtu sectors ∷ []) }
+            self.old.shelf.mtu sectors ∷ []) }
         ensures rest { self.new.shelf ≡ record self.old.shelf { targets = self.new.shelf.targets } }
         ensures err { OnErr result (self.new ≡ self.old) }
     {
@@ -148,10 +146,7 @@ impl MemoryRack {
             return Err(NoMemory);
         };
         seat(&mut self.shelf, minor, store, mount(keep));
-        self.stops.push(Stops {
-            store: None,
-            keep: None,
-        });
+        self.stops.push(Stops::none());
         Ok(())
     }
 
@@ -199,6 +194,7 @@ impl MemoryRack {
         ensures err { OnErr result (run.new ≡ run.old) }
         ensures same { OnErr result (self.new ≡ self.old) }
         ensures major { self.new.shelf.major ≡ self.old.shelf.major }
+        ensures stations { map (λ t. t.station) self.new.shelf.targets ≡ map (λ t. t.station) self.old.shelf.targets }
     {
         let entry = Entry::Armed {
             dev: self.id(slot),

@@ -1,3 +1,2 @@
 mod AddsLemmas
 mod TurnLemmas
-mod ActLemmas

@@ -87,10 +87,10 @@ pub apart-slots : (major : ℕ) (s : Setup) (a : HostSetup) → TellsOf (is_apar
 apart-slots major s a = record { done = λ name ticket outcome called. refl; sent = λ name ticket number bytes called. refl }
 
 pub settled-adds : (s : Setup) (host : HostSetup) (x : NamedHost) (h m : List Entry) → Adds (is_apart_of_host host) h m → IsSettled s host h x → IsSettled s host m x
-settled-adds s host x h m a k = adds-keep (is_apart_of_host host) (λ n. IsSettled s host n x) (λ e n t z. settled-apart s host n e x t z) h m a k
+settled-adds s host x h m a k = adds-keep (is_apart_of_host host) (λ n. IsSettled s host n x) (λ e n t z. settled-apart s host e n x t z) h m a k
 
 pub awaits-adds : (s : Setup) (host : HostSetup) (got : Option Got) (x : NamedHost) (h m : List Entry) → Adds (is_apart_of_host host) h m → Awaits s host got h x → Awaits s host got m x
-awaits-adds s host got x h m a k = adds-keep (is_apart_of_host host) (λ n. Awaits s host got n x) (λ e n t z. awaits-apart s host got n e x t z) h m a k
+awaits-adds s host got x h m a k = adds-keep (is_apart_of_host host) (λ n. Awaits s host got n x) (λ e n t z. awaits-apart s host got e n x t z) h m a k
 
 pub serves-adds : (slots : _) (x : MemoryRack) (h m : List Entry) → Adds (is_apart_of_slots slots) h m → Serves slots h x → Serves slots m x
 serves-adds slots x h m a k = adds-keep (is_apart_of_slots slots) (λ n. Serves slots n x) (λ e n t z. serves-apart slots e n x t z) h m a k

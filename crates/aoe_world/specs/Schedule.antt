@@ -1,25 +1,23 @@
 -- What an event line of a script comes to: acts, each with its group of entries.
 use Rattle.std.specs.Prelude.{ℕ, suc, ◌≡◌, ◌≤◌, ◌<◌, ◌-◌, ◌⊎◌, Bool, not, List, [], ◌∷◌, length, map, Option, Some, None, unwrap_or, if◌then◌else◌}
-use Rattle.std.specs.List.{filter, find}
+use Rattle.std.specs.List.{filter}
 use Rattle.std.specs.Option.{option_map, option_map_or}
 use Rattle.arrayvec.specs.ArrayVec.{ArrayVec}
 use Rattle.aoe_base.specs.declared.address.Mac.{Mac}
 use Rattle.aoe_base.specs.declared.address.TheConstants.{BROADCAST}
 use Rattle.aoe_frame.specs.Header.{fields}
 use Rattle.aoe_hosts.specs.Asks.{submission_in}
-use Rattle.aoe_layout.specs.Layout.{stations_of, Placed}
+use Rattle.aoe_layout.specs.Layout.{station_named, stations_of, Placed}
 use Rattle.aoe_lists.specs.Addresses.{holds, same_address}
 use Rattle.aoe_script.specs.declared.event.Event.{Event}
 use Rattle.aoe_script.specs.declared.event.Event.TheVariants as event
 use Rattle.aoe_script.specs.declared.setup.Setup.{Setup as Line}
-use Rattle.aoe_script.specs.declared.setup.Setup.TheVariants.{Shelf}
-use Rattle.aoe_script.specs.Rules.{same}
 use Rattle.aoe_history.specs.declared.entry.Entry.{Entry}
 use Rattle.aoe_history.specs.Commands.{Submission}
 use Rattle.aoe_history.specs.Frames.{arriving, frames}
 use Rattle.aoe_history.specs.Groups.{Act, Follows, Group, IsBegun, Station}
 use Rattle.aoe_history.specs.Groups.Act.{Arm, Crash, Hand, Inject, Lose, Submit, Tick}
-use Rattle.aoe_history.specs.Groups.Station as station
+use Rattle.aoe_history.specs.Groups.Station.{Shelf as ShelfStation, Host as HostStation}
 use Rattle.aoe_history.specs.Setup.{Setup}
 
 -- HANDING A FRAME OVER
@@ -66,11 +64,11 @@ pub record MovesBy (s : Setup) (acts : List Entry → ℕ → List Act) (n curso
 
 -- the station and the shelf that a name stands for
 abbrev pub station_called : List Line → ArrayVec ℕ → Station
-station_called lines name = option_map_or (λ (p : Placed). p.station) (find (λ (p : Placed). same p.name name) (stations_of lines)) (station.Host name)
+station_called lines name = option_map_or (λ (p : Placed). p.station) (station_named lines name) (HostStation name)
 
 abbrev pub major_of : Station → ℕ
-major_of (station.Shelf major) = major
-major_of (station.Host name) = 0
+major_of (ShelfStation major) = major
+major_of (HostStation name) = 0
 
 -- a submission, where the line makes one
 abbrev pub asks : ArrayVec ℕ → Option Submission → List Act

@@ -3,7 +3,7 @@ use Rattle.std.specs.Prelude.{ℕ, ◌≡◌, ◌≢◌, ◌<◌, ◌≤◌, tru
 use Rattle.arrayvec.specs.ArrayVec.{ArrayVec}
 use Rattle.aoe_history.specs.declared.entry.Entry.{Entry}
 use Rattle.aoe_history.specs.Groups.{Act, Follows, Got, Group, IsBegun, Station, Turns, TurnsSome}
-use Rattle.aoe_history.specs.Groups.Station as station
+use Rattle.aoe_history.specs.Groups.Station.{Shelf as ShelfStation, Host as HostStation}
 use Rattle.aoe_history.specs.Lawful.{IsLawful}
 use Rattle.aoe_history.specs.Setup.{host_called, is_called, shelf_of, HostSetup, IsSetup, Setup}
 use Rattle.aoe_hosts.specs.Host.{Awaits, IsSettled, NamedHost}
@@ -81,8 +81,8 @@ DoesAll (Err refusal) s majors acts old new = FollowsSome s acts old.run.entries
 
 -- where a station stands among the shelves or the hosts
 abbrev pub IsAt : Setup → List ℕ → At → Station → Type 0
-IsAt s majors (at.Shelf i) (station.Shelf major) = slice_get majors i ≡ Some major
-IsAt s majors (at.Host i) (station.Host name) = (host : HostSetup) × (slice_get s.hosts i ≡ Some host) × (is_called host name ≡ true)
+IsAt s majors (at.Shelf i) (ShelfStation major) = slice_get majors i ≡ Some major
+IsAt s majors (at.Host i) (HostStation name) = (host : HostSetup) × (slice_get s.hosts i ≡ Some host) × (is_called host name ≡ true)
 IsAt s majors place other = ⊥
 
 -- the stations in the order of their lines

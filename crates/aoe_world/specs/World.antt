@@ -1,6 +1,5 @@
 -- A world: a script's setup lines, and what came of the events so far.
 use Rattle.std.specs.Prelude.{ℕ, suc, ◌≡◌, ◌+◌, ◌*◌, ◌≤◌, List, length, Option, Some, None, IfSome, Result, Ok, Err}
-use Rattle.std.specs.List.{filter_map}
 use Rattle.aoe_net.specs.declared.refusal.NetRefusal.{NetRefusal}
 use Rattle.aoe_net.specs.Network.{total_bytes}
 use Rattle.aoe_history.specs.declared.entry.Entry.{Entry}
@@ -8,11 +7,10 @@ use Rattle.aoe_history.specs.Commands.{tickets}
 use Rattle.aoe_history.specs.Frames.{clock, frames, network}
 use Rattle.aoe_history.specs.Lawful.{IsLawful}
 use Rattle.aoe_history.specs.Setup.{HostSetup, Setup}
-use Rattle.aoe_layout.specs.Layout.{setup_of, stations_of}
+use Rattle.aoe_layout.specs.Layout.{majors_of, setup_of, stations_of}
 use Rattle.aoe_run.specs.Run.{MeetsFull}
 use Rattle.aoe_script.specs.declared.event.Event.{Event}
 use Rattle.aoe_script.specs.declared.setup.Setup.{Setup as Line}
-use Rattle.aoe_script.specs.declared.setup.Setup.TheVariants.{Shelf}
 use Rattle.aoe_script.specs.Lines.{IsScript, ScriptLines}
 use Rattle.aoe_world.specs.declared.place.Place.{Place}
 use Rattle.aoe_world.specs.declared.refusal.WorldRefusal.{WorldRefusal}
@@ -29,14 +27,6 @@ pub record Stepped : Type 0 where
   pub cursor : ℕ
   pub events : ℕ
   pub refused : Option WorldRefusal
-
--- the numbers of the shelves in the order of their lines
-abbrev pub major_in : Line → Option ℕ
-major_in (Shelf name major ports mtu) = Some major
-major_in line = None
-
-abbrev pub majors_of : List Line → List ℕ
-majors_of lines = filter_map major_in lines
 
 -- a network that is full has so many frames and bytes, and the history could go on by a frame for which there is no room
 abbrev pub IsRefusedAt : Setup → List Entry → WorldRefusal → Type 0

@@ -4,9 +4,9 @@ ghost use Rattle.aoe_script.specs.Rules.{event_why};
 ghost use Rattle.aoe_history.specs.Commands.{tickets};
 ghost use Rattle.aoe_history.specs.Frames.{clock, frames};
 ghost use Rattle.aoe_history.specs.Setup.{HostSetup};
-ghost use Rattle.aoe_layout.specs.Layout.{setup_of};
+ghost use Rattle.aoe_layout.specs.Layout.{majors_of, setup_of};
 ghost use Rattle.aoe_world.specs.Stage.{IsReady};
-ghost use Rattle.aoe_world.specs.World.{majors_of, IsStaged, Runs};
+ghost use Rattle.aoe_world.specs.World.{IsStaged, Runs};
 
 use crate::place::{At, Place};
 use crate::stage::Stage;

@@ -6,6 +6,7 @@ ghost use Rattle.aoe_initiator.specs.HostLaw.{same_id};
 ghost use Rattle.aoe_script.specs.Rules.{is_event};
 ghost use Rattle.aoe_history.specs.Frames.{arriving, clock};
 ghost use Rattle.aoe_history.specs.Groups.{Got, Station};
+ghost use Rattle.aoe_history.specs.Groups.Station.{Shelf as ShelfStation, Host as HostStation};
 ghost use Rattle.aoe_history.specs.Groups.Act.{Arm, Crash, Hand, Inject, Lose, Submit, Tick};
 ghost use Rattle.aoe_history.specs.Setup.{is_called, is_port, HostSetup, Setup};
 ghost use Rattle.aoe_hosts.specs.Asks.{submission_in};
@@ -75,7 +76,7 @@ impl Stage {
         requires attached { IfSome (slice_get self.old.hosts.items host) (λ x. is_some (position (λ d. same_id d.about.id dev) x.core.devices) ≡ true) }
         requires few { IfSome (slice_get self.old.hosts.items host) (λ x. x.core.last_ticket < 2 ^ 64 - 1) }
         ensures { (s : Setup) (majors : List ℕ) (name : ArrayVec ℕ) → IsNetwork s majors → IsReady s majors self.old
-            → IsAt s majors (At.Host host) (Station.Host name)
+            → IsAt s majors (At.Host host) (HostStation name)
             → IfSome (submission_in event.now) (λ x. Does result s majors (Submit name x.dev x.op) self.old self.new) }
     {
         match self.hosts[host].submit(&mut self.run, dev, event) {
@@ -173,7 +174,7 @@ impl Stage {
         requires { i < length self.old.shelves.items }
         ensures does { (s : Setup) (majors : List ℕ) (major : ℕ) → IsNetwork s majors → IsReady s majors self.old → slice_get majors i ≡ Some major
             → arriving self.old.run.life self.old.run.entries number.0 ≡ Some self.old.frame.items
-            → Does result s majors (Hand number.0 (Station.Shelf major)) self.old self.new }
+            → Does result s majors (Hand number.0 (ShelfStation major)) self.old self.new }
         ensures frame { self.new.frame ≡ self.old.frame }
     {
         match self.shelves[i].arrive(&mut self.run, number, &self.frame, &mut self.made) {
@@ -185,9 +186,9 @@ impl Stage {
     fn hand_to_host(&mut self, number: FrameNo, i: usize) -> Result<(), NetRefusal>
         requires { i < length self.old.hosts.items }
         ensures does { (s : Setup) (majors : List ℕ) (name : ArrayVec ℕ) → IsNetwork s majors → IsReady s majors self.old
-            → IsAt s majors (At.Host i) (Station.Host name)
+            → IsAt s majors (At.Host i) (HostStation name)
             → arriving self.old.run.life self.old.run.entries number.0 ≡ Some self.old.frame.items
-            → Does result s majors (Hand number.0 (Station.Host name)) self.old self.new }
+            → Does result s majors (Hand number.0 (HostStation name)) self.old self.new }
         ensures frame { self.new.frame ≡ self.old.frame }
     {
         match self.hosts[i].take(&mut self.run, number, &self.frame) {
