@@ -61,6 +61,20 @@ declared_more setups new events setup h e room fits is =
         let none = good.0 in
         absurd cc
 
+pub asked_more : (setups : List Setup) (events new : List Event) (event : Event) → IsScript (record { setups = setups; events = events })
+    → event_why setups event ≡ None → length events < 50000 → FitsEvent event → new ≡ events ++ event ∷ []
+    → IsScript (record { setups = setups; events = new })
+asked_more setups events new event h e room fits is =
+    let P : List Event → Type 0 = λ x. IsScript (record { setups = setups; events = x }) in
+    subst P (sym is) record {
+      setups = h.setups;
+      events = each_pushed (λ before x. event_why setups x ≡ None) events event h.events e;
+      few_setups = h.few_setups;
+      few_events = omega (arith, room, length-append events (event ∷ []));
+      setups_fit = h.setups_fit;
+      events_fit = All-push FitsEvent events event h.events_fit fits;
+    }
+
 -- ---- a script with one line more
 
 line_more : (before : List Line) (line : Line) → lines_of (before ++ line ∷ []) ≡ with_line (lines_of before) line

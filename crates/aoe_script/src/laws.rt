@@ -11,7 +11,8 @@ ghost use Rattle.aoe_script.specs.Types.{FitsEvent, FitsSetup};
 
 use aoe_base::{device_law, mac_reads_back};
 
-/// A law: what a line was printed for is what it says.
+/// A law: a printed line whose words are in their ranges says what it was printed for. Its end is no
+/// part of it.
 pub fn printed_line_reads_back()
     ensures setup { (setup : Setup) → is_setup setup ≡ true → FitsSetup setup → line_of (spelled (setup_words setup)) ≡ Declares setup }
     ensures event { (event : Event) → is_event event ≡ true → FitsEvent event → line_of (spelled (event_words event)) ≡ Asks event }
@@ -20,7 +21,8 @@ pub fn printed_line_reads_back()
     device_law();
 }
 
-/// A law: a script is read from its text, which is refused for nothing but its length.
+/// A law: a script is read from its text, which is refused for nothing but its length. Every
+/// [`Script`](crate::Script) is one of these.
 pub fn printed_script_reads_back()
     ensures reads { (script : ScriptLines) → IsScript script → script_of (script_text script) ≡ script }
     ensures accepted { (script : ScriptLines) → IsScript script → length (script_text script) ≤ 16777216 → refusal (script_text script) ≡ None }

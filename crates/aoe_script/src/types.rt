@@ -1,5 +1,5 @@
-//! What the types of its fields say of a line. Contracts see bytes and numbers without a bound:
-//! these functions do nothing but give them theirs.
+//! What the types of its fields say of a line. Contracts see bytes and numbers without a bound;
+//! these functions do nothing but tell them the bounds.
 ghost use Rattle.std.specs.Prelude.{All};
 ghost use Rattle.aoe_script.specs.Types.{FitsEvent, FitsLoss, FitsSetup, IsAddress, IsByte};
 
@@ -9,7 +9,7 @@ use aoe_base::Mac;
 use aoe_disk::Loss;
 use aoe_initiator::Dir;
 
-/// Each byte is one.
+/// Each is below 256.
 fn bytes_fit(bytes: &[u8])
     ensures { All IsByte bytes.now }
 {}
@@ -21,7 +21,7 @@ fn address_fits(mac: &Mac)
     bytes_fit(&mac.0);
 }
 
-/// Each of them has.
+/// Each of them has six bytes.
 fn addresses_fit(macs: &[Mac])
     ensures { All IsAddress macs.now }
 {
@@ -30,7 +30,7 @@ fn addresses_fit(macs: &[Mac])
     }
 }
 
-/// The address of each directive has.
+/// The address of each directive has six bytes.
 fn directives_fit(dirs: &[Dir])
     ensures { All (λ dir. IsAddress dir.mac) dirs.now }
 {
