@@ -21,12 +21,12 @@ pub data Adds (p : Entry → Bool) (h : List Entry) : List Entry → Type 0 wher
 
 pub adds-more : (p : Entry → Bool) (h m n : List Entry) → Adds p h m → Adds p m n → Adds p h n
 adds-more p h m _ a adds_none = a
-adds-more p h m _ a (adds_one {k} e t b) = adds_one e t (adds-more p h m k a b)
+adds-more p h m _ a (adds_one {m = k} e t b) = adds_one e t (adds-more p h m k a b)
 
 -- what each such entry keeps is kept
 pub adds-keep : (p : Entry → Bool) (P : List Entry → Type 0) → ((e : Entry) (h : List Entry) → p e ≡ true → P h → P (e ∷ h)) → (h m : List Entry) → Adds p h m → P h → P m
 adds-keep p P keep h _ adds_none x = x
-adds-keep p P keep h _ (adds_one {k} e t a) x = keep e k t (adds-keep p P keep h k a x)
+adds-keep p P keep h _ (adds_one {m = k} e t a) x = keep e k t (adds-keep p P keep h k a x)
 
 -- p is true of what a host called so tells and sends
 pub record TellsOf (p : Entry → Bool) (host : HostSetup) : Type 0 where
@@ -36,11 +36,11 @@ pub record TellsOf (p : Entry → Bool) (host : HostSetup) : Type 0 where
 module _ (p : Entry → Bool) (host : HostSetup) (t : TellsOf p host) (name : ArrayVec ℕ) (called : is_called host name ≡ true) where
   gives : (h m : List Entry) → GivesUp name h m → Adds p h m
   gives h _ GivesUp.gives_none = adds_none
-  gives h _ (GivesUp.gives_one {k} ticket first now g) = adds_one _ (t.done name ticket _ called) (gives h k g)
+  gives h _ (GivesUp.gives_one {m = k} ticket first now g) = adds_one _ (t.done name ticket _ called) (gives h k g)
 
   sends : (h m : List Entry) → SendsSome name h m → Adds p h m
   sends h _ SendsSome.sends_none = adds_none
-  sends h _ (SendsSome.sends_one {k} ticket number bytes g) = adds_one _ (t.sent name ticket number bytes called) (sends h k g)
+  sends h _ (SendsSome.sends_one {m = k} ticket number bytes g) = adds_one _ (t.sent name ticket number bytes called) (sends h k g)
 
   tells-if : (b : Bool) (h : List Entry) (ticket : ℕ) (outcome : Outcome) → Adds p h (if b then Done name ticket outcome ∷ h else h)
   tells-if true h ticket outcome = adds_one _ (t.done name ticket outcome called) adds_none

@@ -1,2 +1,6 @@
 mod AddsLemmas
+mod BuildHost
+mod BuildLists
+mod BuildShelf
+mod BuildStations
 mod TurnLemmas

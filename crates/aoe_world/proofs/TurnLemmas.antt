@@ -118,14 +118,15 @@ module _ (s : Setup) (majors : List ℕ) (got : Option Got) (i : ℕ) (host : Ho
         (k.waiting j other y ej same (omega (arith, above)));
   }
     where
+      inside : i < length hosts
+      inside = let w = slice_get_within s.hosts i host at in omega (arith, w, k.count)
+
       settled-here : (j : ℕ) (other : HostSetup) (y : NamedHost) → j ≡ i → slice_get s.hosts j ≡ Some other → slice_get (slice_set hosts i x) j ≡ Some y → IsSettled s other m y
       settled-here j other y is ej ey =
           let eo : host ≡ other = same_Some host other (sym at ∙ ap (slice_get s.hosts) (sym is) ∙ ej) in
-          let z = there hosts i (inside k) in
+          let z = there hosts i inside in
           let ex : x ≡ y = same_Some x y (sym (set-get hosts i z.0 x z.1) ∙ ap (slice_get (slice_set hosts i x)) (sym is) ∙ ey) in
           subst (λ (w : NamedHost). IsSettled s other m w) ex (subst (λ (o : HostSetup). IsSettled s o m x) eo done)
-      inside : HadTurns s got h i hosts → i < length hosts
-      inside k = let w = slice_get_within s.hosts i host at in omega (arith, w, k.count)
 
   pub serve-on : (shelves : List MemoryRack) → AllServe s majors h shelves → AllServe s majors m shelves
   serve-on shelves k = record {

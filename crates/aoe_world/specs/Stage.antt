@@ -1,8 +1,9 @@
 -- The stations of a world between two acts, and within one.
-use Rattle.std.specs.Prelude.{ℕ, ◌≡◌, ◌≢◌, ◌<◌, ◌≤◌, true, false, List, length, slice_get, Option, Some, None, Result, Ok, Err}
+use Rattle.std.specs.Prelude.{ℕ, ◌≡◌, ◌≢◌, ◌<◌, ◌≤◌, Bool, true, false, List, length, map, nat_lt, slice_get, Option, Some, None, Result, Ok, Err}
 use Rattle.arrayvec.specs.ArrayVec.{ArrayVec}
 use Rattle.aoe_history.specs.declared.entry.Entry.{Entry}
 use Rattle.aoe_history.specs.Groups.{Act, Follows, Got, Group, IsBegun, Station, Turns, TurnsSome}
+use Rattle.aoe_history.specs.Groups.Act.{Hand}
 use Rattle.aoe_history.specs.Groups.Station.{Shelf as ShelfStation, Host as HostStation}
 use Rattle.aoe_history.specs.Lawful.{IsLawful}
 use Rattle.aoe_history.specs.Setup.{host_called, is_called, shelf_of, HostSetup, IsSetup, Setup}
@@ -78,6 +79,13 @@ Does (Err refusal) s majors act old new = IsBegun s old.run.entries act new.run.
 abbrev pub DoesAll : {T : Type 0} → Result T NetRefusal → Setup → List ℕ → List Act → Stage → Stage → Type 0
 DoesAll (Ok u) s majors acts old new = Follows s acts old.run.entries new.run.entries × IsReady s majors new
 DoesAll (Err refusal) s majors acts old new = FollowsSome s acts old.run.entries new.run.entries × IsLeft s refusal new.run.entries
+
+-- a frame was handed to these stations one after another, and it is said whether there is one
+abbrev pub HandsEach : Result Bool NetRefusal → Setup → List ℕ → ℕ → List Station → Stage → Stage → Type 0
+HandsEach (Ok any) s majors frame stations old new =
+    (any ≡ nat_lt 0 (length stations)) × Follows s (map (Hand frame) stations) old.run.entries new.run.entries × IsReady s majors new
+HandsEach (Err refusal) s majors frame stations old new =
+    FollowsSome s (map (Hand frame) stations) old.run.entries new.run.entries × IsLeft s refusal new.run.entries
 
 -- where a station stands among the shelves or the hosts
 abbrev pub IsAt : Setup → List ℕ → At → Station → Type 0

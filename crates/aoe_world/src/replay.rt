@@ -1,5 +1,5 @@
 //! The events of a script, as acts of its stations.
-ghost use Rattle.std.specs.Prelude.{◌≡◌, ◌+◌, ◌<◌, ◌≤◌, ◌^◌, ◌×◌, length, None, Some, suc, IfSome, OnOk};
+ghost use Rattle.std.specs.Prelude.{◌≡◌, ◌+◌, ◌-◌, ◌<◌, ◌≤◌, ◌^◌, length, None, Some, suc, IfSome, OnOk};
 ghost use Rattle.aoe_script.specs.Rules.{event_why};
 ghost use Rattle.aoe_history.specs.Commands.{tickets};
 ghost use Rattle.aoe_history.specs.Frames.{clock, frames};
@@ -13,6 +13,7 @@ use crate::stage::Stage;
 use aoe_base::{FrameNo, TargetId};
 use aoe_disk::Loss;
 use aoe_net::NetRefusal;
+use aoe_racks::MemoryRack;
 use aoe_script::{Event, Name, Script, Which};
 
 /// The stations of a script, and where the script stands.
@@ -28,6 +29,16 @@ pub(crate) struct Replay<'a> {
     pub(crate) cursor: u32,
 }
 
+/// The slot with a minor.
+fn slot_with(shelf: &MemoryRack, minor: u8) -> Option<usize> {
+    'slots: for slot in 0..shelf.count() {
+        if shelf.id(slot).minor == minor {
+            return Some(slot);
+        }
+    }
+    None
+}
+
 impl Replay<'_> {
     /// Where the station with a name stands.
     fn place_of(&self, name: &Name) -> Option<At> {
@@ -38,7 +49,7 @@ impl Replay<'_> {
     /// The place of the shelf with a number, and in it that of the slot with a name.
     fn slot_of(&self, dev: TargetId) -> Option<(usize, usize)> {
         let shelf = self.stage.shelves.iter().position(|shelf| shelf.major() == dev.major)?;
-        let slot = self.stage.shelves[shelf].slot_of(dev.minor)?;
+        let slot = slot_with(&self.stage.shelves[shelf], dev.minor)?;
         Some((shelf, slot))
     }
 

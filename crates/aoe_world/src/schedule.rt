@@ -1,5 +1,5 @@
 //! Frames that are handed over as their addresses say.
-ghost use Rattle.std.specs.Prelude.{◌≡◌, ◌≤◌, ◌<◌, ◌+◌, ◌×◌, ℕ, List, length, take, Option, Some, None, Result, Ok, IfOk, OnOk, slice_get, slice_range, true, false};
+ghost use Rattle.std.specs.Prelude.{◌≡◌, ◌≤◌, ◌<◌, ◌+◌, ℕ, List, length, take, Option, Some, None, Result, Ok, IfOk, OnOk, slice_get, slice_range, true, false};
 ghost use Rattle.aoe_frame.specs.Header.{fields};
 ghost use Rattle.aoe_history.specs.Frames.{arriving};
 ghost use Rattle.aoe_history.specs.Groups.Act.{Hand, Lose};

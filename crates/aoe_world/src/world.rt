@@ -1,5 +1,5 @@
 //! A world: a run of a script's events through its shelves and its hosts.
-ghost use Rattle.std.specs.Prelude.{◌≡◌, ◌+◌, ◌<◌, ◌×◌, [], length, None, Some, Err, IfErr, IfNone, IfOk, IfSome, OnErr, OnOk};
+ghost use Rattle.std.specs.Prelude.{◌≡◌, ◌+◌, ◌<◌, [], length, None, Some, Err, IfErr, IfNone, IfOk, IfSome, OnErr, OnOk};
 ghost use Rattle.aoe_history.specs.Lawful.{IsLawful};
 ghost use Rattle.aoe_history.specs.Reading.{HasReadLaw};
 ghost use Rattle.aoe_history.specs.Setup.{IsSetup};
@@ -30,7 +30,7 @@ pub struct World<'a> {
     refusal: Option<WorldRefusal>,
 }
 
-impl Model for World<'_> {
+impl<'a> Model for World<'a> {
     ghost use Rattle.aoe_world.specs.World.{IsWorld, Stepped};
 
     ghost Value = { Stepped };
