@@ -168,7 +168,7 @@ module _ (lines : List Line) (name : ArrayVec ℕ) (ports : ArrayVec Mac) (life 
         let own = at-own (attached_to lines name) lines n line d at is in
         let device : IsDevice d = words.devices (length (filter_map (attached_to lines name) (take n lines))) d (ap (λ ds. slice_get ds (length (filter_map (attached_to lines name) (take n lines)))) are ∙ own) in
         let count : length (map (λ (z : Device). z.about) x.core.devices) ≡ length (filter_map (attached_to lines name) (take n lines)) = ap length k.devices in
-        let many : length (map (λ (z : Device). z.about) x.core.devices) ≡ length x.core.devices = length-map {A = Device} {B = Attached} (λ (z : Device). z.about) x.core.devices in
+        let many : length (map (λ (z : Device). z.about) x.core.devices) ≡ length x.core.devices = length-map {A = Device} {B = Attached} x.core.devices (λ (z : Device). z.about) in
         let most = few-given (attached_to lines name) lines n in
         record {
           distinct = device.remotes.distinct;
