@@ -1,12 +1,13 @@
 -- The stations that are built from the lines of a script.
-use Rattle.std.proofs.Common.{ℕ, suc, ◌+◌, ◌≡◌, ◌∙◌, ◌<◌, ◌≤◌, true, List, [], ◌∷◌, ◌++◌, length, take, Option, Some, None, refl, sym, ap, subst, arith}
-use Rattle.std.specs.Prelude.{slice_get}
+use Rattle.std.proofs.Common.{ℕ, suc, ◌+◌, ◌*◌, ◌≡◌, ◌∙◌, ◌<◌, ◌≤◌, ◌⊎◌, inl, inr, true, List, [], ◌∷◌, ◌++◌, length, take, Option, Some, None, refl, sym, ap, subst, arith}
+use Rattle.std.specs.Prelude.{slice_get, OnOk, Result, Ok, Err}
 use Rattle.std.specs.List.{filter_map}
 use Rattle.std.proofs.lemmas.Option.{none-some}
 use Rattle.arrayvec.specs.ArrayVec.{ArrayVec}
 use Rattle.aoe_base.specs.declared.address.Mac.{Mac}
 use Rattle.aoe_history.specs.declared.entry.Entry.{Entry}
-use Rattle.aoe_history.specs.Frames.{frames}
+use Rattle.aoe_history.specs.Commands.{tickets}
+use Rattle.aoe_history.specs.Frames.{clock, frames}
 use Rattle.aoe_history.specs.Groups.{Station as station}
 use Rattle.aoe_history.specs.Lawful.{IsLawful}
 use Rattle.aoe_history.specs.Setup.{is_called, shelf_of, HostSetup, IsSetup, Setup}
@@ -24,7 +25,11 @@ use Rattle.aoe_world.specs.declared.place.At.TheVariants as at
 use Rattle.aoe_world.specs.declared.place.Place.{Place}
 use Rattle.aoe_world.specs.declared.stage.Stage.{Stage}
 use Rattle.aoe_world.specs.Stage.{AllServe, AllSettled, ArePlaces, IsNetwork, IsReady}
-use Rattle.aoe_world.specs.World.{IsStaged}
+use Rattle.aoe_world.specs.World.{IsStaged, IsWorld}
+
+pub on-ok : {T E : Type 0} (r : Result T E) {A B P : Type 0} → OnOk r A → OnOk r B → (A → B → P) → OnOk r P
+on-ok (Ok u) a b go = go a b
+on-ok (Err e) a b go = tt
 
 -- ---- one line more
 
@@ -38,6 +43,11 @@ module _ (lines : List Line) (n : ℕ) (line : Line) (stage : Stage) (places : L
     hosts_are = subst (λ hs. Along (IsHost (setup_of lines)) hs stage.hosts.items) (grown-none (host_in lines) lines n line here no-host) k.hosts_are;
     places_are = subst (λ ps. Along (IsPlace (setup_of lines) (majors_of lines)) ps places) (grown-none placed lines n line here no-place) k.places_are;
   }
+
+  pub built-past : ((x : ℕ) × (line ≡ Life x)) ⊎ (((x : ArrayVec ℕ) × (y : ℕ) × (z : ℕ) × (line ≡ Slot x y z)) ⊎ ((x : ArrayVec ℕ) × (y : ArrayVec ℕ) × (z : ℕ) × (line ≡ Attach x y z))) → IsBuilt lines (n + 1) stage places
+  built-past (inl (x, e)) = built-on (ap major_in e) (ap (host_in lines) e) (ap placed e)
+  built-past (inr (inl (x, y, z, e))) = built-on (ap major_in e) (ap (host_in lines) e) (ap placed e)
+  built-past (inr (inr (x, y, z, e))) = built-on (ap major_in e) (ap (host_in lines) e) (ap placed e)
 
   module _ (later : Stage) (there : List Place) (run : later.run ≡ stage.run) where
     pub built-shelf : (name : ArrayVec ℕ) (major : ℕ) (ports : ArrayVec Mac) (mtu : ℕ) (x : MemoryRack) → line ≡ Shelf name major ports mtu
@@ -148,4 +158,22 @@ built-staged script n stage places cursor is net end one k = record {
   places_are = built-places script.setups n stage places end k;
   from_one = omega (arith, one);
   within = subst (λ (h : List Entry). cursor ≤ suc (length (frames h))) (sym k.nothing) (omega (arith, one));
+}
+
+-- the stations of the first n lines are built for a script
+pub record IsBegun (script of : ScriptLines) (n : ℕ) (stage : Stage) (places : List Place) (cursor : ℕ) : Type 0 where
+  pub same : of ≡ script
+  pub first : cursor ≡ 1
+  pub built : IsBuilt script.setups n stage places
+
+pub world-begun : (script : ScriptLines) (stage : Stage) (places : List Place) (cursor : ℕ) → IsStaged script places stage cursor → IsReady (setup_of script.setups) (majors_of script.setups) stage
+    → stage.run.entries ≡ [] → IsWorld script places stage cursor 0 None
+world-begun script stage places cursor staged ready nothing = record {
+  staged = staged;
+  lawful = ready.lawful;
+  ready = λ e. ready;
+  refusal = tt;
+  time = subst (λ (h : List Entry). clock h ≤ 10000000 * 0) (sym nothing) (omega arith);
+  tickets_are = λ host. subst (λ (h : List Entry). tickets host h ≤ 0) (sym nothing) (omega arith);
+  few = omega arith;
 }
