@@ -1,18 +1,18 @@
 -- A host that is built from the lines of a script.
-use Rattle.std.proofs.Common.{ℕ, ◌+◌, ◌-◌, ◌^◌, ◌≡◌, ◌≢◌, ◌∙◌, ◌<◌, ◌≤◌, ◌==◌, Bool, true, false, if◌then◌else◌, List, [], ◌∷◌, ◌++◌, length, take, drop, Option, Some, None, refl, sym, ap, subst, arith}
+use Rattle.std.proofs.Common.{ℕ, ◌+◌, ◌-◌, ◌^◌, ◌≡◌, ◌≢◌, ◌∙◌, ◌<◌, ◌≤◌, ◌==◌, Bool, true, false, if◌then◌else◌, List, [], ◌∷◌, ◌++◌, length, take, drop, Option, Some, None, refl, sym, ap, subst, arith, Contains}
 use Rattle.std.specs.Prelude.{map, slice_get, option_map, option_and_then, is_some, unwrap_or, All, IfSome}
 use Rattle.std.specs.List.{filter_map, find, list_any, position_or_len}
 use Rattle.std.specs.Option.{option_to_list}
 use Rattle.std.proofs.lemmas.Bool.{and_from, eq-eqb, ne_eqb}
-use Rattle.std.proofs.lemmas.List.Elements.{All-nil}
 use Rattle.std.proofs.lemmas.List.Folds.{find_at}
 use Rattle.std.proofs.lemmas.Option.{get_or_from_slice_get, slice_get_within}
 use Rattle.std.proofs.lemmas.List.{length-map}
 use Rattle.arrayvec.specs.ArrayVec.{ArrayVec}
 use Rattle.aoe_base.specs.declared.address.Mac.{Mac}
-use Rattle.aoe_history.specs.Setup.{host_called, HostSetup}
+use Rattle.aoe_history.specs.Setup.{host_called, HostSetup, IsSetup}
+use Rattle.aoe_hosts.proofs.AddressLemmas.{host-addresses, remote-addresses}
 use Rattle.aoe_hosts.proofs.Apart.{settled-new}
-use Rattle.aoe_hosts.specs.Host.{AreAddresses, IsHost, IsSettled, NamedHost}
+use Rattle.aoe_hosts.specs.Host.{IsHost, IsSettled, NamedHost}
 use Rattle.aoe_initiator.specs.declared.device.Attached.{Attached}
 use Rattle.aoe_initiator.specs.declared.device.Device.{Device}
 use Rattle.aoe_initiator.specs.declared.refusal.AttachRefusal.{AttachRefusal}
@@ -21,42 +21,21 @@ use Rattle.aoe_initiator.specs.Host.{new_host, Matches}
 use Rattle.aoe_initiator.specs.HostLaw.{attach_refusal, has_id, same_id}
 use Rattle.aoe_initiator.specs.HostLog.{Event}
 use Rattle.aoe_paths.specs.PathTable.{IsDistinct}
-use Rattle.aoe_layout.specs.Layout.{about, addresses_in, attached_to, default_dead, default_life, default_room, devices_of, host_in, host_of, life_in, setup_of, slot_by, slot_named, slot_with, HasMacs}
+use Rattle.aoe_layout.specs.Layout.{about, attached_to, default_dead, default_life, default_room, devices_of, host_in, host_of, life_in, setup_of, slot_by, slot_named, slot_with}
 use Rattle.aoe_layout.specs.Stations.{IsDevice}
 use Rattle.aoe_layout.specs.Stations.{IsHost as HasWords}
 use Rattle.aoe_layout.proofs.GoodLines.{are-good, AreGood}
-use Rattle.aoe_layout.proofs.HostLemmas.{device-from, has-hosts, DeviceFrom}
+use Rattle.aoe_layout.proofs.HostLemmas.{has-hosts}
 use Rattle.aoe_layout.proofs.LineLemmas.{same-self}
-use Rattle.aoe_layout.proofs.ListLemmas.{filtered-at}
+use Rattle.aoe_layout.proofs.ListLemmas.{contains-at, filtered-at}
 use Rattle.aoe_layout.proofs.RangeLemmas.{has-ranges}
+use Rattle.aoe_layout.proofs.SetupLemmas.{is-setup}
 use Rattle.aoe_script.specs.declared.setup.Setup.{Setup as Line}
 use Rattle.aoe_script.specs.declared.setup.Setup.TheVariants.{Life, Shelf, Slot, Host, Attach}
 use Rattle.aoe_script.specs.Lines.{IsScript, ScriptLines}
 use Rattle.aoe_script.specs.Rules.{is_shelf_named, is_slot, same}
-use Rattle.aoe_script.specs.Types.{FitsSetup, IsAddress}
 use Rattle.aoe_world.proofs.BuildLists.{all-at, any-map, at-own, early, few-given, find-here, grown, none-any, take-all}
 use Rattle.aoe_world.specs.Build.{CanAttach}
-
--- ---- addresses
-
-six : (ports : List Mac) → All IsAddress ports → AreAddresses ports
-six ports fit k d lt = (fit k d lt).six
-
-addresses-of : (line : Line) → FitsSetup line → AreAddresses (addresses_in line)
-addresses-of (Life ms) fits = All-nil (λ (a : Mac). length a.0 ≡ 6)
-addresses-of (Shelf name major ports mtu) fits = six ports.items fits
-addresses-of (Slot shelf minor sectors) fits = All-nil (λ (a : Mac). length a.0 ≡ 6)
-addresses-of (Host name ports room dead) fits = six ports.items fits
-addresses-of (Attach host shelf minor) fits = All-nil (λ (a : Mac). length a.0 ≡ 6)
-
-fits-at : (lines : List Line) (k : ℕ) (line : Line) → All FitsSetup lines → slice_get lines k ≡ Some line → FitsSetup line
-fits-at lines k line fit at = subst FitsSetup (get_or_from_slice_get lines k line line at) (fit k line (slice_get_within lines k line at))
-
-pub addresses-at : (lines : List Line) (k : ℕ) (line : Line) → All FitsSetup lines → slice_get lines k ≡ Some line → AreAddresses (addresses_in line)
-addresses-at lines k line fit at = addresses-of line (fits-at lines k line fit at)
-
-pub has-macs : (script : ScriptLines) → IsScript script → HasMacs script.setups
-has-macs script is = record { six = λ k line at. addresses-at script.setups k line is.setups_fit at }
 
 -- ---- numbers
 
@@ -216,12 +195,6 @@ module _ (script : ScriptLines) (is : IsScript script) (at : ℕ) (name : ArrayV
         some_time = subst (λ n. 0 < n) (sym dead-is) time-some;
       }
 
-  remote-addresses : (i : ℕ) (d : Attached) → slice_get (devices_of script.setups name) i ≡ Some d → AreAddresses d.remotes.items
-  remote-addresses i d e =
-      let x = device-from script.setups (are-good script is) name i d e in
-      subst (λ (z : Attached). AreAddresses z.remotes.items) x.device_is
-      (addresses-at script.setups x.line.at (Shelf x.name x.line.major x.line.ports x.line.mtu) is.setups_fit x.line.shelf_there)
-
   pub host-built : (n : ℕ) (x : NamedHost) → n ≡ length script.setups
       → HostSoFar script.setups name ports (setup_of script.setups).life (unwrap_or room default_room) (unwrap_or dead default_dead) n x
       → IsSettled (setup_of script.setups) (host_of script.setups name ports.items room dead) [] x
@@ -230,6 +203,12 @@ module _ (script : ScriptLines) (is : IsScript script) (at : ℕ) (name : ArrayV
     where
       host : HostSetup
       host = host_of script.setups name ports.items room dead
+
+      setup : IsSetup (setup_of script.setups)
+      setup = is-setup script.setups (are-good script is) is.setups_fit
+
+      inside : Contains (setup_of script.setups).hosts host
+      inside = contains-at (setup_of script.setups).hosts host (filtered-at (host_in script.setups) script.setups at (Host name ports room dead) host there refl)
 
       is-host : IsHost (setup_of script.setups) host x
       is-host = record {
@@ -241,8 +220,8 @@ module _ (script : ScriptLines) (is : IsScript script) (at : ℕ) (name : ArrayV
         devices = k.devices ∙ ap (λ ls. filter_map (attached_to script.setups name) ls) (ap (λ m. take m script.setups) end ∙ take-all script.setups);
         distinct = words-of.ports.distinct;
         remotes = all-at _ host.devices (λ i d e. (words-of.devices i d e).remotes.distinct);
-        addresses = addresses-at script.setups at (Host name ports room dead) is.setups_fit there;
-        remote_addresses = all-at _ host.devices remote-addresses;
+        addresses = host-addresses (setup_of script.setups) host setup inside;
+        remote_addresses = remote-addresses (setup_of script.setups) host setup inside;
       }
 
   -- the device of the next line can be attached

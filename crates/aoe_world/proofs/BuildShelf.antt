@@ -58,15 +58,11 @@ minors-are name major ports mtu minor (Host other list room dead ∷ lines) = mi
 minors-are name major ports mtu minor (Attach host shelf number ∷ lines) = minors-are name major ports mtu minor lines
 
 module _ (lines : List Line) (name : ArrayVec ℕ) (major : ℕ) (ports : ArrayVec Mac) (mtu : ℕ) where
-  pub shelf-begun : (x : MemoryRack) → x ≡ record { shelf = record { major = major; ports = ports.items; mtu = mtu; targets = [] }; stops = [] } → ShelfSoFar lines name major ports mtu 0 x
-  shelf-begun x e = record {
+  pub shelf-begun : (x : MemoryRack) → x ≡ record { shelf = record { major = major; ports = ports.items; mtu = mtu; targets = [] }; stops = [] } → Serves [] [] x → ShelfSoFar lines name major ports mtu 0 x
+  shelf-begun x e serves = record {
     words = ap (λ (z : MemoryRack). z.shelf) e ∙ ap (λ ts. record { major = major; ports = ports.items; mtu = mtu; targets = ts }) (sym (ap (λ (z : MemoryRack). z.shelf.targets) e));
     stations = ap (λ (z : MemoryRack). map (λ (t : Mounted Memory Memory). t.station) z.shelf.targets) e;
-    serves = record {
-      count = ap (λ (z : MemoryRack). length z.shelf.targets) e;
-      stops = ap (λ (z : MemoryRack). length z.stops) e;
-      each = λ i slot t stops a b c. absurd (none-some slot a);
-    };
+    serves = serves;
   }
 
   with-targets : (x y : MemoryRack) → x.shelf ≡ record { major = major; ports = ports.items; mtu = mtu; targets = x.shelf.targets }

@@ -31,8 +31,9 @@ new-requires c =
 pub lines-init : goal.lines-init
 lines-init c =
     shelf-begun c.args.script.now.setups c.args.name.now c.args.line.major c.args.line.ports c.args.line.mtu c.in_ok-shelf.shelf
-    (c.in_ok-shelf.ensures
+    (c.in_ok-shelf.ensures.value
     ∙ ap (λ (ps : ArrayVec Mac). record { shelf = record { major = c.args.line.major; ports = ps.items; mtu = c.args.line.mtu; targets = [] }; stops = [] }) c.copy_of-ports.ensures)
+    c.in_ok-shelf.ensures.serves
 
 pub add_slot-requires : goal.add_slot-requires
 add_slot-requires c = record {

@@ -1,6 +1,5 @@
 use Rattle.std.proofs.Common.{◌+◌, ◌<◌, ◌∙◌, length, ap, subst, sym, arith}
 use Rattle.aoe_script.specs.Lines.{ScriptLines}
-use Rattle.aoe_world.proofs.BuildHost.{has-macs}
 use Rattle.aoe_world.proofs.BuildStations.{built-ready, built-staged, network, IsBegun}
 use Rattle.aoe_world.specs.Build.{IsBuilt}
 use Rattle.aoe_world.proofs.replay.Replay.new.Goals as goal
@@ -28,13 +27,13 @@ pub returns-in_err-build-clause-network : goal.returns-in_err-build-clause-netwo
 returns-in_err-build-clause-network c =
     let script = c.args.script.now in
     let is = c.setups-count.ensures.script in
-    network script.setups (c.layout_law.ensures.setup script is (has-macs script is)) (c.layout_law.ensures.hosts script is) (c.layout_law.ensures.shelves script is)
+    network script.setups (c.layout_law.ensures.setup script is) (c.layout_law.ensures.hosts script is) (c.layout_law.ensures.shelves script is)
 
 pub returns-clause-network : goal.returns-clause-network
 returns-clause-network c =
     let script = c.args.script.now in
     let is = c.setups-count.ensures.script in
-    network script.setups (c.layout_law.ensures.setup script is (has-macs script is)) (c.layout_law.ensures.hosts script is) (c.layout_law.ensures.shelves script is)
+    network script.setups (c.layout_law.ensures.setup script is) (c.layout_law.ensures.hosts script is) (c.layout_law.ensures.shelves script is)
 
 pub returns-clause-staged : goal.returns-clause-staged
 returns-clause-staged c =
@@ -44,7 +43,7 @@ returns-clause-staged c =
     let b = c.lines-test.false in
     let n = c.setups-count.ensures.count in
     built-staged script c.lines.i c.lines.replay.stage c.lines.replay.places.items c.lines.replay.cursor is
-    (network script.setups (c.layout_law.ensures.setup script is (has-macs script is)) (c.layout_law.ensures.hosts script is) (c.layout_law.ensures.shelves script is))
+    (network script.setups (c.layout_law.ensures.setup script is) (c.layout_law.ensures.hosts script is) (c.layout_law.ensures.shelves script is))
     (omega (arith, a, b, n)) c.lines.invariant.first c.lines.invariant.built
 
 pub returns-clause-ready : goal.returns-clause-ready
