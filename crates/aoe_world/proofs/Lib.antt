@@ -4,3 +4,4 @@ mod BuildLists
 mod BuildShelf
 mod BuildStations
 mod TurnLemmas
+mod ActLemmas
