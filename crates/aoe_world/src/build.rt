@@ -226,6 +226,17 @@ fn attach(host: &mut NamedHost, known: Option<Attached>) -> Result<(), NoMemory>
     }
 }
 
+fn host_line(name: &Name, ports: &Ports, room: Option<u64>, dead: Option<u64>) -> HostLine
+    ensures { result ≡ record { name = name.now; ports = ports.now; room = room; dead = dead } }
+{
+    HostLine {
+        name: name_of(name),
+        ports: copy_of(ports),
+        room,
+        dead,
+    }
+}
+
 /// The host of a line, attached to its devices.
 fn build_host(alloc: Global, script: &Script, line: HostLine) -> Result<NamedHost, NoMemory>
     requires { (k : ℕ) × (slice_get script.now.setups k ≡ Some (Setup.Host line.name line.ports line.room line.dead)) }
@@ -381,12 +392,7 @@ impl Replay<'_> {
                 room,
                 dead,
             } => {
-                let line = HostLine {
-                    name: name_of(name),
-                    ports: copy_of(ports),
-                    room: *room,
-                    dead: *dead,
-                };
+                let line = host_line(name, ports, *room, *dead);
                 let host = build_host(alloc, script, line)?;
                 self.add_host(name, ports, host)
             }
