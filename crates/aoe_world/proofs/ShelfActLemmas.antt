@@ -72,10 +72,14 @@ module _ (s : Setup) (majors : List ℕ) (i major : ℕ) (x y : MemoryRack) (old
           subst (λ (st : Station). is_apart_of_slots (shelf_of s other) (Armed st.id which n mode) ≡ true) (sym same) (armed-apart s other major slot z.0 which n mode apart z.1)
 
 -- a frame that can be handed over comes to a shelf
+enters-with : (s : Setup) (number major : ℕ) (f : List ℕ) (h m : List Entry) (got : Option Got) → got ≡ None → arriving s.life h number ≡ Some f
+    → ArriveAtEach number f (shelf_of s major) (shelf_of s major) h m → Enters s h (Hand number (ShelfStation major)) got m
+enters-with s number major f h m got e fresh came =
+    subst (λ o. MatchOption o ((got ≡ None) × (m ≡ Lost number ∷ h)) (λ g. ComesTo s number g (ShelfStation major) h got m)) (sym fresh) (e, came)
+
 pub arrival-enters : (s : Setup) (number major : ℕ) (f : List ℕ) (h m : List Entry) → arriving s.life h number ≡ Some f → ArriveAtEach number f (shelf_of s major) (shelf_of s major) h m
     → Enters s h (Hand number (ShelfStation major)) None m
-arrival-enters s number major f h m fresh came =
-    subst (λ o. MatchOption o (((None : Option Got) ≡ None) × (m ≡ Lost number ∷ h)) (λ g. ComesTo s number g (ShelfStation major) h None m)) (sym fresh) (refl, came)
+arrival-enters s number major f h m fresh came = enters-with s number major f h m None refl fresh came
 
 pub arrival-begun : (s : Setup) (number major : ℕ) (f : List ℕ) (h m : List Entry) → arriving s.life h number ≡ Some f → ArriveAtSome number f (shelf_of s major) (shelf_of s major) h m
     → EntersSome s h (Hand number (ShelfStation major)) m
