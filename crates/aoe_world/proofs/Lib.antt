@@ -1,2 +1,4 @@
 mod AddsLemmas
+mod GroupLemmas
 mod TurnLemmas
+mod WorldLemmas
