@@ -7,7 +7,8 @@ use Rattle.arrayvec.specs.ArrayVec.{ArrayVec}
 use Rattle.aoe_base.specs.declared.address.TargetId.{TargetId}
 use Rattle.aoe_initiator.specs.declared.op.Op.TheVariants.{Write as WriteOp}
 use Rattle.aoe_history.specs.declared.entry.Entry.{Entry}
-use Rattle.aoe_history.specs.Frames.{arriving, frames}
+use Rattle.aoe_history.specs.Commands.{tickets}
+use Rattle.aoe_history.specs.Frames.{arriving, clock, frames}
 use Rattle.aoe_history.specs.Groups.{Act, Follows, Station}
 use Rattle.aoe_history.specs.Groups.Act.{Hand, Lose, Submit, Tick, Inject, Arm, Crash as CrashAct}
 use Rattle.aoe_history.specs.Lawful.{IsLawful}
@@ -20,14 +21,14 @@ use Rattle.aoe_script.specs.Rules.{is_event}
 use Rattle.aoe_script.specs.declared.event.Event.{Event}
 use Rattle.aoe_script.specs.declared.event.Event.TheVariants.{Read, Write, Flush, Identify, Config, Masks, Reserve, Tick as TickLine, Deliver, Pass, Skip, Again, Inject as InjectLine, Fail, Stop, Crash}
 use Rattle.aoe_script.specs.declared.setup.Setup.{Setup as Line}
-use Rattle.aoe_transcript.specs.Print.{op_of, IsAsked}
+use Rattle.aoe_transcript.specs.Print.{IsAsked, IsFromLine}
 use Rattle.aoe_world.proofs.GroupLemmas.{follows-aside, group-submits, group-ticks, grows-most, grows-none, grows-on, only, Grows, IsAside}
 use Rattle.aoe_world.specs.declared.place.Place.{Place}
 use Rattle.aoe_world.specs.declared.refusal.WorldRefusal.{WorldRefusal}
 use Rattle.aoe_world.specs.declared.stage.Stage.{Stage}
 use Rattle.aoe_world.specs.Schedule.{addressees, hand_each, handings, losses, Comes, ComesSome, Moves}
 use Rattle.aoe_world.specs.Stage.{IsReady}
-use Rattle.aoe_world.specs.World.{IsGoing, IsRefusedAt, IsWorld, Stepped}
+use Rattle.aoe_world.specs.World.{IsGoing, IsRefusedAt, IsStaged, IsWorld, Stepped}
 
 -- ACTS THAT ARE ASIDE
 
@@ -159,3 +160,19 @@ seen-begins seen is e m same x =
     when : {X : Type 0} (refused : Option WorldRefusal) → X → IfNone refused X
     when None y = y
     when (Some refusal) y = tt
+
+-- before any event
+pub new-world : (script : ScriptLines) (places : List Place) (stage : Stage) (cursor : ℕ) → IsStaged script places stage cursor
+    → IsReady (setup_of script.setups) (majors_of script.setups) stage → stage.run.entries ≡ [] → IsWorld script places stage cursor 0 None
+new-world script places stage cursor staged ready empty = record {
+  setup = staged.network_is.setup;
+  lawful = ready.lawful;
+  going = λ same. record {
+    staged = staged;
+    ready = ready;
+    time = let at : clock stage.run.entries ≡ 0 = ap clock empty in omega (arith, at);
+    tickets_are = λ host. let at : tickets host stage.run.entries ≡ 0 = ap (tickets host) empty in omega (arith, at);
+    lines_are = subst (All IsFromLine) (sym empty) (All-nil IsFromLine);
+  };
+  refusal = tt;
+}
