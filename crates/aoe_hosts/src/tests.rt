@@ -134,3 +134,40 @@ fn an_empty_read_is_refused(rt: HostRuntime) -> Result<(), Fail> {
     assert!(rt; matches!(history.entry(0), Entry::Refused { refusal, .. } if *refusal == empty));
     Ok(())
 }
+
+#[test]
+fn a_command_without_a_response_is_given_up(rt: HostRuntime) -> Result<(), Fail> {
+    let mut run = Run::new(rt.alloc(), Millis(2000));
+    let mut host = NamedHost::new(
+        rt.alloc(),
+        name(),
+        &one(A),
+        Millis(2000),
+        4,
+        Millis(180_000),
+    )?;
+    host.attach(DEVICE, &one(SHELF), 16, 2)?;
+    let mut out = Frame::new();
+    let event = Event::Flush {
+        host: name(),
+        dev: DEVICE,
+    };
+    host.submit(&mut run, DEVICE, &event)?;
+    host.turn(&mut run, &mut out)?;
+    assert_eq!(rt; run.clock(), Millis(0));
+    run.tick(180_000)?;
+    host.turn(&mut run, &mut out)?;
+    let history = run.history();
+    assert_eq!(rt; history.count(), 4);
+    assert!(rt;
+        matches!(
+            history.entry(3),
+            Entry::Done {
+                ticket: 1,
+                outcome: Outcome::GaveUp { .. },
+                ..
+            }
+        )
+    );
+    Ok(())
+}
