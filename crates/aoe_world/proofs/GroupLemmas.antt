@@ -1,5 +1,5 @@
 -- How long a history grows by the groups of acts: its time, what was submitted, and that event lines ask for it.
-use Rattle.std.proofs.Common.{ℕ, zero, suc, ◌≡◌, ◌≤◌, ◌+◌, ◌*◌, Bool, true, false, List, [], ◌∷◌, Option, Some, None, refl, sym, ap, subst, arith, inl, inr, if◌then◌else◌}
+use Rattle.std.proofs.Common.{ℕ, zero, suc, ◌≡◌, ◌≤◌, ◌+◌, ◌*◌, Bool, true, false, List, [], ◌∷◌, Option, Some, None, ◌⊎◌, refl, sym, ap, subst, arith, inl, inr, if◌then◌else◌}
 use Rattle.std.specs.Prelude.{map, replicate, All, MatchOption}
 use Rattle.std.proofs.lemmas.List.Elements.{All-cons, All-head, All-nil, All-tail}
 use Rattle.arrayvec.specs.ArrayVec.{ArrayVec}
@@ -81,7 +81,7 @@ grows-aside (Lost frame) h t = record { time_is = omega arith; tickets_are = λ 
 grows-aside (Armed dev which k mode) h t = record { time_is = omega arith; tickets_are = λ host. omega arith; lines_are = λ all. All-cons IsFromLine (Armed dev which k mode) h tt all }
 grows-aside (Crashed dev lists mode) h t = record { time_is = omega arith; tickets_are = λ host. omega arith; lines_are = λ all. All-cons IsFromLine (Crashed dev lists mode) h tt all }
 
-grows-adds : (h m : List Entry) → Adds is_aside h m → Grows 0 0 h m
+pub grows-adds : (h m : List Entry) → Adds is_aside h m → Grows 0 0 h m
 grows-adds h m a = adds-keep is_aside (λ n. Grows 0 0 h n) (λ e n t x. grows-on 0 0 h n (e ∷ n) x (grows-aside e n t)) h m a (grows-none h)
 
 -- ACTS
@@ -112,7 +112,7 @@ hand-adds : (s : Setup) (frame : ℕ) (f : Option (List ℕ)) (station : Station
 hand-adds s frame None station h got m (none, is) = one-adds (Lost frame) h m refl is
 hand-adds s frame (Some f) station h got m comes = comes-adds s frame f station h got m comes
 
-enters-adds : (s : Setup) (h : List Entry) (act : Act) (got : Option Got) (m : List Entry) → IsAside act → Enters s h act got m → Adds is_aside h m
+pub enters-adds : (s : Setup) (h : List Entry) (act : Act) (got : Option Got) (m : List Entry) → IsAside act → Enters s h act got m → Adds is_aside h m
 enters-adds s h (Submit name dev op) got m aside x = absurd aside
 enters-adds s h (Tick ms) got m aside x = absurd aside
 enters-adds s h (Inject bytes) got m aside (none, is) = one-adds _ h m refl is
@@ -130,35 +130,53 @@ turns-add s (host ∷ hosts) got h m (n, turn, rest) =
 
 -- GROUPS
 
-pub group-aside : (s : Setup) (h : List Entry) (act : Act) (m : List Entry) → IsAside act → Group s h act m → Grows 0 0 h m
-group-aside s h act m aside g =
-    grows-adds h m (adds-more is_aside h g.entered m (enters-adds s h act g.got g.entered aside g.enters) (turns-add s s.hosts g.got g.entered m g.turns))
-
 -- behind the entries of an act come those of the turns
 turned : (s : Setup) (a c : ℕ) (got : Option Got) (h n m : List Entry) → Grows a c h n → Turns s s.hosts got n m → Grows a c h m
 turned s a c got h n m x turns = grows-on a c h n m x (grows-adds n m (turns-add s s.hosts got n m turns))
 
-pub group-ticks : (s : Setup) (h : List Entry) (ms : ℕ) (m : List Entry) → Group s h (Tick ms) m → Grows ms 0 h m
-group-ticks s h ms m g =
-    turned s ms 0 g.got h g.entered m (subst (λ n. Grows ms 0 h n) (sym g.enters.1) (grows-ticked ms h)) g.turns
-
-submits : (s : Setup) (host : HostSetup) (h : List Entry) (name : ArrayVec ℕ) (dev : TargetId) (op : Op) (refusal : Option SubmitRefusal) → IsAsked op
-    → Grows 0 1 h (submit_entry s host h name dev op refusal ∷ h)
-submits s host h name dev op None asked = grows-submitted name (suc (tickets host h)) dev op h asked
-submits s host h name dev op (Some refusal) asked = grows-most 0 0 0 1 h _ (omega arith) (omega arith) (grows-aside (Refused name refusal) h refl)
-
-pub group-submits : (s : Setup) (h : List Entry) (name : ArrayVec ℕ) (dev : TargetId) (op : Op) (m : List Entry) → IsAsked op → Group s h (Submit name dev op) m
-    → Grows 0 1 h m
-group-submits s h name dev op m asked g =
-    let entry = g.enters.1 in
-    turned s 0 1 g.got h g.entered m (subst (λ n. Grows 0 1 h n) (sym entry.2) (submits s entry.0 h name dev op _ asked)) g.turns
-
--- one act, and no other
-pub only : (s : Setup) (a c : ℕ) (h : List Entry) (act : Act) (m : List Entry) → ((n : List Entry) → Group s h act n → Grows a c h n) → Follows s (act ∷ []) h m
-    → Grows a c h m
-only s a c h act m each (n, group, rest) = subst (λ k. Grows a c h k) (sym rest) (each n group)
+pub group-aside : (s : Setup) (h : List Entry) (act : Act) (m : List Entry) → IsAside act → Group s h act m → Grows 0 0 h m
+group-aside s h act m aside g = turned s 0 0 g.got h g.entered m (grows-adds h g.entered (enters-adds s h act g.got g.entered aside g.enters)) g.turns
 
 pub follows-aside : (s : Setup) (acts : List Act) (h m : List Entry) → All IsAside acts → Follows s acts h m → Grows 0 0 h m
 follows-aside s [] h m all is = subst (λ k. Grows 0 0 h k) (sym is) (grows-none h)
 follows-aside s (act ∷ acts) h m all (n, group, rest) =
     grows-on 0 0 h n m (group-aside s h act n (All-head IsAside act acts all) group) (follows-aside s acts n m (All-tail IsAside act acts all) rest)
+
+-- ACTS OF EVENT LINES
+
+-- ten million milliseconds at most, or a command that an event line asks for
+abbrev pub IsOfLine : Act → Type 0
+IsOfLine (Submit host dev op) = IsAsked op
+IsOfLine (Tick ms) = ms ≤ 10000000
+IsOfLine act = Unit {0}
+
+-- one of them at most takes time or submits something, and then it is the only one
+abbrev pub AreOfLine : List Act → Type 0
+AreOfLine acts = All IsAside acts ⊎ ((act : Act) × (acts ≡ act ∷ []) × IsOfLine act)
+
+most : (a c : ℕ) (h m : List Entry) → a ≤ 10000000 → c ≤ 1 → Grows a c h m → Grows 10000000 1 h m
+most a c h m time asked x = grows-most a 10000000 c 1 h m time asked x
+
+pub little : (h m : List Entry) → Grows 0 0 h m → Grows 10000000 1 h m
+little h m x = most 0 0 h m (omega arith) (omega arith) x
+
+submits : (s : Setup) (host : HostSetup) (h : List Entry) (name : ArrayVec ℕ) (dev : TargetId) (op : Op) (refusal : Option SubmitRefusal) → IsAsked op
+    → Grows 10000000 1 h (submit_entry s host h name dev op refusal ∷ h)
+submits s host h name dev op None asked = most 0 1 h _ (omega arith) (omega arith) (grows-submitted name (suc (tickets host h)) dev op h asked)
+submits s host h name dev op (Some refusal) asked = little h _ (grows-aside (Refused name refusal) h refl)
+
+pub enters-grows : (s : Setup) (h : List Entry) (act : Act) (got : Option Got) (m : List Entry) → IsOfLine act → Enters s h act got m → Grows 10000000 1 h m
+enters-grows s h (Submit name dev op) got m asked (none, (host, called, is)) =
+    subst (λ n. Grows 10000000 1 h n) (sym is) (submits s host h name dev op _ asked)
+enters-grows s h (Tick ms) got m time (none, is) = subst (λ n. Grows 10000000 1 h n) (sym is) (most ms 0 h _ time (omega arith) (grows-ticked ms h))
+enters-grows s h act got m of x = little h m (grows-adds h m (enters-adds s h act got m tt x))
+
+pub group-grows : (s : Setup) (h : List Entry) (act : Act) (m : List Entry) → IsOfLine act → Group s h act m → Grows 10000000 1 h m
+group-grows s h act m of g = turned s 10000000 1 g.got h g.entered m (enters-grows s h act g.got g.entered of g.enters) g.turns
+
+one-follows : (s : Setup) (act : Act) (h m : List Entry) → IsOfLine act → Follows s (act ∷ []) h m → Grows 10000000 1 h m
+one-follows s act h m of (n, group, is) = subst (λ k. Grows 10000000 1 h k) (sym is) (group-grows s h act n of group)
+
+pub follows-grows : (s : Setup) (acts : List Act) (h m : List Entry) → AreOfLine acts → Follows s acts h m → Grows 10000000 1 h m
+follows-grows s acts h m (inl all) follows = little h m (follows-aside s acts h m all follows)
+follows-grows s acts h m (inr (act, is, of)) follows = one-follows s act h m of (subst (λ (xs : List Act). Follows s xs h m) is follows)

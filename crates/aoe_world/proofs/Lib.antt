@@ -1,4 +1,5 @@
 mod AddsLemmas
 mod GroupLemmas
+mod GroupSome
 mod TurnLemmas
 mod WorldLemmas

@@ -1,16 +1,17 @@
 -- How long a history grows by an event, and what a world keeps.
-use Rattle.std.proofs.Common.{ℕ, zero, suc, ◌≡◌, ◌≤◌, ◌<◌, ◌+◌, ◌-◌, ◌*◌, Bool, true, false, List, [], ◌∷◌, Option, Some, None, refl, sym, ap, subst, arith}
+use Rattle.std.proofs.Common.{ℕ, zero, suc, ◌≡◌, ◌≤◌, ◌<◌, ◌+◌, ◌-◌, ◌*◌, Bool, true, false, List, [], ◌∷◌, Option, Some, None, refl, sym, ap, subst, arith, inl, inr}
 use Rattle.std.specs.Prelude.{length, map, replicate, All, IfNone, IfSome}
 use Rattle.std.specs.Option.{option_map_or}
 use Rattle.std.proofs.lemmas.List.Elements.{All-cons, All-nil}
 use Rattle.arrayvec.specs.ArrayVec.{ArrayVec}
 use Rattle.aoe_base.specs.declared.address.TargetId.{TargetId}
+use Rattle.aoe_initiator.specs.declared.op.Op.{Op}
 use Rattle.aoe_initiator.specs.declared.op.Op.TheVariants.{Write as WriteOp}
 use Rattle.aoe_history.specs.declared.entry.Entry.{Entry}
 use Rattle.aoe_history.specs.Commands.{tickets}
 use Rattle.aoe_history.specs.Frames.{arriving, clock, frames}
 use Rattle.aoe_history.specs.Groups.{Act, Follows, Station}
-use Rattle.aoe_history.specs.Groups.Act.{Hand, Lose, Submit, Tick, Inject, Arm, Crash as CrashAct}
+use Rattle.aoe_history.specs.Groups.Act.{Hand, Lose, Submit, Tick}
 use Rattle.aoe_history.specs.Lawful.{IsLawful}
 use Rattle.aoe_history.specs.Setup.{Setup}
 use Rattle.aoe_hosts.specs.Asks.{submission_in}
@@ -21,12 +22,13 @@ use Rattle.aoe_script.specs.Rules.{is_event}
 use Rattle.aoe_script.specs.declared.event.Event.{Event}
 use Rattle.aoe_script.specs.declared.event.Event.TheVariants.{Read, Write, Flush, Identify, Config, Masks, Reserve, Tick as TickLine, Deliver, Pass, Skip, Again, Inject as InjectLine, Fail, Stop, Crash}
 use Rattle.aoe_script.specs.declared.setup.Setup.{Setup as Line}
-use Rattle.aoe_transcript.specs.Print.{IsAsked, IsFromLine}
-use Rattle.aoe_world.proofs.GroupLemmas.{follows-aside, group-submits, group-ticks, grows-most, grows-none, grows-on, only, Grows, IsAside}
+use Rattle.aoe_transcript.specs.Print.{op_of, IsFromLine}
+use Rattle.aoe_world.proofs.GroupLemmas.{follows-aside, follows-grows, grows-none, grows-on, little, AreOfLine, Grows, IsAside}
+use Rattle.aoe_world.proofs.GroupSome.{some-aside, some-grows}
 use Rattle.aoe_world.specs.declared.place.Place.{Place}
 use Rattle.aoe_world.specs.declared.refusal.WorldRefusal.{WorldRefusal}
 use Rattle.aoe_world.specs.declared.stage.Stage.{Stage}
-use Rattle.aoe_world.specs.Schedule.{addressees, hand_each, handings, losses, Comes, ComesSome, Moves}
+use Rattle.aoe_world.specs.Schedule.{acts_of, addressees, hand_each, handings, losses, Comes, ComesSome, Moves, MovesBy, MovesSome}
 use Rattle.aoe_world.specs.Stage.{IsReady}
 use Rattle.aoe_world.specs.World.{IsGoing, IsRefusedAt, IsStaged, IsWorld, Stepped}
 
@@ -51,63 +53,62 @@ handings-aside s places h frame = treated-aside places frame (arriving s.life h 
 losses-aside : (h : List Entry) (frame : ℕ) → All IsAside (losses h frame)
 losses-aside h frame = All-cons IsAside (Lose frame) [] tt (All-nil IsAside)
 
-one-aside : (act : Act) → IsAside act → All IsAside (act ∷ [])
-one-aside act t = All-cons IsAside act [] t (All-nil IsAside)
-
 -- EVENTS
-
-moves-aside : (s : Setup) (acts : List Entry → ℕ → List Act) (cursor : ℕ) (h : List Entry) (n behind : ℕ) (m : List Entry)
-    → ((k : List Entry) (frame : ℕ) → All IsAside (acts k frame)) → Moves s acts cursor h n behind m → Grows 0 0 h m
-moves-aside s acts cursor h _ _ _ all Moves.moves_none = grows-none h
-moves-aside s acts cursor h _ _ _ all (Moves.moves_one {n = n} {behind = behind} {m = m} {later = later} before within follows) =
-    grows-on 0 0 h m later (moves-aside s acts cursor h n behind m all before) (follows-aside s (acts m behind) m later (all m behind) follows)
-
--- what an event may bring: ten million milliseconds and a command of a host
-most : (a c : ℕ) (h m : List Entry) → a ≤ 10000000 → c ≤ 1 → Grows a c h m → Grows 10000000 1 h m
-most a c h m time asked x = grows-most a 10000000 c 1 h m time asked x
-
-aside : (h m : List Entry) → Grows 0 0 h m → Grows 10000000 1 h m
-aside h m x = most 0 0 h m (omega arith) (omega arith) x
-
-alone : (s : Setup) (h : List Entry) (act : Act) (m : List Entry) → IsAside act → Follows s (act ∷ []) h m → Grows 10000000 1 h m
-alone s h act m t follows = aside h m (follows-aside s (act ∷ []) h m (one-aside act t) follows)
-
-submitted : (s : Setup) (host : ArrayVec ℕ) (dev : TargetId) (h m : List Entry) (op : _) → IsAsked op → Follows s (Submit host dev op ∷ []) h m → Grows 10000000 1 h m
-submitted s host dev h m op asked follows =
-    most 0 1 h m (omega arith) (omega arith) (only s 0 1 h (Submit host dev op) m (λ n group. group-submits s h host dev op n asked group) follows)
 
 written : (count fill at : ℕ) → Some (WriteOp at (replicate (count * 512) fill)) ≡ Some (WriteOp at (replicate (512 * count) fill))
 written count fill at = let same : count * 512 ≡ 512 * count = omega arith in ap (λ k. Some (WriteOp at (replicate k fill))) same
 
-pub comes-grows : (s : Setup) (lines : List Line) (e : Event) (cursor : ℕ) (h : List Entry) (behind : ℕ) (m : List Entry) → is_event e ≡ true → CanCome lines s e
+alone : (act : Act) → IsAside act → AreOfLine (act ∷ [])
+alone act t = inl (All-cons IsAside act [] t (All-nil IsAside))
+
+asked : (host : ArrayVec ℕ) (dev : TargetId) (op : Op) (e : Event) → is_event e ≡ true → op_of e ≡ Some op → AreOfLine (Submit host dev op ∷ [])
+asked host dev op e good same = inr (Submit host dev op, refl, record { event = e; good = good; same = same })
+
+-- the acts of an event line
+are-of-line : (s : Setup) (lines : List Line) (cursor : ℕ) (h : List Entry) (e : Event) → is_event e ≡ true → CanCome lines s e → AreOfLine (acts_of s lines cursor h e)
+are-of-line s lines cursor h (Read host dev at count) good can = asked host dev _ (Read host dev at count) good refl
+are-of-line s lines cursor h (Write host dev at count fill) good can = asked host dev _ (Write host dev at count fill) good (written count fill at)
+are-of-line s lines cursor h (Flush host dev) good can = asked host dev _ (Flush host dev) good refl
+are-of-line s lines cursor h (Identify host dev) good can = asked host dev _ (Identify host dev) good refl
+are-of-line s lines cursor h (Config host dev ccmd text) good can = asked host dev _ (Config host dev ccmd text) good refl
+are-of-line s lines cursor h (Masks host dev edit dirs) good can = asked host dev _ (Masks host dev edit dirs) good refl
+are-of-line s lines cursor h (Reserve host dev rcmd list) good can = asked host dev _ (Reserve host dev rcmd list) good refl
+are-of-line s lines cursor h (TickLine ms) good can = inr (Tick ms, refl, can.1)
+are-of-line s lines cursor h (Deliver frame name) good can = alone _ tt
+are-of-line s lines cursor h (Pass n) good can = inl (All-nil IsAside)
+are-of-line s lines cursor h (Skip n) good can = inl (All-nil IsAside)
+are-of-line s lines cursor h Again good can = inl (handings-aside s (stations_of lines) h (cursor - 1))
+are-of-line s lines cursor h (InjectLine bytes) good can = alone _ tt
+are-of-line s lines cursor h (Fail dev which k) good can = alone _ tt
+are-of-line s lines cursor h (Stop dev which k mode) good can = alone _ tt
+are-of-line s lines cursor h (Crash name mode) good can = alone _ tt
+
+module _ (s : Setup) (acts : List Entry → ℕ → List Act) (all : (k : List Entry) (frame : ℕ) → All IsAside (acts k frame)) (cursor : ℕ) (h : List Entry) where
+  moves-aside : (n behind : ℕ) (m : List Entry) → Moves s acts cursor h n behind m → Grows 0 0 h m
+  moves-aside _ _ _ Moves.moves_none = grows-none h
+  moves-aside _ _ _ (Moves.moves_one {n = n} {behind = behind} {m = m} {later = later} before within follows) =
+      grows-on 0 0 h m later (moves-aside n behind m before) (follows-aside s (acts m behind) m later (all m behind) follows)
+
+  moves-grow : (n behind : ℕ) (m : List Entry) → MovesBy s acts n cursor h behind m → Grows 10000000 1 h m
+  moves-grow n behind m by = little h m (moves-aside by.count behind m by.moves)
+
+  moves-some : (n : ℕ) (m : List Entry) → MovesSome s acts n cursor h m → Grows 10000000 1 h m
+  moves-some n m some =
+      little h m (grows-on 0 0 h some.mid m (moves-aside some.count some.behind some.mid some.moves)
+      (some-aside s (acts some.mid some.behind) some.mid m (all some.mid some.behind) some.follows))
+
+comes-grows : (s : Setup) (lines : List Line) (e : Event) (cursor : ℕ) (h : List Entry) (behind : ℕ) (m : List Entry) → is_event e ≡ true → CanCome lines s e
     → Comes s lines e cursor h behind m → Grows 10000000 1 h m
-comes-grows s lines (Read host dev at count) cursor h behind m good can (same, follows) =
-    submitted s host dev h m _ (record { event = Read host dev at count; good = good; same = refl }) follows
-comes-grows s lines (Write host dev at count fill) cursor h behind m good can (same, follows) =
-    submitted s host dev h m (WriteOp at (replicate (512 * count) fill))
-    (record { event = Write host dev at count fill; good = good; same = written count fill at }) follows
-comes-grows s lines (Flush host dev) cursor h behind m good can (same, follows) =
-    submitted s host dev h m _ (record { event = Flush host dev; good = good; same = refl }) follows
-comes-grows s lines (Identify host dev) cursor h behind m good can (same, follows) =
-    submitted s host dev h m _ (record { event = Identify host dev; good = good; same = refl }) follows
-comes-grows s lines (Config host dev ccmd text) cursor h behind m good can (same, follows) =
-    submitted s host dev h m _ (record { event = Config host dev ccmd text; good = good; same = refl }) follows
-comes-grows s lines (Masks host dev edit dirs) cursor h behind m good can (same, follows) =
-    submitted s host dev h m _ (record { event = Masks host dev edit dirs; good = good; same = refl }) follows
-comes-grows s lines (Reserve host dev rcmd list) cursor h behind m good can (same, follows) =
-    submitted s host dev h m _ (record { event = Reserve host dev rcmd list; good = good; same = refl }) follows
-comes-grows s lines (TickLine ms) cursor h behind m good can (same, follows) =
-    most ms 0 h m can.1 (omega arith) (only s ms 0 h (Tick ms) m (λ n group. group-ticks s h ms n group) follows)
-comes-grows s lines (Deliver frame name) cursor h behind m good can (same, follows) = alone s h _ m tt follows
-comes-grows s lines (Pass n) cursor h behind m good can by =
-    aside h m (moves-aside s (handings s (stations_of lines)) cursor h by.count behind m (λ k frame. handings-aside s (stations_of lines) k frame) by.moves)
-comes-grows s lines (Skip n) cursor h behind m good can by = aside h m (moves-aside s losses cursor h by.count behind m (λ k frame. losses-aside k frame) by.moves)
-comes-grows s lines Again cursor h behind m good can (same, follows) =
-    aside h m (follows-aside s _ h m (handings-aside s (stations_of lines) h (cursor - 1)) follows)
-comes-grows s lines (InjectLine bytes) cursor h behind m good can (same, follows) = alone s h (Inject bytes) m tt follows
-comes-grows s lines (Fail dev which k) cursor h behind m good can (same, follows) = alone s h (Arm dev which k None) m tt follows
-comes-grows s lines (Stop dev which k mode) cursor h behind m good can (same, follows) = alone s h (Arm dev which k (Some mode)) m tt follows
-comes-grows s lines (Crash name mode) cursor h behind m good can (same, follows) = alone s h (CrashAct _ mode) m tt follows
+comes-grows s lines (Pass n) cursor h behind m good can by = moves-grow s (handings s (stations_of lines)) (handings-aside s (stations_of lines)) cursor h n behind m by
+comes-grows s lines (Skip n) cursor h behind m good can by = moves-grow s losses losses-aside cursor h n behind m by
+comes-grows s lines e cursor h behind m good can (same, follows) =
+    follows-grows s (acts_of s lines cursor h e) h m (are-of-line s lines cursor h e good can) follows
+
+some-comes : (s : Setup) (lines : List Line) (e : Event) (cursor : ℕ) (h m : List Entry) → is_event e ≡ true → CanCome lines s e
+    → ComesSome s lines e cursor h m → Grows 10000000 1 h m
+some-comes s lines (Pass n) cursor h m good can some = moves-some s (handings s (stations_of lines)) (handings-aside s (stations_of lines)) cursor h n m some
+some-comes s lines (Skip n) cursor h m good can some = moves-some s losses losses-aside cursor h n m some
+some-comes s lines e cursor h m good can some = some-grows s (acts_of s lines cursor h e) h m (are-of-line s lines cursor h e good can) some
 
 -- WORLDS
 
@@ -122,7 +123,6 @@ module _ (script : ScriptLines) (places : List Place) (old new : Stage) (cursor 
         ready = ready;
         time = omega (arith, grows.time_is, going.time);
         tickets_are = λ host. omega (arith, grows.tickets_are host, going.tickets_are host);
-        lines_are = grows.lines_are going.lines_are;
       }
 
   -- after an event of which all came
@@ -132,14 +132,22 @@ module _ (script : ScriptLines) (places : List Place) (old new : Stage) (cursor 
   stepped e none good can comes ready at = record {
     setup = world.setup;
     lawful = ready.lawful;
+    lines_are = (comes-grows (setup_of script.setups) script.setups e cursor old.run.entries behind new.run.entries good can comes).lines_are world.lines_are;
     going = λ same. goes-on e good can (world.going same) comes ready at;
     refusal = subst (λ r. IfSome r (IsRefusedAt (setup_of script.setups) new.run.entries)) (sym none) tt;
   }
 
   -- after an event that was refused
-  pub stopped : (refusal : WorldRefusal) → IsLawful (setup_of script.setups) new.run.entries → IsRefusedAt (setup_of script.setups) new.run.entries refusal
-      → IsWorld script places new behind events (Some refusal)
-  stopped refusal lawful at = record { setup = world.setup; lawful = lawful; going = λ same. absurd cc; refusal = at }
+  pub stopped : (e : Event) (refusal : WorldRefusal) → is_event e ≡ true → CanCome script.setups (setup_of script.setups) e
+      → ComesSome (setup_of script.setups) script.setups e cursor old.run.entries new.run.entries → IsLawful (setup_of script.setups) new.run.entries
+      → IsRefusedAt (setup_of script.setups) new.run.entries refusal → IsWorld script places new behind events (Some refusal)
+  stopped e refusal good can some lawful at = record {
+    setup = world.setup;
+    lawful = lawful;
+    lines_are = (some-comes (setup_of script.setups) script.setups e cursor old.run.entries new.run.entries good can some).lines_are world.lines_are;
+    going = λ same. absurd cc;
+    refusal = at;
+  }
 
 pub same-world : (script other : ScriptLines) (places others : List Place) (stage : Stage) (cursor events : ℕ) (refused : Option WorldRefusal)
     → other ≡ script → others ≡ places → IsWorld script places stage cursor events refused → IsWorld other others stage cursor events refused
@@ -167,12 +175,12 @@ pub new-world : (script : ScriptLines) (places : List Place) (stage : Stage) (cu
 new-world script places stage cursor staged ready empty = record {
   setup = staged.network_is.setup;
   lawful = ready.lawful;
+  lines_are = subst (All IsFromLine) (sym empty) (All-nil IsFromLine);
   going = λ same. record {
     staged = staged;
     ready = ready;
     time = let at : clock stage.run.entries ≡ 0 = ap clock empty in omega (arith, at);
     tickets_are = λ host. let at : tickets host stage.run.entries ≡ 0 = ap (tickets host) empty in omega (arith, at);
-    lines_are = subst (All IsFromLine) (sym empty) (All-nil IsFromLine);
   };
   refusal = tt;
 }

@@ -56,11 +56,11 @@ pub record IsGoing (script : ScriptLines) (places : List Place) (stage : Stage) 
   pub ready : IsReady (setup_of script.setups) (majors_of script.setups) stage
   pub time : clock stage.run.entries ≤ 10000000 * events
   pub tickets_are : (host : HostSetup) → tickets host stage.run.entries ≤ events
-  pub lines_are : All IsFromLine stage.run.entries
 
 -- what holds of the fields of a world
 pub record IsWorld (script : ScriptLines) (places : List Place) (stage : Stage) (cursor events : ℕ) (refused : Option WorldRefusal) : Type 0 where
   pub setup : IsSetup (setup_of script.setups)
   pub lawful : IsLawful (setup_of script.setups) stage.run.entries
+  pub lines_are : All IsFromLine stage.run.entries
   pub going : refused ≡ None → IsGoing script places stage cursor events
   pub refusal : IfSome refused (IsRefusedAt (setup_of script.setups) stage.run.entries)

@@ -88,12 +88,12 @@ impl World<'_> {
         self.events
     }
 
-    /// What happened. As long as the world isn't refused, every line of it can be printed.
+    /// What happened. Each line of it can be printed.
     pub fn history(&self) -> &History
         ensures history { result.now ≡ self.now.entries }
         ensures lawful { IsLawful (setup_of self.now.lines) self.now.entries }
         ensures reading { HasReadLaw (setup_of self.now.lines) self.now.entries }
-        ensures printable { IfNone self.now.refused (All CanPrint self.now.entries) }
+        ensures printable { All CanPrint self.now.entries }
     {
         read_law();
         lawful_histories_print();

@@ -17,8 +17,11 @@ invariant_of-self c =
 pub invariant_of-self-in-Err : goal.invariant_of-self-in-Err
 invariant_of-self-in-Err c =
     let script = c.self.inside.replay.script.now in
+    let going = c.self.invariant.going c.in_default.is in
+    let good = ap (λ (w : Stepped). event_why w.lines c.args.event.now) c.self.view_is ∙ c.requires.good in
     same-world script _ _ _ _ _ _ _ (ap (λ x. x.now) c.run.ensures.script) c.run.ensures.places
-    (stopped script _ _ _ _ _ _ _ c.self.invariant c.refusal_of-refusal.result c.in-Err.ensures.runs.1.lawful
+    (stopped script _ _ _ _ _ _ _ c.self.invariant c.args.event.now c.refusal_of-refusal.result (c.events_law.ensures.ranges script c.args.event.now good)
+    (c.events_law.ensures.comes script c.args.event.now going.staged.good good) c.in-Err.ensures.runs.0 c.in-Err.ensures.runs.1.lawful
     (c.refusal_of-refusal.ensures (setup_of script.setups) c.in-Err.ensures.runs.1))
 
 pub returns-in-Ok-clause-comes : goal.returns-in-Ok-clause-comes
