@@ -1,16 +1,16 @@
 -- How long a history grows by the groups of acts: its time, what was submitted, and that event lines ask for it.
-use Rattle.std.proofs.Common.{ℕ, zero, suc, ◌≡◌, ◌≤◌, ◌+◌, ◌*◌, Bool, true, false, List, [], ◌∷◌, Option, Some, None, ◌⊎◌, refl, sym, ap, subst, arith, inl, inr, if◌then◌else◌}
-use Rattle.std.specs.Prelude.{map, replicate, All, MatchOption}
-use Rattle.std.proofs.lemmas.List.Elements.{All-cons, All-head, All-nil, All-tail}
+use Rattle.std.proofs.Common.{ℕ, suc, ◌≡◌, ◌≤◌, ◌+◌, Bool, true, false, List, [], ◌∷◌, Option, Some, None, ◌⊎◌, refl, sym, subst, arith, inl, inr, if◌then◌else◌}
+use Rattle.std.specs.Prelude.{All, MatchOption}
+use Rattle.std.proofs.lemmas.List.Elements.{All-cons, All-head, All-tail}
 use Rattle.arrayvec.specs.ArrayVec.{ArrayVec}
 use Rattle.aoe_base.specs.declared.address.TargetId.{TargetId}
 use Rattle.aoe_initiator.specs.declared.op.Op.{Op}
 use Rattle.aoe_initiator.specs.declared.refusal.SubmitRefusal.{SubmitRefusal}
 use Rattle.aoe_history.specs.declared.entry.Entry.{Entry}
 use Rattle.aoe_history.specs.declared.entry.Entry.TheVariants.{Submitted, Refused, Sent, Injected, Arrived, Took, Done, Ticked, Lost, Armed, Crashed}
-use Rattle.aoe_history.specs.Commands.{host_after, tickets}
+use Rattle.aoe_history.specs.Commands.{tickets}
 use Rattle.aoe_history.specs.Frames.{arriving, clock}
-use Rattle.aoe_history.specs.Groups.{submit_entry, Act, ArriveAtEach, ComesTo, CrashEach, Enters, Follows, Got, Group, Station, Takes, Turns}
+use Rattle.aoe_history.specs.Groups.{submit_entry, Act, ComesTo, Enters, Follows, Got, Group, Station, Takes, Turns}
 use Rattle.aoe_history.specs.Groups.Act.{Arm, Crash, Hand, Inject, Lose, Submit, Tick}
 use Rattle.aoe_history.specs.Groups.Station.{Shelf as ShelfStation, Host as HostStation}
 use Rattle.aoe_history.specs.Setup.{is_called, shelf_of, HostSetup, Setup}

@@ -1,14 +1,13 @@
 -- How long a history grows by acts of which not all came.
-use Rattle.std.proofs.Common.{ℕ, ◌≡◌, ◌⊎◌, Bool, true, false, List, [], ◌∷◌, Option, Some, None, refl, sym, subst, inl, inr, if◌then◌else◌}
+use Rattle.std.proofs.Common.{ℕ, ◌≡◌, Bool, true, false, List, [], ◌∷◌, Option, Some, None, refl, sym, subst, inl, inr, if◌then◌else◌}
 use Rattle.std.specs.Prelude.{All, MatchOption}
 use Rattle.std.specs.Str.{bytes_eq}
 use Rattle.std.proofs.lemmas.List.Elements.{All-head, All-tail}
 use Rattle.arrayvec.specs.ArrayVec.{ArrayVec}
 use Rattle.aoe_disk.specs.declared.loss.Loss.{Loss}
 use Rattle.aoe_initiator.specs.declared.outcome.Outcome.{Outcome}
-use Rattle.aoe_initiator.specs.declared.outcome.Outcome.TheVariants.{GaveUp}
 use Rattle.aoe_history.specs.declared.entry.Entry.{Entry}
-use Rattle.aoe_history.specs.declared.entry.Entry.TheVariants.{Sent, Arrived, Done, Crashed}
+use Rattle.aoe_history.specs.declared.entry.Entry.TheVariants.{Arrived, Done, Crashed}
 use Rattle.aoe_history.specs.declared.entry.Fate.TheVariants.{Cut}
 use Rattle.aoe_history.specs.Frames.{arriving}
 use Rattle.aoe_history.specs.Groups.{told, Act, ArriveAtSome, CrashSome, EntersSome, GivesUp, Got, IsBegun, SendsSome, TurnSome, TurnsSome}

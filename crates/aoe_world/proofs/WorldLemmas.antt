@@ -1,5 +1,5 @@
 -- How long a history grows by an event, and what a world keeps.
-use Rattle.std.proofs.Common.{ℕ, zero, suc, ◌≡◌, ◌≤◌, ◌<◌, ◌+◌, ◌-◌, ◌*◌, Bool, true, false, List, [], ◌∷◌, Option, Some, None, refl, sym, ap, subst, arith, inl, inr}
+use Rattle.std.proofs.Common.{ℕ, suc, ◌≡◌, ◌≤◌, ◌+◌, ◌-◌, ◌*◌, true, List, [], ◌∷◌, Option, Some, None, refl, sym, ap, subst, arith, inl, inr}
 use Rattle.std.specs.Prelude.{length, map, replicate, All, IfNone, IfSome}
 use Rattle.std.specs.Option.{option_map_or}
 use Rattle.std.proofs.lemmas.List.Elements.{All-cons, All-nil}
@@ -10,11 +10,10 @@ use Rattle.aoe_initiator.specs.declared.op.Op.TheVariants.{Write as WriteOp}
 use Rattle.aoe_history.specs.declared.entry.Entry.{Entry}
 use Rattle.aoe_history.specs.Commands.{tickets}
 use Rattle.aoe_history.specs.Frames.{arriving, clock, frames}
-use Rattle.aoe_history.specs.Groups.{Act, Follows, Station}
+use Rattle.aoe_history.specs.Groups.{Act, Station}
 use Rattle.aoe_history.specs.Groups.Act.{Hand, Lose, Submit, Tick}
 use Rattle.aoe_history.specs.Lawful.{IsLawful}
 use Rattle.aoe_history.specs.Setup.{Setup}
-use Rattle.aoe_hosts.specs.Asks.{submission_in}
 use Rattle.aoe_layout.specs.Layout.{majors_of, setup_of, stations_of, Placed}
 use Rattle.aoe_layout.specs.Stations.{CanCome}
 use Rattle.aoe_script.specs.Lines.{ScriptLines}

@@ -1,5 +1,5 @@
 -- A world: a script's setup lines, and what came of the events so far.
-use Rattle.std.specs.Prelude.{ℕ, suc, ◌≡◌, ◌+◌, ◌*◌, ◌≤◌, List, length, All, Option, Some, None, IfSome, Result, Ok, Err}
+use Rattle.std.specs.Prelude.{ℕ, suc, ◌≡◌, ◌*◌, ◌≤◌, List, length, All, Option, None, IfSome, Result, Ok, Err}
 use Rattle.aoe_net.specs.declared.refusal.NetRefusal.{NetRefusal}
 use Rattle.aoe_net.specs.Network.{total_bytes}
 use Rattle.aoe_history.specs.declared.entry.Entry.{Entry}

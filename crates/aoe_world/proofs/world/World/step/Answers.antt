@@ -1,4 +1,4 @@
-use Rattle.std.proofs.Common.{◌≡◌, ◌∙◌, ap, refl, Bor}
+use Rattle.std.proofs.Common.{◌∙◌, ap, refl}
 use Rattle.aoe_layout.specs.Layout.{setup_of}
 use Rattle.aoe_script.specs.Rules.{event_why}
 use Rattle.aoe_world.specs.World.{Stepped}
