@@ -1,5 +1,5 @@
 -- The addresses of a setup's hosts, and of the devices that they are attached to, have six bytes.
-use Rattle.std.proofs.Common.{ℕ, zero, suc, ◌≡◌, ◌<◌, cond, Bool, true, false, ◌||◌, List, [], ◌∷◌, length, get_or, Option, Some, refl, sym, subst, ap, ◌∙◌, arith, Contains}
+use Rattle.std.proofs.Common.{ℕ, zero, suc, ◌≡◌, ◌<◌, cond, Bool, true, false, ◌||◌, List, [], ◌∷◌, length, get_or, Some, refl, sym, subst, arith, Contains}
 use Rattle.std.specs.Prelude.{All}
 use Rattle.std.specs.List.{find}
 use Rattle.std.proofs.lemmas.List.Elements.{Contains-append_right}
@@ -9,7 +9,7 @@ use Rattle.aoe_base.specs.declared.address.Mac.{Mac}
 use Rattle.aoe_base.specs.declared.address.TargetId.{TargetId}
 use Rattle.aoe_initiator.specs.declared.device.Attached.{Attached}
 use Rattle.aoe_lists.specs.Addresses.{holds, same_address}
-use Rattle.aoe_history.specs.Setup.{is_slot, slot_of, HostSetup, IsAttachedTo, IsSetup, Setup, SlotSetup}
+use Rattle.aoe_history.specs.Setup.{is_slot, HostSetup, IsAttachedTo, IsSetup, Setup, SlotSetup}
 use Rattle.aoe_hosts.specs.Host.{AreAddresses}
 
 found : (slots : List SlotSetup) (id : TargetId) (slot : SlotSetup) → find (λ (x : SlotSetup). is_slot x id) slots ≡ Some slot → Contains slots slot

@@ -1,4 +1,8 @@
 mod AddsLemmas
+mod BuildHost
+mod BuildLists
+mod BuildShelf
+mod BuildStations
 mod GroupLemmas
 mod GroupSome
 mod TurnLemmas
