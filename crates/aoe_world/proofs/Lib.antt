@@ -1,3 +1,4 @@
+mod ActLemmas
 mod AddsLemmas
 mod BuildHost
 mod BuildLists
@@ -5,5 +6,6 @@ mod BuildShelf
 mod BuildStations
 mod GroupLemmas
 mod GroupSome
+mod HostActLemmas
 mod TurnLemmas
 mod WorldLemmas

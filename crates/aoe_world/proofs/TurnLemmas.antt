@@ -152,20 +152,22 @@ all-settled s got h k hosts e t = record {
 pub record Going (old now : Stage) (i end : ℕ) : Type 0 where
   pub upto : i ≤ end
   pub count : length now.hosts.items ≡ end
+  pub frame : now.frame ≡ old.frame
   pub turns : (s : Setup) (majors : List ℕ) (got : Option Got) → IsNetwork s majors → IsTurning s majors got 0 old
       → Turns s (take i s.hosts) got old.run.entries now.run.entries × IsTurning s majors got i now
 
 pub going-none : (old : Stage) → Going old old 0 (length old.hosts.items)
-going-none old = record { upto = omega arith; count = refl; turns = λ s majors got net k. (refl, k) }
+going-none old = record { upto = omega arith; count = refl; frame = refl; turns = λ s majors got net k. (refl, k) }
 
 -- one turn more
 pub going-on : (old now new : Stage) (i end : ℕ) (x y : NamedHost) → Going old now i end → slice_get now.hosts.items i ≡ Some x
     → ((s : Setup) (host : HostSetup) (got : Option Got) → Awaits s host got now.run.entries x → IsLawful s now.run.entries
     → Turn s host got now.run.entries new.run.entries × IsLawful s new.run.entries × IsSettled s host new.run.entries y)
-    → new.run.life ≡ now.run.life → new.shelves.items ≡ now.shelves.items → new.hosts.items ≡ slice_set now.hosts.items i y → Going old new (i + 1) end
-going-on old now new i end x y g there turn life shelves hosts = subst (λ n. Going old new n end) (one-later i) record {
+    → new.run.life ≡ now.run.life → new.shelves.items ≡ now.shelves.items → new.hosts.items ≡ slice_set now.hosts.items i y → new.frame ≡ now.frame → Going old new (i + 1) end
+going-on old now new i end x y g there turn life shelves hosts frame = subst (λ n. Going old new n end) (one-later i) record {
   upto = (let w = slice_get_within now.hosts.items i x there in omega (arith, w, g.count));
   count = ap length hosts ∙ length-set now.hosts.items i y ∙ g.count;
+  frame = frame ∙ g.frame;
   turns = λ s majors got net k. more s majors got net (g.turns s majors got net k);
 }
   where
