@@ -1,11 +1,11 @@
 -- A host that is built from the lines of a script.
-use Rattle.std.proofs.Common.{ℕ, ◌+◌, ◌-◌, ◌^◌, ◌≡◌, ◌≢◌, ◌∙◌, ◌<◌, ◌≤◌, ◌==◌, Bool, true, false, if◌then◌else◌, List, [], ◌∷◌, ◌++◌, length, take, drop, Option, Some, None, refl, sym, ap, subst, arith, Contains}
-use Rattle.std.specs.Prelude.{map, slice_get, option_map, option_and_then, is_some, unwrap_or, All, IfSome}
+use Rattle.std.proofs.Common.{ℕ, ◌+◌, ◌≡◌, ◌∙◌, ◌<◌, ◌≤◌, ◌==◌, Bool, true, false, if◌then◌else◌, List, [], ◌++◌, length, take, drop, Option, Some, None, refl, sym, ap, subst, arith, Contains}
+use Rattle.std.specs.Prelude.{map, slice_get, option_map, option_and_then, is_some, unwrap_or, IfSome}
 use Rattle.std.specs.List.{filter_map, find, list_any, position_or_len}
 use Rattle.std.specs.Option.{option_to_list}
 use Rattle.std.proofs.lemmas.Bool.{and_from, eq-eqb, ne_eqb}
 use Rattle.std.proofs.lemmas.List.Folds.{find_at}
-use Rattle.std.proofs.lemmas.Option.{get_or_from_slice_get, slice_get_within}
+use Rattle.std.proofs.lemmas.Option.{slice_get_within}
 use Rattle.std.proofs.lemmas.List.{length-map}
 use Rattle.arrayvec.specs.ArrayVec.{ArrayVec}
 use Rattle.aoe_base.specs.declared.address.Mac.{Mac}
@@ -15,23 +15,22 @@ use Rattle.aoe_hosts.proofs.Apart.{settled-new}
 use Rattle.aoe_hosts.specs.Host.{IsHost, IsSettled, NamedHost}
 use Rattle.aoe_initiator.specs.declared.device.Attached.{Attached}
 use Rattle.aoe_initiator.specs.declared.device.Device.{Device}
-use Rattle.aoe_initiator.specs.declared.refusal.AttachRefusal.{AttachRefusal}
 use Rattle.aoe_initiator.specs.declared.refusal.AttachRefusal.TheVariants.{Already, NoPort}
 use Rattle.aoe_initiator.specs.Host.{new_host, Matches}
-use Rattle.aoe_initiator.specs.HostLaw.{attach_refusal, has_id, same_id}
+use Rattle.aoe_initiator.specs.HostLaw.{has_id, same_id}
 use Rattle.aoe_initiator.specs.HostLog.{Event}
 use Rattle.aoe_paths.specs.PathTable.{IsDistinct}
-use Rattle.aoe_layout.specs.Layout.{about, attached_to, default_dead, default_life, default_room, devices_of, host_in, host_of, life_in, setup_of, slot_by, slot_named, slot_with}
+use Rattle.aoe_layout.specs.Layout.{about, attached_to, default_dead, default_life, default_room, devices_of, host_in, host_of, life_in, setup_of, slot_named}
 use Rattle.aoe_layout.specs.Stations.{IsDevice}
 use Rattle.aoe_layout.specs.Stations.{IsHost as HasWords}
-use Rattle.aoe_layout.proofs.GoodLines.{are-good, AreGood}
+use Rattle.aoe_layout.proofs.GoodLines.{are-good}
 use Rattle.aoe_layout.proofs.HostLemmas.{has-hosts}
 use Rattle.aoe_layout.proofs.LineLemmas.{same-self}
 use Rattle.aoe_layout.proofs.ListLemmas.{contains-at, filtered-at}
 use Rattle.aoe_layout.proofs.RangeLemmas.{has-ranges}
 use Rattle.aoe_layout.proofs.SetupLemmas.{is-setup}
 use Rattle.aoe_script.specs.declared.setup.Setup.{Setup as Line}
-use Rattle.aoe_script.specs.declared.setup.Setup.TheVariants.{Life, Shelf, Slot, Host, Attach}
+use Rattle.aoe_script.specs.declared.setup.Setup.TheVariants.{Shelf, Slot, Host, Attach}
 use Rattle.aoe_script.specs.Lines.{IsScript, ScriptLines}
 use Rattle.aoe_script.specs.Rules.{is_shelf_named, is_slot, same}
 use Rattle.aoe_world.proofs.BuildLists.{all-at, any-map, at-own, early, few-given, find-here, grown, none-any, take-all}
@@ -41,9 +40,6 @@ use Rattle.aoe_world.specs.Build.{CanAttach}
 
 pub life-said : (lines : List Line) (line : Line) (ms : ℕ) → find (λ line. is_some (life_in line)) lines ≡ Some line → life_in line ≡ Some ms → (setup_of lines).life ≡ ms
 life-said lines line ms e f = ap (λ o. unwrap_or (option_and_then life_in o) default_life) e ∙ ap (λ o. unwrap_or o default_life) f
-
-pub life-unsaid : (lines : List Line) → find (λ line. is_some (life_in line)) lines ≡ None → (setup_of lines).life ≡ default_life
-life-unsaid lines e = ap (λ o. unwrap_or (option_and_then life_in o) default_life) e
 
 module _ (script : ScriptLines) (is : IsScript script) where
   pub life-few : (setup_of script.setups).life ≤ 600000
@@ -74,21 +70,6 @@ pub attached-by : (lines : List Line) (host other shelf : ArrayVec ℕ) (minor :
     → option_map about (slot_named lines shelf minor) ≡ attached_to lines host line
 attached-by lines host other shelf minor line is same-one =
     sym (ap (attached_to lines host) is ∙ ap (λ b. if b then option_map about (slot_named lines shelf minor) else None) same-one)
-
-pub no-shelf : (lines : List Line) (shelf : ArrayVec ℕ) (minor : ℕ) → find (is_shelf_named shelf) lines ≡ None → option_map about (slot_named lines shelf minor) ≡ None
-no-shelf lines shelf minor e = ap (λ o. option_map about (option_and_then (λ (s : Line). option_and_then (slot_by s) (find (is_slot shelf minor) lines)) o)) e
-
-pub no-slot : (lines : List Line) (shelf : ArrayVec ℕ) (minor major : ℕ) (ports : ArrayVec Mac) (mtu : ℕ) → find (is_shelf_named shelf) lines ≡ Some (Shelf shelf major ports mtu)
-    → find (is_slot shelf minor) lines ≡ None → option_map about (slot_named lines shelf minor) ≡ None
-no-slot lines shelf minor major ports mtu e f =
-    ap (λ o. option_map about (option_and_then (λ (s : Line). option_and_then (slot_by s) (find (is_slot shelf minor) lines)) o)) e
-    ∙ ap (λ o. option_map about (option_and_then (slot_by (Shelf shelf major ports mtu)) o)) f
-
-pub slot-known : (lines : List Line) (shelf : ArrayVec ℕ) (minor major : ℕ) (ports : ArrayVec Mac) (mtu sectors : ℕ) → find (is_shelf_named shelf) lines ≡ Some (Shelf shelf major ports mtu)
-    → find (is_slot shelf minor) lines ≡ Some (Slot shelf minor sectors) → option_map about (slot_named lines shelf minor) ≡ Some (about (slot_with major ports.items mtu minor sectors))
-slot-known lines shelf minor major ports mtu sectors e f =
-    ap (λ o. option_map about (option_and_then (λ (s : Line). option_and_then (slot_by s) (find (is_slot shelf minor) lines)) o)) e
-    ∙ ap (λ o. option_map about (option_and_then (slot_by (Shelf shelf major ports mtu)) o)) f
 
 -- ---- a host with the devices of the first n lines
 
@@ -136,8 +117,8 @@ module _ (lines : List Line) (name : ArrayVec ℕ) (ports : ArrayVec Mac) (life 
         ∙ ap (λ ds. list_any (λ (a : Attached). same_id a.id d.id) ds) k.devices
         ∙ none-any (λ (a : Attached). same_id a.id d.id) before
         (λ j a e.
-            let lt = slice_get_within before j a e in
-            words.apart j (length before) a d (ap (λ ds. slice_get ds j) are ∙ early (attached_to lines name) lines n j a e) (ap (λ ds. slice_get ds (length before)) are ∙ own) (λ same. omega (arith, lt, same)))
+        let lt = slice_get_within before j a e in
+        words.apart j (length before) a d (ap (λ ds. slice_get ds j) are ∙ early (attached_to lines name) lines n j a e) (ap (λ ds. slice_get ds (length before)) are ∙ own) (λ same. omega (arith, lt, same)))
       where
         before : List Attached
         before = filter_map (attached_to lines name) (take n lines)

@@ -1,5 +1,5 @@
 -- Lists of what lines declare, line by line, and lists that go along each other.
-use Rattle.std.proofs.Common.{ℕ, zero, suc, ◌+◌, ◌≡◌, ◌∙◌, ◌<◌, ◌≤◌, ◌⊎◌, inl, inr, Bool, true, false, ◌||◌, cond, List, [], ◌∷◌, ◌++◌, length, take, drop, Option, Some, None, refl, sym, ap, subst, arith, add-one, length-append}
+use Rattle.std.proofs.Common.{ℕ, zero, suc, ◌+◌, ◌≡◌, ◌∙◌, ◌≤◌, ◌⊎◌, inl, inr, Bool, true, false, ◌||◌, cond, List, [], ◌∷◌, ◌++◌, length, take, drop, Option, Some, None, refl, sym, ap, subst, arith, add-one, length-append}
 use Rattle.std.specs.Prelude.{slice_get, map, slice_index_or, All}
 use Rattle.std.specs.List.{cons_option, filter_map, find, list_any}
 use Rattle.std.specs.Option.{option_to_list}
@@ -77,13 +77,6 @@ find-past p xs n x at not so =
 
 pub find-here : {X : Type 0} (p : X → Bool) (xs : List X) (n : ℕ) (x : X) → slice_get xs n ≡ Some x → p x ≡ true → find p (drop n xs) ≡ find p xs → find p xs ≡ Some x
 find-here p xs n x at is so = sym so ∙ ap (find p) (drop-at xs n x at) ∙ ap (λ b. cond b (Some x) (find p (drop (suc n) xs))) is
-
-drop-all : {X : Type 0} (xs : List X) → drop (length xs) xs ≡ []
-drop-all [] = refl
-drop-all (x ∷ xs) = drop-all xs
-
-pub find-end : {X : Type 0} (p : X → Bool) (xs : List X) (n : ℕ) → n ≡ length xs → find p (drop n xs) ≡ find p xs → find p xs ≡ None
-find-end p xs n end so = sym so ∙ ap (λ k. find p (drop k xs)) end ∙ ap (find p) (drop-all xs)
 
 -- ---- tests
 

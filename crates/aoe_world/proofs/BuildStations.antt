@@ -2,7 +2,6 @@
 use Rattle.std.proofs.Common.{ℕ, suc, ◌+◌, ◌≡◌, ◌∙◌, ◌≤◌, ◌⊎◌, inl, inr, List, [], ◌∷◌, ◌++◌, length, take, Option, Some, None, refl, sym, ap, subst, arith}
 use Rattle.std.specs.Prelude.{slice_get, OnOk, Result, Ok, Err}
 use Rattle.std.specs.List.{filter_map}
-use Rattle.std.proofs.lemmas.Option.{none-some}
 use Rattle.arrayvec.specs.ArrayVec.{ArrayVec}
 use Rattle.aoe_base.specs.declared.address.Mac.{Mac}
 use Rattle.aoe_history.specs.declared.entry.Entry.{Entry}
@@ -104,20 +103,7 @@ module _ (lines : List Line) (n : ℕ) (line : Line) (stage : Stage) (places : L
         stands : slice_get (setup_of lines).hosts (length stage.hosts.items) ≡ Some host
         stands = ap (slice_get (setup_of lines).hosts) k.hosts_are.count ∙ at-own (host_in lines) lines n line host here (ap (host_in lines) is)
 
--- ---- before the first line, and behind the last
-
-along-none : {X Y : Type 0} (R : X → Y → Type 0) (ys : List Y) → ys ≡ [] → Along R [] ys
-along-none R ys e = record { count = ap length e; each = λ i x y f g. absurd (none-some x f) }
-
-pub built-none : (lines : List Line) (stage : Stage) (places : List Place) → stage.run ≡ record { life = (setup_of lines).life; entries = [] } → stage.shelves.items ≡ [] → stage.hosts.items ≡ [] → places ≡ []
-    → IsBuilt lines 0 stage places
-built-none lines stage places run shelves hosts none = record {
-  life = ap (λ z. z.life) run;
-  nothing = ap (λ z. z.entries) run;
-  shelves_are = along-none (IsShelf (setup_of lines)) stage.shelves.items shelves;
-  hosts_are = along-none (IsHost (setup_of lines)) stage.hosts.items hosts;
-  places_are = along-none (IsPlace (setup_of lines) (majors_of lines)) places none;
-}
+-- ---- behind the last line
 
 pub network : (lines : List Line) → IsSetup (setup_of lines) → HasHosts lines (setup_of lines) → HasShelves lines (setup_of lines) → IsNetwork (setup_of lines) (majors_of lines)
 network lines setup hosts shelves = record {

@@ -7,5 +7,6 @@ mod BuildStations
 mod GroupLemmas
 mod GroupSome
 mod HostActLemmas
+mod ShelfActLemmas
 mod TurnLemmas
 mod WorldLemmas

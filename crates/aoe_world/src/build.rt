@@ -1,5 +1,5 @@
 //! The stations that the setup lines of a script declare.
-ghost use Rattle.std.specs.Prelude.{ℕ, ◌≡◌, ◌+◌, ◌<◌, ◌≤◌, ◌++◌, ◌∷◌, [], List, length, map, slice_get, Option, None, Some, false, option_map, unwrap_or, IfOk, IfSome, MatchOption, OnOk};
+ghost use Rattle.std.specs.Prelude.{ℕ, ◌≡◌, ◌+◌, ◌<◌, ◌≤◌, ◌++◌, ◌∷◌, [], List, length, map, slice_get, Option, None, Some, false, option_map, IfOk, IfSome, MatchOption, OnOk};
 ghost use Rattle.std.specs.List.{find};
 ghost use Rattle.std.specs.Option.{option_to_list};
 ghost use Rattle.aoe_base.specs.declared.address.Mac.{Mac};
@@ -132,7 +132,8 @@ fn shelf_in(line: &Setup, wanted: &Name) -> Option<ShelfLine>
 
 /// What the first line of the shelf with a name says.
 fn shelf_named(script: &Script, wanted: &Name) -> Option<ShelfLine>
-    ensures { find (is_shelf_named wanted.now) script.now.setups ≡ option_map (λ x. Setup.Shelf wanted.now x.major x.ports x.mtu) result }
+    ensures found { find (is_shelf_named wanted.now) script.now.setups ≡ option_map (λ x. Setup.Shelf wanted.now x.major x.ports x.mtu) result }
+    ensures words { IfSome result (λ x. (x.major ≤ 65534) × (1500 ≤ x.mtu) × (x.mtu ≤ 9000)) }
 {
     'lines: for i in 0..script.setups() {
         if let Some(line) = shelf_in(script.setup(i), wanted) {
@@ -164,7 +165,8 @@ fn sectors_in(line: &Setup, wanted: &Name, number: u64) -> Option<u64>
 
 /// How many sectors the slot of a shelf has.
 fn sectors_of(script: &Script, wanted: &Name, number: u64) -> Option<u64>
-    ensures { find (is_slot wanted.now number) script.now.setups ≡ option_map (λ n. Setup.Slot wanted.now number n) result }
+    ensures found { find (is_slot wanted.now number) script.now.setups ≡ option_map (λ n. Setup.Slot wanted.now number n) result }
+    ensures number { IfSome result (λ n. number ≤ 254) }
 {
     'lines: for i in 0..script.setups() {
         if let Some(sectors) = sectors_in(script.setup(i), wanted, number) {
@@ -178,7 +180,6 @@ fn sectors_of(script: &Script, wanted: &Name, number: u64) -> Option<u64>
 fn known_of(script: &Script, shelf: &Name, minor: u64) -> Option<Attached>
     ensures { result ≡ option_map about (slot_named script.now.setups shelf.now minor) }
 {
-    let _count = script.setups();
     let line = shelf_named(script, shelf)?;
     let sectors = sectors_of(script, shelf, minor)?;
     Some(Attached {
@@ -222,6 +223,17 @@ fn attach(host: &mut NamedHost, known: Option<Attached>) -> Result<(), NoMemory>
     match known {
         Some(d) => host.attach(d.id, &d.remotes, d.total, d.max),
         None => Ok(()),
+    }
+}
+
+fn host_line(name: &Name, ports: &Ports, room: Option<u64>, dead: Option<u64>) -> HostLine
+    ensures { result ≡ record { name = name.now; ports = ports.now; room = room; dead = dead } }
+{
+    HostLine {
+        name: name_of(name),
+        ports: copy_of(ports),
+        room,
+        dead,
     }
 }
 
@@ -380,12 +392,7 @@ impl Replay<'_> {
                 room,
                 dead,
             } => {
-                let line = HostLine {
-                    name: name_of(name),
-                    ports: copy_of(ports),
-                    room: *room,
-                    dead: *dead,
-                };
+                let line = host_line(name, ports, *room, *dead);
                 let host = build_host(alloc, script, line)?;
                 self.add_host(name, ports, host)
             }

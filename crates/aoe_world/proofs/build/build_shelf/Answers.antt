@@ -1,7 +1,6 @@
-use Rattle.std.proofs.Common.{ℕ, ◌≤◌, ◌∙◌, [], ap, length, subst, sym, arith}
+use Rattle.std.proofs.Common.{◌≤◌, ◌∙◌, [], ap, length, subst, sym, arith}
 use Rattle.arrayvec.specs.ArrayVec.{ArrayVec}
 use Rattle.aoe_base.specs.declared.address.Mac.{Mac}
-use Rattle.aoe_layout.specs.Layout.{slot_with}
 use Rattle.aoe_world.proofs.BuildShelf.{shelf-begun, shelf-built, shelf-more, shelf-words, slot-can, slot-given}
 use Rattle.aoe_world.proofs.build.build_shelf.Goals as goal
 

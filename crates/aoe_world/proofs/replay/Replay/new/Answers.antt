@@ -1,6 +1,6 @@
 use Rattle.std.proofs.Common.{◌+◌, ◌<◌, ◌∙◌, length, ap, subst, sym, arith}
 use Rattle.aoe_script.specs.Lines.{ScriptLines}
-use Rattle.aoe_world.proofs.BuildStations.{built-ready, built-staged, network, IsBegun}
+use Rattle.aoe_world.proofs.BuildStations.{built-ready, built-staged, network}
 use Rattle.aoe_world.specs.Build.{IsBuilt}
 use Rattle.aoe_world.proofs.replay.Replay.new.Goals as goal
 

@@ -1,4 +1,3 @@
-use Rattle.std.proofs.Common.{◌≡◌}
 use Rattle.aoe_world.proofs.BuildStations.{IsBegun}
 use Rattle.aoe_world.proofs.replay.Replay.new.Given as goal
 
