@@ -1,12 +1,11 @@
 -- The stations that are built from the lines of a script.
-use Rattle.std.proofs.Common.{ℕ, suc, ◌+◌, ◌*◌, ◌≡◌, ◌∙◌, ◌≤◌, ◌⊎◌, inl, inr, List, [], ◌∷◌, ◌++◌, length, take, Option, Some, None, refl, sym, ap, subst, arith}
+use Rattle.std.proofs.Common.{ℕ, suc, ◌+◌, ◌≡◌, ◌∙◌, ◌≤◌, ◌⊎◌, inl, inr, List, [], ◌∷◌, ◌++◌, length, take, Option, Some, None, refl, sym, ap, subst, arith}
 use Rattle.std.specs.Prelude.{slice_get, OnOk, Result, Ok, Err}
 use Rattle.std.specs.List.{filter_map}
 use Rattle.arrayvec.specs.ArrayVec.{ArrayVec}
 use Rattle.aoe_base.specs.declared.address.Mac.{Mac}
 use Rattle.aoe_history.specs.declared.entry.Entry.{Entry}
-use Rattle.aoe_history.specs.Commands.{tickets}
-use Rattle.aoe_history.specs.Frames.{clock, frames}
+use Rattle.aoe_history.specs.Frames.{frames}
 use Rattle.aoe_history.specs.Groups.{Station as station}
 use Rattle.aoe_history.specs.Lawful.{IsLawful}
 use Rattle.aoe_history.specs.Setup.{shelf_of, HostSetup, IsSetup}
@@ -24,7 +23,7 @@ use Rattle.aoe_world.specs.declared.place.At.TheVariants as at
 use Rattle.aoe_world.specs.declared.place.Place.{Place}
 use Rattle.aoe_world.specs.declared.stage.Stage.{Stage}
 use Rattle.aoe_world.specs.Stage.{AllServe, AllSettled, ArePlaces, IsNetwork, IsReady}
-use Rattle.aoe_world.specs.World.{IsStaged, IsWorld}
+use Rattle.aoe_world.specs.World.{IsStaged}
 
 pub on-ok : {T E : Type 0} (r : Result T E) {A B P : Type 0} → OnOk r A → OnOk r B → (A → B → P) → OnOk r P
 on-ok (Ok u) a b go = go a b
@@ -151,15 +150,3 @@ pub record IsBegun (script of : ScriptLines) (n : ℕ) (stage : Stage) (places :
   pub same : of ≡ script
   pub first : cursor ≡ 1
   pub built : IsBuilt script.setups n stage places
-
-pub world-begun : (script : ScriptLines) (stage : Stage) (places : List Place) (cursor : ℕ) → IsStaged script places stage cursor → IsReady (setup_of script.setups) (majors_of script.setups) stage
-    → stage.run.entries ≡ [] → IsWorld script places stage cursor 0 None
-world-begun script stage places cursor staged ready nothing = record {
-  staged = staged;
-  lawful = ready.lawful;
-  ready = λ e. ready;
-  refusal = tt;
-  time = subst (λ (h : List Entry). clock h ≤ 10000000 * 0) (sym nothing) (omega arith);
-  tickets_are = λ host. subst (λ (h : List Entry). tickets host h ≤ 0) (sym nothing) (omega arith);
-  few = omega arith;
-}

@@ -1,9 +1,12 @@
+mod ActLemmas
 mod AddsLemmas
 mod BuildHost
 mod BuildLists
 mod BuildShelf
 mod BuildStations
-mod TurnLemmas
-mod ActLemmas
+mod GroupLemmas
+mod GroupSome
 mod HostActLemmas
 mod ShelfActLemmas
+mod TurnLemmas
+mod WorldLemmas
