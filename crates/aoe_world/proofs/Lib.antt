@@ -1,2 +1,4 @@
 mod AddsLemmas
+mod ScheduleKeeps
+mod ScheduleLemmas
 mod TurnLemmas
