@@ -1,4 +1,5 @@
 mod AddsLemmas
+mod ReplayLemmas
 mod ScheduleKeeps
 mod ScheduleLemmas
 mod TurnLemmas

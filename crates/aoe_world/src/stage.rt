@@ -1,5 +1,5 @@
 //! The stations of a world, and the acts of a schedule.
-ghost use Rattle.std.specs.Prelude.{◌≡◌, ◌+◌, ◌<◌, ◌≤◌, ◌^◌, ℕ, List, length, Option, Some, None, slice_get, true, false, is_some, option_map, position, take, IfSome, IsSomeAnd};
+ghost use Rattle.std.specs.Prelude.{◌≡◌, ◌+◌, ◌-◌, ◌<◌, ◌≤◌, ◌^◌, ℕ, List, length, Option, Some, None, slice_get, true, false, is_some, option_map, position, take, IfSome, IsSomeAnd};
 ghost use Rattle.arrayvec.specs.ArrayVec.{ArrayVec};
 ghost use Rattle.aoe_frame.specs.Header.{fields};
 ghost use Rattle.aoe_initiator.specs.HostLaw.{same_id};
