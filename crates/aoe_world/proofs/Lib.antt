@@ -7,6 +7,9 @@ mod BuildStations
 mod GroupLemmas
 mod GroupSome
 mod HostActLemmas
+mod ReplayLemmas
+mod ScheduleKeeps
+mod ScheduleLemmas
 mod ShelfActLemmas
 mod TurnLemmas
 mod WorldLemmas

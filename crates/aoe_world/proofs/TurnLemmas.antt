@@ -65,7 +65,7 @@ turns-some s (o ∷ hosts) zero host got h n m e before turn =
     inl (subst (λ (z : HostSetup). TurnSome z got h m) (sym is) (subst (λ k. TurnSome host got k m) at turn))
 turns-some s (o ∷ hosts) (suc i) host got h n m e (k, first, rest) turn = inr (k, first, turns-some s hosts i host got k n m e rest turn)
 
-take-all : {X : Type 0} (xs : List X) → take (length xs) xs ≡ xs
+pub take-all : {X : Type 0} (xs : List X) → take (length xs) xs ≡ xs
 take-all [] = refl
 take-all (x ∷ xs) = ap (λ ys. x ∷ ys) (take-all xs)
 

@@ -98,3 +98,17 @@ pub record ArePlaces (s : Setup) (majors : List ℕ) (stations : List Placed) (p
   pub count : length places ≡ length stations
   pub each : (i : ℕ) (p : Placed) (place : Place) → slice_get stations i ≡ Some p → slice_get places i ≡ Some place
       → (place.name ≡ p.name) × (place.ports.items ≡ p.ports) × IsAt s majors place.at p.station
+
+-- a station stands there
+abbrev pub IsInside : At → Stage → Type 0
+IsInside (at.Shelf i) stage = i < length stage.shelves.items
+IsInside (at.Host i) stage = i < length stage.hosts.items
+
+-- the places are those of the stations of a network that is ready
+pub record HasPlaces (places : List Place) (stage : Stage) : Type 0 where
+  pub setup : Setup
+  pub majors : List ℕ
+  pub stations : List Placed
+  pub network_is : IsNetwork setup majors
+  pub ready : IsReady setup majors stage
+  pub places_are : ArePlaces setup majors stations places

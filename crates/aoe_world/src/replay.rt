@@ -1,17 +1,23 @@
 //! The events of a script, as acts of its stations.
-ghost use Rattle.std.specs.Prelude.{◌≡◌, ◌+◌, ◌-◌, ◌<◌, ◌≤◌, ◌^◌, length, None, Some, suc, IfSome, OnOk};
-ghost use Rattle.aoe_script.specs.Rules.{event_why};
+ghost use Rattle.std.specs.Prelude.{◌≡◌, ◌≢◌, ◌+◌, ◌-◌, ◌<◌, ◌≤◌, ◌^◌, ℕ, List, [], ◌∷◌, length, map, position, slice_get, None, Some, suc, true, false, nat_eq, option_map, IfNone, IfSome, IsSomeAnd, OnOk};
+ghost use Rattle.std.specs.List.{find};
+ghost use Rattle.aoe_script.specs.Rules.{event_why, is_event, same};
 ghost use Rattle.aoe_history.specs.Commands.{tickets};
 ghost use Rattle.aoe_history.specs.Frames.{clock, frames};
-ghost use Rattle.aoe_history.specs.Setup.{HostSetup};
-ghost use Rattle.aoe_layout.specs.Layout.{majors_of, setup_of};
-ghost use Rattle.aoe_world.specs.Stage.{IsReady};
+ghost use Rattle.aoe_history.specs.Groups.Act.{Arm, Crash, Hand, Submit};
+ghost use Rattle.aoe_history.specs.Setup.{HostSetup, Setup};
+ghost use Rattle.aoe_hosts.specs.Asks.{submission_in};
+ghost use Rattle.aoe_layout.specs.Layout.{majors_of, setup_of, stations_of, Placed};
+ghost use Rattle.aoe_layout.specs.Stations.{IsAsked, IsShelf, IsStation, IsThere};
+ghost use Rattle.aoe_world.specs.Schedule.{handings, major_of, station_called};
+ghost use Rattle.aoe_world.specs.Stage.{ArePlaces, DoesAll, IsAt, IsReady};
 ghost use Rattle.aoe_world.specs.World.{IsStaged, Runs};
 
 use crate::place::{At, Place};
 use crate::stage::Stage;
 use aoe_base::{FrameNo, TargetId};
 use aoe_disk::Loss;
+use aoe_layout::events_law;
 use aoe_net::NetRefusal;
 use aoe_racks::MemoryRack;
 use aoe_script::{Event, Name, Script, Which};
@@ -30,7 +36,10 @@ pub(crate) struct Replay<'a> {
 }
 
 /// The slot with a minor.
-fn slot_with(shelf: &MemoryRack, minor: u8) -> Option<usize> {
+fn slot_with(shelf: &MemoryRack, minor: u8) -> Option<usize>
+    ensures found { IfSome result (λ i. IsSomeAnd (slice_get shelf.now.shelf.targets i) (λ t. t.station.id.minor ≡ minor)) }
+    ensures none { IfNone result ((i : ℕ) → IfSome (slice_get shelf.now.shelf.targets i) (λ t. t.station.id.minor ≢ minor)) }
+{
     'slots: for slot in 0..shelf.count() {
         if shelf.id(slot).minor == minor {
             return Some(slot);
@@ -40,27 +49,74 @@ fn slot_with(shelf: &MemoryRack, minor: u8) -> Option<usize> {
 }
 
 impl Replay<'_> {
-    /// Where the station with a name stands.
-    fn place_of(&self, name: &Name) -> Option<At> {
-        let place = self.places.iter().find(|place| place.name == *name)?;
-        Some(place.at)
+    fn place_named(&self, name: &Name) -> Option<&Place>
+        ensures { option_map (λ place. place.now) result ≡ find (λ place. same place.name name.now) self.now.places.items }
+    {
+        self.places.iter().find(|place| place.name == *name)
     }
 
-    /// The place of the shelf with a number, and in it that of the slot with a name.
-    fn slot_of(&self, dev: TargetId) -> Option<(usize, usize)> {
-        let shelf = self.stage.shelves.iter().position(|shelf| shelf.major() == dev.major)?;
-        let slot = slot_with(&self.stage.shelves[shelf], dev.minor)?;
+    /// Where the station with a name stands.
+    fn place_of(&self, name: &Name) -> Option<At>
+        ensures { (s : Setup) (majors : List ℕ) (stations : List Placed) → ArePlaces s majors stations self.now.places.items
+            → IfSome (find (λ p. same p.name name.now) stations) (λ p. IsSomeAnd result (λ at. IsAt s majors at p.station)) }
+    {
+        match self.place_named(name) {
+            Some(place) => Some(place.at),
+            None => None,
+        }
+    }
+
+    /// The place of the shelf with a number.
+    fn shelf_with(&self, major: u16) -> Option<usize>
+        ensures { result ≡ position (λ shelf. nat_eq shelf.shelf.major major) self.now.stage.shelves.items }
+    {
+        self.stage.shelves.iter().position(|shelf| shelf.major() == major)
+    }
+
+    /// The place of the shelf of a slot, and in it that of the slot.
+    fn slot_of(&self, dev: TargetId) -> Option<(usize, usize)>
+        requires ready { IsReady (setup_of self.now.script.now.setups) (majors_of self.now.script.now.setups) self.now.stage }
+        requires there { IsThere self.now.script.now.setups (setup_of self.now.script.now.setups) dev }
+        ensures { IsSomeAnd result (λ at. IsSomeAnd (slice_get self.now.stage.shelves.items at.0)
+            (λ x. IsSomeAnd (slice_get x.shelf.targets at.1) (λ t. t.station.id ≡ dev))) }
+    {
+        let Some(shelf) = self.shelf_with(dev.major) else {
+            return None;
+        };
+        let Some(slot) = slot_with(&self.stage.shelves[shelf], dev.minor) else {
+            return None;
+        };
         Some((shelf, slot))
     }
 
-    fn submit(&mut self, host: &Name, dev: TargetId, event: &Event) -> Result<(), NetRefusal> {
+    /// A host submits the command of an event line.
+    fn submit(&mut self, host: &Name, dev: TargetId, event: &Event) -> Result<(), NetRefusal>
+        requires staged { IsStaged self.old.script.now self.old.places.items self.old.stage self.old.cursor }
+        requires ready { IsReady (setup_of self.old.script.now.setups) (majors_of self.old.script.now.setups) self.old.stage }
+        requires asked { IsAsked self.old.script.now.setups (setup_of self.old.script.now.setups) host.now dev }
+        requires submits { IsSomeAnd (submission_in event.now) (λ x. x.dev ≡ dev) }
+        requires range { is_event event.now ≡ true }
+        requires few { (host : HostSetup) → tickets host self.old.stage.run.entries < 2 ^ 64 - 1 }
+        ensures does { IfSome (submission_in event.now) (λ x. DoesAll result (setup_of self.old.script.now.setups) (majors_of self.old.script.now.setups)
+            (Submit host.now x.dev x.op ∷ []) self.old.stage self.new.stage) }
+        ensures rest { self.new ≡ record self.old { stage = self.new.stage } }
+    {
         match self.place_of(host) {
             Some(At::Host(i)) => self.stage.submit(i, dev, event),
             Some(At::Shelf(_)) | None => Ok(()),
         }
     }
 
-    fn deliver(&mut self, frame: u64, station: &Name) -> Result<(), NetRefusal> {
+    /// Hands a frame to a station, or loses it where it can't be handed over any more.
+    fn deliver(&mut self, frame: u64, station: &Name) -> Result<(), NetRefusal>
+        requires staged { IsStaged self.old.script.now self.old.places.items self.old.stage self.old.cursor }
+        requires ready { IsReady (setup_of self.old.script.now.setups) (majors_of self.old.script.now.setups) self.old.stage }
+        requires named { IsStation self.old.script.now.setups station.now }
+        requires frame { frame ≤ 4294967295 }
+        ensures does { DoesAll result (setup_of self.old.script.now.setups) (majors_of self.old.script.now.setups)
+            (Hand frame (station_called self.old.script.now.setups station.now) ∷ []) self.old.stage self.new.stage }
+        ensures rest { self.new ≡ record self.old { stage = self.new.stage } }
+    {
         let number = FrameNo(frame as u32);
         if !self.stage.fetch(number) {
             return self.stage.lose(frame);
@@ -72,10 +128,17 @@ impl Replay<'_> {
     }
 
     /// Hands over the frames from the cursor on, as many as there are of `n`.
-    fn pass(&mut self, n: u64) -> Result<(), NetRefusal> {
+    fn pass(&mut self, n: u64) -> Result<(), NetRefusal>
+        requires staged { IsStaged self.old.script.now self.old.places.items self.old.stage self.old.cursor }
+        requires ready { IsReady (setup_of self.old.script.now.setups) (majors_of self.old.script.now.setups) self.old.stage }
+        ensures runs { Runs result self.old.script.now.setups (Event.Pass n) self.old.cursor self.new.cursor self.old.stage self.new.stage }
+        ensures places { self.new.places.items ≡ self.old.places.items }
+        ensures script { self.new.script ≡ self.old.script }
+        ensures cursor { OnOk result ((1 ≤ self.new.cursor) × (self.new.cursor ≤ suc (length (frames self.new.stage.run.entries)))) }
+    {
         'frames: for _ in 0..n {
             if self.cursor > self.stage.run.frames() {
-                break;
+                return Ok(());
             }
             match self.stage.treat(FrameNo(self.cursor), self.places.as_slice()) {
                 Ok(()) => {}
@@ -87,10 +150,17 @@ impl Replay<'_> {
     }
 
     /// Loses the frames from the cursor on, as many as there are of `n`.
-    fn skip(&mut self, n: u64) -> Result<(), NetRefusal> {
+    fn skip(&mut self, n: u64) -> Result<(), NetRefusal>
+        requires staged { IsStaged self.old.script.now self.old.places.items self.old.stage self.old.cursor }
+        requires ready { IsReady (setup_of self.old.script.now.setups) (majors_of self.old.script.now.setups) self.old.stage }
+        ensures runs { Runs result self.old.script.now.setups (Event.Skip n) self.old.cursor self.new.cursor self.old.stage self.new.stage }
+        ensures places { self.new.places.items ≡ self.old.places.items }
+        ensures script { self.new.script ≡ self.old.script }
+        ensures cursor { OnOk result ((1 ≤ self.new.cursor) × (self.new.cursor ≤ suc (length (frames self.new.stage.run.entries)))) }
+    {
         'frames: for _ in 0..n {
             if self.cursor > self.stage.run.frames() {
-                break;
+                return Ok(());
             }
             match self.stage.lose(u64::from(self.cursor)) {
                 Ok(()) => {}
@@ -101,24 +171,49 @@ impl Replay<'_> {
         Ok(())
     }
 
-    fn again(&mut self) -> Result<(), NetRefusal> {
+    /// Hands over the frame before the cursor once more.
+    fn again(&mut self) -> Result<(), NetRefusal>
+        requires staged { IsStaged self.old.script.now self.old.places.items self.old.stage self.old.cursor }
+        requires ready { IsReady (setup_of self.old.script.now.setups) (majors_of self.old.script.now.setups) self.old.stage }
+        ensures does { DoesAll result (setup_of self.old.script.now.setups) (majors_of self.old.script.now.setups)
+            (handings (setup_of self.old.script.now.setups) (stations_of self.old.script.now.setups) self.old.stage.run.entries (self.old.cursor - 1)) self.old.stage self.new.stage }
+        ensures rest { self.new ≡ record self.old { stage = self.new.stage } }
+    {
         self.stage.treat(FrameNo(self.cursor - 1), self.places.as_slice())
     }
 
+    /// A disk of a slot is armed.
     fn arm(
         &mut self,
         dev: TargetId,
         which: Which,
         k: u64,
         mode: Option<Loss>,
-    ) -> Result<(), NetRefusal> {
+    ) -> Result<(), NetRefusal>
+        requires staged { IsStaged self.old.script.now self.old.places.items self.old.stage self.old.cursor }
+        requires ready { IsReady (setup_of self.old.script.now.setups) (majors_of self.old.script.now.setups) self.old.stage }
+        requires there { IsThere self.old.script.now.setups (setup_of self.old.script.now.setups) dev }
+        requires from_one { 0 < k }
+        requires most { k ≤ 1000 }
+        ensures does { DoesAll result (setup_of self.old.script.now.setups) (majors_of self.old.script.now.setups)
+            (Arm dev which k mode ∷ []) self.old.stage self.new.stage }
+        ensures rest { self.new ≡ record self.old { stage = self.new.stage } }
+    {
         match self.slot_of(dev) {
             Some((shelf, slot)) => self.stage.arm(shelf, slot, which, k, mode),
             None => Ok(()),
         }
     }
 
-    fn crash(&mut self, shelf: &Name, mode: Loss) -> Result<(), NetRefusal> {
+    /// A shelf loses its power.
+    fn crash(&mut self, shelf: &Name, mode: Loss) -> Result<(), NetRefusal>
+        requires staged { IsStaged self.old.script.now self.old.places.items self.old.stage self.old.cursor }
+        requires ready { IsReady (setup_of self.old.script.now.setups) (majors_of self.old.script.now.setups) self.old.stage }
+        requires named { IsShelf self.old.script.now.setups shelf.now }
+        ensures does { DoesAll result (setup_of self.old.script.now.setups) (majors_of self.old.script.now.setups)
+            (Crash (major_of (station_called self.old.script.now.setups shelf.now)) mode ∷ []) self.old.stage self.new.stage }
+        ensures rest { self.new ≡ record self.old { stage = self.new.stage } }
+    {
         match self.place_of(shelf) {
             Some(At::Shelf(i)) => self.stage.crash(i, mode),
             Some(At::Host(_)) | None => Ok(()),
@@ -137,6 +232,7 @@ impl Replay<'_> {
         ensures script { self.new.script ≡ self.old.script }
         ensures cursor { OnOk result ((1 ≤ self.new.cursor) × (self.new.cursor ≤ suc (length (frames self.new.stage.run.entries)))) }
     {
+        events_law();
         match event {
             Event::Tick { ms } => self.stage.tick(*ms),
             Event::Deliver { frame, station } => self.deliver(*frame, station),

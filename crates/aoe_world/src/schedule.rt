@@ -1,41 +1,38 @@
 //! Frames that are handed over as their addresses say.
-ghost use Rattle.std.specs.Prelude.{◌≡◌, ◌≤◌, ◌<◌, ◌+◌, ℕ, List, length, take, Option, Some, None, Result, Ok, IfOk, OnOk, slice_get, slice_range, true, false};
-ghost use Rattle.aoe_frame.specs.Header.{fields};
+ghost use Rattle.std.specs.Prelude.{◌≡◌, ◌≤◌, ℕ, List, Some, slice_range};
 ghost use Rattle.aoe_history.specs.Frames.{arriving};
-ghost use Rattle.aoe_history.specs.Groups.Act.{Hand, Lose};
 ghost use Rattle.aoe_history.specs.Setup.{Setup};
 ghost use Rattle.aoe_layout.specs.Layout.{Placed};
 ghost use Rattle.aoe_world.specs.Schedule.{addressees, handings};
-ghost use Rattle.aoe_world.specs.Stage.{ArePlaces, DoesAll, HandsEach, IsNetwork, IsReady};
+ghost use Rattle.aoe_world.specs.Stage.{ArePlaces, DoesAll, HandsEach, HasPlaces, IsNetwork, IsReady};
 
 use crate::place::Place;
 use crate::stage::Stage;
-use aoe_base::{FrameNo, Mac};
+use aoe_base::FrameNo;
 use aoe_net::NetRefusal;
 
-/// The address that stands in a frame from a byte on, with zeros where the frame has no more.
-fn address_at(frame: &[u8], at: usize) -> Mac
-    requires { at + 6 ≤ length frame.now }
-    ensures { result.0 ≡ slice_range frame.now at (at + 6) }
+/// The bytes of a frame from one place to another, as far as the frame goes.
+fn part(frame: &[u8], from: usize, to: usize) -> &[u8]
+    requires { from ≤ to }
+    ensures { result.now ≡ slice_range frame.now from to }
 {
-    let mut address = [0; 6];
-    address.copy_from_slice(&frame[at..at + 6]);
-    Mac(address)
+    let end = to.min(frame.len());
+    let start = from.min(end);
+    &frame[start..end]
 }
 
 impl Stage {
     /// Hands the fetched frame to each station that it is for, and says whether there was one.
     fn hand_each(&mut self, number: FrameNo, places: &[Place]) -> Result<bool, NetRefusal>
+        requires places { HasPlaces places.now self.old }
+        requires fresh { arriving self.old.run.life self.old.run.entries number.0 ≡ Some self.old.frame.items }
         ensures { (s : Setup) (majors : List ℕ) (stations : List Placed) → IsNetwork s majors → IsReady s majors self.old
             → ArePlaces s majors stations places.now
-            → arriving self.old.run.life self.old.run.entries number.0 ≡ Some self.old.frame.items
             → HandsEach result s majors number.0 (addressees stations self.old.frame.items) self.old self.new }
     {
-        let destination = address_at(&self.frame, 0);
-        let source = address_at(&self.frame, 6);
         let mut any = false;
         'places: for place in places {
-            if place.gets(&destination, &source) {
+            if place.gets(part(&self.frame, 0, 6), part(&self.frame, 6, 12)) {
                 match self.hand(number, place.at) {
                     Ok(()) => any = true,
                     Err(refusal) => return Err(refusal),
@@ -47,6 +44,7 @@ impl Stage {
 
     /// Hands a frame to its addressees, or loses it.
     pub(crate) fn treat(&mut self, number: FrameNo, places: &[Place]) -> Result<(), NetRefusal>
+        requires { HasPlaces places.now self.old }
         ensures { (s : Setup) (majors : List ℕ) (stations : List Placed) → IsNetwork s majors → IsReady s majors self.old
             → ArePlaces s majors stations places.now
             → DoesAll result s majors (handings s stations self.old.run.entries number.0) self.old self.new }

@@ -1,5 +1,5 @@
 //! The stations of a world, and the acts of a schedule.
-ghost use Rattle.std.specs.Prelude.{◌≡◌, ◌+◌, ◌<◌, ◌≤◌, ◌^◌, ℕ, List, length, Option, Some, None, slice_get, true, false, is_some, option_map, position, take, IfSome, IsSomeAnd};
+ghost use Rattle.std.specs.Prelude.{◌≡◌, ◌+◌, ◌-◌, ◌<◌, ◌≤◌, ◌^◌, ℕ, List, length, Option, Some, None, slice_get, true, false, is_some, option_map, position, take, IfSome, IsSomeAnd};
 ghost use Rattle.arrayvec.specs.ArrayVec.{ArrayVec};
 ghost use Rattle.aoe_frame.specs.Header.{fields};
 ghost use Rattle.aoe_initiator.specs.HostLaw.{same_id};
@@ -10,7 +10,7 @@ ghost use Rattle.aoe_history.specs.Groups.Station.{Shelf as ShelfStation, Host a
 ghost use Rattle.aoe_history.specs.Groups.Act.{Arm, Crash, Hand, Inject, Lose, Submit, Tick};
 ghost use Rattle.aoe_history.specs.Setup.{is_called, is_port, HostSetup, Setup};
 ghost use Rattle.aoe_hosts.specs.Asks.{submission_in};
-ghost use Rattle.aoe_world.specs.Stage.{Does, IsAt, IsNetwork, IsReady, IsTurning, Settles};
+ghost use Rattle.aoe_world.specs.Stage.{Does, IsAt, IsInside, IsNetwork, IsReady, IsTurning, Settles};
 
 use crate::place::At;
 use aoe_base::{FrameNo, NoMemory, TargetId};
@@ -160,6 +160,7 @@ impl Stage {
 
     /// Hands the fetched frame to a station.
     pub(crate) fn hand(&mut self, number: FrameNo, at: At) -> Result<(), NetRefusal>
+        requires { IsInside at self.old }
         ensures does { (s : Setup) (majors : List ℕ) (station : Station) → IsNetwork s majors → IsReady s majors self.old → IsAt s majors at station
             → arriving self.old.run.life self.old.run.entries number.0 ≡ Some self.old.frame.items
             → Does result s majors (Hand number.0 station) self.old self.new }
