@@ -1,6 +1,6 @@
 -- The host law goes by a host's ports, its room, the time and what it knows of its devices: of two hosts that have these alike it says
 -- the same.
-use Rattle.std.proofs.Common.{ℕ, ◌+◌, ◌*◌, ◌≡◌, ◌<◌, ◌≤◌, ◌⊎◌, inl, inr, Bool, true, false, List, [], ◌∷◌, length, map, Option, Some, None, refl, sym, subst, ap, ◌∙◌}
+use Rattle.std.proofs.Common.{ℕ, ◌+◌, ◌*◌, ◌≡◌, ◌<◌, ◌≤◌, inl, inr, Bool, true, false, List, [], ◌∷◌, length, map, Option, Some, None, refl, sym, subst, ap, ◌∙◌}
 use Rattle.std.specs.Prelude.{slice_get, All}
 use Rattle.std.specs.Option.{option_and_then, option_map, option_map_or}
 use Rattle.std.proofs.lemmas.Option.{slice_get-map}
@@ -14,7 +14,7 @@ use Rattle.aoe_initiator.specs.declared.op.Op.{Op}
 use Rattle.aoe_initiator.specs.declared.step.Sent.{Sent}
 use Rattle.aoe_initiator.specs.Host.{Host}
 use Rattle.aoe_initiator.specs.HostLaw.{is_clear_at, paths_to, spelled_for, IsFrameOf, IsNext, IsNextBy, IsOnNextPath, IsQuiet}
-use Rattle.aoe_initiator.specs.HostLog.{commands, missed_by, path_log, sent_of, Event, HostCommand}
+use Rattle.aoe_initiator.specs.HostLog.{missed_by, path_log, sent_of, Event, HostCommand}
 use Rattle.aoe_initiator.specs.Request.{request}
 use Rattle.aoe_paths.specs.PathLog.{next_of}
 use Rattle.aoe_paths.specs.PathTable.{pair_at}

@@ -1,3 +1,4 @@
+pub mod AddressLemmas
 pub mod Apart
 pub mod Called
 pub mod Commands

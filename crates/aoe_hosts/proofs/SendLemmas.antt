@@ -1,5 +1,5 @@
 -- A host sends a frame: the request of the command that is next, which bears its tag and goes on its path.
-use Rattle.std.proofs.Common.{ℕ, suc, ◌+◌, ◌-◌, ◌≡◌, ◌<◌, ◌≤◌, ◌⊎◌, inl, if◌then◌else◌, Bool, true, false, List, [], ◌∷◌, ◌++◌, length, get_or, map, Option, Some, None, refl, sym, subst, ap, ◌∙◌, arith, append_assoc, Contains, IsSomeAnd}
+use Rattle.std.proofs.Common.{ℕ, ◌-◌, ◌≡◌, ◌<◌, List, [], ◌∷◌, ◌++◌, length, get_or, Option, Some, None, refl, sym, subst, ap, ◌∙◌, append_assoc}
 use Rattle.std.specs.Prelude.{replicate, slice_get, All}
 use Rattle.std.specs.Option.{option_and_then, option_map, option_map_or}
 use Rattle.std.proofs.lemmas.Nat.{from_be_bytes-to_be_bytes_4}
@@ -11,7 +11,7 @@ use Rattle.aoe_base.specs.declared.counted.DeviceNo.{DeviceNo}
 use Rattle.aoe_base.specs.declared.counted.PathNo.{PathNo}
 use Rattle.aoe_base.specs.declared.counted.Ticket.{Ticket}
 use Rattle.aoe_frame.specs.declared.header.Header.{Header}
-use Rattle.aoe_frame.specs.Header.{fields, header_bytes, padded}
+use Rattle.aoe_frame.specs.Header.{fields, header_bytes}
 use Rattle.aoe_frame.proofs.PieceLemmas.{six-is}
 use Rattle.aoe_initiator.specs.declared.device.Attached.{Attached}
 use Rattle.aoe_initiator.specs.declared.device.Device.{Device}
@@ -19,7 +19,7 @@ use Rattle.aoe_initiator.specs.declared.op.Op.{Op}
 use Rattle.aoe_initiator.specs.declared.step.Sent as step
 use Rattle.aoe_initiator.specs.Host.{Host, IsSame, Matches}
 use Rattle.aoe_initiator.specs.HostLaw.{spelled_for, IsFrameOf, IsNext, IsOnNextPath, IsQuiet}
-use Rattle.aoe_initiator.specs.HostLog.{commands, Event, HostCommand}
+use Rattle.aoe_initiator.specs.HostLog.{commands, Event}
 use Rattle.aoe_initiator.specs.HostLog.Event.{Sends}
 use Rattle.aoe_initiator.specs.Request.{arguments, request, request_header}
 use Rattle.aoe_net.specs.Network.{IsFull}
@@ -27,10 +27,10 @@ use Rattle.aoe_paths.specs.PathTable.{new_paths, pair_at, IsDistinct}
 use Rattle.aoe_paths.proofs.PairLemmas.{pair-split}
 use Rattle.aoe_history.specs.declared.entry.Entry.{Entry}
 use Rattle.aoe_history.specs.declared.entry.Entry.TheVariants.{Sent}
-use Rattle.aoe_history.specs.Commands.{commands_of, host_after, log_of, path_between, path_of, submission, tickets, Submission}
-use Rattle.aoe_history.specs.Frames.{clock, frames, network, next_number}
+use Rattle.aoe_history.specs.Commands.{commands_of, host_after, log_of, path_of, submission, Submission}
+use Rattle.aoe_history.specs.Frames.{network, next_number}
 use Rattle.aoe_history.specs.Groups.{SendsSome}
-use Rattle.aoe_history.specs.Groups.SendsSome.{sends_none, sends_one}
+use Rattle.aoe_history.specs.Groups.SendsSome.{sends_one}
 use Rattle.aoe_history.specs.HostLaw.{IsSent}
 use Rattle.aoe_history.specs.Lawful.{IsLawful, MayCome}
 use Rattle.aoe_history.specs.Setup.{device_no, host_called, is_called, path_no, HostSetup, Setup}
@@ -159,10 +159,7 @@ pub record Pulled (old : Host) (sent : step.Sent) (f : List ℕ) (new : Host) : 
   pub frame : (log : List Event) → Matches log old → IsFrameOf old (commands log) sent f
   pub path : (log : List Event) → Matches log old → IsOnNextPath old log sent
   pub sends : (log : List Event) → Matches log old → Matches (Sends sent.ticket sent.tag sent.path ∷ log) new
-  pub same : IsSame old new
-  pub time : new.clock ≡ old.clock
-  pub last : new.last_ticket ≡ old.last_ticket
-  pub waiting : new.waiting ≡ old.waiting
+  pub same : IsSame old new × (new.clock ≡ old.clock) × (new.last_ticket ≡ old.last_ticket) × (new.waiting ≡ old.waiting)
   pub small : sent.tag < 4294967296
 
 module _ (s : Setup) (host : HostSetup) (h : List Entry) (x : NamedHost) (settled : IsSettled s host h x) (lawful : IsLawful s h) (sent : step.Sent) (f : List ℕ) (new : Host) (pulled : Pulled x.core sent f new) where
@@ -184,11 +181,11 @@ module _ (s : Setup) (host : HostSetup) (h : List Entry) (x : NamedHost) (settle
   settled-sent =
       let log = log-sent s host h x settled lawful sent f (pulled.frame (log_of host h) settled.matches) pulled.small in
       record {
-        is = host-same s host x (record { name = x.name; core = new }) refl pulled.same settled.is;
-        last = pulled.last ∙ settled.last;
-        time = pulled.time ∙ settled.time;
+        is = host-same s host x (record { name = x.name; core = new }) refl pulled.same.0 settled.is;
+        last = pulled.same.2 ∙ settled.last;
+        time = pulled.same.1 ∙ settled.time;
         matches = subst (λ (l : List Event). Matches l new) (sym log) (pulled.sends (log_of host h) settled.matches);
-        waiting = pulled.waiting ∙ settled.waiting;
+        waiting = pulled.same.3 ∙ settled.waiting;
       }
 
   -- no room is there for it

@@ -195,9 +195,8 @@ pub submitted-with : (o : Option Submission) (s : Setup) (host : HostSetup) (h m
     → (entry ≡ submitted_as s host h x.name dev op) × IsLawful s (entry ∷ h) × IsSettled s host (entry ∷ h) z
     → IfSome o (λ a. (m ≡ submitted_as s host h x.name a.dev a.op ∷ h) × IsLawful s m × Awaits s host None m z)
 submitted-with None s host h m x z dev op entry for asks is t = tt
-submitted-with (Some a) s host h m x z dev op entry for asks is t =
-    (
-      is ∙ ap (λ (e : Entry). e ∷ h) (t.0 ∙ ap (λ (d : TargetId). submitted_as s host h x.name d op) (sym for) ∙ ap (λ (o : Op). submitted_as s host h x.name a.dev o) asks),
-      subst (λ (l : List Entry). IsLawful s l) (sym is) t.1,
-      subst (λ (l : List Entry). Awaits s host None l z) (sym is) (awaits-settled s host (entry ∷ h) z t.2)
-    )
+submitted-with (Some a) s host h m x z dev op entry for asks is t = (
+  is ∙ ap (λ (e : Entry). e ∷ h) (t.0 ∙ ap (λ (d : TargetId). submitted_as s host h x.name d op) (sym for) ∙ ap (λ (o : Op). submitted_as s host h x.name a.dev o) asks),
+  subst (λ (l : List Entry). IsLawful s l) (sym is) t.1,
+  subst (λ (l : List Entry). Awaits s host None l z) (sym is) (awaits-settled s host (entry ∷ h) z t.2),
+)

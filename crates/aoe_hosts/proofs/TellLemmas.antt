@@ -1,15 +1,12 @@
 -- A host tells its outcomes: that of the response, then the commands that it gives up.
-use Rattle.std.proofs.Common.{ℕ, suc, cond, ◌+◌, ◌≡◌, ◌≤◌, ◌⊎◌, inl, inr, max, if◌then◌else◌, Bool, true, false, List, [], ◌∷◌, ◌++◌, length, map, reverse, Option, Some, None, refl, sym, subst, ap, ◌∙◌, arith, append-nil, append_assoc, IsSomeAnd}
+use Rattle.std.proofs.Common.{ℕ, suc, ◌+◌, ◌≡◌, ◌≤◌, ◌⊎◌, inl, inr, max, if◌then◌else◌, Bool, true, false, List, [], ◌∷◌, ◌++◌, length, map, reverse, Option, Some, None, refl, sym, subst, ap, ◌∙◌, arith, append_assoc}
 use Rattle.std.specs.Prelude.{All, IfSome, Result, Ok, Err, OnErr, OnOk}
-use Rattle.std.specs.List.{find}
 use Rattle.std.proofs.lemmas.List.{reverse-append, reverse-reverse, length-append}
 use Rattle.arrayvec.specs.ArrayVec.{ArrayVec}
 use Rattle.aoe_base.specs.declared.counted.Millis.{Millis}
 use Rattle.aoe_base.specs.declared.counted.PathNo.{PathNo}
 use Rattle.aoe_base.specs.declared.counted.Ticket.{Ticket}
-use Rattle.aoe_flight.specs.declared.outstanding.Outstanding.{Outstanding}
 use Rattle.aoe_flight.specs.Outstanding.{is_expired, lower, IsFirst}
-use Rattle.aoe_initiator.specs.declared.device.Device.{Device}
 use Rattle.aoe_initiator.specs.declared.outcome.Done.{Done}
 use Rattle.aoe_initiator.specs.declared.outcome.Outcome.{Outcome}
 use Rattle.aoe_initiator.specs.Host.{Host, IsSame, Matches}
@@ -24,9 +21,9 @@ use Rattle.aoe_history.specs.Frames.{clock}
 use Rattle.aoe_history.specs.Groups.{told, Got, GivesUp}
 use Rattle.aoe_history.specs.Groups.GivesUp.{gives_none, gives_one}
 use Rattle.aoe_history.specs.HostLaw.{IsAnswered, IsDone}
-use Rattle.aoe_history.specs.Lawful.{IsLawful, MayCome}
+use Rattle.aoe_history.specs.Lawful.{IsLawful}
 use Rattle.aoe_history.specs.Setup.{host_called, is_called, HostSetup, Setup}
-use Rattle.aoe_hosts.specs.Host.{is_told, log_with, told_of, Awaits, IsHost, IsSettled, NamedHost, TellsSame}
+use Rattle.aoe_hosts.specs.Host.{is_told, log_with, told_of, Awaits, NamedHost, TellsSame}
 use Rattle.aoe_hosts.specs.Turns.{noted, HasBegun, HasTold, Notes}
 use Rattle.aoe_hosts.proofs.Called.{is-called, of-called}
 use Rattle.aoe_hosts.proofs.Leaves.{when}

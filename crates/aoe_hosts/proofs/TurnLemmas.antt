@@ -1,7 +1,6 @@
 -- A host's turn, of its two parts.
-use Rattle.std.proofs.Common.{ℕ, ◌≡◌, ◌⊎◌, inl, inr, List, Option}
+use Rattle.std.proofs.Common.{◌≡◌, ◌⊎◌, inl, inr, List, Option}
 use Rattle.std.specs.Prelude.{Result, Ok, Err, OnErr}
-use Rattle.arrayvec.specs.ArrayVec.{ArrayVec}
 use Rattle.aoe_initiator.specs.HostLaw.{IsQuiet}
 use Rattle.aoe_history.specs.declared.entry.Entry.{Entry}
 use Rattle.aoe_history.specs.Commands.{commands_of, host_after}

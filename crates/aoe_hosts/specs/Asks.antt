@@ -1,5 +1,5 @@
 -- What an event line asks of a host.
-use Rattle.std.specs.Prelude.{ℕ, ◌*◌, List, replicate, Option, Some, None}
+use Rattle.std.specs.Prelude.{◌*◌, replicate, Option, Some, None}
 use Rattle.aoe_initiator.specs.declared.op.Op.TheVariants as op
 use Rattle.aoe_script.specs.declared.event.Event.{Event}
 use Rattle.aoe_script.specs.declared.event.Event.TheVariants.{Read, Write, Flush, Identify, Config, Masks, Reserve}

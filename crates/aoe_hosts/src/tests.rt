@@ -1,44 +1,173 @@
+ghost use Rattle.std.specs.Prelude.{◌≡◌, true, length};
+ghost use Rattle.aoe_paths.specs.PathTable.{IsDistinct};
+ghost use Rattle.aoe_script.specs.Classes.{is_name};
+
 use super::*;
-use aoe_base::{Mac, Millis, Ports, TargetId};
+use aoe_base::{FrameNo, Mac, Millis, Ports, TargetId};
+use aoe_frame::Frame;
 use aoe_history::Entry;
+use aoe_initiator::{Outcome, SubmitRefusal};
 use aoe_run::Run;
 use aoe_script::{Event, Name};
 use std::test::Fail;
 
-fn name() -> Name {
+const A: Mac = Mac([2, 0, 0, 0, 0, 0x0a]);
+
+const SHELF: Mac = Mac([2, 0, 0, 0, 0, 1]);
+
+const DEVICE: TargetId = TargetId { major: 1, minor: 0 };
+
+/// The response to a flush with tag 1.
+const FLUSHED: [u8; 36] = [
+    2, 0, 0, 0, 0, 0x0a, 2, 0, 0, 0, 0, 1, 0x88, 0xa2, 0x18, 0, 0, 1, 0, 0, 0, 0, 0, 1, 0x40, 0, 0,
+    0x40, 0, 0, 0, 0, 0, 0, 0, 0,
+];
+
+fn name() -> Name
+    ensures { is_name result ≡ true }
+{
     let mut name = Name::new();
-    let _ = name.try_extend_from_slice(b"a");
+    name.push(b'a');
     name
 }
 
-fn ports(last: u8) -> Ports {
+fn one(port: Mac) -> Ports
+    ensures one { length result.items ≡ 1 }
+    ensures differ { IsDistinct result.items }
+{
     let mut ports = Ports::new();
-    let _ = ports.try_extend_from_slice(&[Mac([2, 0, 0, 0, 0, last])]);
+    ports.push(port);
     ports
 }
 
 #[test]
-fn takes_down_what_it_submits(rt: HostRuntime) -> Result<(), Fail> {
-    let dev = TargetId { major: 1, minor: 0 };
+fn a_response_ends_its_command_once(rt: HostRuntime) -> Result<(), Fail> {
     let mut run = Run::new(rt.alloc(), Millis(2000));
     let mut host = NamedHost::new(
         rt.alloc(),
         name(),
-        &ports(1),
+        &one(A),
         Millis(2000),
         4,
-        Millis(30000),
+        Millis(180_000),
     )?;
-    host.attach(dev, &ports(2), 8, 2)?;
-    let host_name = name();
-    let event = Event::Read {
-        host: host_name,
-        dev,
-        at: 0,
-        count: 2,
+    host.attach(DEVICE, &one(SHELF), 16, 2)?;
+    let mut out = Frame::new();
+    let event = Event::Flush {
+        host: name(),
+        dev: DEVICE,
     };
-    host.submit(&mut run, dev, &event)?;
-    assert_eq!(rt; run.history().count(), 1);
-    assert!(rt; matches!(run.history().entry(0), Entry::Submitted { ticket: 1, .. }));
+    host.submit(&mut run, DEVICE, &event)?;
+    host.turn(&mut run, &mut out)?;
+    run.inject(&FLUSHED)?;
+    host.take(&mut run, FrameNo(2), &FLUSHED)?;
+    host.turn(&mut run, &mut out)?;
+    host.take(&mut run, FrameNo(2), &FLUSHED)?;
+    let history = run.history();
+    assert_eq!(rt; history.count(), 6);
+    assert!(rt; matches!(history.entry(0), Entry::Submitted { ticket: 1, .. }));
+    assert!(rt;
+        matches!(
+            history.entry(1),
+            Entry::Sent {
+                ticket: 1,
+                frame: 1,
+                ..
+            }
+        )
+    );
+    assert!(rt;
+        matches!(
+            history.entry(3),
+            Entry::Took {
+                frame: 2,
+                stale: false,
+                ..
+            }
+        )
+    );
+    assert!(rt;
+        matches!(
+            history.entry(4),
+            Entry::Done {
+                ticket: 1,
+                outcome: Outcome::Flushed,
+                ..
+            }
+        )
+    );
+    assert!(rt;
+        matches!(
+            history.entry(5),
+            Entry::Took {
+                frame: 2,
+                stale: true,
+                ..
+            }
+        )
+    );
+    Ok(())
+}
+
+#[test]
+fn an_empty_read_is_refused(rt: HostRuntime) -> Result<(), Fail> {
+    let mut run = Run::new(rt.alloc(), Millis(2000));
+    let mut host = NamedHost::new(
+        rt.alloc(),
+        name(),
+        &one(A),
+        Millis(2000),
+        4,
+        Millis(180_000),
+    )?;
+    host.attach(DEVICE, &one(SHELF), 16, 2)?;
+    let event = Event::Read {
+        host: name(),
+        dev: DEVICE,
+        at: 0,
+        count: 0,
+    };
+    host.submit(&mut run, DEVICE, &event)?;
+    let history = run.history();
+    assert_eq!(rt; history.count(), 1);
+    let empty = SubmitRefusal::Empty;
+    assert!(rt; matches!(history.entry(0), Entry::Refused { refusal, .. } if *refusal == empty));
+    Ok(())
+}
+
+#[test]
+fn a_command_without_a_response_is_given_up(rt: HostRuntime) -> Result<(), Fail> {
+    let mut run = Run::new(rt.alloc(), Millis(2000));
+    let mut host = NamedHost::new(
+        rt.alloc(),
+        name(),
+        &one(A),
+        Millis(2000),
+        4,
+        Millis(180_000),
+    )?;
+    host.attach(DEVICE, &one(SHELF), 16, 2)?;
+    let mut out = Frame::new();
+    let event = Event::Flush {
+        host: name(),
+        dev: DEVICE,
+    };
+    host.submit(&mut run, DEVICE, &event)?;
+    host.turn(&mut run, &mut out)?;
+    assert_eq!(rt; run.clock(), Millis(0));
+    run.tick(180_000)?;
+    host.turn(&mut run, &mut out)?;
+    let history = run.history();
+    assert_eq!(rt; history.count(), 4);
+    assert!(rt;
+        matches!(
+            history.entry(3),
+            Entry::Done {
+                ticket: 1,
+                outcome: Outcome::GaveUp { .. },
+                ..
+            }
+        )
+    );
     Ok(())
 }

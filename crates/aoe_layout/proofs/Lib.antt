@@ -7,3 +7,4 @@ pub mod RangeLemmas
 pub mod SetupLemmas
 pub mod SlotLemmas
 pub mod StationLemmas
+mod MacLemmas

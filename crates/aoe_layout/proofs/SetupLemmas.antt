@@ -1,5 +1,5 @@
 -- The setup of good lines is one.
-use Rattle.std.proofs.Common.{ℕ, ◌<◌, ◌≤◌, ◌≡◌, ◌∙◌, ◌-◌, ◌/◌, true, List, length, Some, refl, sym, ap, subst, arith, Contains}
+use Rattle.std.proofs.Common.{ℕ, ◌<◌, ◌≤◌, ◌≡◌, ◌∙◌, ◌-◌, ◌/◌, true, List, length, All, Some, refl, sym, ap, subst, arith, Contains}
 use Rattle.std.specs.Prelude.{slice_get}
 use Rattle.std.proofs.lemmas.List.Elements.{All-contains}
 use Rattle.std.proofs.lemmas.Option.{same_Some}
@@ -9,16 +9,18 @@ use Rattle.aoe_lists.specs.Addresses.{holds}
 use Rattle.aoe_history.specs.Setup.{HostSetup, IsAttachedTo, IsSetup, SlotSetup}
 use Rattle.aoe_script.specs.declared.setup.Setup.{Setup as Line}
 use Rattle.aoe_script.specs.declared.setup.Setup.TheVariants.{Shelf, Host}
-use Rattle.aoe_layout.specs.Layout.{addresses_in, host_in, host_of, setup_of, slot_with, HasMacs}
+use Rattle.aoe_script.specs.Types.{FitsSetup}
+use Rattle.aoe_layout.specs.Layout.{addresses_in, host_in, host_of, setup_of, slot_with}
 use Rattle.aoe_layout.proofs.GoodLines.{AreGood}
 use Rattle.aoe_layout.proofs.HostLemmas.{device-from, host-from, DeviceFrom, HostFrom}
 use Rattle.aoe_layout.proofs.LineLemmas.{held-at, one-line}
 use Rattle.aoe_layout.proofs.ListLemmas.{contains-at, place-of}
+use Rattle.aoe_layout.proofs.MacLemmas.{six-at}
 use Rattle.aoe_layout.proofs.SlotLemmas.{slot-found, slot-from, slot-placed, SlotFrom}
 
-six-bytes : (lines : List Line) (k : ℕ) (line : Line) (port : Mac) → HasMacs lines → slice_get lines k ≡ Some line → holds (addresses_in line) port ≡ true → length port.0 ≡ 6
+six-bytes : (lines : List Line) (k : ℕ) (line : Line) (port : Mac) → All FitsSetup lines → slice_get lines k ≡ Some line → holds (addresses_in line) port ≡ true → length port.0 ≡ 6
 six-bytes lines k line port macs there held =
-    All-contains (λ mac. length mac.0 ≡ 6) (addresses_in line) port (macs.six k line there) (contains-at (addresses_in line) port (held-at (addresses_in line) port held))
+    All-contains (λ mac. length mac.0 ≡ 6) (addresses_in line) port (six-at lines k line macs there) (contains-at (addresses_in line) port (held-at (addresses_in line) port held))
 
 pub most-sectors : (mtu : ℕ) → 1500 ≤ mtu → mtu ≤ 9000 → (0 < (mtu - 36) / 512) × ((mtu - 36) / 512 ≤ 17)
 most-sectors mtu least most = (omega arith, omega arith)
@@ -54,7 +56,7 @@ module _ (lines : List Line) (good : AreGood lines) where
       subst (λ z. IsAttachedTo (setup_of lines) z) x.device_is
       (record { slot = slot; there = slot-found lines good slot (slot-placed lines good x.name x.minor x.line); remotes = refl; total = refl; max = refl })
 
-  pub is-setup : HasMacs lines → IsSetup (setup_of lines)
+  pub is-setup : All FitsSetup lines → IsSetup (setup_of lines)
   is-setup macs = record {
     host_addresses = λ host port c e. let h = host-of host c in six-bytes lines h.at (Host h.name h.ports h.room h.dead) port macs h.there (in-host host h port e);
     shelf_addresses = λ slot port c e. let x = slot-of slot c in six-bytes lines x.line.at (Shelf x.name x.line.major x.line.ports x.line.mtu) port macs x.line.shelf_there (in-slot slot x port e);

@@ -1,5 +1,5 @@
 -- What the setup lines of a script declare, in the words of histories.
-use Rattle.std.specs.Prelude.{ℕ, ◌≡◌, List, [], length, All, slice_get, Option, Some, None, option_map, option_and_then, unwrap_or, is_some, if◌then◌else◌}
+use Rattle.std.specs.Prelude.{ℕ, List, [], Option, Some, None, option_map, option_and_then, unwrap_or, is_some, if◌then◌else◌}
 use Rattle.std.specs.List.{filter_map, find, flat_map}
 use Rattle.arrayvec.specs.ArrayVec.{ArrayVec}
 use Rattle.aoe_base.specs.declared.address.Mac.{Mac}
@@ -92,10 +92,6 @@ abbrev pub addresses_in : Line → List Mac
 addresses_in (Shelf name major ports mtu) = ports.items
 addresses_in (Host name ports room dead) = ports.items
 addresses_in line = []
-
--- each address of the lines has six bytes
-pub record HasMacs (lines : List Line) : Type 0 where
-  pub six : (k : ℕ) (line : Line) → slice_get lines k ≡ Some line → All (λ mac. length mac.0 ≡ 6) (addresses_in line)
 
 -- a station with its name and its ports
 pub record Placed : Type 0 where

@@ -2,17 +2,16 @@
 ghost use Rattle.std.specs.Prelude.{◌≡◌, [], List, None, true};
 ghost use Rattle.aoe_history.specs.Setup.{IsSetup};
 ghost use Rattle.aoe_layout.specs.Example.{expected, lines};
-ghost use Rattle.aoe_layout.specs.Layout.{setup_of, HasMacs};
+ghost use Rattle.aoe_layout.specs.Layout.{setup_of};
 ghost use Rattle.aoe_layout.specs.Stations.{CanCome, HasHosts, HasRanges, HasShelves, HasStations};
 ghost use Rattle.aoe_script.specs.declared.event.Event.{Event};
 ghost use Rattle.aoe_script.specs.Lines.{IsScript, ScriptLines};
 ghost use Rattle.aoe_script.specs.Rules.{event_why, is_event};
 
 /// A law: the setup lines of every script declare stations of which each has an address and a name
-/// of its own, and attach hosts to slots that are there. That an address has six bytes is known
-/// from its type alone, where code reads it.
+/// of its own, and attach hosts to slots that are there.
 pub fn layout_law()
-    ensures setup { (script : ScriptLines) → IsScript script → HasMacs script.setups → IsSetup (setup_of script.setups) }
+    ensures setup { (script : ScriptLines) → IsScript script → IsSetup (setup_of script.setups) }
     ensures hosts { (script : ScriptLines) → IsScript script → HasHosts script.setups (setup_of script.setups) }
     ensures shelves { (script : ScriptLines) → IsScript script → HasShelves script.setups (setup_of script.setups) }
     ensures ranges { (script : ScriptLines) → IsScript script → HasRanges (setup_of script.setups) }
@@ -30,5 +29,4 @@ pub fn events_law()
 pub fn worked_layout()
     ensures setup { setup_of lines ≡ expected }
     ensures script { IsScript (record { setups = lines; events = [] }) }
-    ensures macs { HasMacs lines }
 {}

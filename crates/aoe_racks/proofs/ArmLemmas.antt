@@ -1,5 +1,5 @@
 -- A disk of a slot is armed: its stretch begins.
-use Rattle.std.proofs.Common.{◌≡◌, ◌≢◌, ◌<◌, ◌≤◌, ◌-◌, ◌*◌, ◌&&◌, ◌⊎◌, inl, inr, ℕ, Bool, true, false, List, ◌∷◌, length, get_or, Option, Some, None, is_some, refl, sym, ap, subst, ◌∙◌, arith}
+use Rattle.std.proofs.Common.{◌≡◌, ◌<◌, ◌≤◌, ◌-◌, ◌*◌, ◌&&◌, inl, inr, ℕ, Bool, true, false, List, ◌∷◌, length, get_or, Option, Some, None, is_some, refl, sym, ap, subst, ◌∙◌, arith}
 use Rattle.std.proofs.lemmas.List.{length-set}
 use Rattle.std.proofs.lemmas.Option.{slice_get-get_or, slice_get_within}
 use Rattle.std.specs.List.{refill}
@@ -9,17 +9,16 @@ use Rattle.arrayvec.proofs.ArrayVecLemmas.{items-with_items}
 use Rattle.aoe_base.specs.declared.address.TargetId.{TargetId}
 use Rattle.aoe_disk.specs.Arming.{number_of, Arms, ArmsTo}
 use Rattle.aoe_disk.specs.Memory.{schedule_of, state_of, Memory}
-use Rattle.aoe_disk.specs.State.{BothTell, Contents, Schedule}
+use Rattle.aoe_disk.specs.State.{BothTell, Contents}
 use Rattle.aoe_disk.specs.declared.armed.Arm.{Arm}
 use Rattle.aoe_disk.specs.declared.loss.Loss.{Loss}
 use Rattle.aoe_keep.specs.Found.{Finds}
-use Rattle.aoe_keep.specs.Keep.{Kept}
 use Rattle.aoe_lists.specs.Settings.{Settings}
 use Rattle.aoe_shelf.specs.Shelf.{Rack}
 use Rattle.aoe_shelf.specs.Slot.{ChangesAt}
 use Rattle.aoe_shelf.proofs.SlotLemmas.{get-after, get-other, length-changed}
-use Rattle.aoe_target.specs.Device.{Holds, MayStand, State}
-use Rattle.aoe_target.specs.Mounted.{device_of, Mounted}
+use Rattle.aoe_target.specs.Device.{MayStand, State}
+use Rattle.aoe_target.specs.Mounted.{Mounted}
 use Rattle.aoe_target.specs.Sectors.{sectors_of, Agrees, Sectors}
 use Rattle.aoe_history.specs.declared.entry.Entry.{Entry}
 use Rattle.aoe_history.specs.declared.entry.Entry.TheVariants.{Armed}

@@ -1,5 +1,5 @@
 -- A frame that comes to one slot of a shelf, and to one after the other.
-use Rattle.std.proofs.Common.{◌≡◌, ◌≢◌, ◌<◌, ◌≤◌, ◌+◌, ◌==◌, ◌⊎◌, inl, inr, ℕ, zero, suc, Bool, true, false, if◌then◌else◌, List, [], ◌∷◌, length, get_or, drop, Option, Some, None, refl, sym, ap, subst, ◌∙◌, arith}
+use Rattle.std.proofs.Common.{◌≡◌, ◌≢◌, ◌<◌, ◌≤◌, ◌==◌, ◌⊎◌, inl, inr, ℕ, zero, suc, Bool, true, false, if◌then◌else◌, List, [], ◌∷◌, length, get_or, drop, Option, Some, None, refl, sym, ap, subst, ◌∙◌, arith}
 use Rattle.std.proofs.lemmas.Bool.Decides.{nat_tests}
 use Rattle.std.proofs.lemmas.List.{drop_all}
 use Rattle.std.proofs.lemmas.Option.{same_Some, slice_get-get_or, slice_get_within}
@@ -23,12 +23,12 @@ use Rattle.aoe_history.specs.declared.entry.Fate.{Fate}
 use Rattle.aoe_history.specs.declared.entry.Fate.TheVariants.{Cut, Ignored, Replied, Silent}
 use Rattle.aoe_history.specs.Frames.{arriving, bytes_of, clock, frames, network, next_number}
 use Rattle.aoe_history.specs.Groups.{ArriveAtEach, ArriveAtSome, CrashEach, CrashSome}
-use Rattle.aoe_history.specs.Lawful.{IsArrival, IsLawful, IsNumbered, MayCome}
+use Rattle.aoe_history.specs.Lawful.{IsArrival, IsNumbered, MayCome}
 use Rattle.aoe_history.specs.Setup.{Setup, SlotSetup}
 use Rattle.aoe_history.specs.ShelfLaw.{KeepsArming, KeepsShelfLaw}
 use Rattle.aoe_run.specs.Run.{MeetsFull}
 use Rattle.aoe_racks.specs.declared.rack.Stops.{Stops}
-use Rattle.aoe_racks.specs.Arrival.{noted, stop_at, ComesTo, GoesOn, IsCut, IsReached, IsReplyFull}
+use Rattle.aoe_racks.specs.Arrival.{noted, stop_at, ComesToSlot, GoesOn, IsCut, IsReached, IsReplyFull}
 use Rattle.aoe_racks.specs.Rack.{AreApart, IsServing, IsStanding, MemoryRack, Serves, Stands}
 use Rattle.aoe_racks.proofs.Apart.{if-false, says-arrived, serves-stands, serves-still, serving-stands, stands-still, there, SaysSame}
 use Rattle.aoe_racks.proofs.FateLemmas.{noted-uncut, runs-on, stop-of}
@@ -178,7 +178,7 @@ module _ (s : Setup) (slots : List SlotSetup) (i number : ℕ) (f : List ℕ) (h
           lawful = (may-come Cut z.law z.arming tt, r.lawful);
         }
 
-    comes : (stop : Option Loss) → stop_at stops w ≡ stop → ComesTo s slots i number f stop h (Arrived slot.station.id number (noted stop w (next_number h) out) ∷ h) y
+    comes : (stop : Option Loss) → stop_at stops w ≡ stop → ComesToSlot s slots i number f stop h (Arrived slot.station.id number (noted stop w (next_number h) out) ∷ h) y
     comes None e = goes-on e
     comes (Some how) e = is-cut how e
 
@@ -201,11 +201,11 @@ module _ (s : Setup) (slots : List SlotSetup) (i number : ℕ) (f : List ℕ) (h
 
   -- the frame came to the slot
   pub comes-to : (dev : TargetId) (stop : Option Loss) (m : List Entry) → IsSomeAnd (slice_get x.shelf.targets i) (λ t. dev ≡ t.station.id) → stop ≡ stop_at stops w
-      → m ≡ Arrived dev number (noted stop w (next_number h) out) ∷ h → ComesTo s slots i number f stop h m y
+      → m ≡ Arrived dev number (noted stop w (next_number h) out) ∷ h → ComesToSlot s slots i number f stop h m y
   comes-to dev stop m name is e =
       let slot = slot-here in
       let entry : Arrived slot.0.station.id number (noted stop w (next_number h) out) ∷ h ≡ m = ap (λ d. Arrived d number (noted stop w (next_number h) out) ∷ h) (named slot.0 slot.1 dev name) ∙ sym e in
-      subst (λ (z : List Entry). ComesTo s slots i number f stop h z y) entry (comes slot.0 slot.1 stop (sym is))
+      subst (λ (z : List Entry). ComesToSlot s slots i number f stop h z y) entry (comes slot.0 slot.1 stop (sym is))
 
   -- or its reply is the next frame, for which there is no room
   pub meets-no-room : (life : ℕ) (stop : Option Loss) → stop ≡ stop_at stops w → IsReplyFull stop w (network life h) out → MeetsFull s h
@@ -233,7 +233,7 @@ module _ (i : ℕ) (f : List ℕ) (w : Heard) (out : List ℕ) (a b : Rack Memor
     before : IsReached s slots number f h (record { shelf = a; stops = items })
     before = subst (λ (v : MemoryRack). IsReached s slots number f h v) (sym is) r
 
-    pub turn-comes : (m : List Entry) → m ≡ Arrived dev number (noted stop w (next_number h) out) ∷ h → ComesTo s slots i number f stop h m (record { shelf = b; stops = items })
+    pub turn-comes : (m : List Entry) → m ≡ Arrived dev number (noted stop w (next_number h) out) ∷ h → ComesToSlot s slots i number f stop h m (record { shelf = b; stops = items })
     turn-comes m e = comes-to s slots i number f h (record { shelf = a; stops = items }) (record { shelf = b; stops = items }) w out (get_or xs i d) before z.change refl stops-at dev stop m z.name z.is e
 
     pub turn-full : (life : ℕ) → IsReplyFull stop w (network life h) out → MeetsFull s h
@@ -247,7 +247,7 @@ drop-at (x ∷ xs) zero slot e = ap (λ z. z ∷ xs) (same_Some x slot e)
 drop-at (x ∷ xs) (suc i) slot e = drop-at xs i slot e
 
 -- the power wasn't lost
-pub goes-of : (o : Option Loss) (s : Setup) (slots : List SlotSetup) (i number : ℕ) (f : List ℕ) (h m : List Entry) (x : MemoryRack) → ((how : Loss) → o ≡ Some how → ⊥) → ComesTo s slots i number f o h m x
+pub goes-of : (o : Option Loss) (s : Setup) (slots : List SlotSetup) (i number : ℕ) (f : List ℕ) (h m : List Entry) (x : MemoryRack) → ((how : Loss) → o ≡ Some how → ⊥) → ComesToSlot s slots i number f o h m x
     → GoesOn s slots i number f h m x
 goes-of None s slots i number f h m x whole p = p
 goes-of (Some how) s slots i number f h m x whole p = absurd (whole how refl)

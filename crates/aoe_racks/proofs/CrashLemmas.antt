@@ -1,16 +1,15 @@
 -- A target that lost its power and was mounted again, and what is known of it.
-use Rattle.std.proofs.Common.{◌≡◌, ◌<◌, ◌≤◌, ◌*◌, ◌/◌, ◌+◌, ◌⊎◌, inl, inr, ℕ, Bool, true, false, if◌then◌else◌, List, length, replicate, Option, Some, None, refl, sym, ap, subst, ◌∙◌, arith}
+use Rattle.std.proofs.Common.{◌≡◌, ◌<◌, ◌/◌, inl, ℕ, Bool, true, false, if◌then◌else◌, List, length, Option, Some, None, refl, sym, ap, subst, ◌∙◌, arith}
 use Rattle.std.specs.Prelude.{is_none, Ok, Result}
 use Rattle.std.specs.Option.{option_map}
 use Rattle.aoe_base.specs.declared.address.Mac.{Mac}
 use Rattle.aoe_disk.specs.Arming.{number_of}
-use Rattle.aoe_disk.specs.Calls.{IsRun, MovesDue}
+use Rattle.aoe_disk.specs.Calls.{MovesDue}
 use Rattle.aoe_disk.specs.Memory.{armed_of, contents_of, state_of, Memory}
-use Rattle.aoe_disk.specs.State.{is_loose, sector, BothTell, HasShape}
-use Rattle.aoe_disk.specs.declared.armed.Arm.{Arm}
+use Rattle.aoe_disk.specs.State.{is_loose, sector, BothTell}
 use Rattle.aoe_disk.specs.declared.loss.Loss.{Loss}
 use Rattle.aoe_disk.proofs.Pieces.{is_loose-replicate}
-use Rattle.aoe_keep.specs.Found.{found, AlwaysFinds, Finds}
+use Rattle.aoe_keep.specs.Found.{Finds}
 use Rattle.aoe_lists.specs.Settings.{Settings}
 use Rattle.aoe_target.specs.Device.{Holds, MayStand, State}
 use Rattle.aoe_target.specs.Device as device
@@ -20,7 +19,7 @@ use Rattle.aoe_target.specs.declared.station.Station.{Station}
 use Rattle.aoe_target.proofs.DeviceLemmas.{first_state}
 use Rattle.aoe_history.specs.Setup.{SlotSetup}
 use Rattle.aoe_history.specs.Slots.{after_crash, left_known, left_sectors, lost, Slot, Unsettled}
-use Rattle.aoe_racks.specs.Crash.{IsMounted, Loses, Restarts}
+use Rattle.aoe_racks.specs.Crash.{Loses, Restarts}
 use Rattle.aoe_racks.specs.Rack.{HoldsWithin, IsTargetOf, SameWithin}
 
 -- THE STORE

@@ -1,7 +1,5 @@
 -- What a failed device call says of the frame that made it, and what the loss of power in it leaves.
-use Rattle.std.proofs.Common.{◌≡◌, ◌≢◌, Bool, true, false, ◌||◌, ℕ, List, Option, Some, None, refl, sym, ap, subst, ◌∙◌}
-use Rattle.std.specs.Prelude.{◌⊎◌}
-use Rattle.std.proofs.Common.{inl, inr}
+use Rattle.std.proofs.Common.{◌≡◌, ◌≢◌, true, false, ◌||◌, ℕ, List, Option, Some, None, refl, sym, ap, subst, ◌∙◌}
 use Rattle.std.specs.Option.{option_map}
 use Rattle.aoe_ata.specs.declared.args.AtaArgs.{AtaArgs}
 use Rattle.aoe_ata.specs.declared.decision.AtaAnswer.{AtaAnswer}
@@ -9,7 +7,6 @@ use Rattle.aoe_ata.specs.declared.decision.AtaAnswer.TheVariants as ata
 use Rattle.aoe_disk.specs.declared.loss.Loss.{Loss}
 use Rattle.aoe_frame.specs.Header.{fields}
 use Rattle.aoe_frame.specs.declared.header.Header.{Header}
-use Rattle.aoe_lists.specs.Settings.{Settings}
 use Rattle.aoe_lists.specs.Step.{Step}
 use Rattle.aoe_lists.specs.Step as step
 use Rattle.aoe_target.specs.declared.heard.Effect.{Effect}
@@ -17,16 +14,14 @@ use Rattle.aoe_target.specs.declared.heard.Effect.TheVariants as effect
 use Rattle.aoe_target.specs.declared.heard.Heard.{Heard}
 use Rattle.aoe_target.specs.declared.heard.Heard.TheVariants as heard
 use Rattle.aoe_target.specs.declared.station.Station.{Station}
-use Rattle.aoe_target.specs.declared.verdict.ListCommand.{ListCommand}
 use Rattle.aoe_target.specs.declared.verdict.Verdict.{Verdict}
 use Rattle.aoe_target.specs.declared.verdict.Verdict.TheVariants as verdict
 use Rattle.aoe_target.specs.Device.{State}
-use Rattle.aoe_target.specs.Law.{after, after_ata, after_step, cut, ignored, replied, silent, step_of, Allows, AllowsAta, AllowsStep}
+use Rattle.aoe_target.specs.Law.{after, after_ata, after_step, cut, replied, step_of, Allows, AllowsAta, AllowsStep}
 use Rattle.aoe_target.specs.Receive.{calls_for, calls_store, edits, fate_of, is_change, is_edit_fault, is_fault, is_faulty, is_unkept}
 use Rattle.aoe_target.specs.Sectors.{Sectors}
 use Rattle.aoe_target.specs.Sectors as sectors
-use Rattle.aoe_history.specs.declared.entry.Fate.{Fate}
-use Rattle.aoe_history.specs.declared.entry.Fate.TheVariants.{Cut, Ignored, Replied, Silent}
+use Rattle.aoe_history.specs.declared.entry.Fate.TheVariants.{Cut}
 use Rattle.aoe_history.specs.Slots.{fate_at, is_struck}
 use Rattle.aoe_racks.specs.declared.rack.Stops.{Stops}
 use Rattle.aoe_racks.specs.Arrival.{noted, stop_at}

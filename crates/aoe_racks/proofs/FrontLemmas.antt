@@ -1,7 +1,6 @@
 -- The last target of a shelf, and those before it.
-use Rattle.std.proofs.Common.{◌≡◌, ◌≢◌, ◌<◌, ◌⊎◌, ◌||◌, ◌==◌, inl, inr, ℕ, zero, suc, Bool, true, false, List, [], ◌∷◌, ◌++◌, length, map, replicate, take, Option, Some, None, refl, sym, ap, subst, ◌∙◌, arith}
+use Rattle.std.proofs.Common.{◌≡◌, ◌≢◌, ◌⊎◌, ◌||◌, ◌==◌, inl, inr, ℕ, zero, suc, Bool, true, false, List, [], ◌∷◌, ◌++◌, length, map, replicate, take, Some, refl, sym, ap, subst, ◌∙◌, arith}
 use Rattle.std.specs.Prelude.{slice_get}
-use Rattle.std.specs.List.{list_any}
 use Rattle.std.proofs.lemmas.Bool.Decides.{nat_tests}
 use Rattle.std.proofs.lemmas.Option.{same_Some, slice_get_within}
 use Rattle.aoe_disk.specs.Memory.{Memory}
@@ -11,6 +10,7 @@ use Rattle.aoe_target.specs.Mounted.{Mounted}
 use Rattle.aoe_target.specs.declared.station.Station.{Station}
 use Rattle.aoe_racks.specs.Crash.{RestartEach, Restarts}
 use Rattle.aoe_racks.specs.Rack.{AreTargets, IsTargetOf}
+use Rattle.aoe_racks.proofs.Apart.{there}
 use Rattle.aoe_racks.proofs.CrashLemmas.{restarted_target}
 
 -- THE FRONT OF A LIST
@@ -69,6 +69,19 @@ minor_here (u ∷ ts) minor (suc i) t e at = minor_here ts minor i t (rest (u.st
     rest true b q = absurd (cc)
     rest false b q = q
 
+-- the minors of a shelf with one target more
+pub more_minors : (ts : List (Mounted Memory Memory)) (t : Mounted Memory Memory) (m : ℕ) → has_minor (ts ++ t ∷ []) m ≡ (has_minor ts m || t.station.id.minor == m)
+more_minors [] t m = last (t.station.id.minor == m)
+  where
+    last : (b : Bool) → (b || false) ≡ (false || b)
+    last true = refl
+    last false = refl
+more_minors (u ∷ ts) t m = ap (λ (b : Bool). u.station.id.minor == m || b) (more_minors ts t m) ∙ grouped (u.station.id.minor == m) (has_minor ts m) (t.station.id.minor == m)
+  where
+    grouped : (a b c : Bool) → (a || (b || c)) ≡ ((a || b) || c)
+    grouped true b c = refl
+    grouped false b c = refl
+
 -- THE TARGETS OF A SHELF
 
 module _ (shelf : Rack Memory Memory) (front : List (Mounted Memory Memory)) (t : Mounted Memory Memory) (is : shelf.targets ≡ front ++ t ∷ []) (k : AreTargets shelf) where
@@ -113,13 +126,8 @@ more_targets shelf t k here other = record {
 
 -- A RESTART
 
-there : {X : Type 0} (xs : List X) (i : ℕ) → i < length xs → (x : X) × (slice_get xs i ≡ Some x)
-there [] i lt = absurd (omega (arith, lt))
-there (x ∷ xs) zero lt = (x, refl)
-there (x ∷ xs) (suc i) lt = there xs i (omega (arith, lt))
-
 -- of a target, and of those before it
-pub restart_more : (how : Loss) (xs ys : List (Mounted Memory Memory)) (x y : Mounted Memory Memory) → RestartEach how xs ys → Restarts how x y → RestartEach how (xs ++ x ∷ []) (ys ++ y ∷ [])
+restart_more : (how : Loss) (xs ys : List (Mounted Memory Memory)) (x y : Mounted Memory Memory) → RestartEach how xs ys → Restarts how x y → RestartEach how (xs ++ x ∷ []) (ys ++ y ∷ [])
 restart_more how xs ys x y r one = record {
   count = length_last ys y ∙ ap suc r.count ∙ sym (length_last xs x);
   each = λ i a b p q. elim (get_split xs x i a p) [
@@ -133,6 +141,14 @@ restart_more how xs ys x y r one = record {
     ]
   ];
 }
+
+-- the last target was added again
+pub restart_last : (how : Loss) (before front : List (Mounted Memory Memory)) (x y : Mounted Memory Memory) (r new : Rack Memory Memory) → before ≡ front ++ x ∷ [] → new ≡ record r { targets = r.targets ++ y ∷ [] } → RestartEach how front r.targets
+    → Restarts how x y → RestartEach how before new.targets
+restart_last how before front x y r new is added each one =
+    let targets : new.targets ≡ r.targets ++ y ∷ [] = ap (λ (z : Rack Memory Memory). z.targets) added in
+    subst (λ (l : List (Mounted Memory Memory)). RestartEach how l new.targets) (sym is)
+    (subst (λ (l : List (Mounted Memory Memory)). RestartEach how (front ++ x ∷ []) l) (sym targets) (restart_more how front r.targets x y each one))
 
 -- no minor is new
 pub restart_minor : (how : Loss) (xs ys : List (Mounted Memory Memory)) (minor : ℕ) → RestartEach how xs ys → ((i : ℕ) (t : Mounted Memory Memory) → slice_get xs i ≡ Some t → t.station.id.minor ≢ minor) → has_minor ys minor ≡ false

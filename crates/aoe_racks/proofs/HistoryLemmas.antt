@@ -1,15 +1,12 @@
 -- What a history says of slots that lost their power.
-use Rattle.std.proofs.Common.{◌≡◌, ◌≢◌, ◌<◌, ◌≤◌, ◌⊎◌, ◌+◌, ◌&&◌, inl, inr, nat_eq, ℕ, zero, suc, Bool, true, false, List, [], ◌∷◌, ◌++◌, length, map, take, replicate, Option, Some, None, refl, sym, ap, subst, ◌∙◌, arith}
+use Rattle.std.proofs.Common.{◌≡◌, ◌≢◌, ◌≤◌, ◌+◌, inl, inr, ℕ, zero, suc, true, false, List, [], ◌∷◌, ◌++◌, length, take, replicate, Option, Some, None, refl, sym, ap, subst, ◌∙◌, arith}
 use Rattle.std.specs.Prelude.{slice_get, Err, IsSomeAnd, Ok, OnErr, OnOk, Result}
-use Rattle.std.proofs.lemmas.Bool.Decides.{nat_tests}
 use Rattle.std.proofs.lemmas.List.{length-take, take_more}
 use Rattle.std.proofs.lemmas.Option.{get_or_from_slice_get, same_Some, slice_get_within}
-use Rattle.aoe_base.specs.declared.address.TargetId.{TargetId}
 use Rattle.std.specs.Option.{option_map}
 use Rattle.aoe_disk.specs.Arming.{number_of}
 use Rattle.aoe_disk.specs.Memory.{schedule_of, state_of, Memory}
 use Rattle.aoe_disk.specs.declared.loss.Loss.{Loss}
-use Rattle.aoe_initiator.specs.HostLaw.{same_id}
 use Rattle.aoe_lists.specs.Settings.{Settings}
 use Rattle.aoe_target.specs.Device.{MayStand}
 use Rattle.aoe_target.specs.Mounted.{device_of, Mounted}
@@ -18,28 +15,19 @@ use Rattle.aoe_history.specs.declared.entry.Entry.{Entry}
 use Rattle.aoe_history.specs.declared.entry.Entry.TheVariants.{Crashed}
 use Rattle.aoe_history.specs.Groups.{CrashEach, CrashSome}
 use Rattle.aoe_history.specs.Lawful.{IsLawful, MayCome}
-use Rattle.aoe_history.specs.Setup.{is_slot, slot_of, Setup, SlotSetup}
+use Rattle.aoe_history.specs.Setup.{is_slot, Setup, SlotSetup}
 use Rattle.aoe_history.specs.ShelfLaw.{stretch, KeepsLists, Stretch}
 use Rattle.aoe_history.specs.Slots.{after_crash, slot_after, state_after, Slot}
 use Rattle.aoe_run.specs.Run.{with_entry, Recorded}
 use Rattle.aoe_script.specs.declared.event.Which.{Which}
 use Rattle.aoe_script.specs.declared.event.Which.TheVariants.{Store, Keep}
 use Rattle.aoe_racks.specs.declared.rack.Stops.{Stops}
-use Rattle.aoe_racks.specs.Crash.{with_crashes, RestartEach, Restarts}
-use Rattle.aoe_racks.specs.Rack.{stop_in, AreApart, AreSlots, HoldsWithin, IsDue, IsServing, IsStanding, MemoryRack, Serves, Stands}
+use Rattle.aoe_racks.specs.Crash.{with_crashes, RestartEach}
+use Rattle.aoe_racks.specs.Rack.{stop_in, AreApart, AreSlots, HoldsWithin, IsDue, IsServing, MemoryRack, Serves, Stands}
 use Rattle.aoe_racks.proofs.Apart.{if-true, says-crashed, there, SaysSame}
 use Rattle.aoe_racks.proofs.CrashLemmas.{keep_unarmed, restarted_holds, restarted_lists, store_unarmed}
 use Rattle.aoe_racks.proofs.FrontLemmas.{get_replicate, get_take}
-
-own_name : (id : TargetId) → same_id id id ≡ true
-own_name id = both (nat_eq id.major id.major) (nat_eq id.minor id.minor) (itself id.major) (itself id.minor)
-  where
-    both : (a b : Bool) → a ≡ true → b ≡ true → (a && b) ≡ true
-    both true b p q = q
-    both false b p q = p
-
-    itself : (a : ℕ) → nat_eq a a ≡ true
-    itself a = grind (arith, nat_tests)
+use Rattle.aoe_racks.proofs.SlotLemmas.{same-self}
 
 -- ONE SLOT
 
@@ -153,7 +141,7 @@ module _ (slots : List SlotSetup) (h : List Entry) (how : Loss) (x : MemoryRack)
 
   module _ (apart : AreApart slots) (i : ℕ) (slot : SlotSetup) (t : Mounted Memory Memory) (a : slice_get slots i ≡ Some slot) (b : slice_get ys i ≡ Some t) where
     crashed : CrashesTo slot t.keep.lists how h (with_crashes how ys h)
-    crashed = struck slot how ys i t h b (ap (λ (z : Station). is_slot slot z.id) (may_restart.each i slot t a b).0 ∙ own_name slot.station.id) (λ j u c ne. other_name apart i j slot u a c ne)
+    crashed = struck slot how ys i t h b (ap (λ (z : Station). is_slot slot z.id) (may_restart.each i slot t a b).0 ∙ same-self slot.station.id) (λ j u c ne. other_name apart i j slot u a c ne)
 
     serving : (stops : Stops) → record { store = None; keep = None } ≡ stops → IsServing slot (with_crashes how ys h) t stops
     serving stops is =
@@ -198,7 +186,7 @@ crash_noted how ts i first old new so_far p = go (slice_get ts i) refl p
         take_more ts i t (slice_get_within ts i t at) ∙ ap (λ (u : Mounted Memory Memory). take i ts ++ u ∷ []) (get_or_from_slice_get ts i t t at) in
         p ∙ ap (λ (z : Recorded). with_entry z (Crashed t.station.id t.keep.lists how)) so_far
         ∙ ap (λ (m : List Entry). record first { entries = m })
-            (sym (ap (λ (l : List (Mounted Memory Memory)). with_crashes how l first.entries) more ∙ with_crashes_more how (take i ts) t first.entries))
+        (sym (ap (λ (l : List (Mounted Memory Memory)). with_crashes how l first.entries) more ∙ with_crashes_more how (take i ts) t first.entries))
 
 pub on_ok : {T E A B : Type 0} (r : Result T E) → OnOk r A → (A → B) → OnOk r B
 on_ok (Ok x) p f = f p

@@ -1,5 +1,5 @@
 -- A target over disks that were just opened.
-use Rattle.std.proofs.Common.{◌≡◌, ◌≢◌, ◌<◌, ◌≤◌, ◌+◌, ◌-◌, ◌*◌, ◌/◌, ◌==◌, ◌⊎◌, inl, inr, ℕ, zero, suc, Bool, true, false, if◌then◌else◌, List, [], ◌∷◌, ◌++◌, length, map, get_or, take, drop, replicate, Option, Some, None, refl, sym, ap, subst, ◌∙◌, arith, get_or-take, get_or-drop}
+use Rattle.std.proofs.Common.{◌≡◌, ◌<◌, ◌≤◌, ◌+◌, ◌-◌, ◌*◌, ◌/◌, ◌==◌, ◌⊎◌, inl, inr, ℕ, zero, suc, true, false, if◌then◌else◌, List, [], ◌∷◌, ◌++◌, length, map, get_or, take, replicate, Option, Some, None, refl, sym, ap, subst, ◌∙◌, arith, get_or-take, get_or-drop}
 use Rattle.std.specs.Prelude.{slice_get, is_none, IsSomeAnd, Ok, Result}
 use Rattle.std.specs.Option.{option_map}
 use Rattle.std.proofs.lemmas.Bool.Decides.{nat_tests}
@@ -16,19 +16,17 @@ use Rattle.aoe_keep.specs.Body.{decode}
 use Rattle.aoe_keep.specs.Found.{body, choice, found, is_open, slot}
 use Rattle.aoe_keep.specs.Keep.{Kept}
 use Rattle.aoe_lists.specs.Settings.{empty_settings, Settings}
-use Rattle.aoe_shelf.specs.Calls.{TakesLast}
 use Rattle.aoe_shelf.specs.Shelf.{has_minor, refusal_of, Rack}
 use Rattle.aoe_shelf.specs.declared.refusal.ShelfRefusal.TheVariants.{Full, Repeated}
 use Rattle.aoe_target.specs.Device as device
 use Rattle.aoe_target.specs.Mounted.{device_of, station_of, Mounted}
 use Rattle.aoe_target.specs.Sectors.{sectors_of}
-use Rattle.aoe_target.specs.declared.station.Station.{Station}
 use Rattle.aoe_target.proofs.DeviceLemmas.{first_state}
 use Rattle.aoe_history.specs.Setup.{SlotSetup}
-use Rattle.aoe_history.specs.Slots.{new_slot, zero_sector}
+use Rattle.aoe_history.specs.Slots.{zero_sector}
 use Rattle.aoe_racks.specs.declared.rack.Stops.{Stops}
 use Rattle.aoe_racks.specs.Crash.{IsMounted, Loses, Restarts}
-use Rattle.aoe_racks.specs.Rack.{AreTargets, HoldsWithin, IsServing, IsTargetOf, MemoryRack, SameWithin, Serves}
+use Rattle.aoe_racks.specs.Rack.{IsServing, IsTargetOf, MemoryRack, SameWithin, Serves}
 use Rattle.aoe_racks.proofs.Apart.{if-false}
 use Rattle.aoe_racks.proofs.CrashLemmas.{idle}
 use Rattle.aoe_racks.proofs.FrontLemmas.{get_last, get_split, length_last}

@@ -1,14 +1,12 @@
 -- A frame that comes to a slot: its fate is lawful, and the disks of the slot are afterwards what the history says.
-use Rattle.std.proofs.Common.{◌≡◌, ◌≢◌, ◌||◌, ◌&&◌, Bool, true, false, if◌then◌else◌, nat_eq, ℕ, suc, List, ◌∷◌, Option, Some, None, is_none, is_some, refl, sym, ap, subst, ◌∙◌, arith}
+use Rattle.std.proofs.Common.{◌≡◌, ◌||◌, ◌&&◌, Bool, true, false, if◌then◌else◌, nat_eq, ℕ, List, ◌∷◌, Option, Some, None, is_none, is_some, refl, sym, ap, subst, ◌∙◌, arith}
 use Rattle.std.proofs.lemmas.Bool.Decides.{nat_tests}
 use Rattle.std.proofs.lemmas.Bool.{OnTrue_at, OnTrue_from}
-use Rattle.std.specs.Prelude.{IfSome, MatchBool}
-use Rattle.std.specs.Bool.{OnTrue}
-use Rattle.std.specs.Option.{option_and_then, option_map}
+use Rattle.std.specs.Prelude.{MatchBool}
+use Rattle.std.specs.Option.{option_map}
 use Rattle.aoe_base.specs.declared.address.TargetId.{TargetId}
 use Rattle.aoe_disk.specs.Calls.{IsRun}
 use Rattle.aoe_disk.specs.Memory.{schedule_of, state_of, Memory}
-use Rattle.aoe_disk.specs.State.{Schedule}
 use Rattle.aoe_disk.specs.declared.loss.Loss.{Loss}
 use Rattle.aoe_initiator.specs.HostLaw.{same_id}
 use Rattle.aoe_keep.specs.Keep.{Kept}
@@ -19,10 +17,9 @@ use Rattle.aoe_target.specs.declared.heard.Heard.{Heard}
 use Rattle.aoe_target.specs.declared.heard.Heard.TheVariants as heard
 use Rattle.aoe_target.specs.declared.station.Station.{Station}
 use Rattle.aoe_target.specs.Device.{State}
-use Rattle.aoe_target.specs.Law.{after, cut, replied, Allows, IsStep}
-use Rattle.aoe_target.specs.Law as target
+use Rattle.aoe_target.specs.Law.{after, replied, Allows, IsStep}
 use Rattle.aoe_target.specs.Mounted.{device_of, Mounted}
-use Rattle.aoe_target.specs.Receive.{calls_store, edits, fate_of, is_fault, is_faulty, is_unkept, Replaces}
+use Rattle.aoe_target.specs.Receive.{calls_store, edits, fate_of, is_fault, is_faulty, is_unkept}
 use Rattle.aoe_target.specs.Turn.{Receives}
 use Rattle.aoe_target.specs.Verdict.{verdict}
 use Rattle.aoe_history.specs.declared.entry.Entry.{Entry}
@@ -32,12 +29,12 @@ use Rattle.aoe_history.specs.declared.entry.Fate.TheVariants.{Cut}
 use Rattle.aoe_history.specs.Frames.{bytes_of}
 use Rattle.aoe_history.specs.Groups.{IsStop}
 use Rattle.aoe_history.specs.Setup.{is_slot, SlotSetup}
-use Rattle.aoe_history.specs.ShelfLaw.{calls, one_more, stretch, struck_frame, IsStrike, IsStruckBy, IsStruckInTurn, IsStruckOnce, KeepsArming, KeepsShelfLaw, Stretch}
+use Rattle.aoe_history.specs.ShelfLaw.{calls, one_more, stretch, IsStrike, IsStruckBy, IsStruckInTurn, IsStruckOnce, KeepsArming, KeepsShelfLaw, Stretch}
 use Rattle.aoe_history.specs.Slots.{after_frame, fate_at, is_struck, slot_after, state_after, verdict_after, Slot}
 use Rattle.aoe_script.specs.declared.event.Which.{Which}
 use Rattle.aoe_script.specs.declared.event.Which.TheVariants.{Store, Keep}
 use Rattle.aoe_racks.specs.declared.rack.Stops.{Stops}
-use Rattle.aoe_racks.specs.Arrival.{noted, stop_at}
+use Rattle.aoe_racks.specs.Arrival.{noted}
 use Rattle.aoe_racks.specs.Rack.{stop_in, HoldsWithin, IsDue, IsServing, IsStanding}
 use Rattle.aoe_racks.proofs.Apart.{if-true}
 use Rattle.aoe_racks.proofs.DueLemmas.{due-then, met, IsMet}

@@ -60,6 +60,7 @@ pub record IsCut (s : Setup) (slots : List SlotSetup) (i number : ℕ) (f : List
   pub stands : Stands slots m x
   pub lawful : IsLawful s m
 
-abbrev pub ComesTo : Setup → List SlotSetup → ℕ → ℕ → List ℕ → Option Loss → List Entry → List Entry → MemoryRack → Type 0
-ComesTo s slots i number f None h m x = GoesOn s slots i number f h m x
-ComesTo s slots i number f (Some how) h m x = IsCut s slots i number f how h m x
+-- which of the two it was
+abbrev pub ComesToSlot : Setup → List SlotSetup → ℕ → ℕ → List ℕ → Option Loss → List Entry → List Entry → MemoryRack → Type 0
+ComesToSlot s slots i number f None h m x = GoesOn s slots i number f h m x
+ComesToSlot s slots i number f (Some how) h m x = IsCut s slots i number f how h m x

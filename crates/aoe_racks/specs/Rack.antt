@@ -1,9 +1,8 @@
 -- A shelf in a run: what its disks hold, and how they are armed, is what the history says of them.
-use Rattle.std.specs.Prelude.{ℕ, ◌≡◌, ◌≢◌, ◌-◌, ◌*◌, ◌<◌, ◌≤◌, ◌⊎◌, Bool, true, false, not, ◌&&◌, List, [], ◌∷◌, length, slice_get, Option, Some, None, is_some, IfNone, IfSome}
+use Rattle.std.specs.Prelude.{ℕ, ◌≡◌, ◌≢◌, ◌-◌, ◌*◌, ◌<◌, ◌≤◌, ◌⊎◌, Bool, true, false, not, List, length, slice_get, Option, Some, None, is_some, IfNone, IfSome}
 use Rattle.std.specs.List.{list_any}
 use Rattle.std.specs.Option.{option_and_then, option_map}
 use Rattle.aoe_base.specs.declared.address.Mac.{Mac}
-use Rattle.aoe_base.specs.declared.address.TargetId.{TargetId}
 use Rattle.aoe_disk.specs.Memory.{state_of, Memory}
 use Rattle.aoe_disk.specs.State.{BothTell, Schedule}
 use Rattle.aoe_disk.specs.declared.loss.Loss.{Loss}

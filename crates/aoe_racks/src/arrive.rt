@@ -5,7 +5,7 @@ ghost use Rattle.aoe_history.specs.Frames.{arriving, next_number};
 ghost use Rattle.aoe_history.specs.Groups.{ArriveAtEach, ArriveAtSome};
 ghost use Rattle.aoe_history.specs.Lawful.{IsLawful};
 ghost use Rattle.aoe_history.specs.Setup.{Setup, SlotSetup};
-ghost use Rattle.aoe_racks.specs.Arrival.{noted, stop_at, ComesTo, IsReached, IsReplyFull};
+ghost use Rattle.aoe_racks.specs.Arrival.{noted, stop_at, ComesToSlot, IsReached, IsReplyFull};
 ghost use Rattle.aoe_racks.specs.Rack.{AreSlots, Serves};
 ghost use Rattle.aoe_run.specs.Run.{is_plain, network_of, with_entry, MeetsFull};
 
@@ -87,7 +87,7 @@ impl MemoryRack {
         requires { slot < length self.old.shelf.targets }
         ensures life { run.new.life ≡ run.old.life }
         ensures comes { IfOk result (λ stop. (s : Setup) (slots : List SlotSetup) → IsReached s slots number.0 frame.now run.old.entries self.old
-            → ComesTo s slots slot number.0 frame.now stop run.old.entries run.new.entries self.new) }
+            → ComesToSlot s slots slot number.0 frame.now stop run.old.entries run.new.entries self.new) }
         ensures err { OnErr result (run.new ≡ run.old) }
         ensures full { result ≡ Err NetRefusal.Full → (s : Setup) (slots : List SlotSetup)
             → IsReached s slots number.0 frame.now run.old.entries self.old → MeetsFull s run.new.entries }

@@ -1,5 +1,5 @@
 //! A shelf over disks in memory.
-ghost use Rattle.std.specs.Prelude.{List, ◌≡◌, ◌<◌, ◌≤◌, ◌^◌, ◌++◌, ◌∷◌, [], IfOk, IsSomeAnd, None, OnErr, OnOk, false, length, map, slice_get};
+ghost use Rattle.std.specs.Prelude.{List, ℕ, ◌≡◌, ◌<◌, ◌≤◌, ◌+◌, ◌^◌, ◌==◌, ◌||◌, ◌++◌, ◌∷◌, [], IfOk, IsSomeAnd, None, OnErr, OnOk, false, length, map, slice_get};
 ghost use Rattle.aoe_disk.specs.Arming.{number_of};
 ghost use Rattle.aoe_history.specs.declared.entry.Entry.TheVariants.{Armed};
 ghost use Rattle.aoe_history.specs.Setup.{SlotSetup};
@@ -111,10 +111,11 @@ impl MemoryRack {
         requires ports { 1 ≤ length ports.items }
         requires shortest { 1500 ≤ mtu }
         requires longest { mtu ≤ 9000 }
-        ensures { IfOk result (λ x. x ≡ record {
+        ensures value { IfOk result (λ x. x ≡ record {
           shelf = record { major = major; ports = ports.items; mtu = mtu; targets = [] };
           stops = [];
         }) }
+        ensures serves { IfOk result (Serves [] []) }
     {
         Ok(MemoryRack {
             major,
@@ -133,6 +134,8 @@ impl MemoryRack {
           station = station_of record { major = self.old.shelf.major; minor = minor } self.old.shelf.ports self.old.shelf.mtu sectors;
           cache = None;
         } ∷ []) [] self.new) }
+        ensures count { OnOk result (length self.new.shelf.targets ≡ length self.old.shelf.targets + 1) }
+        ensures minors { OnOk result ((m : ℕ) → has_minor self.new.shelf.targets m ≡ (has_minor self.old.shelf.targets m || minor == m)) }
         ensures added { OnOk result (map (λ t. t.station) self.new.shelf.targets
             ≡ map (λ t. t.station) self.old.shelf.targets ++ station_of record { major = self.old.shelf.major; minor = minor } self.old.shelf.ports
             self.old.shelf.mtu sectors ∷ []) }

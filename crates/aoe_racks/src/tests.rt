@@ -115,3 +115,22 @@ fn a_stop_cuts_the_arrival(rt: HostRuntime) -> Result<(), Fail> {
     assert_eq!(rt; run.history().count(), 8);
     Ok(())
 }
+
+#[test]
+fn a_crash_leaves_the_lists(rt: HostRuntime) -> Result<(), Fail> {
+    let mut rack = shelf_of_two(rt.alloc())?;
+    let mut run = Run::new(rt.alloc(), Millis(2000));
+    let mut out = Frame::new();
+    let frame = set_all();
+    run.inject(frame.as_slice())?;
+    rack.arrive(&mut run, FrameNo(1), frame.as_slice(), &mut out)?;
+    rack.crash(&mut run, Loss::Old)?;
+    assert_eq!(rt; run.history().count(), 5);
+    for i in 3..run.history().count() {
+        let Entry::Crashed { lists, .. } = run.history().entry(i) else {
+            return Err(Fail::from("no crash"));
+        };
+        assert_eq!(rt; lists.config.as_slice(), b"ab".as_slice());
+    }
+    Ok(())
+}

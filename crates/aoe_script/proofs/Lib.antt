@@ -1,7 +1,19 @@
+mod AcceptedLemmas
+mod AskedBack
+mod EventBack
 pub mod JoinLemmas
+mod KeptLemmas
 mod LineLemmas
+mod ListedLemmas
+mod NamedLemmas
 mod PairLemmas
 mod PartLemmas
+mod PlainLemmas
+mod SaidLemmas
+mod ScriptBack
 mod ScriptLemmas
+mod SetupBack
+mod SpelledLemmas
 mod SplitLemmas
 mod WordLemmas
+mod WrittenLemmas

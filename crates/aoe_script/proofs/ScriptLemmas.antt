@@ -1,12 +1,12 @@
 -- Scripts that grow by a line, and texts that are read line by line.
 use Rattle.std.proofs.Common.{◌≡◌, ◌∙◌, ◌+◌, ◌<◌, ◌≤◌, ℕ, zero, suc, Bool, true, false, not, List, [], ◌∷◌, ◌++◌, length, take, drop, map, Option, Some, None, nat_lt, refl, sym, ap, subst, arith, zero-add, ◌-◌}
-use Rattle.std.specs.Prelude.{IfSome, slice_get, option_and_then, Err}
+use Rattle.std.specs.Prelude.{All, IfSome, slice_get, option_and_then, Err}
 use Rattle.std.specs.Option.{option_or}
 use Rattle.std.specs.Str.Lines.{lines}
 use Rattle.std.proofs.lemmas.Bool.{lt-ltb}
 use Rattle.std.proofs.lemmas.List.{drop-map, length-append, length-map, append-nil, take_all}
 use Rattle.std.proofs.lemmas.Bool.Decides.{nat_tests}
-use Rattle.std.proofs.lemmas.List.Elements.{filter_map-append}
+use Rattle.std.proofs.lemmas.List.Elements.{All-push, filter_map-append}
 use Rattle.aoe_script.specs.declared.event.Event.{Event}
 use Rattle.aoe_script.specs.declared.line.Line.{Line}
 use Rattle.aoe_script.specs.declared.line.Line.TheVariants.{Blank, Declares, Asks, Bad}
@@ -18,6 +18,7 @@ use Rattle.aoe_script.specs.declared.setup.Setup.{Setup}
 use Rattle.aoe_script.specs.Forms.{line_of}
 use Rattle.aoe_script.specs.Lines.{FailsFor, IsScript, ScriptLines, asked, declared, first_refusal, line_refusal, lines_of, refusal, refusal_at, said_by, script_of, with_line}
 use Rattle.aoe_script.specs.Rules.{declared_why, event_why, is_setup, setup_why, unless}
+use Rattle.aoe_script.specs.Types.{FitsEvent, FitsSetup}
 
 -- what holds of each element behind those before it, with one more at the end
 pub each_pushed : {X : Type 0} (P : List X → X → Type 0) (xs : List X) (y : X) → ((k : ℕ) → IfSome (slice_get xs k) (λ x. P (take k xs) x)) → P xs y
@@ -38,25 +39,41 @@ not_behind setups behind setup e = go (not (is_setup setup)) behind (declared_wh
     go false false rest e = (refl, e)
 
 pub declared_more : (setups new : List Setup) (events : List Event) (setup : Setup) → IsScript (record { setups = setups; events = events })
-    → setup_why setups (nat_lt 0 (length events)) setup ≡ None → length setups < 16777216 → new ≡ setups ++ setup ∷ []
+    → setup_why setups (nat_lt 0 (length events)) setup ≡ None → length setups < 16777216 → FitsSetup setup → new ≡ setups ++ setup ∷ []
     → IsScript (record { setups = new; events = events })
-declared_more setups new events setup h e room is =
+declared_more setups new events setup h e room fits is =
     let P : List Setup → Type 0 = λ s. IsScript (record { setups = s; events = events }) in
-    subst P (sym is) (go events h.events h.few_events (not_behind setups (nat_lt 0 (length events)) setup e))
+    subst P (sym is) (go events h.events h.few_events h.events_fit (not_behind setups (nat_lt 0 (length events)) setup e))
   where
-    go : (events : List Event) → ((k : ℕ) → IfSome (slice_get events k) (λ event. event_why setups event ≡ None)) → length events ≤ 50000
+    go : (events : List Event) → ((k : ℕ) → IfSome (slice_get events k) (λ event. event_why setups event ≡ None)) → length events ≤ 50000 → All FitsEvent events
         → (nat_lt 0 (length events) ≡ false) × (setup_why setups false setup ≡ None)
         → IsScript (record { setups = setups ++ setup ∷ []; events = events })
-    go [] each few good = record {
+    go [] each few fit good = record {
       setups = each_pushed (λ before s. setup_why before false s ≡ None) setups setup h.setups good.1;
       events = λ k. tt;
       few_setups = omega (arith, room, length-append setups (setup ∷ []));
       few_events = few;
+      setups_fit = All-push FitsSetup setups setup h.setups_fit fits;
+      events_fit = fit;
     }
-    go (event ∷ events) each few good =
+    go (event ∷ events) each few fit good =
         let some : nat_lt 0 (length (event ∷ events)) ≡ true = lt-ltb 0 (length (event ∷ events)) (omega arith) in
         let none = good.0 in
         absurd cc
+
+pub asked_more : (setups : List Setup) (events new : List Event) (event : Event) → IsScript (record { setups = setups; events = events })
+    → event_why setups event ≡ None → length events < 50000 → FitsEvent event → new ≡ events ++ event ∷ []
+    → IsScript (record { setups = setups; events = new })
+asked_more setups events new event h e room fits is =
+    let P : List Event → Type 0 = λ x. IsScript (record { setups = setups; events = x }) in
+    subst P (sym is) record {
+      setups = h.setups;
+      events = each_pushed (λ before x. event_why setups x ≡ None) events event h.events e;
+      few_setups = h.few_setups;
+      few_events = omega (arith, room, length-append events (event ∷ []));
+      setups_fit = h.setups_fit;
+      events_fit = All-push FitsEvent events event h.events_fit fits;
+    }
 
 -- ---- a script with one line more
 

@@ -3,4 +3,5 @@ pub mod Forms
 pub mod Lines
 pub mod Print
 pub mod Rules
+pub mod Types
 pub mod Words

@@ -1,5 +1,5 @@
 -- What the lines of a text spell.
-use Rattle.std.specs.Prelude.{ℕ, zero, suc, ◌+◌, ◌≡◌, ◌≤◌, Bool, false, option_and_then, List, [], ◌∷◌, ◌++◌, length, map, take, nat_lt, nat_le, slice_get, Option, Some, None, if◌then◌else◌, IfSome, Result, Ok, Err}
+use Rattle.std.specs.Prelude.{ℕ, All, zero, suc, ◌+◌, ◌≡◌, ◌≤◌, Bool, false, option_and_then, List, [], ◌∷◌, ◌++◌, length, map, take, nat_lt, nat_le, slice_get, Option, Some, None, if◌then◌else◌, IfSome, Result, Ok, Err}
 use Rattle.std.specs.List.{filter_map}
 use Rattle.std.specs.Option.{option_or}
 use Rattle.std.specs.Str.Lines.{lines}
@@ -12,6 +12,7 @@ use Rattle.aoe_script.specs.declared.refusal.ScriptRefusal.TheVariants.{NoMemory
 use Rattle.aoe_script.specs.declared.setup.Setup.{Setup}
 use Rattle.aoe_script.specs.Forms.{line_of}
 use Rattle.aoe_script.specs.Rules.{event_why, setup_why}
+use Rattle.aoe_script.specs.Types.{FitsEvent, FitsSetup}
 use Rattle.aoe_script.specs.Words.{Text}
 
 -- the setup lines and the event lines of a script, each in their order
@@ -19,12 +20,14 @@ pub record ScriptLines : Type 0 where
   pub setups : List Setup
   pub events : List Event
 
--- a script is made of lines of which none has anything wrong behind those before it
+-- a script is made of lines of which none has anything wrong behind those before it; their fields fit their types
 pub record IsScript (lines : ScriptLines) : Type 0 where
   pub setups : (k : ℕ) → IfSome (slice_get lines.setups k) (λ setup. setup_why (take k lines.setups) false setup ≡ None)
   pub events : (k : ℕ) → IfSome (slice_get lines.events k) (λ event. event_why lines.setups event ≡ None)
   pub few_setups : length lines.setups ≤ 16777216
   pub few_events : length lines.events ≤ 50000
+  pub setups_fit : All FitsSetup lines.setups
+  pub events_fit : All FitsEvent lines.events
 
 -- the lines that declare, and those that ask
 abbrev pub declared : Line → Option Setup

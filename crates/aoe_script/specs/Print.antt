@@ -1,5 +1,5 @@
 -- The spelling of lines: words that single spaces part, numbers without leading zeros.
-use Rattle.std.specs.Prelude.{ℕ, Bool, ◌==◌, List, [], ◌∷◌, ◌++◌, length, map, Option, Some, None, if◌then◌else◌, codes, decimal}
+use Rattle.std.specs.Prelude.{ℕ, Bool, true, false, ◌==◌, List, [], ◌∷◌, ◌++◌, length, map, Option, Some, None, if◌then◌else◌, codes, decimal}
 use Rattle.std.specs.List.{flat_map, join_with_byte}
 use Rattle.aoe_base.specs.Names.{mac_text, pair_text}
 use Rattle.aoe_base.specs.declared.address.Mac.{Mac}
@@ -100,6 +100,21 @@ event_words (Inject bytes) = codes "inject" ∷ bytes_text bytes ∷ []
 event_words (Fail dev which k) = codes "fail" ∷ device_text dev ∷ which_text which ∷ decimal k ∷ []
 event_words (Stop dev which k mode) = codes "stop" ∷ device_text dev ∷ which_text which ∷ decimal k ∷ mode_text mode ∷ []
 event_words (Crash shelf mode) = codes "crash" ∷ shelf.items ∷ mode_text mode ∷ []
+
+-- it is an action on the lists of a device
+abbrev pub is_action : Event → Bool
+is_action (Config host dev ccmd text) = true
+is_action (Masks host dev edit dirs) = true
+is_action (Reserve host dev rcmd list) = true
+is_action _ = false
+
+-- it is what a host asks of a device
+abbrev pub is_submission : Event → Bool
+is_submission (Read host dev at count) = true
+is_submission (Write host dev at count fill) = true
+is_submission (Flush host dev) = true
+is_submission (Identify host dev) = true
+is_submission event = is_action event
 
 -- words, each but the first behind a space (32)
 abbrev pub spaced : List Text → Text

@@ -1,15 +1,17 @@
 //! The text of a script.
-ghost use Rattle.std.specs.Prelude.{◌≡◌, ◌++◌, ◌∷◌, [], decimal, IfOk, OnOk};
-ghost use Rattle.aoe_script.specs.Print.{device_text, event_words, optional_word, script_text, setup_words, spaced, spelled, which_text};
+ghost use Rattle.std.specs.Prelude.{◌≡◌, ◌≤◌, ◌++◌, ◌∷◌, [], decimal, length, true, IfOk, None, OnOk};
+ghost use Rattle.aoe_script.specs.Lines.{refusal, script_of};
+ghost use Rattle.aoe_script.specs.Print.{device_text, event_words, is_action, is_submission, optional_word, script_text, setup_words, spaced, spelled, which_text};
 
 use crate::event::{Event, Which};
+use crate::laws::printed_script_reads_back;
 use crate::script::Script;
 use crate::setup::{Name, Setup};
 use crate::spelling::{
     put, put_bytes, put_config_words, put_count, put_device, put_macs, put_masks_words, put_mode,
     put_named, put_pair, put_reserve_words, put_which,
 };
-use aoe_base::{Blob, Mac, NoMemory, TargetId};
+use aoe_base::{Blob, Mac, NoMemory, Ports, TargetId};
 use aoe_initiator::{Dir, MAX_DIRS};
 use arrayvec::ArrayVec;
 use std::alloc::Global;
@@ -33,6 +35,40 @@ fn put_asked(out: &mut Vec<u8>, word: &[u8], host: &Name, dev: &TargetId) -> Res
     put_device(out, dev)
 }
 
+/// Adds `shelf`, without its end.
+fn put_shelf(
+    out: &mut Vec<u8>,
+    name: &Name,
+    major: u64,
+    ports: &Ports,
+    mtu: u64,
+) -> Result<(), NoMemory>
+    ensures { OnOk result (out.new.items ≡ out.old.items ++ spelled (setup_words (Setup.Shelf name.now major ports.now mtu))) }
+{
+    put_named(out, b"shelf", name)?;
+    put_count(out, b"", major)?;
+    put(out, b" ")?;
+    put_macs(out, ports.as_slice())?;
+    put_count(out, b"", mtu)
+}
+
+/// Adds `host`, without its end.
+fn put_host(
+    out: &mut Vec<u8>,
+    name: &Name,
+    ports: &Ports,
+    room: Option<u64>,
+    dead: Option<u64>,
+) -> Result<(), NoMemory>
+    ensures { OnOk result (out.new.items ≡ out.old.items ++ spelled (setup_words (Setup.Host name.now ports.now room dead))) }
+{
+    put_named(out, b"host", name)?;
+    put(out, b" ")?;
+    put_macs(out, ports.as_slice())?;
+    put_optional(out, room)?;
+    put_optional(out, dead)
+}
+
 /// Adds a setup line, without its end.
 fn put_setup(out: &mut Vec<u8>, setup: &Setup) -> Result<(), NoMemory>
     ensures { OnOk result (out.new.items ≡ out.old.items ++ spelled (setup_words setup.now)) }
@@ -44,13 +80,7 @@ fn put_setup(out: &mut Vec<u8>, setup: &Setup) -> Result<(), NoMemory>
             major,
             ports,
             mtu,
-        } => {
-            put_named(out, b"shelf", name)?;
-            put_count(out, b"", *major)?;
-            put(out, b" ")?;
-            put_macs(out, ports.as_slice())?;
-            put_count(out, b"", *mtu)
-        }
+        } => put_shelf(out, name, *major, ports, *mtu),
         Setup::Slot {
             shelf,
             minor,
@@ -65,13 +95,7 @@ fn put_setup(out: &mut Vec<u8>, setup: &Setup) -> Result<(), NoMemory>
             ports,
             room,
             dead,
-        } => {
-            put_named(out, b"host", name)?;
-            put(out, b" ")?;
-            put_macs(out, ports.as_slice())?;
-            put_optional(out, *room)?;
-            put_optional(out, *dead)
-        }
+        } => put_host(out, name, ports, *room, *dead),
         Setup::Attach { host, shelf, minor } => {
             put_named(out, b"attach", host)?;
             put_named(out, b"", shelf)?;
@@ -173,26 +197,12 @@ fn put_call(
     put_count(out, b"", k)
 }
 
-/// Adds an event line, without its end.
-fn put_event(out: &mut Vec<u8>, event: &Event) -> Result<(), NoMemory>
+/// Adds an action on the lists of a device, without its end.
+fn put_action(out: &mut Vec<u8>, event: &Event) -> Result<(), NoMemory>
+    requires { is_action event.now ≡ true }
     ensures { OnOk result (out.new.items ≡ out.old.items ++ spelled (event_words event.now)) }
 {
     match event {
-        Event::Read {
-            host,
-            dev,
-            at,
-            count,
-        } => put_read(out, host, dev, *at, *count),
-        Event::Write {
-            host,
-            dev,
-            at,
-            count,
-            fill,
-        } => put_write(out, host, dev, *at, *count, *fill),
-        Event::Flush { host, dev } => put_asked(out, b"flush", host, dev),
-        Event::Identify { host, dev } => put_asked(out, b"identify", host, dev),
         Event::Config {
             host,
             dev,
@@ -211,6 +221,40 @@ fn put_event(out: &mut Vec<u8>, event: &Event) -> Result<(), NoMemory>
             rcmd,
             list,
         } => put_reserve(out, host, dev, *rcmd, list),
+        _ => unreachable!(),
+    }
+}
+
+/// Adds a submission, without its end.
+fn put_submission(out: &mut Vec<u8>, event: &Event) -> Result<(), NoMemory>
+    requires { is_submission event.now ≡ true }
+    ensures { OnOk result (out.new.items ≡ out.old.items ++ spelled (event_words event.now)) }
+{
+    match event {
+        Event::Read {
+            host,
+            dev,
+            at,
+            count,
+        } => put_read(out, host, dev, *at, *count),
+        Event::Write {
+            host,
+            dev,
+            at,
+            count,
+            fill,
+        } => put_write(out, host, dev, *at, *count, *fill),
+        Event::Flush { host, dev } => put_asked(out, b"flush", host, dev),
+        Event::Identify { host, dev } => put_asked(out, b"identify", host, dev),
+        _ => put_action(out, event),
+    }
+}
+
+/// Adds an event line, without its end.
+fn put_event(out: &mut Vec<u8>, event: &Event) -> Result<(), NoMemory>
+    ensures { OnOk result (out.new.items ≡ out.old.items ++ spelled (event_words event.now)) }
+{
+    match event {
         Event::Tick { ms } => put_count(out, b"tick", *ms),
         Event::Deliver { frame, station } => {
             put_count(out, b"deliver", *frame)?;
@@ -239,14 +283,18 @@ fn put_event(out: &mut Vec<u8>, event: &Event) -> Result<(), NoMemory>
             put(out, b" ")?;
             put_mode(out, *mode)
         }
+        _ => put_submission(out, event),
     }
 }
 
 /// The text of a script: one line for each setup line and each event, whose words single spaces
-/// part.
+/// part. It reads back, unless it is longer than a text may be.
 pub fn print_script(alloc: Global, script: &Script) -> Result<Blob, NoMemory>
-    ensures { IfOk result (λ text. text ≡ script_text script.now) }
+    ensures text { IfOk result (λ text. text ≡ script_text script.now) }
+    ensures reads { IfOk result (λ text. script_of text ≡ script.now) }
+    ensures accepted { IfOk result (λ text. length text ≤ 16777216 → refusal text ≡ None) }
 {
+    printed_script_reads_back();
     let mut out = Vec::new(alloc);
     'setups: for i in 0..script.setups() {
         put_setup(&mut out, script.setup(i))?;

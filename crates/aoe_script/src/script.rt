@@ -87,6 +87,7 @@ impl Script {
         if let Some(why) = setup.why(self.setups.as_slice(), behind) {
             return Err(ScriptRefusal::BadLine { line: number, why });
         }
+        setup.fields_fit();
         match self.setups.push(setup) {
             Ok(()) => Ok(()),
             Err(_) => Err(ScriptRefusal::NoMemory),
@@ -105,6 +106,7 @@ impl Script {
         if self.events.len() >= MAX_EVENTS {
             return Err(ScriptRefusal::TooMany);
         }
+        event.fields_fit();
         match self.events.push(event) {
             Ok(()) => Ok(()),
             Err(_) => Err(ScriptRefusal::NoMemory),

@@ -1,5 +1,15 @@
+mod ActLemmas
 mod AddsLemmas
+mod BuildHost
+mod BuildLists
+mod BuildShelf
+mod BuildStations
+mod GroupLemmas
+mod GroupSome
+mod HostActLemmas
 mod ReplayLemmas
 mod ScheduleKeeps
 mod ScheduleLemmas
+mod ShelfActLemmas
 mod TurnLemmas
+mod WorldLemmas

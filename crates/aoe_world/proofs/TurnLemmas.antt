@@ -1,5 +1,5 @@
 -- The turns of hosts, one after another.
-use Rattle.std.proofs.Common.{ℕ, zero, suc, ◌≡◌, ◌≢◌, ◌≤◌, ◌<◌, Bool, true, false, not, List, [], ◌∷◌, length, Option, Some, None, refl, sym, ap, subst, ◌∙◌, arith, inl, inr, take}
+use Rattle.std.proofs.Common.{ℕ, zero, suc, ◌≡◌, ◌≢◌, ◌≤◌, ◌<◌, ◌+◌, Bool, true, false, not, List, [], ◌∷◌, length, Option, Some, None, refl, sym, ap, subst, ◌∙◌, arith, inl, inr, take}
 use Rattle.std.specs.Prelude.{slice_get, slice_set}
 use Rattle.std.proofs.lemmas.Bool.{cases_lt}
 use Rattle.std.proofs.lemmas.Option.{same_Some, slice_get_within}
@@ -10,17 +10,21 @@ use Rattle.aoe_history.specs.Lawful.{IsLawful}
 use Rattle.aoe_history.specs.Setup.{is_called, shelf_of, HostSetup, Setup}
 use Rattle.aoe_hosts.proofs.Apart.{awaits-apart, settled-apart}
 use Rattle.aoe_hosts.specs.Host.{is_apart as is_apart_of_host, Awaits, IsSettled, NamedHost}
+use Rattle.aoe_net.specs.declared.refusal.NetRefusal.{NetRefusal}
+use Rattle.aoe_net.specs.declared.refusal.NetRefusal.TheVariants.{Full}
 use Rattle.aoe_racks.proofs.Apart.{serves-apart}
 use Rattle.aoe_racks.specs.Rack.{is_apart as is_apart_of_slots, MemoryRack, Serves}
+use Rattle.aoe_run.specs.Run.{MeetsFull}
 use Rattle.aoe_world.proofs.AddsLemmas.{adds-keep, turn-adds, Adds, TellsOf}
-use Rattle.aoe_world.specs.Stage.{AllServe, AllSettled, HadTurns, IsNetwork}
+use Rattle.aoe_world.specs.declared.stage.Stage.{Stage}
+use Rattle.aoe_world.specs.Stage.{AllServe, AllSettled, HadTurns, IsLeft, IsNetwork, IsReady, IsTurning}
 
 -- LISTS
 
-pub there : {X : Type 0} (xs : List X) (i : ℕ) → i < length xs → (x : X) × (slice_get xs i ≡ Some x)
-there [] i lt = absurd (omega (arith, lt))
-there (x ∷ xs) zero lt = (x, refl)
-there (x ∷ xs) (suc i) lt = there xs i (omega (arith, lt))
+pub there-is : {X : Type 0} (xs : List X) (i : ℕ) → i < length xs → (x : X) × (slice_get xs i ≡ Some x)
+there-is [] i lt = absurd (omega (arith, lt))
+there-is (x ∷ xs) zero lt = (x, refl)
+there-is (x ∷ xs) (suc i) lt = there-is xs i (omega (arith, lt))
 
 pub get-set : {X : Type 0} (xs : List X) (i j : ℕ) (y : X) → j ≢ i → slice_get (slice_set xs i y) j ≡ slice_get xs j
 get-set [] i j y apart = refl
@@ -124,7 +128,7 @@ module _ (s : Setup) (majors : List ℕ) (got : Option Got) (i : ℕ) (host : Ho
       settled-here : (j : ℕ) (other : HostSetup) (y : NamedHost) → j ≡ i → slice_get s.hosts j ≡ Some other → slice_get (slice_set hosts i x) j ≡ Some y → IsSettled s other m y
       settled-here j other y is ej ey =
           let eo : host ≡ other = same_Some host other (sym at ∙ ap (slice_get s.hosts) (sym is) ∙ ej) in
-          let z = there hosts i inside in
+          let z = there-is hosts i inside in
           let ex : x ≡ y = same_Some x y (sym (set-get hosts i z.0 x z.1) ∙ ap (slice_get (slice_set hosts i x)) (sym is) ∙ ey) in
           subst (λ (w : NamedHost). IsSettled s other m w) ex (subst (λ (o : HostSetup). IsSettled s o m x) eo done)
 
@@ -141,3 +145,79 @@ all-settled s got h k hosts e t = record {
   count = t.count;
   each = λ i host x eh ex. t.settled i host x eh ex (let w = slice_get_within hosts i x ex in omega (arith, w, e));
 }
+
+-- THE LOOP
+
+-- so many hosts had their turn
+pub record Going (old now : Stage) (i end : ℕ) : Type 0 where
+  pub upto : i ≤ end
+  pub count : length now.hosts.items ≡ end
+  pub frame : now.frame ≡ old.frame
+  pub turns : (s : Setup) (majors : List ℕ) (got : Option Got) → IsNetwork s majors → IsTurning s majors got 0 old
+      → Turns s (take i s.hosts) got old.run.entries now.run.entries × IsTurning s majors got i now
+
+pub going-none : (old : Stage) → Going old old 0 (length old.hosts.items)
+going-none old = record { upto = omega arith; count = refl; frame = refl; turns = λ s majors got net k. (refl, k) }
+
+-- one turn more
+pub going-on : (old now new : Stage) (i end : ℕ) (x y : NamedHost) → Going old now i end → slice_get now.hosts.items i ≡ Some x
+    → ((s : Setup) (host : HostSetup) (got : Option Got) → Awaits s host got now.run.entries x → IsLawful s now.run.entries
+    → Turn s host got now.run.entries new.run.entries × IsLawful s new.run.entries × IsSettled s host new.run.entries y)
+    → new.run.life ≡ now.run.life → new.shelves.items ≡ now.shelves.items → new.hosts.items ≡ slice_set now.hosts.items i y → new.frame ≡ now.frame → Going old new (i + 1) end
+going-on old now new i end x y g there turn life shelves hosts frame = subst (λ n. Going old new n end) (one-later i) record {
+  upto = (let w = slice_get_within now.hosts.items i x there in omega (arith, w, g.count));
+  count = ap length hosts ∙ length-set now.hosts.items i y ∙ g.count;
+  frame = frame ∙ g.frame;
+  turns = λ s majors got net k. more s majors got net (g.turns s majors got net k);
+}
+  where
+    one-later : (n : ℕ) → suc n ≡ n + 1
+    one-later n = omega arith
+
+    more : (s : Setup) (majors : List ℕ) (got : Option Got) → IsNetwork s majors → Turns s (take i s.hosts) got old.run.entries now.run.entries × IsTurning s majors got i now
+        → Turns s (take (suc i) s.hosts) got old.run.entries new.run.entries × IsTurning s majors got (suc i) new
+    more s majors got net (turns, k) =
+        let w = slice_get_within now.hosts.items i x there in
+        let at = there-is s.hosts i (omega (arith, w, k.hosts_are.count)) in
+        let t = turn s at.0 got (k.hosts_are.waiting i at.0 x at.1 there (omega arith)) k.lawful in
+        (turns-more s s.hosts i at.0 got old.run.entries now.run.entries new.run.entries at.1 turns t.0, record {
+          life = life ∙ k.life;
+          lawful = t.1;
+          hosts_are = subst (λ xs. HadTurns s got new.run.entries (suc i) xs) (sym hosts)
+              (one-more s majors got i at.0 y now.hosts.items now.run.entries new.run.entries net at.1 t.0 t.2 k.hosts_are);
+          shelves_are = subst (λ xs. AllServe s majors new.run.entries xs) (sym shelves)
+              (serve-on s majors got i at.0 y now.hosts.items now.run.entries new.run.entries net at.1 t.0 t.2 now.shelves.items k.shelves_are);
+        })
+
+-- the turn of a host came in part
+pub going-broken : (old now : Stage) (m : List Entry) (i end : ℕ) (x : NamedHost) (refusal : NetRefusal) → Going old now i end → slice_get now.hosts.items i ≡ Some x
+    → ((s : Setup) (host : HostSetup) (got : Option Got) → Awaits s host got now.run.entries x → IsLawful s now.run.entries
+    → TurnSome host got now.run.entries m × IsLawful s m)
+    → (refusal ≡ Full → (s : Setup) (host : HostSetup) (got : Option Got) → Awaits s host got now.run.entries x → IsLawful s now.run.entries → MeetsFull s m)
+    → (s : Setup) (majors : List ℕ) (got : Option Got) → IsNetwork s majors → IsTurning s majors got 0 old
+    → TurnsSome s s.hosts got old.run.entries m × IsLeft s refusal m
+going-broken old now m i end x refusal g there turn full s majors got net begun =
+    let gone = g.turns s majors got net begun in
+    let k = gone.1 in
+    let w = slice_get_within now.hosts.items i x there in
+    let at = there-is s.hosts i (omega (arith, w, k.hosts_are.count)) in
+    let waits = k.hosts_are.waiting i at.0 x at.1 there (omega arith) in
+    let t = turn s at.0 got waits k.lawful in
+    (turns-some s s.hosts i at.0 got old.run.entries now.run.entries m at.1 gone.0 t.0, record {
+      lawful = t.1;
+      full = λ e. full e s at.0 got waits k.lawful;
+    })
+
+-- all had their turn
+pub going-done : (old now : Stage) (i end : ℕ) → Going old now i end → end ≤ i → (s : Setup) (majors : List ℕ) (got : Option Got) → IsNetwork s majors → IsTurning s majors got 0 old
+    → Turns s s.hosts got old.run.entries now.run.entries × IsReady s majors now
+going-done old now i end g last s majors got net begun =
+    let is : i ≡ length now.hosts.items = omega (arith, g.upto, last, g.count) in
+    let gone = g.turns s majors got net begun in
+    let k = gone.1 in
+    (turns-all s s.hosts i got old.run.entries now.run.entries (is ∙ k.hosts_are.count) gone.0, record {
+      life = k.life;
+      lawful = k.lawful;
+      hosts_are = all-settled s got now.run.entries i now.hosts.items is k.hosts_are;
+      shelves_are = k.shelves_are;
+    })

@@ -1,3 +1,4 @@
+pub mod Build
 pub mod Schedule
 pub mod Stage
 pub mod World

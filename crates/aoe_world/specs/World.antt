@@ -1,17 +1,18 @@
 -- A world: a script's setup lines, and what came of the events so far.
-use Rattle.std.specs.Prelude.{ℕ, suc, ◌≡◌, ◌+◌, ◌*◌, ◌≤◌, List, length, Option, Some, None, IfSome, Result, Ok, Err}
+use Rattle.std.specs.Prelude.{ℕ, suc, ◌≡◌, ◌*◌, ◌≤◌, List, length, All, Option, None, IfSome, Result, Ok, Err}
 use Rattle.aoe_net.specs.declared.refusal.NetRefusal.{NetRefusal}
 use Rattle.aoe_net.specs.Network.{total_bytes}
 use Rattle.aoe_history.specs.declared.entry.Entry.{Entry}
 use Rattle.aoe_history.specs.Commands.{tickets}
 use Rattle.aoe_history.specs.Frames.{clock, frames, network}
 use Rattle.aoe_history.specs.Lawful.{IsLawful}
-use Rattle.aoe_history.specs.Setup.{HostSetup, Setup}
+use Rattle.aoe_history.specs.Setup.{HostSetup, IsSetup, Setup}
 use Rattle.aoe_layout.specs.Layout.{majors_of, setup_of, stations_of}
 use Rattle.aoe_run.specs.Run.{MeetsFull}
 use Rattle.aoe_script.specs.declared.event.Event.{Event}
 use Rattle.aoe_script.specs.declared.setup.Setup.{Setup as Line}
 use Rattle.aoe_script.specs.Lines.{IsScript, ScriptLines}
+use Rattle.aoe_transcript.specs.Print.{IsFromLine}
 use Rattle.aoe_world.specs.declared.place.Place.{Place}
 use Rattle.aoe_world.specs.declared.refusal.WorldRefusal.{WorldRefusal}
 use Rattle.aoe_world.specs.declared.refusal.WorldRefusal.TheVariants.{NetFull, NoMemory}
@@ -48,12 +49,18 @@ Runs (Ok u) lines e cursor behind old new =
 Runs (Err refusal) lines e cursor behind old new =
     ComesSome (setup_of lines) lines e cursor old.run.entries new.run.entries × IsLeft (setup_of lines) refusal new.run.entries
 
--- what holds of the fields of a world: as long as it isn't refused its stations are what the history says of them
-pub record IsWorld (script : ScriptLines) (places : List Place) (stage : Stage) (cursor events : ℕ) (refused : Option WorldRefusal) : Type 0 where
+-- what holds of a world as long as it goes on: its stations are what the history says of them, and neither its time nor its tickets run
+-- out within 50,000 events
+pub record IsGoing (script : ScriptLines) (places : List Place) (stage : Stage) (cursor events : ℕ) : Type 0 where
   pub staged : IsStaged script places stage cursor
-  pub lawful : IsLawful (setup_of script.setups) stage.run.entries
-  pub ready : refused ≡ None → IsReady (setup_of script.setups) (majors_of script.setups) stage
-  pub refusal : IfSome refused (IsRefusedAt (setup_of script.setups) stage.run.entries)
+  pub ready : IsReady (setup_of script.setups) (majors_of script.setups) stage
   pub time : clock stage.run.entries ≤ 10000000 * events
   pub tickets_are : (host : HostSetup) → tickets host stage.run.entries ≤ events
-  pub few : events ≤ 50000
+
+-- what holds of the fields of a world
+pub record IsWorld (script : ScriptLines) (places : List Place) (stage : Stage) (cursor events : ℕ) (refused : Option WorldRefusal) : Type 0 where
+  pub setup : IsSetup (setup_of script.setups)
+  pub lawful : IsLawful (setup_of script.setups) stage.run.entries
+  pub lines_are : All IsFromLine stage.run.entries
+  pub going : refused ≡ None → IsGoing script places stage cursor events
+  pub refusal : IfSome refused (IsRefusedAt (setup_of script.setups) stage.run.entries)

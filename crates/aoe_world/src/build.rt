@@ -1,10 +1,27 @@
 //! The stations that the setup lines of a script declare.
+ghost use Rattle.std.specs.Prelude.{ℕ, ◌≡◌, ◌+◌, ◌<◌, ◌≤◌, ◌++◌, ◌∷◌, [], List, length, map, slice_get, Option, None, Some, false, option_map, IfOk, IfSome, MatchOption, OnOk};
+ghost use Rattle.std.specs.List.{find};
+ghost use Rattle.std.specs.Option.{option_to_list};
+ghost use Rattle.aoe_base.specs.declared.address.Mac.{Mac};
+ghost use Rattle.aoe_history.specs.Setup.{shelf_of, SlotSetup};
+ghost use Rattle.aoe_hosts.specs.Host.{IsSettled};
+ghost use Rattle.aoe_initiator.specs.Host.{Matches};
+ghost use Rattle.aoe_initiator.specs.HostLog.{Event as LogEvent};
+ghost use Rattle.aoe_layout.specs.Layout.{about, attached_to, host_of, life_in, majors_of, setup_of, slot_named, slot_of_shelf, slot_with};
+ghost use Rattle.aoe_racks.specs.Rack.{Serves};
+ghost use Rattle.aoe_script.specs.Rules.{is_shelf_named, is_slot, same};
+ghost use Rattle.aoe_world.specs.Build.{CanAdd, CanAttach, IsBuilt};
+ghost use Rattle.aoe_world.specs.Stage.{IsNetwork, IsReady};
+ghost use Rattle.aoe_world.specs.World.{IsStaged};
+
 use crate::place::{At, Place};
 use crate::replay::Replay;
 use crate::stage::Stage;
 use aoe_base::{Millis, NoMemory, Ports, TargetId};
 use aoe_frame::Frame;
 use aoe_hosts::NamedHost;
+use aoe_initiator::Attached;
+use aoe_layout::layout_law;
 use aoe_racks::MemoryRack;
 use aoe_run::Run;
 use aoe_script::{Name, Script, Setup};
@@ -20,145 +37,290 @@ const ROOM: u64 = 4096;
 const DEAD: u64 = 180_000;
 
 /// The words of a shelf line behind its name.
-#[derive(Clone, Copy)]
-struct ShelfLine<'a> {
+#[derive(Drop)]
+struct ShelfLine {
     major: u64,
-    ports: &'a Ports,
+    ports: Ports,
     mtu: u64,
 }
 
-fn copy_of(ports: &Ports) -> Ports {
+/// The words of a slot line behind the name of its shelf.
+#[derive(Clone, Copy)]
+struct SlotLine {
+    minor: u64,
+    sectors: u64,
+}
+
+/// The words of a host line.
+#[derive(Drop)]
+struct HostLine {
+    name: Name,
+    ports: Ports,
+    room: Option<u64>,
+    dead: Option<u64>,
+}
+
+fn name_of(name: &Name) -> Name
+    ensures { result ≡ name.now }
+{
+    let mut copy = Name::new();
+    let _ = copy.try_extend_from_slice(name);
+    copy
+}
+
+fn copy_of(ports: &Ports) -> Ports
+    ensures { result ≡ ports.now }
+{
     let mut copy = Ports::new();
     let _ = copy.try_extend_from_slice(ports);
     copy
 }
 
+/// Whether two names are one.
+fn same(a: &Name, b: &Name) -> bool
+    ensures { result ≡ same a.now b.now }
+{
+    a.as_slice() == b.as_slice()
+}
+
+/// How long a frame can be handed over, where the line says it.
+fn life_in(line: &Setup) -> Option<u64>
+    ensures { result ≡ life_in line.now }
+{
+    match line {
+        Setup::Life { ms } => Some(*ms),
+        _ => None,
+    }
+}
+
 /// How long a frame can be handed over.
-fn life_of(script: &Script) -> Millis {
+fn life_of(script: &Script) -> Millis
+    ensures { result.0 ≡ (setup_of script.now.setups).life }
+{
     'lines: for i in 0..script.setups() {
-        match script.setup(i) {
-            Setup::Life { ms } => return Millis(*ms),
-            _ => {}
+        if let Some(ms) = life_in(script.setup(i)) {
+            return Millis(ms);
         }
     }
     Millis(LIFE)
 }
 
-/// The shelf line with a name.
-fn shelf_named<'a>(script: &'a Script, wanted: &Name) -> Option<ShelfLine<'a>> {
-    'lines: for i in 0..script.setups() {
-        match script.setup(i) {
-            Setup::Shelf {
-                name,
-                major,
-                ports,
-                mtu,
-            } if *name == *wanted => {
-                return Some(ShelfLine {
+/// What a line says of the shelf with a name.
+fn shelf_in(line: &Setup, wanted: &Name) -> Option<ShelfLine>
+    ensures { MatchOption result (is_shelf_named wanted.now line.now ≡ false) (λ x. line.now ≡ Setup.Shelf wanted.now x.major x.ports x.mtu) }
+{
+    match line {
+        Setup::Shelf {
+            name,
+            major,
+            ports,
+            mtu,
+        } => {
+            if same(name, wanted) {
+                Some(ShelfLine {
                     major: *major,
-                    ports,
+                    ports: copy_of(ports),
                     mtu: *mtu,
-                });
+                })
+            } else {
+                None
             }
-            _ => {}
+        }
+        _ => None,
+    }
+}
+
+/// What the first line of the shelf with a name says.
+fn shelf_named(script: &Script, wanted: &Name) -> Option<ShelfLine>
+    ensures found { find (is_shelf_named wanted.now) script.now.setups ≡ option_map (λ x. Setup.Shelf wanted.now x.major x.ports x.mtu) result }
+    ensures words { IfSome result (λ x. (x.major ≤ 65534) × (1500 ≤ x.mtu) × (x.mtu ≤ 9000)) }
+{
+    'lines: for i in 0..script.setups() {
+        if let Some(line) = shelf_in(script.setup(i), wanted) {
+            return Some(line);
         }
     }
     None
 }
 
+/// How many sectors a line gives the slot of a shelf.
+fn sectors_in(line: &Setup, wanted: &Name, number: u64) -> Option<u64>
+    ensures { MatchOption result (is_slot wanted.now number line.now ≡ false) (λ n. line.now ≡ Setup.Slot wanted.now number n) }
+{
+    match line {
+        Setup::Slot {
+            shelf,
+            minor,
+            sectors,
+        } => {
+            if *minor == number && same(shelf, wanted) {
+                Some(*sectors)
+            } else {
+                None
+            }
+        }
+        _ => None,
+    }
+}
+
 /// How many sectors the slot of a shelf has.
-fn sectors_of(script: &Script, wanted: &Name, number: u64) -> Option<u64> {
+fn sectors_of(script: &Script, wanted: &Name, number: u64) -> Option<u64>
+    ensures found { find (is_slot wanted.now number) script.now.setups ≡ option_map (λ n. Setup.Slot wanted.now number n) result }
+    ensures number { IfSome result (λ n. number ≤ 254) }
+{
     'lines: for i in 0..script.setups() {
-        match script.setup(i) {
-            Setup::Slot {
-                shelf,
-                minor,
-                sectors,
-            } if *minor == number && *shelf == *wanted => return Some(*sectors),
-            _ => {}
+        if let Some(sectors) = sectors_in(script.setup(i), wanted, number) {
+            return Some(sectors);
         }
     }
     None
+}
+
+/// What a host knows of the slot of a shelf.
+fn known_of(script: &Script, shelf: &Name, minor: u64) -> Option<Attached>
+    ensures { result ≡ option_map about (slot_named script.now.setups shelf.now minor) }
+{
+    let line = shelf_named(script, shelf)?;
+    let sectors = sectors_of(script, shelf, minor)?;
+    Some(Attached {
+        id: TargetId {
+            major: line.major as u16,
+            minor: minor as u8,
+        },
+        remotes: line.ports,
+        total: sectors,
+        max: (line.mtu as u32 - 36) / 512,
+    })
+}
+
+/// What a host knows of the slot that a line attaches it to.
+fn attached_to(script: &Script, host: &Name, line: &Setup) -> Option<Attached>
+    ensures { result ≡ attached_to script.now.setups host.now line.now }
+{
+    match line {
+        Setup::Attach {
+            host: other,
+            shelf,
+            minor,
+        } => {
+            if same(other, host) {
+                known_of(script, shelf, *minor)
+            } else {
+                None
+            }
+        }
+        _ => None,
+    }
+}
+
+/// Attaches a host to a device, where there is one.
+fn attach(host: &mut NamedHost, known: Option<Attached>) -> Result<(), NoMemory>
+    requires can { IfSome known (λ d. CanAttach d host.old.core.devices) }
+    ensures devices { OnOk result (map (λ d. d.about) host.new.core.devices ≡ map (λ d. d.about) host.old.core.devices ++ option_to_list known) }
+    ensures rest { OnOk result (host.new ≡ record host.old { core = record host.old.core { devices = host.new.core.devices } }) }
+    ensures matches { OnOk result ((log : List LogEvent) → Matches log host.old.core → Matches log host.new.core) }
+{
+    match known {
+        Some(d) => host.attach(d.id, &d.remotes, d.total, d.max),
+        None => Ok(()),
+    }
+}
+
+fn host_line(name: &Name, ports: &Ports, room: Option<u64>, dead: Option<u64>) -> HostLine
+    ensures { result ≡ record { name = name.now; ports = ports.now; room = room; dead = dead } }
+{
+    HostLine {
+        name: name_of(name),
+        ports: copy_of(ports),
+        room,
+        dead,
+    }
+}
+
+/// The host of a line, attached to its devices.
+fn build_host(alloc: Global, script: &Script, line: HostLine) -> Result<NamedHost, NoMemory>
+    requires { (k : ℕ) × (slice_get script.now.setups k ≡ Some (Setup.Host line.name line.ports line.room line.dead)) }
+    ensures { IfOk result (λ x. IsSettled (setup_of script.now.setups) (host_of script.now.setups line.name line.ports.items line.room line.dead) [] x) }
+{
+    let count = script.setups();
+    let life = life_of(script);
+    let room = line.room.unwrap_or(ROOM) as u32;
+    let dead = Millis(line.dead.unwrap_or(DEAD));
+    let mut host = NamedHost::new(alloc, name_of(&line.name), &line.ports, life, room, dead)?;
+    'lines: for i in 0..count {
+        attach(&mut host, attached_to(script, &line.name, script.setup(i)))?;
+    }
+    Ok(host)
+}
+
+/// What a line says of a slot of the shelf with a name.
+fn slot_in(line: &Setup, wanted: &Name) -> Option<SlotLine>
+    ensures line { IfSome result (λ x. line.now ≡ Setup.Slot wanted.now x.minor x.sectors) }
+    ensures slot { (major : ℕ) (ports : List Mac) (mtu : ℕ) → slot_of_shelf wanted.now major ports mtu line.now ≡ option_map (λ x. slot_with major ports mtu x.minor x.sectors) result }
+{
+    match line {
+        Setup::Slot {
+            shelf,
+            minor,
+            sectors,
+        } => {
+            if same(shelf, wanted) {
+                Some(SlotLine {
+                    minor: *minor,
+                    sectors: *sectors,
+                })
+            } else {
+                None
+            }
+        }
+        _ => None,
+    }
+}
+
+/// Adds a slot to a shelf, where there is one.
+fn add_slot(shelf: &mut MemoryRack, alloc: Global, slot: Option<SlotLine>) -> Result<(), NoMemory>
+    requires can { IfSome slot (λ x. CanAdd x.minor x.sectors shelf.old) }
+    ensures serves { OnOk result ((slots : List SlotSetup) → Serves slots [] shelf.old → Serves (slots
+        ++ option_to_list (option_map (λ x. slot_with shelf.old.shelf.major shelf.old.shelf.ports shelf.old.shelf.mtu x.minor x.sectors) slot)) [] shelf.new) }
+    ensures stations { OnOk result (map (λ t. t.station) shelf.new.shelf.targets ≡ map (λ t. t.station) shelf.old.shelf.targets
+        ++ map (λ s. s.station) (option_to_list (option_map (λ x. slot_with shelf.old.shelf.major shelf.old.shelf.ports shelf.old.shelf.mtu x.minor x.sectors) slot))) }
+    ensures rest { OnOk result (shelf.new.shelf ≡ record shelf.old.shelf { targets = shelf.new.shelf.targets }) }
+{
+    match slot {
+        Some(x) => shelf.add(alloc, x.minor as u8, x.sectors),
+        None => Ok(()),
+    }
 }
 
 /// The shelf of a line, with its slots.
 fn build_shelf(
     alloc: Global,
     script: &Script,
-    wanted: &Name,
-    line: ShelfLine<'_>,
-) -> Result<MemoryRack, NoMemory> {
-    let ports = copy_of(line.ports);
+    name: &Name,
+    line: ShelfLine,
+) -> Result<MemoryRack, NoMemory>
+    requires { (k : ℕ) × (slice_get script.now.setups k ≡ Some (Setup.Shelf name.now line.major line.ports line.mtu)) }
+    ensures number { IfOk result (λ x. x.shelf.major ≡ line.major) }
+    ensures serves { IfOk result (λ x. Serves (shelf_of (setup_of script.now.setups) line.major) [] x) }
+{
+    let count = script.setups();
+    let ports = copy_of(&line.ports);
     let mut shelf = MemoryRack::new(alloc, line.major as u16, ports, line.mtu as u32)?;
-    'lines: for i in 0..script.setups() {
-        match script.setup(i) {
-            Setup::Slot {
-                shelf: name,
-                minor,
-                sectors,
-            } if *name == *wanted => shelf.add(alloc, *minor as u8, *sectors)?,
-            _ => {}
-        }
+    'lines: for i in 0..count {
+        add_slot(&mut shelf, alloc, slot_in(script.setup(i), name))?;
     }
     Ok(shelf)
 }
 
-/// Attaches a host to the slot of a shelf.
-fn attach(
-    host: &mut NamedHost,
-    script: &Script,
-    shelf: &Name,
-    minor: u64,
-) -> Result<(), NoMemory> {
-    let Some(line) = shelf_named(script, shelf) else {
-        return Ok(());
-    };
-    let Some(sectors) = sectors_of(script, shelf, minor) else {
-        return Ok(());
-    };
-    let dev = TargetId {
-        major: line.major as u16,
-        minor: minor as u8,
-    };
-    let max = (line.mtu as u32 - 36) / 512;
-    host.attach(dev, line.ports, sectors, max)
-}
-
-/// The host with a name, attached to its devices.
-fn build_host(
-    alloc: Global,
-    script: &Script,
-    wanted: &Name,
-    ports: &Ports,
-    room: u64,
-    dead: u64,
-) -> Result<NamedHost, NoMemory> {
-    let name: Result<Name, _> = wanted.clone();
-    let Ok(name) = name else {
-        return Err(NoMemory);
-    };
-    let life = life_of(script);
-    let mut host = NamedHost::new(alloc, name, ports, life, room as u32, Millis(dead))?;
-    'lines: for i in 0..script.setups() {
-        match script.setup(i) {
-            Setup::Attach {
-                host: name,
-                shelf,
-                minor,
-            } if *name == *wanted => attach(&mut host, script, shelf, *minor)?,
-            _ => {}
-        }
-    }
-    Ok(host)
-}
-
 impl Replay<'_> {
     /// Takes down where a station stands.
-    fn place(&mut self, name: &Name, ports: &Ports, at: At) -> Result<(), NoMemory> {
-        let copy: Result<Name, _> = name.clone();
-        let Ok(name) = copy else {
-            return Err(NoMemory);
-        };
+    fn place(&mut self, name: &Name, ports: &Ports, at: At) -> Result<(), NoMemory>
+        ensures places { OnOk result (self.new.places.items ≡ self.old.places.items ++ record { name = name.now; ports = ports.now; at = at } ∷ []) }
+        ensures stage { self.new.stage ≡ self.old.stage }
+        ensures script { self.new.script ≡ self.old.script }
+        ensures cursor { self.new.cursor ≡ self.old.cursor }
+    {
+        let name = name_of(name);
         let ports = copy_of(ports);
         match self.places.push(Place { name, ports, at }) {
             Ok(()) => Ok(()),
@@ -166,7 +328,16 @@ impl Replay<'_> {
         }
     }
 
-    fn add_shelf(&mut self, name: &Name, shelf: MemoryRack, ports: &Ports) -> Result<(), NoMemory> {
+    /// Adds a shelf behind the others.
+    fn add_shelf(&mut self, name: &Name, ports: &Ports, shelf: MemoryRack) -> Result<(), NoMemory>
+        ensures shelves { OnOk result (self.new.stage.shelves.items ≡ self.old.stage.shelves.items ++ shelf ∷ []) }
+        ensures places { OnOk result (self.new.places.items ≡ self.old.places.items
+            ++ record { name = name.now; ports = ports.now; at = At.Shelf (length self.old.stage.shelves.items) } ∷ []) }
+        ensures hosts { self.new.stage.hosts ≡ self.old.stage.hosts }
+        ensures run { self.new.stage.run ≡ self.old.stage.run }
+        ensures script { self.new.script ≡ self.old.script }
+        ensures cursor { self.new.cursor ≡ self.old.cursor }
+    {
         let at = At::Shelf(self.stage.shelves.len());
         match self.stage.shelves.push(shelf) {
             Ok(()) => self.place(name, ports, at),
@@ -174,7 +345,16 @@ impl Replay<'_> {
         }
     }
 
-    fn add_host(&mut self, name: &Name, host: NamedHost, ports: &Ports) -> Result<(), NoMemory> {
+    /// Adds a host behind the others.
+    fn add_host(&mut self, name: &Name, ports: &Ports, host: NamedHost) -> Result<(), NoMemory>
+        ensures hosts { OnOk result (self.new.stage.hosts.items ≡ self.old.stage.hosts.items ++ host ∷ []) }
+        ensures places { OnOk result (self.new.places.items ≡ self.old.places.items
+            ++ record { name = name.now; ports = ports.now; at = At.Host (length self.old.stage.hosts.items) } ∷ []) }
+        ensures shelves { self.new.stage.shelves ≡ self.old.stage.shelves }
+        ensures run { self.new.stage.run ≡ self.old.stage.run }
+        ensures script { self.new.script ≡ self.old.script }
+        ensures cursor { self.new.cursor ≡ self.old.cursor }
+    {
         let at = At::Host(self.stage.hosts.len());
         match self.stage.hosts.push(host) {
             Ok(()) => self.place(name, ports, at),
@@ -182,9 +362,16 @@ impl Replay<'_> {
         }
     }
 
-    /// Adds the station of a line, where the line declares one.
-    fn declare(&mut self, alloc: Global, line: &Setup) -> Result<(), NoMemory> {
-        match line {
+    /// Builds the station of a line, where it declares one.
+    fn build(&mut self, alloc: Global, i: usize) -> Result<(), NoMemory>
+        requires there { i < length self.old.script.now.setups }
+        requires built { IsBuilt self.old.script.now.setups i self.old.stage self.old.places.items }
+        ensures built { OnOk result (IsBuilt self.old.script.now.setups (i + 1) self.new.stage self.new.places.items) }
+        ensures script { self.new.script ≡ self.old.script }
+        ensures cursor { self.new.cursor ≡ self.old.cursor }
+    {
+        let script = self.script;
+        match script.setup(i) {
             Setup::Shelf {
                 name,
                 major,
@@ -193,11 +380,11 @@ impl Replay<'_> {
             } => {
                 let line = ShelfLine {
                     major: *major,
-                    ports,
+                    ports: copy_of(ports),
                     mtu: *mtu,
                 };
-                let shelf = build_shelf(alloc, self.script, name, line)?;
-                self.add_shelf(name, shelf, ports)
+                let shelf = build_shelf(alloc, script, name, line)?;
+                self.add_shelf(name, ports, shelf)
             }
             Setup::Host {
                 name,
@@ -205,10 +392,9 @@ impl Replay<'_> {
                 room,
                 dead,
             } => {
-                let room = room.unwrap_or(ROOM);
-                let dead = dead.unwrap_or(DEAD);
-                let host = build_host(alloc, self.script, name, ports, room, dead)?;
-                self.add_host(name, host, ports)
+                let line = host_line(name, ports, *room, *dead);
+                let host = build_host(alloc, script, line)?;
+                self.add_host(name, ports, host)
             }
             Setup::Life { .. } | Setup::Slot { .. } | Setup::Attach { .. } => Ok(()),
         }
@@ -216,8 +402,12 @@ impl Replay<'_> {
 }
 
 impl<'a> Replay<'a> {
-    /// The stations of a script, before anything happens.
-    pub(crate) fn new(alloc: Global, script: &'a Script) -> Result<Replay<'a>, NoMemory> {
+    /// No station, before anything happens.
+    fn empty(alloc: Global, script: &'a Script) -> Replay<'a>
+        ensures built { IsBuilt script.now.setups 0 result.stage result.places.items }
+        ensures script { result.script.now ≡ script.now }
+        ensures cursor { result.cursor ≡ 1 }
+    {
         let stage = Stage {
             run: Run::new(alloc, life_of(script)),
             shelves: Vec::new(alloc),
@@ -225,14 +415,28 @@ impl<'a> Replay<'a> {
             frame: Frame::new(),
             made: Frame::new(),
         };
-        let mut replay = Replay {
+        Replay {
             script,
             stage,
             places: Vec::new(alloc),
             cursor: 1,
-        };
-        'lines: for i in 0..script.setups() {
-            replay.declare(alloc, script.setup(i))?;
+        }
+    }
+
+    /// The stations of a script, before anything happens.
+    pub(crate) fn new(alloc: Global, script: &'a Script) -> Result<Replay<'a>, NoMemory>
+        ensures network { IsNetwork (setup_of script.now.setups) (majors_of script.now.setups) }
+        ensures staged { IfOk result (λ r. IsStaged script.now r.places.items r.stage r.cursor) }
+        ensures ready { IfOk result (λ r. IsReady (setup_of script.now.setups) (majors_of script.now.setups) r.stage) }
+        ensures entries { IfOk result (λ r. r.stage.run.entries ≡ []) }
+        ensures cursor { IfOk result (λ r. r.cursor ≡ 1) }
+        ensures script { IfOk result (λ r. r.script.now ≡ script.now) }
+    {
+        layout_law();
+        let count = script.setups();
+        let mut replay = Replay::empty(alloc, script);
+        'lines: for i in 0..count {
+            replay.build(alloc, i)?;
         }
         Ok(replay)
     }

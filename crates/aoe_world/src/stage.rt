@@ -40,8 +40,9 @@ pub(crate) struct Stage {
 impl Stage {
     /// The turn of each host in their order.
     fn settle(&mut self) -> Result<(), NetRefusal>
-        ensures { (s : Setup) (majors : List ℕ) (got : Option Got) → IsNetwork s majors → IsTurning s majors got 0 self.old
+        ensures settles { (s : Setup) (majors : List ℕ) (got : Option Got) → IsNetwork s majors → IsTurning s majors got 0 self.old
             → Settles result s majors got self.old self.new }
+        ensures frame { self.new.frame ≡ self.old.frame }
     {
         'hosts: for i in 0..self.hosts.len() {
             match self.hosts[i].turn(&mut self.run, &mut self.made) {

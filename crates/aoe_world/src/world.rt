@@ -1,21 +1,39 @@
 //! A world: a run of a script's events through its shelves and its hosts.
-ghost use Rattle.std.specs.Prelude.{◌≡◌, ◌+◌, ◌<◌, [], length, None, Some, Err, IfErr, IfNone, IfOk, IfSome, OnErr, OnOk};
+ghost use Rattle.std.specs.Prelude.{◌≡◌, ◌+◌, ◌<◌, [], All, None, Some, Err, IfErr, IfNone, IfOk, IfSome, OnErr, OnOk};
 ghost use Rattle.aoe_history.specs.Lawful.{IsLawful};
 ghost use Rattle.aoe_history.specs.Reading.{HasReadLaw};
-ghost use Rattle.aoe_history.specs.Setup.{IsSetup};
+ghost use Rattle.aoe_history.specs.Setup.{IsSetup, Setup};
 ghost use Rattle.aoe_layout.specs.Layout.{setup_of};
 ghost use Rattle.aoe_script.specs.Rules.{event_why};
+ghost use Rattle.aoe_transcript.specs.Print.{CanPrint};
 ghost use Rattle.aoe_world.specs.Schedule.{Comes, ComesSome};
+ghost use Rattle.aoe_world.specs.Stage.{IsLeft};
 ghost use Rattle.aoe_world.specs.World.{IsRefusedAt};
 
 use crate::refusal::WorldRefusal;
 use crate::replay::Replay;
 use aoe_base::NoMemory;
 use aoe_history::{History, read_law};
+use aoe_layout::events_law;
 use aoe_net::NetRefusal;
+use aoe_run::Run;
 use aoe_script::{Event, Script};
+use aoe_transcript::lawful_histories_print;
 use std::alloc::Global;
 use std::marker::Model;
+
+/// Why a world goes no further, where its run does.
+fn refusal_of(run: &Run, refusal: NetRefusal) -> WorldRefusal
+    ensures { (s : Setup) → IsLeft s refusal run.now.entries → IsRefusedAt s run.now.entries result }
+{
+    match refusal {
+        NetRefusal::NoMemory => WorldRefusal::NoMemory,
+        NetRefusal::Full => WorldRefusal::NetFull {
+            frames: run.frames(),
+            bytes: run.total_bytes(),
+        },
+    }
+}
 
 /// A run of the events of a script, each after the one before it, through shelves with disks in
 /// memory and hosts.
@@ -70,25 +88,27 @@ impl World<'_> {
         self.events
     }
 
-    /// What happened.
+    /// What happened. Each line of it can be printed.
     pub fn history(&self) -> &History
         ensures history { result.now ≡ self.now.entries }
         ensures lawful { IsLawful (setup_of self.now.lines) self.now.entries }
+        ensures reading { HasReadLaw (setup_of self.now.lines) self.now.entries }
+        ensures printable { All CanPrint self.now.entries }
     {
+        read_law();
+        lawful_histories_print();
         self.replay.stage.run.history()
     }
 
-    fn refused(&self, refusal: NetRefusal) -> WorldRefusal {
-        match refusal {
-            NetRefusal::NoMemory => WorldRefusal::NoMemory,
-            NetRefusal::Full => WorldRefusal::NetFull {
-                frames: self.replay.stage.run.frames(),
-                bytes: self.replay.stage.run.total_bytes(),
-            },
-        }
+    /// Why it goes no further, if it doesn't.
+    pub fn refused(&self) -> Option<WorldRefusal>
+        ensures { result ≡ self.now.refused }
+    {
+        self.refusal
     }
 
-    /// Runs an event. After a refusal every step answers that refusal, and nothing more happens.
+    /// Runs an event. After a refusal every step answers that refusal, and nothing more happens. The
+    /// event that was refused isn't counted, and where the cursor stands behind it doesn't matter.
     pub fn step(&mut self, event: &Event) -> Result<(), WorldRefusal>
         requires good { event_why self.old.lines event.now ≡ None }
         requires few { self.old.events < 50000 }
@@ -99,9 +119,11 @@ impl World<'_> {
         ensures lawful { IsLawful (setup_of self.new.lines) self.new.entries }
         ensures reading { HasReadLaw (setup_of self.new.lines) self.new.entries }
         ensures events { OnOk result ((self.new.events ≡ self.old.events + 1) × (self.new.refused ≡ None)) }
+        ensures uncounted { OnErr result (self.new.events ≡ self.old.events) }
         ensures lines { self.new.lines ≡ self.old.lines }
     {
         read_law();
+        events_law();
         if let Some(refusal) = self.refusal {
             return Err(refusal);
         }
@@ -111,7 +133,7 @@ impl World<'_> {
                 Ok(())
             }
             Err(refusal) => {
-                let refusal = self.refused(refusal);
+                let refusal = refusal_of(&self.replay.stage.run, refusal);
                 self.refusal = Some(refusal);
                 Err(refusal)
             }

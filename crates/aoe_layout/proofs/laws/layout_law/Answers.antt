@@ -7,7 +7,7 @@ use Rattle.aoe_layout.proofs.StationLemmas.{has-stations}
 use Rattle.aoe_layout.proofs.laws.layout_law.Goals as goal
 
 pub returns-clause-setup : goal.returns-clause-setup
-returns-clause-setup c script is macs = is-setup script.setups (are-good script is) macs
+returns-clause-setup c script is = is-setup script.setups (are-good script is) is.setups_fit
 
 pub returns-clause-hosts : goal.returns-clause-hosts
 returns-clause-hosts c script is = has-hosts script.setups (are-good script is)

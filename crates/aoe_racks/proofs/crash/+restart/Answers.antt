@@ -1,12 +1,11 @@
-use Rattle.std.proofs.Common.{◌≡◌, ◌<◌, ◌++◌, ◌∷◌, [], List, length, refl, sym, ap, subst, ◌∙◌, arith}
+use Rattle.std.proofs.Common.{◌≡◌, length, sym, ap, subst, ◌∙◌, arith}
 use Rattle.aoe_disk.specs.Memory.{contents_of, Memory}
 use Rattle.aoe_disk.specs.State.{CanLeave}
 use Rattle.aoe_keep.specs.Keep.{Kept}
 use Rattle.aoe_shelf.specs.Shelf.{Rack}
-use Rattle.aoe_target.specs.Mounted.{Mounted}
-use Rattle.aoe_racks.specs.Crash.{Loses, RestartEach}
+use Rattle.aoe_racks.specs.Crash.{Loses}
 use Rattle.aoe_racks.specs.Rack.{AreTargets}
-use Rattle.aoe_racks.proofs.FrontLemmas.{front_apart, front_targets, last_target, length_last, restart_minor, restart_more}
+use Rattle.aoe_racks.proofs.FrontLemmas.{front_apart, front_targets, last_target, length_last, restart_last, restart_minor}
 use Rattle.aoe_racks.proofs.SeatLemmas.{last_name, not_refused, seated, seated_again}
 use Rattle.aoe_racks.proofs.crash.+restart.Goals as goal
 
@@ -40,9 +39,9 @@ seat-requires-clause-taken t c =
     let name = last_name shelf.targets front k.0 c.in-Some.slot c.id-minor.result k.1 (omega (arith, c.count.ensures.count, c.in-Some.ensures.1)) c.id-minor.ensures in
     let size = ap length k.1 ∙ length_last front k.0 in
     not_refused c.restart.new.shelf.targets c.id-minor.result.minor
-        (omega (arith, size, c.restart.ensures.restarts.count, c.count.ensures.count, c.count.ensures.bound))
-        (restart_minor c.args.how front c.restart.new.shelf.targets c.id-minor.result.minor c.restart.ensures.restarts
-            (λ i u at e. front_apart shelf front k.0 k.1 c.requires i u at (e ∙ ap (λ z. z.minor) name)))
+    (omega (arith, size, c.restart.ensures.restarts.count, c.count.ensures.count, c.count.ensures.bound))
+    (restart_minor c.args.how front c.restart.new.shelf.targets c.id-minor.result.minor c.restart.ensures.restarts
+    (λ i u at e. front_apart shelf front k.0 k.1 c.requires i u at (e ∙ ap (λ z. z.minor) name)))
 
 pub returns-clause-restarts : goal.returns-clause-restarts
 returns-clause-restarts t c =
@@ -55,8 +54,5 @@ returns-clause-restarts t c =
     let disk : c.close.result ≡ k.0.keep.disk = c.close.ensures ∙ ap (λ (p : Memory × Kept Memory). p.1.disk) k.2 in
     let store : c.close-2.result ≡ k.0.store = c.close-2.ensures ∙ ap (λ (p : Memory × Kept Memory). p.0) k.2 in
     let one = seated_again c.args.how shelf r k.0 c.id-minor.result.minor c.lose-2.result c.lose.result c.mount-keep.result (last_target shelf front k.0 k.1 c.requires) rest (ap (λ z. z.minor) name)
-        (subst (λ (m : Memory). Loses c.args.how m c.lose-2.result) store c.lose-2.ensures) (subst (λ (m : Memory). Loses c.args.how m c.lose.result) disk c.lose.ensures) c.mount-keep.ensures in
-    let new = seated r.major r.ports r.mtu c.id-minor.result.minor c.lose-2.result c.mount-keep.result in
-    subst (λ (l : List (Mounted Memory Memory)). RestartEach c.args.how shelf.targets l) (sym (ap (λ (z : Rack Memory Memory). z.targets) c.seat.ensures))
-        (subst (λ (l : List (Mounted Memory Memory)). RestartEach c.args.how l (r.targets ++ new ∷ [])) (sym k.1)
-            (restart_more c.args.how front r.targets k.0 new c.restart.ensures.restarts one))
+    (subst (λ (m : Memory). Loses c.args.how m c.lose-2.result) store c.lose-2.ensures) (subst (λ (m : Memory). Loses c.args.how m c.lose.result) disk c.lose.ensures) c.mount-keep.ensures in
+    restart_last c.args.how shelf.targets front k.0 (seated r.major r.ports r.mtu c.id-minor.result.minor c.lose-2.result c.mount-keep.result) r c.seat.new.shelf k.1 c.seat.ensures c.restart.ensures.restarts one

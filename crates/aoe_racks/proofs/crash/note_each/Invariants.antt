@@ -1,4 +1,4 @@
-use Rattle.std.proofs.Common.{◌≡◌, ◌≤◌, length, take}
+use Rattle.std.proofs.Common.{◌≡◌, take}
 use Rattle.aoe_racks.specs.Crash.{with_crashes}
 use Rattle.aoe_racks.proofs.crash.note_each.Given as goal
 

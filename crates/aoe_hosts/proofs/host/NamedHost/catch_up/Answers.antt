@@ -1,11 +1,8 @@
-use Rattle.std.proofs.Common.{ℕ, ◌≡◌, List, [], Option, sym, ap, subst, ◌∙◌}
+use Rattle.std.proofs.Common.{ℕ, List, sym, ap, subst, ◌∙◌}
 use Rattle.arrayvec.specs.ArrayVec.{ArrayVec}
-use Rattle.aoe_history.specs.Groups.{Got}
-use Rattle.aoe_history.specs.Lawful.{IsLawful}
-use Rattle.aoe_history.specs.Setup.{HostSetup, Setup}
 use Rattle.aoe_initiator.specs.declared.outcome.Done.{Done}
 use Rattle.aoe_hosts.specs.Host.{Awaits, NamedHost}
-use Rattle.aoe_hosts.specs.Turns.{HasBegun, HasTold, Notes}
+use Rattle.aoe_hosts.specs.Turns.{HasBegun}
 use Rattle.aoe_hosts.proofs.IdLemmas.{ids-same}
 use Rattle.aoe_hosts.proofs.TellLemmas.{begun, by-err, by-ok, told-all, Advanced}
 use Rattle.aoe_hosts.proofs.host.NamedHost.catch_up.Goals as goal

@@ -1,4 +1,4 @@
-use Rattle.std.proofs.Common.{ℕ, ◌≡◌, ◌<◌, arith, rules, List, [], Option, refl, sym, ap, subst, ◌∙◌}
+use Rattle.std.proofs.Common.{ℕ, ◌≡◌, arith, List, refl, sym, ap, subst, ◌∙◌}
 use Rattle.arrayvec.specs.ArrayVec.{ArrayVec}
 use Rattle.aoe_initiator.specs.declared.step.Sent.{Sent}
 use Rattle.aoe_net.specs.Network.{IsFull}
@@ -6,8 +6,6 @@ use Rattle.aoe_history.specs.declared.entry.Entry.TheVariants.{Sent as Happened}
 use Rattle.aoe_history.specs.Frames.{next_number}
 use Rattle.aoe_history.specs.Groups.SendsSome.{sends_none}
 use Rattle.aoe_run.specs.Run.{network_of, with_entry, MeetsFull, Recorded}
-use Rattle.aoe_history.specs.Lawful.{IsLawful}
-use Rattle.aoe_history.specs.Setup.{HostSetup, Setup}
 use Rattle.aoe_hosts.specs.Host.{IsSettled, NamedHost}
 use Rattle.aoe_hosts.specs.Turns.{HasSent}
 use Rattle.aoe_hosts.proofs.IdLemmas.{ids-same}
@@ -41,10 +39,7 @@ frames-preserved c =
       frame = step.frame;
       path = step.path;
       sends = step.sends;
-      same = step.same.0;
-      time = step.same.1;
-      last = step.same.2;
-      waiting = step.same.3;
+      same = step.same;
       small = omega arith;
     } in
     let entry : List ℕ → Recorded = λ l. with_entry c.frames.run (Happened name sent.ticket.0 (next_number c.frames.run.entries) l) in
@@ -75,10 +70,7 @@ returns-in-Err-clause-full c = λ is_full s host settled lawful.
       frame = step.frame;
       path = step.path;
       sends = step.sends;
-      same = step.same.0;
-      time = step.same.1;
-      last = step.same.2;
-      waiting = step.same.3;
+      same = step.same;
       small = omega arith;
     } in
     let before = c.frames.invariant.sent s host settled lawful in

@@ -1,4 +1,4 @@
-use Rattle.std.proofs.Common.{◌≡◌, ℕ, length}
+use Rattle.std.proofs.Common.{◌≡◌, length}
 use Rattle.aoe_hosts.specs.Turns.{Notes}
 use Rattle.aoe_hosts.proofs.host.NamedHost.tell_all.Given as goal
 

@@ -1,5 +1,5 @@
 -- What is known when the disk was armed.
-use Rattle.std.proofs.Common.{◌≡◌, ◌∙◌, List, length, map, sym, ap, subst}
+use Rattle.std.proofs.Common.{◌∙◌, List, length, map, sym, ap, subst}
 use Rattle.std.specs.List.{refill}
 use Rattle.std.specs.Prelude.{slice_set}
 use Rattle.aoe_history.specs.declared.entry.Entry.{Entry}

@@ -1,15 +1,13 @@
 -- Each exit, by what is known of the slots that the frame came to.
-use Rattle.std.proofs.Common.{◌≡◌, ◌≤◌, ◌+◌, suc, List, length, Option, Some, None, Ok, Err, refl, sym, ap, subst, ◌∙◌, arith, add-one}
+use Rattle.std.proofs.Common.{◌≡◌, ◌≤◌, length, Option, Ok, Err, sym, ap, subst, ◌∙◌, arith, add-one}
 use Rattle.std.specs.Prelude.{OnErr, Result}
 use Rattle.aoe_disk.specs.declared.loss.Loss.{Loss}
-use Rattle.aoe_history.specs.Frames.{arriving}
 use Rattle.aoe_history.specs.Groups.{ArriveAtSome}
 use Rattle.aoe_history.specs.Lawful.{IsLawful}
-use Rattle.aoe_history.specs.Setup.{Setup, SlotSetup}
 use Rattle.aoe_run.specs.Run.{Recorded}
-use Rattle.aoe_racks.specs.Arrival.{ComesTo, GoesOn, IsCut, IsReached}
+use Rattle.aoe_racks.specs.Arrival.{ComesToSlot, IsCut}
 use Rattle.aoe_racks.specs.Rack.{MemoryRack}
-use Rattle.aoe_racks.proofs.ArrivalLemmas.{crashed-each, crashed-some, goes-of, passes-all, passes-on, passes-some, Passes}
+use Rattle.aoe_racks.proofs.ArrivalLemmas.{crashed-each, crashed-some, goes-of, passes-all, passes-on, passes-some}
 use Rattle.aoe_racks.proofs.rack.MemoryRack.arrive.Goals as goal
 
 on-err : {T E : Type 0} (r : Result T E) (P : Type 0) → P → OnErr r P
@@ -26,7 +24,7 @@ pub returns-in-Ok-clause-ok : goal.returns-in-Ok-clause-ok
 returns-in-Ok-clause-ok c s slots shelf serves lawful fresh =
     let p = c.slots.invariant.passes s slots (record { shelf = shelf; serves = serves; lawful = lawful; fresh = fresh }) in
     let cut : IsCut s slots c.slots.slot c.args.number.0 c.args.frame.now c.in-Some.how c.slots.run.entries c.arrive_at.new.run.entries c.arrive_at.new.self =
-    subst (λ (o : Option Loss). ComesTo s slots c.slots.slot c.args.number.0 c.args.frame.now o c.slots.run.entries c.arrive_at.new.run.entries c.arrive_at.new.self) c.in-Some.is
+    subst (λ (o : Option Loss). ComesToSlot s slots c.slots.slot c.args.number.0 c.args.frame.now o c.slots.run.entries c.arrive_at.new.run.entries c.arrive_at.new.self) c.in-Some.is
     (c.in_ok-how.ensures.comes s slots p.reached) in
     let crashed = c.in-Ok.ensures.ok s slots shelf cut.stands cut.lawful in
     (crashed-each s slots c.slots.slot _ _ _ _ _ p c.in-Some.how _ _ _ cut crashed.0, crashed.1, crashed.2)
@@ -35,7 +33,7 @@ pub returns-in-Err-clause-err : goal.returns-in-Err-clause-err
 returns-in-Err-clause-err c s slots shelf serves lawful fresh =
     let p = c.slots.invariant.passes s slots (record { shelf = shelf; serves = serves; lawful = lawful; fresh = fresh }) in
     let cut : IsCut s slots c.slots.slot c.args.number.0 c.args.frame.now c.in-Some.how c.slots.run.entries c.arrive_at.new.run.entries c.arrive_at.new.self =
-    subst (λ (o : Option Loss). ComesTo s slots c.slots.slot c.args.number.0 c.args.frame.now o c.slots.run.entries c.arrive_at.new.run.entries c.arrive_at.new.self) c.in-Some.is
+    subst (λ (o : Option Loss). ComesToSlot s slots c.slots.slot c.args.number.0 c.args.frame.now o c.slots.run.entries c.arrive_at.new.run.entries c.arrive_at.new.self) c.in-Some.is
     (c.in_ok-how.ensures.comes s slots p.reached) in
     let crashed = c.in-Err.ensures.err s slots shelf cut.stands cut.lawful in
     (crashed-some s slots c.slots.slot _ _ _ _ _ p c.in-Some.how _ _ _ cut crashed.0, crashed.1)

@@ -1,11 +1,9 @@
-use Rattle.std.proofs.Common.{◌≡◌, ◌∷◌, [], List, length, map, replicate, refl, sym, ap, subst, ◌∙◌, arith}
+use Rattle.std.proofs.Common.{length, map, refl, sym, ap, subst, ◌∙◌}
 use Rattle.std.proofs.lemmas.List.{length-replicate}
 use Rattle.aoe_disk.specs.Memory.{Memory}
 use Rattle.aoe_shelf.specs.Shelf.{Rack}
 use Rattle.aoe_target.specs.Mounted.{Mounted}
-use Rattle.aoe_target.specs.declared.station.Station.{Station}
 use Rattle.aoe_run.specs.Run.{Recorded}
-use Rattle.aoe_racks.specs.declared.rack.Stops.{Stops}
 use Rattle.aoe_racks.specs.Rack.{AreTargets, MemoryRack, Stands}
 use Rattle.aoe_racks.proofs.FrontLemmas.{restart_targets, same_stations}
 use Rattle.aoe_racks.proofs.HistoryLemmas.{all_noted, on_err, on_ok, some_noted}
@@ -21,16 +19,16 @@ invariant_of-self c = record {
 pub returns-clause-ok : goal.returns-clause-ok
 returns-clause-ok c = on_ok c.note_each.result c.note_each.ensures.ok (λ e s slots are k lawful.
     all_noted s slots c.args.run.now.entries c.args.how (record { shelf = c.self.inside.shelf; stops = c.self.inside.stops.items }) c.restart.new.shelf.targets are
-        (subst (λ (x : MemoryRack). Stands slots c.args.run.now.entries x) (sym c.self.view_is) k) lawful c.restart.ensures.restarts
-        (record { shelf = c.restart.new.shelf; stops = c.no_stops-self-inside.result.items }) refl c.count.result c.no_stops-self-inside.ensures
-        (ap length c.no_stops-self-inside.ensures ∙ length-replicate c.count.result _ ∙ c.count.ensures.count)
-        c.note_each.new.run.entries (ap (λ (r : Recorded). r.entries) e))
+    (subst (λ (x : MemoryRack). Stands slots c.args.run.now.entries x) (sym c.self.view_is) k) lawful c.restart.ensures.restarts
+    (record { shelf = c.restart.new.shelf; stops = c.no_stops-self-inside.result.items }) refl c.count.result c.no_stops-self-inside.ensures
+    (ap length c.no_stops-self-inside.ensures ∙ length-replicate c.count.result _ ∙ c.count.ensures.count)
+    c.note_each.new.run.entries (ap (λ (r : Recorded). r.entries) e))
 
 pub returns-clause-err : goal.returns-clause-err
 returns-clause-err c = on_err c.note_each.result c.note_each.ensures.err (λ e s slots are k lawful.
     some_noted s slots c.args.run.now.entries c.args.how (record { shelf = c.self.inside.shelf; stops = c.self.inside.stops.items }) c.restart.new.shelf.targets are
-        (subst (λ (x : MemoryRack). Stands slots c.args.run.now.entries x) (sym c.self.view_is) k) lawful c.restart.ensures.restarts
-        e.0 c.note_each.new.run.entries (ap (λ (r : Recorded). r.entries) e.1))
+    (subst (λ (x : MemoryRack). Stands slots c.args.run.now.entries x) (sym c.self.view_is) k) lawful c.restart.ensures.restarts
+    e.0 c.note_each.new.run.entries (ap (λ (r : Recorded). r.entries) e.1))
 
 pub returns-clause-stations : goal.returns-clause-stations
 returns-clause-stations c =

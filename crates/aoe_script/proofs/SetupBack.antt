@@ -1,0 +1,111 @@
+-- The words of a setup line say what it declares.
+use Rattle.std.proofs.Common.{◌≡◌, ◌^◌, ◌<◌, ◌≤◌, ℕ, true, ◌&&◌, length, Option, Some, None, nat_le, refl, arith, lit<}
+use Rattle.std.specs.Prelude.{All}
+use Rattle.std.specs.List.{list_all}
+use Rattle.std.proofs.lemmas.Bool.{and_parts}
+use Rattle.std.proofs.lemmas.Bool.Decides.{nat_tests}
+use Rattle.arrayvec.specs.ArrayVec.{ArrayVec}
+use Rattle.aoe_base.specs.declared.address.Mac.{Mac}
+use Rattle.aoe_script.specs.declared.line.Line.TheVariants.{Declares}
+use Rattle.aoe_script.specs.declared.setup.Setup.{Setup}
+use Rattle.aoe_script.specs.declared.setup.Setup.TheVariants.{Life, Shelf, Slot, Host, Attach}
+use Rattle.aoe_script.specs.Classes.{is_name}
+use Rattle.aoe_script.specs.Forms.{said}
+use Rattle.aoe_script.specs.Print.{setup_words}
+use Rattle.aoe_script.specs.Rules.{all_unique, are_ports, is_individual, is_limit, is_setup, is_within}
+use Rattle.aoe_script.specs.Types.{FitsSetup, IsAddress}
+use Rattle.aoe_script.proofs.ListedLemmas.{AddressLaw, macs_word, ports_back}
+use Rattle.aoe_script.proofs.NamedLemmas.{name_back, name_word}
+use Rattle.aoe_script.proofs.PlainLemmas.{both_true}
+use Rattle.aoe_script.proofs.SaidLemmas.{IsSaid, most_of, small_of}
+use Rattle.aoe_script.proofs.WrittenLemmas.{number_is, number_word}
+
+few_ports : (ports : ArrayVec Mac) → are_ports ports ≡ true → (0 < length ports.items) × (length ports.items ≤ 4)
+unfolding are_ports
+few_ports ports e =
+    let h = and_parts (is_within 1 4 (length ports.items) && list_all is_individual ports.items) (all_unique ports.items) e in
+    let g = (and_parts (is_within 1 4 (length ports.items)) (list_all is_individual ports.items) h.0).0 in
+    (grind (arith, nat_tests), grind (arith, nat_tests))
+
+module _ (law : AddressLaw) where
+  life_is : (ms : ℕ) → ms < 2 ^ 64 → IsSaid (setup_words (Life ms)) (Declares (Life ms))
+  unfolding said
+  life_is ms small = record {
+    said_is = rw (number_is ms small) refl;
+    are_words = both_true _ _ (number_word ms small) refl;
+    few = omega arith;
+  }
+
+  shelf_is : (name : ArrayVec ℕ) (major : ℕ) (ports : ArrayVec Mac) (mtu : ℕ) → is_name name ≡ true → major < 2 ^ 64 → are_ports ports ≡ true → mtu < 2 ^ 64 → All IsAddress ports.items
+      → IsSaid (setup_words (Shelf name major ports mtu)) (Declares (Shelf name major ports mtu))
+  unfolding said
+  shelf_is name major ports mtu named high are low fits = record {
+    said_is = rw (name_back name named, number_is major high, ports_back law ports.items (few_ports ports are).0 (few_ports ports are).1 fits, number_is mtu low) refl;
+    are_words = both_true _ _ (name_word name named) (both_true _ _ (number_word major high)
+        (both_true _ _ (macs_word law ports.items (few_ports ports are).0 fits) (both_true _ _ (number_word mtu low) refl)));
+    few = omega arith;
+  }
+
+  slot_is : (shelf : ArrayVec ℕ) (minor sectors : ℕ) → is_name shelf ≡ true → minor < 2 ^ 64 → sectors < 2 ^ 64 → IsSaid (setup_words (Slot shelf minor sectors)) (Declares (Slot shelf minor sectors))
+  unfolding said
+  slot_is shelf minor sectors named low small = record {
+    said_is = rw (name_back shelf named, number_is minor low, number_is sectors small) refl;
+    are_words = both_true _ _ (name_word shelf named) (both_true _ _ (number_word minor low) (both_true _ _ (number_word sectors small) refl));
+    few = omega arith;
+  }
+
+  host_is : (name : ArrayVec ℕ) (ports : ArrayVec Mac) → is_name name ≡ true → are_ports ports ≡ true → All IsAddress ports.items
+      → IsSaid (setup_words (Host name ports None None)) (Declares (Host name ports None None))
+  unfolding said
+  host_is name ports named are fits = record {
+    said_is = rw (name_back name named, ports_back law ports.items (few_ports ports are).0 (few_ports ports are).1 fits) refl;
+    are_words = both_true _ _ (name_word name named) (both_true _ _ (macs_word law ports.items (few_ports ports are).0 fits) refl);
+    few = omega arith;
+  }
+
+  limited_is : (name : ArrayVec ℕ) (ports : ArrayVec Mac) (room dead : ℕ) → is_name name ≡ true → are_ports ports ≡ true → room < 2 ^ 64 → dead < 2 ^ 64 → All IsAddress ports.items
+      → IsSaid (setup_words (Host name ports (Some room) (Some dead))) (Declares (Host name ports (Some room) (Some dead)))
+  unfolding said
+  limited_is name ports room dead named are high low fits = record {
+    said_is = rw (name_back name named, ports_back law ports.items (few_ports ports are).0 (few_ports ports are).1 fits, number_is room high, number_is dead low) refl;
+    are_words = both_true _ _ (name_word name named) (both_true _ _ (macs_word law ports.items (few_ports ports are).0 fits)
+        (both_true _ _ (number_word room high) (both_true _ _ (number_word dead low) refl)));
+    few = omega arith;
+  }
+
+  attach_is : (host shelf : ArrayVec ℕ) (minor : ℕ) → is_name host ≡ true → is_name shelf ≡ true → minor < 2 ^ 64 → IsSaid (setup_words (Attach host shelf minor)) (Declares (Attach host shelf minor))
+  unfolding said
+  attach_is host shelf minor named other low = record {
+    said_is = rw (name_back host named, name_back shelf other, number_is minor low) refl;
+    are_words = both_true _ _ (name_word host named) (both_true _ _ (name_word shelf other) (both_true _ _ (number_word minor low) refl));
+    few = omega arith;
+  }
+
+  limits_is : (name : ArrayVec ℕ) (ports : ArrayVec Mac) (room dead : Option ℕ) → is_name name ≡ true → are_ports ports ≡ true → is_limit room dead ≡ true → All IsAddress ports.items
+      → IsSaid (setup_words (Host name ports room dead)) (Declares (Host name ports room dead))
+  limits_is name ports None None named are limit fits = host_is name ports named are fits
+  limits_is name ports None (Some dead) named are limit fits = absurd cc
+  limits_is name ports (Some room) None named are limit fits = absurd cc
+  limits_is name ports (Some room) (Some dead) named are limit fits =
+      let h = and_parts (is_within 1 16384 room) (is_within 1 10000000 dead) limit in
+      limited_is name ports room dead named are (most_of 1 16384 room (lit< tt) h.0) (most_of 1 10000000 dead (lit< tt) h.1) fits
+
+  pub setup_is : (setup : Setup) → is_setup setup ≡ true → FitsSetup setup → IsSaid (setup_words setup) (Declares setup)
+  setup_is (Life ms) e fits = life_is ms (small_of 600000 ms (lit< tt) e)
+  setup_is (Shelf name major ports mtu) e fits =
+      let h = and_parts (is_name name && nat_le major 65534 && are_ports ports) (is_within 1500 9000 mtu) e in
+      let g = and_parts (is_name name && nat_le major 65534) (are_ports ports) h.0 in
+      let f = and_parts (is_name name) (nat_le major 65534) g.0 in
+      shelf_is name major ports mtu f.0 (small_of 65534 major (lit< tt) f.1) g.1 (most_of 1500 9000 mtu (lit< tt) h.1) fits
+  setup_is (Slot shelf minor sectors) e fits =
+      let h = and_parts (is_name shelf && nat_le minor 254) (is_within 1 65536 sectors) e in
+      let g = and_parts (is_name shelf) (nat_le minor 254) h.0 in
+      slot_is shelf minor sectors g.0 (small_of 254 minor (lit< tt) g.1) (most_of 1 65536 sectors (lit< tt) h.1)
+  setup_is (Host name ports room dead) e fits =
+      let h = and_parts (is_name name && are_ports ports) (is_limit room dead) e in
+      let g = and_parts (is_name name) (are_ports ports) h.0 in
+      limits_is name ports room dead g.0 g.1 h.1 fits
+  setup_is (Attach host shelf minor) e fits =
+      let h = and_parts (is_name host && is_name shelf) (nat_le minor 254) e in
+      let g = and_parts (is_name host) (is_name shelf) h.0 in
+      attach_is host shelf minor g.0 g.1 (small_of 254 minor (lit< tt) h.1)

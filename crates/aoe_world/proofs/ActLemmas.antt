@@ -1,0 +1,178 @@
+-- Acts: their entries, and then the turns of the hosts.
+use Rattle.std.proofs.Common.{ℕ, zero, suc, ◌≡◌, ◌≢◌, ◌≤◌, ◌<◌, ◌⊎◌, if◌then◌else◌, nat_eq, Bool, true, false, not, List, [], ◌∷◌, length, Option, Some, None, Result, Ok, Err, refl, sym, ap, subst, ◌∙◌, arith, inl, inr}
+use Rattle.std.specs.Prelude.{slice_get, slice_set}
+use Rattle.std.specs.List.{filter, list_any}
+use Rattle.std.specs.Str.{bytes_eq}
+use Rattle.std.proofs.lemmas.Bool.{cases_lt}
+use Rattle.std.proofs.lemmas.Bool.Decides.{nat_tests}
+use Rattle.std.proofs.lemmas.Option.{same_Some, slice_get_within}
+use Rattle.std.proofs.lemmas.Slice.Eq.{bytes_eq-Decides}
+use Rattle.arrayvec.specs.ArrayVec.{ArrayVec}
+use Rattle.aoe_base.specs.declared.address.TargetId.{TargetId}
+use Rattle.aoe_history.specs.declared.entry.Entry.{Entry}
+use Rattle.aoe_history.specs.declared.entry.Entry.TheVariants.{Arrived, Armed, Crashed, Refused, Submitted, Ticked, Took}
+use Rattle.aoe_history.specs.Groups.{Act, Enters, EntersSome, Got, IsBegun}
+use Rattle.aoe_history.specs.Lawful.{IsLawful, MayCome}
+use Rattle.aoe_history.specs.Setup.{host_called, is_called, is_slot, shelf_of, HostSetup, Setup, SlotSetup}
+use Rattle.aoe_hosts.proofs.Apart.{awaits-other, awaits-settled, awaits-ticked}
+use Rattle.aoe_hosts.proofs.Called.{is-called}
+use Rattle.aoe_hosts.specs.Host.{is_apart as is_apart_of_host, is_told, Awaits, IsSettled, NamedHost}
+use Rattle.aoe_net.specs.declared.refusal.NetRefusal.{NetRefusal}
+use Rattle.aoe_net.specs.declared.refusal.NetRefusal.TheVariants.{Full, NoMemory}
+use Rattle.aoe_racks.specs.Rack.{is_apart as is_apart_of_slots, MemoryRack, Serves}
+use Rattle.aoe_run.specs.Run.{with_entry, MeetsFull}
+use Rattle.aoe_world.proofs.AddsLemmas.{adds_none, adds_one, Adds, SpeaksOf}
+use Rattle.aoe_world.proofs.TurnLemmas.{get-set, length-set, serves-adds, set-get, settled-adds, there-is}
+use Rattle.aoe_world.specs.declared.stage.Stage.{Stage}
+use Rattle.aoe_world.specs.Stage.{AllServe, AllSettled, Does, HadTurns, IsLeft, IsNetwork, IsReady, IsTurning, Settles}
+
+-- WHAT CAME OF AN ACT
+
+pub act-done : (result : Result (Unit {0}) NetRefusal) (s : Setup) (majors : List ℕ) (act : Act) (got : Option Got) (old mid new : Stage)
+    → Enters s old.run.entries act got mid.run.entries → Settles result s majors got mid new → Does result s majors act old new
+act-done (Ok u) s majors act got old mid new enters (turns, k) = (record { got = got; entered = mid.run.entries; enters = enters; turns = turns }, k)
+act-done (Err refusal) s majors act got old mid new enters (turns, k) = (inr (got, mid.run.entries, enters, turns), k)
+
+-- an act that came in part, and no turn
+pub act-begun : (refusal : NetRefusal) (s : Setup) (majors : List ℕ) (act : Act) (old new : Stage) → EntersSome s old.run.entries act new.run.entries → IsLeft s refusal new.run.entries
+    → IsBegun s old.run.entries act new.run.entries × IsLeft s refusal new.run.entries
+act-begun refusal s majors act old new enters k = (inl enters, k)
+
+-- want of memory leaves a lawful history
+pub no-memory : (s : Setup) (h : List Entry) → IsLawful s h → IsLeft s NoMemory h
+no-memory s h k = record { lawful = k; full = λ e. absurd (cc) }
+
+-- THE STATIONS IN AN ACT
+
+-- entries that say nothing of the hosts
+pub hosts-after : (s : Setup) (h m : List Entry) (hosts : List NamedHost) → ((host : HostSetup) → Adds (is_apart_of_host host) h m) → AllSettled s h hosts → HadTurns s None m 0 hosts
+hosts-after s h m hosts adds k = record {
+  count = k.count;
+  settled = λ i host x eh ex below. absurd (omega (arith, below));
+  waiting = λ i host x eh ex above. awaits-settled s host m x (settled-adds s host x h m (adds host) (k.each i host x eh ex));
+}
+
+pub hosts-ticked : (s : Setup) (ms : ℕ) (h : List Entry) (hosts : List NamedHost) → AllSettled s h hosts → HadTurns s None (Ticked ms ∷ h) 0 hosts
+hosts-ticked s ms h hosts k = record {
+  count = k.count;
+  settled = λ i host x eh ex below. absurd (omega (arith, below));
+  waiting = λ i host x eh ex above. awaits-ticked s host ms h x (k.each i host x eh ex);
+}
+
+-- entries that say nothing of the shelves
+pub shelves-after : (s : Setup) (majors : List ℕ) (h m : List Entry) (shelves : List MemoryRack) → ((slots : List SlotSetup) → Adds (is_apart_of_slots slots) h m)
+    → AllServe s majors h shelves → AllServe s majors m shelves
+shelves-after s majors h m shelves adds k = record {
+  count = k.count;
+  number = k.number;
+  each = λ i major x em ex. serves-adds (shelf_of s major) x h m (adds (shelf_of s major)) (k.each i major x em ex);
+}
+
+-- one entry that says nothing of any station
+pub turning-by : (s : Setup) (majors : List ℕ) (old mid : Stage) (e : Entry) → IsReady s majors old → MayCome s old.run.entries e → mid.run ≡ with_entry old.run e
+    → mid.hosts ≡ old.hosts → mid.shelves ≡ old.shelves → ((host : HostSetup) → is_apart_of_host host e ≡ true) → ((slots : List SlotSetup) → is_apart_of_slots slots e ≡ true)
+    → IsTurning s majors None 0 mid
+turning-by s majors old mid e k may run hosts shelves of-hosts of-slots = record {
+  life = ap (λ r. r.life) run ∙ k.life;
+  lawful = subst (λ r. IsLawful s r.entries) (sym run) (may, k.lawful);
+  hosts_are = subst (λ r. HadTurns s None r.entries 0 mid.hosts.items) (sym run)
+      (subst (λ xs. HadTurns s None (e ∷ old.run.entries) 0 xs.items) (sym hosts)
+      (hosts-after s old.run.entries (e ∷ old.run.entries) old.hosts.items (λ host. adds_one e (of-hosts host) adds_none) k.hosts_are));
+  shelves_are = subst (λ r. AllServe s majors r.entries mid.shelves.items) (sym run)
+      (subst (λ xs. AllServe s majors (e ∷ old.run.entries) xs.items) (sym shelves)
+      (shelves-after s majors old.run.entries (e ∷ old.run.entries) old.shelves.items (λ slots. adds_one e (of-slots slots) adds_none) k.shelves_are));
+}
+
+pub turning-ticked : (s : Setup) (majors : List ℕ) (old mid : Stage) (ms : ℕ) → IsReady s majors old → mid.run ≡ with_entry old.run (Ticked ms)
+    → mid.hosts ≡ old.hosts → mid.shelves ≡ old.shelves → IsTurning s majors None 0 mid
+turning-ticked s majors old mid ms k run hosts shelves = record {
+  life = ap (λ r. r.life) run ∙ k.life;
+  lawful = subst (λ r. IsLawful s r.entries) (sym run) (tt, k.lawful);
+  hosts_are = subst (λ r. HadTurns s None r.entries 0 mid.hosts.items) (sym run)
+      (subst (λ xs. HadTurns s None (Ticked ms ∷ old.run.entries) 0 xs.items) (sym hosts) (hosts-ticked s ms old.run.entries old.hosts.items k.hosts_are));
+  shelves_are = subst (λ r. AllServe s majors r.entries mid.shelves.items) (sym run)
+      (subst (λ xs. AllServe s majors (Ticked ms ∷ old.run.entries) xs.items) (sym shelves)
+      (shelves-after s majors old.run.entries (Ticked ms ∷ old.run.entries) old.shelves.items (λ slots. adds_one _ refl adds_none) k.shelves_are));
+}
+
+-- A SHELF
+
+not-true : (b : Bool) → b ≡ false → not b ≡ true
+not-true false e = refl
+not-true true e = absurd (cc)
+
+-- no slot of one shelf has the name of a slot of another
+no-slot : (slots : List SlotSetup) (a b : ℕ) (dev : TargetId) → dev.major ≡ b → a ≢ b → list_any (λ slot. is_slot slot dev) (filter (λ (slot : SlotSetup). nat_eq slot.station.id.major a) slots) ≡ false
+no-slot [] a b dev e apart = refl
+no-slot (slot ∷ slots) a b dev e apart = go (nat_eq slot.station.id.major a) refl (no-slot slots a b dev e apart)
+  where
+    differs : (x : ℕ) → nat_eq x a ≡ true → nat_eq x dev.major ≡ false
+    differs x same = grind (arith, nat_tests, same, e, apart)
+
+    go : (c : Bool) → nat_eq slot.station.id.major a ≡ c → list_any (λ z. is_slot z dev) (filter (λ (z : SlotSetup). nat_eq z.station.id.major a) slots) ≡ false
+        → list_any (λ z. is_slot z dev) (if c then slot ∷ filter (λ (z : SlotSetup). nat_eq z.station.id.major a) slots else filter (λ (z : SlotSetup). nat_eq z.station.id.major a) slots) ≡ false
+    go true q rest = rw (differs slot.station.id.major q) rest
+    go false q rest = rest
+
+-- a slot of a shelf has its number
+slot-number : (slots : List SlotSetup) (major i : ℕ) (slot : SlotSetup) → slice_get (filter (λ (z : SlotSetup). nat_eq z.station.id.major major) slots) i ≡ Some slot → slot.station.id.major ≡ major
+slot-number [] major i slot e = absurd (cc)
+slot-number (x ∷ slots) major i slot e = go (nat_eq x.station.id.major major) refl i e (λ j r. slot-number slots major j slot r)
+  where
+    is : (a : ℕ) → nat_eq a major ≡ true → a ≡ major
+    is a q = grind (arith, nat_tests, q)
+
+    go : (c : Bool) → nat_eq x.station.id.major major ≡ c → (j : ℕ)
+        → slice_get (if c then x ∷ filter (λ (z : SlotSetup). nat_eq z.station.id.major major) slots else filter (λ (z : SlotSetup). nat_eq z.station.id.major major) slots) j ≡ Some slot
+        → ((j : ℕ) → slice_get (filter (λ (z : SlotSetup). nat_eq z.station.id.major major) slots) j ≡ Some slot → slot.station.id.major ≡ major) → slot.station.id.major ≡ major
+    go true q zero r rest = let same = same_Some x slot r in subst (λ (z : SlotSetup). z.station.id.major ≡ major) same (is x.station.id.major q)
+    go true q (suc j) r rest = rest j r
+    go false q j r rest = rest j r
+
+-- what is said of the slots of one shelf says nothing of those of another
+pub speaks-apart : (s : Setup) (a b : ℕ) → a ≢ b → SpeaksOf (is_apart_of_slots (shelf_of s a)) (shelf_of s b)
+speaks-apart s a b apart = record {
+  arrived = λ i slot frame fate e. not-true _ (no-slot s.slots a b slot.station.id (slot-number s.slots b i slot e) apart);
+  crashed = λ i slot lists how e. not-true _ (no-slot s.slots a b slot.station.id (slot-number s.slots b i slot e) apart);
+}
+
+pub armed-apart : (s : Setup) (a b i : ℕ) (slot : SlotSetup) (which : _) (k : ℕ) (mode : _) → a ≢ b → slice_get (shelf_of s b) i ≡ Some slot → is_apart_of_slots (shelf_of s a) (Armed slot.station.id which k mode) ≡ true
+armed-apart s a b i slot which k mode apart e = not-true _ (no-slot s.slots a b slot.station.id (slot-number s.slots b i slot e) apart)
+
+-- one shelf is what the history says, and what came says nothing of the others
+pub one-shelf : (s : Setup) (majors : List ℕ) (i major : ℕ) (x y : MemoryRack) (h m : List Entry) (shelves : List MemoryRack) → IsNetwork s majors → slice_get majors i ≡ Some major
+    → slice_get shelves i ≡ Some x → ((other : ℕ) → other ≢ major → Adds (is_apart_of_slots (shelf_of s other)) h m) → Serves (shelf_of s major) m y → y.shelf.major ≡ x.shelf.major
+    → AllServe s majors h shelves → AllServe s majors m (slice_set shelves i y)
+one-shelf s majors i major x y h m shelves net em ex adds serves same k = record {
+  count = length-set shelves i y ∙ k.count;
+  number = λ j n z en ez. (go-number j n z en ez (cases_lt j i));
+  each = λ j n z en ez. (go-each j n z en ez (cases_lt j i));
+}
+  where
+    here : (j n : ℕ) (z : MemoryRack) → j ≡ i → slice_get majors j ≡ Some n → slice_get (slice_set shelves i y) j ≡ Some z → (n ≡ major) × (z ≡ y)
+    here j n z is en ez =
+        (same_Some n major (sym en ∙ ap (slice_get majors) is ∙ em), same_Some z y (sym ez ∙ ap (slice_get (slice_set shelves i y)) is ∙ set-get shelves i x y ex))
+
+    at-i : (j n : ℕ) (z : MemoryRack) → j ≡ i → slice_get majors j ≡ Some n → slice_get (slice_set shelves i y) j ≡ Some z → (z.shelf.major ≡ n) × Serves (shelf_of s n) m z
+    at-i j n z is en ez =
+        let w = here j n z is en ez in
+        (ap (λ (q : MemoryRack). q.shelf.major) w.1 ∙ same ∙ k.number i major x em ex ∙ sym w.0,
+        subst (λ (q : ℕ). Serves (shelf_of s q) m z) (sym w.0) (subst (λ (q : MemoryRack). Serves (shelf_of s major) m q) (sym w.1) serves))
+
+    elsewhere : (j n : ℕ) (z : MemoryRack) → j ≢ i → slice_get majors j ≡ Some n → slice_get (slice_set shelves i y) j ≡ Some z → (z.shelf.major ≡ n) × Serves (shelf_of s n) m z
+    elsewhere j n z apart en ez =
+        let before : slice_get shelves j ≡ Some z = sym (get-set shelves i j y apart) ∙ ez in
+        (k.number j n z en before, serves-adds (shelf_of s n) z h m (adds n (net.majors_differ j i n major en em apart)) (k.each j n z en before))
+
+    go : (j n : ℕ) (z : MemoryRack) → slice_get majors j ≡ Some n → slice_get (slice_set shelves i y) j ≡ Some z → (j < i) ⊎ (i ≤ j) → (z.shelf.major ≡ n) × Serves (shelf_of s n) m z
+    go j n z en ez (inl below) = elsewhere j n z (λ e. omega (arith, e, below)) en ez
+    go j n z en ez (inr above) = elim (cases_lt i j) [
+      | inl later ↦ elsewhere j n z (λ e. omega (arith, e, later)) en ez
+      | inr upto ↦ at-i j n z (omega (arith, above, upto)) en ez
+    ]
+
+    go-number : (j n : ℕ) (z : MemoryRack) → slice_get majors j ≡ Some n → slice_get (slice_set shelves i y) j ≡ Some z → (j < i) ⊎ (i ≤ j) → z.shelf.major ≡ n
+    go-number j n z en ez c = (go j n z en ez c).0
+
+    go-each : (j n : ℕ) (z : MemoryRack) → slice_get majors j ≡ Some n → slice_get (slice_set shelves i y) j ≡ Some z → (j < i) ⊎ (i ≤ j) → Serves (shelf_of s n) m z
+    go-each j n z en ez c = (go j n z en ez c).1

@@ -1,0 +1,25 @@
+use Rattle.std.proofs.Common.{refl, arith, ap, inl, length, sym, subst, ◌≡◌, ◌∙◌, Some}
+use Rattle.std.proofs.lemmas.Option.{slice_get_read}
+use Rattle.aoe_history.specs.Frames.{arriving}
+use Rattle.aoe_history.specs.Groups.Act.{Hand}
+use Rattle.aoe_history.specs.Groups.Station.{Host as HostStation}
+use Rattle.aoe_run.specs.Run.{Recorded}
+use Rattle.aoe_world.proofs.ActLemmas.{act-done, no-memory}
+use Rattle.aoe_world.proofs.HostActLemmas.{has-taken}
+use Rattle.aoe_world.specs.Stage.{IsLeft}
+use Rattle.aoe_net.specs.declared.refusal.NetRefusal.TheVariants.{NoMemory}
+use Rattle.aoe_world.proofs.stage.Stage.hand_to_host.Goals as goal
+
+pub returns-in-Ok-clause-does : goal.returns-in-Ok-clause-does
+returns-in-Ok-clause-does c s majors name net k (host, at, called) fresh =
+    let old = c.args.self.now in
+    let there = slice_get_read old.hosts.items (length old.hosts.items) c.args.i c.index_mut.result.now refl c.requires c.index_mut.ensures.value in
+    let came : arriving s.life old.run.entries c.args.number.0 ≡ Some c.deref.result.now = subst (λ l. arriving l old.run.entries c.args.number.0 ≡ Some c.deref.result.now) k.life (fresh ∙ ap Some (sym c.deref.ensures.0)) in
+    let t = has-taken s majors name c.args.number.0 c.args.i c.deref.result.now c.index_mut.result.now c.take.new.self old c.take.new.run.entries host net k at called there came c.in-Ok.ensures.ok in
+    act-done c.settle.result s majors (Hand c.args.number.0 (HostStation name)) t.got old _ c.settle.new.self t.enters
+    (c.settle.ensures.settles s majors t.got net (record { life = c.in-Ok.ensures.life ∙ k.life; lawful = t.lawful; hosts_are = t.hosts_are; shelves_are = t.shelves_are }))
+
+pub returns-in-Err-clause-does : goal.returns-in-Err-clause-does
+returns-in-Err-clause-does c s majors name net k at fresh =
+    let same = c.in-Err.ensures.err in
+    (inl (ap (λ r. r.entries) same), subst (λ (r : Recorded). IsLeft s NoMemory r.entries) (sym same) (no-memory s c.args.self.now.run.entries k.lawful))

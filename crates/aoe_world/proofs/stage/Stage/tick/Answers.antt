@@ -1,0 +1,11 @@
+use Rattle.std.proofs.Common.{refl, ap, None}
+use Rattle.aoe_history.specs.Groups.Act.{Tick}
+use Rattle.aoe_world.proofs.ActLemmas.{act-done, turning-ticked}
+use Rattle.aoe_world.proofs.stage.Stage.tick.Goals as goal
+
+pub returns-in-Ok : goal.returns-in-Ok
+returns-in-Ok c s majors net k =
+    let mid = record c.args.self.now { run = c.tick.new.self } in
+    let run = c.in-Ok.ensures.ok in
+    act-done c.settle.result s majors (Tick c.args.ms) None c.args.self.now mid c.settle.new.self (refl, ap (λ r. r.entries) run)
+    (c.settle.ensures.settles s majors None net (turning-ticked s majors c.args.self.now mid c.args.ms k run refl refl))
