@@ -8,5 +8,5 @@ pub returns-in-Ok-script_in-clause-replayed : goal.returns-in-Ok-script_in-claus
 returns-in-Ok-script_in-clause-replayed g c =
     let P : List ℕ → Type 0 = λ t. IsRead (g.S.Source.left c.args.source.now) (g.S.Source.left c.read_text.new.source) t in
     ran (g.S.Source.left c.args.source.now) (g.S.Source.left c.read_text.new.source) c.as_slice.result.now (subst P (sym c.as_slice.ensures.value) c.in-Ok.ensures.read)
-        (g.K.Sink.held c.args.sink.now) (g.K.Sink.held c.run_script.new.sink) c.in-Ok-script_in.ensures.good c.run_script.result c.in-Ok-script_in.script
-        c.in-Ok-script_in.ensures.script c.run_script.ensures.runs
+    (g.K.Sink.held c.args.sink.now) (g.K.Sink.held c.run_script.new.sink) c.in-Ok-script_in.ensures.good c.run_script.result c.in-Ok-script_in.script
+    c.in-Ok-script_in.ensures.script c.run_script.ensures.runs
