@@ -50,7 +50,7 @@ use Rattle.aoe_world.specs.Stage.{ArePlaces, Does, DoesAll, IsAt, IsLeft, IsNetw
 use Rattle.aoe_world.specs.World.{Runs}
 use Rattle.aoe_world.proofs.ScheduleKeeps.{follows-grow}
 use Rattle.aoe_world.proofs.ScheduleLemmas.{does-all}
-use Rattle.aoe_world.proofs.TurnLemmas.{there}
+use Rattle.aoe_world.proofs.TurnLemmas.{there-is as there}
 
 -- PLACES BY NAME
 

@@ -20,7 +20,7 @@ use Rattle.aoe_world.specs.declared.stage.Stage.{Stage}
 use Rattle.aoe_world.specs.Schedule.{addressees, gets, hand_each, handings, is_for, FollowsSome}
 use Rattle.aoe_world.specs.Stage.{ArePlaces, Does, DoesAll, HandsEach, IsAt, IsInside, IsLeft, IsNetwork, IsReady}
 use Rattle.aoe_world.proofs.ScheduleKeeps.{hand-fresh}
-use Rattle.aoe_world.proofs.TurnLemmas.{take-all, there}
+use Rattle.aoe_world.proofs.TurnLemmas.{take-all, there-is as there}
 
 -- ACTS ONE AFTER ANOTHER
 
