@@ -224,14 +224,16 @@ at-of s majors o p result e h = subst (λ x. IfSome x (λ (q : Placed). IsSomeAn
 pub lose-as-hand : {T : Type 0} (r : Result T NetRefusal) (s : Setup) (majors : List ℕ) (life frame : ℕ) (station : Station) (old mid new : Stage) → life ≡ s.life
     → mid.run.entries ≡ old.run.entries → arriving life old.run.entries frame ≡ None → Does r s majors (Lose frame) mid new → Does r s majors (Hand frame station) old new
 lose-as-hand (Ok u) s majors life frame station old mid new el es none (g, ready) =
-    let gone : arriving s.life old.run.entries frame ≡ None = ap (λ l. arriving l old.run.entries frame) (sym el) ∙ none in
-    (record {
-      got = g.got;
-      entered = g.entered;
-      enters = subst (λ o. MatchOption o ((g.got ≡ None) × (g.entered ≡ Lost frame ∷ old.run.entries)) (λ f. ComesTo s frame f station old.run.entries g.got g.entered)) (sym gone)
-          (subst (λ h. (g.got ≡ None) × (g.entered ≡ Lost frame ∷ h)) es g.enters);
-      turns = g.turns;
-    }, ready)
+    let gone : arriving s.life old.run.entries frame ≡ None = ap (λ l. arriving l old.run.entries frame) (sym el) ∙ none in (
+      record {
+        got = g.got;
+        entered = g.entered;
+        enters = subst (λ o. MatchOption o ((g.got ≡ None) × (g.entered ≡ Lost frame ∷ old.run.entries)) (λ f. ComesTo s frame f station old.run.entries g.got g.entered)) (sym gone)
+            (subst (λ h. (g.got ≡ None) × (g.entered ≡ Lost frame ∷ h)) es g.enters);
+        turns = g.turns;
+      },
+      ready,
+    )
 lose-as-hand (Err refusal) s majors life frame station old mid new el es none (begun, left) =
     (go station (ap (λ l. arriving l old.run.entries frame) (sym el) ∙ none) (subst (λ h. IsBegun s h (Lose frame) new.run.entries) es begun), left)
   where

@@ -189,9 +189,11 @@ module _ (s : Setup) (majors : List ℕ) (stations : List Placed) (number : ℕ)
   pub handed-all : (k : ℕ) (any : Bool) (now : Stage) → k ≡ length stations → Handed s majors stations number k any old now
       → HandsEach (Ok any) s majors number (addressees stations old.frame.items) old now
   handed-all k any now e h =
-      let same : take k stations ≡ stations = ap (λ n. take n stations) e ∙ take-all stations in
-      (h.some ∙ ap (λ xs. nat_lt 0 (length (addressees xs old.frame.items))) same,
-      subst (λ xs. Follows s (map (Hand number) (addressees xs old.frame.items)) old.run.entries now.run.entries) same h.follows, h.ready)
+      let same : take k stations ≡ stations = ap (λ n. take n stations) e ∙ take-all stations in (
+        h.some ∙ ap (λ xs. nat_lt 0 (length (addressees xs old.frame.items))) same,
+        subst (λ xs. Follows s (map (Hand number) (addressees xs old.frame.items)) old.run.entries now.run.entries) same h.follows,
+        h.ready,
+      )
 
 -- STEPS OF THE CODE
 
@@ -255,7 +257,7 @@ entries-same old new e = ap (λ (st : Stage). st.run.entries) e
 
 pub handings-none : (s : Setup) (stations : List Placed) (life : ℕ) (h : List Entry) (number : ℕ) → life ≡ s.life → arriving life h number ≡ None
     → handings s stations h number ≡ Lose number ∷ []
-handings-none s stations life h number e none = 
+handings-none s stations life h number e none =
     ap (λ o. option_map_or (λ f. hand_each number (addressees stations f)) o (Lose number ∷ [])) (ap (λ n. arriving n h number) (sym e) ∙ none)
 
 pub handings-some : (s : Setup) (stations : List Placed) (life : ℕ) (h : List Entry) (number : ℕ) (f : List ℕ) → life ≡ s.life → arriving life h number ≡ Some f
