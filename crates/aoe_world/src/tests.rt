@@ -9,7 +9,9 @@ const STATIONS: &str =
 #[test]
 fn steps_through_a_write_and_a_read(rt: HostRuntime) -> Result<(), Fail> {
     let alloc = rt.alloc();
-    let text = format!(in alloc; "{STATIONS}write a e1.0 3 1 5a\npass 2\nread a e1.0 3 1\npass 2\n")?;
+    let text = format!(in alloc;
+        "{STATIONS}write a e1.0 3 1 5a\npass 2\nread a e1.0 3 1\npass 2\n"
+    )?;
     let script = read_script(alloc, text.as_bytes())?;
     let mut world = World::new(alloc, &script)?;
     for i in 0..script.count() {
