@@ -196,14 +196,6 @@ module _ (s : Setup) (majors : List ℕ) (acts : List Entry → ℕ → List Act
           within = let more = follows-grow s (acts now.run.entries behind) now.run.entries later.run.entries follows in omega (arith, le, more);
         }))
 
-    -- as many as there are to be
-    pub passed-all : (n : ℕ) → count ≡ n → MovesBy s acts n cursor old.run.entries behind now.run.entries × IsReady s majors now
-    passed-all n e = (record { count = count; moves = p.moves; ends = inl e }, p.ready)
-
-    -- no frame is left
-    pub passed-some : (n : ℕ) → count < n → length (frames now.run.entries) < behind → MovesBy s acts n cursor old.run.entries behind now.run.entries × IsReady s majors now
-    passed-some n lt beyond = (record { count = count; moves = p.moves; ends = inr (lt, beyond) }, p.ready)
-
     -- one came in part
     pub passed-begun : (n : ℕ) (refusal : NetRefusal) (later : Stage) → count < n
         → FollowsSome s (acts now.run.entries behind) now.run.entries later.run.entries × IsLeft s refusal later.run.entries
