@@ -1,6 +1,6 @@
 -- Where the stations of an event line stand.
-use Rattle.std.proofs.Common.{ℕ, zero, suc, ◌≡◌, ◌≢◌, ◌≤◌, ◌<◌, ◌+◌, ◌-◌, ◌*◌, ◌^◌, ◌⊎◌, replicate, ◌==◌, Bool, true, false, List, [], ◌∷◌, length, map, Option, Some, None, Result, Ok, Err, refl, sym, ap, subst, ◌∙◌, arith, inl, inr, cond, not, get_or, MatchOption, OnOk}
-use Rattle.std.specs.Prelude.{filter, find, is_some, nat_eq, option_map, position, slice_get, Contains, IfSome, IsSomeAnd, IsSome, nat_lt}
+use Rattle.std.proofs.Common.{ℕ, zero, suc, ◌≡◌, ◌≢◌, ◌≤◌, ◌<◌, ◌+◌, ◌-◌, ◌*◌, ◌^◌, ◌⊎◌, replicate, Bool, true, false, List, [], ◌∷◌, length, map, Option, Some, None, Result, Ok, Err, refl, sym, ap, subst, ◌∙◌, arith, inl, inr, cond, not, get_or, MatchOption, OnOk}
+use Rattle.std.specs.Prelude.{filter, find, is_some, nat_eq, option_map, position, slice_get, Contains, IfSome, IsSomeAnd, nat_lt}
 use Rattle.std.specs.List.{position_or_len}
 use Rattle.std.specs.Option.{option_map_or}
 use Rattle.std.proofs.lemmas.Bool.{cases_Bool, cases_lt, eq-eqb, eqb-true, lt-ltb, ltb-true}
@@ -34,7 +34,6 @@ use Rattle.aoe_initiator.specs.HostLaw.{same_id}
 use Rattle.aoe_layout.proofs.ListLemmas.{place-of}
 use Rattle.aoe_layout.specs.Layout.{majors_of, setup_of, station_named, Placed}
 use Rattle.aoe_layout.specs.Stations.{CanCome}
-use Rattle.aoe_racks.specs.declared.rack.Stops.{Stops}
 use Rattle.aoe_racks.specs.Rack.{MemoryRack, Serves}
 use Rattle.aoe_script.specs.declared.setup.Setup.{Setup as Line}
 use Rattle.aoe_script.specs.declared.event.Event.{Event}
@@ -45,7 +44,7 @@ use Rattle.aoe_world.specs.declared.place.At.{At}
 use Rattle.aoe_world.specs.declared.place.Place.{Place}
 use Rattle.aoe_world.specs.declared.stage.Stage.{Stage}
 use Rattle.aoe_net.specs.declared.refusal.NetRefusal.{NetRefusal}
-use Rattle.aoe_world.specs.Schedule.{station_called, Comes, ComesSome, FollowsSome, Moves, MovesBy, MovesSome}
+use Rattle.aoe_world.specs.Schedule.{station_called, Comes, ComesSome, FollowsSome, Moves, MovesSome}
 use Rattle.aoe_world.specs.Stage.{ArePlaces, Does, DoesAll, IsAt, IsLeft, IsNetwork, IsReady}
 use Rattle.aoe_world.specs.World.{Runs}
 use Rattle.aoe_world.proofs.ScheduleKeeps.{follows-grow}

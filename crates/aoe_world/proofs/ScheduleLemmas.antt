@@ -1,5 +1,5 @@
 -- A frame that is handed to one station after another.
-use Rattle.std.proofs.Common.{ℕ, zero, suc, ◌≡◌, ◌≤◌, ◌<◌, Bool, true, false, List, [], ◌∷◌, ◌++◌, length, map, take, drop, Option, Some, None, Result, Ok, Err, get_or, refl, sym, ap, subst, ◌∙◌, arith, inl, inr, cond}
+use Rattle.std.proofs.Common.{ℕ, zero, suc, ◌≡◌, ◌<◌, Bool, true, false, List, [], ◌∷◌, ◌++◌, length, map, take, drop, Some, None, Result, Ok, Err, get_or, refl, sym, ap, subst, ◌∙◌, arith, inl, inr, cond}
 use Rattle.std.specs.Prelude.{filter, nat_lt, slice_get, slice_range}
 use Rattle.std.specs.Option.{option_map_or}
 use Rattle.std.proofs.lemmas.Bool.Decides.{nat_tests}
@@ -11,14 +11,14 @@ use Rattle.aoe_history.specs.Frames.{arriving}
 use Rattle.aoe_history.specs.Groups.{Act, Follows, Group, IsBegun, Station}
 use Rattle.aoe_history.specs.Groups.Act.{Hand, Lose}
 use Rattle.aoe_history.specs.Groups.Station.{Shelf as ShelfStation, Host as HostStation}
-use Rattle.aoe_history.specs.Setup.{HostSetup, Setup}
+use Rattle.aoe_history.specs.Setup.{Setup}
 use Rattle.aoe_layout.specs.Layout.{Placed}
 use Rattle.aoe_world.specs.declared.place.At.{At}
 use Rattle.aoe_world.specs.declared.place.At.TheVariants as at
 use Rattle.aoe_world.specs.declared.place.Place.{Place}
 use Rattle.aoe_world.specs.declared.stage.Stage.{Stage}
 use Rattle.aoe_world.specs.Schedule.{addressees, gets, hand_each, handings, is_for, FollowsSome}
-use Rattle.aoe_world.specs.Stage.{ArePlaces, Does, DoesAll, HandsEach, IsAt, IsInside, IsLeft, IsNetwork, IsReady}
+use Rattle.aoe_world.specs.Stage.{ArePlaces, Does, DoesAll, HandsEach, IsAt, IsInside, IsLeft, IsReady}
 use Rattle.aoe_world.proofs.ScheduleKeeps.{hand-fresh}
 use Rattle.aoe_world.proofs.TurnLemmas.{take-all, there-is as there}
 

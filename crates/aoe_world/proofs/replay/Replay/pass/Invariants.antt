@@ -1,4 +1,4 @@
-use Rattle.std.proofs.Common.{◌≡◌, ◌≤◌}
+use Rattle.std.proofs.Common.{◌≡◌}
 use Rattle.aoe_layout.specs.Layout.{majors_of, setup_of, stations_of}
 use Rattle.aoe_world.specs.Schedule.{handings}
 use Rattle.aoe_world.proofs.ReplayLemmas.{Passing}

@@ -1,6 +1,5 @@
-use Rattle.std.proofs.Common.{◌≡◌, ◌+◌, ℕ, List, Bool, true, false, Some, ap, sym, ◌∙◌, add-one, arith}
-use Rattle.aoe_layout.specs.Layout.{Placed}
-use Rattle.aoe_world.proofs.ScheduleLemmas.{at-inside, handed-all, handed-begun, handed-is, handed-next, handed-none, handed-same, item-at, stands-at, test-is}
+use Rattle.std.proofs.Common.{◌+◌, true, Some, ap, sym, ◌∙◌, arith}
+use Rattle.aoe_world.proofs.ScheduleLemmas.{at-inside, handed-all, handed-begun, handed-is, handed-next, handed-same, item-at, stands-at, test-is}
 use Rattle.aoe_world.proofs.stage.Stage.hand_each.Goals as goal
 use Rattle.aoe_world.proofs.stage.Stage.hand_each.Goals.{then-gets+in-Ok, else-gets}
 
