@@ -44,7 +44,7 @@ use Rattle.aoe_world.specs.declared.place.At.{At}
 use Rattle.aoe_world.specs.declared.place.Place.{Place}
 use Rattle.aoe_world.specs.declared.stage.Stage.{Stage}
 use Rattle.aoe_net.specs.declared.refusal.NetRefusal.{NetRefusal}
-use Rattle.aoe_world.specs.Schedule.{station_called, Comes, ComesSome, FollowsSome, Moves, MovesBy, MovesSome}
+use Rattle.aoe_world.specs.Schedule.{station_called, Comes, ComesSome, FollowsSome, Moves, MovesSome}
 use Rattle.aoe_world.specs.Stage.{ArePlaces, Does, DoesAll, IsAt, IsLeft, IsNetwork, IsReady}
 use Rattle.aoe_world.specs.World.{Runs}
 use Rattle.aoe_world.proofs.ScheduleKeeps.{follows-grow}
@@ -194,14 +194,6 @@ module _ (s : Setup) (majors : List ℕ) (acts : List Entry → ℕ → List Act
           from_one = omega arith;
           within = let more = follows-grow s (acts now.run.entries behind) now.run.entries later.run.entries follows in omega (arith, le, more);
         }))
-
-    -- as many as there are to be
-    pub passed-all : (n : ℕ) → count ≡ n → MovesBy s acts n cursor old.run.entries behind now.run.entries × IsReady s majors now
-    passed-all n e = (record { count = count; moves = p.moves; ends = inl e }, p.ready)
-
-    -- no frame is left
-    pub passed-some : (n : ℕ) → count < n → length (frames now.run.entries) < behind → MovesBy s acts n cursor old.run.entries behind now.run.entries × IsReady s majors now
-    passed-some n lt beyond = (record { count = count; moves = p.moves; ends = inr (lt, beyond) }, p.ready)
 
     -- one came in part
     pub passed-begun : (n : ℕ) (refusal : NetRefusal) (later : Stage) → count < n
