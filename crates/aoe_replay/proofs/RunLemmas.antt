@@ -3,12 +3,19 @@ use Rattle.std.proofs.Common.{◌≡◌, ◌∙◌, ◌<◌, ◌≤◌, ℕ, Lis
 use Rattle.std.proofs.lemmas.List.{length-append, append-nil}
 use Rattle.aoe_base.specs.Faults.{Rose}
 use Rattle.aoe_io.specs.Bytes.{Gave, IsEnded}
+use Rattle.aoe_history.specs.declared.entry.Entry.{Entry}
+use Rattle.aoe_history.specs.Lawful.{IsLawful}
+use Rattle.aoe_history.specs.Reading.{HasReadLaw}
+use Rattle.aoe_layout.specs.Layout.{setup_of}
 use Rattle.aoe_script.specs.declared.refusal.ScriptRefusal.{ScriptRefusal}
+use Rattle.aoe_script.specs.declared.setup.Setup.{Setup as Line}
+use Rattle.aoe_transcript.specs.Counts.{run_text}
+use Rattle.aoe_world.specs.World.{Stepped}
 use Rattle.aoe_script.specs.Lines.{ScriptLines, refusal, script_of}
 use Rattle.aoe_replay.specs.declared.end.ReplayEnd.{ReplayEnd}
 use Rattle.aoe_replay.specs.declared.end.ReplayEnd.TheVariants.{Ended, SourceFault, SinkFault, NoMemory, Script, Limit}
 use Rattle.aoe_replay.specs.declared.end.ReplayLimit.TheVariants.{ScriptBytes, Events, Frames, FrameBytes}
-use Rattle.aoe_replay.specs.Replay.{GaveAll, IsFaultless, IsRead, IsRefusedAs, IsRun, LeavesSink, Played, Refuses, Replayed, Runs, Spells, Stops, Unread, Writes, text_of}
+use Rattle.aoe_replay.specs.Replay.{GaveAll, IsFaultless, IsRead, IsRefusedAs, IsRun, LeavesSink, Played, Plays, Refuses, Replayed, Runs, Spells, Stops, Unread, Writes, text_of}
 use Rattle.aoe_replay.proofs.TextLemmas.{short_none}
 
 pub left_alone : {T : Type 0} (end : ReplayEnd) (a : T) → LeavesSink end a a
@@ -28,6 +35,23 @@ finished NoMemory script held held' run writes = writes
 finished (Limit limit) script held held' run writes = absurd writes
 finished (Script line why) script held held' run writes = absurd writes
 finished SourceFault script held held' run writes = absurd writes
+
+-- all events of a script came in a world, and the text of its history was written
+pub finished_in : (end : ReplayEnd) (script : ScriptLines) (held held' : Option (List ℕ)) (world : Stepped) (count : ℕ) (entries : List Entry)
+    → world.lines ≡ script.setups → Plays (setup_of script.setups) script.setups script.events 1 [] world.cursor world.entries
+    → IsLawful (setup_of world.lines) world.entries → HasReadLaw (setup_of world.lines) world.entries
+    → count ≡ length script.events → entries ≡ world.entries → Writes end held held' (run_text count entries) → Runs end script held held'
+finished_in end script held held' world count entries lines plays lawful reading counted same writes =
+    let P : List Line → Type 0 = λ l. IsLawful (setup_of l) world.entries in
+    let Q : List Line → Type 0 = λ l. HasReadLaw (setup_of l) world.entries in
+    let R : ℕ → Type 0 = λ k. Writes end held held' (run_text k world.entries) in
+    let S : List Entry → Type 0 = λ l. Writes end held held' (run_text count l) in
+    finished end script held held' record {
+      entries = world.entries;
+      cursor = world.cursor;
+      plays = plays;
+      sound = record { lawful = subst P lines lawful; reading = subst Q lines reading };
+    } (subst R counted (subst S same writes))
 
 pub stopped : (end : ReplayEnd) (script : ScriptLines) (held : Option (List ℕ)) → Stops end script → Runs end script held held
 stopped NoMemory script held stops = refl
