@@ -103,7 +103,8 @@ impl Replay<'_> {
     {
         match self.place_of(host) {
             Some(At::Host(i)) => self.stage.submit(i, dev, event),
-            Some(At::Shelf(_)) | None => Ok(()),
+            Some(At::Shelf(_)) => unreachable!(),
+            None => unreachable!(),
         }
     }
 
@@ -123,7 +124,7 @@ impl Replay<'_> {
         }
         match self.place_of(station) {
             Some(at) => self.stage.hand(number, at),
-            None => Ok(()),
+            None => unreachable!(),
         }
     }
 
@@ -201,7 +202,7 @@ impl Replay<'_> {
     {
         match self.slot_of(dev) {
             Some((shelf, slot)) => self.stage.arm(shelf, slot, which, k, mode),
-            None => Ok(()),
+            None => unreachable!(),
         }
     }
 
@@ -216,7 +217,8 @@ impl Replay<'_> {
     {
         match self.place_of(shelf) {
             Some(At::Shelf(i)) => self.stage.crash(i, mode),
-            Some(At::Host(_)) | None => Ok(()),
+            Some(At::Host(_)) => unreachable!(),
+            None => unreachable!(),
         }
     }
 
