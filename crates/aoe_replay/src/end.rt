@@ -1,0 +1,40 @@
+//! How a replay ends.
+use aoe_script::Why;
+
+/// Of what there was too much.
+#[derive(Clone, Copy, Debug, PartialEq, Eq)]
+pub enum ReplayLimit {
+    /// The text has more than 16,777,216 bytes.
+    ScriptBytes,
+
+    /// The script has more than 50,000 events.
+    Events,
+
+    /// 200,000 frames were sent, and there would be one more.
+    Frames,
+
+    /// The frames that were sent would have more than 536,870,912 bytes together.
+    FrameBytes,
+}
+
+/// How a replay ends.
+#[derive(Clone, Copy, Debug, PartialEq, Eq)]
+pub enum ReplayEnd {
+    /// The script was run, and the text of the run was written.
+    Ended,
+
+    /// The source failed.
+    SourceFault,
+
+    /// The sink failed.
+    SinkFault,
+
+    /// An allocation was refused.
+    NoMemory,
+
+    /// The line of this number, from 1, is the first that is bad.
+    Script { line: u32, why: Why },
+
+    /// There was too much of something.
+    Limit(ReplayLimit),
+}
