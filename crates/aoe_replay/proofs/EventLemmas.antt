@@ -1,5 +1,5 @@
 -- Events that come one after the other.
-use Rattle.std.proofs.Common.{◌≡◌, ◌∙◌, ◌+◌, ◌<◌, ◌≤◌, ℕ, zero, suc, List, [], ◌∷◌, length, take, Option, Some, None, refl, sym, ap, subst, arith}
+use Rattle.std.proofs.Common.{◌≡◌, ◌∙◌, ◌+◌, ◌≤◌, ℕ, zero, suc, List, [], ◌∷◌, length, take, Some, None, refl, sym, subst, arith}
 use Rattle.std.specs.Prelude.{slice_get}
 use Rattle.std.proofs.lemmas.List.{take_all}
 use Rattle.aoe_history.specs.declared.entry.Entry.{Entry}
@@ -68,7 +68,7 @@ all_played script i world played all =
 module _ (script : ScriptLines) (i : ℕ) (old new : Stepped) (event : Event) (before : IsPlayed script i old) (is : slice_get script.events i ≡ Some event)
     (begins : ComesSome (setup_of old.lines) old.lines event old.cursor old.entries new.entries) (lines : new.lines ≡ old.lines)
     (lawful : IsLawful (setup_of new.lines) new.entries) (reading : HasReadLaw (setup_of new.lines) new.entries) where
-  filled : MeetsFull (setup_of script.setups) new.entries → Filled script
+  abbrev filled : MeetsFull (setup_of script.setups) new.entries → Filled script
   filled full =
       let P : List Line → Type 0 = λ l. ComesSome (setup_of l) l event old.cursor old.entries new.entries in
       let Q : List Line → Type 0 = λ l. IsLawful (setup_of l) new.entries in

@@ -1,17 +1,19 @@
 -- Texts that are read piece by piece, and what their refusals say.
-use Rattle.std.proofs.Common.{◌≡◌, ◌∙◌, ◌+◌, ◌<◌, ◌≤◌, ℕ, zero, suc, Bool, true, false, List, [], ◌∷◌, ◌++◌, length, take, Option, Some, None, nat_lt, refl, sym, ap, subst, arith}
-use Rattle.std.specs.Prelude.{option_and_then}
+use Rattle.std.proofs.Common.{◌≡◌, ◌+◌, ◌<◌, ◌≤◌, ℕ, zero, suc, Bool, true, false, List, [], ◌++◌, length, take, Option, Some, None, nat_lt, refl, sym, subst, arith}
+use Rattle.std.specs.Prelude.{if◌then◌else◌, option_and_then}
 use Rattle.std.specs.Option.{option_or}
 use Rattle.std.proofs.lemmas.Bool.{ltb-false, ltb-true}
 use Rattle.std.proofs.lemmas.List.{length-append, length-take}
-use Rattle.aoe_io.proofs.BytesLemmas.{Gave-nothing, Gave-then}
+use Rattle.aoe_io.proofs.BytesLemmas.{Gave-nothing, Gave-then, GaveSome-then}
 use Rattle.aoe_io.specs.Bytes.{Gave, IsEnded}
 use Rattle.aoe_script.specs.declared.line.Line.{Line}
 use Rattle.aoe_script.specs.declared.refusal.Why.{Why}
 use Rattle.aoe_script.specs.declared.refusal.ScriptRefusal.{ScriptRefusal}
 use Rattle.aoe_script.specs.declared.refusal.ScriptRefusal.TheVariants.{BadLine, TooMany, TooLong}
 use Rattle.aoe_script.specs.Lines.{ScriptLines, first_refusal, line_refusal, refusal, refusal_at, refused_for, said_by}
-use Rattle.aoe_replay.specs.Replay.{IsRead}
+use Rattle.aoe_replay.specs.declared.end.ReplayEnd.{ReplayEnd}
+use Rattle.aoe_replay.specs.declared.end.ReplayEnd.TheVariants.{Ended, SourceFault, SinkFault, NoMemory, Script, Limit}
+use Rattle.aoe_replay.specs.Replay.{IsRead, Unread}
 
 -- ---- pieces
 
@@ -33,6 +35,15 @@ goes_on a b c text new piece before short gave few is =
 ends_so : (b c : Option (List ℕ)) → Gave b c [] → IsEnded b → IsEnded c
 ends_so b None gave ended = tt
 ends_so b (Some rest) gave ended = subst IsEnded gave ended
+
+-- no further piece came
+pub unread_on : (end : ReplayEnd) (a b c : Option (List ℕ)) (text : List ℕ) → IsBegun a b text → Unread end b c → Unread end a c
+unread_on SourceFault a b c text before u = GaveSome-then a b c text before.gave u
+unread_on NoMemory a b c text before u = GaveSome-then a b c text before.gave u
+unread_on (Limit limit) a b c text before u = u
+unread_on (Script line why) a b c text before u = u
+unread_on Ended a b c text before u = u
+unread_on SinkFault a b c text before u = u
 
 -- nothing came
 pub read_whole : (a b c : Option (List ℕ)) (text new bytes : List ℕ) (n : ℕ) → IsBegun a b text → Gave b c (take n bytes) → new ≡ text ++ take n bytes → n ≡ 0 → IsEnded b → length text ≤ 16777216 → n ≤ length bytes → length bytes ≤ 65536 → IsRead a c new
@@ -70,7 +81,7 @@ long_text text e = go (nat_lt 16777216 (length text)) refl e
   where
     go : (b : Bool) → nat_lt 16777216 (length text) ≡ b → (if b then Some TooLong else first_refusal (said_by text) (length (said_by text))) ≡ Some TooLong → 16777216 < length text
     go true is e = ltb-true 16777216 (length text) is
-    go false is e = absurd (never_long_first _ _ e)
+    go false is e = absurd (never_long_first (said_by text) (length (said_by text)) e)
 
 -- what isn't refused for its length is short
 pub short_text : (text : List ℕ) (cause : Option ScriptRefusal) → refusal text ≡ cause → (cause ≡ Some TooLong → ⊥) → length text ≤ 16777216

@@ -85,7 +85,6 @@ pub fn read_text<S: Source>(alloc: Global, source: &mut S) -> Result<Vec<u8>, Re
 pub fn script_in(alloc: Global, text: &[u8]) -> Result<Script, ReplayEnd>
     ensures script { IfOk result (λ script. script ≡ script_of text.now) }
     ensures good { IfOk result (λ _. refusal text.now ≡ None) }
-    ensures short { IfOk result (λ _. length text.now ≤ 16777216) }
     ensures refused { IfErr result (λ end. IsRefusedAs end text.now) }
 {
     match read_script(alloc, text) {

@@ -18,7 +18,12 @@ use aoe_world::World;
 use std::alloc::Global;
 
 /// Writes the text of the run of a script of so many events.
-fn write_run<K: Sink>(alloc: Global, script_events: u64, history: &History, sink: &mut K) -> ReplayEnd
+fn write_run<K: Sink>(
+    alloc: Global,
+    script_events: u64,
+    history: &History,
+    sink: &mut K,
+) -> ReplayEnd
     requires { All CanPrint history.now }
     ensures writes { Writes result (K.held sink.old) (K.held sink.new) (run_text script_events history.now) }
     ensures leaves { LeavesSink result sink.old sink.new }
@@ -67,7 +72,7 @@ fn replay_script<S: Source, K: Sink>(alloc: Global, source: &mut S, sink: &mut K
     };
     match script_in(alloc, text.as_slice()) {
         Ok(script) => run_script(alloc, &script, sink),
-        Err(end) => end,
+        Err(refusal) => refusal,
     }
 }
 

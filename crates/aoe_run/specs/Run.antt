@@ -1,6 +1,6 @@
 -- A run as contracts see it.
-use Rattle.std.specs.Prelude.{ℕ, ◌≡◌, ◌≤◌, Bool, true, false, List, ◌∷◌}
-use Rattle.aoe_net.specs.Network.{IsFull, Network}
+use Rattle.std.specs.Prelude.{All, length, ℕ, ◌≡◌, ◌≤◌, Bool, true, false, List, ◌∷◌}
+use Rattle.aoe_net.specs.Network.{IsFull, Network, SentFrame}
 use Rattle.aoe_history.specs.declared.entry.Entry.{Entry}
 use Rattle.aoe_history.specs.declared.entry.Entry.TheVariants.{Sent, Injected, Arrived, Ticked}
 use Rattle.aoe_history.specs.declared.entry.Fate.TheVariants.{Replied}
@@ -29,11 +29,16 @@ is_plain entry = true
 abbrev pub network_of : Recorded → Network
 network_of run = network run.life run.entries
 
--- a network has the frames of a history, none of them from a later time
+-- a frame has a length that a network takes
+abbrev pub IsShort : SentFrame → Type 0
+IsShort frame = length frame.bytes ≤ 9018
+
+-- a network has the frames of a history, none of them from a later time or too long
 pub record Carries (life now : ℕ) (h : List Entry) (net : Network) : Type 0 where
   pub life_is : net.life ≡ life
   pub sent : net.sent ≡ frames h
   pub past : net.latest ≤ now
+  pub short : All IsShort net.sent
   pub time : now ≡ clock h
 
 -- no room: the next entry could be one of which a frame comes that the network has no room for

@@ -1,5 +1,5 @@
 //! The clock, the network and the history of a run.
-ghost use Rattle.std.specs.Prelude.{◌≡◌, ◌≢◌, ◌+◌, ◌<◌, ◌≤◌, ◌^◌, List, [], ◌∷◌, length, option_map, true, IfOk, OnErr, OnOk, Err};
+ghost use Rattle.std.specs.Prelude.{◌≡◌, ◌≢◌, ◌+◌, ◌<◌, ◌≤◌, ◌^◌, List, [], ◌∷◌, length, option_map, true, IfOk, IfSome, OnErr, OnOk, Err};
 ghost use Rattle.aoe_net.specs.Network.{total_bytes, IsFull};
 ghost use Rattle.aoe_history.specs.declared.entry.Entry.{Entry};
 ghost use Rattle.aoe_history.specs.declared.entry.Entry.TheVariants.{Sent, Injected, Arrived, Ticked};
@@ -88,7 +88,8 @@ impl Run {
 
     /// The frame with a number, as long as it can be handed over.
     pub fn fetch(&self, number: FrameNo) -> Option<&[u8]>
-        ensures { option_map (λ frame. frame.now) result ≡ arriving self.now.life self.now.entries number.0 }
+        ensures frame { option_map (λ frame. frame.now) result ≡ arriving self.now.life self.now.entries number.0 }
+        ensures bound { IfSome result (λ frame. length frame.now ≤ 9018) }
     {
         self.net.fetch(number, self.clock)
     }

@@ -1,28 +1,24 @@
 -- Acts: their entries, and then the turns of the hosts.
-use Rattle.std.proofs.Common.{ℕ, zero, suc, ◌≡◌, ◌≢◌, ◌≤◌, ◌<◌, ◌⊎◌, if◌then◌else◌, nat_eq, Bool, true, false, not, List, [], ◌∷◌, length, Option, Some, None, Result, Ok, Err, refl, sym, ap, subst, ◌∙◌, arith, inl, inr}
+use Rattle.std.proofs.Common.{ℕ, zero, suc, ◌≡◌, ◌≢◌, ◌≤◌, ◌<◌, ◌⊎◌, if◌then◌else◌, nat_eq, Bool, true, false, not, List, [], ◌∷◌, Option, Some, None, Result, Ok, Err, refl, sym, ap, subst, ◌∙◌, arith, inl, inr}
 use Rattle.std.specs.Prelude.{slice_get, slice_set}
 use Rattle.std.specs.List.{filter, list_any}
-use Rattle.std.specs.Str.{bytes_eq}
 use Rattle.std.proofs.lemmas.Bool.{cases_lt}
 use Rattle.std.proofs.lemmas.Bool.Decides.{nat_tests}
-use Rattle.std.proofs.lemmas.Option.{same_Some, slice_get_within}
-use Rattle.std.proofs.lemmas.Slice.Eq.{bytes_eq-Decides}
-use Rattle.arrayvec.specs.ArrayVec.{ArrayVec}
+use Rattle.std.proofs.lemmas.Option.{same_Some}
 use Rattle.aoe_base.specs.declared.address.TargetId.{TargetId}
 use Rattle.aoe_history.specs.declared.entry.Entry.{Entry}
-use Rattle.aoe_history.specs.declared.entry.Entry.TheVariants.{Arrived, Armed, Crashed, Refused, Submitted, Ticked, Took}
+use Rattle.aoe_history.specs.declared.entry.Entry.TheVariants.{Armed, Ticked}
 use Rattle.aoe_history.specs.Groups.{Act, Enters, EntersSome, Got, IsBegun}
 use Rattle.aoe_history.specs.Lawful.{IsLawful, MayCome}
-use Rattle.aoe_history.specs.Setup.{host_called, is_called, is_slot, shelf_of, HostSetup, Setup, SlotSetup}
-use Rattle.aoe_hosts.proofs.Apart.{awaits-other, awaits-settled, awaits-ticked}
-use Rattle.aoe_hosts.proofs.Called.{is-called}
-use Rattle.aoe_hosts.specs.Host.{is_apart as is_apart_of_host, is_told, Awaits, IsSettled, NamedHost}
+use Rattle.aoe_history.specs.Setup.{is_slot, shelf_of, HostSetup, Setup, SlotSetup}
+use Rattle.aoe_hosts.proofs.Apart.{awaits-settled, awaits-ticked}
+use Rattle.aoe_hosts.specs.Host.{is_apart as is_apart_of_host, NamedHost}
 use Rattle.aoe_net.specs.declared.refusal.NetRefusal.{NetRefusal}
-use Rattle.aoe_net.specs.declared.refusal.NetRefusal.TheVariants.{Full, NoMemory}
+use Rattle.aoe_net.specs.declared.refusal.NetRefusal.TheVariants.{NoMemory}
 use Rattle.aoe_racks.specs.Rack.{is_apart as is_apart_of_slots, MemoryRack, Serves}
-use Rattle.aoe_run.specs.Run.{with_entry, MeetsFull}
+use Rattle.aoe_run.specs.Run.{with_entry}
 use Rattle.aoe_world.proofs.AddsLemmas.{adds_none, adds_one, Adds, SpeaksOf}
-use Rattle.aoe_world.proofs.TurnLemmas.{get-set, length-set, serves-adds, set-get, settled-adds, there-is}
+use Rattle.aoe_world.proofs.TurnLemmas.{get-set, length-set, serves-adds, set-get, settled-adds}
 use Rattle.aoe_world.specs.declared.stage.Stage.{Stage}
 use Rattle.aoe_world.specs.Stage.{AllServe, AllSettled, Does, HadTurns, IsLeft, IsNetwork, IsReady, IsTurning, Settles}
 
@@ -155,9 +151,10 @@ one-shelf s majors i major x y h m shelves net em ex adds serves same k = record
 
     at-i : (j n : ℕ) (z : MemoryRack) → j ≡ i → slice_get majors j ≡ Some n → slice_get (slice_set shelves i y) j ≡ Some z → (z.shelf.major ≡ n) × Serves (shelf_of s n) m z
     at-i j n z is en ez =
-        let w = here j n z is en ez in
-        (ap (λ (q : MemoryRack). q.shelf.major) w.1 ∙ same ∙ k.number i major x em ex ∙ sym w.0,
-        subst (λ (q : ℕ). Serves (shelf_of s q) m z) (sym w.0) (subst (λ (q : MemoryRack). Serves (shelf_of s major) m q) (sym w.1) serves))
+        let w = here j n z is en ez in (
+          ap (λ (q : MemoryRack). q.shelf.major) w.1 ∙ same ∙ k.number i major x em ex ∙ sym w.0,
+          subst (λ (q : ℕ). Serves (shelf_of s q) m z) (sym w.0) (subst (λ (q : MemoryRack). Serves (shelf_of s major) m q) (sym w.1) serves),
+        )
 
     elsewhere : (j n : ℕ) (z : MemoryRack) → j ≢ i → slice_get majors j ≡ Some n → slice_get (slice_set shelves i y) j ≡ Some z → (z.shelf.major ≡ n) × Serves (shelf_of s n) m z
     elsewhere j n z apart en ez =

@@ -1,5 +1,5 @@
 -- An act of one host.
-use Rattle.std.proofs.Common.{ℕ, ◌≡◌, ◌≢◌, ◌≤◌, ◌<◌, ◌⊎◌, Bool, true, false, not, List, [], ◌∷◌, Option, Some, None, refl, sym, ap, subst, ◌∙◌, arith, inl, inr, MatchOption}
+use Rattle.std.proofs.Common.{ℕ, ◌≡◌, ◌≢◌, ◌≤◌, ◌<◌, ◌⊎◌, Bool, true, false, not, List, ◌∷◌, Option, Some, None, refl, sym, ap, subst, ◌∙◌, arith, inl, inr, MatchOption}
 use Rattle.std.specs.Prelude.{slice_get, slice_set}
 use Rattle.std.specs.Str.{bytes_eq}
 use Rattle.std.proofs.lemmas.Bool.{cases_lt}
@@ -15,7 +15,7 @@ use Rattle.aoe_history.specs.Groups.{submit_entry, submitted_as, ComesTo, Enters
 use Rattle.aoe_history.specs.Groups.Act.{Hand, Submit}
 use Rattle.aoe_history.specs.Groups.Station.{Host as HostStation}
 use Rattle.aoe_history.specs.Lawful.{IsLawful}
-use Rattle.aoe_history.specs.Setup.{device_no, host_called, is_called, shelf_of, HostSetup, Setup, SlotSetup}
+use Rattle.aoe_history.specs.Setup.{device_no, is_called, HostSetup, Setup}
 use Rattle.aoe_hosts.proofs.Apart.{awaits-other, awaits-settled}
 use Rattle.aoe_hosts.proofs.Called.{is-called}
 use Rattle.aoe_hosts.specs.Host.{is_apart as is_apart_of_host, is_told, Awaits, IsSettled, NamedHost}
@@ -164,7 +164,7 @@ has-submitted s majors name dev op i x y old m host net k at called there took =
     let own : is_called host x.name ≡ true = is-called s x.name host settled.is.called in
     let is : m ≡ submitted_as s host h name dev op ∷ h = subst (λ n. m ≡ submitted_as s host h n dev op ∷ h) (one-name host x.name name own called) t.0 in
     let adds : (p : Entry → Bool) → ((ticket : ℕ) → p (Submitted name ticket dev op) ≡ true) → ((refusal : SubmitRefusal) → p (Refused name refusal) ≡ true) → Adds p h m =
-        (λ p a b. subst (Adds p h) (sym is) (adds_one _ (entry-adds p s host h name dev op (submit_refusal (host_after s host h) (device_no host dev).0 op) a b) adds_none)) in
+    (λ p a b. subst (Adds p h) (sym is) (adds_one _ (entry-adds p s host h name dev op (submit_refusal (host_after s host h) (device_no host dev).0 op) a b) adds_none)) in
     record {
       enters = (refl, (host, net.called i host name at called, is));
       lawful = t.1;

@@ -1,6 +1,6 @@
 -- Where the stations of an event line stand.
-use Rattle.std.proofs.Common.{ℕ, zero, suc, ◌≡◌, ◌≢◌, ◌≤◌, ◌<◌, ◌+◌, ◌-◌, ◌*◌, ◌^◌, ◌⊎◌, replicate, ◌==◌, Bool, true, false, List, [], ◌∷◌, length, map, Option, Some, None, Result, Ok, Err, refl, sym, ap, subst, ◌∙◌, arith, inl, inr, cond, not, get_or, MatchOption, OnOk}
-use Rattle.std.specs.Prelude.{filter, find, is_some, nat_eq, option_map, position, slice_get, Contains, IfSome, IsSomeAnd, IsSome, nat_lt}
+use Rattle.std.proofs.Common.{ℕ, zero, suc, ◌≡◌, ◌≢◌, ◌≤◌, ◌<◌, ◌+◌, ◌-◌, ◌*◌, ◌^◌, ◌⊎◌, replicate, Bool, true, false, List, [], ◌∷◌, length, map, Option, Some, None, Result, Ok, Err, refl, sym, ap, subst, ◌∙◌, arith, inl, inr, cond, not, get_or, MatchOption, OnOk}
+use Rattle.std.specs.Prelude.{filter, find, is_some, nat_eq, option_map, position, slice_get, Contains, IfSome, IsSomeAnd, nat_lt}
 use Rattle.std.specs.List.{position_or_len}
 use Rattle.std.specs.Option.{option_map_or}
 use Rattle.std.proofs.lemmas.Bool.{cases_Bool, cases_lt, eq-eqb, eqb-true, lt-ltb, ltb-true}
@@ -34,7 +34,6 @@ use Rattle.aoe_initiator.specs.HostLaw.{same_id}
 use Rattle.aoe_layout.proofs.ListLemmas.{place-of}
 use Rattle.aoe_layout.specs.Layout.{majors_of, setup_of, station_named, Placed}
 use Rattle.aoe_layout.specs.Stations.{CanCome}
-use Rattle.aoe_racks.specs.declared.rack.Stops.{Stops}
 use Rattle.aoe_racks.specs.Rack.{MemoryRack, Serves}
 use Rattle.aoe_script.specs.declared.setup.Setup.{Setup as Line}
 use Rattle.aoe_script.specs.declared.event.Event.{Event}
@@ -45,12 +44,12 @@ use Rattle.aoe_world.specs.declared.place.At.{At}
 use Rattle.aoe_world.specs.declared.place.Place.{Place}
 use Rattle.aoe_world.specs.declared.stage.Stage.{Stage}
 use Rattle.aoe_net.specs.declared.refusal.NetRefusal.{NetRefusal}
-use Rattle.aoe_world.specs.Schedule.{station_called, Comes, ComesSome, FollowsSome, Moves, MovesBy, MovesSome}
+use Rattle.aoe_world.specs.Schedule.{station_called, Comes, ComesSome, FollowsSome, Moves, MovesSome}
 use Rattle.aoe_world.specs.Stage.{ArePlaces, Does, DoesAll, IsAt, IsLeft, IsNetwork, IsReady}
 use Rattle.aoe_world.specs.World.{Runs}
 use Rattle.aoe_world.proofs.ScheduleKeeps.{follows-grow}
 use Rattle.aoe_world.proofs.ScheduleLemmas.{does-all}
-use Rattle.aoe_world.proofs.TurnLemmas.{there}
+use Rattle.aoe_world.proofs.TurnLemmas.{there-is as there}
 
 -- PLACES BY NAME
 
@@ -196,14 +195,6 @@ module _ (s : Setup) (majors : List ℕ) (acts : List Entry → ℕ → List Act
           within = let more = follows-grow s (acts now.run.entries behind) now.run.entries later.run.entries follows in omega (arith, le, more);
         }))
 
-    -- as many as there are to be
-    pub passed-all : (n : ℕ) → count ≡ n → MovesBy s acts n cursor old.run.entries behind now.run.entries × IsReady s majors now
-    passed-all n e = (record { count = count; moves = p.moves; ends = inl e }, p.ready)
-
-    -- no frame is left
-    pub passed-some : (n : ℕ) → count < n → length (frames now.run.entries) < behind → MovesBy s acts n cursor old.run.entries behind now.run.entries × IsReady s majors now
-    passed-some n lt beyond = (record { count = count; moves = p.moves; ends = inr (lt, beyond) }, p.ready)
-
     -- one came in part
     pub passed-begun : (n : ℕ) (refusal : NetRefusal) (later : Stage) → count < n
         → FollowsSome s (acts now.run.entries behind) now.run.entries later.run.entries × IsLeft s refusal later.run.entries
@@ -224,14 +215,16 @@ at-of s majors o p result e h = subst (λ x. IfSome x (λ (q : Placed). IsSomeAn
 pub lose-as-hand : {T : Type 0} (r : Result T NetRefusal) (s : Setup) (majors : List ℕ) (life frame : ℕ) (station : Station) (old mid new : Stage) → life ≡ s.life
     → mid.run.entries ≡ old.run.entries → arriving life old.run.entries frame ≡ None → Does r s majors (Lose frame) mid new → Does r s majors (Hand frame station) old new
 lose-as-hand (Ok u) s majors life frame station old mid new el es none (g, ready) =
-    let gone : arriving s.life old.run.entries frame ≡ None = ap (λ l. arriving l old.run.entries frame) (sym el) ∙ none in
-    (record {
-      got = g.got;
-      entered = g.entered;
-      enters = subst (λ o. MatchOption o ((g.got ≡ None) × (g.entered ≡ Lost frame ∷ old.run.entries)) (λ f. ComesTo s frame f station old.run.entries g.got g.entered)) (sym gone)
-          (subst (λ h. (g.got ≡ None) × (g.entered ≡ Lost frame ∷ h)) es g.enters);
-      turns = g.turns;
-    }, ready)
+    let gone : arriving s.life old.run.entries frame ≡ None = ap (λ l. arriving l old.run.entries frame) (sym el) ∙ none in (
+      record {
+        got = g.got;
+        entered = g.entered;
+        enters = subst (λ o. MatchOption o ((g.got ≡ None) × (g.entered ≡ Lost frame ∷ old.run.entries)) (λ f. ComesTo s frame f station old.run.entries g.got g.entered)) (sym gone)
+            (subst (λ h. (g.got ≡ None) × (g.entered ≡ Lost frame ∷ h)) es g.enters);
+        turns = g.turns;
+      },
+      ready,
+    )
 lose-as-hand (Err refusal) s majors life frame station old mid new el es none (begun, left) =
     (go station (ap (λ l. arriving l old.run.entries frame) (sym el) ∙ none) (subst (λ h. IsBegun s h (Lose frame) new.run.entries) es begun), left)
   where

@@ -1,5 +1,5 @@
 -- A frame that is handed to one station after another.
-use Rattle.std.proofs.Common.{ℕ, zero, suc, ◌≡◌, ◌≤◌, ◌<◌, Bool, true, false, List, [], ◌∷◌, ◌++◌, length, map, take, drop, Option, Some, None, Result, Ok, Err, get_or, refl, sym, ap, subst, ◌∙◌, arith, inl, inr, cond}
+use Rattle.std.proofs.Common.{ℕ, zero, suc, ◌≡◌, ◌<◌, Bool, true, false, List, [], ◌∷◌, ◌++◌, length, map, take, drop, Some, None, Result, Ok, Err, get_or, refl, sym, ap, subst, ◌∙◌, arith, inl, inr, cond}
 use Rattle.std.specs.Prelude.{filter, nat_lt, slice_get, slice_range}
 use Rattle.std.specs.Option.{option_map_or}
 use Rattle.std.proofs.lemmas.Bool.Decides.{nat_tests}
@@ -11,16 +11,16 @@ use Rattle.aoe_history.specs.Frames.{arriving}
 use Rattle.aoe_history.specs.Groups.{Act, Follows, Group, IsBegun, Station}
 use Rattle.aoe_history.specs.Groups.Act.{Hand, Lose}
 use Rattle.aoe_history.specs.Groups.Station.{Shelf as ShelfStation, Host as HostStation}
-use Rattle.aoe_history.specs.Setup.{HostSetup, Setup}
+use Rattle.aoe_history.specs.Setup.{Setup}
 use Rattle.aoe_layout.specs.Layout.{Placed}
 use Rattle.aoe_world.specs.declared.place.At.{At}
 use Rattle.aoe_world.specs.declared.place.At.TheVariants as at
 use Rattle.aoe_world.specs.declared.place.Place.{Place}
 use Rattle.aoe_world.specs.declared.stage.Stage.{Stage}
 use Rattle.aoe_world.specs.Schedule.{addressees, gets, hand_each, handings, is_for, FollowsSome}
-use Rattle.aoe_world.specs.Stage.{ArePlaces, Does, DoesAll, HandsEach, IsAt, IsInside, IsLeft, IsNetwork, IsReady}
+use Rattle.aoe_world.specs.Stage.{ArePlaces, Does, DoesAll, HandsEach, IsAt, IsInside, IsLeft, IsReady}
 use Rattle.aoe_world.proofs.ScheduleKeeps.{hand-fresh}
-use Rattle.aoe_world.proofs.TurnLemmas.{take-all, there}
+use Rattle.aoe_world.proofs.TurnLemmas.{take-all, there-is as there}
 
 -- ACTS ONE AFTER ANOTHER
 
@@ -189,9 +189,11 @@ module _ (s : Setup) (majors : List ℕ) (stations : List Placed) (number : ℕ)
   pub handed-all : (k : ℕ) (any : Bool) (now : Stage) → k ≡ length stations → Handed s majors stations number k any old now
       → HandsEach (Ok any) s majors number (addressees stations old.frame.items) old now
   handed-all k any now e h =
-      let same : take k stations ≡ stations = ap (λ n. take n stations) e ∙ take-all stations in
-      (h.some ∙ ap (λ xs. nat_lt 0 (length (addressees xs old.frame.items))) same,
-      subst (λ xs. Follows s (map (Hand number) (addressees xs old.frame.items)) old.run.entries now.run.entries) same h.follows, h.ready)
+      let same : take k stations ≡ stations = ap (λ n. take n stations) e ∙ take-all stations in (
+        h.some ∙ ap (λ xs. nat_lt 0 (length (addressees xs old.frame.items))) same,
+        subst (λ xs. Follows s (map (Hand number) (addressees xs old.frame.items)) old.run.entries now.run.entries) same h.follows,
+        h.ready,
+      )
 
 -- STEPS OF THE CODE
 
@@ -255,7 +257,7 @@ entries-same old new e = ap (λ (st : Stage). st.run.entries) e
 
 pub handings-none : (s : Setup) (stations : List Placed) (life : ℕ) (h : List Entry) (number : ℕ) → life ≡ s.life → arriving life h number ≡ None
     → handings s stations h number ≡ Lose number ∷ []
-handings-none s stations life h number e none = 
+handings-none s stations life h number e none =
     ap (λ o. option_map_or (λ f. hand_each number (addressees stations f)) o (Lose number ∷ [])) (ap (λ n. arriving n h number) (sym e) ∙ none)
 
 pub handings-some : (s : Setup) (stations : List Placed) (life : ℕ) (h : List Entry) (number : ℕ) (f : List ℕ) → life ≡ s.life → arriving life h number ≡ Some f

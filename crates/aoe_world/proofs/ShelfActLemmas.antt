@@ -1,18 +1,16 @@
 -- An act of one shelf.
 use Rattle.std.proofs.Common.{ℕ, ◌≡◌, ◌≢◌, ◌<◌, Bool, true, List, ◌∷◌, Option, Some, None, refl, sym, subst, MatchOption}
 use Rattle.std.specs.Prelude.{slice_get, slice_set}
-use Rattle.std.proofs.lemmas.Option.{same_Some, slice_get_within}
-use Rattle.aoe_base.specs.declared.address.TargetId.{TargetId}
+use Rattle.std.proofs.lemmas.Option.{slice_get_within}
 use Rattle.aoe_disk.specs.Memory.{Memory}
 use Rattle.aoe_disk.specs.declared.loss.Loss.{Loss}
 use Rattle.aoe_history.specs.declared.entry.Entry.{Entry}
 use Rattle.aoe_history.specs.declared.entry.Entry.TheVariants.{Armed, Lost}
 use Rattle.aoe_history.specs.Frames.{arriving}
 use Rattle.aoe_history.specs.Groups.{ArriveAtEach, ArriveAtSome, ComesTo, CrashEach, Enters, EntersSome, Got}
-use Rattle.aoe_history.specs.Groups.Act.{Crash, Hand}
+use Rattle.aoe_history.specs.Groups.Act.{Hand}
 use Rattle.aoe_history.specs.Groups.Station.{Shelf as ShelfStation}
-use Rattle.aoe_history.specs.Lawful.{IsLawful}
-use Rattle.aoe_history.specs.Setup.{shelf_of, HostSetup, Setup, SlotSetup}
+use Rattle.aoe_history.specs.Setup.{shelf_of, HostSetup, Setup}
 use Rattle.aoe_hosts.specs.Host.{is_apart as is_apart_of_host}
 use Rattle.aoe_racks.proofs.Apart.{there}
 use Rattle.aoe_racks.specs.Rack.{is_apart as is_apart_of_slots, MemoryRack, Serves}

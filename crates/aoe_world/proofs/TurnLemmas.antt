@@ -1,9 +1,8 @@
 -- The turns of hosts, one after another.
-use Rattle.std.proofs.Common.{ℕ, zero, suc, ◌≡◌, ◌≢◌, ◌≤◌, ◌<◌, ◌+◌, Bool, true, false, not, List, [], ◌∷◌, length, Option, Some, None, refl, sym, ap, subst, ◌∙◌, arith, inl, inr, take}
+use Rattle.std.proofs.Common.{ℕ, zero, suc, ◌≡◌, ◌≢◌, ◌≤◌, ◌<◌, ◌+◌, Bool, true, false, not, List, [], ◌∷◌, length, Option, Some, refl, sym, ap, subst, ◌∙◌, arith, inl, inr, take}
 use Rattle.std.specs.Prelude.{slice_get, slice_set}
 use Rattle.std.proofs.lemmas.Bool.{cases_lt}
 use Rattle.std.proofs.lemmas.Option.{same_Some, slice_get_within}
-use Rattle.arrayvec.specs.ArrayVec.{ArrayVec}
 use Rattle.aoe_history.specs.declared.entry.Entry.{Entry}
 use Rattle.aoe_history.specs.Groups.{Got, Turn, Turns, TurnSome, TurnsSome}
 use Rattle.aoe_history.specs.Lawful.{IsLawful}
@@ -179,15 +178,17 @@ going-on old now new i end x y g there turn life shelves hosts frame = subst (λ
     more s majors got net (turns, k) =
         let w = slice_get_within now.hosts.items i x there in
         let at = there-is s.hosts i (omega (arith, w, k.hosts_are.count)) in
-        let t = turn s at.0 got (k.hosts_are.waiting i at.0 x at.1 there (omega arith)) k.lawful in
-        (turns-more s s.hosts i at.0 got old.run.entries now.run.entries new.run.entries at.1 turns t.0, record {
-          life = life ∙ k.life;
-          lawful = t.1;
-          hosts_are = subst (λ xs. HadTurns s got new.run.entries (suc i) xs) (sym hosts)
-              (one-more s majors got i at.0 y now.hosts.items now.run.entries new.run.entries net at.1 t.0 t.2 k.hosts_are);
-          shelves_are = subst (λ xs. AllServe s majors new.run.entries xs) (sym shelves)
-              (serve-on s majors got i at.0 y now.hosts.items now.run.entries new.run.entries net at.1 t.0 t.2 now.shelves.items k.shelves_are);
-        })
+        let t = turn s at.0 got (k.hosts_are.waiting i at.0 x at.1 there (omega arith)) k.lawful in (
+          turns-more s s.hosts i at.0 got old.run.entries now.run.entries new.run.entries at.1 turns t.0,
+          record {
+            life = life ∙ k.life;
+            lawful = t.1;
+            hosts_are = subst (λ xs. HadTurns s got new.run.entries (suc i) xs) (sym hosts)
+                (one-more s majors got i at.0 y now.hosts.items now.run.entries new.run.entries net at.1 t.0 t.2 k.hosts_are);
+            shelves_are = subst (λ xs. AllServe s majors new.run.entries xs) (sym shelves)
+                (serve-on s majors got i at.0 y now.hosts.items now.run.entries new.run.entries net at.1 t.0 t.2 now.shelves.items k.shelves_are);
+          },
+        )
 
 -- the turn of a host came in part
 pub going-broken : (old now : Stage) (m : List Entry) (i end : ℕ) (x : NamedHost) (refusal : NetRefusal) → Going old now i end → slice_get now.hosts.items i ≡ Some x
@@ -202,11 +203,13 @@ going-broken old now m i end x refusal g there turn full s majors got net begun 
     let w = slice_get_within now.hosts.items i x there in
     let at = there-is s.hosts i (omega (arith, w, k.hosts_are.count)) in
     let waits = k.hosts_are.waiting i at.0 x at.1 there (omega arith) in
-    let t = turn s at.0 got waits k.lawful in
-    (turns-some s s.hosts i at.0 got old.run.entries now.run.entries m at.1 gone.0 t.0, record {
-      lawful = t.1;
-      full = λ e. full e s at.0 got waits k.lawful;
-    })
+    let t = turn s at.0 got waits k.lawful in (
+      turns-some s s.hosts i at.0 got old.run.entries now.run.entries m at.1 gone.0 t.0,
+      record {
+        lawful = t.1;
+        full = λ e. full e s at.0 got waits k.lawful;
+      },
+    )
 
 -- all had their turn
 pub going-done : (old now : Stage) (i end : ℕ) → Going old now i end → end ≤ i → (s : Setup) (majors : List ℕ) (got : Option Got) → IsNetwork s majors → IsTurning s majors got 0 old
@@ -214,10 +217,12 @@ pub going-done : (old now : Stage) (i end : ℕ) → Going old now i end → end
 going-done old now i end g last s majors got net begun =
     let is : i ≡ length now.hosts.items = omega (arith, g.upto, last, g.count) in
     let gone = g.turns s majors got net begun in
-    let k = gone.1 in
-    (turns-all s s.hosts i got old.run.entries now.run.entries (is ∙ k.hosts_are.count) gone.0, record {
-      life = k.life;
-      lawful = k.lawful;
-      hosts_are = all-settled s got now.run.entries i now.hosts.items is k.hosts_are;
-      shelves_are = k.shelves_are;
-    })
+    let k = gone.1 in (
+      turns-all s s.hosts i got old.run.entries now.run.entries (is ∙ k.hosts_are.count) gone.0,
+      record {
+        life = k.life;
+        lawful = k.lawful;
+        hosts_are = all-settled s got now.run.entries i now.hosts.items is k.hosts_are;
+        shelves_are = k.shelves_are;
+      },
+    )

@@ -70,7 +70,10 @@ impl Replay<'_> {
     fn shelf_with(&self, major: u16) -> Option<usize>
         ensures { result ≡ position (λ shelf. nat_eq shelf.shelf.major major) self.now.stage.shelves.items }
     {
-        self.stage.shelves.iter().position(|shelf| shelf.major() == major)
+        self.stage
+            .shelves
+            .iter()
+            .position(|shelf| shelf.major() == major)
     }
 
     /// The place of the shelf of a slot, and in it that of the slot.
@@ -137,11 +140,14 @@ impl Replay<'_> {
         ensures script { self.new.script ≡ self.old.script }
         ensures cursor { OnOk result ((1 ≤ self.new.cursor) × (self.new.cursor ≤ suc (length (frames self.new.stage.run.entries)))) }
     {
-        'frames: for _ in 0..n {
+        'passed: for _ in 0..n {
             if self.cursor > self.stage.run.frames() {
                 return Ok(());
             }
-            match self.stage.treat(FrameNo(self.cursor), self.places.as_slice()) {
+            match self
+                .stage
+                .treat(FrameNo(self.cursor), self.places.as_slice())
+            {
                 Ok(()) => {}
                 Err(refusal) => return Err(refusal),
             }
@@ -159,7 +165,7 @@ impl Replay<'_> {
         ensures script { self.new.script ≡ self.old.script }
         ensures cursor { OnOk result ((1 ≤ self.new.cursor) × (self.new.cursor ≤ suc (length (frames self.new.stage.run.entries)))) }
     {
-        'frames: for _ in 0..n {
+        'skipped: for _ in 0..n {
             if self.cursor > self.stage.run.frames() {
                 return Ok(());
             }
@@ -180,7 +186,8 @@ impl Replay<'_> {
             (handings (setup_of self.old.script.now.setups) (stations_of self.old.script.now.setups) self.old.stage.run.entries (self.old.cursor - 1)) self.old.stage self.new.stage }
         ensures rest { self.new ≡ record self.old { stage = self.new.stage } }
     {
-        self.stage.treat(FrameNo(self.cursor - 1), self.places.as_slice())
+        self.stage
+            .treat(FrameNo(self.cursor - 1), self.places.as_slice())
     }
 
     /// A disk of a slot is armed.

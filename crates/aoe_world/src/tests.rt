@@ -1,21 +1,37 @@
+//! Whole transcripts of scripts, worked out by hand.
+mod crashes;
+mod paths;
+mod refusals;
+mod repeats;
+
 use super::*;
+use aoe_base::Blob;
 use aoe_script::read_script;
+use aoe_transcript::print_run;
+use std::alloc::Global;
 use std::test::Fail;
 
-/// A shelf with a slot, and a host that is attached to it.
-const STATIONS: &str =
-    "life 2000\nshelf s 1 02:00:00:00:00:01 1500\nslot s 0 16\nhost a 02:00:00:00:00:0a\nattach a s 0\n";
+/// A shelf with a slot of 16 sectors, and a host that is attached to it.
+const STATIONS: &str = "\
+life 2000
+shelf s 1 02:00:00:00:00:01 1500
+slot s 0 16
+host a 02:00:00:00:00:0a
+attach a s 0
+";
 
-#[test]
-fn steps_through_a_write_and_a_read(rt: HostRuntime) -> Result<(), Fail> {
-    let alloc = rt.alloc();
-    let text = format!(in alloc; "{STATIONS}write a e1.0 3 1 5a\npass 2\nread a e1.0 3 1\npass 2\n")?;
+/// What a script's run prints.
+fn transcript(alloc: Global, text: &str) -> Result<Blob, Fail> {
     let script = read_script(alloc, text.as_bytes())?;
     let mut world = World::new(alloc, &script)?;
-    for i in 0..script.count() {
+    'events: for i in 0..script.count() {
         world.step(script.event(i))?;
     }
-    assert_eq!(rt; world.events(), 4);
-    assert_eq!(rt; world.history().count(), 10);
-    Ok(())
+    Ok(print_run(alloc, u64::from(world.events()), world.history())?)
+}
+
+/// Whether the run of these lines, behind the lines of the stations, prints this text.
+fn prints(alloc: Global, lines: &str, text: &str) -> Result<bool, Fail> {
+    let script = format!(in alloc; "{STATIONS}{lines}")?;
+    Ok(transcript(alloc, script.as_str())?.bytes() == text.as_bytes())
 }

@@ -32,4 +32,3 @@ returns-clause-script c = record {
   setups_fit = All-from_recursion FitsSetup lines (one-fits 11 (omega arith), (one-fits 1 (omega arith), (tt, (tt, (one-fits 10 (omega arith), (tt, tt))))));
   events_fit = All-nil FitsEvent;
 }
-

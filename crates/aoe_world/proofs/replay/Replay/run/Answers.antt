@@ -34,7 +34,7 @@ pub returns-in-Inject-clause-runs : goal.returns-in-Inject-clause-runs
 returns-in-Inject-clause-runs c =
     let can = c.events_law.ensures.comes c.args.self.now.script.now c.args.event.now c.requires.staged.good c.requires.good in
     let d = c.inject.ensures (setup_of c.args.self.now.script.now.setups) (majors_of c.args.self.now.script.now.setups) c.requires.staged.network_is c.requires.ready
-        (injected-apart c.args.self.now.script.now.setups c.args.event.now c.in-Inject.bytes c.bytes.result.now c.in-Inject.is c.bytes.ensures can) in
+    (injected-apart c.args.self.now.script.now.setups c.args.event.now c.in-Inject.bytes c.bytes.result.now c.in-Inject.is c.bytes.ensures can) in
     inject-runs c.inject.result c.args.self.now.script.now.setups c.args.event.now c.in-Inject.bytes c.bytes.result.now c.args.self.now.cursor c.args.self.now.stage c.inject.new.self
     c.in-Inject.is c.bytes.ensures d
 
@@ -42,7 +42,7 @@ pub returns-in-Inject-clause-cursor : goal.returns-in-Inject-clause-cursor
 returns-in-Inject-clause-cursor c =
     let can = c.events_law.ensures.comes c.args.self.now.script.now c.args.event.now c.requires.staged.good c.requires.good in
     let d = c.inject.ensures (setup_of c.args.self.now.script.now.setups) (majors_of c.args.self.now.script.now.setups) c.requires.staged.network_is c.requires.ready
-        (injected-apart c.args.self.now.script.now.setups c.args.event.now c.in-Inject.bytes c.bytes.result.now c.in-Inject.is c.bytes.ensures can) in
+    (injected-apart c.args.self.now.script.now.setups c.args.event.now c.in-Inject.bytes c.bytes.result.now c.in-Inject.is c.bytes.ensures can) in
     does-cursor c.inject.result (setup_of c.args.self.now.script.now.setups) (majors_of c.args.self.now.script.now.setups) (Inject c.bytes.result.now ∷ []) c.args.self.now.cursor c.args.self.now.cursor c.args.self.now.stage c.inject.new.self refl
     c.requires.staged.from_one c.requires.staged.within
     (does-all c.inject.result (setup_of c.args.self.now.script.now.setups) (majors_of c.args.self.now.script.now.setups) (Inject c.bytes.result.now) c.args.self.now.stage c.inject.new.self d)
@@ -72,4 +72,3 @@ pub returns-in-Crash-clause-cursor : goal.returns-in-Crash-clause-cursor
 returns-in-Crash-clause-cursor c =
     does-cursor c.crash.result (setup_of c.args.self.now.script.now.setups) (majors_of c.args.self.now.script.now.setups) (Crash (major_of (station_called c.args.self.now.script.now.setups c.in-Crash.shelf)) c.in-Crash.mode ∷ []) c.args.self.now.cursor c.crash.new.self.cursor c.args.self.now.stage c.crash.new.self.stage (ap (λ (x : Replay). x.cursor) c.crash.ensures.rest)
     c.requires.staged.from_one c.requires.staged.within c.crash.ensures.does
-

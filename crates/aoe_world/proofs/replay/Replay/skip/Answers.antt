@@ -7,8 +7,8 @@ use Rattle.aoe_world.proofs.ReplayLemmas.{passed-begun, passing-next, passing-no
 use Rattle.aoe_world.proofs.ScheduleLemmas.{does-all}
 use Rattle.aoe_world.proofs.replay.Replay.skip.Goals as goal
 
-pub frames-init : goal.frames-init
-frames-init c = record {
+pub skipped-init : goal.skipped-init
+skipped-init c = record {
   passing = passing-none (setup_of c.args.self.now.script.now.setups) (majors_of c.args.self.now.script.now.setups) losses c.args.self.now.cursor c.args.self.now.stage
       c.requires.ready c.requires.staged.from_one c.requires.staged.within;
   places = refl;
@@ -17,22 +17,22 @@ frames-init c = record {
 
 pub returns-in-Err-clause-runs : goal.returns-in-Err-clause-runs
 returns-in-Err-clause-runs c =
-    let p = c.frames.invariant.passing in
-    let d = subst (λ k. Does {T = Unit {0}} (Err c.in-Err.refusal) (setup_of c.args.self.now.script.now.setups) (majors_of c.args.self.now.script.now.setups) (Lose k) c.frames.self.stage c.lose.new.self)
+    let p = c.skipped.invariant.passing in
+    let d = subst (λ k. Does {T = Unit {0}} (Err c.in-Err.refusal) (setup_of c.args.self.now.script.now.setups) (majors_of c.args.self.now.script.now.setups) (Lose k) c.skipped.self.stage c.lose.new.self)
     c.from.ensures (c.in-Err.ensures (setup_of c.args.self.now.script.now.setups) (majors_of c.args.self.now.script.now.setups) c.requires.staged.network_is p.ready) in
     passed-begun (setup_of c.args.self.now.script.now.setups) (majors_of c.args.self.now.script.now.setups) losses c.args.self.now.cursor c.args.self.now.stage
-    c.frames.counter c.frames.self.cursor c.frames.self.stage p c.args.n c.in-Err.refusal c.lose.new.self c.frames-test.true
-    (does-all {T = Unit {0}} (Err c.in-Err.refusal) (setup_of c.args.self.now.script.now.setups) (majors_of c.args.self.now.script.now.setups) (Lose c.frames.self.cursor) c.frames.self.stage c.lose.new.self d)
+    c.skipped.counter c.skipped.self.cursor c.skipped.self.stage p c.args.n c.in-Err.refusal c.lose.new.self c.skipped-test.true
+    (does-all {T = Unit {0}} (Err c.in-Err.refusal) (setup_of c.args.self.now.script.now.setups) (majors_of c.args.self.now.script.now.setups) (Lose c.skipped.self.cursor) c.skipped.self.stage c.lose.new.self d)
 
-pub frames-preserved : goal.frames-preserved
-frames-preserved c =
-    let p = c.frames.invariant.passing in
-    let d = subst (λ k. Does {T = Unit {0}} (Ok tt) (setup_of c.args.self.now.script.now.setups) (majors_of c.args.self.now.script.now.setups) (Lose k) c.frames.self.stage c.lose.new.self)
+pub skipped-preserved : goal.skipped-preserved
+skipped-preserved c =
+    let p = c.skipped.invariant.passing in
+    let d = subst (λ k. Does {T = Unit {0}} (Ok tt) (setup_of c.args.self.now.script.now.setups) (majors_of c.args.self.now.script.now.setups) (Lose k) c.skipped.self.stage c.lose.new.self)
     c.from.ensures (c.in-Ok.ensures (setup_of c.args.self.now.script.now.setups) (majors_of c.args.self.now.script.now.setups) c.requires.staged.network_is p.ready) in
     record {
       passing = passing-next (setup_of c.args.self.now.script.now.setups) (majors_of c.args.self.now.script.now.setups) losses c.args.self.now.cursor c.args.self.now.stage
-          c.frames.counter c.frames.self.cursor c.frames.self.stage p (c.frames.counter + 1) (c.frames.self.cursor + 1) c.lose.new.self (omega arith) (omega arith) (omega arith)
-          (does-all {T = Unit {0}} (Ok tt) (setup_of c.args.self.now.script.now.setups) (majors_of c.args.self.now.script.now.setups) (Lose c.frames.self.cursor) c.frames.self.stage c.lose.new.self d);
-      places = c.frames.invariant.places;
-      script = c.frames.invariant.script;
+          c.skipped.counter c.skipped.self.cursor c.skipped.self.stage p (c.skipped.counter + 1) (c.skipped.self.cursor + 1) c.lose.new.self (omega arith) (omega arith) (omega arith)
+          (does-all {T = Unit {0}} (Ok tt) (setup_of c.args.self.now.script.now.setups) (majors_of c.args.self.now.script.now.setups) (Lose c.skipped.self.cursor) c.skipped.self.stage c.lose.new.self d);
+      places = c.skipped.invariant.places;
+      script = c.skipped.invariant.script;
     }

@@ -31,21 +31,21 @@ returns-in-Ok c s majors net k =
     let serves = k.shelves_are.each c.args.shelf major.0 r major.1 there in
     let after = c.in-Ok.ensures.serves (shelf_of s major.0) (net.slots c.args.shelf major.0 major.1).apart serves in
     each _ (slice_get old.shelves.items c.args.shelf) (λ x ex. each _ (slice_get x.shelf.targets c.args.slot) (λ t et.
-        let is : x ≡ r = same_Some x r (sym ex ∙ there) in
-        let et2 : slice_get r.shelf.targets c.args.slot ≡ Some t = subst (λ (z : MemoryRack). slice_get z.shelf.targets c.args.slot ≡ Some t) is et in
-        let run = of-and (λ u. c.arm.new.run ≡ with_entry old.run (Armed u.station.id c.args.which c.args.k c.args.mode)) (slice_get r.shelf.targets c.args.slot) t et2 c.in-Ok.ensures.ok in
-        let came = has-armed s majors c.args.shelf major.0 r c.arm.new.self old c.arm.new.run.entries net k major.1 there after c.in-Ok.ensures.major c.args.slot t c.args.which c.args.k c.args.mode
-            serves et2 (ap (λ q. q.entries) run) in
-        act-done c.settle.result s majors (Arm t.station.id c.args.which c.args.k c.args.mode) None old _ c.settle.new.self (refl, ap (λ q. q.entries) run)
-        (c.settle.ensures.settles s majors None net (record {
-          life = ap (λ q. q.life) run ∙ k.life;
-          lawful = subst (λ (q : Recorded). IsLawful s q.entries) (sym run) (tt, k.lawful);
-          hosts_are = came.hosts_are;
-          shelves_are = came.shelves_are;
-        }))))
+    let is : x ≡ r = same_Some x r (sym ex ∙ there) in
+    let et2 : slice_get r.shelf.targets c.args.slot ≡ Some t = subst (λ (z : MemoryRack). slice_get z.shelf.targets c.args.slot ≡ Some t) is et in
+    let run = of-and (λ u. c.arm.new.run ≡ with_entry old.run (Armed u.station.id c.args.which c.args.k c.args.mode)) (slice_get r.shelf.targets c.args.slot) t et2 c.in-Ok.ensures.ok in
+    let came = has-armed s majors c.args.shelf major.0 r c.arm.new.self old c.arm.new.run.entries net k major.1 there after c.in-Ok.ensures.major c.args.slot t c.args.which c.args.k c.args.mode
+    serves et2 (ap (λ q. q.entries) run) in
+    act-done c.settle.result s majors (Arm t.station.id c.args.which c.args.k c.args.mode) None old _ c.settle.new.self (refl, ap (λ q. q.entries) run)
+    (c.settle.ensures.settles s majors None net (record {
+      life = ap (λ q. q.life) run ∙ k.life;
+      lawful = subst (λ (q : Recorded). IsLawful s q.entries) (sym run) (tt, k.lawful);
+      hosts_are = came.hosts_are;
+      shelves_are = came.shelves_are;
+    }))))
 
 pub returns-in-Err : goal.returns-in-Err
 returns-in-Err c s majors net k =
     let same = c.in-Err.ensures.err in
     each _ (slice_get c.args.self.now.shelves.items c.args.shelf) (λ x ex. each _ (slice_get x.shelf.targets c.args.slot) (λ t et.
-        (inl (ap (λ r. r.entries) same), subst (λ (r : Recorded). IsLeft s NoMemory r.entries) (sym same) (no-memory s c.args.self.now.run.entries k.lawful))))
+    (inl (ap (λ r. r.entries) same), subst (λ (r : Recorded). IsLeft s NoMemory r.entries) (sym same) (no-memory s c.args.self.now.run.entries k.lawful))))

@@ -1,4 +1,4 @@
-use Rattle.std.proofs.Common.{◌≡◌, ℕ, List}
+use Rattle.std.proofs.Common.{ℕ, List}
 use Rattle.aoe_history.specs.Setup.{Setup}
 use Rattle.aoe_layout.specs.Layout.{Placed}
 use Rattle.aoe_world.specs.Stage.{ArePlaces, IsNetwork, IsReady}

@@ -1,4 +1,4 @@
-use Rattle.std.proofs.Common.{refl, arith, ap, inl, length, sym, subst, ◌≡◌, ◌∙◌, Some}
+use Rattle.std.proofs.Common.{refl, ap, inl, length, sym, subst, ◌≡◌, ◌∙◌, Some}
 use Rattle.std.proofs.lemmas.Option.{slice_get_read}
 use Rattle.aoe_history.specs.Frames.{arriving}
 use Rattle.aoe_history.specs.Groups.Act.{Hand}

@@ -29,6 +29,7 @@ returns-in-Err-clause-does c s majors major net k em fresh =
     let came : arriving s.life h c.args.number.0 ≡ Some c.deref.result.now = subst (λ l. arriving l h c.args.number.0 ≡ Some c.deref.result.now) k.life (fresh ∙ ap Some (sym c.deref.ensures.0)) in
     let serves = k.shelves_are.each c.args.i major x em ex in
     let slots = net.slots c.args.i major em in
-    let t = c.in-Err.ensures.err s (shelf_of s major) slots serves k.lawful came in
-    (inl (arrival-begun s c.args.number.0 major c.deref.result.now h c.arrive.new.run.entries came t.0),
-    record { lawful = t.1; full = λ e. c.in-Err.ensures.full (cc) s (shelf_of s major) slots serves k.lawful came })
+    let t = c.in-Err.ensures.err s (shelf_of s major) slots serves k.lawful came in (
+      inl (arrival-begun s c.args.number.0 major c.deref.result.now h c.arrive.new.run.entries came t.0),
+      record { lawful = t.1; full = λ e. c.in-Err.ensures.full (cc) s (shelf_of s major) slots serves k.lawful came },
+    )

@@ -1,6 +1,5 @@
 use Rattle.std.proofs.Common.{refl, ap, inl, length, sym, subst, ◌∙◌, ◌≡◌, Option, Some, None, IfSome}
 use Rattle.std.proofs.lemmas.Option.{slice_get_read}
-use Rattle.aoe_history.specs.Commands.{Submission}
 use Rattle.aoe_history.specs.Groups.Act.{Submit}
 use Rattle.aoe_hosts.specs.Asks.{submission_in}
 use Rattle.aoe_net.specs.declared.refusal.NetRefusal.TheVariants.{NoMemory}
@@ -23,13 +22,13 @@ returns-in-Ok c s majors name net k (host, at, called) =
     let x = c.index_mut.result.now in
     let there = slice_get_read old.hosts.items (length old.hosts.items) c.args.host x refl c.requires.there c.index_mut.ensures.value in
     each _ (submission_in c.args.event.now) (λ q e.
-        let t = has-submitted s majors name q.dev q.op c.args.host x c.submit.new.self old c.submit.new.run.entries host net k at called there
-            (λ z o settled lawful. of-some _ (submission_in c.args.event.now) q e (c.in-Ok.ensures.ok z o settled lawful)) in
-        act-done c.settle.result s majors (Submit name q.dev q.op) None old _ c.settle.new.self t.enters
-        (c.settle.ensures.settles s majors None net (record { life = c.submit.ensures.life ∙ k.life; lawful = t.lawful; hosts_are = t.hosts_are; shelves_are = t.shelves_are })))
+    let t = has-submitted s majors name q.dev q.op c.args.host x c.submit.new.self old c.submit.new.run.entries host net k at called there
+    (λ z o settled lawful. of-some _ (submission_in c.args.event.now) q e (c.in-Ok.ensures.ok z o settled lawful)) in
+    act-done c.settle.result s majors (Submit name q.dev q.op) None old _ c.settle.new.self t.enters
+    (c.settle.ensures.settles s majors None net (record { life = c.submit.ensures.life ∙ k.life; lawful = t.lawful; hosts_are = t.hosts_are; shelves_are = t.shelves_are })))
 
 pub returns-in-Err : goal.returns-in-Err
 returns-in-Err c s majors name net k at =
     let same = c.in-Err.ensures.err in
     each _ (submission_in c.args.event.now) (λ q e.
-        (inl (ap (λ r. r.entries) same), subst (λ (r : Recorded). IsLeft s NoMemory r.entries) (sym same) (no-memory s c.args.self.now.run.entries k.lawful)))
+    (inl (ap (λ r. r.entries) same), subst (λ (r : Recorded). IsLeft s NoMemory r.entries) (sym same) (no-memory s c.args.self.now.run.entries k.lawful)))

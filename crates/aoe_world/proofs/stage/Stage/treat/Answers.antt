@@ -1,4 +1,4 @@
-use Rattle.std.proofs.Common.{◌≡◌, List, [], ◌∷◌, Bool, true, false, Ok, Err, subst}
+use Rattle.std.proofs.Common.{[], ◌∷◌, Ok, Err, subst}
 use Rattle.aoe_history.specs.Groups.Act.{Lose}
 use Rattle.aoe_world.specs.Schedule.{addressees, hand_each, handings}
 use Rattle.aoe_world.specs.Stage.{Does, HandsEach}

@@ -1,0 +1,5 @@
+use Rattle.std.proofs.Common.{◌≡◌}
+use Rattle.aoe_world.proofs.tests.transcript.Given as goal
+
+abbrev pub invariant-events : goal.invariant-events
+invariant-events l = (l.world.lines ≡ l.script.setups) × (l.world.events ≡ l.i)
