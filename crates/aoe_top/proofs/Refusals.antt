@@ -303,7 +303,7 @@ runs-of : {D S K L : Type 0} (state : D → DiskState) (command : Command) (t : 
     → Ran state command t s a b disks disks' → Runs state t s a b disks disks'
 runs-of state (command.Answer answer) t s a b disks disks' count run = over_files _ _ run
 runs-of state (command.Serve serve) t s a b disks disks' count run = over_files _ _ run
-runs-of state command.Replay t s a b disks disks' count run = over_none count (λ disk. no-disk _ _ s disk run.0.ends)
+runs-of state command.Replay t s a b disks disks' count run = over_none count (λ disk. no-disk _ s disk run.0.ends)
 
 module _ {D S K L : Type 0} (state : D → DiskState) (command : Command) (t : Tells S K L) (s : Status) (a b : Outside S K L) (disks disks' : List (Option D))
     (run : refused_slot s ≡ None → s ≢ status.NoMemory → Ran state command t s a b disks disks')

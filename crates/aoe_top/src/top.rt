@@ -127,7 +127,7 @@ fn run_command<S: Source, K: Sink, D: Disk + Drop, L: Link>(
 /// the run ended. There are as many disks as `files_of` names, and as many links as `ports_of`.
 ///
 /// Memory is taken while the words are read, and for the shelf before the first keep is mounted; then
-/// no more.
+/// no more. A replay takes memory until its text is written.
 pub fn aoe<S: Source, K: Sink, D: Disk + Drop, L: Link>(
     alloc: Global,
     words: &[String],
