@@ -2,6 +2,7 @@
 ghost use Rattle.std.specs.Prelude.{◌≡◌};
 
 mod crashes;
+mod network;
 mod paths;
 mod refusals;
 mod repeats;
