@@ -2,8 +2,8 @@
 use super::prints;
 use std::test::Fail;
 
-/// A write that comes a second time before its flush is overwritten by nothing: the flush waits
-/// until no frame of the write can come any more, so that no crash undoes it.
+/// A flush waits until no frame of the write before it can come any more, and no crash behind it
+/// undoes the write.
 const FLUSHED: (&str, &str) = (
     "\
 write a e1.0 3 1 5a
