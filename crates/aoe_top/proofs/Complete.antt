@@ -98,7 +98,8 @@ all-synced-same status.NoMemory None e = refl
 all-synced-same (status.KeepSmall disk sectors) None e = refl
 all-synced-same (status.KeepBad disk slot) None e = refl
 all-synced-same (status.Stream offset) None e = refl
-all-synced-same (status.Limit what) None e = refl
+all-synced-same (status.Limit excess) None e = refl
+all-synced-same (status.Script line cause) None e = refl
 
 pub no-fault : (before after : ℕ) → NoFault before after → Rose before after → ⊥
 no-fault before after fine rose = let more = rose fine.1 in omega (arith, fine.0, more)

@@ -2,3 +2,4 @@ mod Complete
 mod Exits
 mod OnSlots
 mod Refusals
+mod Scripts

@@ -12,17 +12,22 @@ use Rattle.aoe_keep.specs.declared.refusal.MountRefusal.TheVariants as refusal
 use Rattle.aoe_lists.specs.Settings.{Settings}
 use Rattle.aoe_export.specs.Run.{Outside, Tells}
 use Rattle.aoe_export.specs.Slots.{GivesBack, IsMounted}
+use Rattle.aoe_export.specs.declared.files.Rack.{Rack}
+use Rattle.aoe_export.specs.declared.plan.Plan.{Plan}
 use Rattle.aoe_export.specs.declared.plan.RunEnd.{RunEnd}
 use Rattle.aoe_export.specs.declared.plan.RunEnd.TheVariants.{Answered, Served}
 use Rattle.aoe_serve.specs.declared.over_stream.AnswerEnd.TheVariants as answer
 use Rattle.aoe_serve.specs.declared.over_link.ServeEnd.TheVariants as serve
+use Rattle.aoe_words.specs.Words.{file_count}
 use Rattle.aoe_words.specs.declared.command.Command.{Command}
+use Rattle.aoe_words.specs.declared.command.Command.TheVariants as command
 use Rattle.aoe_top.specs.Ending.{after_syncs, ended_by, file_at, keep_at, refused_as, refused_slot, slot_of_keep}
-use Rattle.aoe_top.specs.Run.{HasLists, IsBad, IsSmall, NoFault, NothingLoose, OnSlot, Ran, Refused, refused_before}
+use Rattle.aoe_top.specs.Run.{HasLists, IsBad, IsSmall, NoFault, NothingLoose, OnSlot, Ran, RanFiles, Refused, refused_before}
 use Rattle.aoe_top.specs.declared.status.Status.{Status}
 use Rattle.aoe_top.specs.declared.status.Status.TheVariants as status
 use Rattle.aoe_top.proofs.Exits.{Stands, all-settled, stands, unsynced-rose, unsynced-within}
-use Rattle.aoe_top.proofs.OnSlots.{on-first, on-map, on-then}
+use Rattle.aoe_top.proofs.OnSlots.{on-first, on-map, on-none, on-then}
+use Rattle.aoe_top.proofs.Scripts.{no-disk}
 
 -- Which disk is a keep.
 
@@ -284,24 +289,43 @@ memory-wanting (status.LinkFault link) e = absurd cc
 memory-wanting (status.KeepSmall disk sectors) e = absurd cc
 memory-wanting (status.KeepBad disk slot) e = absurd cc
 memory-wanting (status.Stream offset) e = absurd cc
-memory-wanting (status.Limit what) e = absurd cc
+memory-wanting (status.Limit excess) e = absurd cc
+memory-wanting (status.Script line cause) e = absurd cc
 
 -- A run of a command.
 
+-- over files, or without any
+data Runs {D S K L : Type 0} (state : D → DiskState) (t : Tells S K L) (s : Status) (a b : Outside S K L) (disks disks' : List (Option D)) : Type 0 where
+  over_files : (rack : Rack) (p : Plan) → RanFiles state rack p t s a b disks disks' → Runs state t s a b disks disks'
+  over_none : length disks ≡ 0 → ((disk : ℕ) → s ≢ status.DiskFault disk) → Runs state t s a b disks disks'
+
+runs-of : {D S K L : Type 0} (state : D → DiskState) (command : Command) (t : Tells S K L) (s : Status) (a b : Outside S K L) (disks disks' : List (Option D)) → length disks ≡ file_count command
+    → Ran state command t s a b disks disks' → Runs state t s a b disks disks'
+runs-of state (command.Answer answer) t s a b disks disks' count run = over_files _ _ run
+runs-of state (command.Serve serve) t s a b disks disks' count run = over_files _ _ run
+runs-of state command.Replay t s a b disks disks' count run = over_none count (λ disk. no-disk _ s disk run.0.ends)
+
 module _ {D S K L : Type 0} (state : D → DiskState) (command : Command) (t : Tells S K L) (s : Status) (a b : Outside S K L) (disks disks' : List (Option D))
     (run : refused_slot s ≡ None → s ≢ status.NoMemory → Ran state command t s a b disks disks')
-    (refused : (slot : ℕ) → refused_slot s ≡ Some slot → Refused state s slot disks disks') where
+    (refused : (slot : ℕ) → refused_slot s ≡ Some slot → Refused state s slot disks disks')
+    (count : length disks ≡ file_count command) where
+  runs : refused_slot s ≡ None → s ≢ status.NoMemory → Runs state t s a b disks disks'
+  runs unrefused some_memory = runs-of state command t s a b disks disks' count (run unrefused some_memory)
+
   -- the keep of a slot in a run
   keep-is : (slot : ℕ) → OnSlot (λ _ _ keep keep'. KeepIs state s slot keep keep') slot disks disks'
   keep-is slot = by (refused_slot s) refl
     where
       ran : (o : Option ℕ) → o ≡ refused_slot s → o ≡ None → s ≢ status.NoMemory → OnSlot (λ _ _ keep keep'. KeepIs state s slot keep keep') slot disks disks'
-      ran o is none some_memory =
-          let r = run (sym is ∙ none) some_memory in
-          let x = r.run in
-          on-map (Stands state x.first x.last slot) (λ _ _ keep keep'. KeepIs state s slot keep keep') slot disks disks'
-          (λ file file' keep keep' stand. is_mounted stand.a.device.keep stand.a.device.lists stand.mounted (λ k e. absurd (let f : (let y : Option ℕ = None in y) ≡ Some k = sym none ∙ is ∙ e in cc)))
-          (stands state _ _ t _ r.exported a b disks disks' x slot)
+      ran o is none some_memory = over (runs (sym is ∙ none) some_memory)
+        where
+          over : Runs state t s a b disks disks' → OnSlot (λ _ _ keep keep'. KeepIs state s slot keep keep') slot disks disks'
+          over (over_none empty fine) = on-none (λ _ _ keep keep'. KeepIs state s slot keep keep') slot disks disks' empty
+          over (over_files rack p r) =
+              let x = r.run in
+              on-map (Stands state x.first x.last slot) (λ _ _ keep keep'. KeepIs state s slot keep keep') slot disks disks'
+              (λ file file' keep keep' stand. is_mounted stand.a.device.keep stand.a.device.lists stand.mounted (λ k e. absurd (let f : (let y : Option ℕ = None in y) ≡ Some k = sym none ∙ is ∙ e in cc)))
+              (stands state _ _ t _ r.exported a b disks disks' x slot)
 
       by : (o : Option ℕ) → refused_slot s ≡ o → OnSlot (λ _ _ keep keep'. KeepIs state s slot keep keep') slot disks disks'
       by None is = memory (is_no_memory s) refl
@@ -344,22 +368,29 @@ module _ {D S K L : Type 0} (state : D → DiskState) (command : Command) (t : T
       refused-within n (refusal.TooSmall sectors) is within = absurd cc
       refused-within n (refusal.BadKeep k) is within = absurd cc
 
-      by : (o : Option ℕ) → refused_slot s ≡ o → disk < length disks
-      by None is =
-          let r = run is (λ f. cc) in
+      over : Runs state t s a b disks disks' → disk < length disks
+      over (over_none empty fine) = absurd (fine disk e)
+      over (over_files rack p r) =
           let u = unsynced-disk r.exported.end r.exported.unsynced disk (sym e ∙ r.ends) in
           omega (arith, u.2, unsynced-within state _ _ t _ r.exported a b disks disks' r.run u.0 u.1)
+
+      by : (o : Option ℕ) → refused_slot s ≡ o → disk < length disks
+      by None is = over (runs is (λ f. cc))
       by (Some n) is = let r = refused n is in refused-within n r.refusal (sym e ∙ r.ends) (backed state n r.refusal disks disks' r.back).within
 
   pub file-fault : (slot : ℕ) → s ≡ status.DiskFault (file_at slot) → OnSlot (λ file file' _ _. Rose (state file).faults (state file').faults) slot disks disks'
-  file-fault slot e =
-      let r = run (ap refused_slot e ∙ file-slot slot) (λ f. cc) in
-      unsynced-rose state _ _ t _ r.exported a b disks disks' r.run slot (unsynced-at r.exported.end r.exported.unsynced slot (sym e ∙ r.ends))
+  file-fault slot e = over (runs (ap refused_slot e ∙ file-slot slot) (λ f. cc))
+    where
+      over : Runs state t s a b disks disks' → OnSlot (λ file file' _ _. Rose (state file).faults (state file').faults) slot disks disks'
+      over (over_none empty fine) = absurd (fine (file_at slot) e)
+      over (over_files rack p r) = unsynced-rose state _ _ t _ r.exported a b disks disks' r.run slot (unsynced-at r.exported.end r.exported.unsynced slot (sym e ∙ r.ends))
 
   pub settled : (slot : ℕ) → s ≡ status.Ok → OnSlot (λ _ file' _ _. IfSome (state file').contents NothingLoose) slot disks disks'
-  settled slot e =
-      let r = run (ap refused_slot e) (λ f. cc) in
-      all-settled state _ _ t _ r.exported a b disks disks' r.run slot (synced-at r.exported.end r.exported.unsynced (sym e ∙ r.ends))
+  settled slot e = over (runs (ap refused_slot e) (λ f. cc))
+    where
+      over : Runs state t s a b disks disks' → OnSlot (λ _ file' _ _. IfSome (state file').contents NothingLoose) slot disks disks'
+      over (over_none empty fine) = on-none (λ _ file' _ _. IfSome (state file').contents NothingLoose) slot disks disks' empty
+      over (over_files rack p r) = all-settled state _ _ t _ r.exported a b disks disks' r.run slot (synced-at r.exported.end r.exported.unsynced (sym e ∙ r.ends))
 
 -- Which command it was.
 

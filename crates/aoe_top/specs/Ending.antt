@@ -8,13 +8,21 @@ use Rattle.aoe_serve.specs.declared.over_link.ServeEnd.TheVariants as serve
 use Rattle.aoe_export.specs.declared.plan.Exported.{Exported}
 use Rattle.aoe_export.specs.declared.plan.RunEnd.{RunEnd}
 use Rattle.aoe_export.specs.declared.plan.RunEnd.TheVariants.{Answered, Served}
-use Rattle.aoe_top.specs.declared.status.What.TheVariants.{Frames}
+use Rattle.aoe_replay.specs.declared.end.ReplayEnd.{ReplayEnd}
+use Rattle.aoe_replay.specs.declared.end.ReplayEnd.TheVariants as replay
+use Rattle.aoe_replay.specs.declared.end.ReplayLimit.{ReplayLimit}
+use Rattle.aoe_replay.specs.declared.end.ReplayLimit.TheVariants as limit
+use Rattle.aoe_script.specs.declared.refusal.Why.{Why}
+use Rattle.aoe_script.specs.declared.refusal.Why.TheVariants as why
+use Rattle.aoe_top.specs.declared.status.What.{What}
+use Rattle.aoe_top.specs.declared.status.What.TheVariants as what
 use Rattle.aoe_top.specs.declared.status.Status.{Status}
 use Rattle.aoe_top.specs.declared.status.Status.TheVariants as status
 
 abbrev pub code_of : Status → ℕ
 code_of status.Ok = 0
 code_of status.Usage = 1
+code_of (status.Script line cause) = 2
 code_of status.SourceFault = 3
 code_of status.SinkFault = 4
 code_of (status.DiskFault disk) = 5
@@ -23,11 +31,29 @@ code_of status.NoMemory = 7
 code_of (status.KeepSmall disk sectors) = 8
 code_of (status.KeepBad disk slot) = 8
 code_of (status.Stream offset) = 11
-code_of (status.Limit what) = 12
+code_of (status.Limit excess) = 12
+
+-- what is wrong with a line of a script, in a word
+abbrev pub word_of : Why → List ℕ
+word_of why.Word = codes "word"
+word_of why.Value = codes "value"
+word_of why.Place = codes "place"
+word_of why.Repeat = codes "repeat"
+word_of why.Size = codes "size"
+word_of why.Unknown = codes "unknown"
+word_of why.Station = codes "station"
+
+-- what there was too much of
+abbrev pub limit_text : What → List ℕ
+limit_text what.Events = codes "aoe: limit: events"
+limit_text what.ScriptBytes = codes "aoe: limit: script bytes"
+limit_text what.Frames = codes "aoe: limit: frames"
+limit_text what.FrameBytes = codes "aoe: limit: frame bytes"
 
 abbrev pub text_of : Status → List ℕ
 text_of status.Ok = []
 text_of status.Usage = codes "aoe: usage"
+text_of (status.Script line cause) = codes "aoe: script line " ++ (decimal line ++ (codes ": " ++ word_of cause))
 text_of status.SourceFault = codes "aoe: source fault"
 text_of status.SinkFault = codes "aoe: sink fault"
 text_of (status.DiskFault disk) = codes "aoe: disk fault on file " ++ decimal disk
@@ -36,7 +62,7 @@ text_of status.NoMemory = codes "aoe: no memory"
 text_of (status.KeepSmall disk sectors) = codes "aoe: keep " ++ (decimal disk ++ (codes ": " ++ (decimal sectors ++ codes " sectors, 16 needed")))
 text_of (status.KeepBad disk slot) = codes "aoe: keep " ++ (decimal disk ++ (codes ": slot " ++ (decimal slot ++ codes " holds no lists")))
 text_of (status.Stream offset) = codes "aoe: bad stream at byte " ++ decimal offset
-text_of (status.Limit what) = codes "aoe: limit: frames"
+text_of (status.Limit excess) = limit_text excess
 
 -- the numbers of a slot's disks, in the order of the files' names
 abbrev pub file_at : ℕ → ℕ
@@ -57,9 +83,24 @@ ended_by (Answered answer.Ended) = status.Ok
 ended_by (Answered answer.SourceFault) = status.SourceFault
 ended_by (Answered answer.SinkFault) = status.SinkFault
 ended_by (Answered (answer.Stream offset)) = status.Stream offset
-ended_by (Answered answer.Limit) = status.Limit Frames
+ended_by (Answered answer.Limit) = status.Limit what.Frames
 ended_by (Served serve.Ended) = status.Ok
 ended_by (Served serve.LinkFault) = status.LinkFault 0
+
+-- the status of a replay that ended so
+abbrev pub excess_of : ReplayLimit → What
+excess_of limit.ScriptBytes = what.ScriptBytes
+excess_of limit.Events = what.Events
+excess_of limit.Frames = what.Frames
+excess_of limit.FrameBytes = what.FrameBytes
+
+abbrev pub replayed_as : ReplayEnd → Status
+replayed_as replay.Ended = status.Ok
+replayed_as replay.SourceFault = status.SourceFault
+replayed_as replay.SinkFault = status.SinkFault
+replayed_as replay.NoMemory = status.NoMemory
+replayed_as (replay.Script line cause) = status.Script line cause
+replayed_as (replay.Limit excess) = status.Limit (excess_of excess)
 
 -- after the last syncs: the first slot that wasn't synced is told where nothing else is
 abbrev pub after_syncs : Status → Option ℕ → Status

@@ -1,5 +1,5 @@
 -- What a run takes, gives and leaves, by its status.
-use Rattle.std.specs.Prelude.{ℕ, ◌<◌, ◌≤◌, ◌-◌, ◌^◌, ◌≡◌, ◌≢◌, Bool, false, List, Option, Some, Ok, Err, nat_lt, slice_get}
+use Rattle.std.specs.Prelude.{ℕ, ◌<◌, ◌≤◌, ◌-◌, ◌^◌, ◌≡◌, ◌≢◌, ◌⊎◌, Bool, false, List, Option, Some, None, Ok, Err, nat_lt, slice_get}
 use Rattle.std.specs.Option.{option_map_or}
 use Rattle.aoe_disk.specs.State.{Contents, DiskState, is_loose}
 use Rattle.aoe_keep.specs.Found.{found}
@@ -8,17 +8,42 @@ use Rattle.aoe_lists.specs.Settings.{Settings}
 use Rattle.aoe_export.specs.Run.{IsExported, Outside, Tells}
 use Rattle.aoe_export.specs.Slots.{GivesBack}
 use Rattle.aoe_export.specs.declared.plan.Exported.{Exported}
+use Rattle.aoe_export.specs.declared.files.Rack.{Rack}
+use Rattle.aoe_export.specs.declared.plan.Plan.{Plan}
+use Rattle.aoe_replay.specs.Replay.{LeavesSink, Replayed}
+use Rattle.aoe_replay.specs.declared.end.ReplayEnd.{ReplayEnd}
 use Rattle.aoe_words.specs.declared.command.Command.{Command}
-use Rattle.aoe_top.specs.Commands.{plan_of, rack_of, target_of}
-use Rattle.aoe_top.specs.Ending.{file_at, keep_at, refused_as, refused_slot, status_of}
+use Rattle.aoe_top.specs.Commands.{plan_of, target_of}
+use Rattle.aoe_top.specs.Ending.{file_at, keep_at, refused_as, refused_slot, replayed_as, status_of}
+use Rattle.aoe_top.specs.declared.status.What.TheVariants as what
 use Rattle.aoe_top.specs.declared.status.Status.{Status}
 use Rattle.aoe_top.specs.declared.status.Status.TheVariants as status
 
--- A run of a command over files and their keeps, which were all mounted: it ended so, and the status says how.
-pub record Ran {D S K L : Type 0} (state : D → DiskState) (command : Command) (t : Tells S K L) (s : Status) (a b : Outside S K L) (disks disks' : List (Option D)) : Type 0 where
+-- A run over files and their keeps, which were all mounted: it ended so, and the status says how.
+pub record RanFiles {D S K L : Type 0} (state : D → DiskState) (rack : Rack) (p : Plan) (t : Tells S K L) (s : Status) (a b : Outside S K L) (disks disks' : List (Option D)) : Type 0 where
   pub exported : Exported
-  pub run : IsExported state (target_of command) (rack_of command).first.minor t (plan_of command) exported a b disks disks'
+  pub run : IsExported state (target_of rack) rack.first.minor t p exported a b disks disks'
   pub ends : s ≡ status_of exported
+
+-- A run of the script that a source gave to its end, with its text on the sink: it ended so, and the status says how. But for a whole run
+-- and where it failed, the sink is as it was.
+pub record RanScript {S K : Type 0} (left : S → Option (List ℕ)) (held : K → Option (List ℕ)) (s : Status) (source source' : S) (sink sink' : K) : Type 0 where
+  pub end : ReplayEnd
+  pub run : Replayed end (left source) (left source') (held sink) (held sink')
+  pub leaves : LeavesSink end sink sink'
+  pub ends : s ≡ replayed_as end
+
+-- a run of a command: over files where it exports some, and else of a script
+abbrev pub RanAs : {D S K L : Type 0} → (D → DiskState) → Option (Rack × Plan) → Tells S K L → Status → Outside S K L → Outside S K L → List (Option D) → List (Option D) → Type 0
+RanAs state (Some p) t s a b disks disks' = RanFiles state p.0 p.1 t s a b disks disks'
+RanAs state None t s a b disks disks' = RanScript t.left t.held s a.source b.source a.sink b.sink × (b.links ≡ a.links) × (disks' ≡ disks)
+
+abbrev pub Ran : {D S K L : Type 0} → (D → DiskState) → Command → Tells S K L → Status → Outside S K L → Outside S K L → List (Option D) → List (Option D) → Type 0
+Ran state command t s a b disks disks' = RanAs state (plan_of command) t s a b disks disks'
+
+-- the script was run to its end, or as far as its network has room for frames
+abbrev pub HasReplayed : Status → Type 0
+HasReplayed s = (s ≡ status.Ok) ⊎ (s ≡ status.Limit what.Frames) ⊎ (s ≡ status.Limit what.FrameBytes)
 
 -- A run in which the keep of this slot was refused: those in front of it were mounted, and the files are as they were.
 pub record Refused {D : Type 0} (state : D → DiskState) (s : Status) (slot : ℕ) (disks disks' : List (Option D)) : Type 0 where

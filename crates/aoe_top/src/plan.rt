@@ -1,12 +1,14 @@
 //! What each command exports, and the status of a run that ended.
 ghost use Rattle.std.specs.Prelude.{◌≡◌, ◌≤◌, [], ◌∷◌, IfSome};
-ghost use Rattle.aoe_top.specs.Commands.{plan_of, rack_of};
-ghost use Rattle.aoe_top.specs.Ending.{after_syncs, ended_by, refused_as, status_of};
+ghost use Rattle.aoe_words.specs.Words.{IsInRange, file_count, link_count};
+ghost use Rattle.aoe_top.specs.Commands.{CanExport, plan_of};
+ghost use Rattle.aoe_top.specs.Ending.{after_syncs, ended_by, excess_of, refused_as, replayed_as, status_of};
 
 use crate::{Status, What};
 use aoe_base::{Mac, Ports, TargetId};
 use aoe_export::{Exported, Plan, Rack, RunEnd};
 use aoe_keep::MountRefusal;
+use aoe_replay::{ReplayEnd, ReplayLimit};
 use aoe_serve::{AnswerEnd, ServeEnd};
 use aoe_words::Command;
 
@@ -19,10 +21,11 @@ fn one_port(port: Mac) -> Ports
     ports
 }
 
-/// The slots of a command, and what is done with them.
-pub(crate) fn plan(command: Command) -> (Rack, Plan)
-    ensures rack { result.0 ≡ rack_of command }
-    ensures plan { result.1 ≡ plan_of command }
+/// The slots of a command, and what is done with them, where it has slots.
+pub(crate) fn plan(command: Command) -> Option<(Rack, Plan)>
+    requires { IsInRange command }
+    ensures plan { result ≡ plan_of command }
+    ensures possible { IfSome result (λ p. CanExport p.0 p.1 (file_count command) (link_count command)) }
 {
     match command {
         Command::Answer(answer) => {
@@ -31,7 +34,7 @@ pub(crate) fn plan(command: Command) -> (Rack, Plan)
                 ports: one_port(answer.port),
                 mtu: answer.mtu,
             };
-            (rack, Plan::Answer)
+            Some((rack, Plan::Answer))
         }
         Command::Serve(serve) => {
             let rack = Rack {
@@ -46,8 +49,9 @@ pub(crate) fn plan(command: Command) -> (Rack, Plan)
                 frames: serve.frames,
                 idle: serve.idle,
             };
-            (rack, plan)
+            Some((rack, plan))
         }
+        Command::Replay => None,
     }
 }
 
@@ -75,6 +79,32 @@ fn ended_by(end: RunEnd) -> Status
         RunEnd::Answered(AnswerEnd::Stream { offset }) => Status::Stream { offset },
         RunEnd::Answered(AnswerEnd::Limit) => Status::Limit(What::Frames),
         RunEnd::Served(ServeEnd::LinkFault) => Status::LinkFault { link: 0 },
+    }
+}
+
+/// What there was too much of in a replay.
+fn excess_of(limit: ReplayLimit) -> What
+    ensures { result ≡ excess_of limit }
+{
+    match limit {
+        ReplayLimit::ScriptBytes => What::ScriptBytes,
+        ReplayLimit::Events => What::Events,
+        ReplayLimit::Frames => What::Frames,
+        ReplayLimit::FrameBytes => What::FrameBytes,
+    }
+}
+
+/// The status of a replay that ended so.
+pub(crate) fn replayed_as(end: ReplayEnd) -> Status
+    ensures { result ≡ replayed_as end }
+{
+    match end {
+        ReplayEnd::Ended => Status::Ok,
+        ReplayEnd::SourceFault => Status::SourceFault,
+        ReplayEnd::SinkFault => Status::SinkFault,
+        ReplayEnd::NoMemory => Status::NoMemory,
+        ReplayEnd::Script { line, why } => Status::Script { line, why },
+        ReplayEnd::Limit(limit) => Status::Limit(excess_of(limit)),
     }
 }
 

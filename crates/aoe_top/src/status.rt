@@ -1,8 +1,9 @@
 //! How a run ends.
 ghost use Rattle.std.specs.Prelude.{◌≡◌, IfOk};
-ghost use Rattle.aoe_top.specs.Ending.{code_of, text_of};
+ghost use Rattle.aoe_top.specs.Ending.{code_of, limit_text, text_of, word_of};
 
 use aoe_base::{Blob, NoMemory};
+use aoe_script::Why;
 use std::alloc::Global;
 
 /// How a run ended.
@@ -12,6 +13,8 @@ pub enum Status {
     Ok,
     /// The words are no command.
     Usage,
+    /// The line of the script with that number, from 1, is the first that is bad.
+    Script { line: u32, why: Why },
     /// The source failed.
     SourceFault,
     /// The sink failed.
@@ -38,7 +41,14 @@ pub enum Status {
 /// What there was too much of.
 #[derive(Clone, Copy, Debug, PartialEq, Eq)]
 pub enum What {
+    /// A script has more than 50,000 events.
+    Events,
+    /// A script has more than 16,777,216 bytes.
+    ScriptBytes,
+    /// A stream brought 4,294,967,295 frames and has more, or a script sends more than 200,000.
     Frames,
+    /// The frames that a script sends have more than 536,870,912 bytes together.
+    FrameBytes,
 }
 
 impl Status {
@@ -49,6 +59,7 @@ impl Status {
         match self {
             Status::Ok => 0,
             Status::Usage => 1,
+            Status::Script { .. } => 2,
             Status::SourceFault => 3,
             Status::SinkFault => 4,
             Status::DiskFault { .. } => 5,
@@ -67,6 +78,7 @@ impl Status {
         match *self {
             Status::Ok => Blob::of(alloc, b""),
             Status::Usage => Blob::of(alloc, b"aoe: usage"),
+            Status::Script { line, why } => script_text(alloc, line, why),
             Status::SourceFault => Blob::of(alloc, b"aoe: source fault"),
             Status::SinkFault => Blob::of(alloc, b"aoe: sink fault"),
             Status::DiskFault { disk } => disk_text(alloc, disk),
@@ -75,8 +87,46 @@ impl Status {
             Status::KeepSmall { disk, sectors } => small_text(alloc, disk, sectors),
             Status::KeepBad { disk, slot } => bad_text(alloc, disk, slot),
             Status::Stream { offset } => stream_text(alloc, offset),
-            Status::Limit(What::Frames) => Blob::of(alloc, b"aoe: limit: frames"),
+            Status::Limit(what) => limit_text(alloc, what),
         }
+    }
+}
+
+/// What is wrong with a line of a script, in a word.
+fn word_of(why: Why) -> &'static str
+    ensures { result.now ≡ word_of why }
+{
+    match why {
+        Why::Word => "word",
+        Why::Value => "value",
+        Why::Place => "place",
+        Why::Repeat => "repeat",
+        Why::Size => "size",
+        Why::Unknown => "unknown",
+        Why::Station => "station",
+    }
+}
+
+/// The text for a bad line of a script.
+fn script_text(alloc: Global, line: u32, why: Why) -> Result<Blob, NoMemory>
+    ensures { IfOk result (λ text. text ≡ text_of (Status.Script line why)) }
+{
+    let word = word_of(why);
+    match format!(in alloc; "aoe: script line {line}: {word}") {
+        Ok(text) => Blob::of(alloc, text.as_bytes()),
+        Err(_) => Err(NoMemory),
+    }
+}
+
+/// The text for a limit.
+fn limit_text(alloc: Global, what: What) -> Result<Blob, NoMemory>
+    ensures { IfOk result (λ text. text ≡ limit_text what) }
+{
+    match what {
+        What::Events => Blob::of(alloc, b"aoe: limit: events"),
+        What::ScriptBytes => Blob::of(alloc, b"aoe: limit: script bytes"),
+        What::Frames => Blob::of(alloc, b"aoe: limit: frames"),
+        What::FrameBytes => Blob::of(alloc, b"aoe: limit: frame bytes"),
     }
 }
 

@@ -4,22 +4,73 @@ ghost use Rattle.aoe_base.specs.Faults.{Rose};
 ghost use Rattle.aoe_io.specs.Stream.{stream, IsFrame};
 ghost use Rattle.aoe_lists.specs.Settings.{Settings};
 ghost use Rattle.aoe_export.specs.Run.{AtFirst};
+ghost use Rattle.aoe_script.specs.Lines.{refusal};
 ghost use Rattle.aoe_words.specs.Words.{IsInRange, command, file_count, file_names, link_count, port_words};
 ghost use Rattle.aoe_words.specs.declared.command.Answer.{Answer as Answers};
 ghost use Rattle.aoe_words.specs.declared.command.Serve.{Serve as Serves};
+ghost use Rattle.aoe_top.specs.Commands.{CanExport};
 ghost use Rattle.aoe_top.specs.Ending.{file_at, keep_at, refused_slot};
-ghost use Rattle.aoe_top.specs.Run.{HasLists, IsBad, IsSmall, NoFault, NothingLoose, OnSlot, Ran, Refused};
+ghost use Rattle.aoe_top.specs.Run.{HasLists, HasReplayed, IsBad, IsSmall, NoFault, NothingLoose, OnSlot, Ran, RanFiles, RanScript, Refused};
 
-use crate::plan::{plan, refused_as, status_of};
+use crate::plan::{plan, refused_as, replayed_as, status_of};
 use crate::status::Status;
 use aoe_base::NoMemory;
 use aoe_disk::Disk;
-use aoe_export::{ExportRefusal, export};
+use aoe_export::{ExportRefusal, Plan, Rack, export};
 use aoe_io::{Link, Sink, Source};
+use aoe_replay::replay;
 use aoe_words::{Command, read_words};
 use std::alloc::Global;
 
-/// Runs a command over its files and links.
+/// Runs a plan over files and links.
+fn run_files<S: Source, K: Sink, D: Disk + Drop, L: Link>(
+    alloc: Global,
+    rack: Rack,
+    plan: Plan,
+    source: &mut S,
+    sink: &mut K,
+    disks: &mut [Option<D>],
+    links: &mut [L],
+) -> Status
+    requires possible { CanExport rack plan (length disks.old) (length links.old) }
+    requires there { All IsSome disks.old }
+    ensures run { refused_slot result ≡ None → result ≢ Status.NoMemory → RanFiles D.state rack plan
+        record { left = S.left; held = K.held; turns = L.turns; given = L.given; taken = L.taken } result
+        record { source = source.old; sink = sink.old; links = links.old } record { source = source.new; sink = sink.new; links = links.new }
+        disks.old disks.new }
+    ensures refused { (slot : ℕ) → refused_slot result ≡ Some slot → Refused D.state result slot disks.old disks.new }
+    ensures unread { IsSome (refused_slot result) → (source.new ≡ source.old) × (sink.new ≡ sink.old) × (links.new ≡ links.old) }
+    ensures memory { result ≡ Status.NoMemory → (source.new ≡ source.old) × (sink.new ≡ sink.old) × (disks.new ≡ disks.old) × (links.new ≡ links.old) }
+    ensures usage { result ≢ Status.Usage }
+    ensures there { All IsSome disks.new }
+    ensures source_fault { result ≡ Status.SourceFault → Rose (S.faults source.old) (S.faults source.new) }
+    ensures sink_fault { result ≡ Status.SinkFault → Rose (K.faults sink.old) (K.faults sink.new) }
+    ensures link_fault { (link : ℕ) → result ≡ Status.LinkFault link → (link ≡ 0) × AtFirst (λ a b. Rose (L.faults a) (L.faults b)) links.old links.new }
+{
+    match export(alloc, rack, plan, source, sink, disks, links) {
+        Ok(exported) => status_of(exported),
+        Err(ExportRefusal::NoMemory) => Status::NoMemory,
+        Err(ExportRefusal::Keep { slot, refusal }) => refused_as(slot, refusal),
+    }
+}
+
+/// Runs the script that the source gives.
+fn run_script<S: Source, K: Sink>(alloc: Global, source: &mut S, sink: &mut K) -> Status
+    ensures run { RanScript S.left K.held result source.old source.new sink.old sink.new }
+    ensures unrefused { refused_slot result ≡ None }
+    ensures disks { (disk : ℕ) → result ≢ Status.DiskFault disk }
+    ensures links { (link : ℕ) → result ≢ Status.LinkFault link }
+    ensures usage { result ≢ Status.Usage }
+    ensures memory { result ≡ Status.NoMemory → sink.new ≡ sink.old }
+    ensures source_fault { result ≡ Status.SourceFault → Rose (S.faults source.old) (S.faults source.new) }
+    ensures sink_fault { result ≡ Status.SinkFault → Rose (K.faults sink.old) (K.faults sink.new) }
+    ensures replays { (text : List ℕ) → S.left source.old ≡ Some text → refusal text ≡ None → result ≢ Status.NoMemory
+        → NoFault (S.faults source.old) (S.faults source.new) → NoFault (K.faults sink.old) (K.faults sink.new) → HasReplayed result }
+{
+    replayed_as(replay(alloc, source, sink))
+}
+
+/// Runs a command: over its files and links, or the script that the source gives.
 fn run_command<S: Source, K: Sink, D: Disk + Drop, L: Link>(
     alloc: Global,
     command: Command,
@@ -38,18 +89,18 @@ fn run_command<S: Source, K: Sink, D: Disk + Drop, L: Link>(
         disks.old disks.new }
     ensures refused { (slot : ℕ) → refused_slot result ≡ Some slot → Refused D.state result slot disks.old disks.new }
     ensures unread { IsSome (refused_slot result) → (source.new ≡ source.old) × (sink.new ≡ sink.old) × (links.new ≡ links.old) }
-    ensures memory { result ≡ Status.NoMemory → (source.new ≡ source.old) × (sink.new ≡ sink.old) × (disks.new ≡ disks.old) × (links.new ≡ links.old) }
+    ensures memory { result ≡ Status.NoMemory → (command ≢ Command.Replay → source.new ≡ source.old) × (sink.new ≡ sink.old) × (disks.new ≡ disks.old) × (links.new ≡ links.old) }
     ensures usage { result ≢ Status.Usage }
     ensures there { All IsSome disks.new }
     ensures source_fault { result ≡ Status.SourceFault → Rose (S.faults source.old) (S.faults source.new) }
     ensures sink_fault { result ≡ Status.SinkFault → Rose (K.faults sink.old) (K.faults sink.new) }
     ensures link_fault { (link : ℕ) → result ≡ Status.LinkFault link → (link ≡ 0) × AtFirst (λ a b. Rose (L.faults a) (L.faults b)) links.old links.new }
+    ensures replays { (text : List ℕ) → command ≡ Command.Replay → S.left source.old ≡ Some text → refusal text ≡ None → result ≢ Status.NoMemory
+        → NoFault (S.faults source.old) (S.faults source.new) → NoFault (K.faults sink.old) (K.faults sink.new) → HasReplayed result }
 {
-    let (rack, plan) = plan(command);
-    match export(alloc, rack, plan, source, sink, disks, links) {
-        Ok(exported) => status_of(exported),
-        Err(ExportRefusal::NoMemory) => Status::NoMemory,
-        Err(ExportRefusal::Keep { slot, refusal }) => refused_as(slot, refusal),
+    match plan(command) {
+        Some((rack, plan)) => run_files(alloc, rack, plan, source, sink, disks, links),
+        None => run_script(alloc, source, sink),
     }
 }
 
@@ -62,12 +113,21 @@ fn run_command<S: Source, K: Sink, D: Disk + Drop, L: Link>(
 /// names, until `--frames` frames came or `--idle` turns in a row brought none. A frame carries as
 /// much as `--mtu` says.
 ///
+/// `replay` reads the source to its end as a script, runs the events of the script through shelves
+/// and hosts in memory, and puts the text of what happened on the sink. Whatever a schedule loses,
+/// repeats, delays within the frame lifetime, injects, fails or crashes, in the printed history a
+/// source outside a nonempty mask list gets silence and changes nothing, ATA commands from outside a
+/// nonempty reserve list get error 6 and change nothing, other requests get the written answer, and a
+/// host alone in its range reads only what its writes, their acknowledgements, flushes, faults and
+/// crashes allow. Nothing is written before the last event is done, and where the run doesn't come to
+/// it, nothing is.
+///
 /// The second disk of each pair is the keep of the target's lists. All keeps are mounted first, and
 /// where one is refused nothing is read, written or sent. At the end each store is synced, however
 /// the run ended. There are as many disks as `files_of` names, and as many links as `ports_of`.
 ///
 /// Memory is taken while the words are read, and for the shelf before the first keep is mounted; then
-/// no more.
+/// no more. A replay takes memory until its text is written.
 pub fn aoe<S: Source, K: Sink, D: Disk + Drop, L: Link>(
     alloc: Global,
     words: &[String],
@@ -82,7 +142,7 @@ pub fn aoe<S: Source, K: Sink, D: Disk + Drop, L: Link>(
     ensures usage { (result ≡ Status.Usage) ↔ (command (map string_bytes words.now) ≡ None) × (result ≢ Status.NoMemory) }
     ensures unchanged { result ≡ Status.Usage → (source.new ≡ source.old) × (sink.new ≡ sink.old) × (disks.new ≡ disks.old) × (links.new ≡ links.old) }
 
-    // A keep is refused, or the run is one of the shelf law.
+    // A keep is refused, or the run is one of the shelf law, or the history of a script is lawful and read as was written.
     ensures refused { (slot : ℕ) → refused_slot result ≡ Some slot → Refused D.state result slot disks.old disks.new }
     ensures unread { IsSome (refused_slot result) → (source.new ≡ source.old) × (sink.new ≡ sink.old) × (links.new ≡ links.old) }
     ensures run { IfSome (command (map string_bytes words.now)) (λ asked. refused_slot result ≡ None → result ≢ Status.NoMemory → Ran D.state asked
@@ -102,9 +162,11 @@ pub fn aoe<S: Source, K: Sink, D: Disk + Drop, L: Link>(
     ensures keep_small { (slot sectors : ℕ) → OnSlot (λ _ _ keep _. (result ≡ Status.KeepSmall (keep_at slot) sectors) ↔ IsSmall (D.state keep) result slot sectors) slot disks.old disks.new }
     ensures keep_bad { (slot bad : ℕ) → OnSlot (λ _ _ keep _. IfSome (D.state keep).contents (λ c.
         (result ≡ Status.KeepBad (keep_at slot) bad) ↔ IsBad (D.state keep) c result slot bad)) slot disks.old disks.new }
-    ensures memory { result ≡ Status.NoMemory → (source.new ≡ source.old) × (sink.new ≡ sink.old) × (disks.new ≡ disks.old) × (links.new ≡ links.old) }
+    ensures memory { result ≡ Status.NoMemory → (command (map string_bytes words.now) ≢ Some Command.Replay → source.new ≡ source.old)
+        × (sink.new ≡ sink.old) × (disks.new ≡ disks.old) × (links.new ≡ links.old) }
 
-    // With no fault keeps that hold lists are mounted, and then a stream of frames is answered to its end, and a link is served.
+    // With no fault keeps that hold lists are mounted, and then a stream of frames is answered to its end, and a link is served;
+    // and a script with no bad line is run.
     ensures mounted { (slot : ℕ) (lists : Settings) → OnSlot (λ _ _ keep keep'. HasLists (D.state keep) lists
         → NoFault (D.state keep).faults (D.state keep').faults → refused_slot result ≢ Some slot) slot disks.old disks.new }
     ensures answers { (asked : Answers) (frames : List (List ℕ)) → command (map string_bytes words.now) ≡ Some (Command.Answer asked) → refused_slot result ≡ None → result ≢ Status.NoMemory
@@ -116,6 +178,8 @@ pub fn aoe<S: Source, K: Sink, D: Disk + Drop, L: Link>(
         → AtFirst (λ a b. NoFault (L.faults a) (L.faults b)) links.old links.new
         → ((slot : ℕ) → OnSlot (λ file file' _ _. NoFault (D.state file).faults (D.state file').faults) slot disks.old disks.new)
         → result ≡ Status.Ok }
+    ensures replays { (text : List ℕ) → command (map string_bytes words.now) ≡ Some Command.Replay → S.left source.old ≡ Some text → refusal text ≡ None → result ≢ Status.NoMemory
+        → NoFault (S.faults source.old) (S.faults source.new) → NoFault (K.faults sink.old) (K.faults sink.new) → HasReplayed result }
 {
     match read_words(alloc, words) {
         Ok(Some(command)) => run_command(alloc, command, source, sink, disks, links),

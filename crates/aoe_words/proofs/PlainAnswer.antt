@@ -10,7 +10,7 @@ use Rattle.aoe_base.specs.declared.address.TargetId.{TargetId}
 use Rattle.aoe_words.specs.declared.values.TheConstants.{DEFAULT_PORT}
 use Rattle.aoe_words.specs.declared.command.Command.{Command}
 use Rattle.aoe_words.specs.declared.command.Command.TheVariants.{Answer}
-use Rattle.aoe_words.specs.Words.{command, file_names, files, is_plain, is_word, plain_answer, plain_files, spelled}
+use Rattle.aoe_words.specs.Words.{command, file_names, files_of, is_plain, is_word, plain_answer, plain_files, spelled}
 use Rattle.aoe_words.proofs.PlainLemmas.{found, plain_parsed}
 
 -- the parts of a test
@@ -66,9 +66,9 @@ module _ (x1 x2 x3 x4 : ℕ) (t1 t2 t3 t4 : Text) (p1 : is_plain (x1 ∷ t1) ≡
       go (Some id) = refl
 
   pub line_files : file_names line ≡ plain_files (id_of (x1 ∷ t1) (x2 ∷ t2)) (x3 ∷ t3) (x4 ∷ t4)
-  line_files = ap (λ o. option_map_or (λ (p : Command × List Row). files p.1) o []) line_spells ∙ go (id_of (x1 ∷ t1) (x2 ∷ t2))
+  line_files = ap (λ o. option_map_or (λ (p : Command × List Row). files_of p.0 p.1) o []) line_spells ∙ go (id_of (x1 ∷ t1) (x2 ∷ t2))
     where
-      go : (o : Option TargetId) → option_map_or (λ (p : Command × List Row). files p.1) (option_map spelling o) [] ≡ plain_files o (x3 ∷ t3) (x4 ∷ t4)
+      go : (o : Option TargetId) → option_map_or (λ (p : Command × List Row). files_of p.0 p.1) (option_map spelling o) [] ≡ plain_files o (x3 ∷ t3) (x4 ∷ t4)
       go None = refl
       go (Some id) = refl
 

@@ -43,7 +43,15 @@ serve_ports = with_rule (with_rule (with_rule serve_front (demanded (codes "loca
 abbrev pub serve_app : App
 serve_app = with_rule (with_rule (with_rule serve_ports (optional (codes "mtu"))) (optional (codes "frames"))) (optional (codes "idle"))
 
--- all commands: one has to be named, and it is the first word
-unfoldable pub aoe_app : App
-aoe_app = let a = bare (codes "aoe") in
+-- replay, with nothing behind it
+abbrev pub replay_app : App
+replay_app = bare (codes "replay")
+
+-- the commands over files: one command has to be named, and it is the first word
+abbrev pub file_commands : App
+file_commands = let a = bare (codes "aoe") in
     with_subcommand (with_subcommand (record a { top = record a.top { no_binary_name = true; disable_help_subcommand = true; subcommand_required = true } }) answer_app.top) serve_app.top
+
+-- all commands
+unfoldable pub aoe_app : App
+aoe_app = with_subcommand file_commands replay_app.top

@@ -16,7 +16,7 @@ use Rattle.aoe_words.specs.declared.command.Answer.{Answer as Answers}
 use Rattle.aoe_words.specs.declared.command.Serve.{Serve as Serves}
 use Rattle.aoe_words.specs.declared.command.PortWords.{PortWords}
 use Rattle.aoe_words.specs.declared.command.Command.{Command}
-use Rattle.aoe_words.specs.declared.command.Command.TheVariants.{Answer, Serve}
+use Rattle.aoe_words.specs.declared.command.Command.TheVariants.{Answer, Serve, Replay}
 
 -- ---- words
 
@@ -93,6 +93,7 @@ abbrev pub command_of : Text → List Row → Option Command
 command_of name rows =
     if bytes_eq name (codes "answer") then option_map Answer (answer_of rows)
     else if bytes_eq name (codes "serve") then option_map Serve (serve_of rows)
+    else if bytes_eq name (codes "replay") then Some Replay
     else None
 
 -- the command that the words spell with what clap found for it, or nothing
@@ -104,13 +105,19 @@ abbrev pub command : List Text → Option Command
 command words = option_map (λ p. p.0) (spelled words)
 
 -- the files that it works on, in their order
+abbrev pub files_of : Command → List Row → List Text
+files_of (Answer answer) rows = files rows
+files_of (Serve serve) rows = files rows
+files_of Replay rows = []
+
 abbrev pub file_names : List Text → List Text
-file_names words = option_map_or (λ p. files p.1) (spelled words) []
+file_names words = option_map_or (λ p. files_of p.0 p.1) (spelled words) []
 
 -- the ends of its links
 abbrev pub links_of : Command → List Row → List PortWords
 links_of (Answer answer) rows = []
 links_of (Serve serve) rows = option_map_or (λ ends. ends ∷ []) (link rows) []
+links_of Replay rows = []
 
 abbrev pub port_words : List Text → List PortWords
 port_words words = option_map_or (λ p. links_of p.0 p.1) (spelled words) []
@@ -143,15 +150,18 @@ pub record CanServe (serve : Serves) : Type 0 where
 abbrev pub IsInRange : Command → Type 0
 IsInRange (Answer answer) = CanAnswer answer
 IsInRange (Serve serve) = CanServe serve
+IsInRange Replay = Unit
 
 -- how many files and links a command has
 abbrev pub file_count : Command → ℕ
 file_count (Answer answer) = 2
 file_count (Serve serve) = 2 * serve.slots
+file_count Replay = 0
 
 abbrev pub link_count : Command → ℕ
 link_count (Answer answer) = 0
 link_count (Serve serve) = 1
+link_count Replay = 0
 
 -- ---- words without options
 

@@ -2,7 +2,7 @@
 ghost use Rattle.std.specs.Prelude.{◌≡◌, IfOk, map, string_bytes, false};
 ghost use Rattle.clap.specs.Words.{app_of, rule_of, with_rule, FailsBy, fault_of, HasMatchesOf};
 ghost use Rattle.clap.specs.declared.builder.command.Command.TheViews.{out-Command as fields_of};
-ghost use Rattle.aoe_words.specs.Apps.{needed, several, demanded, optional, bare, answer_front, answer_app, serve_front, serve_ports, serve_app, aoe_app};
+ghost use Rattle.aoe_words.specs.Apps.{needed, several, demanded, optional, bare, answer_front, answer_app, serve_front, serve_ports, serve_app, replay_app, file_commands, aoe_app};
 
 use clap::{Arg, ArgAction, ArgMatches, Command, Error};
 use std::alloc::{AllocError, Global};
@@ -110,10 +110,17 @@ fn serve<'a>(alloc: Global) -> Result<Command<'a>, AllocError>
     with(command, optional(alloc, "idle"))
 }
 
-/// All commands.
-#[tactic(auto, unfolding(crate::specs::Apps::aoe_app))]
-fn commands<'a>(alloc: Global) -> Result<Command<'a>, AllocError>
-    ensures { IfOk result (λ r. app_of r ≡ aoe_app) }
+/// `replay`, which takes nothing.
+fn replay<'a>(alloc: Global) -> Command<'a>
+    ensures app { app_of result ≡ replay_app }
+    ensures local { (fields_of result).has_globals ≡ false }
+{
+    bare(alloc, "replay")
+}
+
+/// The commands over files.
+fn file_commands<'a>(alloc: Global) -> Result<Command<'a>, AllocError>
+    ensures { IfOk result (λ r. app_of r ≡ file_commands) }
 {
     let command = bare(alloc, "aoe")
         .no_binary_name(true)
@@ -122,6 +129,14 @@ fn commands<'a>(alloc: Global) -> Result<Command<'a>, AllocError>
     command
         .subcommand(answer(alloc)?)?
         .subcommand(serve(alloc)?)
+}
+
+/// All commands.
+#[tactic(auto, unfolding(crate::specs::Apps::aoe_app))]
+fn commands<'a>(alloc: Global) -> Result<Command<'a>, AllocError>
+    ensures { IfOk result (λ r. app_of r ≡ aoe_app) }
+{
+    file_commands(alloc)?.subcommand(replay(alloc))
 }
 
 /// What clap finds in the words after the program's name.

@@ -41,6 +41,9 @@ pub struct Serve {
 pub enum Command {
     Answer(Answer),
     Serve(Serve),
+
+    /// What `replay` asks for: to run the script that the source spells, and to print its history.
+    Replay,
 }
 
 /// The texts that name the ends of a link, as they stand on the command line: its own address, and

@@ -2,7 +2,7 @@
 ghost use Rattle.std.specs.Prelude.{◌≡◌, ◌*◌, [], ◌∷◌, length, map, option_map, string_bytes, IfOk, IfSome, IsSome};
 ghost use Rattle.std.specs.List.{list_all};
 ghost use Rattle.clap.specs.Words.{found_of, rows_of};
-ghost use Rattle.aoe_words.specs.Words.{CanAnswer, CanServe, IsInRange, answer_of, command, command_of, file_count, file_names, files, is_word, link, link_count, links_of, parsed, port_words, serve_of, spelled};
+ghost use Rattle.aoe_words.specs.Words.{CanAnswer, CanServe, IsInRange, answer_of, command, command_of, file_count, file_names, files, files_of, is_word, link, link_count, links_of, parsed, port_words, serve_of, spelled};
 
 use crate::app::matches;
 use crate::values::{
@@ -137,13 +137,15 @@ fn serve_of(found: &ArgMatches) -> Option<Serve>
 fn command_of(name: &str, found: &ArgMatches) -> Option<Command>
     ensures value { result ≡ command_of name.now (rows_of (found_of found.now)) }
     ensures range { IfSome result IsInRange }
-    ensures files { IfSome result (λ c. length (files (rows_of (found_of found.now))) ≡ file_count c) }
+    ensures files { IfSome result (λ c. length (files_of c (rows_of (found_of found.now))) ≡ file_count c) }
     ensures links { IfSome result (λ c. length (links_of c (rows_of (found_of found.now))) ≡ link_count c) }
 {
     if name == "answer" {
         Some(Command::Answer(answer_of(found)?))
     } else if name == "serve" {
         Some(Command::Serve(serve_of(found)?))
+    } else if name == "replay" {
+        Some(Command::Replay)
     } else {
         None
     }
@@ -153,7 +155,7 @@ fn command_of(name: &str, found: &ArgMatches) -> Option<Command>
 fn spelled<'a>(alloc: Global, words: &'a [String]) -> Result<Option<Found<'a>>, NoMemory>
     ensures value { IfOk result (λ r. option_map (λ s. (s.command, rows_of (found_of s.matches))) r ≡ spelled (map string_bytes words.entry.now)) }
     ensures range { IfOk result (λ r. IfSome r (λ s. IsInRange s.command)) }
-    ensures files { IfOk result (λ r. IfSome r (λ s. length (files (rows_of (found_of s.matches))) ≡ file_count s.command)) }
+    ensures files { IfOk result (λ r. IfSome r (λ s. length (files_of s.command (rows_of (found_of s.matches))) ≡ file_count s.command)) }
     ensures links { IfOk result (λ r. IfSome r (λ s. length (links_of s.command (rows_of (found_of s.matches))) ≡ link_count s.command)) }
 {
     let Some((name, matches)) = parsed(alloc, words)? else {
@@ -196,17 +198,20 @@ fn copies(alloc: Global, texts: &[&str]) -> Result<Vec<String>, NoMemory>
     Ok(names)
 }
 
-/// The names of the files that the command works on, in their order; none where the words spell no
-/// command.
+/// The names of the files that the command works on, in their order; none for `replay` and where the
+/// words spell no command.
 pub fn files_of(alloc: Global, words: &[String]) -> Result<Vec<String>, NoMemory>
     ensures { IfOk result (λ names. map string_bytes names.items ≡ file_names (map string_bytes words.now)) }
 {
-    match spelled(alloc, words)? {
-        Some(found) => match files(&found.matches) {
+    let Some(Found { command, matches }) = spelled(alloc, words)? else {
+        return Ok(Vec::new(alloc));
+    };
+    match command {
+        Command::Answer(_) | Command::Serve(_) => match files(&matches) {
             Some(texts) => copies(alloc, texts),
             None => Ok(Vec::new(alloc)),
         },
-        None => Ok(Vec::new(alloc)),
+        Command::Replay => Ok(Vec::new(alloc)),
     }
 }
 
@@ -223,8 +228,8 @@ fn one_link(alloc: Global, local: &str, peers: &str) -> Result<Vec<PortWords>, N
     Ok(links)
 }
 
-/// The ends of the links that the command works on: one for `serve`, none for `answer` and where the
-/// words spell no command.
+/// The ends of the links that the command works on: one for `serve`, none for `answer` and `replay`
+/// and where the words spell no command.
 pub fn ports_of(alloc: Global, words: &[String]) -> Result<Vec<PortWords>, NoMemory>
     ensures { IfOk result (λ links. links.items ≡ port_words (map string_bytes words.now)) }
 {
@@ -232,7 +237,7 @@ pub fn ports_of(alloc: Global, words: &[String]) -> Result<Vec<PortWords>, NoMem
         return Ok(Vec::new(alloc));
     };
     match command {
-        Command::Answer(_) => Ok(Vec::new(alloc)),
+        Command::Answer(_) | Command::Replay => Ok(Vec::new(alloc)),
         Command::Serve(_) => match link(&matches) {
             Some((local, peers)) => one_link(alloc, local, peers),
             None => Ok(Vec::new(alloc)),

@@ -131,6 +131,16 @@ fn reads_serve(rt: HostRuntime) -> Result<(), Fail> {
 }
 
 #[test]
+fn reads_replay(rt: HostRuntime) -> Result<(), Fail> {
+    let alloc = rt.alloc();
+    assert_eq!(rt; read_line(alloc, "replay")?, Some(Command::Replay));
+    assert_eq!(rt; files_line(alloc, "replay")?.as_str(), "");
+    let words = words_of(alloc, "replay")?;
+    assert!(rt; ports_of(alloc, words.as_slice())?.is_empty());
+    Ok(())
+}
+
+#[test]
 fn refuses_words(rt: HostRuntime) -> Result<(), Fail> {
     let lines = [
         // No command, another, or a word before it.
@@ -187,6 +197,14 @@ fn refuses_words(rt: HostRuntime) -> Result<(), Fail> {
         "serve 1 d k --local x --peers y --ports 02:00:00:00:00:01,",
         "serve 1 d k --local x --peers y --ports ,02:00:00:00:00:01",
         "serve 1 d k --local x --peers y --ports 02:00:00:00:00:01,02:00:00:00:00:02,02:00:00:00:00:03,02:00:00:00:00:04,02:00:00:00:00:05",
+        // Words beside replay.
+        "replay ",
+        "replay script",
+        "replay replay",
+        "replay --mtu 1500",
+        "replay --help",
+        "replay --",
+        "Replay",
         // The link, the files and the numbers of serve.
         "serve 1 d k --local x",
         "serve 1 d k --peers y",

@@ -1,6 +1,5 @@
-//! Commands that a host refuses, and scripts that are refused.
-use super::{STATIONS, prints};
-use aoe_script::{Why, read_script};
+//! Commands that a host refuses.
+use super::prints;
 use std::test::Fail;
 
 const REFUSED: &str = "\

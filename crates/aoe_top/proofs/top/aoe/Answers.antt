@@ -1,7 +1,7 @@
 use Rattle.std.proofs.Common.{◌≡◌, ◌∙◌, ℕ, List, [], length, Option, None, Some, arith, refl, sym, subst}
 use Rattle.std.specs.Prelude.{IfSome, map, option_map, string_bytes}
 use Rattle.std.specs.Option.{option_map_or}
-use Rattle.aoe_words.specs.Words.{files, link_count, spelled}
+use Rattle.aoe_words.specs.Words.{file_count, files_of, link_count, spelled}
 use Rattle.aoe_words.specs.declared.command.Command.{Command}
 use Rattle.aoe_words.specs.declared.command.Command.TheVariants.{Serve}
 use Rattle.aoe_words.specs.declared.command.Serve.{Serve as Serves}
@@ -15,29 +15,34 @@ linked : (n : ℕ) (o : Option Command) (asked : Serves) → o ≡ Some (Serve a
 linked n None asked e count = absurd cc
 linked n (Some command) asked e count = let same : command ≡ Serve asked = cc in subst (λ (x : Command). n ≡ link_count x) same count
 
+-- a command has as many files
+counted : (n : ℕ) (o : Option Command) (command : Command) → o ≡ Some command → IfSome o (λ c. n ≡ file_count c) → n ≡ file_count command
+counted n None command e count = absurd cc
+counted n (Some c) command e count = let same : c ≡ command = cc in subst (λ (x : Command). n ≡ file_count x) same count
+
 pub returns-in-Ok-Some-clause-run : goal.returns-in-Ok-Some-clause-run
 returns-in-Ok-Some-clause-run g c = ran-of _ _ _ _ _ _ _ _ _ _ c.in-Ok-Some.field-0-is c.in-Ok-Some.ensures.command c.run_command.ensures.run
 
 pub returns-in-Ok-Some-clause-settled : goal.returns-in-Ok-Some-clause-settled
-returns-in-Ok-Some-clause-settled g c slot e = settled _ _ _ _ _ _ _ _ c.run_command.ensures.run c.run_command.ensures.refused slot e
+returns-in-Ok-Some-clause-settled g c slot e = settled _ _ _ _ _ _ _ _ c.run_command.ensures.run c.run_command.ensures.refused (c.requires.count ∙ counted _ _ _ c.in-Ok-Some.field-0-is c.in-Ok-Some.ensures.files) slot e
 
 pub returns-in-Ok-Some-clause-disk_fault : goal.returns-in-Ok-Some-clause-disk_fault
-returns-in-Ok-Some-clause-disk_fault g c disk e = disk-within _ _ _ _ _ _ _ _ c.run_command.ensures.run c.run_command.ensures.refused disk e
+returns-in-Ok-Some-clause-disk_fault g c disk e = disk-within _ _ _ _ _ _ _ _ c.run_command.ensures.run c.run_command.ensures.refused (c.requires.count ∙ counted _ _ _ c.in-Ok-Some.field-0-is c.in-Ok-Some.ensures.files) disk e
 
 pub returns-in-Ok-Some-clause-file_fault : goal.returns-in-Ok-Some-clause-file_fault
-returns-in-Ok-Some-clause-file_fault g c slot e = file-fault _ _ _ _ _ _ _ _ c.run_command.ensures.run c.run_command.ensures.refused slot e
+returns-in-Ok-Some-clause-file_fault g c slot e = file-fault _ _ _ _ _ _ _ _ c.run_command.ensures.run c.run_command.ensures.refused (c.requires.count ∙ counted _ _ _ c.in-Ok-Some.field-0-is c.in-Ok-Some.ensures.files) slot e
 
 pub returns-in-Ok-Some-clause-keep_fault : goal.returns-in-Ok-Some-clause-keep_fault
-returns-in-Ok-Some-clause-keep_fault g c slot e = keep-fault _ _ _ _ _ _ _ _ c.run_command.ensures.run c.run_command.ensures.refused slot e
+returns-in-Ok-Some-clause-keep_fault g c slot e = keep-fault _ _ _ _ _ _ _ _ c.run_command.ensures.run c.run_command.ensures.refused (c.requires.count ∙ counted _ _ _ c.in-Ok-Some.field-0-is c.in-Ok-Some.ensures.files) slot e
 
 pub returns-in-Ok-Some-clause-keep_small : goal.returns-in-Ok-Some-clause-keep_small
-returns-in-Ok-Some-clause-keep_small g c slot sectors = keep-small _ _ _ _ _ _ _ _ c.run_command.ensures.run c.run_command.ensures.refused slot sectors
+returns-in-Ok-Some-clause-keep_small g c slot sectors = keep-small _ _ _ _ _ _ _ _ c.run_command.ensures.run c.run_command.ensures.refused (c.requires.count ∙ counted _ _ _ c.in-Ok-Some.field-0-is c.in-Ok-Some.ensures.files) slot sectors
 
 pub returns-in-Ok-Some-clause-keep_bad : goal.returns-in-Ok-Some-clause-keep_bad
-returns-in-Ok-Some-clause-keep_bad g c slot bad = keep-bad _ _ _ _ _ _ _ _ c.run_command.ensures.run c.run_command.ensures.refused slot bad
+returns-in-Ok-Some-clause-keep_bad g c slot bad = keep-bad _ _ _ _ _ _ _ _ c.run_command.ensures.run c.run_command.ensures.refused (c.requires.count ∙ counted _ _ _ c.in-Ok-Some.field-0-is c.in-Ok-Some.ensures.files) slot bad
 
 pub returns-in-Ok-Some-clause-mounted : goal.returns-in-Ok-Some-clause-mounted
-returns-in-Ok-Some-clause-mounted g c slot lists = mounted _ _ _ _ _ _ _ _ c.run_command.ensures.run c.run_command.ensures.refused slot lists
+returns-in-Ok-Some-clause-mounted g c slot lists = mounted _ _ _ _ _ _ _ _ c.run_command.ensures.run c.run_command.ensures.refused (c.requires.count ∙ counted _ _ _ c.in-Ok-Some.field-0-is c.in-Ok-Some.ensures.files) slot lists
 
 pub returns-in-Ok-Some-clause-answers : goal.returns-in-Ok-Some-clause-answers
 returns-in-Ok-Some-clause-answers g c asked fs is unrefused some_memory left_is all few source sink fine =
@@ -51,11 +56,11 @@ returns-in-Ok-Some-clause-serves g c asked is unrefused some_memory link fine =
     serves _ _ _ _ _ _ _ fine asked r (λ e. link-fine g.L.Link.faults _ _ link (c.run_command.ensures.link_fault 0 e).1 (omega (arith, c.requires.links, count)))
 
 -- words that spell no command name no files
-no-files : {R : Type 0} (names : R → List (List ℕ)) (o : Option (Command × R)) → option_map (λ p. p.0) o ≡ None → length (option_map_or (λ p. names p.1) o []) ≡ 0
+no-files : {R : Type 0} (names : Command → R → List (List ℕ)) (o : Option (Command × R)) → option_map (λ p. p.0) o ≡ None → length (option_map_or (λ p. names p.0 p.1) o []) ≡ 0
 no-files names None e = refl
 no-files names (Some p) e = absurd cc
 
 pub returns-in-Ok-None-clause-keep_bad : goal.returns-in-Ok-None-clause-keep_bad
 returns-in-Ok-None-clause-keep_bad g c slot bad =
-    let empty = no-files files (spelled (map string_bytes c.args.words.now)) (sym c.in-Ok-None.ensures.command ∙ c.in-Ok-None.field-0-is) in
+    let empty = no-files files_of (spelled (map string_bytes c.args.words.now)) (sym c.in-Ok-None.ensures.command ∙ c.in-Ok-None.field-0-is) in
     on-none _ slot c.args.disks.now c.args.disks.now (omega (arith, c.requires.count, empty))

@@ -1,17 +1,9 @@
 use Rattle.std.proofs.Common.{◌≡◌, ◌≤◌, ◌<◌, ◌+◌, ℕ, Option, None, Some, Err, arith, refl, ap}
 use Rattle.std.specs.Prelude.{IfSome}
-use Rattle.aoe_words.specs.Words.{IsInRange, file_count}
-use Rattle.aoe_words.specs.declared.command.Command.{Command}
-use Rattle.aoe_words.specs.declared.command.Command.TheVariants.{Answer, Serve}
 use Rattle.aoe_top.specs.Ending.{file_at}
 use Rattle.aoe_top.proofs.Exits.{unsynced-within}
 use Rattle.aoe_top.proofs.Refusals.{backed}
-use Rattle.aoe_top.proofs.top.run_command.Goals as goal
-
--- a command has at most 32 files
-few-files : (command : Command) → IsInRange command → file_count command ≤ 32
-few-files (Answer answer) range = omega arith
-few-files (Serve serve) range = omega (arith, range.slots.1)
+use Rattle.aoe_top.proofs.top.run_files.Goals as goal
 
 few-slots : (unsynced : Option ℕ) (n : ℕ) → ((slot : ℕ) → unsynced ≡ Some slot → file_at slot + 1 < n) → n ≤ 32 → IfSome unsynced (λ slot. slot ≤ 15)
 few-slots None n within few = tt
@@ -19,9 +11,9 @@ few-slots (Some slot) n within few = omega (arith, within slot refl, few)
 
 pub status_of-requires : goal.status_of-requires
 status_of-requires g c =
-    few-slots c.in-Ok.exported.unsynced _ (λ slot is. unsynced-within _ _ _ _ _ _ _ _ _ _ c.in-Ok.ensures.ran slot is) (omega (arith, c.requires.count, few-files c.args.command c.requires.range))
+    few-slots c.in-Ok.exported.unsynced _ (λ slot is. unsynced-within _ _ _ _ _ _ _ _ _ _ c.in-Ok.ensures.ran slot is) c.requires.possible.room
 
 pub refused_as-requires : goal.refused_as-requires
 refused_as-requires g c =
     let back = c.in-Err-Keep.ensures.refused c.in-Err-Keep.slot c.in-Err-Keep.refusal (ap Err c.in-Err-Keep.field-0-is) in
-    omega (arith, (backed _ _ _ _ _ back).within, c.requires.count, few-files c.args.command c.requires.range)
+    omega (arith, (backed _ _ _ _ _ back).within, c.requires.possible.room)
