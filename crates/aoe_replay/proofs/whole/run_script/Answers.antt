@@ -15,3 +15,15 @@ returns-clause-leaves g c = left_alone c.in-Err-run_events.end c.args.sink.now
 
 pub returns-clause-sink_fault : goal.returns-clause-sink_fault
 returns-clause-sink_fault g c = λ e. absurd (stops_no_sink c.in-Err-run_events.end c.args.script.now c.in-Err-run_events.ensures.stops e)
+
+pub write_run-requires : goal.write_run-requires
+write_run-requires g c = rw c.history.ensures.history c.history.ensures.printable
+
+pub run_events-requires : goal.run_events-requires
+run_events-requires g c = c.in-Ok.ensures.new
+
+pub returns-in-Ok-run_events-clause-leaves : goal.returns-in-Ok-run_events-clause-leaves
+returns-in-Ok-run_events-clause-leaves g c = c.write_run.ensures.leaves
+
+pub returns-in-Ok-run_events-clause-sink_fault : goal.returns-in-Ok-run_events-clause-sink_fault
+returns-in-Ok-run_events-clause-sink_fault g c = c.write_run.ensures.sink_fault
