@@ -1,12 +1,15 @@
 //! Whole transcripts of scripts, worked out by hand.
+ghost use Rattle.std.specs.Prelude.{◌≡◌};
+
 mod crashes;
+mod network;
 mod paths;
 mod refusals;
 mod repeats;
 
 use super::*;
 use aoe_base::Blob;
-use aoe_script::read_script;
+use aoe_script::{Script, read_script};
 use aoe_transcript::print_run;
 use std::alloc::Global;
 use std::test::Fail;
@@ -20,13 +23,22 @@ host a 02:00:00:00:00:0a
 attach a s 0
 ";
 
+/// Runs all events of a script through its world.
+fn run_all(world: &mut World, script: &Script) -> Result<(), Fail>
+    requires lines { world.old.lines ≡ script.now.setups }
+    requires first { world.old.events ≡ 0 }
+{
+    'events: for i in 0..script.count() {
+        world.step(script.event(i))?;
+    }
+    Ok(())
+}
+
 /// What a script's run prints.
 fn transcript(alloc: Global, text: &str) -> Result<Blob, Fail> {
     let script = read_script(alloc, text.as_bytes())?;
     let mut world = World::new(alloc, &script)?;
-    'events: for i in 0..script.count() {
-        world.step(script.event(i))?;
-    }
+    run_all(&mut world, &script)?;
     Ok(print_run(alloc, u64::from(world.events()), world.history())?)
 }
 

@@ -105,7 +105,8 @@ fn prints_a_stop_in_a_flush(rt: HostRuntime) -> Result<(), Fail> {
         ("torn", "5a*256,00*256"),
         ("mix:0", "ee*512"),
     ] {
-        let lines = format!(in alloc; "write a e1.0 3 1 5a
+        let lines = format!(in alloc;
+            "write a e1.0 3 1 5a
 pass 2
 stop e1.0 store 1 {mode}
 tick 2001
@@ -113,8 +114,10 @@ flush a e1.0
 pass 1
 read a e1.0 3 1
 pass 2
-")?;
-        let text = format!(in alloc; "submit a 1 write e1.0 3 1 5a
+"
+        )?;
+        let text = format!(in alloc;
+            "submit a 1 write e1.0 3 1 5a
 sent a 1 1
 arrive e1.0 1 wrote 3 1 reply 2
 took a 2
@@ -131,7 +134,8 @@ arrive e1.0 4 none reply 5
 took a 5
 done a 3 read {sector}
 summary events 8 frames 5 sent 3 again 0 arrived 3 done 2 lost 0 crashed 1
-")?;
+"
+        )?;
         assert!(rt; prints(alloc, lines.as_str(), text.as_str())?, "{mode}");
     }
     Ok(())
@@ -155,17 +159,21 @@ fn prints_a_stop_in_an_edit(rt: HostRuntime) -> Result<(), Fail> {
         (6, "keep", "6162"),
         (6, "old", "-"),
     ] {
-        let lines = format!(in alloc; "stop e1.0 keep {k} {mode}
+        let lines = format!(in alloc;
+            "stop e1.0 keep {k} {mode}
 config a e1.0 force 6162
 pass 1
-")?;
-        let text = format!(in alloc; "armed e1.0 keep stop {k}
+"
+        )?;
+        let text = format!(in alloc;
+            "armed e1.0 keep stop {k}
 submit a 1 config e1.0 force 6162
 sent a 1 1
 arrive e1.0 1 cut
 crashed e1.0 config {config} masks - reserves -
 summary events 3 frames 1 sent 1 again 0 arrived 1 done 0 lost 0 crashed 1
-")?;
+"
+        )?;
         assert!(rt; prints(alloc, lines.as_str(), text.as_str())?, "{k} {mode}");
     }
     let after = "\
@@ -175,6 +183,12 @@ sent a 1 1
 arrive e1.0 1 edited reply 2
 summary events 3 frames 2 sent 1 again 0 arrived 1 done 0 lost 0 crashed 0
 ";
-    assert!(rt; prints(alloc, "stop e1.0 keep 7 old\nconfig a e1.0 force 6162\npass 1\n", after)?);
+    assert!(rt;
+        prints(
+            alloc,
+            "stop e1.0 keep 7 old\nconfig a e1.0 force 6162\npass 1\n",
+            after
+        )?
+    );
     Ok(())
 }

@@ -71,7 +71,10 @@ summary events 8 frames 5 sent 4 again 2 arrived 1 done 1 lost 0 crashed 0
 fn prints_paths(rt: HostRuntime) -> Result<(), Fail> {
     let alloc = rt.alloc();
     for (script, text) in [ROUND, WAITS] {
-        assert!(rt; transcript(alloc, script)?.bytes() == text.as_bytes(), "{text}");
+        assert!(rt;
+            transcript(alloc, script)?.bytes() == text.as_bytes(),
+            "{text}"
+        );
     }
     Ok(())
 }
