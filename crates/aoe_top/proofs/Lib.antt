@@ -2,4 +2,3 @@ mod Complete
 mod Exits
 mod OnSlots
 mod Refusals
-mod Scripts

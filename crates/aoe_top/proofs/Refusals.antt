@@ -18,16 +18,17 @@ use Rattle.aoe_export.specs.declared.plan.RunEnd.{RunEnd}
 use Rattle.aoe_export.specs.declared.plan.RunEnd.TheVariants.{Answered, Served}
 use Rattle.aoe_serve.specs.declared.over_stream.AnswerEnd.TheVariants as answer
 use Rattle.aoe_serve.specs.declared.over_link.ServeEnd.TheVariants as serve
+use Rattle.aoe_replay.specs.declared.end.ReplayEnd.{ReplayEnd}
+use Rattle.aoe_replay.specs.declared.end.ReplayEnd.TheVariants as replay
 use Rattle.aoe_words.specs.Words.{file_count}
 use Rattle.aoe_words.specs.declared.command.Command.{Command}
 use Rattle.aoe_words.specs.declared.command.Command.TheVariants as command
-use Rattle.aoe_top.specs.Ending.{after_syncs, ended_by, file_at, keep_at, refused_as, refused_slot, slot_of_keep}
+use Rattle.aoe_top.specs.Ending.{after_syncs, ended_by, file_at, keep_at, refused_as, refused_slot, replayed_as, slot_of_keep}
 use Rattle.aoe_top.specs.Run.{HasLists, IsBad, IsSmall, NoFault, NothingLoose, OnSlot, Ran, RanFiles, Refused, refused_before}
 use Rattle.aoe_top.specs.declared.status.Status.{Status}
 use Rattle.aoe_top.specs.declared.status.Status.TheVariants as status
 use Rattle.aoe_top.proofs.Exits.{Stands, all-settled, stands, unsynced-rose, unsynced-within}
 use Rattle.aoe_top.proofs.OnSlots.{on-first, on-map, on-none, on-then}
-use Rattle.aoe_top.proofs.Scripts.{no-disk}
 
 -- Which disk is a keep.
 
@@ -294,6 +295,15 @@ memory-wanting (status.Script line cause) e = absurd cc
 
 -- A run of a command.
 
+-- no replay is told as a fault of a disk
+no-disk : (end : ReplayEnd) (disk : ℕ) → replayed_as end ≢ status.DiskFault disk
+no-disk replay.Ended disk e = cc
+no-disk replay.SourceFault disk e = cc
+no-disk replay.SinkFault disk e = cc
+no-disk replay.NoMemory disk e = cc
+no-disk (replay.Script line why) disk e = cc
+no-disk (replay.Limit excess) disk e = cc
+
 -- over files, or without any
 data Runs {D S K L : Type 0} (state : D → DiskState) (t : Tells S K L) (s : Status) (a b : Outside S K L) (disks disks' : List (Option D)) : Type 0 where
   over_files : (rack : Rack) (p : Plan) → RanFiles state rack p t s a b disks disks' → Runs state t s a b disks disks'
@@ -303,7 +313,7 @@ runs-of : {D S K L : Type 0} (state : D → DiskState) (command : Command) (t : 
     → Ran state command t s a b disks disks' → Runs state t s a b disks disks'
 runs-of state (command.Answer answer) t s a b disks disks' count run = over_files _ _ run
 runs-of state (command.Serve serve) t s a b disks disks' count run = over_files _ _ run
-runs-of state command.Replay t s a b disks disks' count run = over_none count (λ disk. no-disk _ s disk run.0.ends)
+runs-of state command.Replay t s a b disks disks' count run = over_none count (λ disk e. no-disk run.0.end disk (sym run.0.ends ∙ e))
 
 module _ {D S K L : Type 0} (state : D → DiskState) (command : Command) (t : Tells S K L) (s : Status) (a b : Outside S K L) (disks disks' : List (Option D))
     (run : refused_slot s ≡ None → s ≢ status.NoMemory → Ran state command t s a b disks disks')
