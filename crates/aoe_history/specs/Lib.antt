@@ -11,3 +11,4 @@ pub mod Groups
 pub mod Example
 pub mod Cases
 pub mod Conversation
+pub mod Asks

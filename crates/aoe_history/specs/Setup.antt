@@ -1,5 +1,5 @@
 -- The stations of a network: what of hosts and slots never changes.
-use Rattle.std.specs.Prelude.{ℕ, ◌≡◌, ◌≤◌, ◌<◌, ◌*◌, ◌+◌, true, Bool, ◌||◌, nat_eq, List, length, Option, Some, position, find, filter, Contains, unwrap_or}
+use Rattle.std.specs.Prelude.{ℕ, ◌≡◌, ◌≢◌, ◌≤◌, ◌<◌, ◌*◌, ◌+◌, true, false, Bool, ◌||◌, nat_eq, List, length, slice_get, Option, Some, position, find, filter, Contains, unwrap_or}
 use Rattle.std.specs.List.{list_any}
 use Rattle.std.specs.Str.{bytes_eq}
 use Rattle.arrayvec.specs.ArrayVec.{ArrayVec}
@@ -48,6 +48,15 @@ slot_of s id = find (λ slot. is_slot slot id) s.slots
 -- a shelf is its slots: those with its number
 abbrev pub shelf_of : Setup → ℕ → List SlotSetup
 shelf_of s major = filter (λ slot. nat_eq slot.station.id.major major) s.slots
+
+-- no two slots have one name
+abbrev pub AreApart : List SlotSetup → Type 0
+AreApart slots = (i j : ℕ) (a b : SlotSetup) → slice_get slots i ≡ Some a → slice_get slots j ≡ Some b → i ≢ j → is_slot a b.station.id ≡ false
+
+-- slots of the setup, of which no two have one name
+pub record AreSlots (s : Setup) (slots : List SlotSetup) : Type 0 where
+  pub there : (i : ℕ) (slot : SlotSetup) → slice_get slots i ≡ Some slot → slot_of s slot.station.id ≡ Some slot
+  pub apart : AreApart slots
 
 abbrev pub device_place : HostSetup → TargetId → Option ℕ
 device_place host id = position (λ (d : Attached). same_id d.id id) host.devices

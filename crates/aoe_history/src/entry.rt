@@ -1,4 +1,5 @@
 //! What happens in a run.
+use crate::Boxed;
 use aoe_base::{Blob, TargetId};
 use aoe_disk::Loss;
 use aoe_initiator::{Op, Outcome, SubmitRefusal};
@@ -27,7 +28,8 @@ pub enum Fate {
 }
 
 /// One thing that happened. Frames have numbers from 1 in the order in which they came into the
-/// network, and the commands of a host have tickets from 1 in the order of their submission.
+/// network, and the commands of a host have tickets from 1 in the order of their submission. What is
+/// large and rare is boxed, so that a long history is small.
 #[derive(Debug, Drop)]
 pub enum Entry {
     /// A host took a command for a device.
@@ -35,7 +37,7 @@ pub enum Entry {
         host: Name,
         ticket: u64,
         dev: TargetId,
-        op: Op,
+        op: Boxed<Op>,
     },
 
     /// A host refused a command.
@@ -76,7 +78,7 @@ pub enum Entry {
     Done {
         host: Name,
         ticket: u64,
-        outcome: Outcome,
+        outcome: Boxed<Outcome>,
     },
 
     /// So many milliseconds went by.
@@ -101,7 +103,7 @@ pub enum Entry {
     /// A slot lost its power and was mounted again, with these lists.
     Crashed {
         dev: TargetId,
-        lists: Lists,
+        lists: Boxed<Lists>,
         mode: Loss,
     },
 }

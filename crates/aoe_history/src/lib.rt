@@ -6,6 +6,7 @@
 //! history keeps the law of what is read is [`read_law`].
 #![tactic(auto)]
 
+mod boxed;
 mod cases;
 mod commands;
 mod conversation;
@@ -13,6 +14,7 @@ mod entry;
 mod history;
 mod reading;
 
+pub use boxed::Boxed;
 pub use cases::{worked_histories, worked_values, wrong_hosts, wrong_networks, wrong_shelves};
 pub use commands::{host_commands_law, host_frames_law, host_writes_law};
 pub use conversation::{requests_are_understood, responses_tell_truly};

@@ -1,4 +1,3 @@
-pub mod Asks
 pub mod Host
 pub mod Ids
 pub mod Turns

@@ -2,7 +2,7 @@
 ghost use Rattle.std.specs.Prelude.{◌≡◌, ◌<◌, ◌*◌, true, is_some, replicate, IfOk, IfSome};
 ghost use Rattle.aoe_initiator.specs.Op.{CanSubmit};
 ghost use Rattle.aoe_script.specs.Rules.{is_event};
-ghost use Rattle.aoe_hosts.specs.Asks.{submission_in};
+ghost use Rattle.aoe_history.specs.Asks.{submission_in};
 
 use aoe_base::{Blob, Mac, NoMemory, Span};
 use aoe_initiator::{Dir, MAX_DIRS, Op};

@@ -6,7 +6,7 @@ ghost use Rattle.aoe_history.specs.Frames.{arriving};
 ghost use Rattle.aoe_history.specs.Groups.{submitted_as, Got, Takes};
 ghost use Rattle.aoe_history.specs.Lawful.{IsLawful};
 ghost use Rattle.aoe_history.specs.Setup.{HostSetup, Setup};
-ghost use Rattle.aoe_hosts.specs.Asks.{submission_in};
+ghost use Rattle.aoe_history.specs.Asks.{submission_in};
 ghost use Rattle.aoe_hosts.specs.Host.{Awaits, IsSettled};
 ghost use Rattle.aoe_initiator.specs.Host.{new_device, new_host, with_device, Matches};
 ghost use Rattle.aoe_initiator.specs.HostLaw.{attach_refusal, same_id};
@@ -18,7 +18,7 @@ ghost use Rattle.aoe_script.specs.Rules.{is_event};
 
 use crate::asks::op_of;
 use aoe_base::{DeviceNo, FrameNo, Millis, NoMemory, Ports, TargetId, Ticket};
-use aoe_history::Entry;
+use aoe_history::{Boxed, Entry};
 use aoe_initiator::{Initiator, Op, SubmitRefusal, Taken, held_law};
 use aoe_run::Run;
 use aoe_script::{Event, Name};
@@ -61,7 +61,7 @@ fn place_of(ids: &[TargetId], dev: TargetId) -> Option<usize>
 fn entry_of(
     host: Name,
     dev: TargetId,
-    copy: Op,
+    copy: Boxed<Op>,
     answer: Result<Ticket, (SubmitRefusal, Op)>,
 ) -> Result<Entry, NoMemory>
     ensures plain { IfOk result (λ entry. is_plain entry ≡ true) }
@@ -176,14 +176,14 @@ impl NamedHost {
         ensures err { OnErr result (run.new ≡ run.old) }
     {
         let op = op_of(self.alloc, event)?;
-        let copy = op_of(self.alloc, event)?;
+        let copy = Boxed::new(self.alloc, op_of(self.alloc, event)?)?;
         let entry = self.enter(dev, op, copy)?;
         run.note(entry)
     }
 
     /// Hands an operation to the core, and gives what is taken down of it, with a copy of the
     /// operation.
-    fn enter(&mut self, dev: TargetId, op: Op, copy: Op) -> Result<Entry, NoMemory>
+    fn enter(&mut self, dev: TargetId, op: Op, copy: Boxed<Op>) -> Result<Entry, NoMemory>
         requires same { copy ≡ op }
         requires can { CanSubmit op }
         requires attached { is_some (position (λ d. same_id d.about.id dev) self.old.core.devices) ≡ true }

@@ -91,9 +91,9 @@ fn a_response_ends_its_command_once(rt: HostRuntime) -> Result<(), Fail> {
             history.entry(4),
             Entry::Done {
                 ticket: 1,
-                outcome: Outcome::Flushed,
+                outcome,
                 ..
-            }
+            } if matches!(outcome.get(), Outcome::Flushed)
         )
     );
     assert!(rt;
@@ -164,9 +164,9 @@ fn a_command_without_a_response_is_given_up(rt: HostRuntime) -> Result<(), Fail>
             history.entry(3),
             Entry::Done {
                 ticket: 1,
-                outcome: Outcome::GaveUp { .. },
+                outcome,
                 ..
-            }
+            } if matches!(outcome.get(), Outcome::GaveUp { .. })
         )
     );
     Ok(())

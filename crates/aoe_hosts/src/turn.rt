@@ -14,7 +14,7 @@ ghost use Rattle.aoe_run.specs.Run.{with_entry, MeetsFull};
 use crate::host::{NamedHost, name_of};
 use aoe_base::NoMemory;
 use aoe_frame::Frame;
-use aoe_history::Entry;
+use aoe_history::{Boxed, Entry};
 use aoe_initiator::Done;
 use aoe_net::NetRefusal;
 use aoe_run::Run;
@@ -25,10 +25,11 @@ impl NamedHost {
         ensures ok { OnOk result (run.new ≡ with_entry run.old (Finished self.now.name done.ticket.0 done.outcome)) }
         ensures err { OnErr result (run.new ≡ run.old) }
     {
+        let outcome = Boxed::new(self.alloc, done.outcome)?;
         run.note(Entry::Done {
             host: name_of(&self.name),
             ticket: done.ticket.0,
-            outcome: done.outcome,
+            outcome,
         })
     }
 

@@ -8,12 +8,12 @@ use Rattle.arrayvec.specs.ArrayVec.{ArrayVec}
 use Rattle.aoe_base.specs.declared.address.Mac.{Mac}
 use Rattle.aoe_base.specs.declared.address.TargetId.{TargetId}
 use Rattle.aoe_initiator.specs.HostLaw.{same_id}
-use Rattle.aoe_history.specs.Setup.{is_slot, shelf_of, slot_of, SlotSetup}
+use Rattle.aoe_history.specs.Setup.{is_slot, shelf_of, slot_of, AreSlots, SlotSetup}
 use Rattle.aoe_script.specs.declared.setup.Setup.{Setup as Line}
 use Rattle.aoe_script.specs.declared.setup.Setup.TheVariants.{Life, Shelf, Slot, Host, Attach}
 use Rattle.aoe_script.specs.Rules.{is_shelf, is_slot as is_slot_line, is_slot_of, same}
 use Rattle.aoe_layout.specs.Layout.{major_in, majors_of, setup_of, slot_of_shelf, slot_with, slots_of_shelf}
-use Rattle.aoe_layout.specs.Stations.{AreSlots, HasShelves}
+use Rattle.aoe_layout.specs.Stations.{HasShelves}
 use Rattle.aoe_layout.proofs.GoodLines.{AreGood}
 use Rattle.aoe_layout.proofs.LineLemmas.{none-before, same-is, same-self, shelf-before, shelves-differ, SlotLine}
 use Rattle.aoe_layout.proofs.ListLemmas.{apart-by, contains-at, kept-at, few-of, filter-piece, filtered-at, find-by, from-filtered, from-pieces, length-filtered, ordered-filtered, ordered-pieces, pieces-at, Ordered, Place}

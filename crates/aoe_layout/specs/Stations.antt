@@ -28,11 +28,6 @@ pub record HasHosts (lines : List Line) (s : Setup) : Type 0 where
 
 -- ---- shelves
 
--- slots of the setup, of which no two have one name
-pub record AreSlots (s : Setup) (slots : List SlotSetup) : Type 0 where
-  pub there : (i : ℕ) (slot : SlotSetup) → slice_get slots i ≡ Some slot → slot_of s slot.station.id ≡ Some slot
-  pub apart : (i j : ℕ) (a b : SlotSetup) → slice_get slots i ≡ Some a → slice_get slots j ≡ Some b → i ≢ j → is_slot a b.station.id ≡ false
-
 -- the slots with the number of a shelf line are those of its shelf, 16 at most, and of 16 shelves at most no two have one number
 pub record HasShelves (lines : List Line) (s : Setup) : Type 0 where
   pub all : (k : ℕ) (name : ArrayVec ℕ) (major : ℕ) (ports : ArrayVec Mac) (mtu : ℕ) → slice_get lines k ≡ Some (Shelf name major ports mtu)

@@ -22,14 +22,14 @@ use Rattle.aoe_target.specs.Mounted.{Mounted}
 use Rattle.aoe_target.specs.Sectors.{sectors_of, Agrees, Sectors}
 use Rattle.aoe_history.specs.declared.entry.Entry.{Entry}
 use Rattle.aoe_history.specs.declared.entry.Entry.TheVariants.{Armed}
-use Rattle.aoe_history.specs.Setup.{is_slot, SlotSetup}
+use Rattle.aoe_history.specs.Setup.{is_slot, AreApart, SlotSetup}
 use Rattle.aoe_history.specs.ShelfLaw.{same_disk, stretch, Stretch}
 use Rattle.aoe_history.specs.Slots.{state_after}
 use Rattle.aoe_script.specs.declared.event.Which.{Which}
 use Rattle.aoe_script.specs.declared.event.Which.TheVariants.{Store, Keep}
 use Rattle.aoe_racks.specs.declared.rack.Stops.{Stops}
 use Rattle.aoe_racks.specs.Arming.{arm_of, with_stop, ArmsDisk}
-use Rattle.aoe_racks.specs.Rack.{calls_per, stop_in, AreApart, IsDue, IsRack, IsServing, MemoryRack, SameWithin, Serves}
+use Rattle.aoe_racks.specs.Rack.{calls_per, stop_in, IsDue, IsRack, IsServing, MemoryRack, SameWithin, Serves}
 use Rattle.aoe_racks.proofs.Apart.{if-false, if-true, says-armed, serves-still, there}
 use Rattle.aoe_racks.proofs.ArrivalLemmas.{at-place, same-or}
 use Rattle.aoe_racks.proofs.RackLemmas.{rack-kept, IsSameTarget}

@@ -24,12 +24,12 @@ use Rattle.aoe_history.specs.declared.entry.Fate.TheVariants.{Cut, Ignored, Repl
 use Rattle.aoe_history.specs.Frames.{arriving, bytes_of, clock, frames, network, next_number}
 use Rattle.aoe_history.specs.Groups.{ArriveAtEach, ArriveAtSome, CrashEach, CrashSome}
 use Rattle.aoe_history.specs.Lawful.{IsArrival, IsNumbered, MayCome}
-use Rattle.aoe_history.specs.Setup.{Setup, SlotSetup}
+use Rattle.aoe_history.specs.Setup.{AreApart, Setup, SlotSetup}
 use Rattle.aoe_history.specs.ShelfLaw.{KeepsArming, KeepsShelfLaw}
 use Rattle.aoe_run.specs.Run.{MeetsFull}
 use Rattle.aoe_racks.specs.declared.rack.Stops.{Stops}
 use Rattle.aoe_racks.specs.Arrival.{noted, stop_at, ComesToSlot, GoesOn, IsCut, IsReached, IsReplyFull}
-use Rattle.aoe_racks.specs.Rack.{AreApart, IsServing, IsStanding, MemoryRack, Serves, Stands}
+use Rattle.aoe_racks.specs.Rack.{IsServing, IsStanding, MemoryRack, Serves, Stands}
 use Rattle.aoe_racks.proofs.Apart.{if-false, says-arrived, serves-stands, serves-still, serving-stands, stands-still, there, SaysSame}
 use Rattle.aoe_racks.proofs.FateLemmas.{noted-uncut, runs-on, stop-of}
 use Rattle.aoe_racks.proofs.SlotLemmas.{breaks, continues, follows, takes, Breaks, Continues, Takes}

@@ -15,7 +15,7 @@ use Rattle.aoe_history.specs.declared.entry.Entry.{Entry}
 use Rattle.aoe_history.specs.declared.entry.Entry.TheVariants.{Crashed}
 use Rattle.aoe_history.specs.Groups.{CrashEach, CrashSome}
 use Rattle.aoe_history.specs.Lawful.{IsLawful, MayCome}
-use Rattle.aoe_history.specs.Setup.{is_slot, Setup, SlotSetup}
+use Rattle.aoe_history.specs.Setup.{is_slot, AreApart, AreSlots, Setup, SlotSetup}
 use Rattle.aoe_history.specs.ShelfLaw.{stretch, KeepsLists, Stretch}
 use Rattle.aoe_history.specs.Slots.{after_crash, slot_after, state_after, Slot}
 use Rattle.aoe_run.specs.Run.{with_entry, Recorded}
@@ -23,7 +23,7 @@ use Rattle.aoe_script.specs.declared.event.Which.{Which}
 use Rattle.aoe_script.specs.declared.event.Which.TheVariants.{Store, Keep}
 use Rattle.aoe_racks.specs.declared.rack.Stops.{Stops}
 use Rattle.aoe_racks.specs.Crash.{with_crashes, RestartEach}
-use Rattle.aoe_racks.specs.Rack.{stop_in, AreApart, AreSlots, HoldsWithin, IsDue, IsServing, MemoryRack, Serves, Stands}
+use Rattle.aoe_racks.specs.Rack.{stop_in, HoldsWithin, IsDue, IsServing, MemoryRack, Serves, Stands}
 use Rattle.aoe_racks.proofs.Apart.{if-true, says-crashed, there, SaysSame}
 use Rattle.aoe_racks.proofs.CrashLemmas.{keep_unarmed, restarted_holds, restarted_lists, store_unarmed}
 use Rattle.aoe_racks.proofs.FrontLemmas.{get_replicate, get_take}

@@ -12,9 +12,9 @@ use Rattle.aoe_history.specs.declared.entry.Fate.TheVariants.{Ignored, Silent, C
 use Rattle.aoe_history.specs.Frames.{arriving}
 use Rattle.aoe_history.specs.Groups.{IsStop}
 use Rattle.aoe_history.specs.Lawful.{IsLawful}
-use Rattle.aoe_history.specs.Setup.{Setup, SlotSetup}
+use Rattle.aoe_history.specs.Setup.{AreSlots, Setup, SlotSetup}
 use Rattle.aoe_racks.specs.declared.rack.Stops.{Stops}
-use Rattle.aoe_racks.specs.Rack.{AreSlots, MemoryRack, Serves, Stands}
+use Rattle.aoe_racks.specs.Rack.{MemoryRack, Serves, Stands}
 
 -- what is left of the disks of a shelf of which one failed in a stop
 abbrev pub stop_at : Stops → Heard → Option Loss

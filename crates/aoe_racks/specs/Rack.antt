@@ -112,15 +112,6 @@ pub record Serves (slots : List SlotSetup) (h : List Entry) (x : MemoryRack) : T
   pub each : (i : ℕ) (slot : SlotSetup) (t : Mounted Memory Memory) (stops : Stops) → slice_get slots i ≡ Some slot
       → slice_get x.shelf.targets i ≡ Some t → slice_get x.stops i ≡ Some stops → IsServing slot h t stops
 
--- no two slots have one name
-abbrev pub AreApart : List SlotSetup → Type 0
-AreApart slots = (i j : ℕ) (a b : SlotSetup) → slice_get slots i ≡ Some a → slice_get slots j ≡ Some b → i ≢ j → is_slot a b.station.id ≡ false
-
--- the slots of a shelf are slots of the setup, and no two have one name
-pub record AreSlots (s : Setup) (slots : List SlotSetup) : Type 0 where
-  pub there : (i : ℕ) (slot : SlotSetup) → slice_get slots i ≡ Some slot → slot_of s slot.station.id ≡ Some slot
-  pub apart : AreApart slots
-
 -- an entry that says nothing of these slots
 abbrev pub is_apart : List SlotSetup → Entry → Bool
 is_apart slots (Arrived dev frame fate) = not (list_any (λ slot. is_slot slot dev) slots)

@@ -4,9 +4,9 @@ ghost use Rattle.aoe_history.specs.declared.entry.Entry.TheVariants.{Arrived};
 ghost use Rattle.aoe_history.specs.Frames.{arriving, next_number};
 ghost use Rattle.aoe_history.specs.Groups.{ArriveAtEach, ArriveAtSome};
 ghost use Rattle.aoe_history.specs.Lawful.{IsLawful};
-ghost use Rattle.aoe_history.specs.Setup.{Setup, SlotSetup};
+ghost use Rattle.aoe_history.specs.Setup.{AreSlots, Setup, SlotSetup};
 ghost use Rattle.aoe_racks.specs.Arrival.{noted, stop_at, ComesToSlot, IsReached, IsReplyFull};
-ghost use Rattle.aoe_racks.specs.Rack.{AreSlots, Serves};
+ghost use Rattle.aoe_racks.specs.Rack.{Serves};
 ghost use Rattle.aoe_run.specs.Run.{is_plain, network_of, with_entry, MeetsFull};
 
 use crate::{MemoryRack, Stops};

@@ -3,9 +3,9 @@ ghost use Rattle.std.specs.Prelude.{List, ℕ, ◌≡◌, ◌≤◌, ◌<◌, le
 ghost use Rattle.aoe_history.specs.declared.entry.Entry.TheVariants.{Crashed};
 ghost use Rattle.aoe_history.specs.Groups.{CrashEach, CrashSome};
 ghost use Rattle.aoe_history.specs.Lawful.{IsLawful};
-ghost use Rattle.aoe_history.specs.Setup.{Setup, SlotSetup};
+ghost use Rattle.aoe_history.specs.Setup.{AreSlots, Setup, SlotSetup};
 ghost use Rattle.aoe_racks.specs.Crash.{with_crashes, Loses, RestartEach};
-ghost use Rattle.aoe_racks.specs.Rack.{AreSlots, AreTargets, Serves, Stands};
+ghost use Rattle.aoe_racks.specs.Rack.{AreTargets, Serves, Stands};
 ghost use Rattle.aoe_run.specs.Run.{with_entry};
 
 use crate::rack::MAX_TARGETS;
@@ -13,7 +13,7 @@ use crate::seat::{MemShelf, mount, seat};
 use crate::{MemoryRack, Stops};
 use aoe_base::NoMemory;
 use aoe_disk::{Disk, Loss, MemDisk};
-use aoe_history::Entry;
+use aoe_history::{Boxed, Entry};
 use aoe_run::Run;
 use arrayvec::ArrayVec;
 
@@ -53,9 +53,10 @@ fn note(run: &mut Run, shelf: &MemShelf, slot: usize, how: Loss) -> Result<(), N
         (λ t. run.new ≡ with_entry run.old (Crashed t.station.id t.keep.lists how))) }
     ensures err { OnErr result (run.new ≡ run.old) }
 {
+    let lists = Boxed::new(run.alloc(), shelf.lists(slot).copy())?;
     run.note(Entry::Crashed {
         dev: shelf.id(slot),
-        lists: shelf.lists(slot).copy(),
+        lists,
         mode: how,
     })
 }

@@ -2,9 +2,9 @@
 ghost use Rattle.std.specs.Prelude.{List, ℕ, ◌≡◌, ◌<◌, ◌≤◌, ◌+◌, ◌^◌, ◌==◌, ◌||◌, ◌++◌, ◌∷◌, [], IfOk, IsSomeAnd, None, OnErr, OnOk, false, length, map, slice_get};
 ghost use Rattle.aoe_disk.specs.Arming.{number_of};
 ghost use Rattle.aoe_history.specs.declared.entry.Entry.TheVariants.{Armed};
-ghost use Rattle.aoe_history.specs.Setup.{SlotSetup};
+ghost use Rattle.aoe_history.specs.Setup.{AreApart, SlotSetup};
 ghost use Rattle.aoe_racks.specs.Arming.{arm_of, with_stop, ArmsDisk};
-ghost use Rattle.aoe_racks.specs.Rack.{AreApart, Serves};
+ghost use Rattle.aoe_racks.specs.Rack.{Serves};
 ghost use Rattle.aoe_run.specs.Run.{with_entry};
 ghost use Rattle.aoe_shelf.specs.Shelf.{has_minor};
 ghost use Rattle.aoe_shelf.specs.Slot.{ChangesAt};

@@ -130,7 +130,7 @@ fn a_crash_leaves_the_lists(rt: HostRuntime) -> Result<(), Fail> {
         let Entry::Crashed { lists, .. } = run.history().entry(i) else {
             return Err(Fail::from("no crash"));
         };
-        assert_eq!(rt; lists.config.as_slice(), b"ab".as_slice());
+        assert_eq!(rt; lists.get().config.as_slice(), b"ab".as_slice());
     }
     Ok(())
 }

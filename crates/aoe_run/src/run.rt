@@ -57,6 +57,11 @@ impl Run {
         }
     }
 
+    /// The allocator of its history.
+    pub fn alloc(&self) -> Global {
+        self.alloc
+    }
+
     /// What happened.
     pub fn history(&self) -> &History
         ensures { result.now ≡ self.now.entries }

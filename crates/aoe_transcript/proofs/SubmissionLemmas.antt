@@ -7,7 +7,8 @@ use Rattle.aoe_initiator.specs.declared.op.Op.{Op}
 use Rattle.aoe_initiator.specs.declared.op.Op.TheVariants.{Read as ReadOp, Write as WriteOp, Flush as FlushOp, Identify as IdentifyOp, Config as ConfigOp, Masks as MasksOp, Reserve as ReserveOp}
 use Rattle.aoe_script.specs.declared.event.Event.{Event}
 use Rattle.aoe_script.specs.declared.event.Event.TheVariants.{Read, Write, Flush, Identify, Config, Masks, Reserve, Tick, Deliver, Pass, Skip, Again, Inject, Fail, Stop, Crash}
-use Rattle.aoe_transcript.specs.Print.{asking, op_of, IsAsked}
+use Rattle.aoe_history.specs.Asks.{op_of}
+use Rattle.aoe_transcript.specs.Print.{asking, IsAsked}
 
 length_same : (n x : ℕ) → length (replicate n x) ≡ n
 length_same zero x = refl
@@ -18,15 +19,15 @@ first_same zero x = refl
 first_same (suc n) x = refl
 
 -- bytes that are all the same are as many as the first
-filled : (n x : ℕ) (bytes : List ℕ) → replicate (n * 512) x ≡ bytes → replicate (length bytes / 512 * 512) (slice_index bytes 0) ≡ bytes
+filled : (n x : ℕ) (bytes : List ℕ) → replicate (512 * n) x ≡ bytes → replicate (512 * (length bytes / 512)) (slice_index bytes 0) ≡ bytes
 filled n x bytes is =
-    let long : length bytes ≡ n * 512 = sym (ap length is) ∙ length_same (n * 512) x in
-    let whole : length bytes / 512 * 512 ≡ n * 512 = omega (arith, long) in
-    ap (λ k. replicate k (slice_index bytes 0)) whole ∙ ap (λ bs. replicate (n * 512) (slice_index bs 0)) (sym is) ∙ first_same (n * 512) x ∙ is
+    let long : length bytes ≡ 512 * n = sym (ap length is) ∙ length_same (512 * n) x in
+    let whole : 512 * (length bytes / 512) ≡ 512 * n = omega (arith, long) in
+    ap (λ k. replicate k (slice_index bytes 0)) whole ∙ ap (λ bs. replicate (512 * n) (slice_index bs 0)) (sym is) ∙ first_same (512 * n) x ∙ is
 
-written : (at : ℕ) (bytes : List ℕ) (event : Event) → op_of event ≡ Some (WriteOp at bytes) → replicate (length bytes / 512 * 512) (slice_index bytes 0) ≡ bytes
+written : (at : ℕ) (bytes : List ℕ) (event : Event) → op_of event ≡ Some (WriteOp at bytes) → replicate (512 * (length bytes / 512)) (slice_index bytes 0) ≡ bytes
 written at bytes (Write host dev from count fill) e =
-    let same : replicate (count * 512) fill ≡ bytes = cc in
+    let same : replicate (512 * count) fill ≡ bytes = cc in
     filled count fill bytes same
 written at bytes (Read host dev from count) e = absurd cc
 written at bytes (Flush host dev) e = absurd cc

@@ -5,6 +5,7 @@ use Rattle.arrayvec.specs.ArrayVec.{ArrayVec}
 use Rattle.aoe_base.specs.Names.{pair_text}
 use Rattle.aoe_base.specs.declared.address.Mac.{Mac}
 use Rattle.aoe_base.specs.declared.address.TargetId.{TargetId}
+use Rattle.aoe_history.specs.Asks.{op_of}
 use Rattle.aoe_history.specs.declared.entry.Entry.{Entry}
 use Rattle.aoe_history.specs.declared.entry.Entry.TheVariants.{Submitted, Refused, Sent, Injected, Arrived, Took, Done, Ticked, Lost, Armed, Crashed}
 use Rattle.aoe_history.specs.declared.entry.Fate.{Fate}
@@ -26,17 +27,6 @@ use Rattle.aoe_target.specs.declared.heard.Effect.TheVariants.{None as NoEffect,
 use Rattle.aoe_transcript.specs.Runs.{Run, longest_runs}
 
 -- ---- what a host is asked for
-
--- the operation that an event line asks of a device: sectors have 512 bytes
-abbrev pub op_of : Event → Option Op
-op_of (Read host dev at count) = Some (ReadOp record { at = at; count = count })
-op_of (Write host dev at count fill) = Some (WriteOp at (replicate (count * 512) fill))
-op_of (Flush host dev) = Some FlushOp
-op_of (Identify host dev) = Some IdentifyOp
-op_of (Config host dev ccmd text) = Some (ConfigOp ccmd text)
-op_of (Masks host dev edit dirs) = Some (MasksOp edit dirs)
-op_of (Reserve host dev rcmd list) = Some (ReserveOp rcmd list)
-op_of _ = None
 
 -- an event line asks for it
 pub record IsAsked (op : Op) : Type 0 where

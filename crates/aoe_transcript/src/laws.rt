@@ -2,11 +2,12 @@
 ghost use Rattle.std.specs.Prelude.{◌≡◌, ℕ, All, List, Some};
 ghost use Rattle.arrayvec.specs.ArrayVec.{ArrayVec};
 ghost use Rattle.aoe_base.specs.declared.address.TargetId.{TargetId};
+ghost use Rattle.aoe_history.specs.Asks.{op_of};
 ghost use Rattle.aoe_history.specs.Lawful.{IsLawful};
 ghost use Rattle.aoe_history.specs.Setup.{Setup};
 ghost use Rattle.aoe_history.specs.declared.entry.Entry.{Entry};
 ghost use Rattle.aoe_initiator.specs.declared.op.Op.{Op};
-ghost use Rattle.aoe_transcript.specs.Print.{asking, op_of, CanPrint, IsAsked, IsFromLine};
+ghost use Rattle.aoe_transcript.specs.Print.{asking, CanPrint, IsAsked, IsFromLine};
 ghost use Rattle.aoe_transcript.specs.Runs.{longest_runs, AreRunsOf};
 
 /// The runs of bytes are these bytes again, and none could be longer.

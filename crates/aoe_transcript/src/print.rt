@@ -139,7 +139,7 @@ fn put_entry(out: &mut Vec<u8>, entry: &Entry) -> Result<(), NoMemory>
             ticket,
             dev,
             op,
-        } => put_submitted(out, host, *ticket, dev, op),
+        } => put_submitted(out, host, *ticket, dev, op.get()),
         Entry::Refused { host, refusal } => put_refused(out, host, *refusal),
         Entry::Sent {
             host,
@@ -154,7 +154,7 @@ fn put_entry(out: &mut Vec<u8>, entry: &Entry) -> Result<(), NoMemory>
             host,
             ticket,
             outcome,
-        } => put_done(out, host, *ticket, outcome),
+        } => put_done(out, host, *ticket, outcome.get()),
         Entry::Ticked { ms } => put_count(out, b"tick", *ms),
         Entry::Lost { frame } => put_count(out, b"lost", *frame),
         Entry::Armed {
@@ -163,7 +163,7 @@ fn put_entry(out: &mut Vec<u8>, entry: &Entry) -> Result<(), NoMemory>
             k,
             mode,
         } => put_armed(out, dev, *which, *k, mode.is_some()),
-        Entry::Crashed { dev, lists, .. } => put_crashed(out, dev, lists),
+        Entry::Crashed { dev, lists, .. } => put_crashed(out, dev, lists.get()),
     }
 }
 

@@ -5,7 +5,7 @@ use crate::runs::put_runs;
 use crate::{Summary, print_entry, print_history, print_run, print_summary, summarize};
 use aoe_base::{Blob, Mac, Millis, NoMemory, Span, TargetId};
 use aoe_disk::Loss;
-use aoe_history::{Entry, Fate, History};
+use aoe_history::{Boxed, Entry, Fate, History};
 use aoe_initiator::{Data, Dir, Op, Outcome, SubmitRefusal};
 use aoe_lists::{Args, Lists};
 use aoe_script::{Name, Which};
@@ -98,7 +98,7 @@ fn submitted(alloc: Global, op: Op) -> Result<Blob, NoMemory>
         host: host(),
         ticket: 1,
         dev: DEV,
-        op,
+        op: Boxed::new(alloc, op)?,
     };
     print_entry(alloc, &entry)
 }
@@ -126,7 +126,7 @@ fn done(alloc: Global, outcome: Outcome) -> Result<Blob, NoMemory> {
     let entry = Entry::Done {
         host: host(),
         ticket: 1,
-        outcome,
+        outcome: Boxed::new(alloc, outcome)?,
     };
     print_entry(alloc, &entry)
 }
@@ -183,7 +183,7 @@ fn armed(alloc: Global, which: Which, mode: Option<Loss>) -> Result<Blob, NoMemo
 fn crashed(alloc: Global) -> Result<Blob, NoMemory> {
     let crashed = Entry::Crashed {
         dev: DEV,
-        lists: Lists::new(),
+        lists: Boxed::new(alloc, Lists::new())?,
         mode: Loss::Old,
     };
     print_entry(alloc, &crashed)
@@ -195,7 +195,7 @@ fn crashed_with_lists(alloc: Global) -> Result<Blob, NoMemory> {
     lists.masks.push(MAC);
     let crashed = Entry::Crashed {
         dev: DEV,
-        lists,
+        lists: Boxed::new(alloc, lists)?,
         mode: Loss::Old,
     };
     print_entry(alloc, &crashed)
@@ -255,14 +255,14 @@ fn push_reply(alloc: Global, history: &mut History) -> Result<(), NoMemory>
 }
 
 /// The end of the first command.
-fn push_done(history: &mut History) -> Result<(), NoMemory>
+fn push_done(alloc: Global, history: &mut History) -> Result<(), NoMemory>
     requires { All CanPrint history.old }
     ensures { OnOk result (All CanPrint history.new) }
 {
     history.push(Entry::Done {
         host: named(b'a'),
         ticket: 1,
-        outcome: Outcome::Flushed,
+        outcome: Boxed::new(alloc, Outcome::Flushed)?,
     })
 }
 
@@ -275,7 +275,7 @@ fn two_hosts(alloc: Global) -> Result<History, NoMemory>
     push_sent(alloc, &mut history, b'b', 2)?;
     push_reply(alloc, &mut history)?;
     push_sent(alloc, &mut history, b'a', 4)?;
-    push_done(&mut history)?;
+    push_done(alloc, &mut history)?;
     Ok(history)
 }
 

@@ -24,7 +24,7 @@ use Rattle.aoe_history.specs.Groups.Act.{Arm, Hand, Inject, Lose, Submit, Tick}
 use Rattle.aoe_history.specs.Groups.Station.{Shelf as ShelfStation, Host as HostStation}
 use Rattle.aoe_history.specs.Setup.{device_place, host_called, is_called, is_port, shelf_of, HostSetup, Setup, SlotSetup}
 use Rattle.aoe_frame.specs.Header.{fields}
-use Rattle.aoe_hosts.specs.Asks.{submission_in}
+use Rattle.aoe_history.specs.Asks.{submission_in}
 use Rattle.aoe_hosts.specs.Host.{NamedHost}
 use Rattle.aoe_initiator.specs.declared.op.Dir.{Dir}
 use Rattle.aoe_initiator.specs.declared.op.Op.TheVariants as op

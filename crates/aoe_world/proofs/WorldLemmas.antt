@@ -21,7 +21,8 @@ use Rattle.aoe_script.specs.Rules.{is_event}
 use Rattle.aoe_script.specs.declared.event.Event.{Event}
 use Rattle.aoe_script.specs.declared.event.Event.TheVariants.{Read, Write, Flush, Identify, Config, Masks, Reserve, Tick as TickLine, Deliver, Pass, Skip, Again, Inject as InjectLine, Fail, Stop, Crash}
 use Rattle.aoe_script.specs.declared.setup.Setup.{Setup as Line}
-use Rattle.aoe_transcript.specs.Print.{op_of, IsFromLine}
+use Rattle.aoe_history.specs.Asks.{op_of}
+use Rattle.aoe_transcript.specs.Print.{IsFromLine}
 use Rattle.aoe_world.proofs.GroupLemmas.{follows-aside, follows-grows, grows-none, grows-on, little, AreOfLine, Grows, IsAside}
 use Rattle.aoe_world.proofs.GroupSome.{some-aside, some-grows}
 use Rattle.aoe_world.specs.declared.place.Place.{Place}
@@ -54,9 +55,6 @@ losses-aside h frame = All-cons IsAside (Lose frame) [] tt (All-nil IsAside)
 
 -- EVENTS
 
-written : (count fill at : ℕ) → Some (WriteOp at (replicate (count * 512) fill)) ≡ Some (WriteOp at (replicate (512 * count) fill))
-written count fill at = let same : count * 512 ≡ 512 * count = omega arith in ap (λ k. Some (WriteOp at (replicate k fill))) same
-
 alone : (act : Act) → IsAside act → AreOfLine (act ∷ [])
 alone act t = inl (All-cons IsAside act [] t (All-nil IsAside))
 
@@ -66,7 +64,7 @@ asked host dev op e good same = inr (Submit host dev op, refl, record { event = 
 -- the acts of an event line
 are-of-line : (s : Setup) (lines : List Line) (cursor : ℕ) (h : List Entry) (e : Event) → is_event e ≡ true → CanCome lines s e → AreOfLine (acts_of s lines cursor h e)
 are-of-line s lines cursor h (Read host dev at count) good can = asked host dev _ (Read host dev at count) good refl
-are-of-line s lines cursor h (Write host dev at count fill) good can = asked host dev _ (Write host dev at count fill) good (written count fill at)
+are-of-line s lines cursor h (Write host dev at count fill) good can = asked host dev _ (Write host dev at count fill) good refl
 are-of-line s lines cursor h (Flush host dev) good can = asked host dev _ (Flush host dev) good refl
 are-of-line s lines cursor h (Identify host dev) good can = asked host dev _ (Identify host dev) good refl
 are-of-line s lines cursor h (Config host dev ccmd text) good can = asked host dev _ (Config host dev ccmd text) good refl

@@ -6,7 +6,7 @@ use Rattle.arrayvec.specs.ArrayVec.{ArrayVec}
 use Rattle.aoe_base.specs.declared.address.Mac.{Mac}
 use Rattle.aoe_base.specs.declared.address.TheConstants.{BROADCAST}
 use Rattle.aoe_frame.specs.Header.{fields}
-use Rattle.aoe_hosts.specs.Asks.{submission_in}
+use Rattle.aoe_history.specs.Asks.{submission_in}
 use Rattle.aoe_layout.specs.Layout.{station_named, stations_of, Placed}
 use Rattle.aoe_lists.specs.Addresses.{holds, same_address}
 use Rattle.aoe_script.specs.declared.event.Event.{Event}

@@ -6,10 +6,10 @@ use Rattle.aoe_history.specs.Groups.{Act, Follows, Got, Group, IsBegun, Station,
 use Rattle.aoe_history.specs.Groups.Act.{Hand}
 use Rattle.aoe_history.specs.Groups.Station.{Shelf as ShelfStation, Host as HostStation}
 use Rattle.aoe_history.specs.Lawful.{IsLawful}
-use Rattle.aoe_history.specs.Setup.{host_called, is_called, shelf_of, HostSetup, IsSetup, Setup}
+use Rattle.aoe_history.specs.Setup.{host_called, is_called, shelf_of, AreSlots, HostSetup, IsSetup, Setup}
 use Rattle.aoe_hosts.specs.Host.{Awaits, IsSettled, NamedHost}
 use Rattle.aoe_layout.specs.Layout.{Placed}
-use Rattle.aoe_racks.specs.Rack.{AreSlots, MemoryRack, Serves}
+use Rattle.aoe_racks.specs.Rack.{MemoryRack, Serves}
 use Rattle.aoe_net.specs.declared.refusal.NetRefusal.{NetRefusal}
 use Rattle.aoe_net.specs.declared.refusal.NetRefusal.TheVariants.{Full}
 use Rattle.aoe_run.specs.Run.{MeetsFull}

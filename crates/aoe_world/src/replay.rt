@@ -6,7 +6,7 @@ ghost use Rattle.aoe_history.specs.Commands.{tickets};
 ghost use Rattle.aoe_history.specs.Frames.{clock, frames};
 ghost use Rattle.aoe_history.specs.Groups.Act.{Arm, Crash, Hand, Submit};
 ghost use Rattle.aoe_history.specs.Setup.{HostSetup, Setup};
-ghost use Rattle.aoe_hosts.specs.Asks.{submission_in};
+ghost use Rattle.aoe_history.specs.Asks.{submission_in};
 ghost use Rattle.aoe_layout.specs.Layout.{majors_of, setup_of, stations_of, Placed};
 ghost use Rattle.aoe_layout.specs.Stations.{IsAsked, IsShelf, IsStation, IsThere};
 ghost use Rattle.aoe_world.specs.Schedule.{handings, major_of, station_called};

@@ -9,7 +9,7 @@ ghost use Rattle.aoe_history.specs.Groups.{Got, Station};
 ghost use Rattle.aoe_history.specs.Groups.Station.{Shelf as ShelfStation, Host as HostStation};
 ghost use Rattle.aoe_history.specs.Groups.Act.{Arm, Crash, Hand, Inject, Lose, Submit, Tick};
 ghost use Rattle.aoe_history.specs.Setup.{is_called, is_port, HostSetup, Setup};
-ghost use Rattle.aoe_hosts.specs.Asks.{submission_in};
+ghost use Rattle.aoe_history.specs.Asks.{submission_in};
 ghost use Rattle.aoe_world.specs.Stage.{Does, IsAt, IsInside, IsNetwork, IsReady, IsTurning, Settles};
 
 use crate::place::At;

@@ -1,5 +1,5 @@
 use Rattle.std.proofs.Common.{ap}
-use Rattle.aoe_hosts.specs.Asks.{submission_in}
+use Rattle.aoe_history.specs.Asks.{submission_in}
 use Rattle.aoe_hosts.proofs.SubmitLemmas.{on-ok, submitted-with}
 use Rattle.aoe_hosts.proofs.host.NamedHost.submit.Goals as goal
 use Rattle.aoe_run.specs.Run.{Recorded}

@@ -1,6 +1,6 @@
 use Rattle.std.proofs.Common.{◌-◌, refl, ap, [], ◌∷◌, None, Some}
 use Rattle.aoe_history.specs.Groups.Act.{Arm, Crash, Hand, Inject, Tick}
-use Rattle.aoe_hosts.specs.Asks.{submission_in}
+use Rattle.aoe_history.specs.Asks.{submission_in}
 use Rattle.aoe_layout.specs.Layout.{majors_of, setup_of, stations_of}
 use Rattle.aoe_world.specs.declared.replay.Replay.{Replay}
 use Rattle.aoe_world.specs.Schedule.{handings, major_of, station_called}

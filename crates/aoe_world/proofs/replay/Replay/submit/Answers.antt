@@ -1,6 +1,6 @@
 use Rattle.std.proofs.Common.{subst, Some, None}
 use Rattle.aoe_history.specs.Groups.Station.{Host as HostStation}
-use Rattle.aoe_hosts.specs.Asks.{submission_in}
+use Rattle.aoe_history.specs.Asks.{submission_in}
 use Rattle.aoe_layout.specs.Layout.{majors_of, setup_of, station_named, stations_of}
 use Rattle.aoe_world.specs.declared.place.At.TheVariants as at
 use Rattle.aoe_world.specs.Stage.{IsAt}

@@ -1,7 +1,7 @@
 use Rattle.std.proofs.Common.{refl, ap, inl, length, sym, subst, ◌∙◌, ◌≡◌, Option, Some, None, IfSome}
 use Rattle.std.proofs.lemmas.Option.{slice_get_read}
 use Rattle.aoe_history.specs.Groups.Act.{Submit}
-use Rattle.aoe_hosts.specs.Asks.{submission_in}
+use Rattle.aoe_history.specs.Asks.{submission_in}
 use Rattle.aoe_net.specs.declared.refusal.NetRefusal.TheVariants.{NoMemory}
 use Rattle.aoe_run.specs.Run.{Recorded}
 use Rattle.aoe_world.proofs.ActLemmas.{act-done, no-memory}

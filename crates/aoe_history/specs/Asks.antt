@@ -1,5 +1,6 @@
--- What an event line asks of a host.
-use Rattle.std.specs.Prelude.{◌*◌, replicate, Option, Some, None}
+-- What an event line of a script asks of a host.
+use Rattle.std.specs.Prelude.{◌*◌, replicate, Option, Some, None, option_map}
+use Rattle.aoe_initiator.specs.declared.op.Op.{Op}
 use Rattle.aoe_initiator.specs.declared.op.Op.TheVariants as op
 use Rattle.aoe_script.specs.declared.event.Event.{Event}
 use Rattle.aoe_script.specs.declared.event.Event.TheVariants.{Read, Write, Flush, Identify, Config, Masks, Reserve}
@@ -15,3 +16,7 @@ submission_in (Config host dev ccmd text) = Some (record { dev = dev; op = op.Co
 submission_in (Masks host dev edit dirs) = Some (record { dev = dev; op = op.Masks edit dirs })
 submission_in (Reserve host dev rcmd list) = Some (record { dev = dev; op = op.Reserve rcmd list })
 submission_in event = None
+
+-- the operation of such a line
+abbrev pub op_of : Event → Option Op
+op_of event = option_map (λ x. x.op) (submission_in event)
