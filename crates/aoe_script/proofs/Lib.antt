@@ -1,5 +1,6 @@
 mod AcceptedLemmas
 mod AskedBack
+mod CommaLemmas
 mod EventBack
 pub mod JoinLemmas
 mod KeptLemmas

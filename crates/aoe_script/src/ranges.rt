@@ -151,45 +151,24 @@ impl Event {
         ensures { result ≡ is_event self.now }
     {
         match self {
-            Event::Read {
-                host,
-                dev,
-                at,
-                count,
-            } => is_asked(host, dev) && is_span(*at, *count),
-            Event::Write {
-                host,
-                dev,
-                at,
-                count,
-                ..
-            } => is_asked(host, dev) && is_span(*at, *count),
-            Event::Flush { host, dev } => is_asked(host, dev),
-            Event::Identify { host, dev } => is_asked(host, dev),
-            Event::Config {
-                host,
-                dev,
-                ccmd,
-                text,
-            } => is_asked(host, dev) && *ccmd <= 4 && has_text(*ccmd, text),
-            Event::Masks {
-                host,
-                dev,
-                edit,
-                dirs,
-            } => is_asked(host, dev) && has_dirs(*edit, dirs),
-            Event::Reserve {
-                host,
-                dev,
-                rcmd,
-                list,
-            } => is_asked(host, dev) && *rcmd <= 2 && has_list(*rcmd, list),
+            Event::Read { host, dev, .. }
+            | Event::Write { host, dev, .. }
+            | Event::Flush { host, dev }
+            | Event::Identify { host, dev }
+            | Event::Config { host, dev, .. }
+            | Event::Masks { host, dev, .. }
+            | Event::Reserve { host, dev, .. }
+                if !is_asked(host, dev) => false,
+            Event::Read { at, count, .. } | Event::Write { at, count, .. } => is_span(*at, *count),
+            Event::Flush { .. } | Event::Identify { .. } | Event::Again => true,
+            Event::Config { ccmd, text, .. } => *ccmd <= 4 && has_text(*ccmd, text),
+            Event::Masks { edit, dirs, .. } => has_dirs(*edit, dirs),
+            Event::Reserve { rcmd, list, .. } => *rcmd <= 2 && has_list(*rcmd, list),
             Event::Tick { ms } => is_within(1, 10_000_000, *ms),
             Event::Deliver { frame, station } => {
                 is_within(1, 4_294_967_295, *frame) && is_name(station)
             }
             Event::Pass { n } | Event::Skip { n } => is_within(1, 10_000, *n),
-            Event::Again => true,
             Event::Inject { bytes } => is_within(14, 9018, bytes.bytes().len() as u64),
             Event::Fail { dev, k, .. } | Event::Stop { dev, k, .. } => {
                 is_device(dev) && is_within(1, 1000, *k)

@@ -1,6 +1,6 @@
-use Rattle.std.proofs.Common.{◌==◌, ◌≤◌, length}
-use Rattle.std.specs.List.{slice_split}
+use Rattle.std.proofs.Common.{◌≤◌, length}
 use Rattle.aoe_script.specs.Classes.{dir_of}
+use Rattle.aoe_script.proofs.CommaLemmas.{commas}
 use Rattle.aoe_script.proofs.PartLemmas.{AreRead}
 use Rattle.aoe_script.proofs.parts.dirs_of.Given as goal
 
@@ -9,5 +9,5 @@ invariant-parts l = record {
   can : (goal.iterator-parts).can_next l.part-iterator;
   ends : (goal.iterator-parts).is_finite l.part-iterator;
   few : length l.dirs.items ≤ 64;
-  so_far : AreRead dir_of (slice_split (λ c. c == 44) l.fn.text) (length l.yielded) l.dirs.items;
+  so_far : AreRead dir_of (commas l.fn.text) (length l.yielded) l.dirs.items;
 }
