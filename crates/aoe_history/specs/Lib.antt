@@ -10,4 +10,5 @@ pub mod Lawful
 pub mod Groups
 pub mod Example
 pub mod Cases
+pub mod PathCases
 pub mod Conversation
