@@ -44,7 +44,7 @@ all-fail p xs e = λ k d lt. not-true (p (slice_index_or xs k d)) (AllPass-from_
 lt-of : (a b : ℕ) → nat_lt a b ≡ true → a < b
 lt-of a b e = grind (arith, nat_tests)
 
-or-of : (a b : Bool) → (not a || b) ≡ true → a ≡ true → b ≡ true
+pub or-of : (a b : Bool) → (not a || b) ≡ true → a ≡ true → b ≡ true
 or-of true b e x = e
 or-of false b e x = absurd (cc)
 
@@ -62,17 +62,17 @@ lowest-of : (test : HostCommand → Bool) (cs : List HostCommand) (k : ℕ) → 
 lowest-of test cs k e = λ i d lt clear. le-of (nth cs k).ticket.0 (slice_index_or cs i d).ticket.0 (or-of (test (slice_index_or cs i d)) (nat_le (nth cs k).ticket.0 (slice_index_or cs i d).ticket.0) (AllPass-from_list_all (λ c. not (test c) || nat_le (nth cs k).ticket.0 c.ticket.0) cs e i d lt) clear)
 
 -- a command of the host is sent for the first time
-pub starts : (s : Setup) (host : HostSetup) (h : List Entry) (k c tag : ℕ) (bytes : List ℕ) → (nth (commands_of host h) k).ticket.0 ≡ c
+pub starts : (s : Setup) (host : HostSetup) (h : List Entry) (k c tag path : ℕ) (bytes : List ℕ) → (nth (commands_of host h) k).ticket.0 ≡ c
     → list_all (λ o. not (is_due (clock h) o)) (sent_of (commands_of host h)) ≡ true
     → nat_lt (length (live (rest_time s.life) (clock h) (sent_of (commands_of host h)))) host.room ≡ true
     → nat_lt k (length (commands_of host h)) ≡ true
     → is_clear_at s.life (clock h) (commands_of host h) (nth (commands_of host h) k) ≡ true
     → is_lowest (is_clear_at s.life (clock h) (commands_of host h)) (commands_of host h) k ≡ true
     → is_taken (live (rest_time s.life) (clock h) (sent_of (commands_of host h))) tag ≡ false → nat_lt tag 4294967296 ≡ true
-    → 0 ≡ next_of (paths_to (host_after s host h) (nth (commands_of host h) k).device.0) (missed_by (nth (commands_of host h) k).sends (path_log (log_of host h) (nth (commands_of host h) k).device.0))
-    → spelled (host_after s host h) (nth (commands_of host h) k) (record { 0 = 0 }) tag ≡ Some bytes → IsSent s host h c (next_number h) bytes
-starts s host h k c tag bytes is due room within clear lowest free fits next spells = record {
-  sent = record { ticket = (nth (commands_of host h) k).ticket; tag = tag; path = record { 0 = 0 }; again = false };
+    → path ≡ next_of (paths_to (host_after s host h) (nth (commands_of host h) k).device.0) (missed_by (nth (commands_of host h) k).sends (path_log (log_of host h) (nth (commands_of host h) k).device.0))
+    → spelled (host_after s host h) (nth (commands_of host h) k) (record { 0 = path }) tag ≡ Some bytes → IsSent s host h c (next_number h) bytes
+starts s host h k c tag path bytes is due room within clear lowest free fits next spells = record {
+  sent = record { ticket = (nth (commands_of host h) k).ticket; tag = tag; path = record { 0 = path }; again = false };
   ticket_is = is;
   may = record {
     nothing_due = all-fail (is_due (clock h)) (sent_of (commands_of host h)) due;
@@ -155,14 +155,14 @@ first-of test before cs k e =
     }
 
 -- a command of the host is sent again
-pub repeats : (s : Setup) (host : HostSetup) (h : List Entry) (k j c : ℕ) (bytes : List ℕ) → (nth_sent (commands_of host h) j).ticket.0 ≡ c
+pub repeats : (s : Setup) (host : HostSetup) (h : List Entry) (k j c path : ℕ) (bytes : List ℕ) → (nth_sent (commands_of host h) j).ticket.0 ≡ c
     → is_first (is_due (clock h)) precedes (commands_of host h) j ≡ true → nat_lt k (length (commands_of host h)) ≡ true
     → (nth (commands_of host h) k).ticket ≡ (nth_sent (commands_of host h) j).ticket
     → nat_lt (nth_sent (commands_of host h) j).flying.tag 4294967296 ≡ true
-    → 0 ≡ next_of (paths_to (host_after s host h) (nth (commands_of host h) k).device.0) (missed_by (nth (commands_of host h) k).sends (path_log (log_of host h) (nth (commands_of host h) k).device.0))
-    → spelled (host_after s host h) (nth (commands_of host h) k) (record { 0 = 0 }) (nth_sent (commands_of host h) j).flying.tag ≡ Some bytes → IsSent s host h c (next_number h) bytes
-repeats s host h k j c bytes is first within same fits next spells = record {
-  sent = record { ticket = (nth_sent (commands_of host h) j).ticket; tag = (nth_sent (commands_of host h) j).flying.tag; path = record { 0 = 0 }; again = true };
+    → path ≡ next_of (paths_to (host_after s host h) (nth (commands_of host h) k).device.0) (missed_by (nth (commands_of host h) k).sends (path_log (log_of host h) (nth (commands_of host h) k).device.0))
+    → spelled (host_after s host h) (nth (commands_of host h) k) (record { 0 = path }) (nth_sent (commands_of host h) j).flying.tag ≡ Some bytes → IsSent s host h c (next_number h) bytes
+repeats s host h k j c path bytes is first within same fits next spells = record {
+  sent = record { ticket = (nth_sent (commands_of host h) j).ticket; tag = (nth_sent (commands_of host h) j).flying.tag; path = record { 0 = path }; again = true };
   ticket_is = is;
   may = record { command = nth_sent (commands_of host h) j; first_due = first-of (is_due (clock h)) precedes (commands_of host h) j first; ticket = refl; tag = refl };
   path = record { command = nth (commands_of host h) k; there = there (commands_of host h) k within; ticket = same; next = next };

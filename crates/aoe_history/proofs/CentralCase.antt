@@ -31,7 +31,7 @@ begun = Submitted a 1 device (Write 3 (full 0x5a)) ∷ []
 
 write-sent : IsSent setup host_a begun 1 1 write_frame
 unfolding full
-write-sent = starts setup host_a begun 0 1 1 write_frame refl refl refl refl refl refl refl refl refl refl
+write-sent = starts setup host_a begun 0 1 1 0 write_frame refl refl refl refl refl refl refl refl refl refl
 
 abbrev asked : List Entry
 asked = Sent a 1 1 write_frame ∷ begun
@@ -56,7 +56,7 @@ flush-submitted = record { device = 0; attached = refl; can = tt; taken = refl; 
 
 flush-sent : IsSent setup host_a waited 2 3 flush_frame
 unfolding full request spelled
-flush-sent = starts setup host_a waited 1 2 2 flush_frame refl refl refl refl refl refl refl refl refl refl
+flush-sent = starts setup host_a waited 1 2 2 0 flush_frame refl refl refl refl refl refl refl refl refl refl
 
 flush-arrived : IsArrival setup slot flush_sent 3 (Replied Synced 4 (tell flush_frame Good))
 unfolding full request verdict decision
@@ -87,7 +87,7 @@ reading = Submitted a 3 device (Read (span 3)) ∷ crashed
 
 read-sent : IsSent setup host_a reading 3 5 (read_frame 3)
 unfolding full request spelled
-read-sent = starts setup host_a reading 2 3 3 (read_frame 3) refl refl refl refl refl refl refl refl refl refl
+read-sent = starts setup host_a reading 2 3 3 0 (read_frame 3) refl refl refl refl refl refl refl refl refl refl
 
 abbrev read_out : List Entry
 read_out = Sent a 3 5 (read_frame 3) ∷ reading

@@ -35,7 +35,7 @@ after1 = Submitted a 1 device (Write 3 (full 0x5a)) ∷ []
 
 step2 : MayCome cached after1 (Sent a 1 1 write_frame)
 unfolding full request
-step2 = starts cached host_a after1 0 1 1 write_frame refl refl refl refl refl refl refl refl refl refl
+step2 = starts cached host_a after1 0 1 1 0 write_frame refl refl refl refl refl refl refl refl refl refl
 
 abbrev after2 : List Entry
 after2 = Sent a 1 1 write_frame ∷ after1
@@ -77,7 +77,7 @@ after7 = Submitted a 2 device (Read (span 3)) ∷ after6
 
 step8 : MayCome cached after7 (Sent a 2 3 (read_frame 2))
 unfolding full request spelled
-step8 = starts cached host_a after7 1 2 2 (read_frame 2) refl refl refl refl refl refl refl refl refl refl
+step8 = starts cached host_a after7 1 2 2 0 (read_frame 2) refl refl refl refl refl refl refl refl refl refl
 
 abbrev after8 : List Entry
 after8 = Sent a 2 3 (read_frame 2) ∷ after7

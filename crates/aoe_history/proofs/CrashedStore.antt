@@ -38,7 +38,7 @@ after2 = Submitted a 2 device (Read (span 3)) ∷ after1
 
 step3 : MayCome setup after2 (Sent a 2 3 (read_frame 2))
 unfolding full request spelled
-step3 = starts setup host_a after2 1 2 2 (read_frame 2) refl refl refl refl refl refl refl refl refl refl
+step3 = starts setup host_a after2 1 2 2 0 (read_frame 2) refl refl refl refl refl refl refl refl refl refl
 
 abbrev after3 : List Entry
 after3 = Sent a 2 3 (read_frame 2) ∷ after2

@@ -33,7 +33,7 @@ after2 = Submitted a 1 device (Write 0 (full 0x01)) ∷ after1
 
 step3 : MayCome setup after2 (Sent a 1 1 ones_frame)
 unfolding full request
-step3 = starts setup host_a after2 0 1 1 ones_frame refl refl refl refl refl refl refl refl refl refl
+step3 = starts setup host_a after2 0 1 1 0 ones_frame refl refl refl refl refl refl refl refl refl refl
 
 abbrev after3 : List Entry
 after3 = Sent a 1 1 ones_frame ∷ after2

@@ -19,7 +19,7 @@ after1 = Submitted a 1 device (Write 0 (full 0x01)) ∷ []
 
 step2 : MayCome setup after1 (Sent a 1 1 ones_frame)
 unfolding full request
-step2 = starts setup host_a after1 0 1 1 ones_frame refl refl refl refl refl refl refl refl refl refl
+step2 = starts setup host_a after1 0 1 1 0 ones_frame refl refl refl refl refl refl refl refl refl refl
 
 abbrev after2 : List Entry
 after2 = Sent a 1 1 ones_frame ∷ after1

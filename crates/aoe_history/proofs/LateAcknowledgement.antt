@@ -53,7 +53,7 @@ after4 = Submitted a 2 device (Read (span 3)) ∷ after3
 
 step5 : MayCome setup after4 (Sent a 2 3 (read_frame 2))
 unfolding full request spelled
-step5 = starts setup host_a after4 1 2 2 (read_frame 2) refl refl refl refl refl refl refl refl refl refl
+step5 = starts setup host_a after4 1 2 2 0 (read_frame 2) refl refl refl refl refl refl refl refl refl refl
 
 abbrev after5 : List Entry
 after5 = Sent a 2 3 (read_frame 2) ∷ after4

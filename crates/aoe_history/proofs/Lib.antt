@@ -7,6 +7,8 @@ mod FailedWrite
 mod StoppedFlush
 mod RefusalAfterEffect
 mod Refused
+mod PathCase
+mod RefusedPaths
 mod CrashedCache
 mod CrashedStore
 mod Values

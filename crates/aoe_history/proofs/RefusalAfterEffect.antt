@@ -36,7 +36,7 @@ after1 = Submitted a 1 device (Write 0 (full 0x11)) ∷ []
 
 step2 : MayCome both after1 (Sent a 1 1 early_write)
 unfolding full request
-step2 = starts both host_a after1 0 1 1 early_write refl refl refl refl refl refl refl refl refl refl
+step2 = starts both host_a after1 0 1 1 0 early_write refl refl refl refl refl refl refl refl refl refl
 
 abbrev after2 : List Entry
 after2 = Sent a 1 1 early_write ∷ after1
@@ -60,7 +60,7 @@ after5 = Submitted b 1 device (Reserve 2 (record { items = port 11 ∷ [] })) �
 
 step6 : MayCome both after5 (Sent b 1 3 reserve_frame)
 unfolding full request
-step6 = starts both host_b after5 0 1 1 reserve_frame refl refl refl refl refl refl refl refl refl refl
+step6 = starts both host_b after5 0 1 1 0 reserve_frame refl refl refl refl refl refl refl refl refl refl
 
 abbrev after6 : List Entry
 after6 = Sent b 1 3 reserve_frame ∷ after5
@@ -91,7 +91,7 @@ after10 = Ticked 1000 ∷ after9
 
 step11 : MayCome both after10 (Sent a 1 5 early_write)
 unfolding full request spelled
-step11 = repeats both host_a after10 0 0 1 early_write refl refl refl refl refl refl refl
+step11 = repeats both host_a after10 0 0 1 0 early_write refl refl refl refl refl refl refl
 
 abbrev after11 : List Entry
 after11 = Sent a 1 5 early_write ∷ after10
@@ -129,7 +129,7 @@ after16 = Ticked 1001 ∷ after15
 
 step17 : MayCome both after16 (Sent b 2 7 release_frame)
 unfolding full request spelled
-step17 = starts both host_b after16 1 2 2 release_frame refl refl refl refl refl refl refl refl refl refl
+step17 = starts both host_b after16 1 2 2 0 release_frame refl refl refl refl refl refl refl refl refl refl
 
 abbrev after17 : List Entry
 after17 = Sent b 2 7 release_frame ∷ after16
@@ -164,7 +164,7 @@ after21 = Submitted a 2 device (Read (span 0)) ∷ after20
 
 step22 : MayCome both after21 (Sent a 2 9 late_read)
 unfolding full request spelled
-step22 = starts both host_a after21 1 2 2 late_read refl refl refl refl refl refl refl refl refl refl
+step22 = starts both host_a after21 1 2 2 0 late_read refl refl refl refl refl refl refl refl refl refl
 
 abbrev after22 : List Entry
 after22 = Sent a 2 9 late_read ∷ after21

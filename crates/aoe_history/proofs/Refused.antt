@@ -4,6 +4,7 @@ use Rattle.std.specs.List.{list_all}
 use Rattle.std.proofs.lemmas.List.Sums.{AllPass-from_list_all}
 use Rattle.aoe_disk.specs.declared.loss.Loss.{Loss}
 use Rattle.aoe_ata.specs.Decision.{decision}
+use Rattle.aoe_flight.specs.Outstanding.{is_due}
 use Rattle.aoe_initiator.specs.declared.outcome.Outcome.{Outcome}
 use Rattle.aoe_initiator.specs.declared.step.Sent as step
 use Rattle.aoe_initiator.specs.HostLaw.{answer_to, is_clear_at, IsNext, IsNextBy, IsQuiet}
@@ -40,22 +41,23 @@ no-such test xs x none there e =
     let m : not (test x) ≡ true = rw there.2 at n in
     let f : not true ≡ true = rw e at m in cc
 
-equal-tickets : (n m : ℕ) → n ≡ m → nat_eq n m ≡ true
+pub equal-tickets : (n m : ℕ) → n ≡ m → nat_eq n m ≡ true
 equal-tickets n m e = grind (arith, Rattle.std.proofs.lemmas.Bool.Decides.nat_tests)
 
 both : (x y : Bool) → x ≡ true → y ≡ true → (x && y) ≡ true
 both true y p q = q
 both false y p q = absurd (cc)
 
--- a command with this ticket isn't sent: none with it was sent, and none with it is clear
+-- a command with this ticket isn't sent: none with it is due, and none with it is clear
 pub is-not-sent : (s : Setup) (host : HostSetup) (h : List Entry) (c number : ℕ) (bytes : List ℕ)
-    → list_all (λ o. not (nat_eq o.ticket.0 c)) (sent_of (commands_of host h)) ≡ true
+    → list_all (λ o. not (nat_eq o.ticket.0 c && is_due (clock h) o)) (sent_of (commands_of host h)) ≡ true
     → list_all (λ x. not (nat_eq x.ticket.0 c && is_clear_at s.life (clock h) (commands_of host h) x)) (commands_of host h) ≡ true
     → IsSent s host h c number bytes → ⊥
-is-not-sent s host h c number bytes none-sent none-clear x = go x.sent.again x.may
+is-not-sent s host h c number bytes none-due none-clear x = go x.sent.again x.may
   where
     go : (again : Bool) → IsNextBy again (host_after s host h) (commands_of host h) x.sent → ⊥
-    go true n = no-such (λ o. nat_eq o.ticket.0 c) (sent_of (commands_of host h)) n.command none-sent n.first_due.there (equal-tickets n.command.ticket.0 c (ap (λ t. t.0) n.ticket ∙ x.ticket_is))
+    go true n = no-such (λ o. nat_eq o.ticket.0 c && is_due (clock h) o) (sent_of (commands_of host h)) n.command none-due n.first_due.there
+        (both (nat_eq n.command.ticket.0 c) (is_due (clock h) n.command) (equal-tickets n.command.ticket.0 c (ap (λ t. t.0) n.ticket ∙ x.ticket_is)) n.first_due.passes)
     go false n = no-such (λ y. nat_eq y.ticket.0 c && is_clear_at s.life (clock h) (commands_of host h) y) (commands_of host h) n.command none-clear n.there
         (both (nat_eq n.command.ticket.0 c) (is_clear_at s.life (clock h) (commands_of host h) n.command) (equal-tickets n.command.ticket.0 c (ap (λ t. t.0) n.ticket ∙ x.ticket_is)) n.clear)
 

@@ -1,43 +1,68 @@
--- The setup of the worked cases is one.
-use Rattle.std.proofs.Common.{ℕ, ◌<◌, ◌≤◌, ◌≡◌, ◌||◌, Bool, true, false, List, [], ◌∷◌, length, Some, refl, sym, subst, ap, ◌∙◌, arith, slice_index, Contains}
+-- The setup of one host is one, with one path or with two.
+use Rattle.std.proofs.Common.{ℕ, ◌<◌, ◌≤◌, ◌≡◌, ◌||◌, Bool, true, false, List, [], ◌∷◌, length, Some, None, refl, sym, subst, ap, ◌∙◌, arith, slice_index, Contains}
+use Rattle.std.specs.List.{AllByRecursion}
 use Rattle.std.proofs.lemmas.Slice.Eq.{bytes_eq-Decides}
 use Rattle.aoe_base.specs.declared.address.Mac.{Mac}
 use Rattle.aoe_initiator.specs.declared.device.Attached.{Attached}
 use Rattle.aoe_lists.specs.Addresses.{holds, same_address}
-use Rattle.aoe_history.specs.Example.{attached, host_a, port, setup, slot}
-use Rattle.aoe_history.specs.Setup.{slot_of, HostSetup, IsAttachedTo, IsSetup, SlotSetup}
+use Rattle.aoe_history.specs.Example.{a, attached_to, host_of, port, setup, setup_of, slot_at}
+use Rattle.aoe_history.specs.PathCases.{two_paths, two_ports}
+use Rattle.aoe_history.specs.Setup.{slot_of, HostSetup, IsAttachedTo, IsSetup, Setup, SlotSetup}
 use Rattle.aoe_history.proofs.SendLemmas.{only-one}
 
-one-port : (n : ℕ) (a : Mac) → holds (port n ∷ []) a ≡ true → port n ≡ a
-one-port n a e = ap (λ (l : List ℕ). let m : Mac = record { 0 = l } in m) ((bytes_eq-Decides (port n).0 a.0).0 (first (same_address (port n) a) e))
+address-is : (m n : Mac) → same_address m n ≡ true → m ≡ n
+address-is m n e = ap (λ (l : List ℕ). let q : Mac = record { 0 = l } in q) ((bytes_eq-Decides m.0 n.0).0 e)
+
+-- what each of the ports keeps holds of an address that is one of them
+of-ports : (P : Mac → Type 0) (ports : List Mac) (m : Mac) → AllByRecursion P ports → holds ports m ≡ true → P m
+of-ports P [] m each e = absurd (cc)
+of-ports P (n ∷ ports) m each e = go (same_address n m) refl e (of-ports P ports m each.1)
   where
-    first : (b : Bool) → (b || false) ≡ true → b ≡ true
-    first true e = refl
-    first false e = absurd (cc)
+    go : (b : Bool) → same_address n m ≡ b → (b || holds ports m) ≡ true → (holds ports m ≡ true → P m) → P m
+    go true same f more = subst P (address-is n m same) each.0
+    go false same f more = more f
 
-ten-one : (n m : ℕ) → n ≡ 10 → m ≡ 1 → n ≡ m → ⊥
-ten-one n m p q e = omega arith
+ten-else : (n m : ℕ) → m < 10 → n ≡ 10 → n ≡ m → ⊥
+ten-else n m lt p q = omega arith
 
-differ : port 10 ≡ port 1 → ⊥
-differ e = ten-one (slice_index (port 10).0 5) (slice_index (port 1).0 5) refl refl (ap (λ (m : Mac). slice_index m.0 5) e)
+-- the port of the host
+differ : (n : ℕ) → n < 10 → port 10 ≡ port n → ⊥
+differ n lt e = ten-else (slice_index (port 10).0 5) n lt refl (ap (λ (m : Mac). slice_index m.0 5) e)
 
-is-attached : IsAttachedTo setup attached
-is-attached = record { slot = slot; there = refl; remotes = refl; total = refl; max = refl }
+abbrev IsSix : Mac → Type 0
+IsSix m = length m.0 ≡ 6
+
+abbrev IsOther : Mac → Type 0
+IsOther m = port 10 ≡ m → ⊥
+
+-- the network of one host, and of a shelf with ports of its own
+abbrev net : List Mac → Setup
+net shelf = setup_of shelf None (host_of shelf a 10 ∷ [])
+
+is-attached : (shelf : List Mac) → IsAttachedTo (net shelf) (attached_to shelf)
+is-attached shelf = record { slot = slot_at shelf None; there = refl; remotes = refl; total = refl; max = refl }
+
+net-is : (shelf : List Mac) → 0 < length shelf → AllByRecursion IsSix shelf → AllByRecursion IsOther shelf → IsSetup (net shelf)
+net-is shelf some six other = record {
+  host_addresses = λ host m there e. of-ports IsSix (port 10 ∷ []) m (refl, tt) (subst (λ (h : HostSetup). holds h.ports m ≡ true) (sym (only-one (host_of shelf a 10) host there)) e);
+  shelf_addresses = λ s m there e. of-ports IsSix shelf m six (subst (λ (z : SlotSetup). holds z.station.ports.items m ≡ true) (sym (only-one (slot_at shelf None) s there)) e);
+  host_ports = λ x y m p q e f. sym (only-one (host_of shelf a 10) x p) ∙ only-one (host_of shelf a 10) y q;
+  shelf_ports = λ host s m p q e f.
+      of-ports IsOther shelf m other (subst (λ (z : SlotSetup). holds z.station.ports.items m ≡ true) (sym (only-one (slot_at shelf None) s q)) f)
+      (of-ports (λ n. port 10 ≡ n) (port 10 ∷ []) m (refl, tt) (subst (λ (h : HostSetup). holds h.ports m ≡ true) (sym (only-one (host_of shelf a 10) host p)) e));
+  slot_names = λ s there. subst (λ (z : SlotSetup). slot_of (net shelf) z.station.id ≡ Some z) (only-one (slot_at shelf None) s there) refl;
+  some_port = λ s there. subst (λ (z : SlotSetup). 0 < length z.station.ports.items) (only-one (slot_at shelf None) s there) some;
+  majors = λ s there. subst (λ (z : SlotSetup). z.station.id.major < 65535) (only-one (slot_at shelf None) s there) (omega arith);
+  minors = λ s there. subst (λ (z : SlotSetup). z.station.id.minor < 255) (only-one (slot_at shelf None) s there) (omega arith);
+  size = λ s there. subst (λ (z : SlotSetup). z.station.sectors ≤ 281474976710656) (only-one (slot_at shelf None) s there) (omega arith);
+  max = λ s there. subst (λ (z : SlotSetup). z.station.max ≤ 17) (only-one (slot_at shelf None) s there) (omega arith);
+  attached = λ host d p q.
+      let of : Contains (attached_to shelf ∷ []) d = subst (λ (h : HostSetup). Contains h.devices d) (sym (only-one (host_of shelf a 10) host p)) q in
+      subst (λ (z : Attached). IsAttachedTo (net shelf) z) (only-one (attached_to shelf) d of) (is-attached shelf);
+}
 
 pub setup-is : IsSetup setup
-setup-is = record {
-  host_addresses = λ host a there e. let q = one-port 10 a (subst (λ (h : HostSetup). holds h.ports a ≡ true) (sym (only-one host_a host there)) e) in ap (λ (m : Mac). length m.0) (sym q);
-  shelf_addresses = λ s a there e. let q = one-port 1 a (subst (λ (z : SlotSetup). holds z.station.ports.items a ≡ true) (sym (only-one slot s there)) e) in ap (λ (m : Mac). length m.0) (sym q);
-  host_ports = λ x y a p q e f. sym (only-one host_a x p) ∙ only-one host_a y q;
-  shelf_ports = λ host s a p q e f.
-      differ (one-port 10 a (subst (λ (h : HostSetup). holds h.ports a ≡ true) (sym (only-one host_a host p)) e) ∙ sym (one-port 1 a (subst (λ (z : SlotSetup). holds z.station.ports.items a ≡ true) (sym (only-one slot s q)) f)));
-  slot_names = λ s there. subst (λ (z : SlotSetup). slot_of setup z.station.id ≡ Some z) (only-one slot s there) refl;
-  some_port = λ s there. subst (λ (z : SlotSetup). 0 < length z.station.ports.items) (only-one slot s there) (omega arith);
-  majors = λ s there. subst (λ (z : SlotSetup). z.station.id.major < 65535) (only-one slot s there) (omega arith);
-  minors = λ s there. subst (λ (z : SlotSetup). z.station.id.minor < 255) (only-one slot s there) (omega arith);
-  size = λ s there. subst (λ (z : SlotSetup). z.station.sectors ≤ 281474976710656) (only-one slot s there) (omega arith);
-  max = λ s there. subst (λ (z : SlotSetup). z.station.max ≤ 17) (only-one slot s there) (omega arith);
-  attached = λ host d p q.
-      let of : Contains (attached ∷ []) d = subst (λ (h : HostSetup). Contains h.devices d) (sym (only-one host_a host p)) q in
-      subst (λ (z : Attached). IsAttachedTo setup z) (only-one attached d of) is-attached;
-}
+setup-is = net-is (port 1 ∷ []) (omega arith) (refl, tt) (differ 1 (omega arith), tt)
+
+pub two-paths-is : IsSetup two_paths
+two-paths-is = net-is two_ports (omega arith) (refl, (refl, tt)) (differ 1 (omega arith), (differ 2 (omega arith), tt))

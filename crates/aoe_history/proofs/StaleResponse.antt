@@ -29,7 +29,7 @@ after1 = Submitted a 1 device (Read (span 0)) ∷ []
 
 step2 : MayCome setup after1 (Sent a 1 1 (first_read 1))
 unfolding full request
-step2 = starts setup host_a after1 0 1 1 (first_read 1) refl refl refl refl refl refl refl refl refl refl
+step2 = starts setup host_a after1 0 1 1 0 (first_read 1) refl refl refl refl refl refl refl refl refl refl
 
 abbrev after2 : List Entry
 after2 = Sent a 1 1 (first_read 1) ∷ after1
@@ -49,7 +49,7 @@ after5 = Ticked 1000 ∷ after4
 
 step6 : MayCome setup after5 (Sent a 1 3 (first_read 1))
 unfolding full request spelled
-step6 = repeats setup host_a after5 0 0 1 (first_read 1) refl refl refl refl refl refl refl
+step6 = repeats setup host_a after5 0 0 1 0 (first_read 1) refl refl refl refl refl refl refl
 
 abbrev after6 : List Entry
 after6 = Sent a 1 3 (first_read 1) ∷ after5
@@ -84,7 +84,7 @@ after10 = Submitted a 2 device (Write 0 (full 0x22)) ∷ after9
 
 step11 : MayCome setup after10 (Sent a 2 5 second_write)
 unfolding full request spelled
-step11 = starts setup host_a after10 1 2 2 second_write refl refl refl refl refl refl refl refl refl refl
+step11 = starts setup host_a after10 1 2 2 0 second_write refl refl refl refl refl refl refl refl refl refl
 
 abbrev after11 : List Entry
 after11 = Sent a 2 5 second_write ∷ after10
@@ -133,7 +133,7 @@ after17 = Submitted a 3 device (Read (span 0)) ∷ after16
 
 step18 : MayCome setup after17 (Sent a 3 7 (first_read 3))
 unfolding full request spelled
-step18 = starts setup host_a after17 2 3 3 (first_read 3) refl refl refl refl refl refl refl refl refl refl
+step18 = starts setup host_a after17 2 3 3 0 (first_read 3) refl refl refl refl refl refl refl refl refl refl
 
 abbrev after18 : List Entry
 after18 = Sent a 3 7 (first_read 3) ∷ after17

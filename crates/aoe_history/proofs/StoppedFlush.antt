@@ -40,7 +40,7 @@ after3 how = Submitted a 2 device (Flush) ∷ (after2 how)
 
 step4 : (how : Loss) → MayCome setup (after3 how) (Sent a 2 3 flush_frame)
 unfolding full request spelled
-step4 how = starts setup host_a (after3 how) 1 2 2 flush_frame refl refl refl refl refl refl refl refl refl refl
+step4 how = starts setup host_a (after3 how) 1 2 2 0 flush_frame refl refl refl refl refl refl refl refl refl refl
 
 abbrev after4 : Loss → List Entry
 after4 how = Sent a 2 3 flush_frame ∷ (after3 how)
@@ -68,7 +68,7 @@ after7 how = Submitted a 3 device (Read (span 3)) ∷ (after6 how)
 
 step8 : (how : Loss) → MayCome setup (after7 how) (Sent a 3 4 (read_frame 3))
 unfolding full request spelled
-step8 how = starts setup host_a (after7 how) 2 3 3 (read_frame 3) refl refl refl refl refl refl refl refl refl refl
+step8 how = starts setup host_a (after7 how) 2 3 3 0 (read_frame 3) refl refl refl refl refl refl refl refl refl refl
 
 abbrev after8 : Loss → List Entry
 after8 how = Sent a 3 4 (read_frame 3) ∷ (after7 how)

@@ -10,5 +10,6 @@ pub mod Lawful
 pub mod Groups
 pub mod Example
 pub mod Cases
+pub mod PathCases
 pub mod Conversation
 pub mod Asks

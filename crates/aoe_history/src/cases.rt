@@ -8,7 +8,7 @@ ghost use Rattle.aoe_initiator.specs.HostLaw.{IsNext, IsQuiet};
 ghost use Rattle.aoe_lists.specs.Settings.{empty_settings};
 ghost use Rattle.aoe_target.specs.declared.heard.Effect.{Effect};
 ghost use Rattle.aoe_target.specs.declared.heard.Effect.TheVariants.{None as NoEffect, Wrote, WriteFault};
-ghost use Rattle.aoe_history.specs.declared.entry.Entry.TheVariants.{Sent, Arrived, Took, Lost, Crashed};
+ghost use Rattle.aoe_history.specs.declared.entry.Entry.TheVariants.{Sent, Arrived, Took, Ticked, Lost, Crashed};
 ghost use Rattle.aoe_history.specs.declared.entry.Fate.{Fate};
 ghost use Rattle.aoe_history.specs.declared.entry.Fate.TheVariants.{Replied};
 ghost use Rattle.aoe_history.specs.Cases.{almost_waited, armed, beside_submitted, central_acts, central_case, crashed_write, failed_write, flush_sent, forged_response, giving_up, kept_out, late_acknowledgement, masked_out, read_after_crash, read_frame, refusal_after_effect, reserved, second_submitted, stale_response, stopped_flush, write_due, write_sent, write_submitted};
@@ -17,6 +17,7 @@ ghost use Rattle.aoe_history.specs.Example.{a, device, full, host_a, host_b, set
 ghost use Rattle.aoe_history.specs.Frames.{clock, frames};
 ghost use Rattle.aoe_history.specs.Groups.{Enters, Follows, Got, Hand, Shelf};
 ghost use Rattle.aoe_history.specs.Lawful.{IsLawful, MayCome};
+ghost use Rattle.aoe_history.specs.PathCases.{almost_grown, due, grown, measured, missed, other_submitted, path_case, read_on, two_host, two_paths};
 ghost use Rattle.aoe_history.specs.Reading.{allowed, alone, safe, spoiled};
 ghost use Rattle.aoe_history.specs.Setup.{IsSetup};
 ghost use Rattle.aoe_history.specs.Slots.{known_after, marked_after, zero_sector};
@@ -36,11 +37,15 @@ pub fn worked_histories()
     ensures stopped_mixed { IsLawful setup (stopped_flush (Mix 0)) }
     ensures stored { IsLawful setup (read_after_crash (full 0x5a)) }
     ensures cached { IsLawful (setup_with (Some 8) (host_a ∷ [])) (read_after_crash zero_sector) }
+    ensures paths { IsLawful two_paths path_case }
+    ensures measured { IsLawful two_paths measured }
 {}
 
-/// A law: their setup is one, and what the worked histories say of time, frames and sectors.
+/// A law: their setup of one host is one, with one path or with two, and what the worked histories
+/// say of time, frames and sectors.
 pub fn worked_values()
     ensures is_setup { IsSetup setup }
+    ensures paths { IsSetup two_paths }
     ensures clock { clock central_case ≡ 2001 }
     ensures frames { length (frames central_case) ≡ 6 }
     ensures known { known_after slot central_case 3 ≡ Some (full 0x5a) }
@@ -67,6 +72,21 @@ pub fn wrong_hosts()
     ensures source { MayCome setup forged_response (Took a 2 false) → ⊥ }
     ensures silent { IsQuiet (host_after setup host_a write_submitted) (commands_of host_a write_submitted) → ⊥ }
     ensures repeat { IsQuiet (host_after setup host_a write_due) (commands_of host_a write_due) → ⊥ }
+{}
+
+/// A law: what hosts that choose paths wrongly would have done may not come: the next command on the
+/// path of the one before it, though there are two; a repeat on the path whose answer was missed;
+/// another command on that path, which is marked; where only a command that was sent twice has been
+/// answered, so that no trip is known, nothing repeated after 1000 milliseconds, and something
+/// before; a second repeat less than 2000 milliseconds after the first one, and none after 2000.
+pub fn wrong_paths()
+    ensures one_path { (number tag : ℕ) → MayCome two_paths other_submitted (Sent a 2 number (read_on 0 1 tag)) → ⊥ }
+    ensures same_path { (number tag : ℕ) → MayCome two_paths due (Sent a 1 number (read_on 0 0 tag)) → ⊥ }
+    ensures unmarked { (number tag : ℕ) → MayCome two_paths missed (Sent a 2 number (read_on 0 1 tag)) → ⊥ }
+    ensures trip { IsQuiet (host_after two_paths two_host (Ticked 1000 ∷ measured)) (commands_of two_host (Ticked 1000 ∷ measured)) → ⊥ }
+    ensures last_trip { (number : ℕ) (bytes : List ℕ) → MayCome two_paths (Ticked 999 ∷ measured) (Sent a 2 number bytes) → ⊥ }
+    ensures steady { (number : ℕ) (bytes : List ℕ) → MayCome two_paths almost_grown (Sent a 1 number bytes) → ⊥ }
+    ensures slow { IsQuiet (host_after two_paths two_host grown) (commands_of two_host grown) → ⊥ }
 {}
 
 /// A law: what wrong shelves would have done may not come: a flush acknowledged without a sync; a

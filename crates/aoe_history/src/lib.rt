@@ -15,7 +15,9 @@ mod history;
 mod reading;
 
 pub use boxed::Boxed;
-pub use cases::{worked_histories, worked_values, wrong_hosts, wrong_networks, wrong_shelves};
+pub use cases::{
+    worked_histories, worked_values, wrong_hosts, wrong_networks, wrong_paths, wrong_shelves,
+};
 pub use commands::{host_commands_law, host_frames_law, host_writes_law};
 pub use conversation::{requests_are_understood, responses_tell_truly};
 pub use entry::{Entry, Fate};

@@ -5,6 +5,7 @@ use Rattle.aoe_history.proofs.CrashedStore as crashed_store
 use Rattle.aoe_history.proofs.FailedWrite as failed_write
 use Rattle.aoe_history.proofs.GivingUp as giving_up
 use Rattle.aoe_history.proofs.LateAcknowledgement as late
+use Rattle.aoe_history.proofs.PathCase as path_case
 use Rattle.aoe_history.proofs.RefusalAfterEffect as refusal
 use Rattle.aoe_history.proofs.StaleResponse as stale
 use Rattle.aoe_history.proofs.StoppedFlush.{lawful-keep, lawful-mix, lawful-old, lawful-torn}
@@ -48,3 +49,9 @@ returns-clause-cached c = crashed_cache.lawful
 
 pub returns-clause-follows : goal.returns-clause-follows
 returns-clause-follows c = follows
+
+pub returns-clause-paths : goal.returns-clause-paths
+returns-clause-paths c = path_case.lawful
+
+pub returns-clause-measured : goal.returns-clause-measured
+returns-clause-measured c = path_case.lawful-measured

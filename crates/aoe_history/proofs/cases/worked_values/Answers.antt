@@ -1,9 +1,12 @@
-use Rattle.aoe_history.proofs.SetupLemmas.{setup-is}
+use Rattle.aoe_history.proofs.SetupLemmas.{setup-is, two-paths-is}
 use Rattle.aoe_history.proofs.Values.{allowed-is, alone-is, clock-is, fault-is, frames-is, known-is, late-is, safe-is, spoiled-is, unanswered-is, unmarked-is, written-is}
 use Rattle.aoe_history.proofs.cases.worked_values.Goals as goal
 
 pub returns-clause-is_setup : goal.returns-clause-is_setup
 returns-clause-is_setup c = setup-is
+
+pub returns-clause-paths : goal.returns-clause-paths
+returns-clause-paths c = two-paths-is
 
 pub returns-clause-clock : goal.returns-clause-clock
 returns-clause-clock c = clock-is
