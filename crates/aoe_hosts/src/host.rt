@@ -1,5 +1,5 @@
 //! A host and its steps.
-ghost use Rattle.std.specs.Prelude.{ℕ, ◌≡◌, ◌≢◌, ◌+◌, ◌<◌, ◌≤◌, ◌^◌, ◌-◌, ◌∷◌, List, [], Option, None, Some, true, is_some, length, position, map, unwrap_or, IfErr, IfOk, IfSome, IsSomeAnd, OnErr, OnOk};
+ghost use Rattle.std.specs.Prelude.{ℕ, ◌≡◌, ◌≢◌, ◌+◌, ◌<◌, ◌≤◌, ◌^◌, ◌-◌, ◌∷◌, List, [], Option, None, Some, true, is_some, length, position, unwrap_or, IfErr, IfOk, IfSome, IsSomeAnd, OnErr, OnOk};
 ghost use Rattle.aoe_history.specs.declared.entry.Entry.{Entry as Happened};
 ghost use Rattle.aoe_history.specs.declared.entry.Entry.TheVariants.{Refused, Submitted, Took};
 ghost use Rattle.aoe_history.specs.Frames.{arriving};

@@ -1,5 +1,5 @@
 -- A shelf in a run: what its disks hold, and how they are armed, is what the history says of them.
-use Rattle.std.specs.Prelude.{ℕ, ◌≡◌, ◌≢◌, ◌-◌, ◌*◌, ◌<◌, ◌≤◌, ◌⊎◌, Bool, true, false, not, List, length, slice_get, Option, Some, None, is_some, IfNone, IfSome}
+use Rattle.std.specs.Prelude.{ℕ, ◌≡◌, ◌≢◌, ◌-◌, ◌*◌, ◌<◌, ◌≤◌, ◌⊎◌, Bool, true, not, List, length, slice_get, Option, Some, None, is_some, IfNone, IfSome}
 use Rattle.std.specs.List.{list_any}
 use Rattle.std.specs.Option.{option_and_then, option_map}
 use Rattle.aoe_base.specs.declared.address.Mac.{Mac}
@@ -13,7 +13,7 @@ use Rattle.aoe_target.specs.Mounted.{device_of, station_of, Mounted}
 use Rattle.aoe_target.specs.Sectors.{sectors_of, Sectors}
 use Rattle.aoe_history.specs.declared.entry.Entry.{Entry}
 use Rattle.aoe_history.specs.declared.entry.Entry.TheVariants.{Arrived, Armed, Crashed}
-use Rattle.aoe_history.specs.Setup.{is_slot, slot_of, Setup, SlotSetup}
+use Rattle.aoe_history.specs.Setup.{is_slot, SlotSetup}
 use Rattle.aoe_history.specs.ShelfLaw.{stretch, struck_frame, Stretch}
 use Rattle.aoe_history.specs.Slots.{state_after}
 use Rattle.aoe_script.specs.declared.event.Which.{Which}

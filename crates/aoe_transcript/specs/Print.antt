@@ -1,5 +1,5 @@
 -- The lines of a transcript: one for each entry of a history, of words that single spaces part.
-use Rattle.std.specs.Prelude.{ℕ, ◌≡◌, ◌≢◌, ◌*◌, ◌/◌, ◌==◌, Bool, true, List, [], ◌∷◌, ◌++◌, length, map, replicate, reverse, Option, Some, None, if◌then◌else◌, is_some, codes, decimal, slice_index, ⊤}
+use Rattle.std.specs.Prelude.{ℕ, ◌≡◌, ◌≢◌, ◌/◌, ◌==◌, Bool, true, List, [], ◌∷◌, ◌++◌, length, map, reverse, Some, if◌then◌else◌, is_some, codes, decimal, slice_index, ⊤}
 use Rattle.std.specs.List.{flat_map, join_with_byte}
 use Rattle.arrayvec.specs.ArrayVec.{ArrayVec}
 use Rattle.aoe_base.specs.Names.{pair_text}

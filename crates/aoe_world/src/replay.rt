@@ -1,5 +1,5 @@
 //! The events of a script, as acts of its stations.
-ghost use Rattle.std.specs.Prelude.{◌≡◌, ◌≢◌, ◌+◌, ◌-◌, ◌<◌, ◌≤◌, ◌^◌, ℕ, List, [], ◌∷◌, length, map, position, slice_get, None, Some, suc, true, false, nat_eq, option_map, IfNone, IfSome, IsSomeAnd, OnOk};
+ghost use Rattle.std.specs.Prelude.{◌≡◌, ◌≢◌, ◌+◌, ◌-◌, ◌<◌, ◌≤◌, ◌^◌, ℕ, List, [], ◌∷◌, length, position, slice_get, None, Some, suc, true, nat_eq, option_map, IfNone, IfSome, IsSomeAnd, OnOk};
 ghost use Rattle.std.specs.List.{find};
 ghost use Rattle.aoe_script.specs.Rules.{event_why, is_event, same};
 ghost use Rattle.aoe_history.specs.Commands.{tickets};

@@ -1,5 +1,5 @@
 //! The stations of a world, and the acts of a schedule.
-ghost use Rattle.std.specs.Prelude.{◌≡◌, ◌+◌, ◌-◌, ◌<◌, ◌≤◌, ◌^◌, ℕ, List, length, Option, Some, None, slice_get, true, false, is_some, option_map, position, take, IfSome, IsSomeAnd};
+ghost use Rattle.std.specs.Prelude.{◌≡◌, ◌+◌, ◌-◌, ◌<◌, ◌≤◌, ◌^◌, ℕ, List, length, Option, Some, None, slice_get, true, false, is_some, position, take, IfSome, IsSomeAnd};
 ghost use Rattle.arrayvec.specs.ArrayVec.{ArrayVec};
 ghost use Rattle.aoe_frame.specs.Header.{fields};
 ghost use Rattle.aoe_initiator.specs.HostLaw.{same_id};
@@ -8,7 +8,7 @@ ghost use Rattle.aoe_history.specs.Frames.{arriving, clock};
 ghost use Rattle.aoe_history.specs.Groups.{Got, Station};
 ghost use Rattle.aoe_history.specs.Groups.Station.{Shelf as ShelfStation, Host as HostStation};
 ghost use Rattle.aoe_history.specs.Groups.Act.{Arm, Crash, Hand, Inject, Lose, Submit, Tick};
-ghost use Rattle.aoe_history.specs.Setup.{is_called, is_port, HostSetup, Setup};
+ghost use Rattle.aoe_history.specs.Setup.{is_port, Setup};
 ghost use Rattle.aoe_history.specs.Asks.{submission_in};
 ghost use Rattle.aoe_world.specs.Stage.{Does, IsAt, IsInside, IsNetwork, IsReady, IsTurning, Settles};
 
