@@ -20,7 +20,7 @@ age-within : (b : Bool) (f g : List ℕ) → (if b then Some f else None) ≡ So
 age-within true f g e = (refl, cc)
 age-within false f g e = absurd (cc)
 
-number-within : (fs : List SentFrame) (k : ℕ) (f : SentFrame) → numbered fs k ≡ Some f → k ≤ length fs
+pub number-within : (fs : List SentFrame) (k : ℕ) (f : SentFrame) → numbered fs k ≡ Some f → k ≤ length fs
 number-within [] k f e = absurd (cc)
 number-within (g ∷ fs) k f e = go (k == suc (length fs)) refl e (λ r. number-within fs k f r)
   where

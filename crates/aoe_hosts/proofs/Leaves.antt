@@ -10,6 +10,7 @@ use Rattle.aoe_history.specs.declared.entry.Fate.TheVariants.{Ignored, Silent, C
 use Rattle.aoe_history.specs.Commands.{is_of, last_response, log_of, path_ended, path_of, submission, tickets}
 use Rattle.aoe_history.specs.Frames.{arriving, bytes_of, clock, frames, network}
 use Rattle.aoe_history.specs.Setup.{device_no, is_called, HostSetup}
+use Rattle.aoe_history.proofs.FrameLemmas.{number-within}
 use Rattle.aoe_hosts.specs.Host.{is_apart}
 use Rattle.aoe_initiator.specs.HostLog.Event.{Ends, Sends, Submits}
 use Rattle.aoe_initiator.specs.declared.outcome.Outcome.{Outcome}
@@ -24,17 +25,6 @@ pub record Leaves (host : HostSetup) (h n : List Entry) : Type 0 where
   pub arrives : (life k : ℕ) (f : List ℕ) → arriving life h k ≡ Some f → arriving life n k ≡ Some f
 
 -- ---- frames that can be handed over
-
-number-within : (fs : List SentFrame) (k : ℕ) (f : SentFrame) → numbered fs k ≡ Some f → k ≤ length fs
-number-within [] k f e = absurd (cc)
-number-within (g ∷ fs) k f e = go (k == suc (length fs)) refl e (λ r. number-within fs k f r)
-  where
-    same : (a b : ℕ) → (a == b) ≡ true → a ≡ b
-    same a b e = grind (arith, nat_tests)
-
-    go : (b : Bool) → (k == suc (length fs)) ≡ b → (if b then Some g else numbered fs k) ≡ Some f → (numbered fs k ≡ Some f → k ≤ length fs) → k ≤ suc (length fs)
-    go true q e more = let s = same k (suc (length fs)) q in omega arith
-    go false q e more = let r = more e in omega arith
 
 not-above : (k n : ℕ) → k ≤ n → (k == suc n) ≡ false
 not-above k n le = grind (arith, nat_tests)

@@ -1,14 +1,16 @@
-ghost use Rattle.std.specs.Prelude.{◌≡◌, true, length};
+ghost use Rattle.std.specs.Prelude.{◌≡◌, true, is_some, length, position, IfOk};
+ghost use Rattle.aoe_initiator.specs.HostLaw.{same_id};
 ghost use Rattle.aoe_paths.specs.PathTable.{IsDistinct};
 ghost use Rattle.aoe_script.specs.Classes.{is_name};
 
 use super::*;
-use aoe_base::{FrameNo, Mac, Millis, Ports, TargetId};
+use aoe_base::{FrameNo, Mac, Millis, NoMemory, Ports, TargetId};
 use aoe_frame::Frame;
 use aoe_history::Entry;
 use aoe_initiator::{Outcome, SubmitRefusal};
 use aoe_run::Run;
 use aoe_script::{Event, Name};
+use std::alloc::Global;
 use std::test::Fail;
 
 const A: Mac = Mac([2, 0, 0, 0, 0, 0x0a]);
@@ -40,18 +42,20 @@ fn one(port: Mac) -> Ports
     ports
 }
 
+/// The host, attached to the device.
+fn attached(alloc: Global) -> Result<NamedHost, NoMemory>
+    ensures device { IfOk result (λ x. is_some (position (λ d. same_id d.about.id DEVICE) x.core.devices) ≡ true) }
+    ensures tickets { IfOk result (λ x. x.core.last_ticket ≡ 0) }
+{
+    let mut host = NamedHost::new(alloc, name(), &one(A), Millis(2000), 4, Millis(180_000))?;
+    host.attach(DEVICE, &one(SHELF), 16, 2)?;
+    Ok(host)
+}
+
 #[test]
 fn a_response_ends_its_command_once(rt: HostRuntime) -> Result<(), Fail> {
     let mut run = Run::new(rt.alloc(), Millis(2000));
-    let mut host = NamedHost::new(
-        rt.alloc(),
-        name(),
-        &one(A),
-        Millis(2000),
-        4,
-        Millis(180_000),
-    )?;
-    host.attach(DEVICE, &one(SHELF), 16, 2)?;
+    let mut host = attached(rt.alloc())?;
     let mut out = Frame::new();
     let event = Event::Flush {
         host: name(),
@@ -112,15 +116,7 @@ fn a_response_ends_its_command_once(rt: HostRuntime) -> Result<(), Fail> {
 #[test]
 fn an_empty_read_is_refused(rt: HostRuntime) -> Result<(), Fail> {
     let mut run = Run::new(rt.alloc(), Millis(2000));
-    let mut host = NamedHost::new(
-        rt.alloc(),
-        name(),
-        &one(A),
-        Millis(2000),
-        4,
-        Millis(180_000),
-    )?;
-    host.attach(DEVICE, &one(SHELF), 16, 2)?;
+    let mut host = attached(rt.alloc())?;
     let event = Event::Read {
         host: name(),
         dev: DEVICE,
@@ -138,15 +134,7 @@ fn an_empty_read_is_refused(rt: HostRuntime) -> Result<(), Fail> {
 #[test]
 fn a_command_without_a_response_is_given_up(rt: HostRuntime) -> Result<(), Fail> {
     let mut run = Run::new(rt.alloc(), Millis(2000));
-    let mut host = NamedHost::new(
-        rt.alloc(),
-        name(),
-        &one(A),
-        Millis(2000),
-        4,
-        Millis(180_000),
-    )?;
-    host.attach(DEVICE, &one(SHELF), 16, 2)?;
+    let mut host = attached(rt.alloc())?;
     let mut out = Frame::new();
     let event = Event::Flush {
         host: name(),

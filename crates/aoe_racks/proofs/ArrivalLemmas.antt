@@ -26,6 +26,7 @@ use Rattle.aoe_history.specs.Groups.{ArriveAtEach, ArriveAtSome, CrashEach, Cras
 use Rattle.aoe_history.specs.Lawful.{IsArrival, IsNumbered, MayCome}
 use Rattle.aoe_history.specs.Setup.{AreApart, Setup, SlotSetup}
 use Rattle.aoe_history.specs.ShelfLaw.{KeepsArming, KeepsShelfLaw}
+use Rattle.aoe_history.proofs.FrameLemmas.{number-within}
 use Rattle.aoe_run.specs.Run.{MeetsFull}
 use Rattle.aoe_racks.specs.declared.rack.Stops.{Stops}
 use Rattle.aoe_racks.specs.Arrival.{noted, stop_at, ComesToSlot, GoesOn, IsCut, IsReached, IsReplyFull}
@@ -46,17 +47,6 @@ bytes-arriving life h number f e = go (numbered (frames h) number) e
     go : (o : Option SentFrame) → option_and_then (fresh_bytes (network life h) (clock h)) o ≡ Some f → option_map_or (λ (x : SentFrame). x.bytes) o [] ≡ f
     go None e = absurd (cc)
     go (Some g) e = age-within _ g.bytes f e
-
-number-within : (fs : List SentFrame) (number : ℕ) (x : SentFrame) → numbered fs number ≡ Some x → number ≤ length fs
-number-within [] number x e = absurd (cc)
-number-within (g ∷ fs) number x e = go (number == suc (length fs)) refl e (λ r. number-within fs number x r)
-  where
-    same : (a b : ℕ) → (a == b) ≡ true → a ≡ b
-    same a b e = grind (arith, nat_tests)
-
-    go : (b : Bool) → (number == suc (length fs)) ≡ b → (if b then Some g else numbered fs number) ≡ Some x → (numbered fs number ≡ Some x → number ≤ length fs) → number ≤ suc (length fs)
-    go true q e more = let s = same number (suc (length fs)) q in omega arith
-    go false q e more = let r = more e in omega arith
 
 -- a frame has its number after one frame more
 still-numbered : (g : SentFrame) (fs : List SentFrame) (number : ℕ) (x : SentFrame) → numbered fs number ≡ Some x → numbered (g ∷ fs) number ≡ Some x

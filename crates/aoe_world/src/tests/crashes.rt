@@ -2,47 +2,6 @@
 use super::prints;
 use std::test::Fail;
 
-/// A flush waits until no frame of the write before it can come any more, and no crash behind it
-/// undoes the write.
-const FLUSHED: (&str, &str) = (
-    "\
-write a e1.0 3 1 5a
-pass 2
-flush a e1.0
-tick 2000
-tick 1
-deliver 1 s
-pass 2
-deliver 1 s
-crash s old
-read a e1.0 3 1
-pass 2
-",
-    "\
-submit a 1 write e1.0 3 1 5a
-sent a 1 1
-arrive e1.0 1 wrote 3 1 reply 2
-took a 2
-done a 1 written
-submit a 2 flush e1.0
-tick 2000
-tick 1
-sent a 2 3
-lost 1
-arrive e1.0 3 synced reply 4
-took a 4
-done a 2 flushed
-lost 1
-crashed e1.0 config - masks - reserves -
-submit a 3 read e1.0 3 1
-sent a 3 5
-arrive e1.0 5 none reply 6
-took a 6
-done a 3 read 5a*512
-summary events 11 frames 6 sent 3 again 0 arrived 3 done 3 lost 2 crashed 1
-",
-);
-
 /// The shelf crashes between a write and the coming of its response.
 const ACKNOWLEDGED_LATE: (&str, &str) = (
     "\
@@ -89,7 +48,7 @@ summary events 3 frames 2 sent 1 again 0 arrived 1 done 1 lost 0 crashed 0
 
 #[test]
 fn prints_crashes(rt: HostRuntime) -> Result<(), Fail> {
-    for (lines, text) in [FLUSHED, ACKNOWLEDGED_LATE, FAILED] {
+    for (lines, text) in [ACKNOWLEDGED_LATE, FAILED] {
         assert!(rt; prints(rt.alloc(), lines, text)?, "{text}");
     }
     Ok(())
