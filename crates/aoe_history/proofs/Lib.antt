@@ -18,7 +18,7 @@ mod ReplyLemmas
 mod ConversationLemmas
 mod CommandLemmas
 mod SendLemmas
-mod FrameLemmas
+pub mod FrameLemmas
 mod SentLemmas
 mod ReadyLemmas
 mod SourceLemmas

@@ -13,7 +13,6 @@ use Rattle.aoe_initiator.specs.Host.{Host, IsSame, Matches}
 use Rattle.aoe_initiator.specs.HostLaw.{ended, given_up, GaveUpInTurn}
 use Rattle.aoe_initiator.specs.HostLog.{after_end, after_response, at_ticket, clock as log_clock, commands, path_log, sent_of, with_ticket, Event, HostCommand}
 use Rattle.aoe_initiator.specs.HostLog.Event.{Advances, Ends}
-use Rattle.aoe_initiator.proofs.MatchLemmas.{matches-taken}
 use Rattle.aoe_paths.specs.PathLog.{PathEvent}
 use Rattle.aoe_history.specs.declared.entry.Entry.{Entry}
 use Rattle.aoe_history.specs.declared.entry.Entry.TheVariants.{Done as Finished}
@@ -44,6 +43,23 @@ tells-end a b ticket path same = record {
 pub tells-ended : (a b : List Event) (dones : List Done) → TellsSame a b → TellsSame (ended dones a) (ended dones b)
 tells-ended a b [] same = same
 tells-ended a b (d ∷ dones) same = tells-end (ended dones a) (ended dones b) d.ticket None (tells-ended a b dones same)
+
+-- the outcomes that wait are no part of it
+pub matches-waiting : (log : List Event) (x : Host) (waiting : List Done) → Matches log x → Matches log (record x { waiting = waiting })
+matches-waiting log x waiting m = record {
+  time = m.time;
+  tickets = m.tickets;
+  last = m.last;
+  attached = m.attached;
+  flew = m.flew;
+  pending = m.pending;
+  rest = m.rest;
+  room = m.room;
+  dead = m.dead;
+  sent = m.sent;
+  entered = m.entered;
+  paths = m.paths;
+}
 
 -- THE COMMANDS THAT ARE GIVEN UP
 
@@ -279,7 +295,7 @@ module _ (s : Setup) (host : HostSetup) (got : Option Got) (h : List Entry) (x :
           is = host-same s host x z refl kept a.is;
           last = went.last ∙ a.last ∙ sym (n.tickets_are ∙ first.tickets_are);
           time = time ∙ sym now;
-          matches = matches-taken (log_of host e) core [] matches;
+          matches = matches-waiting (log_of host e) core [] matches;
           waiting = refl;
         };
       } in
