@@ -2,8 +2,10 @@
 //! in any order, until the frame's lifetime is over.
 #![tactic(auto)]
 
+mod frame_bytes;
 mod net;
 mod refusal;
 
+pub use frame_bytes::FrameBytes;
 pub use net::{MAX_BYTES, MAX_FRAME_LEN, MAX_FRAMES, Net};
 pub use refusal::NetRefusal;

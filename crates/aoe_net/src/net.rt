@@ -1,10 +1,9 @@
 //! The frames of a network, each with the time of its sending.
 ghost use Rattle.std.specs.Prelude.{◌≡◌, ℕ, ◌+◌, ◌-◌, ◌≤◌, ◌↔◌, [], ◌∷◌, ◌++◌, length, nat_lt, option_map, IfNone, IfOk, IfSome, IsOkUnless, IsTrue, OnErr, OnOk};
 ghost use Rattle.aoe_net.specs.Network.{deliverable, empty_network, total_bytes, with_frame, IsFull, IsNumberOf};
-ghost use Rattle.aoe_net.specs.Store.{frame_at};
 
-use crate::NetRefusal;
-use aoe_base::{FrameNo, Millis};
+use crate::{FrameBytes, NetRefusal};
+use aoe_base::{FrameNo, Millis, NoMemory};
 use std::alloc::Global;
 use std::marker::Model;
 
@@ -17,42 +16,11 @@ pub const MAX_BYTES: u64 = 536_870_912;
 /// The most bytes of one frame.
 pub const MAX_FRAME_LEN: usize = 9018;
 
-/// Where a frame lies among the bytes, and when it was sent.
-#[derive(Clone, Copy)]
-struct Place {
-    start: u32,
-    len: u32,
+/// A frame, and when it was sent.
+#[derive(Drop)]
+struct Kept {
+    bytes: FrameBytes,
     birth: Millis,
-}
-
-/// The bytes of the frame at a place.
-fn bytes_at<'a>(bytes: &'a [u8], place: &Place) -> &'a [u8]
-    requires { place.now.start + place.now.len ≤ length bytes.now }
-    ensures { result.now ≡ (frame_at bytes.now place.now).bytes }
-{
-    let start = place.start as usize;
-    &bytes[start..start + place.len as usize]
-}
-
-/// Appends a frame and its place, or leaves both lists as they were.
-fn append(
-    bytes: &mut Vec<u8>,
-    places: &mut Vec<Place>,
-    frame: &[u8],
-    place: Place,
-) -> Result<(), NetRefusal>
-    ensures bytes { OnOk result (bytes.new.items ≡ bytes.old.items ++ frame.now) }
-    ensures places { OnOk result (places.new.items ≡ places.old.items ++ place ∷ []) }
-    ensures bytes_stay { OnErr result (bytes.new.items ≡ bytes.old.items) }
-    ensures places_stay { OnErr result (places.new.items ≡ places.old.items) }
-    ensures cause { IsOkUnless result NetRefusal.NoMemory }
-{
-    // The room for the place comes first, since bytes without a place would be lost.
-    if places.try_reserve(1).is_err() || bytes.extend_from_slice(frame).is_err() {
-        return Err(NetRefusal::NoMemory);
-    }
-    let _ = places.push(place);
-    Ok(())
 }
 
 /// Every frame that was sent, under its number, from 1 on.
@@ -60,25 +28,26 @@ fn append(
 /// An expired frame keeps its number and its bytes, so a number means one frame for good.
 #[derive(Drop)]
 pub struct Net {
+    alloc: Global,
     life: Millis,
     latest: Millis,
 
-    /// The bytes of all frames, one frame after another.
-    bytes: Vec<u8>,
+    /// In the order of their numbers.
+    frames: Vec<Kept>,
 
-    /// The places of the frames, in the order of their numbers.
-    places: Vec<Place>,
+    /// How many bytes they have together.
+    total: u64,
 }
 
 impl Model for Net {
     ghost use Rattle.aoe_net.specs.Network.{Network};
-    ghost use Rattle.aoe_net.specs.Store.{frames_at, IsStore};
+    ghost use Rattle.aoe_net.specs.Store.{frames_of, IsStore};
 
     ghost Value = { Network };
 
-    ghost view = { λ net. record { life = net.life.0; latest = net.latest.0; sent = frames_at net.bytes.items net.places.items } };
+    ghost view = { λ net. record { life = net.life.0; latest = net.latest.0; sent = frames_of net.frames.items } };
 
-    ghost invariant = { λ net. IsStore net.bytes.items net.places.items };
+    ghost invariant = { λ net. IsStore net.total net.frames.items };
 }
 
 impl Net {
@@ -87,10 +56,11 @@ impl Net {
         ensures { result ≡ empty_network life.0 }
     {
         Net {
+            alloc,
             life,
             latest: Millis(0),
-            bytes: Vec::new(alloc),
-            places: Vec::new(alloc),
+            frames: Vec::new(alloc),
+            total: 0,
         }
     }
 
@@ -116,20 +86,53 @@ impl Net {
         if self.is_full(frame) {
             return Err(NetRefusal::Full);
         }
-        let place = Place {
-            start: self.bytes.len() as u32,
-            len: frame.len() as u32,
-            birth: now,
-        };
-        append(&mut self.bytes, &mut self.places, frame, place)?;
-        self.latest = now;
-        Ok(FrameNo(self.places.len() as u32))
+        match FrameBytes::of(self.alloc, frame) {
+            Ok(bytes) => self.keep(now, bytes),
+            Err(NoMemory) => Err(NetRefusal::NoMemory),
+        }
     }
 
-    fn has_expired(&self, place: &Place, now: Millis) -> bool
-        ensures { result ≡ nat_lt self.now.life (now.0 - place.now.birth.0) }
+    /// Sends a frame whose bytes somebody else has too.
+    pub fn send_shared(&mut self, now: Millis, frame: FrameBytes) -> Result<FrameNo, NetRefusal>
+        requires len { length frame ≤ MAX_FRAME_LEN }
+        requires time { self.old.latest ≤ now.0 }
+        ensures sent { OnOk result (self.new ≡ with_frame self.old now.0 frame) }
+        ensures number { IfOk result (λ number. number.0 ≡ length self.new.sent) }
+        ensures full { (result ≡ Err NetRefusal.Full) ↔ IsFull self.old frame }
+        ensures refused { OnErr result (self.new ≡ self.old) }
     {
-        now.0.saturating_sub(place.birth.0) > self.life.0
+        if self.is_full(frame.bytes()) {
+            return Err(NetRefusal::Full);
+        }
+        self.keep(now, frame)
+    }
+
+    /// Keeps a frame that there is room for.
+    fn keep(&mut self, now: Millis, frame: FrameBytes) -> Result<FrameNo, NetRefusal>
+        requires room { ¬ IsFull self.old frame }
+        ensures sent { OnOk result (self.new ≡ with_frame self.old now.0 frame) }
+        ensures number { IfOk result (λ number. number.0 ≡ length self.new.sent) }
+        ensures cause { IsOkUnless result NetRefusal.NoMemory }
+        ensures refused { OnErr result (self.new ≡ self.old) }
+    {
+        let len = frame.bytes().len() as u64;
+        let kept = Kept {
+            bytes: frame,
+            birth: now,
+        };
+        match self.frames.push(kept) {
+            Ok(()) => {}
+            Err(_) => return Err(NetRefusal::NoMemory),
+        }
+        self.latest = now;
+        self.total += len;
+        Ok(FrameNo(self.frames.len() as u32))
+    }
+
+    fn has_expired(&self, frame: &Kept, now: Millis) -> bool
+        ensures { result ≡ nat_lt self.now.life (now.0 - frame.now.birth.0) }
+    {
+        now.0.saturating_sub(frame.birth.0) > self.life.0
     }
 
     /// The frame with a number, or `None` where no frame has it or the one that has it has expired.
@@ -137,11 +140,11 @@ impl Net {
         ensures { option_map (λ frame. frame.now) result ≡ deliverable self.now no.0 now.0 }
     {
         let index = (no.0 as usize).checked_sub(1)?;
-        let place = self.places.get(index)?;
-        if self.has_expired(place, now) {
+        let frame = self.frames.get(index)?;
+        if self.has_expired(frame, now) {
             return None;
         }
-        Some(bytes_at(&self.bytes, place))
+        Some(frame.bytes.bytes())
     }
 
     /// How many frames were sent: the number of the latest one.
@@ -149,7 +152,7 @@ impl Net {
         ensures count { result ≡ length self.now.sent }
         ensures bound { result ≤ MAX_FRAMES }
     {
-        self.places.len() as u32
+        self.frames.len() as u32
     }
 
     /// How many bytes the frames have together.
@@ -157,7 +160,7 @@ impl Net {
         ensures total { result ≡ total_bytes self.now }
         ensures bound { result ≤ MAX_BYTES }
     {
-        self.bytes.len() as u64
+        self.total
     }
 
     /// The number of the latest frame with these bytes, expired or not.
@@ -166,8 +169,8 @@ impl Net {
         ensures newest { IfSome result (λ number. (k : ℕ) → IsNumberOf self.now frame.now k → k ≤ number.0) }
         ensures none { IfNone result ((k : ℕ) → ¬ IsNumberOf self.now frame.now k) }
     {
-        for index in (0..self.places.len()).rev() {
-            if bytes_at(&self.bytes, &self.places[index]) == frame {
+        for index in (0..self.frames.len()).rev() {
+            if self.frames[index].bytes.bytes() == frame {
                 return Some(FrameNo(index as u32 + 1));
             }
         }
