@@ -1,9 +1,10 @@
 //! What happens in a run.
 use crate::Boxed;
-use aoe_base::{Blob, TargetId};
+use aoe_base::TargetId;
 use aoe_disk::Loss;
 use aoe_initiator::{Op, Outcome, SubmitRefusal};
 use aoe_lists::Lists;
+use aoe_net::FrameBytes;
 use aoe_script::{Name, Which};
 use aoe_target::Effect;
 
@@ -23,7 +24,7 @@ pub enum Fate {
     Replied {
         effect: Effect,
         frame: u64,
-        bytes: Blob,
+        bytes: FrameBytes,
     },
 }
 
@@ -51,13 +52,13 @@ pub enum Entry {
         host: Name,
         ticket: u64,
         frame: u64,
-        bytes: Blob,
+        bytes: FrameBytes,
     },
 
     /// A frame of no host and no shelf came into the network.
     Injected {
         frame: u64,
-        bytes: Blob,
+        bytes: FrameBytes,
     },
 
     /// A frame was handed to a target.

@@ -1,5 +1,5 @@
 //! The clock, the network and the history of a run.
-ghost use Rattle.std.specs.Prelude.{◌≡◌, ◌+◌, ◌<◌, ◌≤◌, ◌^◌, List, [], ◌∷◌, length, option_map, true, IfSome, OnErr, OnOk, Err};
+ghost use Rattle.std.specs.Prelude.{◌≡◌, ◌+◌, ◌<◌, ◌≤◌, ◌^◌, List, [], ◌∷◌, length, option_map, true, IfOk, IfSome, IsOkUnless, OnErr, OnOk, Err};
 ghost use Rattle.aoe_net.specs.Network.{total_bytes, IsFull};
 ghost use Rattle.aoe_history.specs.declared.entry.Entry.{Entry};
 ghost use Rattle.aoe_history.specs.declared.entry.Entry.TheVariants.{Sent, Injected, Arrived, Ticked};
@@ -7,9 +7,9 @@ ghost use Rattle.aoe_history.specs.declared.entry.Fate.TheVariants.{Replied};
 ghost use Rattle.aoe_history.specs.Frames.{arriving, clock, frames, next_number};
 ghost use Rattle.aoe_run.specs.Run.{is_plain, network_of, with_entry};
 
-use aoe_base::{Blob, FrameNo, Millis, NoMemory, TargetId, Ticket};
+use aoe_base::{FrameNo, Millis, NoMemory, TargetId, Ticket};
 use aoe_history::{Entry, Fate, History};
-use aoe_net::{MAX_FRAME_LEN, Net, NetRefusal};
+use aoe_net::{FrameBytes, MAX_FRAME_LEN, Net, NetRefusal};
 use aoe_script::Name;
 use aoe_target::Effect;
 use std::alloc::Global;
@@ -33,6 +33,20 @@ impl Model for Run {
     ghost view = { λ r. record { life = r.life.0; entries = r.history } };
 
     ghost invariant = { λ r. Carries r.life.0 r.clock.0 r.history r.net };
+}
+
+/// A copy of the bytes of a frame, for the history and for the network.
+fn twice(alloc: Global, frame: &[u8]) -> Result<(FrameBytes, FrameBytes), NetRefusal>
+    ensures both { IfOk result (λ both. (both.0 ≡ frame.now) × (both.1 ≡ frame.now)) }
+    ensures cause { IsOkUnless result NetRefusal.NoMemory }
+{
+    let Ok(bytes) = FrameBytes::of(alloc, frame) else {
+        return Err(NetRefusal::NoMemory);
+    };
+    match bytes.share() {
+        Ok(same) => Ok((bytes, same)),
+        Err(NoMemory) => Err(NetRefusal::NoMemory),
+    }
 }
 
 /// Takes back what was pushed last.
@@ -123,20 +137,20 @@ impl Run {
     }
 
     /// Takes down what happened, and brings the frame that came of it into the network.
-    fn bring(&mut self, entry: Entry, frame: &[u8]) -> Result<(), NetRefusal>
-        requires len { length frame.now ≤ 9018 }
-        requires frames { frames (entry ∷ self.old.entries) ≡ record { bytes = frame.now; birth = clock self.old.entries } ∷ frames self.old.entries }
+    fn bring(&mut self, entry: Entry, frame: FrameBytes) -> Result<(), NetRefusal>
+        requires len { length frame ≤ 9018 }
+        requires frames { frames (entry ∷ self.old.entries) ≡ record { bytes = frame; birth = clock self.old.entries } ∷ frames self.old.entries }
         requires clock { clock (entry ∷ self.old.entries) ≡ clock self.old.entries }
         ensures ok { OnOk result (self.new ≡ with_entry self.old entry) }
-        ensures room { OnOk result (¬ IsFull (network_of self.old) frame.now) }
-        ensures full { result ≡ Err NetRefusal.Full → IsFull (network_of self.old) frame.now }
+        ensures room { OnOk result (¬ IsFull (network_of self.old) frame) }
+        ensures full { result ≡ Err NetRefusal.Full → IsFull (network_of self.old) frame }
         ensures err { OnErr result (self.new ≡ self.old) }
     {
         match self.history.push(entry) {
             Ok(()) => {}
             Err(NoMemory) => return Err(NetRefusal::NoMemory),
         }
-        match self.net.send(self.clock, frame) {
+        match self.net.send_shared(self.clock, frame) {
             Ok(_) => Ok(()),
             Err(refusal) => {
                 take_back(&mut self.history);
@@ -160,17 +174,17 @@ impl Run {
         ensures full { result ≡ Err NetRefusal.Full → IsFull (network_of self.old) frame.now }
         ensures err { OnErr result (self.new ≡ self.old) }
     {
-        let host: Result<Name, _> = host.clone();
-        let (Ok(host), Ok(bytes)) = (host, Blob::of(self.alloc, frame)) else {
+        let Ok(host) = host.clone() else {
             return Err(NetRefusal::NoMemory);
         };
+        let (bytes, same) = twice(self.alloc, frame)?;
         let entry = Entry::Sent {
             host,
             ticket: ticket.0,
             frame: self.next_number(),
             bytes,
         };
-        self.bring(entry, frame)
+        self.bring(entry, same)
     }
 
     /// A frame of no station comes into the network.
@@ -181,14 +195,12 @@ impl Run {
         ensures full { result ≡ Err NetRefusal.Full → IsFull (network_of self.old) frame.now }
         ensures err { OnErr result (self.new ≡ self.old) }
     {
-        let Ok(bytes) = Blob::of(self.alloc, frame) else {
-            return Err(NetRefusal::NoMemory);
-        };
+        let (bytes, same) = twice(self.alloc, frame)?;
         let entry = Entry::Injected {
             frame: self.next_number(),
             bytes,
         };
-        self.bring(entry, frame)
+        self.bring(entry, same)
     }
 
     /// A frame came to a target, and this is its reply.
@@ -205,9 +217,7 @@ impl Run {
         ensures full { result ≡ Err NetRefusal.Full → IsFull (network_of self.old) reply.now }
         ensures err { OnErr result (self.new ≡ self.old) }
     {
-        let Ok(bytes) = Blob::of(self.alloc, reply) else {
-            return Err(NetRefusal::NoMemory);
-        };
+        let (bytes, same) = twice(self.alloc, reply)?;
         let fate = Fate::Replied {
             effect,
             frame: self.next_number(),
@@ -218,6 +228,6 @@ impl Run {
             frame: u64::from(number.0),
             fate,
         };
-        self.bring(entry, reply)
+        self.bring(entry, same)
     }
 }

@@ -8,6 +8,7 @@ use aoe_disk::Loss;
 use aoe_history::{Boxed, Entry, Fate, History};
 use aoe_initiator::{Data, Dir, Op, Outcome, SubmitRefusal};
 use aoe_lists::{Args, Lists};
+use aoe_net::FrameBytes;
 use aoe_script::{Name, Which};
 use aoe_target::Effect;
 use arrayvec::ArrayVec;
@@ -132,7 +133,7 @@ fn done(alloc: Global, outcome: Outcome) -> Result<Blob, NoMemory> {
 }
 
 fn replied(alloc: Global, effect: Effect) -> Result<Blob, NoMemory> {
-    let bytes = Blob::of(alloc, b"frame")?;
+    let bytes = FrameBytes::of(alloc, b"frame")?;
     arrived(
         alloc,
         Fate::Replied {
@@ -148,7 +149,7 @@ fn sent(alloc: Global) -> Result<Blob, NoMemory> {
         host: host(),
         ticket: 2,
         frame: 3,
-        bytes: Blob::of(alloc, b"frame")?,
+        bytes: FrameBytes::of(alloc, b"frame")?,
     };
     print_entry(alloc, &sent)
 }
@@ -156,7 +157,7 @@ fn sent(alloc: Global) -> Result<Blob, NoMemory> {
 fn injected(alloc: Global) -> Result<Blob, NoMemory> {
     let injected = Entry::Injected {
         frame: 4,
-        bytes: Blob::of(alloc, b"frame")?,
+        bytes: FrameBytes::of(alloc, b"frame")?,
     };
     print_entry(alloc, &injected)
 }
@@ -234,7 +235,7 @@ fn push_sent(alloc: Global, history: &mut History, letter: u8, frame: u64) -> Re
         host: named(letter),
         ticket: 1,
         frame,
-        bytes: Blob::of(alloc, b"frame")?,
+        bytes: FrameBytes::of(alloc, b"frame")?,
     })
 }
 
@@ -249,7 +250,7 @@ fn push_reply(alloc: Global, history: &mut History) -> Result<(), NoMemory>
         fate: Fate::Replied {
             effect: Effect::None,
             frame: 3,
-            bytes: Blob::of(alloc, b"frame")?,
+            bytes: FrameBytes::of(alloc, b"frame")?,
         },
     })
 }
