@@ -5,7 +5,7 @@ use Rattle.aoe_run.proofs.RunLemmas.{full-said}
 use Rattle.aoe_run.proofs.run.Run.bring.Goals as goal
 
 -- src/run.rt:120:5
-pub returns-in-Err-send-clause-full : goal.returns-in-Err-send-clause-full
-returns-in-Err-send-clause-full c e =
-    let full = c.send.ensures.full.0 (cc) in
-    subst (λ (r : Recorded). IsFull (network_of r) c.args.frame.now) c.self.view_is (full-said _ _ _ _ _ c.self.invariant full)
+pub returns-in-Err-send_shared-clause-full : goal.returns-in-Err-send_shared-clause-full
+returns-in-Err-send_shared-clause-full c e =
+    let full = c.send_shared.ensures.full.0 (cc) in
+    subst (λ (r : Recorded). IsFull (network_of r) c.args.frame) c.self.view_is (full-said _ _ _ _ _ c.self.invariant full)
