@@ -9,6 +9,7 @@ mod decimal;
 mod failure;
 mod names;
 mod sectors;
+mod steps;
 
 pub use address::{BROADCAST, Mac, Ports, TargetId, read_device, read_mac};
 pub use bytes::Blob;
@@ -17,3 +18,4 @@ pub use decimal::read_number;
 pub use failure::{Failed, NoMemory};
 pub use names::{device_law, mac_reads_back, mac_spelling_is_one};
 pub use sectors::Span;
+pub use steps::Steps;
