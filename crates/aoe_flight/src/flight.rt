@@ -13,7 +13,8 @@ use slab::Slab;
 use std::alloc::Global;
 use std::marker::Model;
 
-/// The most commands that a host can have room for.
+/// The most commands that a host can have room for: a limit of this program, since `Flight::new`
+/// makes all the room.
 pub const MAX_ROOM: u32 = 16_384;
 
 /// The commands of a host that fly or rest.
@@ -65,7 +66,7 @@ impl Flight {
     /// command rests for twice as long. A command is given up after `dead`.
     pub fn new(alloc: Global, room: u32, life: Millis, dead: Millis) -> Result<Flight, NoMemory>
         requires some_room { 0 < room }
-        requires room { room ≤ MAX_ROOM }
+        requires room { room ≤ 16384 }
         requires life { life.0 ≤ 600000 }
         requires dead { 0 < dead.0 }
         ensures value { IfOk result (λ flight. flight ≡ no_commands room life.0 dead.0) }

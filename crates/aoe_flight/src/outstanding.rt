@@ -4,7 +4,8 @@ ghost use Rattle.aoe_flight.specs.Outstanding.{after_repeat, deadline, flies_as,
 
 use aoe_base::{Millis, PathNo, Ticket};
 
-/// The most sends of a command that are counted.
+/// The most sends of a command that are counted: long before, its wait has grown to a minute and
+/// grows no more.
 const MAX_SENDS: u32 = 32;
 
 /// What is known of a command that waits for its response.

@@ -9,7 +9,7 @@ use crate::outstanding::Outstanding;
 use aoe_base::{Millis, PathNo, Ticket};
 use slab::Slab;
 
-/// The greatest tag. Tags go from 1 to it and round.
+/// The greatest tag: a frame has 32 bits for it (AoEr11, "Tag"). Tags go from 1 to it and round.
 const MAX_TAG: u32 = u32::MAX;
 
 /// The flying command with a ticket.

@@ -96,9 +96,9 @@ tickets-live life latest now commands after =
 
 -- two lists that differ in what is past have the same clear commands
 pub tickets-same : (life latest now : ℕ) (held entered : List Command) → latest ≤ now → live life latest held ≡ live life latest entered
-    → clear_tickets life now (live life now held) ≡ clear_tickets life now entered
+    → clear_tickets life now held ≡ clear_tickets life now entered
 tickets-same life latest now held entered after same =
-    tickets-live life now now held (omega arith) ∙ sym (tickets-live life latest now held after) ∙ ap (clear_tickets life now) same ∙ tickets-live life latest now entered after
+    sym (tickets-live life latest now held after) ∙ ap (clear_tickets life now) same ∙ tickets-live life latest now entered after
 
 pub count-live : (life latest : ℕ) (commands : List Command) → unsent_count (live life latest commands) ≡ unsent_count commands
 count-live life latest commands =

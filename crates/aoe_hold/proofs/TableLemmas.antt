@@ -1,5 +1,5 @@
 -- What the table shows after each change.
-use Rattle.std.proofs.Common.{ℕ, ◌≡◌, ◌+◌, ◌<◌, ◌≤◌, cond, not, true, List, [], ◌∷◌, ◌++◌, Option, Some, None, refl, sym, ap, subst, ◌∙◌, arith}
+use Rattle.std.proofs.Common.{ℕ, ◌≡◌, ◌+◌, ◌<◌, ◌≤◌, cond, true, List, [], ◌∷◌, ◌++◌, Option, Some, None, refl, sym, ap, subst, ◌∙◌, arith}
 use Rattle.std.specs.Prelude.{option_map, All, Contains, IfNone, IfSome}
 use Rattle.std.specs.List.{find}
 use Rattle.std.specs.Option.{ForSome}
@@ -8,13 +8,13 @@ use Rattle.std.proofs.lemmas.List.Sums.{sum_by_push}
 use Rattle.aoe_base.specs.declared.counted.Millis.{Millis}
 use Rattle.aoe_hold.specs.declared.command.Command.{Command}
 use Rattle.aoe_hold.specs.declared.command.Stage.TheVariants.{Unsent}
-use Rattle.aoe_hold.specs.Commands.{after_stage, clear_tickets, is_clear, is_past, is_unsent, live, stage_finished, stage_sent, unsent_count}
-use Rattle.aoe_hold.specs.HoldTable.{after_finish, after_send, at_time, with_command, HoldTable, Recalls, is_ascending}
-use Rattle.aoe_hold.proofs.OrderLemmas.{ascending-filter, first-contained, first-lowest, none-passes}
-use Rattle.aoe_hold.proofs.LiveLemmas.{count-live, live-after_stage, live-enter, live-live, live-same, recalls-after_stage, recalls-enter, tickets-same}
+use Rattle.aoe_hold.specs.Commands.{after_stage, clear_tickets, is_clear, is_unsent, live, stage_finished, stage_sent, unsent_count}
+use Rattle.aoe_hold.specs.HoldTable.{after_finish, after_send, with_command, HoldTable, Recalls, is_ascending}
+use Rattle.aoe_hold.proofs.OrderLemmas.{first-contained, first-lowest, none-passes}
+use Rattle.aoe_hold.proofs.LiveLemmas.{live-live, live-same, recalls-after_stage, recalls-enter, tickets-same}
 
 abbrev table_of : ℕ → ℕ → Option ℕ → List Command → HoldTable
-table_of life latest greatest commands = record { life = life; latest = latest; greatest = greatest; commands = live life latest commands }
+table_of life latest greatest commands = record { life = life; latest = latest; greatest = greatest; commands = commands }
 
 recalls-of : (life latest : ℕ) (greatest : Option ℕ) (held : List Command) (table : HoldTable) → table_of life latest greatest held ≡ table → (entered : List Command) → Recalls table entered
     → live life latest held ≡ live life latest entered
@@ -27,12 +27,10 @@ time-of life latest now greatest held table is later =
     let P : HoldTable → Type 0 = λ t. t.latest ≤ now in
     subst P (sym is) later
 
-pub room-view : (table view : HoldTable) (commands : List Command) (most : ℕ) → view ≡ table → view.commands ≡ live view.life view.latest commands → unsent_count table.commands < most → unsent_count commands < most
-room-view table view commands most is has room =
+pub room-view : (table view : HoldTable) (most : ℕ) → view ≡ table → unsent_count table.commands < most → unsent_count view.commands < most
+room-view table view most is room =
     let P : HoldTable → Type 0 = λ t. unsent_count t.commands < most in
-    let there : unsent_count view.commands < most = subst P (sym is) room in
-    let same : unsent_count view.commands ≡ unsent_count commands = ap unsent_count has ∙ count-live view.life view.latest commands in
-    omega (arith, there, same)
+    subst P (sym is) room
 
 pub above-view : (table view : HoldTable) (ticket : ℕ) → view ≡ table → ForSome table.greatest (λ g. g < ticket) → ForSome view.greatest (λ g. g < ticket)
 above-view table view ticket is above = rw is above
@@ -40,30 +38,23 @@ above-view table view ticket is above = rw is above
 pub count-enter : (commands : List Command) (c : Command) → c.stage ≡ Unsent → unsent_count (commands ++ c ∷ []) ≡ unsent_count commands + 1
 count-enter commands c fresh = sum_by_push (λ (d : Command). cond (is_unsent d) 1 0) commands c ∙ rw fresh refl
 
-pub enter-value : (life latest : ℕ) (greatest : Option ℕ) (c : Command) (held after : List Command) (table : HoldTable) → c.stage ≡ Unsent → table_of life latest greatest held ≡ table → after ≡ held ++ c ∷ []
+pub enter-value : (life latest : ℕ) (greatest : Option ℕ) (c : Command) (held after : List Command) (table : HoldTable) → table_of life latest greatest held ≡ table → after ≡ live life latest held ++ c ∷ []
     → table_of life latest (Some c.ticket.0) after ≡ with_command table c
-enter-value life latest greatest c held after table fresh is after_is = rw (← is, after_is, live-enter life latest c held fresh) refl
+enter-value life latest greatest c held after table is after_is = rw (← is, after_is) refl
 
 pub finish-value : (life latest ticket : ℕ) (greatest : Option ℕ) (held after : List Command) (table : HoldTable) → table_of life latest greatest held ≡ table → after ≡ after_stage ticket stage_finished held
     → table_of life latest greatest after ≡ after_finish table ticket
-finish-value life latest ticket greatest held after table is after_is = rw (← is, after_is, live-after_stage life latest latest ticket stage_finished held (omega arith) (λ last. refl)) refl
+finish-value life latest ticket greatest held after table is after_is = rw (← is, after_is) refl
 
-pub send-value : (life latest ticket : ℕ) (now : Millis) (greatest : Option ℕ) (held after : List Command) (table : HoldTable) → table_of life latest greatest held ≡ table → table.latest ≤ now.0
+pub send-value : (life latest ticket : ℕ) (now : Millis) (greatest : Option ℕ) (held after : List Command) (table : HoldTable) → table_of life latest greatest held ≡ table
     → after ≡ after_stage ticket (stage_sent now) held → table_of life now.0 greatest after ≡ after_send table ticket now
-send-value life latest ticket now greatest held after table is later after_is =
-    let time : latest ≤ now.0 = time-of life latest now.0 greatest held table is later in
-    rw (← is, after_is, live-after_stage life latest now.0 ticket (stage_sent now) held time (λ last. refl)) refl
+send-value life latest ticket now greatest held after table is after_is = rw (← is, after_is) refl
 
-pub time-value : (life latest now : ℕ) (greatest : Option ℕ) (held after : List Command) (table : HoldTable) → table_of life latest greatest held ≡ table → table.latest ≤ now → after ≡ live life now held
-    → table_of life now greatest after ≡ at_time table now
-time-value life latest now greatest held after table is later after_is =
-    let time : latest ≤ now = time-of life latest now greatest held table is later in
-    rw (← is, after_is, live-live life latest now held time, live-live life now now held (omega arith)) refl
-
-pub enter-recalls : (life latest : ℕ) (greatest : Option ℕ) (c : Command) (held after : List Command) (table : HoldTable) → table_of life latest greatest held ≡ table → after ≡ held ++ c ∷ []
+pub enter-recalls : (life latest : ℕ) (greatest : Option ℕ) (c : Command) (held after : List Command) (table : HoldTable) → table_of life latest greatest held ≡ table → after ≡ live life latest held ++ c ∷ []
     → (entered : List Command) → Recalls table entered → live life latest after ≡ live life latest (entered ++ c ∷ [])
 enter-recalls life latest greatest c held after table is after_is entered recalls =
-    rw after_is (recalls-enter life latest c held entered (recalls-of life latest greatest held table is entered recalls))
+    let known : live life latest held ≡ live life latest entered = recalls-of life latest greatest held table is entered recalls in
+    rw after_is (recalls-enter life latest c (live life latest held) entered (live-live life latest latest held (omega arith) ∙ known))
 
 pub finish-recalls : (life latest ticket : ℕ) (greatest : Option ℕ) (held after : List Command) (table : HoldTable) → table_of life latest greatest held ≡ table → after ≡ after_stage ticket stage_finished held
     → (entered : List Command) → Recalls table entered → live life latest after ≡ live life latest (after_stage ticket stage_finished entered)
@@ -77,40 +68,39 @@ send-recalls life latest ticket now greatest held after table is later after_is 
     let known : live life latest held ≡ live life latest entered = recalls-of life latest greatest held table is entered recalls in
     rw after_is (recalls-after_stage life latest now.0 ticket (stage_sent now) held entered (time-of life latest now.0 greatest held table is later) (λ last. refl) known)
 
-pub time-recalls : (life latest now : ℕ) (greatest : Option ℕ) (held after : List Command) (table : HoldTable) → table_of life latest greatest held ≡ table → table.latest ≤ now → after ≡ live life now held
-    → (entered : List Command) → Recalls table entered → live life now after ≡ live life now entered
-time-recalls life latest now greatest held after table is later after_is entered recalls =
+pub time-recalls : (life latest now : ℕ) (greatest : Option ℕ) (held : List Command) (table : HoldTable) → table_of life latest greatest held ≡ table → table.latest ≤ now
+    → (entered : List Command) → Recalls table entered → live life now held ≡ live life now entered
+time-recalls life latest now greatest held table is later entered recalls =
     let known : live life latest held ≡ live life latest entered = recalls-of life latest greatest held table is entered recalls in
-    rw after_is (live-live life now now held (omega arith) ∙ live-same life latest now held entered (time-of life latest now greatest held table is later) known)
+    live-same life latest now held entered (time-of life latest now greatest held table is later) known
 
 -- the clear commands of the list that is kept are those of all that were entered
-pub clear-recalls : (life latest now : ℕ) (greatest : Option ℕ) (held after : List Command) (table : HoldTable) → table_of life latest greatest held ≡ table → table.latest ≤ now → after ≡ live life now held
-    → (entered : List Command) → Recalls table entered → clear_tickets life now after ≡ clear_tickets table.life now entered
-clear-recalls life latest now greatest held after table is later after_is entered recalls =
+clear-recalls : (life latest now : ℕ) (greatest : Option ℕ) (held : List Command) (table : HoldTable) → table_of life latest greatest held ≡ table → table.latest ≤ now
+    → (entered : List Command) → Recalls table entered → clear_tickets life now held ≡ clear_tickets table.life now entered
+clear-recalls life latest now greatest held table is later entered recalls =
     let known : live life latest held ≡ live life latest entered = recalls-of life latest greatest held table is entered recalls in
     let same : life ≡ table.life = ap (λ (t : HoldTable). t.life) is in
-    rw (after_is, ← same) (tickets-same life latest now held entered (time-of life latest now greatest held table is later) known)
+    rw (← same) (tickets-same life latest now held entered (time-of life latest now greatest held table is later) known)
 
-pub answer-clear : (life latest now : ℕ) (greatest : Option ℕ) (held after : List Command) (table : HoldTable) → table_of life latest greatest held ≡ table → table.latest ≤ now → after ≡ live life now held
-    → (result : Option Ticket) → result ≡ option_map (λ c. c.ticket) (find (is_clear life now after) after)
+pub answer-clear : (life latest now : ℕ) (greatest : Option ℕ) (held : List Command) (table : HoldTable) → table_of life latest greatest held ≡ table → table.latest ≤ now
+    → (result : Option Ticket) → result ≡ option_map (λ c. c.ticket) (find (is_clear life now held) held)
     → IfSome result (λ ticket. (entered : List Command) → Recalls table entered → Contains (clear_tickets table.life now entered) ticket.0)
-answer-clear life latest now greatest held after table is later after_is None found = tt
-answer-clear life latest now greatest held after table is later after_is (Some ticket) found = λ entered recalls.
+answer-clear life latest now greatest held table is later None found = tt
+answer-clear life latest now greatest held table is later (Some ticket) found = λ entered recalls.
     let P : List ℕ → Type 0 = λ tickets. Contains tickets ticket.0 in
-    subst P (clear-recalls life latest now greatest held after table is later after_is entered recalls) (first-contained (is_clear life now after) after ticket (sym found))
+    subst P (clear-recalls life latest now greatest held table is later entered recalls) (first-contained (is_clear life now held) held ticket (sym found))
 
-pub answer-lowest : (life latest now : ℕ) (greatest : Option ℕ) (held after : List Command) (table : HoldTable) → table_of life latest greatest held ≡ table → table.latest ≤ now → after ≡ live life now held
-    → is_ascending held ≡ true → (result : Option Ticket) → result ≡ option_map (λ c. c.ticket) (find (is_clear life now after) after)
+pub answer-lowest : (life latest now : ℕ) (greatest : Option ℕ) (held : List Command) (table : HoldTable) → table_of life latest greatest held ≡ table → table.latest ≤ now
+    → is_ascending held ≡ true → (result : Option Ticket) → result ≡ option_map (λ c. c.ticket) (find (is_clear life now held) held)
     → IfSome result (λ ticket. (entered : List Command) → Recalls table entered → All (λ other. ticket.0 ≤ other) (clear_tickets table.life now entered))
-answer-lowest life latest now greatest held after table is later after_is ascending None found = tt
-answer-lowest life latest now greatest held after table is later after_is ascending (Some ticket) found = λ entered recalls.
+answer-lowest life latest now greatest held table is later ascending None found = tt
+answer-lowest life latest now greatest held table is later ascending (Some ticket) found = λ entered recalls.
     let P : List ℕ → Type 0 = λ tickets. All (λ other. ticket.0 ≤ other) tickets in
-    let sorted : is_ascending after ≡ true = rw after_is (ascending-filter (λ (c : Command). not (is_past life now c)) held ascending) in
-    subst P (clear-recalls life latest now greatest held after table is later after_is entered recalls) (first-lowest (is_clear life now after) after ticket sorted (sym found))
+    subst P (clear-recalls life latest now greatest held table is later entered recalls) (first-lowest (is_clear life now held) held ticket ascending (sym found))
 
-pub answer-none : (life latest now : ℕ) (greatest : Option ℕ) (held after : List Command) (table : HoldTable) → table_of life latest greatest held ≡ table → table.latest ≤ now → after ≡ live life now held
-    → (result : Option Ticket) → result ≡ option_map (λ c. c.ticket) (find (is_clear life now after) after)
+pub answer-none : (life latest now : ℕ) (greatest : Option ℕ) (held : List Command) (table : HoldTable) → table_of life latest greatest held ≡ table → table.latest ≤ now
+    → (result : Option Ticket) → result ≡ option_map (λ c. c.ticket) (find (is_clear life now held) held)
     → IfNone result ((entered : List Command) → Recalls table entered → clear_tickets table.life now entered ≡ [])
-answer-none life latest now greatest held after table is later after_is (Some ticket) found = tt
-answer-none life latest now greatest held after table is later after_is None found = λ entered recalls.
-    sym (clear-recalls life latest now greatest held after table is later after_is entered recalls) ∙ none-passes (is_clear life now after) after (sym found)
+answer-none life latest now greatest held table is later (Some ticket) found = tt
+answer-none life latest now greatest held table is later None found = λ entered recalls.
+    sym (clear-recalls life latest now greatest held table is later entered recalls) ∙ none-passes (is_clear life now held) held (sym found)

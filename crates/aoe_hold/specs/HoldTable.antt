@@ -9,8 +9,8 @@ use Rattle.aoe_hold.specs.declared.command.Kind.{Kind}
 use Rattle.aoe_hold.specs.declared.command.Stage.TheVariants.{Unsent}
 use Rattle.aoe_hold.specs.Commands.{after_stage, live, stage_finished, stage_sent, unsent_count}
 
--- how long a frame can arrive, the latest time that was told, the greatest ticket entered, and of the
--- commands entered, in their order, those that a later answer can go by
+-- how long a frame can arrive, the latest time that was told, the greatest ticket entered, and the commands
+-- that are held, in the order of their tickets
 pub record HoldTable : Type 0 where
   pub life : ℕ
   pub latest : ℕ
@@ -20,29 +20,31 @@ pub record HoldTable : Type 0 where
 abbrev pub no_commands : ℕ → HoldTable
 no_commands life = record { life = life; latest = 0; greatest = None; commands = [] }
 
--- of these commands that were entered, the table has each that a later answer can go by
+-- of these commands that were entered, the table holds each that a later answer can go by
 abbrev pub Recalls : HoldTable → List Command → Type 0
-Recalls table entered = table.commands ≡ live table.life table.latest entered
+Recalls table entered = live table.life table.latest table.commands ≡ live table.life table.latest entered
 
 abbrev pub new_command : Ticket → Kind → Span → Command
 new_command ticket kind span = record { ticket = ticket; kind = kind; span = span; stage = Unsent }
 
+-- a command is entered, and of the others those are held on that a later answer can go by
 abbrev pub with_command : HoldTable → Command → HoldTable
-with_command table c = record table { greatest = Some c.ticket.0; commands = table.commands ++ c ∷ [] }
+with_command table c = record table {
+  greatest = Some c.ticket.0;
+  commands = live table.life table.latest table.commands ++ c ∷ [];
+}
 
 abbrev pub at_time : HoldTable → ℕ → HoldTable
-at_time table now = record table { latest = now; commands = live table.life now table.commands }
+at_time table now = record table { latest = now }
 
 abbrev pub after_send : HoldTable → ℕ → Millis → HoldTable
 after_send table ticket now = record table {
   latest = now.0;
-  commands = live table.life now.0 (after_stage ticket (stage_sent now) table.commands);
+  commands = after_stage ticket (stage_sent now) table.commands;
 }
 
 abbrev pub after_finish : HoldTable → ℕ → HoldTable
-after_finish table ticket = record table {
-  commands = live table.life table.latest (after_stage ticket stage_finished table.commands);
-}
+after_finish table ticket = record table { commands = after_stage ticket stage_finished table.commands }
 
 -- the commands stand in the order of their tickets, and none stands twice
 abbrev pub is_ascending : List Command → Bool

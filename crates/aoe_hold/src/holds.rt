@@ -2,6 +2,7 @@
 ghost use Rattle.std.specs.Prelude.{◌≡◌, ◌+◌, ◌-◌, ◌^◌, ◌<◌, ◌≤◌, nat_eq, true, List, [], ◌∷◌, ◌++◌, length, option_map, position, All, Contains, IfNone, IfSome, OnErr, OnOk};
 ghost use Rattle.std.specs.List.{find, list_any};
 ghost use Rattle.std.specs.Option.{ForSome};
+ghost use Rattle.std.specs.Vec.{vec_capacity, vec_len};
 ghost use Rattle.aoe_hold.specs.Commands.{after_stage, clear_tickets, is_clear, is_unsent, keeps_back, live, stage_finished, stage_sent, unsent_count};
 ghost use Rattle.aoe_hold.specs.HoldTable.{after_finish, after_send, at_time, new_command, no_commands, with_command, Recalls};
 
@@ -43,15 +44,17 @@ fn place_of(commands: &[Command], ticket: Ticket) -> Option<usize>
 
 /// Drops the commands that no later answer can go by.
 fn forget(commands: &mut Vec<Command>, life: Millis, now: Millis)
-    ensures { commands.new.items ≡ live life.0 now.0 commands.old.items }
+    ensures live { commands.new.items ≡ live life.0 now.0 commands.old.items }
+    ensures fewer { vec_len commands.new ≤ vec_len commands.old }
+    ensures capacity { vec_capacity commands.new ≡ vec_capacity commands.old }
 {
     commands.retain(|command| !command.is_past(life, now));
 }
 
 /// The commands of one host at one device, with their order.
 ///
-/// A command that is finished and of which no frame can arrive any more is forgotten: no answer
-/// goes by it. `enter` makes all the room: no other call takes memory.
+/// `enter` makes all the room, and drops what is finished and of which no frame can arrive any
+/// more: no answer goes by it. No other call takes memory.
 #[derive(Drop)]
 pub struct Holds {
     /// How long a frame can arrive after it was sent.
@@ -72,7 +75,6 @@ pub struct Holds {
 
 impl Model for Holds {
     ghost use Rattle.std.specs.Prelude.{option_map};
-    ghost use Rattle.aoe_hold.specs.Commands.{live};
     ghost use Rattle.aoe_hold.specs.HoldTable.{HoldTable, IsSound};
 
     ghost Value = { HoldTable };
@@ -81,7 +83,7 @@ impl Model for Holds {
       life = holds.life.0;
       latest = holds.latest.0;
       greatest = option_map (λ t. t.0) holds.greatest;
-      commands = live holds.life.0 holds.latest.0 holds.commands.items;
+      commands = holds.commands.items;
     } };
 
     ghost invariant = { λ holds.
@@ -102,7 +104,8 @@ impl Holds {
         }
     }
 
-    /// Enters a command. Its ticket is above all that were entered.
+    /// Enters a command. Its ticket is above all that were entered. The commands that are past are
+    /// dropped.
     pub fn enter(&mut self, ticket: Ticket, kind: Kind, span: Span) -> Result<(), NoMemory>
         requires above { ForSome self.old.greatest (λ greatest. greatest < ticket.0) }
         requires room { unsent_count self.old.commands < 2 ^ 32 - 1 }
@@ -111,15 +114,16 @@ impl Holds {
             → Recalls self.new (entered ++ new_command ticket kind span ∷ [])) }
         ensures err { OnErr result (self.new ≡ self.old) }
     {
-        let command = Command {
+        if self.commands.reserve(1).is_err() {
+            return Err(NoMemory);
+        }
+        forget(&mut self.commands, self.life, self.latest);
+        self.commands.push_reserved(Command {
             ticket,
             kind,
             span,
             stage: Stage::Unsent,
-        };
-        if self.commands.push(command).is_err() {
-            return Err(NoMemory);
-        }
+        });
         self.greatest = Some(ticket);
         self.unsent += 1;
         Ok(())
@@ -140,10 +144,8 @@ impl Holds {
         ensures recalls { (entered : List Command) → Recalls self.old entered
             → Recalls self.new entered }
     {
-        let life = self.life;
         self.latest = now;
-        forget(&mut self.commands, life, now);
-        first_clear(&self.commands, life, now)
+        first_clear(&self.commands, self.life, now)
     }
 
     /// Takes note that a frame of a command was sent, for the first time or again. A finished

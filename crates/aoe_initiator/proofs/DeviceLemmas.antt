@@ -9,10 +9,9 @@ use Rattle.aoe_base.specs.declared.counted.Millis.{Millis}
 use Rattle.aoe_base.specs.declared.counted.PathNo.{PathNo}
 use Rattle.aoe_base.specs.declared.counted.Ticket.{Ticket}
 use Rattle.aoe_hold.specs.declared.command.Command.{Command}
-use Rattle.aoe_hold.specs.declared.command.Stage.TheVariants.{Unsent}
 use Rattle.aoe_hold.specs.Commands.{after_stage, clear_tickets, live, stage_finished, stage_sent, unsent_count}
 use Rattle.aoe_hold.specs.HoldTable.{after_finish, after_send, at_time, new_command, with_command, HoldTable, Recalls}
-use Rattle.aoe_hold.proofs.LiveLemmas.{count-live, live-after_stage, live-enter, live-live}
+use Rattle.aoe_hold.proofs.LiveLemmas.{count-same, live-live, live-same, recalls-after_stage, recalls-enter}
 use Rattle.aoe_initiator.specs.declared.device.Arrival.{Arrival}
 use Rattle.aoe_initiator.specs.declared.device.Device.{Device}
 use Rattle.aoe_initiator.specs.declared.op.Op.{Op}
@@ -25,18 +24,16 @@ use Rattle.aoe_initiator.proofs.LogLemmas.{end-keeps, entered-elsewhere, entered
 -- ---- one device
 
 hold-sent : (t : HoldTable) (entered : List Command) (ticket : ℕ) (now : Millis) → t.latest ≤ now.0 → Recalls t entered → Recalls (after_send t ticket now) (after_stage ticket (stage_sent now) entered)
-hold-sent t entered ticket now later recalls =
-    ap (λ (l : List Command). live t.life now.0 (after_stage ticket (stage_sent now) l)) recalls ∙ live-after_stage t.life t.latest now.0 ticket (stage_sent now) entered later (λ last. refl)
+hold-sent t entered ticket now later recalls = recalls-after_stage t.life t.latest now.0 ticket (stage_sent now) t.commands entered later (λ last. refl) recalls
 
 hold-finished : (t : HoldTable) (entered : List Command) (ticket : ℕ) → Recalls t entered → Recalls (after_finish t ticket) (after_stage ticket stage_finished entered)
-hold-finished t entered ticket recalls =
-    ap (λ (l : List Command). live t.life t.latest (after_stage ticket stage_finished l)) recalls ∙ live-after_stage t.life t.latest t.latest ticket stage_finished entered (omega arith) (λ last. refl)
+hold-finished t entered ticket recalls = recalls-after_stage t.life t.latest t.latest ticket stage_finished t.commands entered (omega arith) (λ last. refl) recalls
 
 hold-at : (t : HoldTable) (entered : List Command) (now : ℕ) → t.latest ≤ now → Recalls t entered → Recalls (at_time t now) entered
-hold-at t entered now later recalls = ap (live t.life now) recalls ∙ live-live t.life t.latest now entered later
+hold-at t entered now later recalls = live-same t.life t.latest now t.commands entered later recalls
 
-hold-entered : (t : HoldTable) (entered : List Command) (c : Command) → c.stage ≡ Unsent → Recalls t entered → Recalls (with_command t c) (entered ++ c ∷ [])
-hold-entered t entered c fresh recalls = ap (λ (l : List Command). l ++ c ∷ []) recalls ∙ sym (live-enter t.life t.latest c entered fresh)
+hold-entered : (t : HoldTable) (entered : List Command) (c : Command) → Recalls t entered → Recalls (with_command t c) (entered ++ c ∷ [])
+hold-entered t entered c recalls = recalls-enter t.life t.latest c (live t.life t.latest t.commands) entered (live-live t.life t.latest t.latest t.commands (omega arith) ∙ recalls)
 
 recalls-of : (t : HoldTable) (one other : List Command) → one ≡ other → Recalls t one → Recalls t other
 recalls-of t one other same recalls = recalls ∙ ap (live t.life t.latest) same
@@ -142,7 +139,7 @@ pub recall-entered : (life n k : ℕ) (cs : List HostCommand) (t : Ticket) (devi
 recall-entered life n k cs t device op [] place recalls = recalls
 recall-entered life n zero cs t device op (d ∷ devices) place recalls = (
   recalls.0,
-  recalls-of (with_command d.holds (new_command t (kind_of op) (span_of op))) _ _ (sym (entered-submitted n cs t device op (omega (arith, place)))) (hold-entered d.holds (entered_at n cs) (new_command t (kind_of op) (span_of op)) refl recalls.1),
+  recalls-of (with_command d.holds (new_command t (kind_of op) (span_of op))) _ _ (sym (entered-submitted n cs t device op (omega (arith, place)))) (hold-entered d.holds (entered_at n cs) (new_command t (kind_of op) (span_of op)) recalls.1),
   recall-elsewhere-entered life (n + 1) cs t device op devices (omega (arith, place)) recalls.2,
 )
 recall-entered life n (suc k) cs t device op (d ∷ devices) place recalls = (
@@ -259,7 +256,7 @@ pub held-recalled : (life : ℕ) (cs : List HostCommand) (n k : ℕ) (devices : 
 held-recalled life cs n k [] recalls inside = absurd (omega (arith, inside))
 held-recalled life cs n zero (d ∷ devices) recalls inside =
     let same : n + zero ≡ n = omega arith in
-    rw same (ap unsent_count recalls.1 ∙ count-live d.holds.life d.holds.latest (entered_at n cs))
+    rw same (count-same d.holds.life d.holds.latest d.holds.commands (entered_at n cs) recalls.1)
 held-recalled life cs n (suc k) (d ∷ devices) recalls inside =
     let same : n + suc k ≡ n + 1 + k = omega arith in
     rw same (held-recalled life cs (n + 1) k devices recalls.2 (omega (arith, inside)))

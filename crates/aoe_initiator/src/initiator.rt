@@ -41,7 +41,8 @@ use std::alloc::Global;
 use std::collections::VecDeque;
 use std::marker::Model;
 
-/// The most commands that wait at a device for their first send.
+/// The most commands that wait at a device for their first send: a limit of this program, so that
+/// what a host holds is bounded.
 pub const MAX_HELD: u32 = 65_536;
 
 /// The core of a host. It asks no clock and sends nothing: its user tells it the time, sends the
@@ -262,7 +263,7 @@ impl Initiator {
         requires op { CanSubmit op.now }
         ensures value { result ≡ submit_refusal self.now device.0 op.now }
         ensures spelled { IfNone result (CanSpell op.now) }
-        ensures room { IfNone result (held_at self.now device.0 < MAX_HELD) }
+        ensures room { IfNone result (held_at self.now device.0 < 65536) }
     {
         let device = &self.devices[device.0 as usize];
         if let Some(refusal) = op_refusal(&device.about, op) {

@@ -1,6 +1,23 @@
-//! The host's side of ATA over Ethernet: the operations of a host, the frames that ask for them,
-//! what the responses say, and the core that decides what is sent and which response ends a
-//! command.
+//! The host's side of ATA over Ethernet, without sockets and without a clock: which frame a host
+//! may send next, and which response ends a command.
+//!
+//! A host is an `Initiator`. It is made by `new`, and `attach` tells it of each device. From then
+//! on its user calls, in any order and as often as there is cause:
+//!
+//! 1. `submit` with an operation for a device. It gets a ticket, or is handed back with the reason.
+//! 2. `advance` with the time. Commands that nobody answered for too long end then.
+//! 3. `pull` until it gives nothing, and sends each frame that it gives. After each of the other
+//!    calls there may be more to send.
+//! 4. `receive` with each frame that comes.
+//! 5. `take_done` until it gives nothing: the commands that ended, each with its outcome.
+//!
+//! Only `new`, `attach` and `submit` take memory. Commands at one device that conflict keep their
+//! order (`aoe_hold`), frames that aren't answered are repeated (`aoe_flight`), and each goes on
+//! the next path that answers (`aoe_paths`).
+//!
+//! A host doesn't find devices: its user says which there are, how long they are and how many
+//! sectors they take in one command. It doesn't split what is longer, and it doesn't ask again
+//! what a device refused.
 #![tactic(auto)]
 
 mod device;

@@ -13,7 +13,7 @@ use arrayvec::ArrayVec;
 /// The most directives of a mask list edit, and the most addresses of a reserve list.
 pub const MAX_DIRS: usize = 64;
 
-/// How many bytes a sector has.
+/// How many bytes a sector has (AoEr11, "ATA command": data comes in sectors of 512 bytes).
 pub(crate) const SECTOR_LEN: usize = 512;
 
 /// One change of a mask list: the address is added, or it is taken out.

@@ -11,10 +11,10 @@ use aoe_ata::{AFLAG_EXTENDED, AFLAG_WRITE, AtaArgs, CommandCode, write_args};
 use aoe_base::{Mac, Span, TargetId};
 use aoe_frame::{Frame, Header, append, pad, write_header};
 
-/// DCmd: the address is added.
+/// DCmd: the address is added (AoEr11, "MAC Mask List").
 const DIR_ADD: u8 = 1;
 
-/// DCmd: the address is taken out.
+/// DCmd: the address is deleted (AoEr11, "MAC Mask List").
 const DIR_DELETE: u8 = 2;
 
 /// The registers of a command on these sectors.

@@ -7,7 +7,8 @@ use aoe_base::Millis;
 use aoe_flight::Flying;
 use aoe_paths::MAX_TIMEOUT;
 
-/// The wait doesn't grow any more after so many frames, and long before.
+/// The wait doesn't grow any more after so many frames: the least timeout, of 100 ms, doubled ten
+/// times is above a minute already, and `aoe_flight` counts no more frames than these.
 const MOST_DOUBLINGS: u32 = 32;
 
 /// How long the response to a frame is waited for that is sent after so many others of its

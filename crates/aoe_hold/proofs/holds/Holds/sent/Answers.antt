@@ -26,7 +26,7 @@ returns-in-Some-clause-value c =
     let held = c.self.inside.commands.items in
     let command = c.index_mut-command.result.now in
     let found : position (λ (d : Command). nat_eq d.ticket.0 c.args.ticket.0) held ≡ Some c.in-Some.at = search rules in
-    send-value _ _ c.args.ticket.0 c.args.now _ held _ c.args.self.now c.self.view_is c.requires
+    send-value _ _ c.args.ticket.0 c.args.now _ held _ c.args.self.now c.self.view_is
     (stage-set c.args.ticket.0 (stage_sent c.args.now) held c.in-Some.at command c.sent-command.result c.self.invariant.0 found c.index_mut-command.ensures.value c.sent-command.ensures)
 
 pub returns-in-Some-clause-recalls : goal.returns-in-Some-clause-recalls
@@ -41,7 +41,7 @@ pub returns-in_default-clause-value : goal.returns-in_default-clause-value
 returns-in_default-clause-value c =
     let held = c.self.inside.commands.items in
     let missing : position (λ (d : Command). nat_eq d.ticket.0 c.args.ticket.0) held ≡ None = search rules in
-    send-value _ _ c.args.ticket.0 c.args.now _ held held c.args.self.now c.self.view_is c.requires (stage-missing c.args.ticket.0 (stage_sent c.args.now) held missing)
+    send-value _ _ c.args.ticket.0 c.args.now _ held held c.args.self.now c.self.view_is (stage-missing c.args.ticket.0 (stage_sent c.args.now) held missing)
 
 pub returns-in_default-clause-recalls : goal.returns-in_default-clause-recalls
 returns-in_default-clause-recalls c =
