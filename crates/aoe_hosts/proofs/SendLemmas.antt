@@ -188,10 +188,6 @@ module _ (s : Setup) (host : HostSetup) (h : List Entry) (x : NamedHost) (settle
         waiting = pulled.same.3 ∙ settled.waiting;
       }
 
-  -- no room is there for it
-  pub meets-full : (life : ℕ) → IsFull (network life h) f → MeetsFull s h
-  meets-full life full = record { entry = Sent x.name sent.ticket.0 (next_number h) f; may_come = may-come; bytes = f; brings = refl; full = full }
-
 -- the host sent one frame more
 pub sent-more : (s : Setup) (host : HostSetup) (name : ArrayVec ℕ) (h m n : List Entry) (x : NamedHost) (sent : step.Sent) (f : List ℕ) (new : Host) → x.name ≡ name → n ≡ Sent x.name sent.ticket.0 (next_number m) f ∷ m
     → Pulled x.core sent f new → HasSent s name h m × IsSettled s host m x → HasSent s name h n × IsSettled s host n (record { name = x.name; core = new })
@@ -202,6 +198,18 @@ sent-more s host name h m n x sent f new is_name is pulled before =
       lawful = (may-come s host m x before.1 before.0.lawful sent f new pulled, before.0.lawful);
     } in
     subst (λ (l : List Entry). HasSent s name h l × IsSettled s host l (record { name = x.name; core = new })) (sym is) (sends, settled-sent s host m x before.1 before.0.lawful sent f new pulled)
+
+-- there is no room for one frame more
+pub sends-full : (s : Setup) (host : HostSetup) (name : ArrayVec ℕ) (h m : List Entry) (x : NamedHost) (sent : step.Sent) (f : List ℕ) (new : Host) (life : ℕ) → x.name ≡ name
+    → Pulled x.core sent f new → HasSent s name h m × IsSettled s host m x → IsFull (network life m) f → MeetsFull s (SendsSome name h) m
+sends-full s host name h m x sent f new life is_name pulled before full = record {
+  entry = Sent x.name sent.ticket.0 (next_number m) f;
+  called_for = subst (λ (z : ArrayVec ℕ). SendsSome name h (Sent z sent.ticket.0 (next_number m) f ∷ m)) (sym is_name) (sends_one sent.ticket.0 (next_number m) f before.0.sends);
+  may_come = may-come s host m x before.1 before.0.lawful sent f new pulled;
+  bytes = f;
+  brings = refl;
+  full = full;
+}
 
 -- nothing more may be sent
 pub settled-quiet : (s : Setup) (host : HostSetup) (h : List Entry) (x : NamedHost) (new : Host) → IsSettled s host h x → ((log : List Event) → Matches log x.core → IsQuiet x.core (commands log)) → ((log : List Event) → Matches log x.core → Matches log new)

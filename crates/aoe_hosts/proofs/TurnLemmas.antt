@@ -4,12 +4,14 @@ use Rattle.std.specs.Prelude.{Result, Ok, Err, OnErr}
 use Rattle.aoe_initiator.specs.HostLaw.{IsQuiet}
 use Rattle.aoe_history.specs.declared.entry.Entry.{Entry}
 use Rattle.aoe_history.specs.Commands.{commands_of, host_after}
-use Rattle.aoe_history.specs.Groups.{told, GivesUp, Got, Turn, TurnSome}
+use Rattle.aoe_history.specs.Groups.{told, GivesUp, Got, SendsSome, Turn, TurnSome}
 use Rattle.aoe_history.specs.Lawful.{IsLawful}
 use Rattle.aoe_history.specs.Setup.{HostSetup, Setup}
 use Rattle.aoe_hosts.specs.Host.{Awaits, NamedHost}
 use Rattle.aoe_hosts.specs.Turns.{HasBegun, HasSent, HasTold}
 use Rattle.aoe_hosts.proofs.Called.{is-called}
+use Rattle.aoe_run.specs.Run.{MeetsFull}
+use Rattle.aoe_run.proofs.FullLemmas.{full-more}
 
 -- nothing more is told or sent
 pub turn-over : (s : Setup) (host : HostSetup) (got : Option Got) (h mid m : List Entry) (x : NamedHost) → HasTold s host got h mid x → HasSent s x.name mid m → IsQuiet (host_after s host m) (commands_of host m) → Turn s host got h m
@@ -27,6 +29,12 @@ turn-over s host got h mid m x tells sent quiet = record {
 pub turn-sends : (s : Setup) (host : HostSetup) (got : Option Got) (h mid m : List Entry) (x : NamedHost) → HasTold s host got h mid x → HasSent s x.name mid m → TurnSome host got h m × IsLawful s m
 turn-sends s host got h mid m x tells sent =
     ((x.name, is-called s x.name host tells.settled.is.called, inr (inr (mid, tells.gives_up, tells.none_late, sent.sends))), sent.lawful)
+
+-- the room that is lacking is that for a frame of the turn
+pub turn-full : (s : Setup) (host : HostSetup) (got : Option Got) (h mid m : List Entry) (x : NamedHost) → HasTold s host got h mid x → MeetsFull s (SendsSome x.name mid) m → MeetsFull s (TurnSome host got h) m
+turn-full s host got h mid m x tells full =
+    full-more s (SendsSome x.name mid) (TurnSome host got h) m
+    (λ n sends. (x.name, is-called s x.name host tells.settled.is.called, inr (inr (mid, tells.gives_up, tells.none_late, sends)))) full
 
 -- something was told
 pub turn-tells : (s : Setup) (host : HostSetup) (got : Option Got) (h m : List Entry) (x : NamedHost) → Awaits s host got h x → HasBegun s host got x.name h m → TurnSome host got h m × IsLawful s m

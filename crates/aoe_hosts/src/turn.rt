@@ -2,7 +2,7 @@
 ghost use Rattle.std.specs.Prelude.{◌≡◌, Option, Err, List, [], OnErr, OnOk};
 ghost use Rattle.aoe_history.specs.declared.entry.Entry.TheVariants.{Done as Finished};
 ghost use Rattle.aoe_history.specs.Commands.{commands_of, host_after};
-ghost use Rattle.aoe_history.specs.Groups.{Got, Turn, TurnSome};
+ghost use Rattle.aoe_history.specs.Groups.{Got, SendsSome, Turn, TurnSome};
 ghost use Rattle.aoe_history.specs.Lawful.{IsLawful};
 ghost use Rattle.aoe_history.specs.Setup.{HostSetup, Setup};
 ghost use Rattle.aoe_initiator.specs.declared.outcome.Done.{Done};
@@ -73,7 +73,7 @@ impl NamedHost {
         ensures ok { OnOk result ((s : Setup) (host : HostSetup) → IsSettled s host run.old.entries self.old → IsLawful s run.old.entries
             → IsSettled s host run.new.entries self.new × IsQuiet (host_after s host run.new.entries) (commands_of host run.new.entries)) }
         ensures full { result ≡ Err NetRefusal.Full → (s : Setup) (host : HostSetup) → IsSettled s host run.old.entries self.old
-            → IsLawful s run.old.entries → MeetsFull s run.new.entries }
+            → IsLawful s run.old.entries → MeetsFull s (SendsSome self.old.name run.old.entries) run.new.entries }
     {
         'frames: while let Some(sent) = self.core.pull(out) {
             match run.send(&self.name, sent.ticket, out.as_slice()) {
@@ -96,7 +96,7 @@ impl NamedHost {
         ensures err { OnErr result ((s : Setup) (host : HostSetup) (got : Option Got) → Awaits s host got run.old.entries self.old
             → IsLawful s run.old.entries → TurnSome host got run.old.entries run.new.entries × IsLawful s run.new.entries) }
         ensures full { result ≡ Err NetRefusal.Full → (s : Setup) (host : HostSetup) (got : Option Got) → Awaits s host got run.old.entries self.old
-            → IsLawful s run.old.entries → MeetsFull s run.new.entries }
+            → IsLawful s run.old.entries → MeetsFull s (TurnSome host got run.old.entries) run.new.entries }
     {
         match self.catch_up(run) {
             Ok(()) => self.send_all(run, out),

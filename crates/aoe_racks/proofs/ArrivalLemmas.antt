@@ -28,6 +28,7 @@ use Rattle.aoe_history.specs.Setup.{AreApart, Setup, SlotSetup}
 use Rattle.aoe_history.specs.ShelfLaw.{KeepsArming, KeepsShelfLaw}
 use Rattle.aoe_history.proofs.FrameLemmas.{number-within}
 use Rattle.aoe_run.specs.Run.{MeetsFull}
+use Rattle.aoe_run.proofs.FullLemmas.{full-more}
 use Rattle.aoe_racks.specs.declared.rack.Stops.{Stops}
 use Rattle.aoe_racks.specs.Arrival.{noted, stop_at, ComesToSlot, GoesOn, IsCut, IsReached, IsReplyFull}
 use Rattle.aoe_racks.specs.Rack.{IsServing, IsStanding, MemoryRack, Serves, Stands}
@@ -74,6 +75,16 @@ noted-number None heard.Silent next out = tt
 noted-number None (heard.Replied e) next out = refl
 
 -- ONE SLOT
+
+drop-at : (slots : List SlotSetup) (i : ℕ) (slot : SlotSetup) → slice_get slots i ≡ Some slot → drop i slots ≡ slot ∷ drop (suc i) slots
+drop-at [] i slot e = absurd (cc)
+drop-at (x ∷ xs) zero slot e = ap (λ z. z ∷ xs) (same_Some x slot e)
+drop-at (x ∷ xs) (suc i) slot e = drop-at xs i slot e
+
+-- it may be that it comes to no slot more
+some-here : (number : ℕ) (f : List ℕ) (shelf slots : List SlotSetup) (m : List Entry) → ArriveAtSome number f shelf slots m m
+some-here number f shelf [] m = refl
+some-here number f shelf (slot ∷ slots) m = inl refl
 
 pub same-or : (a b : ℕ) → (a ≡ b) ⊎ (a ≢ b)
 same-or zero zero = inl refl
@@ -178,11 +189,14 @@ module _ (s : Setup) (slots : List SlotSetup) (i number : ℕ) (f : List ℕ) (h
         let mine : dev ≡ c.before.station.id = subst (λ (o : Option (Mounted Memory Memory)). IsSomeAnd o (λ t. dev ≡ t.station.id)) c.found p in
         sym (mine ∙ ap (λ z. z.id) served.station)
 
-    meets-full : (e : Effect) → stop_at stops w ≡ None → w ≡ heard.Replied e → IsFull (network s.life h) out → MeetsFull s h
+    meets-full : (e : Effect) → stop_at stops w ≡ None → w ≡ heard.Replied e → IsFull (network s.life h) out → MeetsFull s (ArriveAtSome number f slots (drop i slots) h) h
     meets-full e none is full =
         let g : GoesOn s slots i number f h (Arrived slot.station.id number (noted None w (next_number h) out) ∷ h) y = goes-on none in
+        let fate : Fate = Replied e (next_number h) out in
         record {
-          entry = Arrived slot.station.id number (Replied e (next_number h) out);
+          entry = Arrived slot.station.id number fate;
+          called_for = subst (λ (z : List SlotSetup). ArriveAtSome number f slots z h (Arrived slot.station.id number fate ∷ h)) (sym (drop-at slots i slot found))
+              (inr (inl (fate, (λ e. absurd (cc)), some-here number f slots (drop (suc i) slots) (Arrived slot.station.id number fate ∷ h))));
           may_come = subst (λ v. MayCome s h (Arrived slot.station.id number (noted None v (next_number h) out))) is g.reached.lawful.0;
           bytes = out;
           brings = refl;
@@ -198,10 +212,10 @@ module _ (s : Setup) (slots : List SlotSetup) (i number : ℕ) (f : List ℕ) (h
       subst (λ (z : List Entry). ComesToSlot s slots i number f stop h z y) entry (comes slot.0 slot.1 stop (sym is))
 
   -- or its reply is the next frame, for which there is no room
-  pub meets-no-room : (life : ℕ) (stop : Option Loss) → stop ≡ stop_at stops w → IsReplyFull stop w (network life h) out → MeetsFull s h
+  pub meets-no-room : (life : ℕ) (stop : Option Loss) → stop ≡ stop_at stops w → IsReplyFull stop w (network life h) out → MeetsFull s (ArriveAtSome number f slots (drop i slots) h) h
   meets-no-room life stop is p = go stop w is refl p
     where
-      go : (o : Option Loss) (v : Heard) → o ≡ stop_at stops w → w ≡ v → IsReplyFull o v (network life h) out → MeetsFull s h
+      go : (o : Option Loss) (v : Heard) → o ≡ stop_at stops w → w ≡ v → IsReplyFull o v (network life h) out → MeetsFull s (ArriveAtSome number f slots (drop i slots) h) h
       go None (heard.Replied e) is same p = let slot = slot-here in meets-full slot.0 slot.1 e (sym is) same p
       go None heard.Ignored is same p = absurd p
       go None heard.Silent is same p = absurd p
@@ -226,15 +240,10 @@ module _ (i : ℕ) (f : List ℕ) (w : Heard) (out : List ℕ) (a b : Rack Memor
     pub turn-comes : (m : List Entry) → m ≡ Arrived dev number (noted stop w (next_number h) out) ∷ h → ComesToSlot s slots i number f stop h m (record { shelf = b; stops = items })
     turn-comes m e = comes-to s slots i number f h (record { shelf = a; stops = items }) (record { shelf = b; stops = items }) w out (get_or xs i d) before z.change refl stops-at dev stop m z.name z.is e
 
-    pub turn-full : (life : ℕ) → IsReplyFull stop w (network life h) out → MeetsFull s h
+    pub turn-full : (life : ℕ) → IsReplyFull stop w (network life h) out → MeetsFull s (ArriveAtSome number f slots (drop i slots) h) h
     turn-full life p = meets-no-room s slots i number f h (record { shelf = a; stops = items }) (record { shelf = b; stops = items }) w out (get_or xs i d) before z.change refl stops-at life stop z.is p
 
 -- ONE SLOT AFTER THE OTHER
-
-drop-at : (slots : List SlotSetup) (i : ℕ) (slot : SlotSetup) → slice_get slots i ≡ Some slot → drop i slots ≡ slot ∷ drop (suc i) slots
-drop-at [] i slot e = absurd (cc)
-drop-at (x ∷ xs) zero slot e = ap (λ z. z ∷ xs) (same_Some x slot e)
-drop-at (x ∷ xs) (suc i) slot e = drop-at xs i slot e
 
 -- the power wasn't lost
 pub goes-of : (o : Option Loss) (s : Setup) (slots : List SlotSetup) (i number : ℕ) (f : List ℕ) (h m : List Entry) (x : MemoryRack) → ((how : Loss) → o ≡ Some how → ⊥) → ComesToSlot s slots i number f o h m x
@@ -266,12 +275,12 @@ module _ (s : Setup) (slots : List SlotSetup) (i number : ℕ) (f : List ℕ) (h
   pub passes-all : length slots ≤ i → ArriveAtEach number f slots slots h m
   passes-all le = p.each m (subst (λ (z : List SlotSetup). ArriveAtEach number f slots z m m) (sym (drop_all i slots le)) refl)
 
-  some-here : (l : List SlotSetup) → ArriveAtSome number f slots l m m
-  some-here [] = refl
-  some-here (slot ∷ l) = inl refl
+  -- no room for the reply of a slot
+  pub passes-full : (n : List Entry) → MeetsFull s (ArriveAtSome number f slots (drop i slots) m) n → MeetsFull s (ArriveAtSome number f slots slots h) n
+  passes-full n full = full-more s (ArriveAtSome number f slots (drop i slots) m) (ArriveAtSome number f slots slots h) n p.some full
 
   pub passes-some : ArriveAtSome number f slots slots h m
-  passes-some = p.some m (some-here (drop i slots))
+  passes-some = p.some m (some-here number f slots (drop i slots) m)
 
   pub crashed-each : (how : Loss) (n l : List Entry) (y : MemoryRack) → IsCut s slots i number f how m n y → CrashEach how slots n l → ArriveAtEach number f slots slots h l
   crashed-each how n l y g q = p.each l (subst (λ (z : List SlotSetup). ArriveAtEach number f slots z m l) (sym (drop-at slots i g.slot g.found))

@@ -1,5 +1,5 @@
 //! A frame that comes to a shelf.
-ghost use Rattle.std.specs.Prelude.{List, ◌≡◌, ◌<◌, Err, IfErr, IfOk, OnErr, OnOk, length, map, true};
+ghost use Rattle.std.specs.Prelude.{List, ◌≡◌, ◌<◌, Err, IfErr, IfOk, OnErr, OnOk, drop, length, map, true};
 ghost use Rattle.aoe_history.specs.declared.entry.Entry.TheVariants.{Arrived};
 ghost use Rattle.aoe_history.specs.Frames.{arriving, next_number};
 ghost use Rattle.aoe_history.specs.Groups.{ArriveAtEach, ArriveAtSome};
@@ -90,7 +90,8 @@ impl MemoryRack {
             → ComesToSlot s slots slot number.0 frame.now stop run.old.entries run.new.entries self.new) }
         ensures err { OnErr result (run.new ≡ run.old) }
         ensures full { result ≡ Err NetRefusal.Full → (s : Setup) (slots : List SlotSetup)
-            → IsReached s slots number.0 frame.now run.old.entries self.old → MeetsFull s run.new.entries }
+            → IsReached s slots number.0 frame.now run.old.entries self.old
+            → MeetsFull s (ArriveAtSome number.0 frame.now slots (drop slot slots) run.old.entries) run.new.entries }
         ensures count { length self.new.shelf.targets ≡ length self.old.shelf.targets }
         ensures major { self.new.shelf.major ≡ self.old.shelf.major }
         ensures stations { map (λ t. t.station) self.new.shelf.targets ≡ map (λ t. t.station) self.old.shelf.targets }
@@ -124,7 +125,8 @@ impl MemoryRack {
             → ArriveAtSome number.0 frame.now slots slots run.old.entries run.new.entries × IsLawful s run.new.entries) }
         ensures full { result ≡ Err NetRefusal.Full → (s : Setup) (slots : List SlotSetup) → AreSlots s slots
             → Serves slots run.old.entries self.old → IsLawful s run.old.entries
-            → arriving s.life run.old.entries number.0 ≡ Some frame.now → MeetsFull s run.new.entries }
+            → arriving s.life run.old.entries number.0 ≡ Some frame.now
+            → MeetsFull s (ArriveAtSome number.0 frame.now slots slots run.old.entries) run.new.entries }
         ensures major { self.new.shelf.major ≡ self.old.shelf.major }
         ensures stations { map (λ t. t.station) self.new.shelf.targets ≡ map (λ t. t.station) self.old.shelf.targets }
     {

@@ -88,6 +88,8 @@ impl MemoryRack {
     /// Each target in turn loses its power, and is mounted again with what `how` leaves.
     pub fn crash(&mut self, run: &mut Run, how: Loss) -> Result<(), NoMemory>
         ensures life { run.new.life ≡ run.old.life }
+        ensures restarts { RestartEach how self.old.shelf.targets self.new.shelf.targets }
+        ensures found { OnOk result (run.new.entries ≡ with_crashes how self.new.shelf.targets run.old.entries) }
         ensures ok { OnOk result ((s : Setup) (slots : List SlotSetup) → AreSlots s slots → Stands slots run.old.entries self.old
             → IsLawful s run.old.entries
             → CrashEach how slots run.old.entries run.new.entries × IsLawful s run.new.entries × Serves slots run.new.entries self.new) }

@@ -1,10 +1,9 @@
 -- Events that come one after the other.
-use Rattle.std.proofs.Common.{◌≡◌, ◌∙◌, ◌+◌, ◌≤◌, ℕ, zero, suc, List, [], ◌∷◌, length, take, Some, None, refl, sym, subst, arith}
+use Rattle.std.proofs.Common.{◌≡◌, ◌∙◌, ◌+◌, ◌≤◌, ◌<◌, if◌then◌else◌, nat_le, Bool, true, false, ℕ, zero, suc, List, [], ◌∷◌, length, take, Some, None, refl, sym, subst, arith}
 use Rattle.std.specs.Prelude.{slice_get}
+use Rattle.std.proofs.lemmas.Bool.Decides.{nat_tests}
 use Rattle.std.proofs.lemmas.List.{take_all}
 use Rattle.aoe_history.specs.declared.entry.Entry.{Entry}
-use Rattle.aoe_history.specs.Lawful.{IsLawful}
-use Rattle.aoe_history.specs.Reading.{HasReadLaw}
 use Rattle.aoe_history.specs.Setup.{Setup}
 use Rattle.aoe_layout.specs.Layout.{setup_of}
 use Rattle.aoe_run.specs.Run.{MeetsFull}
@@ -12,11 +11,13 @@ use Rattle.aoe_script.specs.declared.event.Event.{Event}
 use Rattle.aoe_script.specs.declared.setup.Setup.{Setup as Line}
 use Rattle.aoe_script.specs.Lines.{ScriptLines}
 use Rattle.aoe_world.specs.Schedule.{Comes, ComesSome}
-use Rattle.aoe_world.specs.World.{Stepped}
-use Rattle.aoe_replay.specs.declared.end.ReplayEnd.{ReplayEnd}
-use Rattle.aoe_replay.specs.declared.end.ReplayEnd.TheVariants.{Ended, SourceFault, SinkFault, NoMemory, Script, Limit}
-use Rattle.aoe_replay.specs.declared.end.ReplayLimit.TheVariants.{ScriptBytes, Events, Frames, FrameBytes}
-use Rattle.aoe_replay.specs.Replay.{EndsAt, Filled, Plays, Stops}
+use Rattle.aoe_world.specs.declared.refusal.WorldRefusal.{WorldRefusal}
+use Rattle.aoe_world.specs.declared.refusal.WorldRefusal.TheVariants as refused
+use Rattle.aoe_world.specs.declared.refusal.WorldRefusal.TheVariants.{NetFull}
+use Rattle.aoe_world.specs.World.{IsRefusedAt, Stepped}
+use Rattle.aoe_replay.specs.declared.end.ReplayEnd.TheVariants.{Limit}
+use Rattle.aoe_replay.specs.declared.end.ReplayLimit.TheVariants.{Frames, FrameBytes}
+use Rattle.aoe_replay.specs.Replay.{end_of, Filled, IsSound, Plays, Stops}
 
 module _ (s : Setup) (lines : List Line) where
   plays_on : (events : List Event) (i : ℕ) (event : Event) (cursor : ℕ) (h : List Entry) (middle : ℕ) (m : List Entry) (behind : ℕ) (later : List Entry)
@@ -67,12 +68,15 @@ all_played script i world played all =
 -- of the next a part came
 module _ (script : ScriptLines) (i : ℕ) (old new : Stepped) (event : Event) (before : IsPlayed script i old) (is : slice_get script.events i ≡ Some event)
     (begins : ComesSome (setup_of old.lines) old.lines event old.cursor old.entries new.entries) (lines : new.lines ≡ old.lines)
-    (lawful : IsLawful (setup_of new.lines) new.entries) (reading : HasReadLaw (setup_of new.lines) new.entries) where
-  abbrev filled : MeetsFull (setup_of script.setups) new.entries → Filled script
+    (sound : IsSound (setup_of new.lines) new.entries) where
+  abbrev begun : List Line → List Entry → Type 0
+  begun l = ComesSome (setup_of l) l event old.cursor old.entries
+
+  abbrev filled : MeetsFull (setup_of old.lines) (begun old.lines) new.entries → Filled script
   filled full =
-      let P : List Line → Type 0 = λ l. ComesSome (setup_of l) l event old.cursor old.entries new.entries in
-      let Q : List Line → Type 0 = λ l. IsLawful (setup_of l) new.entries in
-      let R : List Line → Type 0 = λ l. HasReadLaw (setup_of l) new.entries in
+      let P : List Line → Type 0 = λ l. begun l new.entries in
+      let F : List Line → Type 0 = λ l. MeetsFull (setup_of l) (begun l) new.entries in
+      let S : List Line → Type 0 = λ l. IsSound (setup_of l) new.entries in
       record {
         count = i;
         event = event;
@@ -82,22 +86,15 @@ module _ (script : ScriptLines) (i : ℕ) (old new : Stepped) (event : Event) (b
         plays = before.plays;
         entries = new.entries;
         begins = subst P before.lines_are begins;
-        sound = record { lawful = subst Q (lines ∙ before.lines_are) lawful; reading = subst R (lines ∙ before.lines_are) reading };
-        full = full;
+        sound = subst S (lines ∙ before.lines_are) sound;
+        full = subst F before.lines_are full;
       }
 
-  stops_so : (end : ReplayEnd) → EndsAt end (setup_of script.setups) new.entries → Stops end script
-  stops_so NoMemory ends = tt
-  stops_so (Limit Frames) ends = (filled ends.0, ends.1)
-  stops_so (Limit FrameBytes) ends = (filled ends.0, ends.1)
-  stops_so (Limit ScriptBytes) ends = ends
-  stops_so (Limit Events) ends = ends
-  stops_so (Script line why) ends = ends
-  stops_so Ended ends = ends
-  stops_so SourceFault ends = ends
-  stops_so SinkFault ends = ends
+  counted : (b : Bool) (frames bytes : ℕ) → nat_le 200000 frames ≡ b → IsRefusedAt (setup_of old.lines) (begun old.lines) new.entries (NetFull frames bytes)
+      → Stops (if b then Limit Frames else Limit FrameBytes) script
+  counted true frames bytes q (count, full) = let n = count.0 in let most : 200000 ≤ frames = grind (arith, nat_tests, q) in (filled full, omega (arith, n, most))
+  counted false frames bytes q (count, full) = let n = count.0 in let below : frames < 200000 = grind (arith, nat_tests, q) in (filled full, omega (arith, n, below))
 
-  pub stops : (end : ReplayEnd) → EndsAt end (setup_of new.lines) new.entries → Stops end script
-  stops end ends =
-      let P : List Line → Type 0 = λ l. EndsAt end (setup_of l) new.entries in
-      stops_so end (subst P (lines ∙ before.lines_are) ends)
+  pub stops : (refusal : WorldRefusal) → IsRefusedAt (setup_of old.lines) (begun old.lines) new.entries refusal → Stops (end_of refusal) script
+  stops refused.NoMemory at = tt
+  stops (NetFull frames bytes) at = counted (nat_le 200000 frames) frames bytes refl at

@@ -1,11 +1,9 @@
 -- What becomes of a script, and of the sink.
-use Rattle.std.proofs.Common.{◌≡◌, ◌∙◌, ◌<◌, ◌≤◌, ℕ, List, [], ◌++◌, length, Option, Some, None, refl, sym, ap, subst, arith}
+use Rattle.std.proofs.Common.{inl, inr, ◌≡◌, ◌∙◌, ◌<◌, ◌≤◌, ℕ, List, [], ◌++◌, length, Option, Some, None, refl, sym, ap, subst, arith}
 use Rattle.std.proofs.lemmas.List.{length-append, append-nil}
 use Rattle.aoe_base.specs.Faults.{Rose}
 use Rattle.aoe_io.specs.Bytes.{Gave, IsEnded}
 use Rattle.aoe_history.specs.declared.entry.Entry.{Entry}
-use Rattle.aoe_history.specs.Lawful.{IsLawful}
-use Rattle.aoe_history.specs.Reading.{HasReadLaw}
 use Rattle.aoe_layout.specs.Layout.{setup_of}
 use Rattle.aoe_script.specs.declared.refusal.ScriptRefusal.{ScriptRefusal}
 use Rattle.aoe_script.specs.declared.setup.Setup.{Setup as Line}
@@ -15,7 +13,7 @@ use Rattle.aoe_script.specs.Lines.{ScriptLines, refusal, script_of}
 use Rattle.aoe_replay.specs.declared.end.ReplayEnd.{ReplayEnd}
 use Rattle.aoe_replay.specs.declared.end.ReplayEnd.TheVariants.{Ended, SourceFault, SinkFault, NoMemory, Script, Limit}
 use Rattle.aoe_replay.specs.declared.end.ReplayLimit.TheVariants.{ScriptBytes, Events, Frames, FrameBytes}
-use Rattle.aoe_replay.specs.Replay.{GaveAll, IsFaultless, IsRead, IsRefusedAs, IsRun, LeavesSink, Played, Plays, Refuses, Replayed, Runs, Spells, Stops, Unread, Writes, text_of}
+use Rattle.aoe_replay.specs.Replay.{GaveAll, IsFaultless, IsRead, IsRefusedAs, IsSound, HasRun, LeavesSink, Played, Plays, Refuses, Replayed, Runs, Spells, Stops, Unread, Writes, text_of}
 use Rattle.aoe_replay.proofs.TextLemmas.{short_none}
 
 pub left_alone : {T : Type 0} (end : ReplayEnd) (a : T) → LeavesSink end a a
@@ -39,24 +37,23 @@ finished SourceFault script held held' run writes = absurd writes
 -- all events of a script came in a world, and the text of its history was written
 pub finished_in : (end : ReplayEnd) (script : ScriptLines) (held held' : Option (List ℕ)) (world : Stepped) (count : ℕ) (entries : List Entry)
     → world.lines ≡ script.setups → Plays (setup_of script.setups) script.setups script.events 1 [] world.cursor world.entries
-    → IsLawful (setup_of world.lines) world.entries → HasReadLaw (setup_of world.lines) world.entries
+    → IsSound (setup_of world.lines) world.entries
     → count ≡ length script.events → entries ≡ world.entries → Writes end held held' (run_text count entries) → Runs end script held held'
-finished_in end script held held' world count entries lines plays lawful reading counted same writes =
-    let P : List Line → Type 0 = λ l. IsLawful (setup_of l) world.entries in
-    let Q : List Line → Type 0 = λ l. HasReadLaw (setup_of l) world.entries in
+finished_in end script held held' world count entries lines plays sound counted same writes =
+    let P : List Line → Type 0 = λ l. IsSound (setup_of l) world.entries in
     let R : ℕ → Type 0 = λ k. Writes end held held' (run_text k world.entries) in
     let S : List Entry → Type 0 = λ l. Writes end held held' (run_text count l) in
     finished end script held held' record {
       entries = world.entries;
       cursor = world.cursor;
       plays = plays;
-      sound = record { lawful = subst P lines lawful; reading = subst Q lines reading };
+      sound = subst P lines sound;
     } (subst R counted (subst S same writes))
 
 pub stopped : (end : ReplayEnd) (script : ScriptLines) (held : Option (List ℕ)) → Stops end script → Runs end script held held
 stopped NoMemory script held stops = refl
-stopped (Limit Frames) script held stops = (stops.0, stops.1, refl)
-stopped (Limit FrameBytes) script held stops = (stops.0, stops.1, refl)
+stopped (Limit Frames) script held stops = (stops, refl)
+stopped (Limit FrameBytes) script held stops = (stops, refl)
 stopped (Limit ScriptBytes) script held stops = stops
 stopped (Limit Events) script held stops = stops
 stopped (Script line why) script held stops = stops
@@ -148,16 +145,20 @@ no_fault before after f rose = let more : before < after = rose f.room in omega 
 
 module _ (left left' held held' : Option (List ℕ)) (bytes : List ℕ) (sources sources' sinks sinks' : ℕ) (is : left ≡ Some bytes) (good : refusal bytes ≡ None)
     (source : IsFaultless sources sources') (sink : IsFaultless sinks sinks') where
-  pub goes_through : (end : ReplayEnd) → Replayed end left left' held held' → (end ≡ SourceFault → Rose sources sources') → (end ≡ SinkFault → Rose sinks sinks') → IsRun end
-  goes_through Ended r a b = tt
-  goes_through NoMemory r a b = tt
-  goes_through (Limit Frames) r a b = tt
-  goes_through (Limit FrameBytes) r a b = tt
-  goes_through (Limit ScriptBytes) r a b =
+  -- the text that it gave to its end is all of its bytes
+  stops_of : (end : ReplayEnd) (text : List ℕ) → GaveAll left left' text → Stops end (script_of text) → Stops end (script_of bytes)
+  stops_of end text gave stops = subst (λ (t : List ℕ). Stops end (script_of t)) (sym (all_of left left' bytes text is gave)) stops
+
+  pub goes_through : (end : ReplayEnd) → Replayed end left left' held held' → (end ≡ SourceFault → Rose sources sources') → (end ≡ SinkFault → Rose sinks sinks') → HasRun end (script_of bytes)
+  goes_through Ended r a b = inl refl
+  goes_through NoMemory r a b = inr tt
+  goes_through (Limit Frames) r a b = inr (stops_of (Limit Frames) r.0 r.1 r.3.0)
+  goes_through (Limit FrameBytes) r a b = inr (stops_of (Limit FrameBytes) r.0 r.1 r.3.0)
+  goes_through (Limit ScriptBytes) r a b = absurd (
       let more = r.0 in
       let f = front_of left left' bytes more.text is more.gave in
-      omega (arith, short_none bytes good, more.long, ap length f.2, length-append more.text f.0)
-  goes_through (Limit Events) r a b = no_refusal left left' bytes _ is good r.0
-  goes_through (Script line why) r a b = no_refusal left left' bytes _ is good r.0
-  goes_through SourceFault r a b = no_fault sources sources' source (a refl)
-  goes_through SinkFault r a b = no_fault sinks sinks' sink (b refl)
+      omega (arith, short_none bytes good, more.long, ap length f.2, length-append more.text f.0))
+  goes_through (Limit Events) r a b = absurd (no_refusal left left' bytes _ is good r.0)
+  goes_through (Script line why) r a b = absurd (no_refusal left left' bytes _ is good r.0)
+  goes_through SourceFault r a b = absurd (no_fault sources sources' source (a refl))
+  goes_through SinkFault r a b = absurd (no_fault sinks sinks' sink (b refl))

@@ -1,5 +1,5 @@
 -- What a replay takes, gives and leaves, by how it ended.
-use Rattle.std.specs.Prelude.{ℕ, ◌+◌, ◌-◌, ◌^◌, ◌<◌, ◌≤◌, ◌≡◌, List, [], ◌∷◌, length, take, slice_get, Option, Some, None}
+use Rattle.std.specs.Prelude.{ℕ, ◌+◌, ◌-◌, ◌^◌, ◌<◌, ◌≤◌, ◌≡◌, ◌⊎◌, if◌then◌else◌, nat_le, List, [], ◌∷◌, length, take, slice_get, Option, Some, None}
 use Rattle.aoe_io.specs.Bytes.{Gave, GaveSome, Took, TookSome, IsEnded}
 use Rattle.aoe_history.specs.declared.entry.Entry.{Entry}
 use Rattle.aoe_history.specs.Frames.{frames}
@@ -7,13 +7,15 @@ use Rattle.aoe_history.specs.Lawful.{IsLawful}
 use Rattle.aoe_history.specs.Reading.{HasReadLaw}
 use Rattle.aoe_history.specs.Setup.{Setup}
 use Rattle.aoe_layout.specs.Layout.{setup_of}
-use Rattle.aoe_run.specs.Run.{MeetsFull}
+use Rattle.aoe_run.specs.Run.{IsWithin, MeetsFull}
 use Rattle.aoe_script.specs.declared.event.Event.{Event}
 use Rattle.aoe_script.specs.declared.refusal.ScriptRefusal.{ScriptRefusal}
 use Rattle.aoe_script.specs.declared.refusal.ScriptRefusal.TheVariants.{BadLine, TooMany}
 use Rattle.aoe_script.specs.declared.setup.Setup.{Setup as Line}
 use Rattle.aoe_script.specs.Lines.{ScriptLines, refusal, script_of}
 use Rattle.aoe_transcript.specs.Counts.{run_text}
+use Rattle.aoe_world.specs.declared.refusal.WorldRefusal.{WorldRefusal}
+use Rattle.aoe_world.specs.declared.refusal.WorldRefusal.TheVariants as refused
 use Rattle.aoe_world.specs.Schedule.{Comes, ComesSome}
 use Rattle.aoe_replay.specs.declared.end.ReplayEnd.{ReplayEnd}
 use Rattle.aoe_replay.specs.declared.end.ReplayEnd.TheVariants.{Ended, SourceFault, SinkFault, NoMemory, Script, Limit}
@@ -27,10 +29,11 @@ Plays s lines [] cursor h behind m = (behind ≡ cursor) × (m ≡ h)
 Plays s lines (event ∷ events) cursor h behind m =
     (next_cursor : ℕ) × (next_h : List Entry) × Comes s lines event cursor h next_cursor next_h × Plays s lines events next_cursor next_h behind m
 
--- a history that is lawful, and in which what is read is what was written
+-- a history that is lawful, in which what is read is what was written, and whose frames a network has room for
 pub record IsSound (s : Setup) (h : List Entry) : Type 0 where
   pub lawful : IsLawful s h
   pub reading : HasReadLaw s h
+  pub room : IsWithin (frames h)
 
 -- all events of a script came, from an empty history and the first frame on
 pub record Played (script : ScriptLines) : Type 0 where
@@ -39,7 +42,7 @@ pub record Played (script : ScriptLines) : Type 0 where
   pub plays : Plays (setup_of script.setups) script.setups script.events 1 [] cursor entries
   pub sound : IsSound (setup_of script.setups) entries
 
--- the first so many came and of the next a part, behind which there was no room for a further frame
+-- the first so many came and of the next a part, and there was no room for the frame that this one calls for next
 pub record Filled (script : ScriptLines) : Type 0 where
   pub count : ℕ
   pub event : Event
@@ -50,7 +53,19 @@ pub record Filled (script : ScriptLines) : Type 0 where
   pub entries : List Entry
   pub begins : ComesSome (setup_of script.setups) script.setups event cursor before entries
   pub sound : IsSound (setup_of script.setups) entries
-  pub full : MeetsFull (setup_of script.setups) entries
+  pub full : MeetsFull (setup_of script.setups) (ComesSome (setup_of script.setups) script.setups event cursor before) entries
+
+-- how a script ends whose events didn't all come: there was no memory, or no room for a frame that it calls for
+abbrev pub Stops : ReplayEnd → ScriptLines → Type 0
+Stops NoMemory script = Unit {0}
+Stops (Limit Frames) script = (run : Filled script) × (200000 ≤ length (frames run.entries))
+Stops (Limit FrameBytes) script = (run : Filled script) × (length (frames run.entries) < 200000)
+Stops (Limit ScriptBytes) script = ⊥
+Stops (Limit Events) script = ⊥
+Stops (Script line why) script = ⊥
+Stops Ended script = ⊥
+Stops SourceFault script = ⊥
+Stops SinkFault script = ⊥
 
 -- ---- the run of a script
 
@@ -63,8 +78,8 @@ abbrev pub Runs : ReplayEnd → ScriptLines → Option (List ℕ) → Option (Li
 Runs Ended script held held' = (run : Played script) × Took held held' (text_of script run)
 Runs SinkFault script held held' = (run : Played script) × TookSome held held' (text_of script run)
 Runs NoMemory script held held' = held' ≡ held
-Runs (Limit Frames) script held held' = (run : Filled script) × (200000 ≤ length (frames run.entries)) × (held' ≡ held)
-Runs (Limit FrameBytes) script held held' = (run : Filled script) × (length (frames run.entries) < 200000) × (held' ≡ held)
+Runs (Limit Frames) script held held' = Stops (Limit Frames) script × (held' ≡ held)
+Runs (Limit FrameBytes) script held held' = Stops (Limit FrameBytes) script × (held' ≡ held)
 Runs (Limit ScriptBytes) script held held' = ⊥
 Runs (Limit Events) script held held' = ⊥
 Runs (Script line why) script held held' = ⊥
@@ -121,17 +136,10 @@ pub record IsFaultless (before after : ℕ) : Type 0 where
   pub room : before < 2 ^ 64 - 1
   pub same : after ≡ before
 
--- how a script ends that isn't refused, where neither source nor sink fails
-abbrev pub IsRun : ReplayEnd → Type 0
-IsRun Ended = Unit {0}
-IsRun NoMemory = Unit {0}
-IsRun (Limit Frames) = Unit {0}
-IsRun (Limit FrameBytes) = Unit {0}
-IsRun (Limit ScriptBytes) = ⊥
-IsRun (Limit Events) = ⊥
-IsRun (Script line why) = ⊥
-IsRun SourceFault = ⊥
-IsRun SinkFault = ⊥
+-- How a script ends that isn't refused, where neither source nor sink fails: its events all came, or there was no memory or
+-- no room. So a script of which no run meets a limit ends, where there is memory.
+abbrev pub HasRun : ReplayEnd → ScriptLines → Type 0
+HasRun end script = (end ≡ Ended) ⊎ Stops end script
 
 -- ---- steps of a replay
 
@@ -172,25 +180,6 @@ Writes (Script line why) held held' text = ⊥
 Writes SourceFault held held' text = ⊥
 
 -- how a replay ends whose world goes no further
-abbrev pub EndsAt : ReplayEnd → Setup → List Entry → Type 0
-EndsAt NoMemory s h = Unit {0}
-EndsAt (Limit Frames) s h = MeetsFull s h × (200000 ≤ length (frames h))
-EndsAt (Limit FrameBytes) s h = MeetsFull s h × (length (frames h) < 200000)
-EndsAt (Limit ScriptBytes) s h = ⊥
-EndsAt (Limit Events) s h = ⊥
-EndsAt (Script line why) s h = ⊥
-EndsAt Ended s h = ⊥
-EndsAt SourceFault s h = ⊥
-EndsAt SinkFault s h = ⊥
-
--- how events ended that didn't all come
-abbrev pub Stops : ReplayEnd → ScriptLines → Type 0
-Stops NoMemory script = Unit {0}
-Stops (Limit Frames) script = (run : Filled script) × (200000 ≤ length (frames run.entries))
-Stops (Limit FrameBytes) script = (run : Filled script) × (length (frames run.entries) < 200000)
-Stops (Limit ScriptBytes) script = ⊥
-Stops (Limit Events) script = ⊥
-Stops (Script line why) script = ⊥
-Stops Ended script = ⊥
-Stops SourceFault script = ⊥
-Stops SinkFault script = ⊥
+abbrev pub end_of : WorldRefusal → ReplayEnd
+end_of refused.NoMemory = NoMemory
+end_of (refused.NetFull frames bytes) = if nat_le 200000 frames then Limit Frames else Limit FrameBytes

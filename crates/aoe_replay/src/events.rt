@@ -1,10 +1,7 @@
 //! The events of a script, run through a world.
-ghost use Rattle.std.specs.Prelude.{◌≡◌, List, [], None, IfErr, OnOk};
-ghost use Rattle.aoe_history.specs.declared.entry.Entry.{Entry};
-ghost use Rattle.aoe_history.specs.Setup.{Setup};
+ghost use Rattle.std.specs.Prelude.{◌≡◌, [], None, IfErr, OnOk};
 ghost use Rattle.aoe_layout.specs.Layout.{setup_of};
-ghost use Rattle.aoe_replay.specs.Replay.{EndsAt, Plays, Stops};
-ghost use Rattle.aoe_world.specs.World.{IsRefusedAt};
+ghost use Rattle.aoe_replay.specs.Replay.{end_of, Plays, Stops};
 
 use crate::end::{ReplayEnd, ReplayLimit};
 use aoe_net::MAX_FRAMES;
@@ -13,7 +10,7 @@ use aoe_world::{World, WorldRefusal};
 
 /// How a replay ends whose world goes no further.
 fn end_of(refusal: WorldRefusal) -> ReplayEnd
-    ensures { (s : Setup) → (h : List Entry) → IsRefusedAt s h refusal → EndsAt result s h }
+    ensures { result ≡ end_of refusal }
 {
     match refusal {
         WorldRefusal::NoMemory => ReplayEnd::NoMemory,

@@ -1,8 +1,8 @@
 //! A whole replay: the text of a script, its run, and the text of the run.
 ghost use Rattle.std.specs.Prelude.{ℕ, ◌≡◌, ◌≤◌, All, List, None, Some};
 ghost use Rattle.aoe_base.specs.Faults.{Rose};
-ghost use Rattle.aoe_replay.specs.Replay.{IsFaultless, IsRun, LeavesSink, Replayed, Runs, Writes};
-ghost use Rattle.aoe_script.specs.Lines.{refusal};
+ghost use Rattle.aoe_replay.specs.Replay.{HasRun, IsFaultless, LeavesSink, Replayed, Runs, Writes};
+ghost use Rattle.aoe_script.specs.Lines.{refusal, script_of};
 ghost use Rattle.aoe_transcript.specs.Counts.{run_text};
 ghost use Rattle.aoe_transcript.specs.Print.{CanPrint};
 
@@ -85,7 +85,7 @@ pub fn replay<S: Source, K: Sink>(alloc: Global, source: &mut S, sink: &mut K) -
     ensures sink_count { K.faults sink.old ≤ K.faults sink.new }
     ensures source_fault { result ≡ ReplayEnd.SourceFault → Rose (S.faults source.old) (S.faults source.new) }
     ensures sink_fault { result ≡ ReplayEnd.SinkFault → Rose (K.faults sink.old) (K.faults sink.new) }
-    ensures replays { (text : List ℕ) → S.left source.old ≡ Some text → refusal text ≡ None → IsFaultless (S.faults source.old) (S.faults source.new) → IsFaultless (K.faults sink.old) (K.faults sink.new) → IsRun result }
+    ensures replays { (text : List ℕ) → S.left source.old ≡ Some text → refusal text ≡ None → IsFaultless (S.faults source.old) (S.faults source.new) → IsFaultless (K.faults sink.old) (K.faults sink.new) → HasRun result (script_of text) }
 {
     replay_script(alloc, source, sink)
 }

@@ -1,5 +1,5 @@
 -- A run as contracts see it.
-use Rattle.std.specs.Prelude.{All, length, ℕ, ◌≡◌, ◌≤◌, Bool, true, false, List, ◌∷◌}
+use Rattle.std.specs.Prelude.{All, length, sum_by, ℕ, ◌≡◌, ◌≤◌, Bool, true, false, List, ◌∷◌}
 use Rattle.aoe_net.specs.Network.{IsFull, Network, SentFrame}
 use Rattle.aoe_history.specs.declared.entry.Entry.{Entry}
 use Rattle.aoe_history.specs.declared.entry.Entry.TheVariants.{Sent, Injected, Arrived, Ticked}
@@ -33,6 +33,11 @@ network_of run = network run.life run.entries
 abbrev pub IsShort : SentFrame → Type 0
 IsShort frame = length frame.bytes ≤ 9018
 
+-- no more frames, and no more bytes of them, than a network has room for
+pub record IsWithin (frames : List SentFrame) : Type 0 where
+  pub few : length frames ≤ 200000
+  pub small : sum_by (λ frame. length frame.bytes) frames ≤ 536870912
+
 -- a network has the frames of a history, none of them from a later time or too long
 pub record Carries (life now : ℕ) (h : List Entry) (net : Network) : Type 0 where
   pub life_is : net.life ≡ life
@@ -40,10 +45,13 @@ pub record Carries (life now : ℕ) (h : List Entry) (net : Network) : Type 0 wh
   pub past : net.latest ≤ now
   pub short : All IsShort net.sent
   pub time : now ≡ clock h
+  pub within : IsWithin net.sent
 
--- no room: the next entry could be one of which a frame comes that the network has no room for
-pub record MeetsFull (s : Setup) (h : List Entry) : Type 0 where
+-- No room: what has begun goes on by an entry that may come, and of which a frame comes that the network has no room for.
+-- What has begun tells which entries are called for, so an entry of another act is no reason.
+pub record MeetsFull (s : Setup) (begins : List Entry → Type 0) (h : List Entry) : Type 0 where
   pub entry : Entry
+  pub called_for : begins (entry ∷ h)
   pub may_come : MayCome s h entry
   pub bytes : List ℕ
   pub brings : frames (entry ∷ h) ≡ record { bytes = bytes; birth = clock h } ∷ frames h

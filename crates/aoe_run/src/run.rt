@@ -5,7 +5,7 @@ ghost use Rattle.aoe_history.specs.declared.entry.Entry.{Entry};
 ghost use Rattle.aoe_history.specs.declared.entry.Entry.TheVariants.{Sent, Injected, Arrived, Ticked};
 ghost use Rattle.aoe_history.specs.declared.entry.Fate.TheVariants.{Replied};
 ghost use Rattle.aoe_history.specs.Frames.{arriving, clock, frames, next_number};
-ghost use Rattle.aoe_run.specs.Run.{is_plain, network_of, with_entry};
+ghost use Rattle.aoe_run.specs.Run.{is_plain, network_of, with_entry, IsWithin};
 
 use aoe_base::{FrameNo, Millis, NoMemory, TargetId, Ticket};
 use aoe_history::{Entry, Fate, History};
@@ -78,7 +78,8 @@ impl Run {
 
     /// What happened.
     pub fn history(&self) -> &History
-        ensures { result.now ≡ self.now.entries }
+        ensures history { result.now ≡ self.now.entries }
+        ensures room { IsWithin (frames self.now.entries) }
     {
         &self.history
     }

@@ -10,12 +10,12 @@ use Rattle.aoe_export.specs.Slots.{GivesBack}
 use Rattle.aoe_export.specs.declared.plan.Exported.{Exported}
 use Rattle.aoe_export.specs.declared.files.Rack.{Rack}
 use Rattle.aoe_export.specs.declared.plan.Plan.{Plan}
-use Rattle.aoe_replay.specs.Replay.{LeavesSink, Replayed}
+use Rattle.aoe_replay.specs.Replay.{HasRun, LeavesSink, Replayed}
+use Rattle.aoe_script.specs.Lines.{ScriptLines}
 use Rattle.aoe_replay.specs.declared.end.ReplayEnd.{ReplayEnd}
 use Rattle.aoe_words.specs.declared.command.Command.{Command}
 use Rattle.aoe_top.specs.Commands.{plan_of, target_of}
 use Rattle.aoe_top.specs.Ending.{file_at, keep_at, refused_as, refused_slot, replayed_as, status_of}
-use Rattle.aoe_top.specs.declared.status.What.TheVariants as what
 use Rattle.aoe_top.specs.declared.status.Status.{Status}
 use Rattle.aoe_top.specs.declared.status.Status.TheVariants as status
 
@@ -41,9 +41,11 @@ RanAs state None t s a b disks disks' = RanScript t.left t.held s a.source b.sou
 abbrev pub Ran : {D S K L : Type 0} → (D → DiskState) → Command → Tells S K L → Status → Outside S K L → Outside S K L → List (Option D) → List (Option D) → Type 0
 Ran state command t s a b disks disks' = RanAs state (plan_of command) t s a b disks disks'
 
--- the script was run to its end, or as far as its network has room for frames
-abbrev pub HasReplayed : Status → Type 0
-HasReplayed s = (s ≡ status.Ok) ⊎ (s ≡ status.Limit what.Frames) ⊎ (s ≡ status.Limit what.FrameBytes)
+-- the script was run to its end, or until there was no memory or no room for a frame that it calls for
+pub record HasReplayed (script : ScriptLines) (s : Status) : Type 0 where
+  pub end : ReplayEnd
+  pub run : HasRun end script
+  pub ends : s ≡ replayed_as end
 
 -- A run in which the keep of this slot was refused: those in front of it were mounted, and the files are as they were.
 pub record Refused {D : Type 0} (state : D → DiskState) (s : Status) (slot : ℕ) (disks disks' : List (Option D)) : Type 0 where

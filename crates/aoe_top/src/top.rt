@@ -4,7 +4,7 @@ ghost use Rattle.aoe_base.specs.Faults.{Rose};
 ghost use Rattle.aoe_io.specs.Stream.{stream, IsFrame};
 ghost use Rattle.aoe_lists.specs.Settings.{Settings};
 ghost use Rattle.aoe_export.specs.Run.{AtFirst};
-ghost use Rattle.aoe_script.specs.Lines.{refusal};
+ghost use Rattle.aoe_script.specs.Lines.{refusal, script_of};
 ghost use Rattle.aoe_words.specs.Words.{IsInRange, command, file_count, file_names, link_count, port_words};
 ghost use Rattle.aoe_words.specs.declared.command.Answer.{Answer as Answers};
 ghost use Rattle.aoe_words.specs.declared.command.Serve.{Serve as Serves};
@@ -64,8 +64,8 @@ fn run_script<S: Source, K: Sink>(alloc: Global, source: &mut S, sink: &mut K) -
     ensures memory { result ≡ Status.NoMemory → sink.new ≡ sink.old }
     ensures source_fault { result ≡ Status.SourceFault → Rose (S.faults source.old) (S.faults source.new) }
     ensures sink_fault { result ≡ Status.SinkFault → Rose (K.faults sink.old) (K.faults sink.new) }
-    ensures replays { (text : List ℕ) → S.left source.old ≡ Some text → refusal text ≡ None → result ≢ Status.NoMemory
-        → NoFault (S.faults source.old) (S.faults source.new) → NoFault (K.faults sink.old) (K.faults sink.new) → HasReplayed result }
+    ensures replays { (text : List ℕ) → S.left source.old ≡ Some text → refusal text ≡ None
+        → NoFault (S.faults source.old) (S.faults source.new) → NoFault (K.faults sink.old) (K.faults sink.new) → HasReplayed (script_of text) result }
 {
     replayed_as(replay(alloc, source, sink))
 }
@@ -95,8 +95,8 @@ fn run_command<S: Source, K: Sink, D: Disk + Drop, L: Link>(
     ensures source_fault { result ≡ Status.SourceFault → Rose (S.faults source.old) (S.faults source.new) }
     ensures sink_fault { result ≡ Status.SinkFault → Rose (K.faults sink.old) (K.faults sink.new) }
     ensures link_fault { (link : ℕ) → result ≡ Status.LinkFault link → (link ≡ 0) × AtFirst (λ a b. Rose (L.faults a) (L.faults b)) links.old links.new }
-    ensures replays { (text : List ℕ) → command ≡ Command.Replay → S.left source.old ≡ Some text → refusal text ≡ None → result ≢ Status.NoMemory
-        → NoFault (S.faults source.old) (S.faults source.new) → NoFault (K.faults sink.old) (K.faults sink.new) → HasReplayed result }
+    ensures replays { (text : List ℕ) → command ≡ Command.Replay → S.left source.old ≡ Some text → refusal text ≡ None
+        → NoFault (S.faults source.old) (S.faults source.new) → NoFault (K.faults sink.old) (K.faults sink.new) → HasReplayed (script_of text) result }
 {
     match plan(command) {
         Some((rack, plan)) => run_files(alloc, rack, plan, source, sink, disks, links),
@@ -178,8 +178,8 @@ pub fn aoe<S: Source, K: Sink, D: Disk + Drop, L: Link>(
         → AtFirst (λ a b. NoFault (L.faults a) (L.faults b)) links.old links.new
         → ((slot : ℕ) → OnSlot (λ file file' _ _. NoFault (D.state file).faults (D.state file').faults) slot disks.old disks.new)
         → result ≡ Status.Ok }
-    ensures replays { (text : List ℕ) → command (map string_bytes words.now) ≡ Some Command.Replay → S.left source.old ≡ Some text → refusal text ≡ None → result ≢ Status.NoMemory
-        → NoFault (S.faults source.old) (S.faults source.new) → NoFault (K.faults sink.old) (K.faults sink.new) → HasReplayed result }
+    ensures replays { (text : List ℕ) → command (map string_bytes words.now) ≡ Some Command.Replay → S.left source.old ≡ Some text → refusal text ≡ None
+        → NoFault (S.faults source.old) (S.faults source.new) → NoFault (K.faults sink.old) (K.faults sink.new) → HasReplayed (script_of text) result }
 {
     match read_words(alloc, words) {
         Ok(Some(command)) => run_command(alloc, command, source, sink, disks, links),

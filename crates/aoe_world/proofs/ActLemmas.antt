@@ -4,39 +4,61 @@ use Rattle.std.specs.Prelude.{slice_get, slice_set}
 use Rattle.std.specs.List.{filter, list_any}
 use Rattle.std.proofs.lemmas.Bool.{cases_lt}
 use Rattle.std.proofs.lemmas.Bool.Decides.{nat_tests}
-use Rattle.std.proofs.lemmas.Option.{same_Some}
+use Rattle.std.proofs.lemmas.Option.{same_Some, slice_get_within}
 use Rattle.aoe_base.specs.declared.address.TargetId.{TargetId}
 use Rattle.aoe_history.specs.declared.entry.Entry.{Entry}
 use Rattle.aoe_history.specs.declared.entry.Entry.TheVariants.{Armed, Ticked}
-use Rattle.aoe_history.specs.Groups.{Act, Enters, EntersSome, Got, IsBegun}
+use Rattle.aoe_history.specs.Groups.{Act, Enters, EntersSome, Got, IsBegun, TurnsSome}
 use Rattle.aoe_history.specs.Lawful.{IsLawful, MayCome}
-use Rattle.aoe_history.specs.Setup.{is_slot, shelf_of, HostSetup, Setup, SlotSetup}
+use Rattle.aoe_history.specs.Setup.{is_called, is_slot, shelf_of, HostSetup, Setup, SlotSetup}
+use Rattle.arrayvec.specs.ArrayVec.{ArrayVec}
 use Rattle.aoe_hosts.proofs.Apart.{awaits-settled, awaits-ticked}
+use Rattle.aoe_hosts.proofs.Called.{is-called}
 use Rattle.aoe_hosts.specs.Host.{is_apart as is_apart_of_host, NamedHost}
 use Rattle.aoe_net.specs.declared.refusal.NetRefusal.{NetRefusal}
 use Rattle.aoe_net.specs.declared.refusal.NetRefusal.TheVariants.{NoMemory}
 use Rattle.aoe_racks.specs.Rack.{is_apart as is_apart_of_slots, MemoryRack, Serves}
 use Rattle.aoe_run.specs.Run.{with_entry}
+use Rattle.aoe_run.proofs.FullLemmas.{full-more}
 use Rattle.aoe_world.proofs.AddsLemmas.{adds_none, adds_one, Adds, SpeaksOf}
-use Rattle.aoe_world.proofs.TurnLemmas.{get-set, length-set, serves-adds, set-get, settled-adds}
+use Rattle.aoe_world.proofs.TurnLemmas.{get-set, length-set, serves-adds, set-get, settled-adds, there-is}
 use Rattle.aoe_world.specs.declared.stage.Stage.{Stage}
 use Rattle.aoe_world.specs.Stage.{AllServe, AllSettled, Does, HadTurns, IsLeft, IsNetwork, IsReady, IsTurning, Settles}
 
 -- WHAT CAME OF AN ACT
 
+-- what a refusal leaves of a part, it leaves of the whole
+pub left-more : (s : Setup) (part whole : List Entry → Type 0) (refusal : NetRefusal) (h : List Entry) → ((m : List Entry) → part m → whole m)
+    → IsLeft s part refusal h → IsLeft s whole refusal h
+left-more s part whole refusal h more left = record { begun = more h left.begun; lawful = left.lawful; full = λ e. full-more s part whole h more (left.full e) }
+
 pub act-done : (result : Result (Unit {0}) NetRefusal) (s : Setup) (majors : List ℕ) (act : Act) (got : Option Got) (old mid new : Stage)
     → Enters s old.run.entries act got mid.run.entries → Settles result s majors got mid new → Does result s majors act old new
 act-done (Ok u) s majors act got old mid new enters (turns, k) = (record { got = got; entered = mid.run.entries; enters = enters; turns = turns }, k)
-act-done (Err refusal) s majors act got old mid new enters (turns, k) = (inr (got, mid.run.entries, enters, turns), k)
+act-done (Err refusal) s majors act got old mid new enters left =
+    left-more s (TurnsSome s s.hosts got mid.run.entries) (IsBegun s old.run.entries act) refusal new.run.entries (λ m turns. inr (got, mid.run.entries, enters, turns)) left
 
--- an act that came in part, and no turn
-pub act-begun : (refusal : NetRefusal) (s : Setup) (majors : List ℕ) (act : Act) (old new : Stage) → EntersSome s old.run.entries act new.run.entries → IsLeft s refusal new.run.entries
-    → IsBegun s old.run.entries act new.run.entries × IsLeft s refusal new.run.entries
-act-begun refusal s majors act old new enters k = (inl enters, k)
+-- without memory a beginning that is lawful is left
+pub no-memory : (s : Setup) (begins : List Entry → Type 0) (h : List Entry) → begins h → IsLawful s h → IsLeft s begins NoMemory h
+no-memory s begins h begun lawful = record { begun = begun; lawful = lawful; full = λ e. absurd (cc) }
 
--- want of memory leaves a lawful history
-pub no-memory : (s : Setup) (h : List Entry) → IsLawful s h → IsLeft s NoMemory h
-no-memory s h k = record { lawful = k; full = λ e. absurd (cc) }
+-- nothing came of the act
+pub none-came : (s : Setup) (act : Act) (h m : List Entry) → EntersSome s h act h → m ≡ h → IsLawful s h → IsLeft s (IsBegun s h act) NoMemory m
+none-came s act h m none same lawful =
+    subst (λ (l : List Entry). IsLeft s (IsBegun s h act) NoMemory l) (sym same) (no-memory s (IsBegun s h act) h (inl none) lawful)
+
+-- before the turn of any host
+pub no-turn : (s : Setup) (hosts : List HostSetup) (got : Option Got) (h : List Entry)
+    → ((i : ℕ) (host : HostSetup) → slice_get hosts i ≡ Some host → (name : ArrayVec ℕ) × (is_called host name ≡ true)) → TurnsSome s hosts got h h
+no-turn s [] got h called = refl
+no-turn s (host ∷ hosts) got h called = let c = called 0 host refl in inl (c.0, c.1, inl refl)
+
+pub hosts-called : (s : Setup) (h : List Entry) (hosts : List NamedHost) → AllSettled s h hosts → (i : ℕ) (host : HostSetup) → slice_get s.hosts i ≡ Some host
+    → (name : ArrayVec ℕ) × (is_called host name ≡ true)
+hosts-called s h hosts k i host there =
+    let w = slice_get_within s.hosts i host there in
+    let x = there-is hosts i (let n = k.count in omega (arith, w, n)) in
+    (x.0.name, is-called s x.0.name host (k.each i host x.0 there x.1).is.called)
 
 -- THE STATIONS IN AN ACT
 

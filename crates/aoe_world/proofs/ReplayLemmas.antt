@@ -45,6 +45,7 @@ use Rattle.aoe_world.specs.declared.place.Place.{Place}
 use Rattle.aoe_world.specs.declared.stage.Stage.{Stage}
 use Rattle.aoe_net.specs.declared.refusal.NetRefusal.{NetRefusal}
 use Rattle.aoe_world.specs.Schedule.{station_called, Comes, ComesSome, FollowsSome, Moves, MovesSome}
+use Rattle.aoe_world.proofs.ActLemmas.{left-more}
 use Rattle.aoe_world.specs.Stage.{ArePlaces, Does, DoesAll, IsAt, IsLeft, IsNetwork, IsReady}
 use Rattle.aoe_world.specs.World.{Runs}
 use Rattle.aoe_world.proofs.ScheduleKeeps.{follows-grow}
@@ -196,11 +197,12 @@ module _ (s : Setup) (majors : List ℕ) (acts : List Entry → ℕ → List Act
         }))
 
     -- one came in part
-    pub passed-begun : (n : ℕ) (refusal : NetRefusal) (later : Stage) → count < n
-        → FollowsSome s (acts now.run.entries behind) now.run.entries later.run.entries × IsLeft s refusal later.run.entries
-        → MovesSome s acts n cursor old.run.entries later.run.entries × IsLeft s refusal later.run.entries
-    passed-begun n refusal later lt (some, left) =
-        (record { count = count; before = lt; behind = behind; mid = now.run.entries; moves = p.moves; follows = some }, left)
+    pub passed-begun : (n : ℕ) (refusal : NetRefusal) (later : Stage) → count < n → behind ≤ length (frames now.run.entries)
+        → IsLeft s (FollowsSome s (acts now.run.entries behind) now.run.entries) refusal later.run.entries
+        → IsLeft s (MovesSome s acts n cursor old.run.entries) refusal later.run.entries
+    passed-begun n refusal later lt le left =
+        left-more s (FollowsSome s (acts now.run.entries behind) now.run.entries) (MovesSome s acts n cursor old.run.entries) refusal later.run.entries
+        (λ m some. record { count = count; before = lt; behind = behind; mid = now.run.entries; moves = p.moves; there = le; follows = some }) left
 
 -- STATIONS BY NAME
 
@@ -225,18 +227,19 @@ lose-as-hand (Ok u) s majors life frame station old mid new el es none (g, ready
       },
       ready,
     )
-lose-as-hand (Err refusal) s majors life frame station old mid new el es none (begun, left) =
-    (go station (ap (λ l. arriving l old.run.entries frame) (sym el) ∙ none) (subst (λ h. IsBegun s h (Lose frame) new.run.entries) es begun), left)
+lose-as-hand (Err refusal) s majors life frame station old mid new el es none left =
+    left-more s (IsBegun s old.run.entries (Lose frame)) (IsBegun s old.run.entries (Hand frame station)) refusal new.run.entries
+    (λ m begun. go m station (ap (λ l. arriving l old.run.entries frame) (sym el) ∙ none) begun)
+    (subst (λ h. IsLeft s (IsBegun s h (Lose frame)) refusal new.run.entries) es left)
   where
     entered : (station : Station) → arriving s.life old.run.entries frame ≡ None → (got : Option Got) (m : List Entry) → Enters s old.run.entries (Lose frame) got m → Enters s old.run.entries (Hand frame station) got m
     entered station gone got m e = subst (λ o. MatchOption o ((got ≡ None) × (m ≡ Lost frame ∷ old.run.entries)) (λ f. ComesTo s frame f station old.run.entries got m)) (sym gone) e
 
-    go : (station : Station) → arriving s.life old.run.entries frame ≡ None → IsBegun s old.run.entries (Lose frame) new.run.entries → IsBegun s old.run.entries (Hand frame station) new.run.entries
-    go (ShelfStation major) gone (inl e) =
-        inl (subst (λ o. MatchOption o (new.run.entries ≡ old.run.entries)
-        (λ f. ArriveAtSome frame f (shelf_of s major) (shelf_of s major) old.run.entries new.run.entries)) (sym gone) e)
-    go (HostStation name) gone (inl e) = inl e
-    go station gone (inr (got, m, enters, turns)) = inr (got, m, entered station gone got m enters, turns)
+    go : (n : List Entry) (station : Station) → arriving s.life old.run.entries frame ≡ None → IsBegun s old.run.entries (Lose frame) n → IsBegun s old.run.entries (Hand frame station) n
+    go n (ShelfStation major) gone (inl e) =
+        inl (subst (λ o. MatchOption o (n ≡ old.run.entries) (λ f. ArriveAtSome frame f (shelf_of s major) (shelf_of s major) old.run.entries n)) (sym gone) e)
+    go n (HostStation name) gone (inl e) = inl e
+    go n station gone (inr (got, m, enters, turns)) = inr (got, m, entered station gone got m enters, turns)
 
 -- THE HOST OF A SUBMISSION
 
@@ -300,22 +303,31 @@ does-cursor (Err refusal) s majors acts cursor behind old new e first within d =
 -- the acts of a line that doesn't move the cursor were done
 pub runs-from : {T : Type 0} (r : Result T NetRefusal) (lines : List Line) (v : Event) (acts : List Act) (cursor behind : ℕ) (old new : Stage)
     → ((behind ≡ cursor) × Follows (setup_of lines) acts old.run.entries new.run.entries → Comes (setup_of lines) lines v cursor old.run.entries behind new.run.entries)
-    → (FollowsSome (setup_of lines) acts old.run.entries new.run.entries → ComesSome (setup_of lines) lines v cursor old.run.entries new.run.entries)
+    → ((m : List Entry) → FollowsSome (setup_of lines) acts old.run.entries m → ComesSome (setup_of lines) lines v cursor old.run.entries m)
     → behind ≡ cursor → DoesAll r (setup_of lines) (majors_of lines) acts old new → Runs r lines v cursor behind old new
 runs-from (Ok u) lines v acts cursor behind old new whole part e (follows, ready) = (whole (e, follows), ready)
-runs-from (Err refusal) lines v acts cursor behind old new whole part e (follows, left) = (part follows, left)
+runs-from (Err refusal) lines v acts cursor behind old new whole part e left =
+    left-more (setup_of lines) (FollowsSome (setup_of lines) acts old.run.entries) (ComesSome (setup_of lines) lines v cursor old.run.entries) refusal new.run.entries part left
+
+-- the line that an event is
+pub line-runs : {T : Type 0} (r : Result T NetRefusal) (lines : List Line) (v w : Event) (acts : List Act) (cursor behind : ℕ) (old new : Stage) → w ≡ v
+    → ((behind ≡ cursor) × Follows (setup_of lines) acts old.run.entries new.run.entries → Comes (setup_of lines) lines v cursor old.run.entries behind new.run.entries)
+    → ((m : List Entry) → FollowsSome (setup_of lines) acts old.run.entries m → ComesSome (setup_of lines) lines v cursor old.run.entries m)
+    → behind ≡ cursor → DoesAll r (setup_of lines) (majors_of lines) acts old new → Runs r lines w cursor behind old new
+line-runs r lines v w acts cursor behind old new is whole part e d =
+    subst (λ x. Runs r lines x cursor behind old new) (sym is) (runs-from r lines v acts cursor behind old new whole part e d)
 
 pub tick-runs : {T : Type 0} (r : Result T NetRefusal) (lines : List Line) (v : Event) (ms cursor : ℕ) (old new : Stage) → v ≡ event.Tick ms
     → Does r (setup_of lines) (majors_of lines) (Tick ms) old new → Runs r lines v cursor cursor old new
 tick-runs r lines v ms cursor old new is d =
     subst (λ x. Runs r lines x cursor cursor old new) (sym is)
-    (runs-from r lines (event.Tick ms) (Tick ms ∷ []) cursor cursor old new (λ y. y) (λ y. y) refl (does-all r (setup_of lines) (majors_of lines) (Tick ms) old new d))
+    (runs-from r lines (event.Tick ms) (Tick ms ∷ []) cursor cursor old new (λ y. y) (λ m y. y) refl (does-all r (setup_of lines) (majors_of lines) (Tick ms) old new d))
 
 pub inject-runs : {T : Type 0} (r : Result T NetRefusal) (lines : List Line) (v : Event) (bytes frame : List ℕ) (cursor : ℕ) (old new : Stage) → v ≡ event.Inject bytes
     → frame ≡ bytes → Does r (setup_of lines) (majors_of lines) (Inject frame) old new → Runs r lines v cursor cursor old new
 inject-runs r lines v bytes frame cursor old new is same d =
     subst (λ x. Runs r lines x cursor cursor old new) (sym is)
-    (runs-from r lines (event.Inject bytes) (Inject bytes ∷ []) cursor cursor old new (λ y. y) (λ y. y) refl
+    (runs-from r lines (event.Inject bytes) (Inject bytes ∷ []) cursor cursor old new (λ y. y) (λ m y. y) refl
     (does-all r (setup_of lines) (majors_of lines) (Inject bytes) old new (subst (λ f. Does r (setup_of lines) (majors_of lines) (Inject f) old new) same d)))
 
 -- nothing that a line injects comes from a station
@@ -346,19 +358,19 @@ module _ {T : Type 0} (r : Result T NetRefusal) (lines : List Line) (host : Arra
 
   pub asked-runs : (dev : TargetId) (w : Event) → IsOf host dev w → AsksAll r lines host old new w → Runs r lines w cursor behind old new
   asked-runs dev w (inl (at, count, is)) d =
-      asked-one (event.Read host dev at count) w is (λ k. runs-from r lines (event.Read host dev at count) (Submit host dev (op.Read (record { at = at; count = count })) ∷ []) cursor behind old new (λ y. y) (λ y. y) e k) d
+      asked-one (event.Read host dev at count) w is (λ k. runs-from r lines (event.Read host dev at count) (Submit host dev (op.Read (record { at = at; count = count })) ∷ []) cursor behind old new (λ y. y) (λ m y. y) e k) d
   asked-runs dev w (inr (inl (at, count, fill, is))) d =
-      asked-one (event.Write host dev at count fill) w is (λ k. runs-from r lines (event.Write host dev at count fill) (Submit host dev (op.Write at (replicate (512 * count) fill)) ∷ []) cursor behind old new (λ y. y) (λ y. y) e k) d
+      asked-one (event.Write host dev at count fill) w is (λ k. runs-from r lines (event.Write host dev at count fill) (Submit host dev (op.Write at (replicate (512 * count) fill)) ∷ []) cursor behind old new (λ y. y) (λ m y. y) e k) d
   asked-runs dev w (inr (inr (inl is))) d =
-      asked-one (event.Flush host dev) w is (λ k. runs-from r lines (event.Flush host dev) (Submit host dev op.Flush ∷ []) cursor behind old new (λ y. y) (λ y. y) e k) d
+      asked-one (event.Flush host dev) w is (λ k. runs-from r lines (event.Flush host dev) (Submit host dev op.Flush ∷ []) cursor behind old new (λ y. y) (λ m y. y) e k) d
   asked-runs dev w (inr (inr (inr (inl is)))) d =
-      asked-one (event.Identify host dev) w is (λ k. runs-from r lines (event.Identify host dev) (Submit host dev op.Identify ∷ []) cursor behind old new (λ y. y) (λ y. y) e k) d
+      asked-one (event.Identify host dev) w is (λ k. runs-from r lines (event.Identify host dev) (Submit host dev op.Identify ∷ []) cursor behind old new (λ y. y) (λ m y. y) e k) d
   asked-runs dev w (inr (inr (inr (inr (inl (ccmd, text, is)))))) d =
-      asked-one (event.Config host dev ccmd text) w is (λ k. runs-from r lines (event.Config host dev ccmd text) (Submit host dev (op.Config ccmd text) ∷ []) cursor behind old new (λ y. y) (λ y. y) e k) d
+      asked-one (event.Config host dev ccmd text) w is (λ k. runs-from r lines (event.Config host dev ccmd text) (Submit host dev (op.Config ccmd text) ∷ []) cursor behind old new (λ y. y) (λ m y. y) e k) d
   asked-runs dev w (inr (inr (inr (inr (inr (inl (edit, dirs, is))))))) d =
-      asked-one (event.Masks host dev edit dirs) w is (λ k. runs-from r lines (event.Masks host dev edit dirs) (Submit host dev (op.Masks edit dirs) ∷ []) cursor behind old new (λ y. y) (λ y. y) e k) d
+      asked-one (event.Masks host dev edit dirs) w is (λ k. runs-from r lines (event.Masks host dev edit dirs) (Submit host dev (op.Masks edit dirs) ∷ []) cursor behind old new (λ y. y) (λ m y. y) e k) d
   asked-runs dev w (inr (inr (inr (inr (inr (inr ((rcmd, list, is)))))))) d =
-      asked-one (event.Reserve host dev rcmd list) w is (λ k. runs-from r lines (event.Reserve host dev rcmd list) (Submit host dev (op.Reserve rcmd list) ∷ []) cursor behind old new (λ y. y) (λ y. y) e k) d
+      asked-one (event.Reserve host dev rcmd list) w is (λ k. runs-from r lines (event.Reserve host dev rcmd list) (Submit host dev (op.Reserve rcmd list) ∷ []) cursor behind old new (λ y. y) (λ m y. y) e k) d
 
 pub asked-cursor : {T : Type 0} (r : Result T NetRefusal) (lines : List Line) (host : ArrayVec ℕ) (cursor behind : ℕ) (old new : Stage) (o : Option Submission) → behind ≡ cursor
     → 1 ≤ cursor → cursor ≤ suc (length (frames old.run.entries)) → is_some o ≡ true

@@ -18,6 +18,7 @@ use Rattle.aoe_world.specs.declared.place.At.TheVariants as at
 use Rattle.aoe_world.specs.declared.place.Place.{Place}
 use Rattle.aoe_world.specs.declared.stage.Stage.{Stage}
 use Rattle.aoe_world.specs.Schedule.{addressees, gets, hand_each, handings, is_for, FollowsSome}
+use Rattle.aoe_world.proofs.ActLemmas.{left-more}
 use Rattle.aoe_world.specs.Stage.{ArePlaces, Does, DoesAll, HandsEach, IsAt, IsInside, IsLeft, IsReady}
 use Rattle.aoe_world.proofs.ScheduleKeeps.{hand-fresh}
 use Rattle.aoe_world.proofs.TurnLemmas.{take-all, there-is as there}
@@ -159,9 +160,11 @@ module _ (s : Setup) (majors : List ℕ) (stations : List Placed) (number : ℕ)
         some-more [] = refl
         some-more (x ∷ xs) = above (suc (length (xs ++ p.station ∷ []))) (omega arith)
 
-    pub handed-begun : (refusal : NetRefusal) (later : Stage) → gets old.frame.items p ≡ true → IsBegun s now.run.entries (Hand number p.station) later.run.entries
-        → IsLeft s refusal later.run.entries → HandsEach (Err refusal) s majors number (addressees stations old.frame.items) old later
-    handed-begun refusal later t b left = (subst (λ acts. FollowsSome s acts old.run.entries later.run.entries) (sym all) some, left)
+    pub handed-begun : (refusal : NetRefusal) (later : Stage) → gets old.frame.items p ≡ true → IsLeft s (IsBegun s now.run.entries (Hand number p.station)) refusal later.run.entries
+        → HandsEach (Err refusal) s majors number (addressees stations old.frame.items) old later
+    handed-begun refusal later t left =
+        subst (λ acts. IsLeft s (FollowsSome s acts old.run.entries) refusal later.run.entries) (sym all)
+        (left-more s (IsBegun s now.run.entries (Hand number p.station)) (FollowsSome s acts-of old.run.entries) refusal later.run.entries some left)
       where
         first : List Station
         first = addressees (take k stations) old.frame.items
@@ -183,8 +186,11 @@ module _ (s : Setup) (majors : List ℕ) (stations : List Placed) (number : ℕ)
             ≡ map (Hand number) (addressees (take k stations) old.frame.items) ++ Hand number p.station ∷ map (Hand number) (addressees (drop (suc k) stations) old.frame.items)
         all = ap (map (Hand number)) stations-are ∙ map-append (Hand number) (addressees (take k stations) old.frame.items) (p.station ∷ addressees (drop (suc k) stations) old.frame.items)
 
-        some : FollowsSome s (map (Hand number) (addressees (take k stations) old.frame.items) ++ Hand number p.station ∷ map (Hand number) (addressees (drop (suc k) stations) old.frame.items)) old.run.entries later.run.entries
-        some = follows-begun s (map (Hand number) (addressees (take k stations) old.frame.items)) (Hand number p.station) (map (Hand number) (addressees (drop (suc k) stations) old.frame.items)) old.run.entries now.run.entries later.run.entries before.follows b
+        acts-of : List Act
+        acts-of = map (Hand number) (addressees (take k stations) old.frame.items) ++ Hand number p.station ∷ map (Hand number) (addressees (drop (suc k) stations) old.frame.items)
+
+        some : (m : List Entry) → IsBegun s now.run.entries (Hand number p.station) m → FollowsSome s acts-of old.run.entries m
+        some m b = follows-begun s (map (Hand number) (addressees (take k stations) old.frame.items)) (Hand number p.station) (map (Hand number) (addressees (drop (suc k) stations) old.frame.items)) old.run.entries now.run.entries m before.follows b
 
   pub handed-all : (k : ℕ) (any : Bool) (now : Stage) → k ≡ length stations → Handed s majors stations number k any old now
       → HandsEach (Ok any) s majors number (addressees stations old.frame.items) old now
@@ -236,13 +242,14 @@ handed-is s majors stations number k any other old now later ea el h =
 
 pub does-all : {T : Type 0} (r : Result T NetRefusal) (s : Setup) (majors : List ℕ) (act : Act) (old new : Stage) → Does r s majors act old new → DoesAll r s majors (act ∷ []) old new
 does-all (Ok u) s majors act old new (g, ready) = ((new.run.entries, g, refl), ready)
-does-all (Err refusal) s majors act old new (begun, left) = (inl begun, left)
+does-all (Err refusal) s majors act old new left =
+    left-more s (IsBegun s old.run.entries act) (FollowsSome s (act ∷ []) old.run.entries) refusal new.run.entries (λ m begun. inl begun) left
 
 -- of a stage only its history counts
 pub all-from : {T : Type 0} (r : Result T NetRefusal) (s : Setup) (majors : List ℕ) (acts : List Act) (old mid new : Stage) → mid.run.entries ≡ old.run.entries
     → DoesAll r s majors acts mid new → DoesAll r s majors acts old new
 all-from (Ok u) s majors acts old mid new e (f, ready) = (subst (λ h. Follows s acts h new.run.entries) e f, ready)
-all-from (Err refusal) s majors acts old mid new e (f, left) = (subst (λ h. FollowsSome s acts h new.run.entries) e f, left)
+all-from (Err refusal) s majors acts old mid new e left = subst (λ h. IsLeft s (FollowsSome s acts h) refusal new.run.entries) e left
 
 pub acts-are : {T : Type 0} (r : Result T NetRefusal) (s : Setup) (majors : List ℕ) (acts others : List Act) (old new : Stage) → others ≡ acts
     → DoesAll r s majors acts old new → DoesAll r s majors others old new
@@ -285,5 +292,6 @@ each-none r s majors number (x ∷ stations) old mid new (e, f, ready) d = absur
 
 pub each-begun : (s : Setup) (majors : List ℕ) (number : ℕ) (stations : List Station) (refusal : NetRefusal) (old new : Stage)
     → HandsEach (Err refusal) s majors number stations old new → DoesAll {T = Unit {0}} (Err refusal) s majors (hand_each number stations) old new
-each-begun s majors number [] refusal old new (f, left) = (inl (inl f), left)
-each-begun s majors number (x ∷ stations) refusal old new (f, left) = (f, left)
+each-begun s majors number [] refusal old new left =
+    left-more s (FollowsSome s [] old.run.entries) (FollowsSome s (Lose number ∷ []) old.run.entries) refusal new.run.entries (λ m none. inl (inl none)) left
+each-begun s majors number (x ∷ stations) refusal old new left = left

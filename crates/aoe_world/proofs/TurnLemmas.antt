@@ -14,6 +14,7 @@ use Rattle.aoe_net.specs.declared.refusal.NetRefusal.TheVariants.{Full}
 use Rattle.aoe_racks.proofs.Apart.{serves-apart}
 use Rattle.aoe_racks.specs.Rack.{is_apart as is_apart_of_slots, MemoryRack, Serves}
 use Rattle.aoe_run.specs.Run.{MeetsFull}
+use Rattle.aoe_run.proofs.FullLemmas.{full-more}
 use Rattle.aoe_world.proofs.AddsLemmas.{adds-keep, turn-adds, Adds, TellsOf}
 use Rattle.aoe_world.specs.declared.stage.Stage.{Stage}
 use Rattle.aoe_world.specs.Stage.{AllServe, AllSettled, HadTurns, IsLeft, IsNetwork, IsReady, IsTurning}
@@ -194,22 +195,23 @@ going-on old now new i end x y g there turn life shelves hosts frame = subst (λ
 pub going-broken : (old now : Stage) (m : List Entry) (i end : ℕ) (x : NamedHost) (refusal : NetRefusal) → Going old now i end → slice_get now.hosts.items i ≡ Some x
     → ((s : Setup) (host : HostSetup) (got : Option Got) → Awaits s host got now.run.entries x → IsLawful s now.run.entries
     → TurnSome host got now.run.entries m × IsLawful s m)
-    → (refusal ≡ Full → (s : Setup) (host : HostSetup) (got : Option Got) → Awaits s host got now.run.entries x → IsLawful s now.run.entries → MeetsFull s m)
+    → (refusal ≡ Full → (s : Setup) (host : HostSetup) (got : Option Got) → Awaits s host got now.run.entries x → IsLawful s now.run.entries → MeetsFull s (TurnSome host got now.run.entries) m)
     → (s : Setup) (majors : List ℕ) (got : Option Got) → IsNetwork s majors → IsTurning s majors got 0 old
-    → TurnsSome s s.hosts got old.run.entries m × IsLeft s refusal m
+    → IsLeft s (TurnsSome s s.hosts got old.run.entries) refusal m
 going-broken old now m i end x refusal g there turn full s majors got net begun =
     let gone = g.turns s majors got net begun in
     let k = gone.1 in
     let w = slice_get_within now.hosts.items i x there in
     let at = there-is s.hosts i (omega (arith, w, k.hosts_are.count)) in
     let waits = k.hosts_are.waiting i at.0 x at.1 there (omega arith) in
-    let t = turn s at.0 got waits k.lawful in (
-      turns-some s s.hosts i at.0 got old.run.entries now.run.entries m at.1 gone.0 t.0,
-      record {
-        lawful = t.1;
-        full = λ e. full e s at.0 got waits k.lawful;
-      },
-    )
+    let t = turn s at.0 got waits k.lawful in
+    let some : (n : List Entry) → TurnSome at.0 got now.run.entries n → TurnsSome s s.hosts got old.run.entries n =
+    (λ n part. turns-some s s.hosts i at.0 got old.run.entries now.run.entries n at.1 gone.0 part) in
+    record {
+      begun = some m t.0;
+      lawful = t.1;
+      full = λ e. full-more s (TurnSome at.0 got now.run.entries) (TurnsSome s s.hosts got old.run.entries) m some (full e s at.0 got waits k.lawful);
+    }
 
 -- all had their turn
 pub going-done : (old now : Stage) (i end : ℕ) → Going old now i end → end ≤ i → (s : Setup) (majors : List ℕ) (got : Option Got) → IsNetwork s majors → IsTurning s majors got 0 old

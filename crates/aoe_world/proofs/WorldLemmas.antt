@@ -15,6 +15,7 @@ use Rattle.aoe_history.specs.Lawful.{IsLawful}
 use Rattle.aoe_history.specs.Setup.{Setup}
 use Rattle.aoe_layout.specs.Layout.{majors_of, setup_of, stations_of, Placed}
 use Rattle.aoe_layout.specs.Stations.{CanCome}
+use Rattle.aoe_run.specs.Run.{IsWithin}
 use Rattle.aoe_script.specs.Lines.{ScriptLines}
 use Rattle.aoe_script.specs.Rules.{is_event}
 use Rattle.aoe_script.specs.declared.event.Event.{Event}
@@ -25,11 +26,14 @@ use Rattle.aoe_transcript.specs.Print.{IsFromLine}
 use Rattle.aoe_world.proofs.GroupLemmas.{follows-aside, follows-grows, grows-none, grows-on, little, AreOfLine, Grows, IsAside}
 use Rattle.aoe_world.proofs.GroupSome.{some-aside, some-grows}
 use Rattle.aoe_world.specs.declared.place.Place.{Place}
+use Rattle.aoe_net.specs.declared.refusal.NetRefusal.{NetRefusal}
+use Rattle.aoe_net.specs.declared.refusal.NetRefusal.TheVariants.{Full}
 use Rattle.aoe_world.specs.declared.refusal.WorldRefusal.{WorldRefusal}
+use Rattle.aoe_world.specs.declared.refusal.WorldRefusal.TheVariants.{NetFull, NoMemory}
 use Rattle.aoe_world.specs.declared.stage.Stage.{Stage}
 use Rattle.aoe_world.specs.Schedule.{acts_of, addressees, hand_each, handings, losses, Comes, ComesSome, Moves, MovesBy, MovesSome}
-use Rattle.aoe_world.specs.Stage.{IsReady}
-use Rattle.aoe_world.specs.World.{IsGoing, IsRefusedAt, IsStaged, IsWorld, Stepped}
+use Rattle.aoe_world.specs.Stage.{IsLeft, IsReady}
+use Rattle.aoe_world.specs.World.{IsCounted, IsGoing, IsRefusedAt, IsStaged, IsWorld, Stepped}
 
 -- ACTS THAT ARE ASIDE
 
@@ -124,22 +128,24 @@ module _ (script : ScriptLines) (places : List Place) (old new : Stage) (cursor 
   -- after an event of which all came
   pub stepped : (e : Event) → refused ≡ None → is_event e ≡ true → CanCome script.setups (setup_of script.setups) e
       → Comes (setup_of script.setups) script.setups e cursor old.run.entries behind new.run.entries → IsReady (setup_of script.setups) (majors_of script.setups) new
-      → (1 ≤ behind) × (behind ≤ suc (length (frames new.run.entries))) → IsWorld script places new behind (events + 1) refused
-  stepped e none good can comes ready at = record {
+      → (1 ≤ behind) × (behind ≤ suc (length (frames new.run.entries))) → IsWithin (frames new.run.entries) → IsWorld script places new behind (events + 1) refused
+  stepped e none good can comes ready at room = record {
     setup = world.setup;
     lawful = ready.lawful;
+    room = room;
     lines_are = (comes-grows (setup_of script.setups) script.setups e cursor old.run.entries behind new.run.entries good can comes).lines_are world.lines_are;
     going = λ same. goes-on e good can (world.going same) comes ready at;
-    refusal = subst (λ r. IfSome r (IsRefusedAt (setup_of script.setups) new.run.entries)) (sym none) tt;
+    refusal = subst (λ r. IfSome r (IsCounted (setup_of script.setups) new.run.entries)) (sym none) tt;
   }
 
   -- after an event that was refused
   pub stopped : (e : Event) (refusal : WorldRefusal) → is_event e ≡ true → CanCome script.setups (setup_of script.setups) e
       → ComesSome (setup_of script.setups) script.setups e cursor old.run.entries new.run.entries → IsLawful (setup_of script.setups) new.run.entries
-      → IsRefusedAt (setup_of script.setups) new.run.entries refusal → IsWorld script places new behind events (Some refusal)
-  stopped e refusal good can some lawful at = record {
+      → IsWithin (frames new.run.entries) → IsCounted (setup_of script.setups) new.run.entries refusal → IsWorld script places new behind events (Some refusal)
+  stopped e refusal good can some lawful room at = record {
     setup = world.setup;
     lawful = lawful;
+    room = room;
     lines_are = (some-comes (setup_of script.setups) script.setups e cursor old.run.entries new.run.entries good can some).lines_are world.lines_are;
     going = λ same. absurd cc;
     refusal = at;
@@ -156,14 +162,22 @@ pub seen-comes : (seen is : Stepped) (e : Event) (behind : ℕ) (m : List Entry)
     → Comes (setup_of seen.lines) seen.lines e seen.cursor seen.entries behind m
 seen-comes seen is e behind m same x = subst (λ (w : Stepped). Comes (setup_of w.lines) w.lines e w.cursor w.entries behind m) same x
 
-pub seen-begins : (seen is : Stepped) (e : Event) (m : List Entry) → is ≡ seen → ComesSome (setup_of is.lines) is.lines e is.cursor is.entries m
-    → IfNone seen.refused (ComesSome (setup_of seen.lines) seen.lines e seen.cursor seen.entries m)
-seen-begins seen is e m same x =
-    when seen.refused (subst (λ (w : Stepped). ComesSome (setup_of w.lines) w.lines e w.cursor w.entries m) same x)
-  where
-    when : {X : Type 0} (refused : Option WorldRefusal) → X → IfNone refused X
-    when None y = y
-    when (Some refusal) y = tt
+-- and what is left of it
+pub seen-left : (seen is : Stepped) (e : Event) (refusal : NetRefusal) (m : List Entry) → is ≡ seen
+    → IsLeft (setup_of is.lines) (ComesSome (setup_of is.lines) is.lines e is.cursor is.entries) refusal m
+    → IsLeft (setup_of seen.lines) (ComesSome (setup_of seen.lines) seen.lines e seen.cursor seen.entries) refusal m
+seen-left seen is e refusal m same x =
+    subst (λ (w : Stepped). IsLeft (setup_of w.lines) (ComesSome (setup_of w.lines) w.lines e w.cursor w.entries) refusal m) same x
+
+pub where-none : {X : Type 0} (refused : Option WorldRefusal) → X → IfNone refused X
+where-none None y = y
+where-none (Some refusal) y = tt
+
+-- why a beginning is refused
+pub refused-at : (s : Setup) (begins : List Entry → Type 0) (refusal : NetRefusal) (h : List Entry) (answer : WorldRefusal) → IsLeft s begins refusal h
+    → IsCounted s h answer → ((frames bytes : ℕ) → answer ≡ NetFull frames bytes → refusal ≡ Full) → IsRefusedAt s begins h answer
+refused-at s begins refusal h NoMemory left counted full = tt
+refused-at s begins refusal h (NetFull frames bytes) left counted full = (counted, left.full (full frames bytes refl))
 
 -- before any event
 pub new-world : (script : ScriptLines) (places : List Place) (stage : Stage) (cursor : ℕ) → IsStaged script places stage cursor
@@ -171,6 +185,7 @@ pub new-world : (script : ScriptLines) (places : List Place) (stage : Stage) (cu
 new-world script places stage cursor staged ready empty = record {
   setup = staged.network_is.setup;
   lawful = ready.lawful;
+  room = subst (λ (h : List Entry). IsWithin (frames h)) (sym empty) (record { few = omega arith; small = omega arith });
   lines_are = subst (All IsFromLine) (sym empty) (All-nil IsFromLine);
   going = λ same. record {
     staged = staged;

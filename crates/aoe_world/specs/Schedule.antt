@@ -112,6 +112,7 @@ pub record MovesSome (s : Setup) (acts : List Entry → ℕ → List Act) (n cur
   pub behind : ℕ
   pub mid : List Entry
   pub moves : Moves s acts cursor h count behind mid
+  pub there : behind ≤ length (frames mid)
   pub follows : FollowsSome s (acts mid behind) mid m
 
 abbrev pub ComesSome : Setup → List Line → Event → ℕ → List Entry → List Entry → Type 0

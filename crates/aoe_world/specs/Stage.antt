@@ -60,32 +60,32 @@ pub record IsTurning (s : Setup) (majors : List ℕ) (got : Option Got) (k : ℕ
   pub hosts_are : HadTurns s got stage.run.entries k stage.hosts.items
   pub shelves_are : AllServe s majors stage.run.entries stage.shelves.items
 
--- what no refusal takes from a history: it is lawful, and where the network was full it could go on by a frame for which there is no room
-pub record IsLeft (s : Setup) (refusal : NetRefusal) (h : List Entry) : Type 0 where
+-- What a refusal leaves: a beginning that is lawful, and where the network was full, no room for the next frame that it calls for.
+pub record IsLeft (s : Setup) (begins : List Entry → Type 0) (refusal : NetRefusal) (h : List Entry) : Type 0 where
+  pub begun : begins h
   pub lawful : IsLawful s h
-  pub full : refusal ≡ Full → MeetsFull s h
+  pub full : refusal ≡ Full → MeetsFull s begins h
 
 -- each host had its turn, or as many as could
 abbrev pub Settles : {T : Type 0} → Result T NetRefusal → Setup → List ℕ → Option Got → Stage → Stage → Type 0
 Settles (Ok u) s majors got old new = Turns s s.hosts got old.run.entries new.run.entries × IsReady s majors new
-Settles (Err refusal) s majors got old new = TurnsSome s s.hosts got old.run.entries new.run.entries × IsLeft s refusal new.run.entries
+Settles (Err refusal) s majors got old new = IsLeft s (TurnsSome s s.hosts got old.run.entries) refusal new.run.entries
 
 -- an act was done: its group of entries, or as much of it as could come
 abbrev pub Does : {T : Type 0} → Result T NetRefusal → Setup → List ℕ → Act → Stage → Stage → Type 0
 Does (Ok u) s majors act old new = Group s old.run.entries act new.run.entries × IsReady s majors new
-Does (Err refusal) s majors act old new = IsBegun s old.run.entries act new.run.entries × IsLeft s refusal new.run.entries
+Does (Err refusal) s majors act old new = IsLeft s (IsBegun s old.run.entries act) refusal new.run.entries
 
 -- acts were done one after another
 abbrev pub DoesAll : {T : Type 0} → Result T NetRefusal → Setup → List ℕ → List Act → Stage → Stage → Type 0
 DoesAll (Ok u) s majors acts old new = Follows s acts old.run.entries new.run.entries × IsReady s majors new
-DoesAll (Err refusal) s majors acts old new = FollowsSome s acts old.run.entries new.run.entries × IsLeft s refusal new.run.entries
+DoesAll (Err refusal) s majors acts old new = IsLeft s (FollowsSome s acts old.run.entries) refusal new.run.entries
 
 -- a frame was handed to these stations one after another, and it is said whether there is one
 abbrev pub HandsEach : Result Bool NetRefusal → Setup → List ℕ → ℕ → List Station → Stage → Stage → Type 0
 HandsEach (Ok any) s majors frame stations old new =
     (any ≡ nat_lt 0 (length stations)) × Follows s (map (Hand frame) stations) old.run.entries new.run.entries × IsReady s majors new
-HandsEach (Err refusal) s majors frame stations old new =
-    FollowsSome s (map (Hand frame) stations) old.run.entries new.run.entries × IsLeft s refusal new.run.entries
+HandsEach (Err refusal) s majors frame stations old new = IsLeft s (FollowsSome s (map (Hand frame) stations) old.run.entries) refusal new.run.entries
 
 -- where a station stands among the shelves or the hosts
 abbrev pub IsAt : Setup → List ℕ → At → Station → Type 0

@@ -8,7 +8,7 @@ use Rattle.aoe_history.specs.Frames.{clock, frames, network}
 use Rattle.aoe_history.specs.Lawful.{IsLawful}
 use Rattle.aoe_history.specs.Setup.{HostSetup, IsSetup, Setup}
 use Rattle.aoe_layout.specs.Layout.{majors_of, setup_of, stations_of}
-use Rattle.aoe_run.specs.Run.{MeetsFull}
+use Rattle.aoe_run.specs.Run.{IsWithin, MeetsFull}
 use Rattle.aoe_script.specs.declared.event.Event.{Event}
 use Rattle.aoe_script.specs.declared.setup.Setup.{Setup as Line}
 use Rattle.aoe_script.specs.Lines.{IsScript, ScriptLines}
@@ -29,10 +29,15 @@ pub record Stepped : Type 0 where
   pub events : ℕ
   pub refused : Option WorldRefusal
 
--- a network that is full has so many frames and bytes, and the history could go on by a frame for which there is no room
-abbrev pub IsRefusedAt : Setup → List Entry → WorldRefusal → Type 0
-IsRefusedAt s h NoMemory = Unit {0}
-IsRefusedAt s h (NetFull count bytes) = (count ≡ length (frames h)) × (bytes ≡ total_bytes (network s.life h)) × MeetsFull s h
+-- a network that is full has so many frames and bytes
+abbrev pub IsCounted : Setup → List Entry → WorldRefusal → Type 0
+IsCounted s h NoMemory = Unit {0}
+IsCounted s h (NetFull count bytes) = (count ≡ length (frames h)) × (bytes ≡ total_bytes (network s.life h))
+
+-- what has begun is refused for a frame that it calls for next, and for which the network has no room; or there was no memory
+abbrev pub IsRefusedAt : Setup → (List Entry → Type 0) → List Entry → WorldRefusal → Type 0
+IsRefusedAt s begins h NoMemory = Unit {0}
+IsRefusedAt s begins h (NetFull count bytes) = IsCounted s h (NetFull count bytes) × MeetsFull s begins h
 
 -- the stations of a script's setup lines, and a cursor on the frames so far or just behind them
 pub record IsStaged (script : ScriptLines) (places : List Place) (stage : Stage) (cursor : ℕ) : Type 0 where
@@ -47,7 +52,7 @@ abbrev pub Runs : {T : Type 0} → Result T NetRefusal → List Line → Event �
 Runs (Ok u) lines e cursor behind old new =
     Comes (setup_of lines) lines e cursor old.run.entries behind new.run.entries × IsReady (setup_of lines) (majors_of lines) new
 Runs (Err refusal) lines e cursor behind old new =
-    ComesSome (setup_of lines) lines e cursor old.run.entries new.run.entries × IsLeft (setup_of lines) refusal new.run.entries
+    IsLeft (setup_of lines) (ComesSome (setup_of lines) lines e cursor old.run.entries) refusal new.run.entries
 
 -- what holds of a world as long as it goes on: its stations are what the history says of them, and neither its time nor its tickets run
 -- out within 50,000 events
@@ -61,6 +66,7 @@ pub record IsGoing (script : ScriptLines) (places : List Place) (stage : Stage) 
 pub record IsWorld (script : ScriptLines) (places : List Place) (stage : Stage) (cursor events : ℕ) (refused : Option WorldRefusal) : Type 0 where
   pub setup : IsSetup (setup_of script.setups)
   pub lawful : IsLawful (setup_of script.setups) stage.run.entries
+  pub room : IsWithin (frames stage.run.entries)
   pub lines_are : All IsFromLine stage.run.entries
   pub going : refused ≡ None → IsGoing script places stage cursor events
-  pub refusal : IfSome refused (IsRefusedAt (setup_of script.setups) stage.run.entries)
+  pub refusal : IfSome refused (IsCounted (setup_of script.setups) stage.run.entries)

@@ -1,14 +1,15 @@
 //! A world: a run of a script's events through its shelves and its hosts.
-ghost use Rattle.std.specs.Prelude.{◌≡◌, ◌+◌, ◌<◌, [], All, None, Some, Err, IfErr, IfNone, IfOk, IfSome, OnErr, OnOk};
+ghost use Rattle.std.specs.Prelude.{ℕ, ◌≡◌, ◌+◌, ◌<◌, [], All, None, Some, Err, IfErr, IfNone, IfOk, IfSome, OnErr, OnOk};
 ghost use Rattle.aoe_history.specs.Lawful.{IsLawful};
 ghost use Rattle.aoe_history.specs.Reading.{HasReadLaw};
 ghost use Rattle.aoe_history.specs.Setup.{IsSetup, Setup};
+ghost use Rattle.aoe_history.specs.Frames.{frames};
 ghost use Rattle.aoe_layout.specs.Layout.{setup_of};
+ghost use Rattle.aoe_run.specs.Run.{IsWithin};
 ghost use Rattle.aoe_script.specs.Rules.{event_why};
 ghost use Rattle.aoe_transcript.specs.Print.{CanPrint};
 ghost use Rattle.aoe_world.specs.Schedule.{Comes, ComesSome};
-ghost use Rattle.aoe_world.specs.Stage.{IsLeft};
-ghost use Rattle.aoe_world.specs.World.{IsRefusedAt};
+ghost use Rattle.aoe_world.specs.World.{IsCounted, IsRefusedAt};
 
 use crate::refusal::WorldRefusal;
 use crate::replay::Replay;
@@ -24,7 +25,8 @@ use std::marker::Model;
 
 /// Why a world goes no further, where its run does.
 fn refusal_of(run: &Run, refusal: NetRefusal) -> WorldRefusal
-    ensures { (s : Setup) → IsLeft s refusal run.now.entries → IsRefusedAt s run.now.entries result }
+    ensures counted { (s : Setup) → IsCounted s run.now.entries result }
+    ensures full { (frames bytes : ℕ) → result ≡ WorldRefusal.NetFull frames bytes → refusal ≡ NetRefusal.Full }
 {
     match refusal {
         NetRefusal::NoMemory => WorldRefusal::NoMemory,
@@ -93,6 +95,7 @@ impl World<'_> {
         ensures history { result.now ≡ self.now.entries }
         ensures lawful { IsLawful (setup_of self.now.lines) self.now.entries }
         ensures reading { HasReadLaw (setup_of self.now.lines) self.now.entries }
+        ensures room { IsWithin (frames self.now.entries) }
         ensures printable { All CanPrint self.now.entries }
     {
         read_law();
@@ -115,9 +118,11 @@ impl World<'_> {
         ensures refused { IfSome self.old.refused (λ refusal. (result ≡ Err refusal) × (self.new ≡ self.old)) }
         ensures comes { OnOk result (Comes (setup_of self.old.lines) self.old.lines event.now self.old.cursor self.old.entries self.new.cursor self.new.entries) }
         ensures begins { IfNone self.old.refused (OnErr result (ComesSome (setup_of self.old.lines) self.old.lines event.now self.old.cursor self.old.entries self.new.entries)) }
-        ensures why { IfErr result (λ refusal. (self.new.refused ≡ Some refusal) × IsRefusedAt (setup_of self.new.lines) self.new.entries refusal) }
+        ensures why { IfNone self.old.refused (IfErr result (λ refusal. IsRefusedAt (setup_of self.old.lines) (ComesSome (setup_of self.old.lines) self.old.lines event.now self.old.cursor self.old.entries) self.new.entries refusal)) }
+        ensures stays { IfErr result (λ refusal. (self.new.refused ≡ Some refusal) × IsCounted (setup_of self.new.lines) self.new.entries refusal) }
         ensures lawful { IsLawful (setup_of self.new.lines) self.new.entries }
         ensures reading { HasReadLaw (setup_of self.new.lines) self.new.entries }
+        ensures room { IsWithin (frames self.new.entries) }
         ensures events { OnOk result ((self.new.events ≡ self.old.events + 1) × (self.new.refused ≡ None)) }
         ensures uncounted { OnErr result (self.new.events ≡ self.old.events) }
         ensures lines { self.new.lines ≡ self.old.lines }
@@ -127,7 +132,9 @@ impl World<'_> {
         if let Some(refusal) = self.refusal {
             return Err(refusal);
         }
-        match self.replay.run(event) {
+        let ran = self.replay.run(event);
+        let _ = self.replay.stage.run.history();
+        match ran {
             Ok(()) => {
                 self.events += 1;
                 Ok(())

@@ -4,12 +4,13 @@ use Rattle.aoe_initiator.specs.declared.step.Sent.{Sent}
 use Rattle.aoe_net.specs.Network.{IsFull}
 use Rattle.aoe_history.specs.declared.entry.Entry.TheVariants.{Sent as Happened}
 use Rattle.aoe_history.specs.Frames.{next_number}
+use Rattle.aoe_history.specs.Groups.{SendsSome}
 use Rattle.aoe_history.specs.Groups.SendsSome.{sends_none}
 use Rattle.aoe_run.specs.Run.{network_of, with_entry, MeetsFull, Recorded}
 use Rattle.aoe_hosts.specs.Host.{IsSettled, NamedHost}
 use Rattle.aoe_hosts.specs.Turns.{HasSent}
 use Rattle.aoe_hosts.proofs.IdLemmas.{ids-same}
-use Rattle.aoe_hosts.proofs.SendLemmas.{meets-full, sent-more, settled-quiet, Pulled}
+use Rattle.aoe_hosts.proofs.SendLemmas.{sends-full, sent-more, settled-quiet, Pulled}
 use Rattle.aoe_hosts.proofs.host.NamedHost.send_all.Goals as goal
 
 pub frames-init : goal.frames-init
@@ -75,8 +76,8 @@ returns-in-Err-clause-full c = λ is_full s host settled lawful.
     } in
     let before = c.frames.invariant.sent s host settled lawful in
     let full : IsFull (network_of c.frames.run) f = subst (λ (l : List ℕ). IsFull (network_of c.frames.run) l) c.as_slice.ensures.value (c.in-Err.ensures.full is_full) in
-    subst (λ (r : Recorded). MeetsFull s r.entries) (sym c.in-Err.ensures.err)
-    (meets-full s host c.frames.run.entries x before.1 before.0.lawful sent f c.pull.new.self pulled c.frames.run.life full)
+    subst (λ (r : Recorded). MeetsFull s (SendsSome c.args.self.now.name c.args.run.now.entries) r.entries) (sym c.in-Err.ensures.err)
+    (sends-full s host c.args.self.now.name c.args.run.now.entries c.frames.run.entries x sent f c.pull.new.self c.frames.run.life c.frames.invariant.name pulled before full)
 
 pub returns-clause-some : goal.returns-clause-some
 returns-clause-some c = λ s host settled lawful. (c.frames.invariant.sent s host settled lawful).0

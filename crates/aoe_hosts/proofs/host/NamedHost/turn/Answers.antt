@@ -1,5 +1,5 @@
 use Rattle.aoe_hosts.proofs.TellLemmas.{by-ok}
-use Rattle.aoe_hosts.proofs.TurnLemmas.{at-err, turn-over, turn-sends, turn-tells}
+use Rattle.aoe_hosts.proofs.TurnLemmas.{at-err, turn-full, turn-over, turn-sends, turn-tells}
 use Rattle.aoe_hosts.proofs.host.NamedHost.turn.Goals as goal
 
 pub returns-in-Ok-clause-ok : goal.returns-in-Ok-clause-ok
@@ -17,7 +17,7 @@ returns-in-Ok-clause-err c = at-err c.send_all.result (λ s host got waits lawfu
 pub returns-in-Ok-clause-full : goal.returns-in-Ok-clause-full
 returns-in-Ok-clause-full c = λ full s host got waits lawful.
     let tells = c.in-Ok.ensures.ok s host got waits lawful in
-    c.send_all.ensures.full full s host tells.settled tells.lawful
+    turn-full s host got c.args.run.now.entries c.catch_up.new.run.entries c.send_all.new.run.entries c.catch_up.new.self tells (c.send_all.ensures.full full s host tells.settled tells.lawful)
 
 pub returns-in-Err-clause-err : goal.returns-in-Err-clause-err
 returns-in-Err-clause-err c = λ s host got waits lawful.

@@ -1,24 +1,34 @@
 -- Each exit, by what is known of the slots that the frame came to.
 use Rattle.std.proofs.Common.{◌≡◌, ◌≤◌, length, Option, Ok, Err, sym, ap, subst, ◌∙◌, arith, add-one}
-use Rattle.std.specs.Prelude.{OnErr, Result}
+use Rattle.std.specs.Prelude.{IsErrAnd, OnErr, Result}
+use Rattle.aoe_net.specs.declared.refusal.NetRefusal.TheVariants.{Full}
 use Rattle.aoe_disk.specs.declared.loss.Loss.{Loss}
 use Rattle.aoe_history.specs.Groups.{ArriveAtSome}
 use Rattle.aoe_history.specs.Lawful.{IsLawful}
 use Rattle.aoe_run.specs.Run.{Recorded}
 use Rattle.aoe_racks.specs.Arrival.{ComesToSlot, IsCut}
 use Rattle.aoe_racks.specs.Rack.{MemoryRack}
-use Rattle.aoe_racks.proofs.ArrivalLemmas.{crashed-each, crashed-some, goes-of, passes-all, passes-on, passes-some}
+use Rattle.aoe_racks.proofs.ArrivalLemmas.{crashed-each, crashed-some, goes-of, passes-all, passes-full, passes-on, passes-some}
 use Rattle.aoe_racks.proofs.rack.MemoryRack.arrive.Goals as goal
 
 on-err : {T E : Type 0} (r : Result T E) (P : Type 0) → P → OnErr r P
 on-err (Ok x) P p = tt
 on-err (Err e) P p = p
 
+of-err : {T E : Type 0} (r : Result T E) (e : E) (P : E → Type 0) → IsErrAnd r P → r ≡ Err e → P e
+of-err (Ok x) e P p is = absurd p
+of-err (Err y) e P p is = subst P (cc) p
+
 pub returns-in_err-how-clause-err : goal.returns-in_err-how-clause-err
 returns-in_err-how-clause-err c = on-err c.from_residual.result _ (λ s slots shelf serves lawful fresh.
     let p = c.slots.invariant.passes s slots (record { shelf = shelf; serves = serves; lawful = lawful; fresh = fresh }) in
     subst (λ (r : Recorded). ArriveAtSome c.args.number.0 c.args.frame.now slots slots c.args.run.now.entries r.entries × IsLawful s r.entries) (sym c.in_err-how.ensures.err)
     (passes-some s slots c.slots.slot _ _ _ _ _ p, p.reached.lawful))
+
+pub returns-in_err-how-clause-full : goal.returns-in_err-how-clause-full
+returns-in_err-how-clause-full c full s slots shelf serves lawful fresh =
+    let p = c.slots.invariant.passes s slots (record { shelf = shelf; serves = serves; lawful = lawful; fresh = fresh }) in
+    passes-full s slots c.slots.slot _ _ _ _ _ p _ (c.in_err-how.ensures.full (ap Err (sym (of-err c.from_residual.result Full _ c.from_residual.ensures.1 full))) s slots p.reached)
 
 pub returns-in-Ok-clause-ok : goal.returns-in-Ok-clause-ok
 returns-in-Ok-clause-ok c s slots shelf serves lawful fresh =

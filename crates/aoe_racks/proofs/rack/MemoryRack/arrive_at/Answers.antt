@@ -1,5 +1,7 @@
 -- What is known when the frame was handed to the target: one turn.
-use Rattle.std.proofs.Common.{◌≡◌, Err, map, refl, sym, ap, subst, ◌∙◌}
+use Rattle.std.proofs.Common.{◌≡◌, Err, List, drop, map, refl, sym, ap, subst, ◌∙◌}
+use Rattle.aoe_history.specs.declared.entry.Entry.{Entry}
+use Rattle.aoe_history.specs.Groups.{ArriveAtSome}
 use Rattle.aoe_net.specs.declared.refusal.NetRefusal.TheVariants.{Full}
 use Rattle.aoe_disk.specs.Memory.{Memory}
 use Rattle.aoe_target.specs.Mounted.{Mounted}
@@ -32,9 +34,10 @@ returns-in-Err-clause-full c full s slots reached =
       read = c.deref.ensures.0;
       is = c.stop_at-stop.ensures;
     } in
-    let here : MeetsFull s c.args.run.now.entries =
+    let begins : List Entry → Type 0 = ArriveAtSome c.args.number.0 c.args.frame.now slots (drop c.args.slot slots) c.args.run.now.entries in
+    let here : MeetsFull s begins c.args.run.now.entries =
     turn-full _ _ _ _ _ _ _ _ _ _ _ turn s slots _ _ _ c.self.view_is reached c.args.run.now.life (c.take_down.ensures.full (c.in-Err.is ∙ ap Err is)) in
-    subst (λ (r : Recorded). MeetsFull s r.entries) (sym stays) here
+    subst (λ (r : Recorded). MeetsFull s begins r.entries) (sym stays) here
 
 pub returns-clause-comes : goal.returns-clause-comes
 returns-clause-comes c s slots reached =

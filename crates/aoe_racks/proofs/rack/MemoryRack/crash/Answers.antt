@@ -4,6 +4,7 @@ use Rattle.aoe_disk.specs.Memory.{Memory}
 use Rattle.aoe_shelf.specs.Shelf.{Rack}
 use Rattle.aoe_target.specs.Mounted.{Mounted}
 use Rattle.aoe_run.specs.Run.{Recorded}
+use Rattle.aoe_racks.specs.Crash.{RestartEach}
 use Rattle.aoe_racks.specs.Rack.{AreTargets, MemoryRack, Stands}
 use Rattle.aoe_racks.proofs.FrontLemmas.{restart_targets, same_stations}
 use Rattle.aoe_racks.proofs.HistoryLemmas.{all_noted, on_err, on_ok, some_noted}
@@ -34,3 +35,10 @@ pub returns-clause-stations : goal.returns-clause-stations
 returns-clause-stations c =
     same_stations c.args.how c.self.inside.shelf.targets c.restart.new.shelf.targets c.restart.ensures.restarts
     ∙ ap (λ (x : MemoryRack). map (λ (t : Mounted Memory Memory). t.station) x.shelf.targets) c.self.view_is
+
+pub returns-clause-restarts : goal.returns-clause-restarts
+returns-clause-restarts c =
+    subst (λ (x : MemoryRack). RestartEach c.args.how x.shelf.targets c.restart.new.shelf.targets) c.self.view_is c.restart.ensures.restarts
+
+pub returns-clause-found : goal.returns-clause-found
+returns-clause-found c = on_ok c.note_each.result c.note_each.ensures.ok (λ e. ap (λ (r : Recorded). r.entries) e)

@@ -20,7 +20,7 @@ returns-in-Err-clause-runs c =
     (subst (λ xs. ArePlaces (setup_of c.args.self.now.script.now.setups) (majors_of c.args.self.now.script.now.setups) (stations_of c.args.self.now.script.now.setups) xs)
     (sym (c.as_slice.ensures.value ∙ ap (λ v. v.items) c.passed.invariant.places)) c.requires.staged.places_are) in
     passed-begun (setup_of c.args.self.now.script.now.setups) (majors_of c.args.self.now.script.now.setups) (handings (setup_of c.args.self.now.script.now.setups) (stations_of c.args.self.now.script.now.setups)) c.args.self.now.cursor c.args.self.now.stage
-    c.passed.counter c.passed.self.cursor c.passed.self.stage p c.args.n c.in-Err.refusal c.treat.new.self c.passed-test.true d
+    c.passed.counter c.passed.self.cursor c.passed.self.stage p c.args.n c.in-Err.refusal c.treat.new.self c.passed-test.true (omega arith) d
 
 pub passed-preserved : goal.passed-preserved
 passed-preserved c =

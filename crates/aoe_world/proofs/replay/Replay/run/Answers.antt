@@ -2,9 +2,10 @@ use Rattle.std.proofs.Common.{◌-◌, refl, ap, [], ◌∷◌, None, Some}
 use Rattle.aoe_history.specs.Groups.Act.{Arm, Crash, Hand, Inject, Tick}
 use Rattle.aoe_history.specs.Asks.{submission_in}
 use Rattle.aoe_layout.specs.Layout.{majors_of, setup_of, stations_of}
+use Rattle.aoe_script.specs.declared.event.Event.TheVariants as event
 use Rattle.aoe_world.specs.declared.replay.Replay.{Replay}
 use Rattle.aoe_world.specs.Schedule.{handings, major_of, station_called}
-use Rattle.aoe_world.proofs.ReplayLemmas.{asked-cursor, asked-runs, does-cursor, inject-runs, injected-apart, is-asked, tick-runs}
+use Rattle.aoe_world.proofs.ReplayLemmas.{asked-cursor, asked-runs, does-cursor, inject-runs, injected-apart, is-asked, line-runs, tick-runs}
 use Rattle.aoe_world.proofs.ScheduleLemmas.{does-all}
 use Rattle.aoe_world.proofs.replay.Replay.run.Goals as goal
 
@@ -72,3 +73,23 @@ pub returns-in-Crash-clause-cursor : goal.returns-in-Crash-clause-cursor
 returns-in-Crash-clause-cursor c =
     does-cursor c.crash.result (setup_of c.args.self.now.script.now.setups) (majors_of c.args.self.now.script.now.setups) (Crash (major_of (station_called c.args.self.now.script.now.setups c.in-Crash.shelf)) c.in-Crash.mode ∷ []) c.args.self.now.cursor c.crash.new.self.cursor c.args.self.now.stage c.crash.new.self.stage (ap (λ (x : Replay). x.cursor) c.crash.ensures.rest)
     c.requires.staged.from_one c.requires.staged.within c.crash.ensures.does
+
+pub returns-in-Deliver-clause-runs : goal.returns-in-Deliver-clause-runs
+returns-in-Deliver-clause-runs c =
+    line-runs c.deliver.result c.args.self.now.script.now.setups (event.Deliver c.in-Deliver.frame c.in-Deliver.station) c.args.event.now (Hand c.in-Deliver.frame (station_called c.args.self.now.script.now.setups c.in-Deliver.station) ∷ []) c.args.self.now.cursor c.deliver.new.self.cursor c.args.self.now.stage c.deliver.new.self.stage
+    c.in-Deliver.is (λ y. y) (λ m y. y) (ap (λ (x : Replay). x.cursor) c.deliver.ensures.rest) c.deliver.ensures.does
+
+pub returns-in-Fail-clause-runs : goal.returns-in-Fail-clause-runs
+returns-in-Fail-clause-runs c =
+    line-runs c.arm.result c.args.self.now.script.now.setups (event.Fail c.in-Fail.dev c.in-Fail.which c.in-Fail.k) c.args.event.now (Arm c.in-Fail.dev c.in-Fail.which c.in-Fail.k None ∷ []) c.args.self.now.cursor c.arm.new.self.cursor c.args.self.now.stage c.arm.new.self.stage
+    c.in-Fail.is (λ y. y) (λ m y. y) (ap (λ (x : Replay). x.cursor) c.arm.ensures.rest) c.arm.ensures.does
+
+pub returns-in-Stop-clause-runs : goal.returns-in-Stop-clause-runs
+returns-in-Stop-clause-runs c =
+    line-runs c.arm-in-Stop.result c.args.self.now.script.now.setups (event.Stop c.in-Stop.dev c.in-Stop.which c.in-Stop.k c.in-Stop.mode) c.args.event.now (Arm c.in-Stop.dev c.in-Stop.which c.in-Stop.k (Some c.in-Stop.mode) ∷ []) c.args.self.now.cursor c.arm-in-Stop.new.self.cursor c.args.self.now.stage c.arm-in-Stop.new.self.stage
+    c.in-Stop.is (λ y. y) (λ m y. y) (ap (λ (x : Replay). x.cursor) c.arm-in-Stop.ensures.rest) c.arm-in-Stop.ensures.does
+
+pub returns-in-Crash-clause-runs : goal.returns-in-Crash-clause-runs
+returns-in-Crash-clause-runs c =
+    line-runs c.crash.result c.args.self.now.script.now.setups (event.Crash c.in-Crash.shelf c.in-Crash.mode) c.args.event.now (Crash (major_of (station_called c.args.self.now.script.now.setups c.in-Crash.shelf)) c.in-Crash.mode ∷ []) c.args.self.now.cursor c.crash.new.self.cursor c.args.self.now.stage c.crash.new.self.stage
+    c.in-Crash.is (λ y. y) (λ m y. y) (ap (λ (x : Replay). x.cursor) c.crash.ensures.rest) c.crash.ensures.does

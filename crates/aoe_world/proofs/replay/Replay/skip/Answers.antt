@@ -21,7 +21,7 @@ returns-in-Err-clause-runs c =
     let d = subst (λ k. Does {T = Unit {0}} (Err c.in-Err.refusal) (setup_of c.args.self.now.script.now.setups) (majors_of c.args.self.now.script.now.setups) (Lose k) c.skipped.self.stage c.lose.new.self)
     c.from.ensures (c.in-Err.ensures (setup_of c.args.self.now.script.now.setups) (majors_of c.args.self.now.script.now.setups) c.requires.staged.network_is p.ready) in
     passed-begun (setup_of c.args.self.now.script.now.setups) (majors_of c.args.self.now.script.now.setups) losses c.args.self.now.cursor c.args.self.now.stage
-    c.skipped.counter c.skipped.self.cursor c.skipped.self.stage p c.args.n c.in-Err.refusal c.lose.new.self c.skipped-test.true
+    c.skipped.counter c.skipped.self.cursor c.skipped.self.stage p c.args.n c.in-Err.refusal c.lose.new.self c.skipped-test.true (omega arith)
     (does-all {T = Unit {0}} (Err c.in-Err.refusal) (setup_of c.args.self.now.script.now.setups) (majors_of c.args.self.now.script.now.setups) (Lose c.skipped.self.cursor) c.skipped.self.stage c.lose.new.self d)
 
 pub skipped-preserved : goal.skipped-preserved

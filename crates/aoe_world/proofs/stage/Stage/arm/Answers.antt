@@ -1,17 +1,15 @@
-use Rattle.std.proofs.Common.{refl, ap, arith, inl, length, sym, subst, ◌∙◌, ◌≡◌, Option, Some, None, IfSome, IsSomeAnd}
+use Rattle.std.proofs.Common.{refl, ap, arith, length, sym, subst, ◌∙◌, ◌≡◌, Option, Some, None, IfSome, IsSomeAnd}
 use Rattle.std.specs.Prelude.{slice_get}
 use Rattle.std.proofs.lemmas.Option.{slice_get_read, slice_get_within, same_Some}
 use Rattle.aoe_history.specs.declared.entry.Entry.TheVariants.{Armed}
 use Rattle.aoe_history.specs.Groups.Act.{Arm}
 use Rattle.aoe_history.specs.Lawful.{IsLawful}
 use Rattle.aoe_history.specs.Setup.{shelf_of}
-use Rattle.aoe_net.specs.declared.refusal.NetRefusal.TheVariants.{NoMemory}
 use Rattle.aoe_racks.specs.Rack.{MemoryRack}
 use Rattle.aoe_run.specs.Run.{with_entry, Recorded}
-use Rattle.aoe_world.proofs.ActLemmas.{act-done, no-memory}
+use Rattle.aoe_world.proofs.ActLemmas.{act-done, none-came}
 use Rattle.aoe_world.proofs.ShelfActLemmas.{has-armed}
 use Rattle.aoe_world.proofs.TurnLemmas.{there-is}
-use Rattle.aoe_world.specs.Stage.{IsLeft}
 use Rattle.aoe_world.proofs.stage.Stage.arm.Goals as goal
 
 each : {X : Type 0} (Q : X → Type 0) (o : Option X) → ((x : X) → o ≡ Some x → Q x) → IfSome o Q
@@ -48,4 +46,4 @@ pub returns-in-Err : goal.returns-in-Err
 returns-in-Err c s majors net k =
     let same = c.in-Err.ensures.err in
     each _ (slice_get c.args.self.now.shelves.items c.args.shelf) (λ x ex. each _ (slice_get x.shelf.targets c.args.slot) (λ t et.
-    (inl (ap (λ r. r.entries) same), subst (λ (r : Recorded). IsLeft s NoMemory r.entries) (sym same) (no-memory s c.args.self.now.run.entries k.lawful))))
+    none-came s (Arm t.station.id c.args.which c.args.k c.args.mode) c.args.self.now.run.entries _ refl (ap (λ r. r.entries) same) k.lawful))

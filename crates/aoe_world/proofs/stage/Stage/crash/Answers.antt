@@ -1,5 +1,6 @@
 use Rattle.std.proofs.Common.{refl, inl, length, ◌∙◌, None}
 use Rattle.std.proofs.lemmas.Option.{slice_get_read}
+use Rattle.aoe_history.specs.Groups.{IsBegun}
 use Rattle.aoe_history.specs.Groups.Act.{Crash}
 use Rattle.aoe_history.specs.Setup.{shelf_of}
 use Rattle.aoe_racks.proofs.Apart.{serves-stands}
@@ -25,4 +26,4 @@ returns-in-Err c s majors major net k em =
     let ex = slice_get_read old.shelves.items (length old.shelves.items) c.args.shelf x refl c.requires c.index_mut.ensures.value in
     let stands = serves-stands (shelf_of s major) old.run.entries x (k.shelves_are.each c.args.shelf major x em ex) in
     let t = c.in-Err.ensures.err s (shelf_of s major) (net.slots c.args.shelf major em) stands k.lawful in
-    (inl t.0, no-memory s c.crash.new.run.entries t.1)
+    no-memory s (IsBegun s old.run.entries (Crash major c.args.how)) c.crash.new.run.entries (inl t.0) t.1

@@ -19,7 +19,7 @@ returns-in-Err c s majors stations net ready are =
     let t = test-is c.args.self.now.frame.items c.places.self.frame.items c.part.result.now c.part-in-places.result.now c.deref.result.now c.deref-in-places.result.now x.placed
     c.place-item.result.ports.items c.gets.result x.ports (ap (λ z. z.items) h.frame) c.deref.ensures.0 c.deref-in-places.ensures.0 c.part.ensures c.part-in-places.ensures c.gets.ensures ∙ c.if-gets.true in
     let d = c.in-Err.ensures.does s majors x.placed.station net h.ready x.at_is (h.fresh ∙ ap (λ z. Some z.items) (sym h.frame)) in
-    handed-begun s majors stations c.args.number.0 c.args.self.now c.places.place-index x.placed c.places.any c.places.self x.there_is h c.in-Err.refusal c.hand.new.self t d.0 d.1
+    handed-begun s majors stations c.args.number.0 c.args.self.now c.places.place-index x.placed c.places.any c.places.self x.there_is h c.in-Err.refusal c.hand.new.self t d
 
 pub places-preserved : goal.places-preserved
 places-preserved c s majors stations net ready are =

@@ -1,13 +1,10 @@
-use Rattle.std.proofs.Common.{refl, ap, inl, length, sym, subst, ◌≡◌, ◌∙◌, Some}
+use Rattle.std.proofs.Common.{refl, ap, length, sym, subst, ◌≡◌, ◌∙◌, Some}
 use Rattle.std.proofs.lemmas.Option.{slice_get_read}
 use Rattle.aoe_history.specs.Frames.{arriving}
 use Rattle.aoe_history.specs.Groups.Act.{Hand}
 use Rattle.aoe_history.specs.Groups.Station.{Host as HostStation}
-use Rattle.aoe_run.specs.Run.{Recorded}
-use Rattle.aoe_world.proofs.ActLemmas.{act-done, no-memory}
+use Rattle.aoe_world.proofs.ActLemmas.{act-done, none-came}
 use Rattle.aoe_world.proofs.HostActLemmas.{has-taken}
-use Rattle.aoe_world.specs.Stage.{IsLeft}
-use Rattle.aoe_net.specs.declared.refusal.NetRefusal.TheVariants.{NoMemory}
 use Rattle.aoe_world.proofs.stage.Stage.hand_to_host.Goals as goal
 
 pub returns-in-Ok-clause-does : goal.returns-in-Ok-clause-does
@@ -22,4 +19,4 @@ returns-in-Ok-clause-does c s majors name net k (host, at, called) fresh =
 pub returns-in-Err-clause-does : goal.returns-in-Err-clause-does
 returns-in-Err-clause-does c s majors name net k at fresh =
     let same = c.in-Err.ensures.err in
-    (inl (ap (λ r. r.entries) same), subst (λ (r : Recorded). IsLeft s NoMemory r.entries) (sym same) (no-memory s c.args.self.now.run.entries k.lawful))
+    none-came s (Hand c.args.number.0 (HostStation name)) c.args.self.now.run.entries _ refl (ap (λ r. r.entries) same) k.lawful

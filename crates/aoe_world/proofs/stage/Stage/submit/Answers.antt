@@ -1,12 +1,9 @@
-use Rattle.std.proofs.Common.{refl, ap, inl, length, sym, subst, ◌∙◌, ◌≡◌, Option, Some, None, IfSome}
+use Rattle.std.proofs.Common.{refl, ap, length, subst, ◌∙◌, ◌≡◌, Option, Some, None, IfSome}
 use Rattle.std.proofs.lemmas.Option.{slice_get_read}
 use Rattle.aoe_history.specs.Groups.Act.{Submit}
 use Rattle.aoe_history.specs.Asks.{submission_in}
-use Rattle.aoe_net.specs.declared.refusal.NetRefusal.TheVariants.{NoMemory}
-use Rattle.aoe_run.specs.Run.{Recorded}
-use Rattle.aoe_world.proofs.ActLemmas.{act-done, no-memory}
+use Rattle.aoe_world.proofs.ActLemmas.{act-done, none-came}
 use Rattle.aoe_world.proofs.HostActLemmas.{has-submitted}
-use Rattle.aoe_world.specs.Stage.{IsLeft}
 use Rattle.aoe_world.proofs.stage.Stage.submit.Goals as goal
 
 each : {X : Type 0} (Q : X → Type 0) (o : Option X) → ((x : X) → o ≡ Some x → Q x) → IfSome o Q
@@ -31,4 +28,4 @@ pub returns-in-Err : goal.returns-in-Err
 returns-in-Err c s majors name net k at =
     let same = c.in-Err.ensures.err in
     each _ (submission_in c.args.event.now) (λ q e.
-    (inl (ap (λ r. r.entries) same), subst (λ (r : Recorded). IsLeft s NoMemory r.entries) (sym same) (no-memory s c.args.self.now.run.entries k.lawful)))
+    none-came s (Submit name q.dev q.op) c.args.self.now.run.entries _ refl (ap (λ r. r.entries) same) k.lawful)

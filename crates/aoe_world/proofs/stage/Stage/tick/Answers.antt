@@ -1,6 +1,6 @@
 use Rattle.std.proofs.Common.{refl, ap, None}
 use Rattle.aoe_history.specs.Groups.Act.{Tick}
-use Rattle.aoe_world.proofs.ActLemmas.{act-done, turning-ticked}
+use Rattle.aoe_world.proofs.ActLemmas.{act-done, none-came, turning-ticked}
 use Rattle.aoe_world.proofs.stage.Stage.tick.Goals as goal
 
 pub returns-in-Ok : goal.returns-in-Ok
@@ -9,3 +9,6 @@ returns-in-Ok c s majors net k =
     let run = c.in-Ok.ensures.ok in
     act-done c.settle.result s majors (Tick c.args.ms) None c.args.self.now mid c.settle.new.self (refl, ap (λ r. r.entries) run)
     (c.settle.ensures.settles s majors None net (turning-ticked s majors c.args.self.now mid c.args.ms k run refl refl))
+
+pub returns-in-Err : goal.returns-in-Err
+returns-in-Err c s majors net k = none-came s (Tick c.args.ms) c.args.self.now.run.entries _ refl (ap (λ r. r.entries) c.in-Err.ensures.err) k.lawful
