@@ -5,7 +5,7 @@ use thiserror::Error;
 #[derive(Clone, Copy, Debug, PartialEq, Eq, Error)]
 pub enum WorldRefusal {
     /// An allocation was refused.
-    #[error("no memory")]
+    #[error("out of memory")]
     NoMemory,
 
     /// The network has no room for the next frame: it has so many frames, of so many bytes together.
