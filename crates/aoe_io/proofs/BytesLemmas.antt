@@ -1,9 +1,9 @@
 -- Bytes that are given and taken one piece after the other.
-use Rattle.std.proofs.Common.{◌≡◌, ℕ, List, [], ◌∷◌, ◌++◌, ◌*◌, ◌/◌, ◌%◌, ◌<◌, length, take, drop, get_or, ◌-◌, ◌+◌, ◌≤◌, min, subst, Option, Some, None, refl, sym, ap, ◌∙◌, append_assoc, append-nil, arith}
+use Rattle.std.proofs.Common.{◌≡◌, ℕ, List, [], ◌∷◌, ◌++◌, ◌*◌, ◌/◌, ◌%◌, ◌<◌, length, take, drop, get_or, ◌-◌, ◌+◌, ◌≤◌, subst, Option, Some, None, refl, sym, ap, ◌∙◌, append_assoc, append-nil, arith, length-append}
 use Rattle.std.specs.Option.{option_map}
 use Rattle.std.proofs.Math.Seq.{take-add, take-append-add}
 use borrow.Rule.Slice.PartMut.{put_mid, mid_of, post_of, same_len_mid}
-use Rattle.std.proofs.lemmas.List.{length-take, length-drop, take_rest, take_min, take-append-le, take-append-drop, drop-drop}
+use Rattle.std.proofs.lemmas.List.{length-take, length-drop, take_rest, take-append-le, take-append-drop, drop-drop}
 use Rattle.std.specs.Int.{w16, to_be_bytes}
 use Rattle.aoe_io.specs.Bytes.{Gave, GaveSome, Took, TookSome}
 use Rattle.aoe_io.specs.Stream.{framed}
@@ -35,14 +35,13 @@ Took-then (Some r) b c p q e f = f ∙ ap (option_map (λ held. held ++ q)) e �
 pub TookSome-then : (a b c : Option (List ℕ)) (p q : List ℕ) → Took a b p → TookSome b c q → TookSome a c (p ++ q)
 TookSome-then a b c p q all some =
     let P : List ℕ → Type 0 = λ xs. Took a c xs in
-    (length p + some.0, subst P (sym (take-append-add p q some.0)) (Took-then a b c p (take some.0 q) all some.1))
+    (length p + some.0, omega (arith, some.1, length-append p q), subst P (sym (take-append-add p q some.0)) (Took-then a b c p (take some.0 q) all some.2))
 
 -- a sink that took a part of p took a part of p and q
 pub TookSome-front : (a b : Option (List ℕ)) (p q : List ℕ) → TookSome a b p → TookSome a b (p ++ q)
 TookSome-front a b p q some =
     let P : List ℕ → Type 0 = λ xs. Took a b xs in
-    let m : ℕ = min some.0 (length p) in
-    (m, subst P (sym (take-append-le m p q (omega arith) ∙ take_min some.0 p)) some.1)
+    (some.0, omega (arith, some.1, length-append p q), subst P (sym (take-append-le some.0 p q (omega (arith, some.1)))) some.2)
 
 -- a count of a rest of a list is within the list
 pub count-within : (xs : List ℕ) (d n : ℕ) → d ≤ length xs → n ≤ length (take (length xs - d) (drop d xs)) → d + n ≤ length xs

@@ -1,5 +1,5 @@
 //! Frames that come in and go out.
-ghost use Rattle.std.specs.Prelude.{◌≡◌, ◌<◌, ◌≤◌, ◌∷◌, ℕ, List, [], Option, Some, None, Ok, drop, IfOk, IfSome, OnOk, OnErr};
+ghost use Rattle.std.specs.Prelude.{◌≡◌, ◌<◌, ◌≤◌, ◌+◌, ◌∷◌, ℕ, List, [], Option, Some, None, Ok, drop, IfOk, IfSome, OnOk, OnErr};
 ghost use Rattle.std.specs.Option.{option_map};
 ghost use Rattle.aoe_base.specs.Faults.{Rose};
 ghost use Rattle.aoe_io.specs.Link.{Added, GaveTurns, Turn, next_of, turn_of};
@@ -35,7 +35,7 @@ pub trait Link {
     // The Ok calls of `recv`, up to the greatest u64.
     ghost turns: { Self → ℕ };
 
-    // How often the link has failed.
+    // How many calls of the link have failed.
     ghost faults: { Self → ℕ };
 
     /// Takes a frame.
@@ -46,7 +46,9 @@ pub trait Link {
         ensures coming { coming self.new ≡ coming self.old }
         ensures turns { turns self.new ≡ turns self.old }
         ensures count { faults self.old ≤ faults self.new }
-        ensures cause { OnErr result (Rose (faults self.old) (faults self.new)) };
+        ensures cause { OnErr result (Rose (faults self.old) (faults self.new)) }
+        ensures no_fault { OnOk result (faults self.new ≡ faults self.old) }
+        ensures one_fault { faults self.new ≤ faults self.old + 1 };
 
     /// Gives what this turn brings; `out` is the frame where one came, and may else hold any bytes.
     fn recv(&mut self, out: &mut Frame) -> Result<Got, Failed>
@@ -62,5 +64,7 @@ pub trait Link {
         ensures err_turns { OnErr result (turns self.new ≡ turns self.old) }
         ensures taken { taken self.new ≡ taken self.old }
         ensures count { faults self.old ≤ faults self.new }
-        ensures cause { OnErr result (Rose (faults self.old) (faults self.new)) };
+        ensures cause { OnErr result (Rose (faults self.old) (faults self.new)) }
+        ensures no_fault { OnOk result (faults self.new ≡ faults self.old) }
+        ensures one_fault { faults self.new ≤ faults self.old + 1 };
 }

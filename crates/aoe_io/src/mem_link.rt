@@ -1,5 +1,5 @@
 //! A link in memory.
-ghost use Rattle.std.specs.Prelude.{◌≡◌, ◌==◌, ◌<◌, ◌≤◌, ◌-◌, ◌++◌, ◌∷◌, ℕ, List, [], All, Option, Some, None, Ok, drop, get_or, length, map, reverse, vec_capacity, vec_len, IfOk, IfSome, IsOk, OnOk, OnErr};
+ghost use Rattle.std.specs.Prelude.{◌≡◌, ◌==◌, ◌<◌, ◌≤◌, ◌+◌, ◌-◌, ◌++◌, ◌∷◌, ℕ, List, [], All, Option, Some, None, Ok, drop, get_or, length, map, reverse, vec_capacity, vec_len, IfOk, IfSome, IsOk, OnOk, OnErr};
 ghost use Rattle.std.specs.Option.{option_map};
 ghost use Rattle.aoe_base.specs.Faults.{Rose};
 ghost use Rattle.aoe_io.specs.Link.{Added, GaveTurns, Turn, next_of, turn_of};
@@ -173,6 +173,8 @@ impl Link for MemLink {
         ensures turns { self.new.turns ≡ self.old.turns }
         ensures count { self.old.faults ≤ self.new.faults }
         ensures cause { OnErr result (Rose self.old.faults self.new.faults) }
+        ensures no_fault { OnOk result (self.new.faults ≡ self.old.faults) }
+        ensures one_fault { self.new.faults ≤ self.old.faults + 1 }
         ensures exact { (result, self.new) ≡ send_of self.old frame.now }
     {
         let due = self.is_due();
@@ -196,6 +198,8 @@ impl Link for MemLink {
         ensures taken { Some self.new.taken ≡ Some self.old.taken }
         ensures count { self.old.faults ≤ self.new.faults }
         ensures cause { OnErr result (Rose self.old.faults self.new.faults) }
+        ensures no_fault { OnOk result (self.new.faults ≡ self.old.faults) }
+        ensures one_fault { self.new.faults ≤ self.old.faults + 1 }
         ensures exact { (result, self.new) ≡ recv_of self.old }
     {
         if self.is_due() {

@@ -1,5 +1,5 @@
 //! Sources and sinks in memory.
-ghost use Rattle.std.specs.Prelude.{◌≡◌, ◌<◌, ◌≤◌, ◌-◌, ◌++◌, ℕ, List, Option, Some, [], drop, take, length, min, IfOk, OnErr};
+ghost use Rattle.std.specs.Prelude.{◌≡◌, ◌<◌, ◌≤◌, ◌+◌, ◌-◌, ◌++◌, ℕ, List, Option, Some, [], drop, take, length, min, IfOk, OnErr, OnOk};
 ghost use Rattle.aoe_base.specs.Faults.{Rose};
 ghost use Rattle.aoe_io.specs.Bytes.{Gave, Took, IsEnded};
 ghost use Rattle.aoe_io.specs.Memory.{read_of, write_of};
@@ -66,6 +66,8 @@ impl Source for MemSource {
         ensures err { OnErr result (Some self.new.left ≡ Some self.old.left) }
         ensures count { self.old.faults ≤ self.new.faults }
         ensures cause { OnErr result (Rose self.old.faults self.new.faults) }
+        ensures no_fault { OnOk result (self.new.faults ≡ self.old.faults) }
+        ensures one_fault { self.new.faults ≤ self.old.faults + 1 }
         ensures exact { (result, self.new) ≡ read_of self.old (length buf.old) }
     {
         let due = self.due;
@@ -155,6 +157,8 @@ impl Sink for MemSink {
         ensures err { OnErr result (Some self.new.held ≡ Some self.old.held) }
         ensures count { self.old.faults ≤ self.new.faults }
         ensures cause { OnErr result (Rose self.old.faults self.new.faults) }
+        ensures no_fault { OnOk result (self.new.faults ≡ self.old.faults) }
+        ensures one_fault { self.new.faults ≤ self.old.faults + 1 }
         ensures exact { (result, self.new) ≡ write_of self.old piece.now }
     {
         let due = self.due;

@@ -1,5 +1,5 @@
 //! What the outside gives and takes.
-ghost use Rattle.std.specs.Prelude.{◌≡◌, ◌<◌, ◌≤◌, ℕ, List, Option, length, take, IfOk, OnErr};
+ghost use Rattle.std.specs.Prelude.{◌≡◌, ◌<◌, ◌≤◌, ◌+◌, ℕ, List, Option, length, take, IfOk, OnErr, OnOk};
 ghost use Rattle.aoe_base.specs.Faults.{Rose};
 ghost use Rattle.aoe_io.specs.Bytes.{Gave, Took, IsEnded};
 
@@ -10,7 +10,7 @@ pub trait Source {
     // The bytes that are left, where the source tells them.
     ghost left: { Self → Option (List ℕ) };
 
-    // How often the source has failed.
+    // How many calls of the source have failed.
     ghost faults: { Self → ℕ };
 
     /// Fills the front of `buf`, and says how many bytes of it: none only at the end of the input.
@@ -22,7 +22,9 @@ pub trait Source {
         ensures end { IfOk result (λ n. n ≡ 0 → IsEnded (left self.old)) }
         ensures err { OnErr result (left self.new ≡ left self.old) }
         ensures count { faults self.old ≤ faults self.new }
-        ensures cause { OnErr result (Rose (faults self.old) (faults self.new)) };
+        ensures cause { OnErr result (Rose (faults self.old) (faults self.new)) }
+        ensures no_fault { OnOk result (faults self.new ≡ faults self.old) }
+        ensures one_fault { faults self.new ≤ faults self.old + 1 };
 }
 
 /// Bytes that go out.
@@ -30,7 +32,7 @@ pub trait Sink {
     // The bytes written, where the sink tells them.
     ghost held: { Self → Option (List ℕ) };
 
-    // How often the sink has failed.
+    // How many calls of the sink have failed.
     ghost faults: { Self → ℕ };
 
     /// Takes the front of `piece`, and says how many bytes of it: at least one. A sink that takes
@@ -42,5 +44,7 @@ pub trait Sink {
         ensures took { IfOk result (λ n. Took (held self.old) (held self.new) (take n piece.now)) }
         ensures err { OnErr result (held self.new ≡ held self.old) }
         ensures count { faults self.old ≤ faults self.new }
-        ensures cause { OnErr result (Rose (faults self.old) (faults self.new)) };
+        ensures cause { OnErr result (Rose (faults self.old) (faults self.new)) }
+        ensures no_fault { OnOk result (faults self.new ≡ faults self.old) }
+        ensures one_fault { faults self.new ≤ faults self.old + 1 };
 }

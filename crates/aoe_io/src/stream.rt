@@ -1,4 +1,4 @@
-//! The stream of frames: each a length of two bytes, the greater first, and so many bytes.
+//! The stream of frames: each a length of two bytes, big-endian, and so many bytes.
 ghost use Rattle.std.specs.Prelude.{ℕ, List, [], ◌≢◌, ◌≡◌, ◌+◌, ◌<◌, ◌≤◌, ◌++◌, length, take, drop, IfOk, OnOk, OnErr, IfSome, Ok, None, true, false};
 ghost use Rattle.arrayvec.specs.ArrayVec.{array_vec_len};
 ghost use Rattle.aoe_base.specs.Faults.{Rose};
@@ -49,6 +49,8 @@ fn fill<S: Source>(source: &mut S, out: &mut [u8]) -> Result<usize, Failed>
     ensures taken { OnErr result (GaveSome (S.left source.old) (S.left source.new)) }
     ensures count { S.faults source.old ≤ S.faults source.new }
     ensures cause { OnErr result (Rose (S.faults source.old) (S.faults source.new)) }
+    ensures no_fault { OnOk result (S.faults source.new ≡ S.faults source.old) }
+    ensures one_fault { S.faults source.new ≤ S.faults source.old + 1 }
 {
     let mut done = 0;
     'pieces: while done < out.len() {
@@ -68,6 +70,8 @@ fn read_length<S: Source>(source: &mut S, offset: u64) -> Result<Option<usize>, 
     ensures end { result ≡ Ok None → IsEnded (S.left source.old) × (S.left source.new ≡ S.left source.old) }
     ensures stream { (at : ℕ) → result ≡ Err (StreamRefusal.Stream at) → (at ≡ offset) × IfSome (S.left source.old) IsBroken }
     ensures source_fault { result ≡ Err StreamRefusal.SourceFault → Rose (S.faults source.old) (S.faults source.new) }
+    ensures no_fault { result ≢ Err StreamRefusal.SourceFault → S.faults source.new ≡ S.faults source.old }
+    ensures one_fault { S.faults source.new ≤ S.faults source.old + 1 }
     ensures taken { OnErr result (GaveSome (S.left source.old) (S.left source.new)) }
     ensures count { S.faults source.old ≤ S.faults source.new }
 {
@@ -95,6 +99,8 @@ fn fill_frame<S: Source>(source: &mut S, count: usize, out: &mut Frame) -> Resul
     ensures taken { GaveSome (S.left source.old) (S.left source.new) }
     ensures count { S.faults source.old ≤ S.faults source.new }
     ensures cause { OnErr result (Rose (S.faults source.old) (S.faults source.new)) }
+    ensures no_fault { OnOk result (S.faults source.new ≡ S.faults source.old) }
+    ensures one_fault { S.faults source.new ≤ S.faults source.old + 1 }
 {
     stretch(out, count);
     match fill(source, out.as_mut_slice()) {
@@ -114,6 +120,8 @@ pub fn next_frame<S: Source>(
     ensures end { result ≡ Ok Next.End → IsEnded (S.left source.old) × (S.left source.new ≡ S.left source.old) }
     ensures stream { (at : ℕ) → result ≡ Err (StreamRefusal.Stream at) → (at ≡ offset) × IfSome (S.left source.old) IsBroken }
     ensures source_fault { result ≡ Err StreamRefusal.SourceFault → Rose (S.faults source.old) (S.faults source.new) }
+    ensures no_fault { result ≢ Err StreamRefusal.SourceFault → S.faults source.new ≡ S.faults source.old }
+    ensures one_fault { S.faults source.new ≤ S.faults source.old + 1 }
     ensures taken { OnErr result (GaveSome (S.left source.old) (S.left source.new)) }
     ensures count { S.faults source.old ≤ S.faults source.new }
 {
@@ -129,12 +137,15 @@ pub fn next_frame<S: Source>(
     }
 }
 
-/// Writes all of the bytes. Where the sink fails it has taken a part of them, from the front on.
+/// Writes all of the bytes. Where the sink fails it has taken a part of them, from the front on and
+/// not all, and it is asked for no more.
 pub fn give_all<K: Sink>(sink: &mut K, bytes: &[u8]) -> Result<(), Failed>
     ensures all { OnOk result (Took (K.held sink.old) (K.held sink.new) bytes.now) }
     ensures some { OnErr result (TookSome (K.held sink.old) (K.held sink.new) bytes.now) }
     ensures count { K.faults sink.old ≤ K.faults sink.new }
     ensures cause { OnErr result (Rose (K.faults sink.old) (K.faults sink.new)) }
+    ensures no_fault { OnOk result (K.faults sink.new ≡ K.faults sink.old) }
+    ensures one_fault { K.faults sink.new ≤ K.faults sink.old + 1 }
 {
     let mut done = 0;
     'pieces: while done < bytes.len() {
@@ -167,6 +178,8 @@ pub fn give_frame<K: Sink>(sink: &mut K, frame: &[u8]) -> Result<(), Failed>
     ensures some { OnErr result (TookSome (K.held sink.old) (K.held sink.new) (framed frame.now)) }
     ensures count { K.faults sink.old ≤ K.faults sink.new }
     ensures cause { OnErr result (Rose (K.faults sink.old) (K.faults sink.new)) }
+    ensures no_fault { OnOk result (K.faults sink.new ≡ K.faults sink.old) }
+    ensures one_fault { K.faults sink.new ≤ K.faults sink.old + 1 }
 {
     let joined = frame.len().min(FRONT - 2);
     match give_all(sink, front_of(frame, joined).as_slice()) {

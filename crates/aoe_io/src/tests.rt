@@ -23,6 +23,27 @@ fn takes_and_gives_frames(rt: HostRuntime) -> Result<(), Fail> {
 }
 
 #[test]
+fn a_failed_call_is_the_last(rt: HostRuntime) -> Result<(), Fail> {
+    let bytes = [7u8; 100];
+    let mut sink = MemSink::new(rt.alloc(), 200)?;
+    sink.fail_at(2);
+    assert_eq!(rt; give_frame(&mut sink, &bytes), Err(Failed));
+    assert_eq!(rt; sink.bytes().len(), 64);
+    sink.fail_at(1);
+    assert_eq!(rt; give_frame(&mut sink, &bytes), Err(Failed));
+    assert_eq!(rt; sink.bytes().len(), 64);
+
+    let mut source = MemSource::of(rt.alloc(), b"\0\x0e0123456789abcd")?;
+    let mut frame = Frame::new();
+    source.fail_at(1);
+    let failed = next_frame(&mut source, 0, &mut frame);
+    assert_eq!(rt; failed, Err(StreamRefusal::SourceFault));
+    assert_eq!(rt; next_frame(&mut source, 0, &mut frame)?, Next::Frame);
+    assert_eq!(rt; frame.as_slice(), b"0123456789abcd".as_slice());
+    Ok(())
+}
+
+#[test]
 fn links_in_memory(rt: HostRuntime) -> Result<(), Fail> {
     let mut coming = Vec::new(rt.alloc());
     coming.push(Some(Blob::of(rt.alloc(), b"first")?))?;

@@ -1,8 +1,7 @@
 //! A UDP socket as a link. It tells nothing of what it gives and takes.
-ghost use Rattle.std.specs.Prelude.{◌≡◌, ◌≤◌, None, IfOk, OnErr};
+ghost use Rattle.std.specs.Prelude.{◌≡◌, ◌≢◌, ◌≤◌, ◌+◌, None, Err, IfOk, OnOk, OnSome};
 ghost use Rattle.aoe_base.specs.Faults.{Rose};
-ghost use Rattle.std.specs.Net.Grammar.{IsSocketText};
-ghost use Rattle.std.specs.declared.net.socket_addr.SocketAddr.{SocketAddr};
+ghost use Rattle.aoe_udp.specs.Addresses.{ArePeers, IsAddress};
 
 use aoe_base::Failed;
 use aoe_frame::{Frame, refill};
@@ -32,21 +31,28 @@ pub struct UdpLink {
 }
 
 /// The address that a text `address:port` spells, with an IPv6 address in brackets.
-fn read_address(text: &[u8]) -> io::Result<SocketAddr>
-    ensures spelled { IfOk result (λ address. IsSocketText text.now address) }
-    ensures refused { OnErr result ((address : SocketAddr) → ¬ IsSocketText text.now address) }
+fn read_address(text: &[u8]) -> Option<SocketAddr>
+    ensures spelled { OnSome result (IsAddress text.now) }
+    ensures refused { result ≡ None → ¬ IsAddress text.now }
 {
-    match SocketAddr::parse_ascii(text) {
-        Ok(address) => Ok(address),
-        Err(_) => Err(io::Error::from(ErrorKind::InvalidInput)),
-    }
+    SocketAddr::parse_ascii(text).ok()
 }
 
 /// The addresses that a text spells, joined by commas.
-fn read_addresses(alloc: Global, text: &[u8]) -> io::Result<Vec<SocketAddr>> {
+#[tactic(auto, using(crate::proofs::AddressLemmas::none_read))]
+fn read_peers(alloc: Global, text: &[u8]) -> Result<Vec<SocketAddr>, OpenRefusal>
+    ensures spelled { OnOk result (ArePeers text.now) }
+    ensures refused { result ≡ Err OpenRefusal.Peers → ¬ ArePeers text.now }
+    ensures local { result ≢ Err OpenRefusal.Local }
+{
     let mut addresses = Vec::new(alloc);
-    for piece in text.split(|byte| *byte == b',') {
-        addresses.push(read_address(piece)?)?;
+    'pieces: for piece in text.split(|byte| *byte == b',') {
+        let Some(address) = read_address(piece) else {
+            return Err(OpenRefusal::Peers);
+        };
+        if addresses.push(address).is_err() {
+            return Err(OpenRefusal::NoMemory);
+        }
     }
     Ok(addresses)
 }
@@ -103,40 +109,46 @@ pub enum OpenRefusal {
     Local,
 }
 
-/// Want of memory, or this refusal.
-fn refusal(error: io::Error, other: OpenRefusal) -> OpenRefusal {
+/// Why no socket was bound.
+fn refusal(error: &io::Error) -> OpenRefusal
+    ensures { result ≢ OpenRefusal.Peers }
+{
     match error.kind() {
         ErrorKind::OutOfMemory => OpenRefusal::NoMemory,
-        _ => other,
+        _ => OpenRefusal::Local,
     }
 }
 
-/// A socket at the address that a text spells, each call of which waits so long.
-fn bind<R: Net>(rt: &R, local: &[u8]) -> io::Result<UdpSocket> {
-    let socket = UdpSocket::bind(rt, read_address(local)?)?;
+/// A socket at an address, each call of which waits so long.
+fn bind<R: Net>(rt: &R, local: SocketAddr) -> io::Result<UdpSocket> {
+    let socket = UdpSocket::bind(rt, local)?;
     socket.set_read_timeout(Some(Duration::from_millis(SILENCE)))?;
     Ok(socket)
 }
 
 impl UdpLink {
     /// Binds the local address and sends to the peers: texts `address:port`, those of the peers
-    /// joined by commas.
+    /// joined by commas. The texts of the peers are read first.
     pub fn open<R: Net>(
         rt: &R,
         alloc: Global,
         local: &[u8],
         peers: &[u8],
     ) -> Result<UdpLink, OpenRefusal>
+        ensures local { OnOk result (IsAddress local.now) }
+        ensures peers { OnOk result (ArePeers peers.now) }
+        ensures bad_local { result ≡ Err OpenRefusal.Local → ArePeers peers.now }
+        ensures bad_peers { result ≡ Err OpenRefusal.Peers → ¬ ArePeers peers.now }
         ensures turns { IfOk result (λ link. link.turns ≡ 0) }
         ensures faults { IfOk result (λ link. link.faults ≡ 0) }
     {
-        let peers = match read_addresses(alloc, peers) {
-            Ok(peers) => peers,
-            Err(error) => return Err(refusal(error, OpenRefusal::Peers)),
+        let peers = read_peers(alloc, peers)?;
+        let Some(local) = read_address(local) else {
+            return Err(OpenRefusal::Local);
         };
         let socket = match bind(rt, local) {
             Ok(socket) => socket,
-            Err(error) => return Err(refusal(error, OpenRefusal::Local)),
+            Err(error) => return Err(refusal(&error)),
         };
         let Ok(datagram) = vec![in alloc; 0u8; ROOM] else {
             return Err(OpenRefusal::NoMemory);
@@ -153,6 +165,7 @@ impl UdpLink {
     /// Counts a fault.
     fn fail(&mut self) -> Failed
         ensures rose { Rose self.old.faults self.new.faults }
+        ensures one { self.new.faults ≤ self.old.faults + 1 }
         ensures count { self.old.faults ≤ self.new.faults }
         ensures turns { self.new.turns ≡ self.old.turns }
     {
@@ -241,7 +254,7 @@ mod tests {
             (b"127.0.0.1", 0),
         ];
         for (text, count) in cases {
-            let read = read_addresses(rt.alloc(), text).map_or(0, |addresses| addresses.len());
+            let read = read_peers(rt.alloc(), text).map_or(0, |addresses| addresses.len());
             assert_eq!(rt; read, count);
         }
     }
@@ -258,8 +271,20 @@ mod tests {
             let opened = UdpLink::open(&rt, rt.alloc(), local, peers);
             assert_eq!(rt; opened.err(), Some(refusal));
         }
-        let text = format!(in rt.alloc(); "{}", OpenRefusal::Peers)?;
-        assert_eq!(rt; text.as_str(), "no addresses of peers");
+        Ok(())
+    }
+
+    #[test]
+    fn says_why_a_link_is_not_open(rt: HostRuntime) -> Result<(), Fail> {
+        let cases = [
+            (OpenRefusal::NoMemory, "no memory"),
+            (OpenRefusal::Peers, "no addresses of peers"),
+            (OpenRefusal::Local, "no local socket"),
+        ];
+        for (refusal, told) in cases {
+            let text = format!(in rt.alloc(); "{refusal}")?;
+            assert_eq!(rt; text.as_str(), told);
+        }
         Ok(())
     }
 }

@@ -1,0 +1,12 @@
+use Rattle.std.proofs.Common.{◌==◌, length, take}
+use Rattle.std.specs.List.{slice_split}
+use Rattle.std.specs.Prelude.{All}
+use Rattle.aoe_udp.specs.Addresses.{IsAddress}
+use Rattle.aoe_udp.proofs.link.read_peers.Given as goal
+
+abbrev pub invariant-pieces : goal.invariant-pieces
+invariant-pieces l = record {
+  can : (goal.iterator-pieces).can_next l.piece-iterator;
+  ends : (goal.iterator-pieces).is_finite l.piece-iterator;
+  so_far : All IsAddress (take (length l.yielded) (slice_split (λ c. c == 44) l.fn.text));
+}
