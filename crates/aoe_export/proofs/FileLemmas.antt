@@ -10,8 +10,8 @@ use Rattle.aoe_serve.specs.Slots.{Slot, slot_of, slots_of}
 use Rattle.aoe_shelf.specs.Shelf.{has_minor, refusal_of}
 use Rattle.aoe_target.specs.Mounted.{Mounted}
 use Rattle.aoe_target.specs.declared.station.Station.{Station}
-use Rattle.aoe_export.specs.Run.{AtFirst, IsExported, IsExportedBehind, IsRun, Outside, Tells}
-use Rattle.aoe_export.specs.Slots.{GivesBack, IsMounted, IsSeated, Leaves}
+use Rattle.aoe_export.specs.Run.{IsExported, IsExportedBehind, HasRunAndSynced, Outside, Tells}
+use Rattle.aoe_export.specs.Slots.{GivesBack, HasMounted, IsSeated, Leaves}
 use Rattle.aoe_export.proofs.EndLemmas.{over_finds, run_ends}
 use Rattle.aoe_export.specs.declared.plan.Exported.{Exported}
 use Rattle.aoe_export.specs.declared.plan.Plan.{Plan}
@@ -53,12 +53,6 @@ free-then targets t m below unused =
     let other : (t.station.id.minor == m) ≡ false = ne_eqb t.station.id.minor m (λ e. omega (arith, e, below)) in
     list_any-append _ targets (t ∷ []) ∙ ap (λ (b : Bool). b || ((t.station.id.minor == m) || false)) unused ∙ ap (λ (b : Bool). b || false) other
 
--- Objects that stay.
-
-pub at-first-same : {X : Type 0} (count : X → ℕ) (xs : List X) → AtFirst (λ a b. count a ≤ count b) xs xs
-at-first-same count [] = tt
-at-first-same count (x ∷ xs) = (omega arith, refl)
-
 -- A slot more.
 
 module _ {D : Type 0} (state : D → DiskState) (file keep file' keep' : D) (disks disks' : List (Option D)) (old seated inner new : List (Mounted D D)) where
@@ -68,8 +62,8 @@ module _ {D : Type 0} (state : D → DiskState) (file keep file' keep' : D) (dis
       → Leaves file' keep' inner new
       → IsExportedBehind state name minor t p e a b (Some file ∷ Some keep ∷ disks) (Some file' ∷ Some keep' ∷ disks') (slots_of state state old) (slots_of state state new)
   exported-then name minor t p e a b s x l =
-      let P : List Slot → Type 0 = λ front. IsRun t p e a b front (slots_of state state new ++ slot_of state state l.target ∷ x.last) in
-      let Q : List Slot → Type 0 = λ back. IsRun t p e a b (slots_of state state seated ++ x.first) back in
+      let P : List Slot → Type 0 = λ front. HasRunAndSynced t p e a b front (slots_of state state new ++ slot_of state state l.target ∷ x.last) in
+      let Q : List Slot → Type 0 = λ back. HasRunAndSynced t p e a b (slots_of state state seated ++ x.first) back in
       record {
         first = slot_of state state s.target ∷ x.first;
         last = slot_of state state l.target ∷ x.last;
@@ -93,17 +87,17 @@ module _ {D : Type 0} (state : D → DiskState) (file keep file' keep' : D) (dis
   refused-then name n refusal s same l back =
       let target = same-target name s l same in
       let at : s.target.keep.disk ≡ keep' = sym (l.disk ∙ ap (λ (t : Mounted D D). t.keep.disk) target) in
-      let P : D → Type 0 = λ d. IsMounted (state keep) (state d) s.target.keep.lists in (
+      let P : D → Type 0 = λ d. HasMounted (state keep) (state d) s.target.keep.lists in (
         record { file_same = l.store ∙ ap (λ (t : Mounted D D). t.store) target ∙ s.store; lists = s.target.keep.lists; mounted = subst P at s.mounted },
         back,
       )
 
 -- no slot is added
 pub exported-begun : {D S K L : Type 0} (state : D → DiskState) (name : ℕ → ℕ → Station) (minor : ℕ) (t : Tells S K L) (p : Plan) (e : Exported) (a b : Outside S K L)
-    (disks : List (Option D)) (old new : List Slot) → length disks ≡ 0 → IsRun t p e a b old new → IsExportedBehind state name minor t p e a b disks disks old new
+    (disks : List (Option D)) (old new : List Slot) → length disks ≡ 0 → HasRunAndSynced t p e a b old new → IsExportedBehind state name minor t p e a b disks disks old new
 exported-begun state name minor t p e a b [] old new none_there run =
-    let P : List Slot → Type 0 = λ front. IsRun t p e a b front (new ++ []) in
-    let Q : List Slot → Type 0 = λ back. IsRun t p e a b old back in
+    let P : List Slot → Type 0 = λ front. HasRunAndSynced t p e a b front (new ++ []) in
+    let Q : List Slot → Type 0 = λ back. HasRunAndSynced t p e a b old back in
     record { first = []; last = []; over = tt; run = subst P (sym (append-nil old)) (subst Q (sym (append-nil new)) run) }
 exported-begun state name minor t p e a b (d ∷ disks) old new none_there run = absurd (omega (arith, none_there))
 

@@ -95,7 +95,7 @@ first_of None (Err failed) slot = Some slot
 first_of first result slot = first
 
 -- the plan was run over these slots, and then each was synced
-pub record IsRun {S K L : Type 0} (t : Tells S K L) (p : Plan) (e : Exported) (a b : Outside S K L) (old new : List Slot) : Type 0 where
+pub record HasRunAndSynced {S K L : Type 0} (t : Tells S K L) (p : Plan) (e : Exported) (a b : Outside S K L) (old new : List Slot) : Type 0 where
   pub middle : List Slot
   pub ran : HasRun t p e.end a b old middle
   pub results : List (Result (Unit {0}) Failed)
@@ -109,7 +109,7 @@ pub record IsExported {D S K L : Type 0} (state : D → DiskState) (name : ℕ �
   pub first : List Slot
   pub last : List Slot
   pub over : OverFiles state name minor disks disks' first last
-  pub run : IsRun t p e a b first last
+  pub run : HasRunAndSynced t p e a b first last
   pub ends : EachSlot (λ i x y. EndsAfter (at_slot i (arrivals_in t p e.end a b first run.middle run.ran)) (get_or run.results i (Ok tt)) x y) first last
 
 -- such a run behind slots that the shelf had before
@@ -118,4 +118,4 @@ pub record IsExportedBehind {D S K L : Type 0} (state : D → DiskState) (name :
   pub first : List Slot
   pub last : List Slot
   pub over : OverFiles state name minor disks disks' first last
-  pub run : IsRun t p e a b (old ++ first) (new ++ last)
+  pub run : HasRunAndSynced t p e a b (old ++ first) (new ++ last)

@@ -15,7 +15,7 @@ abbrev pub named : ℕ → List Mac → ℕ → ℕ → ℕ → Station
 named major ports mtu minor sectors = station_of record { major = major; minor = minor } ports mtu sectors
 
 -- a keep that was mounted: these lists stand on its disk, and every crash finds them
-pub record IsMounted (before after : DiskState) (lists : Settings) : Type 0 where
+pub record HasMounted (before after : DiskState) (lists : Settings) : Type 0 where
   pub mounts : Mounts before after lists
   pub finds : AlwaysFinds after lists
 
@@ -24,7 +24,7 @@ pub record IsMounted (before after : DiskState) (lists : Settings) : Type 0 wher
 pub record IsOver {D : Type 0} (state : D → DiskState) (name : ℕ → Station) (file file' keep keep' : D) (first last : Slot) : Type 0 where
   pub station : first.station ≡ name (state file).sectors
   pub store : first.device.store ≡ state file
-  pub mounted : IsMounted (state keep) first.device.keep first.device.lists
+  pub mounted : HasMounted (state keep) first.device.keep first.device.lists
   pub file_back : state file' ≡ last.device.store
   pub keep_back : state keep' ≡ last.device.keep
 
@@ -39,7 +39,7 @@ OverFiles state name minor _ _ _ _ = ⊥
 pub record IsBack {D : Type 0} (state : D → DiskState) (file file' keep keep' : D) : Type 0 where
   pub file_same : file' ≡ file
   pub lists : Settings
-  pub mounted : IsMounted (state keep) (state keep') lists
+  pub mounted : HasMounted (state keep) (state keep') lists
 
 -- a keep that was refused and given back, with its file as it was
 pub record IsRefusedAt {D : Type 0} (state : D → DiskState) (refusal : MountRefusal) (file file' keep keep' : D) : Type 0 where
@@ -60,7 +60,7 @@ pub record IsSeated {D : Type 0} (state : D → DiskState) (name : ℕ → Stati
   pub added : new ≡ old ++ target ∷ []
   pub station : target.station ≡ name (state file).sectors
   pub store : target.store ≡ file
-  pub mounted : IsMounted (state keep) (state target.keep.disk) target.keep.lists
+  pub mounted : HasMounted (state keep) (state target.keep.disk) target.keep.lists
 
 -- the target that was added last left, and this is its file and its keep
 pub record Leaves {D : Type 0} (file keep : D) (old new : List (Mounted D D)) : Type 0 where

@@ -1,5 +1,5 @@
 //! The call that exports files.
-ghost use Rattle.std.specs.Prelude.{◌≡◌, ◌≤◌, ◌<◌, ◌+◌, ◌/◌, ◌%◌, ℕ, true, false, All, Err, IfErr, IfOk, IsSome, OnErr, length};
+ghost use Rattle.std.specs.Prelude.{◌≡◌, ◌≢◌, ◌≤◌, ◌<◌, ◌+◌, ◌/◌, ◌%◌, ℕ, true, false, All, Err, IfErr, IfOk, IsSome, OnErr, length};
 ghost use Rattle.aoe_base.specs.Faults.{Rose};
 ghost use Rattle.aoe_export.specs.Run.{AtFirst, IsExported, IsExportedBehind, is_served};
 ghost use Rattle.aoe_export.specs.Slots.{GivesBack, named};
@@ -65,6 +65,12 @@ fn on_slots<D: Disk + Drop, S: Source, K: Sink, L: Link>(
     ensures source_fault { IfOk result (λ e. e.end ≡ RunEnd.Answered AnswerEnd.SourceFault → Rose (S.faults source.old) (S.faults source.new)) }
     ensures sink_fault { IfOk result (λ e. e.end ≡ RunEnd.Answered AnswerEnd.SinkFault → Rose (K.faults sink.old) (K.faults sink.new)) }
     ensures link_fault { IfOk result (λ e. e.end ≡ RunEnd.Served ServeEnd.LinkFault → AtFirst (λ a b. Rose (L.faults a) (L.faults b)) links.old links.new) }
+    ensures source_no_fault { IfOk result (λ e. e.end ≢ RunEnd.Answered AnswerEnd.SourceFault → S.faults source.new ≡ S.faults source.old) }
+    ensures sink_no_fault { IfOk result (λ e. e.end ≢ RunEnd.Answered AnswerEnd.SinkFault → K.faults sink.new ≡ K.faults sink.old) }
+    ensures link_no_fault { IfOk result (λ e. e.end ≢ RunEnd.Served ServeEnd.LinkFault → AtFirst (λ a b. L.faults b ≡ L.faults a) links.old links.new) }
+    ensures source_one_fault { S.faults source.new ≤ S.faults source.old + 1 }
+    ensures sink_one_fault { K.faults sink.new ≤ K.faults sink.old + 1 }
+    ensures link_one_fault { AtFirst (λ a b. L.faults b ≤ L.faults a + 1) links.old links.new }
 {
     if disks.is_empty() {
         return Ok(run(shelf, plan, source, sink, links));
@@ -127,6 +133,12 @@ pub fn export<D: Disk + Drop, S: Source, K: Sink, L: Link>(
     ensures source_fault { IfOk result (λ e. e.end ≡ RunEnd.Answered AnswerEnd.SourceFault → Rose (S.faults source.old) (S.faults source.new)) }
     ensures sink_fault { IfOk result (λ e. e.end ≡ RunEnd.Answered AnswerEnd.SinkFault → Rose (K.faults sink.old) (K.faults sink.new)) }
     ensures link_fault { IfOk result (λ e. e.end ≡ RunEnd.Served ServeEnd.LinkFault → AtFirst (λ a b. Rose (L.faults a) (L.faults b)) links.old links.new) }
+    ensures source_no_fault { IfOk result (λ e. e.end ≢ RunEnd.Answered AnswerEnd.SourceFault → S.faults source.new ≡ S.faults source.old) }
+    ensures sink_no_fault { IfOk result (λ e. e.end ≢ RunEnd.Answered AnswerEnd.SinkFault → K.faults sink.new ≡ K.faults sink.old) }
+    ensures link_no_fault { IfOk result (λ e. e.end ≢ RunEnd.Served ServeEnd.LinkFault → AtFirst (λ a b. L.faults b ≡ L.faults a) links.old links.new) }
+    ensures source_one_fault { S.faults source.new ≤ S.faults source.old + 1 }
+    ensures sink_one_fault { K.faults sink.new ≤ K.faults sink.old + 1 }
+    ensures link_one_fault { AtFirst (λ a b. L.faults b ≤ L.faults a + 1) links.old links.new }
 {
     let Rack { first, ports, mtu } = rack;
     let mut shelf = match Shelf::new(alloc, first.major, ports, mtu) {

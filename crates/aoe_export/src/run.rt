@@ -1,8 +1,8 @@
 //! The run over the slots of a shelf, and the last syncs.
-ghost use Rattle.std.specs.Prelude.{◌≡◌, ◌≤◌, ◌<◌, List, Result, length, true};
+ghost use Rattle.std.specs.Prelude.{◌≡◌, ◌≢◌, ◌≤◌, ◌<◌, ◌+◌, List, Result, length, true};
 ghost use Rattle.aoe_base.specs.Faults.{Rose};
 ghost use Rattle.aoe_base.specs.declared.failure.Failed.{Failed};
-ghost use Rattle.aoe_export.specs.Run.{AtFirst, HasRun, IsRun, SyncsEach, first_failed, first_of, is_served};
+ghost use Rattle.aoe_export.specs.Run.{AtFirst, HasRun, HasRunAndSynced, SyncsEach, first_failed, first_of, is_served};
 ghost use Rattle.aoe_serve.specs.Slots.{slots_of};
 
 use crate::{Exported, Plan, RunEnd};
@@ -57,6 +57,12 @@ fn run_plan<T: Store, D: Disk, S: Source, K: Sink, L: Link>(
     ensures source_fault { result ≡ RunEnd.Answered AnswerEnd.SourceFault → Rose (S.faults source.old) (S.faults source.new) }
     ensures sink_fault { result ≡ RunEnd.Answered AnswerEnd.SinkFault → Rose (K.faults sink.old) (K.faults sink.new) }
     ensures link_fault { result ≡ RunEnd.Served ServeEnd.LinkFault → AtFirst (λ a b. Rose (L.faults a) (L.faults b)) links.old links.new }
+    ensures source_no_fault { result ≢ RunEnd.Answered AnswerEnd.SourceFault → S.faults source.new ≡ S.faults source.old }
+    ensures sink_no_fault { result ≢ RunEnd.Answered AnswerEnd.SinkFault → K.faults sink.new ≡ K.faults sink.old }
+    ensures link_no_fault { result ≢ RunEnd.Served ServeEnd.LinkFault → AtFirst (λ a b. L.faults b ≡ L.faults a) links.old links.new }
+    ensures source_one_fault { S.faults source.new ≤ S.faults source.old + 1 }
+    ensures sink_one_fault { K.faults sink.new ≤ K.faults sink.old + 1 }
+    ensures link_one_fault { AtFirst (λ a b. L.faults b ≤ L.faults a + 1) links.old links.new }
 {
     match plan {
         Plan::Answer => RunEnd::Answered(answer(shelf, source, sink)),
@@ -73,7 +79,7 @@ pub(crate) fn run<T: Store, D: Disk, S: Source, K: Sink, L: Link>(
     links: &mut [L],
 ) -> Exported
     requires { is_served plan ≡ true → 0 < length links.old }
-    ensures run { IsRun record { left = S.left; held = K.held; turns = L.turns; given = L.given; taken = L.taken } plan result
+    ensures run { HasRunAndSynced record { left = S.left; held = K.held; turns = L.turns; given = L.given; taken = L.taken } plan result
         record { source = source.old; sink = sink.old; links = links.old } record { source = source.new; sink = sink.new; links = links.new }
         (slots_of T.state D.state shelf.old.targets) (slots_of T.state D.state shelf.new.targets) }
     ensures rest { shelf.new ≡ record shelf.old { targets = shelf.new.targets } }
@@ -83,6 +89,12 @@ pub(crate) fn run<T: Store, D: Disk, S: Source, K: Sink, L: Link>(
     ensures source_fault { result.end ≡ RunEnd.Answered AnswerEnd.SourceFault → Rose (S.faults source.old) (S.faults source.new) }
     ensures sink_fault { result.end ≡ RunEnd.Answered AnswerEnd.SinkFault → Rose (K.faults sink.old) (K.faults sink.new) }
     ensures link_fault { result.end ≡ RunEnd.Served ServeEnd.LinkFault → AtFirst (λ a b. Rose (L.faults a) (L.faults b)) links.old links.new }
+    ensures source_no_fault { result.end ≢ RunEnd.Answered AnswerEnd.SourceFault → S.faults source.new ≡ S.faults source.old }
+    ensures sink_no_fault { result.end ≢ RunEnd.Answered AnswerEnd.SinkFault → K.faults sink.new ≡ K.faults sink.old }
+    ensures link_no_fault { result.end ≢ RunEnd.Served ServeEnd.LinkFault → AtFirst (λ a b. L.faults b ≡ L.faults a) links.old links.new }
+    ensures source_one_fault { S.faults source.new ≤ S.faults source.old + 1 }
+    ensures sink_one_fault { K.faults sink.new ≤ K.faults sink.old + 1 }
+    ensures link_one_fault { AtFirst (λ a b. L.faults b ≤ L.faults a + 1) links.old links.new }
 {
     let end = run_plan(shelf, plan, source, sink, links);
     let unsynced = sync_each(shelf);

@@ -137,16 +137,36 @@ fn a_small_keep(rt: HostRuntime) -> Result<(), Fail> {
         *count = disk.as_ref().map_or(9, MemDisk::calls);
     }
     assert_eq!(rt; calls, [0, 3, 0, 0]);
-
-    let text = format!(in rt.alloc(); "{refused}")?;
-    assert_eq!(rt; text.as_str(), "keep of slot 1: 15 sectors, 16 needed");
-    let text = format!(in rt.alloc(); "{}", ExportRefusal::NoMemory)?;
-    assert_eq!(rt; text.as_str(), "no memory");
     Ok(())
 }
 
-/// Answers a config request of `len` bytes, and compares the end and what the sink holds: the replies of the slots
-/// with these arguments.
+fn of_keep(refusal: MountRefusal) -> ExportRefusal {
+    ExportRefusal::Keep { slot: 3, refusal }
+}
+
+#[test]
+fn says_why_nothing_was_run(rt: HostRuntime) -> Result<(), Fail> {
+    let cases = [
+        (ExportRefusal::NoMemory, "no memory"),
+        (
+            of_keep(MountRefusal::TooSmall { sectors: 15 }),
+            "keep of slot 3: 15 sectors, 16 needed",
+        ),
+        (of_keep(MountRefusal::Failed), "keep of slot 3: failed"),
+        (
+            of_keep(MountRefusal::BadKeep { slot: 1 }),
+            "keep of slot 3: slot 1 holds no lists",
+        ),
+    ];
+    for (refusal, told) in cases {
+        let text = format!(in rt.alloc(); "{refusal}")?;
+        assert_eq!(rt; text.as_str(), told);
+    }
+    Ok(())
+}
+
+/// Answers a config request of `len` bytes, and compares the end and what the sink holds: the replies
+/// of the slots with these arguments.
 fn answers(
     alloc: Global,
     disks: &mut [Option<MemDisk>; 4],

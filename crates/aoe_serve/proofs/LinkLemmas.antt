@@ -1,8 +1,8 @@
 -- Rounds over a link make runs. What a link gave and took stands latest first.
-use Rattle.std.proofs.Common.{◌≡◌, ◌≤◌, ◌<◌, ◌+◌, ◌-◌, ◌^◌, min, ℕ, zero, suc, List, [], ◌∷◌, ◌++◌, length, length-append, take, replicate, Option, Some, None, Bool, true, false, ◌||◌, refl, sym, ap, subst, ◌∙◌, append-nil, arith}
+use Rattle.std.proofs.Common.{◌≡◌, ◌≤◌, ◌<◌, ◌+◌, ◌-◌, ◌^◌, min, ℕ, zero, suc, List, [], ◌∷◌, ◌++◌, length, length-append, take, replicate, Option, Some, None, Bool, true, false, ◌||◌, refl, sym, ap, subst, ◌∙◌, append-nil, arith, inl, inr}
 use Rattle.std.proofs.lemmas.Bool.{eq-eqb, eqb-true}
 use Rattle.std.proofs.lemmas.Grind.{flat_map-append}
-use Rattle.std.proofs.lemmas.List.{reverse-append, take_all}
+use Rattle.std.proofs.lemmas.List.{reverse-append, take-append-le}
 use Rattle.std.specs.Prelude.{reverse, Result, Ok, Err, nat_eq}
 use Rattle.aoe_base.specs.declared.failure.Failed.{Failed}
 use Rattle.aoe_io.proofs.LinkLemmas.{Added-then, GaveTurns-then}
@@ -23,19 +23,6 @@ take_past [] ys n m e = ap (λ (k : ℕ). take k ys) (omega (arith, e))
 take_past (x ∷ xs) ys n zero e = absurd (omega (arith, e))
 take_past {X} (x ∷ xs) ys n (suc m) e = ap (λ (l : List X). x ∷ l) (take_past xs ys n m (omega (arith, e)))
 
-record Within {X : Type 0} (xs ys : List X) (n : ℕ) : Type 0 where
-  count : ℕ
-  same : take count (xs ++ ys) ≡ take n xs
-
-take_within : {X : Type 0} (xs ys : List X) (n : ℕ) → Within xs ys n
-take_within [] ys n = record { count = 0; same = none n }
-  where
-    none : (n : ℕ) → take 0 ys ≡ take n []
-    none zero = refl
-    none (suc n) = refl
-take_within (x ∷ xs) ys zero = record { count = 0; same = refl }
-take_within {X} (x ∷ xs) ys (suc n) = let w = take_within xs ys n in record { count = suc w.count; same = ap (λ (l : List X). x ∷ l) w.same }
-
 -- What the link took.
 
 abbrev pub Frames : Type 0
@@ -46,14 +33,15 @@ sends-after : {T E : Type 0} (result : Result T E) (a b c : Option Frames) (xs y
 sends-after (Ok v) a b c xs ys one two = subst (λ (l : Frames). Added a c l) (sym (reverse-append xs ys)) (Added-then a b c (reverse xs) (reverse ys) one two)
 sends-after (Err e) a b c xs ys one two =
     let n = two.0 in
-    (length xs + n, subst (λ (l : Frames). Added a c l) (sym (ap reverse (take_past xs ys n (length xs + n) refl) ∙ reverse-append xs (take n ys))) (Added-then a b c (reverse xs) (reverse (take n ys)) one two.1))
+    (length xs + n, omega (arith, two.1, length-append xs ys), subst (λ (l : Frames). Added a c l) (sym (ap reverse (take_past xs ys n (length xs + n) refl) ∙ reverse-append xs (take n ys))) (Added-then a b c (reverse xs) (reverse (take n ys)) one two.2))
 
 pub sends-on : {T E : Type 0} (given result : Result T E) (a b c : Option Frames) (xs ys : Frames) → Sends given a b xs → SendsOn given result b c ys → Sends result a c (xs ++ ys)
 sends-on (Ok u) result a b c xs ys one two = sends-after result a b c xs ys one two
 sends-on (Err f) (Ok v) a b c xs ys one two = absurd (let no : false ≡ true → ⊥ = λ q. (cc) in no two.0)
 sends-on (Err f) (Err e) a b c xs ys one two =
-    let w = take_within xs ys one.0 in
-    (w.count, subst (λ (o : Option Frames). Added a o (reverse (take w.count (xs ++ ys)))) (sym two.1) (subst (λ (l : Frames). Added a b (reverse l)) (sym w.same) one.1))
+    let n = one.0 in
+    let front : take n (xs ++ ys) ≡ take n xs = take-append-le n xs ys (omega (arith, one.1)) in
+    (n, omega (arith, one.1, length-append xs ys), subst (λ (o : Option Frames). Added a o (reverse (take n (xs ++ ys)))) (sym two.1) (subst (λ (l : Frames). Added a b (reverse l)) (sym front) one.2))
 
 pub replies-on : (fates : List Fate) (fate : Fate) → replies_of (fates ++ fate ∷ []) ≡ replies_of fates ++ reply_of fate
 replies-on fates fate = flat_map-append reply_of fates (fate ∷ []) ∙ ap (λ (t : Frames). replies_of fates ++ t) (append-nil (reply_of fate))
@@ -207,16 +195,19 @@ module _ (limit idle start now : ℕ) (given0 given : Option (List Turn)) (taken
 
     -- the link failed to take a reply
     pub breaks : {E : Type 0} (e : E) (taken' : Option Frames) (new : List Slot) → Sent {T = Unit {0}} {E = E} (Err e) f taken taken' mid new → Served end.LinkFault limit idle start later given0 given' taken0 taken' old new
-    breaks e taken' new g = record {
-      turns = turns';
-      arrivals = h' (Err e) taken' new g;
-      frames_are = frames' (Err e) taken' new g;
-      served = served_then old mid new f g.fates s.arrivals s.served g.meets;
-      turned = turned';
-      sends = sends' (Err e) taken' new g;
-      goes_on = on';
-      finishes = tt;
-    }
+    breaks e taken' new g =
+        let before : Frames = replies s.arrivals in
+        let n = g.sends.0 in
+        let last : Frames = take n (replies_of g.fates) in
+        record {
+          turns = turns';
+          arrivals = h' (Err e) taken' new g;
+          frames_are = frames' (Err e) taken' new g;
+          served = served_then old mid new f g.fates s.arrivals s.served g.meets;
+          turned = turned';
+          goes_on = on';
+          finishes = inr (n, g.sends.1, subst (λ (l : Frames). Added taken0 taken' l) (sym (reverse-append before last)) (Added-then taken0 taken taken' (reverse before) (reverse last) s.sends g.sends.2));
+        }
 
   module _ (later : ℕ) (given' : Option (List Turn)) where
     -- no frame came in so many turns
@@ -229,9 +220,8 @@ module _ (limit idle start now : ℕ) (given0 given : Option (List Turn)) (taken
           frames_are = s.frames_are ∙ sym (came_quiet idle s.turns);
           served = s.served;
           turned = turned-then start now later given0 given given' s.turns (replicate idle quiet) s.turned t;
-          sends = s.sends;
           goes_on = waited limit idle s.turns count s.counted few s.loud s.going idle (omega arith) s.goes_on;
-          finishes = second_of (nat_eq (length (came_in turns)) limit) (nat_eq (quiet_since turns) idle) (has_ended turns) (eq-eqb (quiet_since turns) idle (quiet_count idle s.turns s.loud));
+          finishes = (second_of (nat_eq (length (came_in turns)) limit) (nat_eq (quiet_since turns) idle) (has_ended turns) (eq-eqb (quiet_since turns) idle (quiet_count idle s.turns s.loud)), s.sends);
         }
 
     -- the link ended after so many quiet turns
@@ -244,9 +234,8 @@ module _ (limit idle start now : ℕ) (given0 given : Option (List Turn)) (taken
           frames_are = s.frames_are ∙ sym (came_quiet n s.turns);
           served = s.served;
           turned = turned-then start now later given0 given given' s.turns (ended ∷ replicate n quiet) s.turned t;
-          sends = s.sends;
           goes_on = (waits limit idle s.turns count s.counted few s.loud s.going n short, waited limit idle s.turns count s.counted few s.loud s.going n (omega (arith, short)) s.goes_on);
-          finishes = third_of (nat_eq (length (came_in turns)) limit) (nat_eq (quiet_since turns) idle) (has_ended turns) refl;
+          finishes = (third_of (nat_eq (length (came_in turns)) limit) (nat_eq (quiet_since turns) idle) (has_ended turns) refl, s.sends);
         }
 
     -- the link failed after so many quiet turns
@@ -257,9 +246,8 @@ module _ (limit idle start now : ℕ) (given0 given : Option (List Turn)) (taken
       frames_are = s.frames_are ∙ sym (came_quiet n s.turns);
       served = s.served;
       turned = turned-then start now later given0 given given' s.turns (replicate n quiet) s.turned t;
-      sends = (length (replies s.arrivals), subst (λ (l : Frames). Added taken0 taken (reverse l)) (sym (take_all (length (replies s.arrivals)) (replies s.arrivals) (omega arith))) s.sends);
       goes_on = waited limit idle s.turns count s.counted few s.loud s.going n (omega (arith, short)) s.goes_on;
-      finishes = tt;
+      finishes = inl (waits limit idle s.turns count s.counted few s.loud s.going n short, s.sends);
     }
 
 -- as many frames came as were asked for
@@ -271,9 +259,8 @@ fills limit idle start now given0 given taken0 taken old mid count e s = record 
   frames_are = s.frames_are;
   served = s.served;
   turned = s.turned;
-  sends = s.sends;
   goes_on = s.goes_on;
-  finishes = first_of (nat_eq (length (came_in s.turns)) limit) (nat_eq (quiet_since s.turns) idle) (has_ended s.turns) (eq-eqb (length (came_in s.turns)) limit (s.counted ∙ e));
+  finishes = (first_of (nat_eq (length (came_in s.turns)) limit) (nat_eq (quiet_since s.turns) idle) (has_ended s.turns) (eq-eqb (length (came_in s.turns)) limit (s.counted ∙ e)), s.sends);
 }
 
 -- what a wait said

@@ -4,7 +4,7 @@ use Rattle.std.proofs.lemmas.Bool.{cases_lt}
 use Rattle.std.proofs.lemmas.Grind.{flat_map-append}
 use Rattle.std.proofs.lemmas.List.{get_or_append_left, get_or_at}
 use Rattle.std.proofs.lemmas.Option.{same_Some, slice_get_within}
-use Rattle.std.specs.Prelude.{All, if◌then◌else◌, Result, Ok, Err, OnOk, OnErr}
+use Rattle.std.specs.Prelude.{All, if◌then◌else◌, Result, Ok, Err, OnOk, OnErr, is_err}
 use Rattle.aoe_base.specs.Faults.{Rose}
 use Rattle.aoe_base.specs.declared.failure.Failed.{Failed}
 use Rattle.aoe_io.proofs.BytesLemmas.{Gave-then, Gave-nothing, Took-then, Took-nothing, TookSome-then, TookSome-front}
@@ -65,19 +65,30 @@ counted-step : (o n b c : ℕ) (fault : Bool) → min (o + n) (2 ^ 64 - 1) ≤ b
 counted-step o n b c true before later rose = one_more o n b c before later (rose refl)
 counted-step o n b c false before later rose = same_many o n b c before later
 
-rose_then : (a b c : ℕ) → a ≤ b → (b < 2 ^ 64 - 1 → b < c) → b ≤ c → a < 2 ^ 64 - 1 → a < c
-rose_then a b c first rose second below =
-    elim (cases_lt b (2 ^ 64 - 1)) [
-      | inl before ↦ let more : b < c = rose before in omega arith
-      | inr after ↦ omega arith
-    ]
+-- the count of faults of an object that is called until it fails
+pub record Counts (result : Result (Unit {0}) Failed) (a b : ℕ) : Type 0 where
+  pub later : a ≤ b
+  pub fault : OnErr result (Rose a b)
+  pub no_fault : OnOk result (b ≡ a)
+  pub one_fault : b ≤ a + 1
 
--- a fault of the sink, in a round or before it
-pub rose_on : (given result : Result (Unit {0}) Failed) (a b c : ℕ) → a ≤ b → OnErr given (Rose a b) → (given ≡ Ok tt → OnErr result (Rose b c)) → b ≤ c → OnErr result (Rose a c)
-rose_on (Ok u) (Ok v) a b c first before rose second = tt
-rose_on (Ok u) (Err e) a b c first before rose second = λ below. rose_then a b c first (rose refl) second below
-rose_on (Err f) (Ok v) a b c first before rose second = tt
-rose_on (Err f) (Err e) a b c first before rose second = λ below. let more : a < b = before below in omega arith
+pub counts_begun : (a : ℕ) → Counts (Ok tt) a a
+counts_begun a = record { later = omega arith; fault = tt; no_fault = refl; one_fault = omega arith }
+
+-- one round more, in which the object isn't called once it failed
+pub counts_on : (given result : Result (Unit {0}) Failed) (a b c : ℕ) → Counts given a b → b ≤ c → (given ≡ Ok tt → OnErr result (Rose b c)) → OnOk result (c ≡ b) → c ≤ b + 1
+    → OnErr given (is_err result ≡ true) → OnErr given (c ≡ b) → Counts result a c
+counts_on (Ok u) (Ok v) a b c before later rose same one failed still =
+    record { later = omega (arith, before.later, later); fault = tt; no_fault = same ∙ before.no_fault; one_fault = omega (arith, same, before.one_fault) }
+counts_on (Ok u) (Err e) a b c before later rose same one failed still =
+    let first : b ≡ a = before.no_fault in
+    let more : Rose b c = rose refl in
+    record { later = omega (arith, first, later); fault = λ below. let less : b < c = more (omega (arith, first, below)) in omega (arith, less, first); no_fault = tt; one_fault = omega (arith, one, first) }
+counts_on (Err f) (Ok v) a b c before later rose same one failed still = absurd (let no : false ≡ true → ⊥ = λ q. (cc) in no failed)
+counts_on (Err f) (Err e) a b c before later rose same one failed still =
+    let last : c ≡ b = still in
+    let more : Rose a b = before.fault in
+    record { later = omega (arith, before.later, last); fault = λ below. let less : a < b = more below in omega (arith, less, last); no_fault = tt; one_fault = omega (arith, before.one_fault, last) }
 
 -- Slots.
 
@@ -184,24 +195,23 @@ stays left0 left held0 held held' old now new offset count s held_is same =
 -- as many frames came as are answered at most
 pub limited : (left0 left held0 held : Option (List ℕ)) (old new : List Slot) (offset count : ℕ) → SoFar left0 left held0 held old new offset count → count ≡ 4294967295 → Answered end.Limit left0 left held0 held old new
 limited left0 left held0 held old new offset count s e =
-    record { arrivals = s.arrivals; whole = s.whole; served = s.served; behind = left; gave = s.gave; stops = (s.count_is ∙ e, refl); writes = s.took }
+    record { arrivals = s.arrivals; whole = s.whole; served = s.served; behind = left; gave = s.gave; stops = (s.count_is ∙ e, refl); took = s.took }
 
 -- a turn ended the run
 pub ends : (e : AnswerEnd) (left0 left left' held0 held held' : Option (List ℕ)) (old now new : List Slot) (offset count : ℕ)
     → count < 4294967295 → SoFar left0 left held0 held old now offset count → Ends e offset left left' held held' now new → Answered e left0 left' held0 held' old new
 ends end.Ended left0 left left' held0 held held' old now new offset count few s e =
     let t = stays left0 left held0 held held' old now new offset count s e.2 e.3 in
-    record { arrivals = t.arrivals; whole = t.whole; served = t.served; behind = left; gave = t.gave; stops = (omega (arith, t.count_is), e.0, e.1); writes = t.took }
+    record { arrivals = t.arrivals; whole = t.whole; served = t.served; behind = left; gave = t.gave; stops = (omega (arith, t.count_is), e.0, e.1); took = t.took }
 ends (end.Stream at) left0 left left' held0 held held' old now new offset count few s e =
     let t = stays left0 left held0 held held' old now new offset count s e.3 e.4 in
-    record { arrivals = t.arrivals; whole = t.whole; served = t.served; behind = left; gave = t.gave; stops = (omega (arith, t.count_is), e.0 ∙ sym t.offset_is, e.1, e.2); writes = t.took }
+    record { arrivals = t.arrivals; whole = t.whole; served = t.served; behind = left; gave = t.gave; stops = (omega (arith, t.count_is), e.0 ∙ sym t.offset_is, e.1, e.2); took = t.took }
 ends end.SourceFault left0 left left' held0 held held' old now new offset count few s e =
     let t = stays left0 left held0 held held' old now new offset count s e.1 e.2 in
-    record { arrivals = t.arrivals; whole = t.whole; served = t.served; behind = left; gave = t.gave; stops = (omega (arith, t.count_is), e.0); writes = t.took }
+    record { arrivals = t.arrivals; whole = t.whole; served = t.served; behind = left; gave = t.gave; stops = (omega (arith, t.count_is), e.0); took = t.took }
 ends end.SinkFault left0 left left' held0 held held' old now new offset count few s e =
     let h = s.arrivals in
     let P : List ℕ → Type 0 = λ xs. Gave left0 left' xs in
-    let Q : List ℕ → Type 0 = λ xs. TookSome held0 held' xs in
     record {
       arrivals = record { frame = e.frame; fates = e.fates } ∷ h;
       whole = all_frames (frames h) e.frame s.whole e.whole;
@@ -209,6 +219,6 @@ ends end.SinkFault left0 left left' held0 held held' old now new offset count fe
       behind = left';
       gave = subst P (sym (stream-frame (frames h) e.frame)) (Gave-then left0 left left' (stream (frames h)) (framed e.frame) s.gave e.gave);
       stops = (omega (arith, s.count_is), refl);
-      writes = subst Q (sym (stream-append (replies h) (replies_of e.fates))) (TookSome-then held0 held held' (stream (replies h)) (stream (replies_of e.fates)) s.took e.writes);
+      took = (held, s.took, e.writes);
     }
 ends end.Limit left0 left left' held0 held held' old now new offset count few s e = absurd e

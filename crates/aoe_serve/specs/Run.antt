@@ -1,5 +1,5 @@
 -- What a run of answer takes, gives and leaves, by how it ended.
-use Rattle.std.specs.Prelude.{ℕ, ◌<◌, ◌≤◌, ◌≡◌, List, length, slice_get, All, true, Option, Some, IfSome, Result, Ok, Err, is_err}
+use Rattle.std.specs.Prelude.{ℕ, ◌<◌, ◌≤◌, ◌≡◌, List, [], ◌∷◌, length, slice_get, All, true, Option, Some, IfSome, Result, Ok, Err, is_err}
 use Rattle.aoe_io.specs.Bytes.{Gave, GaveSome, Took, TookSome, IsEnded}
 use Rattle.aoe_io.specs.Stream.{framed, stream, IsFrame, IsBroken}
 use Rattle.aoe_target.specs.Law.{Fate}
@@ -16,10 +16,15 @@ Stops SourceFault n taken behind left = (n < 4294967295) × GaveSome behind left
 Stops SinkFault n taken behind left = (n ≤ 4294967295) × (left ≡ behind)
 Stops Limit n taken behind left = (n ≡ 4294967295) × (left ≡ behind)
 
--- what the sink took of the replies: a part of them where it failed, else all
-abbrev pub Writes : AnswerEnd → Option (List ℕ) → Option (List ℕ) → List ℕ → Type 0
-Writes SinkFault before after bytes = TookSome before after bytes
-Writes _ before after bytes = Took before after bytes
+-- the sink took the replies to all frames but the last, and a part of those to the last
+abbrev pub FailedToWrite : Option (List ℕ) → Option (List ℕ) → List Arrived → Type 0
+FailedToWrite before after [] = ⊥
+FailedToWrite before after (a ∷ h) = (middle : Option (List ℕ)) × Took before middle (stream (replies h)) × TookSome middle after (stream (replies_of a.fates))
+
+-- what the sink took of the replies: all, but where it failed
+abbrev pub TookReplies : AnswerEnd → Option (List ℕ) → Option (List ℕ) → List Arrived → Type 0
+TookReplies SinkFault before after arrivals = FailedToWrite before after arrivals
+TookReplies _ before after arrivals = Took before after (stream (replies arrivals))
 
 -- what the sink took of bytes: all, or a part of them where it failed
 abbrev pub WritesTo : {T E : Type 0} → Result T E → Option (List ℕ) → Option (List ℕ) → List ℕ → Type 0
@@ -27,7 +32,7 @@ WritesTo (Ok u) before after bytes = Took before after bytes
 WritesTo (Err failed) before after bytes = TookSome before after bytes
 
 -- A run over a shelf: the source gave the stream of the frames that arrived, the sink took the stream of their replies, and the frames
--- came to each slot.
+-- came to each slot. A call that failed was the last of its object.
 pub record Answered (end : AnswerEnd) (left left' held held' : Option (List ℕ)) (old new : List Slot) : Type 0 where
   pub arrivals : List Arrived
   pub whole : All IsFrame (frames arrivals)
@@ -35,7 +40,7 @@ pub record Answered (end : AnswerEnd) (left left' held held' : Option (List ℕ)
   pub behind : Option (List ℕ)
   pub gave : Gave left behind (stream (frames arrivals))
   pub stops : Stops end (length arrivals) (length (stream (frames arrivals))) behind left'
-  pub writes : Writes end held held' (stream (replies arrivals))
+  pub took : TookReplies end held held' arrivals
 
 -- a round: a frame came to each slot, and the sink took the replies, or a part of them where it failed
 pub record Gives {T E : Type 0} (result : Result T E) (frame : List ℕ) (held held' : Option (List ℕ)) (old new : List Slot) : Type 0 where

@@ -1,5 +1,5 @@
 -- What a run of serve gives and takes over its link, by how it ended. The turns of the link and the frames that it took stand latest first.
-use Rattle.std.specs.Prelude.{ℕ, ◌≡◌, ◌+◌, ◌<◌, ◌≤◌, ◌^◌, ◌-◌, min, List, [], ◌∷◌, ◌++◌, length, take, reverse, replicate, Option, Bool, true, false, ◌||◌, nat_eq, Result, Ok, Err, is_err}
+use Rattle.std.specs.Prelude.{ℕ, ◌≡◌, ◌+◌, ◌<◌, ◌≤◌, ◌^◌, ◌-◌, min, List, [], ◌∷◌, ◌++◌, length, take, reverse, replicate, Option, Bool, true, false, ◌||◌, ◌⊎◌, nat_eq, Result, Ok, Err, is_err}
 use Rattle.aoe_io.specs.Link.{Added, GaveTurns, Turn, came, quiet, ended}
 use Rattle.aoe_io.specs.declared.links.Got.{Got}
 use Rattle.aoe_io.specs.declared.links.Got.TheVariants.{Frame, Quiet, Ended}
@@ -34,18 +34,22 @@ abbrev pub GoesOn : ℕ → ℕ → List Turn → Type 0
 GoesOn limit idle [] = Unit {0}
 GoesOn limit idle (t ∷ turns) = (is_over limit idle turns ≡ false) × GoesOn limit idle turns
 
-abbrev pub Finishes : ServeEnd → ℕ → ℕ → List Turn → Type 0
-Finishes end.Ended limit idle turns = is_over limit idle turns ≡ true
-Finishes end.LinkFault limit idle turns = Unit {0}
+-- the link failed to take a reply to the frame that the last turn brought, and took those before it
+abbrev pub FailedToSend : List Turn → List Arrived → Option (List (List ℕ)) → Option (List (List ℕ)) → Type 0
+FailedToSend (came f ∷ turns) (a ∷ h) before after =
+    (n : ℕ) × (n < length (replies_of a.fates)) × Added before after (reverse (replies h ++ take n (replies_of a.fates)))
+FailedToSend _ _ before after = ⊥
 
--- the link took the replies: the first of them where it failed, else all
+-- How a run ends: there is no more to do, and the link took all replies. Or it failed: in place of a further turn, or in the last round.
+abbrev pub Finishes : ServeEnd → ℕ → ℕ → List Turn → List Arrived → Option (List (List ℕ)) → Option (List (List ℕ)) → Type 0
+Finishes end.Ended limit idle turns arrivals before after = (is_over limit idle turns ≡ true) × Added before after (reverse (replies arrivals))
+Finishes end.LinkFault limit idle turns arrivals before after =
+    ((is_over limit idle turns ≡ false) × Added before after (reverse (replies arrivals))) ⊎ FailedToSend turns arrivals before after
+
+-- the link took the replies: the first of them and not all where it failed, else all
 abbrev pub Sends : {T E : Type 0} → Result T E → Option (List (List ℕ)) → Option (List (List ℕ)) → List (List ℕ) → Type 0
 Sends (Ok u) before after replies = Added before after (reverse replies)
-Sends (Err failed) before after replies = (n : ℕ) × Added before after (reverse (take n replies))
-
-abbrev pub SendsAll : ServeEnd → Option (List (List ℕ)) → Option (List (List ℕ)) → List (List ℕ) → Type 0
-SendsAll end.Ended before after replies = Added before after (reverse replies)
-SendsAll end.LinkFault before after replies = (n : ℕ) × Added before after (reverse (take n replies))
+Sends (Err failed) before after replies = (n : ℕ) × (n < length replies) × Added before after (reverse (take n replies))
 
 -- what the link takes of a further reply: nothing once it failed
 abbrev pub SendsOn : {T E : Type 0} → Result T E → Result T E → Option (List (List ℕ)) → Option (List (List ℕ)) → List (List ℕ) → Type 0
@@ -71,13 +75,13 @@ pub record Turned (turned turned' : ℕ) (given given' : Option (List Turn)) (tu
   pub later : turned ≤ turned'
   pub counted : min turned' (2 ^ 64 - 1) ≡ min (turned + length turns) (2 ^ 64 - 1)
 
--- A run over a shelf and a link: each frame that the link gave came to each slot, and the link took the replies.
+-- A run over a shelf and a link: each frame that the link gave came to each slot, and the link took the replies. A call of the link
+-- that failed was the last.
 pub record Served (e : ServeEnd) (limit idle start turned' : ℕ) (given given' : Option (List Turn)) (taken taken' : Option (List (List ℕ))) (old new : List Slot) : Type 0 where
   pub turns : List Turn
   pub arrivals : List Arrived
   pub frames_are : frames arrivals ≡ came_in turns
   pub served : AreServed old new arrivals
   pub turned : Turned start turned' given given' turns
-  pub sends : SendsAll e taken taken' (replies arrivals)
   pub goes_on : GoesOn limit idle turns
-  pub finishes : Finishes e limit idle turns
+  pub finishes : Finishes e limit idle turns arrivals taken taken'

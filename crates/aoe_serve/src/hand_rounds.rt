@@ -35,6 +35,7 @@ fn meet<S: Store, D: Disk>(
 pub(crate) fn hand_round<S: Store, D: Disk>(
     shelf: &mut Shelf<S, D>,
     frame: &[u8],
+    reply: &mut Frame,
     waiting: &mut Replies,
 )
     requires { length waiting.old ≤ 64 }
@@ -43,8 +44,7 @@ pub(crate) fn hand_round<S: Store, D: Disk>(
     ensures room { length waiting.new ≤ 64 }
     ensures rest { shelf.new ≡ record shelf.old { targets = shelf.new.targets } }
 {
-    let mut reply = Frame::new();
     'slots: for slot in 0..shelf.count() {
-        meet(shelf, slot, frame, &mut reply, waiting);
+        meet(shelf, slot, frame, reply, waiting);
     }
 }

@@ -1,5 +1,5 @@
 //! One frame for every slot of a shelf, with the replies on a link.
-ghost use Rattle.std.specs.Prelude.{◌≡◌, ◌≤◌, ◌<◌, length, Ok, OnErr};
+ghost use Rattle.std.specs.Prelude.{◌≡◌, ◌≤◌, ◌<◌, ◌+◌, length, IsErr, Ok, OnErr, OnOk};
 ghost use Rattle.aoe_base.specs.Faults.{Rose};
 ghost use Rattle.aoe_target.specs.Law.{Fate};
 ghost use Rattle.aoe_target.specs.Receive.{fate_of};
@@ -28,6 +28,10 @@ fn send<L: Link>(
     ensures turns { L.turns link.new ≡ L.turns link.old }
     ensures count { L.faults link.old ≤ L.faults link.new }
     ensures cause { given ≡ Ok tt → OnErr result (Rose (L.faults link.old) (L.faults link.new)) }
+    ensures no_fault { OnOk result (L.faults link.new ≡ L.faults link.old) }
+    ensures one_fault { L.faults link.new ≤ L.faults link.old + 1 }
+    ensures failed { OnErr given (IsErr result) }
+    ensures uncalled { OnErr given (L.faults link.new ≡ L.faults link.old) }
 {
     match given {
         Ok(()) => {}
@@ -57,6 +61,10 @@ fn meet<S: Store, D: Disk, L: Link>(
     ensures turns { L.turns link.new ≡ L.turns link.old }
     ensures count { L.faults link.old ≤ L.faults link.new }
     ensures cause { given ≡ Ok tt → OnErr result (Rose (L.faults link.old) (L.faults link.new)) }
+    ensures no_fault { OnOk result (L.faults link.new ≡ L.faults link.old) }
+    ensures one_fault { L.faults link.new ≤ L.faults link.old + 1 }
+    ensures failed { OnErr given (IsErr result) }
+    ensures uncalled { OnErr given (L.faults link.new ≡ L.faults link.old) }
 {
     let heard = shelf.receive_slot(slot, frame, reply);
     send(heard, reply, link, given)
@@ -77,6 +85,8 @@ pub(crate) fn send_round<S: Store, D: Disk, L: Link>(
     ensures turns { L.turns link.new ≡ L.turns link.old }
     ensures count { L.faults link.old ≤ L.faults link.new }
     ensures cause { OnErr result (Rose (L.faults link.old) (L.faults link.new)) }
+    ensures no_fault { OnOk result (L.faults link.new ≡ L.faults link.old) }
+    ensures one_fault { L.faults link.new ≤ L.faults link.old + 1 }
 {
     let mut given = Ok(());
     'slots: for slot in 0..shelf.count() {

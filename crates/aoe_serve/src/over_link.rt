@@ -1,5 +1,5 @@
 //! The loop of `serve`: a frame from the link, its replies to the link.
-ghost use Rattle.std.specs.Prelude.{◌≡◌, ◌≤◌, List, OnErr, Ok, Err};
+ghost use Rattle.std.specs.Prelude.{◌≡◌, ◌≢◌, ◌≤◌, ◌+◌, List, OnErr, OnOk, Ok, Err};
 ghost use Rattle.aoe_base.specs.Faults.{Rose};
 ghost use Rattle.aoe_io.specs.Link.{Turn};
 ghost use Rattle.aoe_serve.specs.Serving.{Sent, Served, Turned, Waited};
@@ -30,6 +30,8 @@ fn wait<L: Link>(link: &mut L, idle: u32, out: &mut Frame) -> Result<Got, Failed
     ensures taken { L.taken link.new ≡ L.taken link.old }
     ensures count { L.faults link.old ≤ L.faults link.new }
     ensures cause { OnErr result (Rose (L.faults link.old) (L.faults link.new)) }
+    ensures no_fault { OnOk result (L.faults link.new ≡ L.faults link.old) }
+    ensures one_fault { L.faults link.new ≤ L.faults link.old + 1 }
 {
     'turns: for turn in 0..idle {
         match link.recv(out) {
@@ -44,7 +46,7 @@ fn wait<L: Link>(link: &mut L, idle: u32, out: &mut Frame) -> Result<Got, Failed
 
 /// Gives each frame of the link to every slot in turn, and the replies to the link, until `frames`
 /// frames came or `idle` turns in a row were quiet, or the link ends or fails. Where it fails to take
-/// a reply, the slots behind still get the frame. Takes no memory.
+/// a reply, the slots behind still get the frame, and the link isn't called again. Takes no memory.
 pub fn serve<S: Store, D: Disk, L: Link>(
     shelf: &mut Shelf<S, D>,
     link: &mut L,
@@ -56,6 +58,8 @@ pub fn serve<S: Store, D: Disk, L: Link>(
     ensures rest { shelf.new ≡ record shelf.old { targets = shelf.new.targets } }
     ensures count { L.faults link.old ≤ L.faults link.new }
     ensures cause { result ≡ ServeEnd.LinkFault → Rose (L.faults link.old) (L.faults link.new) }
+    ensures no_fault { result ≢ ServeEnd.LinkFault → L.faults link.new ≡ L.faults link.old }
+    ensures one_fault { L.faults link.new ≤ L.faults link.old + 1 }
 {
     let mut request = Frame::new();
     let mut reply = Frame::new();

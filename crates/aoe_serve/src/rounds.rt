@@ -1,5 +1,5 @@
 //! One frame for every slot of a shelf, with the replies on a sink.
-ghost use Rattle.std.specs.Prelude.{◌≡◌, ◌≤◌, ◌<◌, length, Ok, OnErr};
+ghost use Rattle.std.specs.Prelude.{◌≡◌, ◌≤◌, ◌<◌, ◌+◌, length, IsErr, Ok, OnErr, OnOk};
 ghost use Rattle.aoe_base.specs.Faults.{Rose};
 ghost use Rattle.aoe_io.specs.Stream.{stream};
 ghost use Rattle.aoe_target.specs.Law.{Fate};
@@ -26,6 +26,10 @@ fn give<K: Sink>(
     ensures writes { WritesOn given result (K.held sink.old) (K.held sink.new) (stream (reply_of (fate_of heard reply.now.items))) }
     ensures count { K.faults sink.old ≤ K.faults sink.new }
     ensures cause { given ≡ Ok tt → OnErr result (Rose (K.faults sink.old) (K.faults sink.new)) }
+    ensures no_fault { OnOk result (K.faults sink.new ≡ K.faults sink.old) }
+    ensures one_fault { K.faults sink.new ≤ K.faults sink.old + 1 }
+    ensures failed { OnErr given (IsErr result) }
+    ensures uncalled { OnErr given (K.faults sink.new ≡ K.faults sink.old) }
 {
     match given {
         Ok(()) => {}
@@ -53,6 +57,10 @@ fn meet<S: Store, D: Disk, K: Sink>(
     ensures rest { shelf.new ≡ record shelf.old { targets = shelf.new.targets } }
     ensures count { K.faults sink.old ≤ K.faults sink.new }
     ensures cause { given ≡ Ok tt → OnErr result (Rose (K.faults sink.old) (K.faults sink.new)) }
+    ensures no_fault { OnOk result (K.faults sink.new ≡ K.faults sink.old) }
+    ensures one_fault { K.faults sink.new ≤ K.faults sink.old + 1 }
+    ensures failed { OnErr given (IsErr result) }
+    ensures uncalled { OnErr given (K.faults sink.new ≡ K.faults sink.old) }
 {
     let heard = shelf.receive_slot(slot, frame, reply);
     give(heard, reply, sink, given)
@@ -71,6 +79,8 @@ pub(crate) fn round<S: Store, D: Disk, K: Sink>(
     ensures rest { shelf.new ≡ record shelf.old { targets = shelf.new.targets } }
     ensures count { K.faults sink.old ≤ K.faults sink.new }
     ensures cause { OnErr result (Rose (K.faults sink.old) (K.faults sink.new)) }
+    ensures no_fault { OnOk result (K.faults sink.new ≡ K.faults sink.old) }
+    ensures one_fault { K.faults sink.new ≤ K.faults sink.old + 1 }
 {
     let mut given = Ok(());
     'slots: for slot in 0..shelf.count() {

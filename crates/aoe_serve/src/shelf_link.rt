@@ -26,6 +26,9 @@ pub struct ShelfLink<S: Store, D: Disk> {
     shelf: Shelf<S, D>,
     waiting: Replies,
 
+    /// Room for a reply, which is made in the call that sends.
+    reply: Frame,
+
     /// The turns so far, up to the greatest u64.
     turns: u64,
 }
@@ -54,6 +57,7 @@ impl<S: Store, D: Disk> ShelfLink<S, D> {
             Ok(waiting) => Ok(ShelfLink {
                 shelf,
                 waiting,
+                reply: Frame::new(),
                 turns: 0,
             }),
             Err(NoMemory) => Err((NoMemory, shelf)),
@@ -88,7 +92,7 @@ impl<S: Store, D: Disk> Link for ShelfLink<S, D> {
           waiting = self.new.waiting;
         } }
     {
-        hand_round(&mut self.shelf, frame, &mut self.waiting);
+        hand_round(&mut self.shelf, frame, &mut self.reply, &mut self.waiting);
         Ok(())
     }
 

@@ -14,7 +14,7 @@ use Rattle.aoe_serve.specs.Slots.{IsServed, Slot}
 use Rattle.aoe_target.specs.History.{count_failed, store_failed}
 use Rattle.aoe_target.specs.declared.station.Station.{Station}
 use Rattle.aoe_export.specs.Run.{IsExported, Outside, Tells, arrivals_in, first_failed}
-use Rattle.aoe_export.specs.Slots.{IsMounted, IsOver, OverFiles}
+use Rattle.aoe_export.specs.Slots.{HasMounted, IsOver, OverFiles}
 use Rattle.aoe_export.specs.declared.plan.Exported.{Exported}
 use Rattle.aoe_export.specs.declared.plan.Plan.{Plan}
 use Rattle.aoe_export.proofs.EndLemmas.{served_in, there}
@@ -30,7 +30,7 @@ pub record Stands {D : Type 0} (state : D → DiskState) (first last : List Slot
   pub at_last : slice_get last slot ≡ Some b
   pub store : a.device.store ≡ state file
   pub back : state file' ≡ b.device.store
-  pub mounted : IsMounted (state keep) a.device.keep a.device.lists
+  pub mounted : HasMounted (state keep) a.device.keep a.device.lists
 
 stands-first : {D : Type 0} (state : D → DiskState) (name : ℕ → Station) (a b : Slot) (first last : List Slot) (file file' keep keep' : D) → IsOver state name file file' keep keep' a b
     → Stands state (a ∷ first) (b ∷ last) 0 file file' keep keep'

@@ -11,7 +11,7 @@ use Rattle.aoe_keep.specs.declared.refusal.MountRefusal.{MountRefusal}
 use Rattle.aoe_keep.specs.declared.refusal.MountRefusal.TheVariants as refusal
 use Rattle.aoe_lists.specs.Settings.{Settings}
 use Rattle.aoe_export.specs.Run.{Outside, Tells}
-use Rattle.aoe_export.specs.Slots.{GivesBack, IsMounted}
+use Rattle.aoe_export.specs.Slots.{GivesBack, HasMounted}
 use Rattle.aoe_export.specs.declared.files.Rack.{Rack}
 use Rattle.aoe_export.specs.declared.plan.Plan.{Plan}
 use Rattle.aoe_export.specs.declared.plan.RunEnd.{RunEnd}
@@ -67,7 +67,7 @@ ran-not-refused (Served serve.LinkFault) unsynced = refl
 -- What became of a keep.
 
 pub data KeepIs {D : Type 0} (state : D → DiskState) (s : Status) (slot : ℕ) (keep keep' : D) : Type 0 where
-  is_mounted : (after : DiskState) (lists : Settings) → IsMounted (state keep) after lists → ((k : ℕ) → refused_slot s ≡ Some k → slot < k) → KeepIs state s slot keep keep'
+  is_mounted : (after : DiskState) (lists : Settings) → HasMounted (state keep) after lists → ((k : ℕ) → refused_slot s ≡ Some k → slot < k) → KeepIs state s slot keep keep'
   is_refused : (r : MountRefusal) → IsRefused state keep r keep' → s ≡ refused_as slot r → KeepIs state s slot keep keep'
   is_behind : (k : ℕ) → refused_slot s ≡ Some k → k < slot → KeepIs state s slot keep keep'
   no_memory : s ≡ status.NoMemory → KeepIs state s slot keep keep'
@@ -77,7 +77,7 @@ some-one o j k e f = let g : (let x : Option ℕ = Some j in x) ≡ Some k = sym
 
 -- each keep where one was refused
 pub data Given {D : Type 0} (state : D → DiskState) (refused : ℕ) (r : MountRefusal) (slot : ℕ) (keep keep' : D) : Type 0 where
-  before : slot < refused → (lists : Settings) → IsMounted (state keep) (state keep') lists → Given state refused r slot keep keep'
+  before : slot < refused → (lists : Settings) → HasMounted (state keep) (state keep') lists → Given state refused r slot keep keep'
   here : slot ≡ refused → IsRefused state keep r keep' → Given state refused r slot keep keep'
   behind : refused < slot → Given state refused r slot keep keep'
 
@@ -98,7 +98,7 @@ backed-here state r f f' k k' disks disks' why = record { within = omega arith; 
     at zero = on-first (λ _ _ keep keep'. Given state 0 r 0 keep keep') f f' k k' disks disks' (here refl why)
     at (suc slot) = λ _ _ keep keep' _ _ _ _. behind (omega arith)
 
-backed-then : {D : Type 0} (state : D → DiskState) (refused : ℕ) (r : MountRefusal) (f f' k k' : D) (disks disks' : List (Option D)) (lists : Settings) → IsMounted (state k) (state k') lists
+backed-then : {D : Type 0} (state : D → DiskState) (refused : ℕ) (r : MountRefusal) (f f' k k' : D) (disks disks' : List (Option D)) (lists : Settings) → HasMounted (state k) (state k') lists
     → Backed state refused r disks disks' → Backed state (suc refused) r (Some f ∷ Some k ∷ disks) (Some f' ∷ Some k' ∷ disks')
 backed-then state refused r f f' k k' disks disks' lists mounted b = record { within = omega (arith, b.within); each = at }
   where

@@ -3,7 +3,7 @@ use Rattle.aoe_serve.specs.Arrivals.{replies_of, reply_of}
 use Rattle.aoe_serve.specs.Serving.{Sends}
 use Rattle.aoe_serve.specs.Slots.{slots_of}
 use Rattle.aoe_serve.proofs.LinkLemmas.{replies-on, sends-on}
-use Rattle.aoe_serve.proofs.RunLemmas.{rose_on}
+use Rattle.aoe_serve.proofs.RunLemmas.{counts_on}
 use Rattle.aoe_serve.proofs.SlotLemmas.{partly_then, partly_whole}
 use Rattle.aoe_serve.proofs.TurnLemmas.{count_slots, rest_then}
 use Rattle.aoe_serve.proofs.link_rounds.send_round.Goals as goal
@@ -22,10 +22,9 @@ slots-preserved g c =
       ),
       rest_then c.args.shelf.now c.slots.shelf c.meet-given.new.shelf i.1 c.meet-given.ensures.rest,
       c.meet-given.ensures.len ∙ i.2,
-      omega (arith, i.3, c.meet-given.ensures.count),
-      rose_on c.slots.given c.meet-given.result _ _ _ i.3 i.4 c.meet-given.ensures.cause c.meet-given.ensures.count,
-      c.meet-given.ensures.given ∙ i.5,
-      c.meet-given.ensures.turns ∙ i.6,
+      counts_on c.slots.given c.meet-given.result _ _ _ i.3 c.meet-given.ensures.count c.meet-given.ensures.cause c.meet-given.ensures.no_fault c.meet-given.ensures.one_fault c.meet-given.ensures.failed c.meet-given.ensures.uncalled,
+      c.meet-given.ensures.given ∙ i.4,
+      c.meet-given.ensures.turns ∙ i.5,
     )
 
 pub returns-clause-sent : goal.returns-clause-sent

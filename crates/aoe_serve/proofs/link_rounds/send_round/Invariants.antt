@@ -1,10 +1,9 @@
-use Rattle.std.proofs.Common.{◌≡◌, ◌≤◌, List, length}
-use Rattle.std.specs.Prelude.{OnErr}
-use Rattle.aoe_base.specs.Faults.{Rose}
+use Rattle.std.proofs.Common.{◌≡◌, List, length}
 use Rattle.aoe_target.specs.Law.{Fate}
 use Rattle.aoe_serve.specs.Arrivals.{replies_of}
 use Rattle.aoe_serve.specs.Serving.{Sends}
 use Rattle.aoe_serve.specs.Slots.{slots_of}
+use Rattle.aoe_serve.proofs.RunLemmas.{Counts}
 use Rattle.aoe_serve.proofs.SlotLemmas.{Partly}
 use Rattle.aoe_serve.proofs.link_rounds.send_round.Given as goal
 
@@ -14,7 +13,6 @@ invariant-slots g l = ((fates : List Fate) × (length fates ≡ l.slot)
     × Sends l.given (g.L.Link.taken l.initial.link) (g.L.Link.taken l.link) (replies_of fates))
     × (l.shelf ≡ record l.initial.shelf { targets = l.shelf.targets })
     × (length l.shelf.targets ≡ length l.initial.shelf.targets)
-    × (g.L.Link.faults l.initial.link ≤ g.L.Link.faults l.link)
-    × OnErr l.given (Rose (g.L.Link.faults l.initial.link) (g.L.Link.faults l.link))
+    × Counts l.given (g.L.Link.faults l.initial.link) (g.L.Link.faults l.link)
     × (g.L.Link.given l.link ≡ g.L.Link.given l.initial.link)
     × (g.L.Link.turns l.link ≡ g.L.Link.turns l.initial.link)

@@ -1,4 +1,4 @@
-use Rattle.std.proofs.Common.{ℕ, List, arith, refl, subst}
+use Rattle.std.proofs.Common.{ℕ, List, ◌∙◌, refl, subst}
 use Rattle.std.specs.Prelude.{Ok, Err}
 use Rattle.aoe_io.specs.declared.links.Got.{Got}
 use Rattle.aoe_base.specs.declared.failure.Failed.{Failed}
@@ -9,7 +9,7 @@ use Rattle.aoe_serve.proofs.TurnLemmas.{rest_then}
 use Rattle.aoe_serve.proofs.over_link.serve.Goals as goal
 
 pub frames-init : goal.frames-init
-frames-init g c = (begun c.args.frames c.args.idle (g.L.Link.turns c.args.link.now) (g.L.Link.given c.args.link.now) (g.L.Link.taken c.args.link.now) _, refl, omega arith)
+frames-init g c = (begun c.args.frames c.args.idle (g.L.Link.turns c.args.link.now) (g.L.Link.given c.args.link.now) (g.L.Link.taken c.args.link.now) _, refl, refl)
 
 pub returns-in-Ok-Quiet-clause-run : goal.returns-in-Ok-Quiet-clause-run
 returns-in-Ok-Quiet-clause-run g c =
@@ -37,5 +37,5 @@ frames-preserved g c =
     let P : Got → Type 0 = λ got. AfterWait (Ok got) c.args.idle c.wait.new.out.items (g.L.Link.turns c.frames.link) (g.L.Link.turns c.wait.new.link) (g.L.Link.given c.frames.link) (g.L.Link.given c.wait.new.link) in (
       by_frame c.args.frames c.args.idle _ _ _ _ _ _ _ _ _ _ _ c.frames.count c.frames-test.true c.wait.new.out.items c.frames.invariant.0 c.wait.ensures.taken (g.L.Link.turns c.send_round.new.link) (g.L.Link.given c.send_round.new.link) (g.L.Link.taken c.send_round.new.link) (slots_of g.S.Store.state g.D.Disk.state c.send_round.new.shelf.targets) c.send_round.ensures.turns c.send_round.ensures.given c.in-Ok.field-0 (subst P c.in-Ok-Frame.field-0-is c.in-Ok-Frame.ensures.waited) (subst Q c.as_slice.ensures.value c.in-Ok.ensures.sent),
       rest_then c.args.shelf.now c.frames.shelf c.send_round.new.shelf c.frames.invariant.1 c.send_round.ensures.rest,
-      omega (arith, c.frames.invariant.2, c.wait.ensures.count, c.send_round.ensures.count),
+      c.in-Ok.ensures.no_fault ∙ c.in-Ok-Frame.ensures.no_fault ∙ c.frames.invariant.2,
     )

@@ -6,7 +6,7 @@ use Rattle.aoe_serve.proofs.LinkLemmas.{turned-by, turned-nothing, turned-then}
 use Rattle.aoe_serve.proofs.over_link.wait.Goals as goal
 
 pub turns-init : goal.turns-init
-turns-init g c = (turned-nothing (g.L.Link.turns c.args.link.now) (g.L.Link.given c.args.link.now), refl, omega arith)
+turns-init g c = (turned-nothing (g.L.Link.turns c.args.link.now) (g.L.Link.given c.args.link.now), refl, refl)
 
 pub returns-in-Ok-Frame-clause-waited : goal.returns-in-Ok-Frame-clause-waited
 returns-in-Ok-Frame-clause-waited g c =

@@ -1,4 +1,4 @@
-use Rattle.std.proofs.Common.{arith, refl}
+use Rattle.std.proofs.Common.{◌∙◌, arith, refl}
 use Rattle.std.specs.Prelude.{Ok}
 use Rattle.aoe_serve.specs.Slots.{slots_of}
 use Rattle.aoe_serve.proofs.RunLemmas.{begun, goes_on, ends, offset-fits}
@@ -6,7 +6,7 @@ use Rattle.aoe_serve.proofs.TurnLemmas.{rest_then}
 use Rattle.aoe_serve.proofs.over_stream.answer.Goals as goal
 
 pub frames-init : goal.frames-init
-frames-init g c = (begun (g.R.Source.left c.args.source.now) (g.K.Sink.held c.args.sink.now) (slots_of g.S.Store.state g.D.Disk.state c.args.shelf.now.targets), refl, omega arith, omega arith)
+frames-init g c = (begun (g.R.Source.left c.args.source.now) (g.K.Sink.held c.args.sink.now) (slots_of g.S.Store.state g.D.Disk.state c.args.shelf.now.targets), refl, refl, refl)
 
 pub returns-in-Err-clause-run : goal.returns-in-Err-clause-run
 returns-in-Err-clause-run g c =
@@ -20,6 +20,6 @@ frames-preserved g c = (
   goes_on (Ok c.in-Ok.field-0) _ _ _ _ _ _ _ _ _ c.frames.offset c.frames.count c.len.result c.turn.new.request.items c.in-Ok.field-0 refl
       c.frames.invariant.0 c.len.ensures.value c.in-Ok.ensures.frame c.in-Ok.ensures.gave c.in-Ok.ensures.gives,
   rest_then c.args.shelf.now c.frames.shelf c.turn.new.shelf c.frames.invariant.1 c.turn.ensures.rest,
-  omega arith,
-  omega arith,
+  c.in-Ok.ensures.source_answers ∙ c.frames.invariant.2,
+  c.in-Ok.ensures.sink_answers ∙ c.frames.invariant.3,
 )

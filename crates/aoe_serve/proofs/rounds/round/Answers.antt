@@ -1,6 +1,6 @@
 use Rattle.std.proofs.Common.{◌≡◌, [], ◌∷◌, ◌++◌, ◌∙◌, length, length-append, arith}
 use Rattle.aoe_serve.specs.Slots.{slots_of}
-use Rattle.aoe_serve.proofs.RunLemmas.{rose_on, writes-on}
+use Rattle.aoe_serve.proofs.RunLemmas.{counts_on, writes-on}
 use Rattle.aoe_serve.proofs.SlotLemmas.{partly_then, partly_whole}
 use Rattle.aoe_serve.proofs.TurnLemmas.{count_slots, rest_then}
 use Rattle.aoe_serve.proofs.rounds.round.Goals as goal
@@ -18,8 +18,7 @@ slots-preserved g c =
       ),
       rest_then c.args.shelf.now c.slots.shelf c.meet-given.new.shelf i.1 c.meet-given.ensures.rest,
       c.meet-given.ensures.len ∙ i.2,
-      omega (arith, i.3, c.meet-given.ensures.count),
-      rose_on c.slots.given c.meet-given.result _ _ _ i.3 i.4 c.meet-given.ensures.cause c.meet-given.ensures.count,
+      counts_on c.slots.given c.meet-given.result _ _ _ i.3 c.meet-given.ensures.count c.meet-given.ensures.cause c.meet-given.ensures.no_fault c.meet-given.ensures.one_fault c.meet-given.ensures.failed c.meet-given.ensures.uncalled,
     )
 
 pub returns-clause-gives : goal.returns-clause-gives

@@ -1,11 +1,10 @@
-use Rattle.std.proofs.Common.{◌≡◌, ◌≤◌, List, length}
-use Rattle.std.specs.Prelude.{OnErr}
-use Rattle.aoe_base.specs.Faults.{Rose}
+use Rattle.std.proofs.Common.{◌≡◌, List, length}
 use Rattle.aoe_io.specs.Stream.{stream}
 use Rattle.aoe_target.specs.Law.{Fate}
 use Rattle.aoe_serve.specs.Arrivals.{replies_of}
 use Rattle.aoe_serve.specs.Run.{WritesTo}
 use Rattle.aoe_serve.specs.Slots.{slots_of}
+use Rattle.aoe_serve.proofs.RunLemmas.{Counts}
 use Rattle.aoe_serve.proofs.SlotLemmas.{Partly}
 use Rattle.aoe_serve.proofs.rounds.round.Given as goal
 
@@ -15,5 +14,4 @@ invariant-slots g l = ((fates : List Fate) × (length fates ≡ l.slot)
     × WritesTo l.given (g.K.Sink.held l.initial.sink) (g.K.Sink.held l.sink) (stream (replies_of fates)))
     × (l.shelf ≡ record l.initial.shelf { targets = l.shelf.targets })
     × (length l.shelf.targets ≡ length l.initial.shelf.targets)
-    × (g.K.Sink.faults l.initial.sink ≤ g.K.Sink.faults l.sink)
-    × OnErr l.given (Rose (g.K.Sink.faults l.initial.sink) (g.K.Sink.faults l.sink))
+    × Counts l.given (g.K.Sink.faults l.initial.sink) (g.K.Sink.faults l.sink)
