@@ -1,7 +1,8 @@
 //! A UDP socket as a link. It tells nothing of what it gives and takes.
-ghost use Rattle.std.specs.Prelude.{◌≡◌, ◌≢◌, ◌≤◌, ◌+◌, None, Err, IfOk, OnOk, OnSome};
+ghost use Rattle.std.specs.Prelude.{◌≡◌, ◌≢◌, ◌≤◌, ◌+◌, ◌↔◌, None, Err, IfOk, IsTrue, OnOk, OnSome};
 ghost use Rattle.aoe_base.specs.Faults.{Rose};
 ghost use Rattle.aoe_udp.specs.Addresses.{ArePeers, IsAddress};
+ghost use Rattle.aoe_udp.specs.Errors.{is_loss, is_silence};
 
 use aoe_base::Failed;
 use aoe_frame::{Frame, refill};
@@ -18,6 +19,9 @@ const SILENCE: u64 = 10;
 
 /// The room for a datagram: one byte more than the longest frame, so that a longer one is seen.
 const ROOM: usize = 9019;
+
+/// How often a call of the socket that came to nothing is made again: as often as std does for files.
+const TRIES: u64 = u64::MAX;
 
 /// A UDP socket, each of whose datagrams is a frame, and the addresses that each sent frame goes to.
 /// A frame may come from any address.
@@ -57,39 +61,74 @@ fn read_peers(alloc: Global, text: &[u8]) -> Result<Vec<SocketAddr>, OpenRefusal
     Ok(addresses)
 }
 
-/// Whether the other end isn't there: what was sent to it is lost.
-fn is_lost(kind: ErrorKind) -> bool {
-    matches!(
-        kind,
-        ErrorKind::ConnectionRefused | ErrorKind::HostUnreachable | ErrorKind::NetworkUnreachable
-    )
+/// What an error of the socket means.
+enum Trouble {
+    /// Nothing came as long as a call waits.
+    Silence,
+
+    /// A signal came.
+    Interrupted,
+
+    /// The other end isn't there: what was sent to it is lost.
+    Lost,
+
+    Fault,
 }
 
-/// Whether no frame came in time.
-fn is_silent(kind: ErrorKind) -> bool {
-    matches!(
-        kind,
-        ErrorKind::WouldBlock | ErrorKind::TimedOut | ErrorKind::Interrupted
-    )
-}
-
-/// Makes `out` the frame of a datagram; one that is longer than a frame is dropped.
-fn take_datagram(datagram: &[u8], out: &mut Frame) -> Got {
-    if datagram.len() >= ROOM {
-        return Got::Quiet;
+/// What an error of this kind means.
+fn trouble_of(kind: ErrorKind) -> Trouble
+    ensures silence { result ≡ Trouble.Silence ↔ IsTrue (is_silence kind) }
+    ensures interrupted { result ≡ Trouble.Interrupted ↔ (kind ≡ ErrorKind.Interrupted) }
+    ensures lost { result ≡ Trouble.Lost ↔ IsTrue (is_loss kind) }
+{
+    match kind {
+        ErrorKind::WouldBlock | ErrorKind::TimedOut => Trouble::Silence,
+        ErrorKind::Interrupted => Trouble::Interrupted,
+        ErrorKind::ConnectionRefused | ErrorKind::HostUnreachable | ErrorKind::NetworkUnreachable =>
+            Trouble::Lost,
+        _ => Trouble::Fault,
     }
-    refill(out, datagram);
-    Got::Frame
+}
+
+/// Makes `out` the next frame, or says that nothing came for as long as a call waits. A datagram that
+/// is longer than a frame is dropped, and so are signals and losses: they are no silence.
+fn take_frame(socket: &UdpSocket, datagram: &mut [u8], out: &mut Frame) -> Result<Got, Failed> {
+    'tries: for _ in 0..TRIES {
+        match socket.recv(datagram) {
+            Ok(count) if count < ROOM => {
+                refill(out, &datagram[..count]);
+                return Ok(Got::Frame);
+            }
+            Ok(_) => {}
+            Err(error) => match trouble_of(error.kind()) {
+                Trouble::Silence => return Ok(Got::Quiet),
+                Trouble::Interrupted | Trouble::Lost => {}
+                Trouble::Fault => return Err(Failed),
+            },
+        }
+    }
+    Err(Failed)
+}
+
+/// Sends a frame to a peer. It may be lost.
+fn send_one(socket: &UdpSocket, peer: SocketAddr, frame: &[u8]) -> Result<(), Failed> {
+    'tries: for _ in 0..TRIES {
+        match socket.send_to(frame, peer) {
+            Ok(_) => return Ok(()),
+            Err(error) => match trouble_of(error.kind()) {
+                Trouble::Interrupted => {}
+                Trouble::Lost => return Ok(()),
+                Trouble::Silence | Trouble::Fault => return Err(Failed),
+            },
+        }
+    }
+    Err(Failed)
 }
 
 /// Sends a frame to each of the peers.
-fn send_all(socket: &UdpSocket, peers: &[SocketAddr], frame: &[u8]) -> io::Result<()> {
+fn send_all(socket: &UdpSocket, peers: &[SocketAddr], frame: &[u8]) -> Result<(), Failed> {
     for peer in peers {
-        match socket.send_to(frame, *peer) {
-            Ok(_) => {}
-            Err(error) if is_lost(error.kind()) => {}
-            Err(error) => return Err(error),
-        }
+        send_one(socket, *peer, frame)?;
     }
     Ok(())
 }
@@ -188,18 +227,18 @@ impl Link for UdpLink {
     fn send(&mut self, frame: &[u8]) -> Result<(), Failed> {
         match send_all(&self.socket, self.peers.as_slice(), frame) {
             Ok(()) => Ok(()),
-            Err(_) => Err(self.fail()),
+            Err(Failed) => Err(self.fail()),
         }
     }
 
     fn recv(&mut self, out: &mut Frame) -> Result<Got, Failed> {
-        let got = match self.socket.recv(self.datagram.as_mut_slice()) {
-            Ok(count) => take_datagram(&self.datagram[..count], out),
-            Err(error) if is_silent(error.kind()) || is_lost(error.kind()) => Got::Quiet,
-            Err(_) => return Err(self.fail()),
-        };
-        self.turns = self.turns.saturating_add(1);
-        Ok(got)
+        match take_frame(&self.socket, self.datagram.as_mut_slice(), out) {
+            Ok(got) => {
+                self.turns = self.turns.saturating_add(1);
+                Ok(got)
+            }
+            Err(Failed) => Err(self.fail()),
+        }
     }
 }
 
@@ -219,12 +258,15 @@ mod tests {
         Ok((link, format!(in rt.alloc(); "{address}")?))
     }
 
-    /// Whether the link brings these bytes as a frame, and then nothing.
+    /// Whether the next call of the link brings these bytes as a frame.
     fn brings(link: &mut UdpLink, bytes: &[u8]) -> bool {
         let mut frame = Frame::new();
-        link.recv(&mut frame) == Ok(Got::Frame)
-            && frame.as_slice() == bytes
-            && link.recv(&mut frame) == Ok(Got::Quiet)
+        link.recv(&mut frame) == Ok(Got::Frame) && frame.as_slice() == bytes
+    }
+
+    /// Whether the link brings these bytes as a frame, and then nothing.
+    fn brings_last(link: &mut UdpLink, bytes: &[u8]) -> bool {
+        brings(link, bytes) && link.recv(&mut Frame::new()) == Ok(Got::Quiet)
     }
 
     #[test]
@@ -235,13 +277,23 @@ mod tests {
         let peers = format!(in rt.alloc(); "127.0.0.1:9,{first},{second}")?;
         let (mut three, _) = bound(&rt, peers.as_bytes())?;
         three.send(QUERY)?;
-        assert!(rt; brings(&mut one, QUERY));
-        assert!(rt; brings(&mut two, QUERY));
-        // The longest frame, and a datagram that is none.
+        assert!(rt; brings_last(&mut one, QUERY));
+        assert!(rt; brings_last(&mut two, QUERY));
+        Ok(())
+    }
+
+    #[test]
+    fn drops_long_datagrams(rt: HostRuntime) -> Result<(), Fail> {
+        let (mut one, address) = bound(&rt, b"127.0.0.1:9")?;
+        let (mut two, _) = bound(&rt, address.as_bytes())?;
+        // The longest frame; two datagrams that are none, and no silence; and a frame again.
         let bytes = [7u8; ROOM];
-        three.send(&bytes[1..])?;
-        three.send(&bytes)?;
+        two.send(&bytes[1..])?;
+        two.send(&bytes)?;
+        two.send(&bytes)?;
+        two.send(QUERY)?;
         assert!(rt; brings(&mut one, &bytes[1..]));
+        assert!(rt; brings_last(&mut one, QUERY));
         Ok(())
     }
 
