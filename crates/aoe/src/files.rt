@@ -1,12 +1,15 @@
-//! A file as a disk. It tells nothing of its content.
-ghost use Rattle.std.specs.Prelude.{◌≡◌, ◌≤◌, ◌^◌, IfOk, None};
+//! A file or a block device as a disk. It tells nothing of its content.
+ghost use Rattle.std.specs.Prelude.{◌≡◌, ◌≤◌, ◌^◌, IfOk, IsErr, IsTrue, None, OnErr, is_ok, length};
+ghost use Rattle.aoe_base.specs.Faults.{Rose};
+ghost use Rattle.aoe_disk.specs.Calls.{IsRange};
 ghost use Rattle.aoe_disk.specs.State.{DiskState};
 
 use aoe_base::Failed;
 use aoe_disk::Disk;
-use std::fs::{File, OpenFile, OpenOptions};
+use std::fs::{File, OpenFile, OpenOptions, TryLockError};
 use std::io;
-use std::os::unix::fs::FileExt;
+use std::io::{Seek, SeekFrom};
+use std::os::unix::fs::{FileExt, FileTypeExt};
 use std::rt::Files;
 
 /// The bytes of a sector.
@@ -15,27 +18,93 @@ const SECTOR_LEN: u64 = 512;
 /// The most sectors of a disk.
 const MAX_SECTORS: u64 = 1 << 40;
 
-/// The whole sectors of a file; a rest at its end is none. Each failure is counted.
+/// Why a file can't be a disk.
+#[derive(Clone, Copy, Debug, PartialEq, Eq)]
+pub enum FileRefusal {
+    /// It can't be opened for reading and writing, or doesn't tell its size.
+    Unopened,
+
+    /// It is neither a file nor a block device.
+    Kind,
+
+    /// Another program has locked it, or this one has opened it before.
+    InUse,
+}
+
+impl From<io::Error> for FileRefusal {
+    fn from(_: io::Error) -> FileRefusal {
+        FileRefusal::Unopened
+    }
+}
+
+impl From<TryLockError> for FileRefusal {
+    fn from(error: TryLockError) -> FileRefusal {
+        match error {
+            TryLockError::WouldBlock => FileRefusal::InUse,
+            TryLockError::Error(_) => FileRefusal::Unopened,
+        }
+    }
+}
+
+/// The whole sectors of a file or a block device; a rest at its end is none. Each failure is counted.
 #[derive(Drop)]
 pub struct FileDisk {
     file: File,
     sectors: u64,
     faults: u64,
+
+    /// A sync failed. Linux then takes what it couldn't write for written: the next sync would be Ok
+    /// without it, and a read may find what stood there before. So each later call fails.
+    is_lost: bool,
     ghost bounded: { sectors ≤ 2 ^ 40 },
 }
 
 impl FileDisk {
-    /// Opens the file for reading and writing.
-    pub fn open(rt: &impl Files<File = File>, name: &str) -> io::Result<FileDisk>
+    /// Opens the file for reading and writing, and locks it until it is dropped.
+    pub fn open(rt: &impl Files<File = File>, name: &str) -> Result<FileDisk, FileRefusal>
         ensures { IfOk result (λ disk. disk.faults ≡ 0) }
     {
-        let file = OpenOptions::new().read(true).write(true).open(rt, name)?;
-        let sectors = file.metadata()?.len() / SECTOR_LEN;
+        let mut file = OpenOptions::new().read(true).write(true).open(rt, name)?;
+        let kind = file.metadata()?.file_type();
+        if !kind.is_file() && !kind.is_block_device() {
+            return Err(FileRefusal::Kind);
+        }
+        file.try_lock()?;
+        // A device that is read-only may be opened all the same, and tells it at the first write.
+        file.write_at(b"", 0)?;
+        // The metadata of a block device don't tell its size.
+        let sectors = file.seek(SeekFrom::End(0))? / SECTOR_LEN;
         Ok(FileDisk {
             file,
             sectors: sectors.min(MAX_SECTORS),
             faults: 0,
+            is_lost: false,
         })
+    }
+
+    /// Counts a failed call.
+    fn fail(&mut self) -> Failed
+        ensures cause { Rose self.old.faults self.new.faults }
+        ensures count { self.old.faults ≤ self.new.faults }
+        ensures sectors { self.new.sectors ≡ self.old.sectors }
+        ensures lost { self.new.is_lost ≡ self.old.is_lost }
+    {
+        self.faults = self.faults.saturating_add(1);
+        Failed
+    }
+
+    /// What a call of the file answered, whose failure is counted.
+    fn told(&mut self, answer: io::Result<()>) -> Result<(), Failed>
+        ensures told { is_ok result ≡ is_ok answer }
+        ensures cause { OnErr result (Rose self.old.faults self.new.faults) }
+        ensures count { self.old.faults ≤ self.new.faults }
+        ensures sectors { self.new.sectors ≡ self.old.sectors }
+        ensures lost { self.new.is_lost ≡ self.old.is_lost }
+    {
+        match answer {
+            Ok(()) => Ok(()),
+            Err(_) => Err(self.fail()),
+        }
     }
 }
 
@@ -46,33 +115,48 @@ impl Disk for FileDisk {
         self.sectors
     }
 
-    fn read(&mut self, at: u64, out: &mut [u8]) -> Result<(), Failed> {
-        match self.file.read_exact_at(out, at * SECTOR_LEN) {
-            Ok(()) => Ok(()),
-            Err(_) => {
-                self.faults = self.faults.saturating_add(1);
-                Err(Failed)
-            }
+    fn read(&mut self, at: u64, out: &mut [u8]) -> Result<(), Failed>
+        requires { IsRange at (length out.old) self.old.sectors }
+        ensures sectors { self.new.sectors ≡ self.old.sectors }
+        ensures count { self.old.faults ≤ self.new.faults }
+        ensures cause { OnErr result (Rose self.old.faults self.new.faults) }
+        ensures refused { IsTrue self.old.is_lost → IsErr result }
+        ensures stays_lost { self.new.is_lost ≡ self.old.is_lost }
+    {
+        if self.is_lost {
+            return Err(self.fail());
         }
+        let answer = self.file.read_exact_at(out, at * SECTOR_LEN);
+        self.told(answer)
     }
 
-    fn write(&mut self, at: u64, piece: &[u8]) -> Result<(), Failed> {
-        match self.file.write_all_at(piece, at * SECTOR_LEN) {
-            Ok(()) => Ok(()),
-            Err(_) => {
-                self.faults = self.faults.saturating_add(1);
-                Err(Failed)
-            }
+    fn write(&mut self, at: u64, piece: &[u8]) -> Result<(), Failed>
+        requires { IsRange at (length piece.now) self.old.sectors }
+        ensures sectors { self.new.sectors ≡ self.old.sectors }
+        ensures count { self.old.faults ≤ self.new.faults }
+        ensures cause { OnErr result (Rose self.old.faults self.new.faults) }
+        ensures refused { IsTrue self.old.is_lost → IsErr result }
+        ensures stays_lost { self.new.is_lost ≡ self.old.is_lost }
+    {
+        if self.is_lost {
+            return Err(self.fail());
         }
+        let answer = self.file.write_all_at(piece, at * SECTOR_LEN);
+        self.told(answer)
     }
 
-    fn sync(&mut self) -> Result<(), Failed> {
-        match self.file.sync_data() {
-            Ok(()) => Ok(()),
-            Err(_) => {
-                self.faults = self.faults.saturating_add(1);
-                Err(Failed)
-            }
+    fn sync(&mut self) -> Result<(), Failed>
+        ensures sectors { self.new.sectors ≡ self.old.sectors }
+        ensures count { self.old.faults ≤ self.new.faults }
+        ensures cause { OnErr result (Rose self.old.faults self.new.faults) }
+        ensures refused { IsTrue self.old.is_lost → IsErr result }
+        ensures lost { OnErr result (IsTrue self.new.is_lost) }
+    {
+        if self.is_lost {
+            return Err(self.fail());
         }
+        let answer = self.file.sync_data();
+        self.is_lost = answer.is_err();
+        self.told(answer)
     }
 }

@@ -8,7 +8,8 @@ mod streams;
 
 use aoe_top::{PortWords, Status, aoe, files_of, ports_of};
 use aoe_udp::{OpenRefusal, UdpLink};
-use files::FileDisk;
+use files::{FileDisk, FileRefusal};
+use std::fs::File;
 use std::io::{BufReader, ErrorKind};
 use std::process::ExitCode;
 use std::{env, io};
@@ -16,6 +17,9 @@ use streams::{Input, Output};
 
 /// How much of standard input is read at a time, in bytes.
 const READ_AHEAD: usize = 65536;
+
+/// A folder that is always there.
+const ROOT: &str = "/";
 
 /// The words after the program's name.
 fn words(rt: &HostRuntime) -> io::Result<Vec<String>> {
@@ -32,12 +36,37 @@ fn say(rt: &HostRuntime, text: &[u8]) {
     let _ = stderr.write_all(text);
 }
 
-/// Says that what has this name can't be opened, and gives the exit status.
-fn tell_unopened(rt: &HostRuntime, name: &[u8], code: u8) -> u8 {
-    say(rt, b"aoe: cannot open ");
+/// Says what is wrong with what has this name, and gives the exit status.
+fn tell_name(rt: &HostRuntime, wrong: &[u8], name: &[u8], code: u8) -> u8 {
+    say(rt, b"aoe: ");
+    say(rt, wrong);
     say(rt, name);
     say(rt, b"\n");
     code
+}
+
+/// Says that what has this name can't be opened, and gives the exit status.
+fn tell_unopened(rt: &HostRuntime, name: &[u8], code: u8) -> u8 {
+    tell_name(rt, b"cannot open ", name, code)
+}
+
+/// Says why the file with this name can't be a disk, and gives the exit status.
+fn tell_refused(rt: &HostRuntime, name: &[u8], refusal: FileRefusal) -> u8 {
+    match refusal {
+        FileRefusal::Unopened => tell_unopened(rt, name, 5),
+        FileRefusal::Kind => tell_name(rt, b"neither a file nor a block device: ", name, 5),
+        FileRefusal::InUse => tell_name(rt, b"in use: ", name, 5),
+    }
+}
+
+/// Opens a folder three times, so that no file and no socket gets the number of a standard stream
+/// that is closed: what is read or written there fails, as it does on a closed stream.
+fn hold_streams(rt: &HostRuntime) -> io::Result<[File; 3]> {
+    Ok([
+        File::open(rt, ROOT)?,
+        File::open(rt, ROOT)?,
+        File::open(rt, ROOT)?,
+    ])
 }
 
 /// Opens the files with these names; the exit status where one can't be opened, which is said.
@@ -47,8 +76,9 @@ fn open_all(rt: &HostRuntime, names: &[String]) -> Result<Vec<Option<FileDisk>>,
 {
     let mut disks = Vec::new(rt.alloc());
     'names: for name in names {
-        let Ok(disk) = FileDisk::open(rt, name.as_str()) else {
-            return Err(tell_unopened(rt, name.as_bytes(), 5));
+        let disk = match FileDisk::open(rt, name.as_str()) {
+            Ok(disk) => disk,
+            Err(refusal) => return Err(tell_refused(rt, name.as_bytes(), refusal)),
         };
         if disks.push(Some(disk)).is_err() {
             return Err(tell(rt, Status::NoMemory));
@@ -87,19 +117,17 @@ fn tell(rt: &HostRuntime, status: Status) -> u8 {
     status.code()
 }
 
-/// Runs the command on its files, its links and the standard streams, and gives the exit status. Words that
-/// aren't UTF-8 are no command.
-fn run(rt: &HostRuntime) -> u8 {
-    let words = match words(rt) {
-        Ok(words) => words,
-        Err(error) if error.kind() == ErrorKind::OutOfMemory => return tell(rt, Status::NoMemory),
-        Err(_) => return tell(rt, Status::Usage),
-    };
-    let Ok(names) = files_of(rt.alloc(), words.as_slice()) else {
+/// Runs the command that the words spell on its files, its links and the standard streams, and gives
+/// the exit status.
+fn run_words(rt: &HostRuntime, words: &[String]) -> u8 {
+    let Ok(names) = files_of(rt.alloc(), words) else {
         return tell(rt, Status::NoMemory);
     };
-    let Ok(ends) = ports_of(rt.alloc(), words.as_slice()) else {
+    let Ok(ends) = ports_of(rt.alloc(), words) else {
         return tell(rt, Status::NoMemory);
+    };
+    let Ok(_streams) = hold_streams(rt) else {
+        return tell_unopened(rt, ROOT.as_bytes(), 5);
     };
     let mut disks = match open_all(rt, names.as_slice()) {
         Ok(disks) => disks,
@@ -114,15 +142,19 @@ fn run(rt: &HostRuntime) -> u8 {
     };
     let mut source = Input::new(reader);
     let mut sink = Output::new(rt.stdout());
-    let status = aoe(
-        rt.alloc(),
-        words.as_slice(),
-        &mut source,
-        &mut sink,
-        disks.as_mut_slice(),
-        links.as_mut_slice(),
-    );
+    let (disks, links) = (disks.as_mut_slice(), links.as_mut_slice());
+    let status = aoe(rt.alloc(), words, &mut source, &mut sink, disks, links);
     tell(rt, status)
+}
+
+/// Runs the command that the program's words spell, and gives the exit status. Words that aren't UTF-8
+/// are no command.
+fn run(rt: &HostRuntime) -> u8 {
+    match words(rt) {
+        Ok(words) => run_words(rt, words.as_slice()),
+        Err(error) if error.kind() == ErrorKind::OutOfMemory => tell(rt, Status::NoMemory),
+        Err(_) => tell(rt, Status::Usage),
+    }
 }
 
 fn main(rt: HostRuntime) -> ExitCode {
