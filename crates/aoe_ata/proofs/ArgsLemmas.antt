@@ -6,7 +6,8 @@ use Rattle.std.proofs.Math.Seq.{drop-cons, take-add}
 use Rattle.std.proofs.lemmas.Bool.{cases_lt}
 use Rattle.std.proofs.lemmas.List.{get_or_append_left, get_or-append_right, take_at, length-take-le, length-drop, length-append}
 use Rattle.std.proofs.lemmas.Nat.{le_bytes_8}
-use Rattle.aoe_frame.proofs.PieceLemmas.{six-is, two-at, part-small}
+use Rattle.aoe_base.proofs.MacLemmas.{six-is}
+use Rattle.aoe_frame.proofs.PieceLemmas.{two-at, part-small}
 use Rattle.aoe_ata.specs.declared.args.AtaArgs.{AtaArgs}
 use Rattle.aoe_ata.specs.Args.{address_of, registers, args_of, args_bytes}
 

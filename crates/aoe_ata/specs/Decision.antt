@@ -1,8 +1,8 @@
 -- What is answered to an ATA command before the device is called.
 use Rattle.std.specs.Prelude.{ℕ, ◌+◌, ◌-◌, ◌*◌, ◌≤◌, Bool, true, ◌&&◌, List, length, nat_le, Result, Ok, Err, if◌then◌else◌, slice_range}
 use Rattle.aoe_base.specs.declared.sectors.Span.{Span}
-use Rattle.aoe_frame.specs.declared.refusal.AoeError.{AoeError}
-use Rattle.aoe_frame.specs.declared.refusal.AoeError.TheVariants.{BadArgument}
+use Rattle.aoe_base.specs.declared.refusal.AoeError.{AoeError}
+use Rattle.aoe_base.specs.declared.refusal.AoeError.TheVariants.{BadArgument}
 use Rattle.aoe_ata.specs.declared.command.AtaCommand.{AtaCommand}
 use Rattle.aoe_ata.specs.declared.command.AtaCommand.TheVariants.{Read, Write, Verify, Flush, Identify, PowerMode, Unknown}
 use Rattle.aoe_ata.specs.declared.decision.AtaAnswer.{AtaAnswer}

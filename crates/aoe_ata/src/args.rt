@@ -4,7 +4,8 @@ ghost use Rattle.std.specs.Prelude.{List, ℕ, ◌≡◌, ◌+◌, ◌^◌, ◌<
 ghost use Rattle.arrayvec.specs.ArrayVec.{array_vec_len};
 ghost use Rattle.aoe_ata.specs.Args.{address_of, args_of, args_bytes};
 
-use aoe_frame::{Frame, append};
+use aoe_base::append;
+use aoe_frame::Frame;
 
 /// How many bytes the registers have, from byte 24 of a frame on.
 pub const ARGS_LEN: usize = 12;
@@ -97,6 +98,14 @@ pub fn write_args(args: &AtaArgs, out: &mut Frame)
 {
     append(out, &args_array(args));
 }
+
+/// A law: the bits of AFlags (AoEr11, "ATA command").
+pub fn aflags_law()
+    ensures extended { AFLAG_EXTENDED ≡ 2 ^ 6 }
+    ensures device { AFLAG_DEVICE ≡ 2 ^ 4 }
+    ensures write_later { AFLAG_ASYNC ≡ 2 ^ 1 }
+    ensures write { AFLAG_WRITE ≡ 2 ^ 0 }
+{}
 
 /// A law: what is written as registers is read as them, whatever follows.
 pub fn args_read_back()

@@ -10,8 +10,8 @@ mod reply;
 mod serial;
 
 pub use args::{
-    AFLAG_ASYNC, AFLAG_DEVICE, AFLAG_EXTENDED, AFLAG_WRITE, ARGS_LEN, AtaArgs, args_array,
-    args_read_back, args_spelling_is_one, read_args, write_args,
+    AFLAG_ASYNC, AFLAG_DEVICE, AFLAG_EXTENDED, AFLAG_WRITE, ARGS_LEN, AtaArgs, aflags_law,
+    args_array, args_read_back, args_spelling_is_one, read_args, write_args,
 };
 pub use command::{AtaCommand, CommandCode, classify};
 pub use decision::{AtaAnswer, AtaDecision, decide, put_data};

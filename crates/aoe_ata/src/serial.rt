@@ -1,7 +1,8 @@
 //! The serial number that a device tells in its identify page.
 ghost use Rattle.std.specs.Prelude.{◌≡◌, ◌+◌, ◌≤◌, ◌++◌, length};
 ghost use Rattle.arrayvec.specs.ArrayVec.{array_vec_len};
-ghost use Rattle.aoe_ata.specs.Serial.{device_name, filled};
+ghost use Rattle.aoe_base.specs.Names.{device_text};
+ghost use Rattle.aoe_ata.specs.Serial.{filled};
 
 use aoe_base::TargetId;
 use arrayvec::ArrayVec;
@@ -20,7 +21,7 @@ fn append(name: &mut ArrayVec<u8, SERIAL_LEN>, text: &[u8])
 
 /// The name of a device, as `e1.0`, filled with spaces.
 pub fn serial_number(id: TargetId) -> [u8; 20]
-    ensures { result ≡ filled 20 (device_name id) }
+    ensures { result ≡ filled 20 (device_text id) }
 {
     let mut name = ArrayVec::<u8, SERIAL_LEN>::new();
     let mut digits = Buffer::new();

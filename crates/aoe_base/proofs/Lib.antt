@@ -1,3 +1,4 @@
+pub mod AddressLemmas
 mod DeviceLemmas
 mod Digits
-mod MacLemmas
+pub mod MacLemmas

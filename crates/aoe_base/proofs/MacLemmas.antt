@@ -9,7 +9,7 @@ use Rattle.std.proofs.lemmas.Str.{digit_value-digit_char}
 use Rattle.aoe_base.specs.declared.address.Mac.{Mac}
 use Rattle.aoe_base.specs.Names.{is_hex_digit, is_mac_text, is_pair_at, mac_of, mac_text, pair_at, pair_places}
 
-digit-is : (d : ℕ) → d < 16 → is_hex_digit (digit_char d) ≡ true
+pub digit-is : (d : ℕ) → d < 16 → is_hex_digit (digit_char d) ≡ true
 digit-is d small = grind arith
 
 either : (x y : Bool) → x || y ≡ true → (x ≡ true) ⊎ (y ≡ true)
@@ -80,7 +80,7 @@ written-back a b c d e f sa sb sc sd se sf =
 cons-is : (l t : List ℕ) (i : ℕ) → i < length l → drop (suc i) l ≡ t → drop i l ≡ get_or l i 0 ∷ t
 cons-is l t i inside rest = drop-cons l i 0 inside ∙ ap (λ (xs : List ℕ). get_or l i 0 ∷ xs) rest
 
-six-is : (l : List ℕ) → length l ≡ 6 → l ≡ get_or l 0 0 ∷ get_or l 1 0 ∷ get_or l 2 0 ∷ get_or l 3 0 ∷ get_or l 4 0 ∷ get_or l 5 0 ∷ []
+pub six-is : (l : List ℕ) → length l ≡ 6 → l ≡ get_or l 0 0 ∷ get_or l 1 0 ∷ get_or l 2 0 ∷ get_or l 3 0 ∷ get_or l 4 0 ∷ get_or l 5 0 ∷ []
 six-is l h =
     let t6 = drop_of_length-le l {i = 6} (omega arith) in
     let t5 = cons-is l _ 5 (omega arith) t6 in

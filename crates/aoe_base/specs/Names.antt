@@ -1,5 +1,5 @@
 -- Ethernet addresses and the names of devices, as text.
-use Rattle.std.specs.Prelude.{ℕ, ◌≡◌, ◌+◌, ◌*◌, ◌/◌, ◌%◌, Bool, ◌&&◌, ◌||◌, ◌==◌, List, [], ◌∷◌, ◌++◌, map, drop, length, Option, Some, None, if◌then◌else◌, option_and_then, slice_index, position}
+use Rattle.std.specs.Prelude.{ℕ, ◌≡◌, ◌+◌, ◌*◌, ◌/◌, ◌%◌, Bool, ◌&&◌, ◌||◌, ◌==◌, decimal, List, [], ◌∷◌, ◌++◌, map, drop, length, Option, Some, None, if◌then◌else◌, option_and_then, slice_index, position}
 use Rattle.std.specs.List.{list_all, join_with_byte, slice_range}
 use Rattle.std.specs.Int.{is_in_range}
 use Rattle.std.specs.Char.{digit_char, digit_value}
@@ -54,6 +54,10 @@ parts_of text i = id_of (slice_range text 1 i) (drop (i + 1) text)
 unfoldable pub device_of : List ℕ → Option TargetId
 device_of text =
     if slice_index text 0 == 101 then option_and_then (parts_of text) (position (λ c. c == 46) text) else None
+
+-- the text that is printed for a device, without leading zeros
+abbrev pub device_text : TargetId → List ℕ
+device_text id = 101 ∷ (decimal id.major ++ 46 ∷ decimal id.minor)
 
 -- the text is e, a number up to 65534, a point and a number up to 254, and these are the device's
 pub record IsNameOf (id : TargetId) (text : List ℕ) : Type 0 where

@@ -2,6 +2,7 @@
 ghost use Rattle.std.specs.Prelude.{◌≡◌, ◌+◌, ◌<◌, ◌==◌, true, length, position, slice_index, IfSome};
 ghost use Rattle.std.specs.List.{list_all};
 ghost use Rattle.std.specs.Char.{digit_value};
+ghost use Rattle.aoe_base.specs.Addresses.{all_unique, is_individual};
 ghost use Rattle.aoe_base.specs.Names.{colon_places, device_of, id_of, is_hex_digit, is_mac_text, is_pair_at, mac_of, pair_at, pair_places};
 
 use crate::decimal::read_number;
@@ -11,11 +12,30 @@ use arrayvec::ArrayVec;
 #[derive(Clone, Copy, Debug, Default, PartialEq, Eq, PartialOrd, Ord, Hash)]
 pub struct Mac(pub [u8; 6]);
 
+impl Mac {
+    /// Whether it is the address of one station, and of no group.
+    pub fn is_individual(&self) -> bool
+        ensures { result ≡ is_individual self.now }
+    {
+        self.0[0] % 2 == 0
+    }
+}
+
 /// The address of all stations.
 pub const BROADCAST: Mac = Mac([0xff, 0xff, 0xff, 0xff, 0xff, 0xff]);
 
 /// The addresses of one station, in their order: one to four of them.
 pub type Ports = ArrayVec<Mac, 4>;
+
+/// Whether no address stands twice.
+pub fn all_unique(list: &[Mac]) -> bool
+    ensures { result ≡ all_unique list.now }
+{
+    match list {
+        [first, rest @ ..] => !rest.contains(first) && all_unique(rest),
+        [] => true,
+    }
+}
 
 /// The name of a device: the number of its shelf (AoEr11 "Major") and of its slot there ("Minor").
 ///

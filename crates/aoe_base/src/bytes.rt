@@ -1,7 +1,9 @@
-//! Byte strings on the heap.
-ghost use Rattle.std.specs.Prelude.{◌≡◌, ℕ, List, IfOk};
+//! Byte strings, on the heap and in fixed room.
+ghost use Rattle.std.specs.Prelude.{◌≡◌, ◌+◌, ◌≤◌, ◌++◌, ℕ, List, length, IfOk};
+ghost use Rattle.arrayvec.specs.ArrayVec.{array_vec_len};
 
 use crate::NoMemory;
+use arrayvec::ArrayVec;
 use std::alloc::Global;
 use std::marker::Model;
 
@@ -34,6 +36,14 @@ impl Blob {
     {
         self.held.as_slice()
     }
+}
+
+/// Appends bytes, for which there is room.
+pub fn append<const CAP: usize>(out: &mut ArrayVec<u8, CAP>, bytes: &[u8])
+    requires { array_vec_len out.old + length bytes.now ≤ CAP }
+    ensures { out.new.items ≡ out.old.items ++ bytes.now }
+{
+    let _ = out.try_extend_from_slice(bytes);
 }
 
 #[cfg(test)]

@@ -1,5 +1,5 @@
-//! The words that every layer speaks in: addresses, device names, spans of sectors, times, numbers
-//! of things, byte strings and decimal numbers.
+//! The words that every layer speaks in: addresses, device names, the errors of replies, spans of
+//! sectors, times, numbers of things, byte strings and decimal numbers.
 #![tactic(auto)]
 
 mod address;
@@ -8,14 +8,16 @@ mod counted;
 mod decimal;
 mod failure;
 mod names;
+mod refusal;
 mod sectors;
 mod steps;
 
-pub use address::{BROADCAST, Mac, Ports, TargetId, read_device, read_mac};
-pub use bytes::Blob;
+pub use address::{BROADCAST, Mac, Ports, TargetId, all_unique, read_device, read_mac};
+pub use bytes::{Blob, append};
 pub use counted::{DeviceNo, FrameNo, Millis, PathNo, Ticket};
 pub use decimal::read_number;
 pub use failure::{Failed, NoMemory};
-pub use names::{device_law, mac_reads_back, mac_spelling_is_one};
+pub use names::{broadcast_law, device_law, mac_reads_back, mac_spelling_is_one};
+pub use refusal::AoeError;
 pub use sectors::Span;
 pub use steps::Steps;

@@ -1,6 +1,8 @@
 //! The laws that texts of addresses and names of devices meet.
 ghost use Rattle.std.specs.Prelude.{ℕ, ◌≡◌, ◌^◌, ◌<◌, ◌↔◌, List, Some, All, length};
+ghost use Rattle.aoe_base.specs.Addresses.{broadcast};
 ghost use Rattle.aoe_base.specs.declared.address.Mac.{Mac};
+ghost use Rattle.aoe_base.specs.declared.address.TheConstants.{BROADCAST};
 ghost use Rattle.aoe_base.specs.declared.address.TargetId.{TargetId};
 ghost use Rattle.aoe_base.specs.Names.{device_of, mac_of, mac_text, IsNameOf};
 
@@ -18,4 +20,9 @@ pub fn mac_spelling_is_one()
 /// its slot's number.
 pub fn device_law()
     ensures { (id : TargetId) (text : List ℕ) → (device_of text ≡ Some id) ↔ (IsNameOf id text) }
+{}
+
+/// A law: the address of all stations has no bit that is 0.
+pub fn broadcast_law()
+    ensures { BROADCAST ≡ broadcast }
 {}

@@ -5,7 +5,7 @@
 
 ghost use Rattle.std.specs.Prelude.{◌≡◌, ◌+◌, ◌<◌, ◌≤◌, IfOk, length};
 ghost use Rattle.aoe_initiator.specs.Op.{CanSubmit};
-ghost use Rattle.aoe_paths.specs.PathTable.{IsDistinct};
+ghost use Rattle.aoe_base.specs.Addresses.{IsDistinct};
 
 use aoe_base::{Blob, DeviceNo, Mac, Millis, NoMemory, Ports, Span, TargetId};
 use aoe_disk::MemDisk;

@@ -7,7 +7,8 @@ use Rattle.std.specs.Int.{w16, w32, to_be_bytes, from_be_bytes}
 use Rattle.std.proofs.Math.Seq.{take-add}
 use Rattle.std.proofs.lemmas.Nat.{and_block, div-mul-add, from_be_bytes-to_be_bytes_2, from_be_bytes-to_be_bytes_4, be_bytes_2, be_bytes_4}
 use Rattle.aoe_frame.specs.declared.header.Header.{Header}
-use Rattle.aoe_frame.proofs.PieceLemmas.{six-is, two-at, four-at, part-small}
+use Rattle.aoe_base.proofs.MacLemmas.{six-is}
+use Rattle.aoe_frame.proofs.PieceLemmas.{two-at, four-at, part-small}
 use Rattle.aoe_frame.specs.Header.{Fits, IsFlags, fields, head, header_bytes}
 
 -- a flag comes back from the byte that it shares with the version

@@ -2,21 +2,10 @@
 use Rattle.std.proofs.Common.{◌≡◌, ℕ, suc, ◌^◌, ◌<◌, inl, inr, List, [], ◌∷◌, ◌++◌, ◌+◌, length, get_or, drop, take, replicate, append-nil, refl, sym, ap, ◌∙◌, arith}
 use Rattle.std.specs.Prelude.{All}
 use Rattle.std.proofs.Math.Seq.{drop-cons}
-use Rattle.std.proofs.Math.ListN.{drop_of_length-le}
 use Rattle.std.proofs.lemmas.Bool.{cases_lt}
 use Rattle.std.proofs.lemmas.List.{get_or_past}
 use Rattle.std.proofs.lemmas.List.Elements.{All-get_or, All-take, All-drop}
-
--- a list of six is its six elements
-pub six-is : (l : List ℕ) → length l ≡ 6 → l ≡ get_or l 0 0 ∷ get_or l 1 0 ∷ get_or l 2 0 ∷ get_or l 3 0 ∷ get_or l 4 0 ∷ get_or l 5 0 ∷ []
-six-is l h =
-    drop-cons l 0 0 (omega arith)
-    ∙ ap (λ (t : List ℕ). get_or l 0 0 ∷ t) (drop-cons l 1 0 (omega arith)
-    ∙ ap (λ (t : List ℕ). get_or l 1 0 ∷ t) (drop-cons l 2 0 (omega arith)
-    ∙ ap (λ (t : List ℕ). get_or l 2 0 ∷ t) (drop-cons l 3 0 (omega arith)
-    ∙ ap (λ (t : List ℕ). get_or l 3 0 ∷ t) (drop-cons l 4 0 (omega arith)
-    ∙ ap (λ (t : List ℕ). get_or l 4 0 ∷ t) (drop-cons l 5 0 (omega arith)
-    ∙ ap (λ (t : List ℕ). get_or l 5 0 ∷ t) (drop_of_length-le l {i = 6} (omega arith)))))))
+use Rattle.aoe_base.proofs.MacLemmas.{six-is}
 
 -- a list with a piece laid over it
 abbrev pub Laid : List ℕ → ℕ → List ℕ → List ℕ → Type 0

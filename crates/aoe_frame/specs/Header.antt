@@ -3,13 +3,14 @@ use Rattle.std.specs.Prelude.{ℕ, ◌+◌, ◌*◌, ◌/◌, ◌-◌, ◌<◌, 
 use Rattle.std.specs.Int.{w16, w32, to_be_bytes, from_be_bytes}
 use Rattle.aoe_base.specs.declared.address.Mac.{Mac}
 use Rattle.aoe_base.specs.declared.address.TargetId.{TargetId}
+use Rattle.aoe_base.specs.Addresses.{source_of}
 use Rattle.aoe_frame.specs.declared.header.Header.{Header}
 
 -- the fields of a header, of a frame of at least 24 bytes
 abbrev pub fields : List ℕ → Header
 fields f = record {
   dst = record { 0 = slice_range f 0 6 };
-  src = record { 0 = slice_range f 6 12 };
+  src = source_of f;
   version = slice_index f 14 / 16;
   flags = bit_and (slice_index f 14) 12;
   error = slice_index f 15;

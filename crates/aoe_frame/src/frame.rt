@@ -3,6 +3,7 @@ ghost use Rattle.std.specs.Prelude.{◌≡◌, ◌+◌, ◌≤◌, ◌++◌, dro
 ghost use Rattle.arrayvec.specs.ArrayVec.{array_vec_len};
 ghost use Rattle.aoe_frame.specs.Header.{padded, stretched};
 
+use aoe_base::append;
 use arrayvec::ArrayVec;
 
 /// A frame, from its destination address on and without the check sequence: up to 9018 bytes, a
@@ -17,14 +18,6 @@ const MAX_FRAME: usize = 9018;
 
 /// Zeros for the bytes that a frame grows by.
 static ZEROS: [u8; MAX_FRAME] = [0; MAX_FRAME];
-
-/// Appends bytes, for which there is room.
-pub fn append<const CAP: usize>(out: &mut ArrayVec<u8, CAP>, bytes: &[u8])
-    requires { array_vec_len out.old + length bytes.now ≤ CAP }
-    ensures { out.new.items ≡ out.old.items ++ bytes.now }
-{
-    let _ = out.try_extend_from_slice(bytes);
-}
 
 /// Makes `out` `len` bytes long. They are what stood there, and zeros behind it. A frame of that
 /// length isn't written to.

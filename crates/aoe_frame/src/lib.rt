@@ -3,11 +3,9 @@
 
 mod frame;
 mod header;
-mod refusal;
 
-pub use frame::{Frame, MIN_FRAME, append, overwrite, pad, refill, stretch};
+pub use frame::{Frame, MIN_FRAME, overwrite, pad, refill, stretch};
 pub use header::{
     AOE_TYPE, ERROR_FLAG, HEADER_LEN, Header, RESPONSE_FLAG, header_array, header_reads_back,
     header_spelling_is_one, read_header, turn_round, write_header,
 };
-pub use refusal::AoeError;

@@ -9,10 +9,9 @@ use Rattle.arrayvec.specs.ArrayVec.{ArrayVec}
 use Rattle.aoe_base.specs.declared.address.Mac.{Mac}
 use Rattle.aoe_base.specs.declared.address.TargetId.{TargetId}
 use Rattle.std.specs.Str.{bytes_eq}
-use Rattle.aoe_base.specs.declared.address.TheConstants.{BROADCAST}
+use Rattle.aoe_base.specs.Addresses.{broadcast, holds, same_address}
 use Rattle.aoe_frame.specs.declared.header.Header.{Header}
 use Rattle.aoe_frame.specs.Header.{Fits}
-use Rattle.aoe_lists.specs.Addresses.{holds}
 use Rattle.aoe_ata.specs.Decision.{written}
 use Rattle.aoe_ata.specs.declared.decision.AtaDecision.{AtaDecision}
 use Rattle.aoe_initiator.specs.declared.device.Attached.{Attached}
@@ -198,7 +197,7 @@ last-two false b c d e = absurd (cc)
 -- a target that hears a request with a number of its own has that number
 heard-at : (station : Station) (h : Header) → is_heard station h ≡ true → h.id.major < 65535 → h.id.minor < 255 → same_id station.id h.id ≡ true
 heard-at station h e major minor =
-    let p = last-two (holds station.ports.items h.dst || bytes_eq h.dst.0 BROADCAST.0) (nat_lt h.flags 8) (h.id.major == station.id.major || h.id.major == 65535) (h.id.minor == station.id.minor || h.id.minor == 255) e in
+    let p = last-two (holds station.ports.items h.dst || same_address h.dst broadcast) (nat_lt h.flags 8) (h.id.major == station.id.major || h.id.major == 65535) (h.id.minor == station.id.minor || h.id.minor == 255) e in
     same-numbers station.id h.id (heard-id h.id.major station.id.major 65535 p.0 major) (heard-id h.id.minor station.id.minor 255 p.1 minor)
 
 by-some : (a b : Attached) (o : Option Attached) → o ≡ Some a → o ≡ Some b → a ≡ b

@@ -13,7 +13,7 @@ use Rattle.aoe_ata.specs.declared.reply.AtaOutcome.{AtaOutcome}
 use Rattle.aoe_ata.specs.declared.reply.AtaOutcome.TheVariants as outcome
 use Rattle.aoe_frame.specs.declared.header.Header.{Header}
 use Rattle.aoe_frame.specs.Header.{fields, Fits}
-use Rattle.aoe_frame.specs.Refusal.{code_of_error}
+use Rattle.aoe_base.specs.Refusal.{code_of_error}
 use Rattle.aoe_initiator.specs.declared.op.Op.{Op}
 use Rattle.aoe_initiator.specs.declared.op.Op.TheVariants.{Read, Write, Flush, Identify, Config, Masks, Reserve}
 use Rattle.aoe_initiator.specs.declared.response.Answer.{Answer}
@@ -41,7 +41,7 @@ same-reply e e2 r r2 p = cc
 module _ (op : Op) (station : Station) (h : Header) (k : State) (e : Effect) (reply : List ℕ) (a : Answer) (ata : (command_of op == 0) ≡ true) (fits : Fits h) (can : CanReply station h)
     (says : answer op (fields reply) (drop 24 reply) ≡ Some a) where
   -- a reply with an error
-  refused : (error : Rattle.aoe_frame.specs.declared.refusal.AoeError.AoeError) (args : List ℕ) → reply ≡ spelled station h (Some error) args → TellsTruly op k e reply a
+  refused : (error : Rattle.aoe_base.specs.declared.refusal.AoeError.AoeError) (args : List ℕ) → reply ≡ spelled station h (Some error) args → TellsTruly op k e reply a
   refused error args is =
       let r = reply-read station h (Some error) args (reply-fits station h (Some error) fits can) in
       let s : answer op (fields (spelled station h (Some error) args)) (drop 24 (spelled station h (Some error) args)) ≡ Some a = subst (λ (z : List ℕ). answer op (fields z) (drop 24 z) ≡ Some a) is says in

@@ -5,6 +5,7 @@ use Rattle.std.specs.Option.{option_map_or, option_and_then}
 use Rattle.std.proofs.lemmas.Bool.Decides.{nat_tests}
 use Rattle.arrayvec.specs.ArrayVec.{ArrayVec}
 use Rattle.aoe_base.specs.declared.address.Mac.{Mac}
+use Rattle.aoe_base.specs.Addresses.{holds}
 use Rattle.aoe_flight.specs.Outstanding.{rest_time}
 use Rattle.aoe_frame.specs.declared.header.Header.{Header}
 use Rattle.aoe_frame.specs.Header.{fields, head}
@@ -18,7 +19,6 @@ use Rattle.aoe_initiator.specs.HostLaw.{answer_to, has_tag, is_answered, is_from
 use Rattle.aoe_initiator.specs.HostLog.{HostCommand, Sending}
 use Rattle.aoe_initiator.specs.Op.{command_of}
 use Rattle.aoe_initiator.specs.Response.{answer, has_flag, outcome_of}
-use Rattle.aoe_lists.specs.Addresses.{holds}
 use Rattle.aoe_history.specs.declared.entry.Entry.{Entry}
 use Rattle.aoe_history.specs.Commands.{commands_of, host_after, submission, Submission}
 use Rattle.aoe_history.specs.CommandView.{device_in, is_live, op_in, view, was_done}

@@ -4,7 +4,7 @@ use Rattle.aoe_disk.specs.Loss.{torn}
 use Rattle.aoe_ata.specs.declared.reply.AtaOutcome.TheVariants.{Done as Good}
 use Rattle.aoe_ata.specs.Decision.{decision}
 use Rattle.aoe_frame.specs.Header.{fields}
-use Rattle.aoe_frame.specs.declared.refusal.AoeError.TheVariants.{TargetIsReserved}
+use Rattle.aoe_base.specs.declared.refusal.AoeError.TheVariants.{TargetIsReserved}
 use Rattle.aoe_initiator.specs.declared.op.Op.TheVariants.{Read, Write, Reserve}
 use Rattle.aoe_initiator.specs.declared.outcome.Outcome.TheVariants.{Read as ReadOutcome, Told, AoeError}
 use Rattle.aoe_initiator.specs.declared.response.Answer.TheVariants as answers

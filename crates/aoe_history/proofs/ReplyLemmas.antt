@@ -7,9 +7,9 @@ use Rattle.aoe_ata.specs.Reply.{reply_of, status_of, error_of}
 use Rattle.aoe_ata.specs.declared.args.AtaArgs.{AtaArgs}
 use Rattle.aoe_ata.specs.declared.reply.AtaOutcome.{AtaOutcome}
 use Rattle.aoe_frame.specs.declared.header.Header.{Header}
-use Rattle.aoe_frame.specs.declared.refusal.AoeError.{AoeError}
+use Rattle.aoe_base.specs.declared.refusal.AoeError.{AoeError}
 use Rattle.aoe_frame.specs.Header.{fields, header_bytes, padded, reply_header, Fits}
-use Rattle.aoe_frame.specs.Refusal.{code_of_error}
+use Rattle.aoe_base.specs.Refusal.{code_of_error}
 use Rattle.aoe_initiator.specs.declared.op.Op.{Op}
 use Rattle.aoe_initiator.specs.declared.op.Op.TheVariants.{Read, Write, Flush, Identify, Config, Masks, Reserve}
 use Rattle.aoe_initiator.specs.declared.response.Answer.{Answer}

@@ -10,8 +10,8 @@ use Rattle.aoe_ata.specs.Decision.{answer_of, decision, is_taken, within, writte
 use Rattle.aoe_ata.specs.declared.decision.AtaAnswer.{AtaAnswer}
 use Rattle.aoe_ata.specs.declared.decision.AtaAnswer.TheVariants.{Give, Page, Put, Sync}
 use Rattle.aoe_ata.specs.declared.decision.AtaDecision.{AtaDecision}
-use Rattle.aoe_frame.specs.declared.refusal.AoeError.{AoeError}
-use Rattle.aoe_frame.specs.declared.refusal.AoeError.TheVariants.{BadArgument, TargetIsReserved, UnrecognizedCommand, UnsupportedVersion}
+use Rattle.aoe_base.specs.declared.refusal.AoeError.{AoeError}
+use Rattle.aoe_base.specs.declared.refusal.AoeError.TheVariants.{BadArgument, TargetIsReserved, UnrecognizedCommand, UnsupportedVersion}
 use Rattle.aoe_lists.specs.Settings.{admits, may_use, Settings}
 use Rattle.aoe_target.specs.declared.station.Station.{Station}
 use Rattle.aoe_target.specs.declared.verdict.ListCommand.{ListCommand}

@@ -11,6 +11,8 @@ use Rattle.aoe_base.specs.declared.address.Mac.{Mac}
 use Rattle.aoe_base.specs.declared.address.TargetId.{TargetId}
 use Rattle.aoe_base.specs.declared.counted.DeviceNo.{DeviceNo}
 use Rattle.aoe_base.specs.declared.counted.PathNo.{PathNo}
+use Rattle.aoe_base.specs.Addresses.{holds, same_address}
+use Rattle.aoe_base.proofs.AddressLemmas.{holds-at}
 use Rattle.aoe_frame.specs.Header.{fields, Fits}
 use Rattle.aoe_initiator.specs.declared.device.Attached.{Attached}
 use Rattle.aoe_initiator.specs.declared.device.Device.{Device}
@@ -18,7 +20,6 @@ use Rattle.aoe_initiator.specs.declared.op.Op.{Op}
 use Rattle.aoe_initiator.specs.HostLaw.{same_id, spelled_for}
 use Rattle.aoe_initiator.specs.HostLog.{HostCommand}
 use Rattle.aoe_initiator.specs.Request.{request, request_header}
-use Rattle.aoe_lists.specs.Addresses.{holds, same_address}
 use Rattle.aoe_paths.specs.PathTable.{pair_at}
 use Rattle.aoe_history.specs.declared.entry.Entry.{Entry}
 use Rattle.aoe_history.specs.Commands.{commands_of, devices_of, host_after}
@@ -41,22 +42,6 @@ found p (y ∷ xs) x e = go (p y) refl e (λ r. found p xs x r)
     go : (b : Bool) → p y ≡ b → cond b (Some y) (find p xs) ≡ Some x → (find p xs ≡ Some x → Contains xs x × (p x ≡ true)) → Contains (y ∷ xs) x × (p x ≡ true)
     go true q e more = let s : y ≡ x = cc in ((0, omega arith, s), subst (λ z. p z ≡ true) s q)
     go false q e more = let r = more e in (Contains-append_right (y ∷ []) xs x r.0, r.1)
-
-pub same-self : (a : Mac) → same_address a a ≡ true
-same-self a = (bytes_eq-Decides a.0 a.0).1 refl
-
-pub holds-at : (ports : List Mac) (k : ℕ) (a : Mac) → slice_get ports k ≡ Some a → holds ports a ≡ true
-holds-at [] k a e = absurd (cc)
-holds-at (b ∷ ports) zero a e = let s : b ≡ a = cc in first (same_address b a) (holds ports a) (subst (λ z. same_address z a ≡ true) (sym s) (same-self a))
-  where
-    first : (p q : Bool) → p ≡ true → (p || q) ≡ true
-    first true q e = refl
-    first false q e = absurd (cc)
-holds-at (b ∷ ports) (suc k) a e = second (same_address b a) (holds ports a) (holds-at ports k a e)
-  where
-    second : (p q : Bool) → q ≡ true → (p || q) ≡ true
-    second true q e = refl
-    second false q e = e
 
 -- the host is one of the setup's, and its name is its own
 pub host-there : (s : Setup) (name : ArrayVec ℕ) (host : HostSetup) → host_called s name ≡ Some host → Contains s.hosts host × (is_called host name ≡ true)

@@ -3,15 +3,13 @@ use Rattle.std.proofs.Common.{ℕ, ◌<◌, ◌≤◌, ◌≡◌, ◌||◌, Bool
 use Rattle.std.specs.List.{AllByRecursion}
 use Rattle.std.proofs.lemmas.Slice.Eq.{bytes_eq-Decides}
 use Rattle.aoe_base.specs.declared.address.Mac.{Mac}
+use Rattle.aoe_base.specs.Addresses.{holds, same_address}
+use Rattle.aoe_base.proofs.AddressLemmas.{same-address}
 use Rattle.aoe_initiator.specs.declared.device.Attached.{Attached}
-use Rattle.aoe_lists.specs.Addresses.{holds, same_address}
 use Rattle.aoe_history.specs.Example.{a, attached_to, host_of, port, setup, setup_of, slot_at}
 use Rattle.aoe_history.specs.PathCases.{two_paths, two_ports}
 use Rattle.aoe_history.specs.Setup.{slot_of, HostSetup, IsAttachedTo, IsSetup, Setup, SlotSetup}
 use Rattle.aoe_history.proofs.SendLemmas.{only-one}
-
-address-is : (m n : Mac) → same_address m n ≡ true → m ≡ n
-address-is m n e = ap (λ (l : List ℕ). let q : Mac = record { 0 = l } in q) ((bytes_eq-Decides m.0 n.0).0 e)
 
 -- what each of the ports keeps holds of an address that is one of them
 of-ports : (P : Mac → Type 0) (ports : List Mac) (m : Mac) → AllByRecursion P ports → holds ports m ≡ true → P m
@@ -19,7 +17,7 @@ of-ports P [] m each e = absurd (cc)
 of-ports P (n ∷ ports) m each e = go (same_address n m) refl e (of-ports P ports m each.1)
   where
     go : (b : Bool) → same_address n m ≡ b → (b || holds ports m) ≡ true → (holds ports m ≡ true → P m) → P m
-    go true same f more = subst P (address-is n m same) each.0
+    go true same f more = subst P (same-address n m same) each.0
     go false same f more = more f
 
 ten-else : (n m : ℕ) → m < 10 → n ≡ 10 → n ≡ m → ⊥

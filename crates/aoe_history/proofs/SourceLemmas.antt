@@ -8,8 +8,10 @@ use Rattle.std.proofs.lemmas.List.{drop_at, length-drop, length-take, take_at}
 use Rattle.std.proofs.lemmas.List.Elements.{Contains-append_cases}
 use Rattle.aoe_base.specs.declared.address.Mac.{Mac}
 use Rattle.aoe_frame.specs.declared.header.Header.{Header}
-use Rattle.aoe_frame.specs.declared.refusal.AoeError.{AoeError}
-use Rattle.aoe_frame.specs.declared.refusal.AoeError.TheVariants.{DeviceUnavailable}
+use Rattle.aoe_base.specs.declared.refusal.AoeError.{AoeError}
+use Rattle.aoe_base.specs.declared.refusal.AoeError.TheVariants.{DeviceUnavailable}
+use Rattle.aoe_base.specs.Addresses.{holds}
+use Rattle.aoe_base.proofs.AddressLemmas.{holds-each}
 use Rattle.aoe_frame.specs.Header.{fields, head, header_bytes, padded}
 use Rattle.aoe_ata.specs.Args.{args_bytes}
 use Rattle.aoe_ata.specs.Reply.{reply_of}
@@ -17,7 +19,6 @@ use Rattle.aoe_ata.specs.declared.args.AtaArgs.{AtaArgs}
 use Rattle.aoe_ata.specs.declared.decision.AtaAnswer.{AtaAnswer}
 use Rattle.aoe_ata.specs.declared.decision.AtaAnswer.TheVariants as ata
 use Rattle.aoe_ata.specs.declared.reply.AtaOutcome.TheVariants as outcome
-use Rattle.aoe_lists.specs.Addresses.{holds}
 use Rattle.aoe_lists.specs.Step.{Step}
 use Rattle.aoe_lists.specs.Step as step
 use Rattle.aoe_target.specs.declared.heard.Effect.{Effect}
@@ -40,7 +41,7 @@ use Rattle.aoe_history.specs.ShelfLaw.{KeepsShelfLaw}
 use Rattle.aoe_history.specs.Slots.{state_after, verdict_after}
 use Rattle.aoe_history.proofs.ReplyLemmas.{replying}
 use Rattle.aoe_history.proofs.SendLemmas.{only-one, or-parts}
-use Rattle.aoe_history.proofs.SentLemmas.{request-header, same-self, spelled-request}
+use Rattle.aoe_history.proofs.SentLemmas.{request-header, spelled-request}
 
 -- REPLIES
 
@@ -121,16 +122,12 @@ source-is h args d s = ap (λ (l : List ℕ). let m : Mac = record { 0 = l } in 
     ∙ second-six h.dst.0 h.src.0 ((136 ∷ 162 ∷ []) ++ (((h.version * 16 + h.flags) ∷ h.error ∷ []) ++ (to_be_bytes w16 h.id.major ++ ((h.id.minor ∷ h.command ∷ []) ++ (to_be_bytes w32 h.tag ++ (args ++ replicate (60 - length (header_bytes h ++ args)) 0)))))) d s)
 
 -- the port that a reply comes from is the shelf's
-first-holds : (ports : List Mac) (a : Mac) → 0 < length ports → holds ports (get_or ports 0 a) ≡ true
-first-holds [] a lt = absurd (omega arith)
-first-holds (b ∷ ports) a lt = rw (same-self b) refl
-
 pub port-holds : (station : Station) (h : Header) → 0 < length station.ports.items → holds station.ports.items (reply_port station h) ≡ true
 port-holds station h lt = go (holds station.ports.items h.dst) refl
   where
     go : (b : Bool) → holds station.ports.items h.dst ≡ b → holds station.ports.items (if b then h.dst else get_or station.ports.items 0 h.dst) ≡ true
     go true e = e
-    go false e = first-holds station.ports.items h.dst lt
+    go false e = holds-each station.ports.items 0 h.dst lt
 
 pub reply-source : (s : Setup) (slot : SlotSetup) (h : List Entry) (f r : List ℕ) (e : Effect) (number : ℕ) → IsSetup s → Contains s.slots slot → KeepsShelfLaw slot h f (Replied e number r) → holds slot.station.ports.items (fields r).src ≡ true
 unfolding spelled

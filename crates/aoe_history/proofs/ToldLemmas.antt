@@ -7,6 +7,7 @@ use Rattle.std.proofs.lemmas.List.{take_at}
 use Rattle.aoe_base.specs.declared.address.Mac.{Mac}
 use Rattle.aoe_base.specs.declared.address.TargetId.{TargetId}
 use Rattle.aoe_base.specs.declared.sectors.Span.{Span}
+use Rattle.aoe_base.specs.Addresses.{holds}
 use Rattle.aoe_frame.specs.declared.header.Header.{Header}
 use Rattle.aoe_frame.specs.Header.{fields, header_bytes, padded, Fits}
 use Rattle.aoe_initiator.specs.declared.op.Op.{Op}
@@ -17,7 +18,6 @@ use Rattle.aoe_initiator.specs.HostLaw.{same_id}
 use Rattle.aoe_initiator.specs.Op.{command_of}
 use Rattle.aoe_initiator.specs.Request.{request, request_header}
 use Rattle.aoe_initiator.specs.Response.{answer}
-use Rattle.aoe_lists.specs.Addresses.{holds}
 use Rattle.aoe_lists.specs.Step.{Step}
 use Rattle.aoe_lists.specs.Step as step
 use Rattle.aoe_target.specs.declared.heard.Effect.{Effect}

@@ -1,6 +1,7 @@
 -- What a reply in the network says of its command.
 use Rattle.std.proofs.Common.{ℕ, ◌+◌, ◌≤◌, ◌≡◌, inl, inr, Bool, true, false, List, ◌∷◌, drop, slice_range, Option, Some, refl, sym, subst, ap, ◌∙◌, arith}
 use Rattle.aoe_base.specs.declared.sectors.Span.{Span}
+use Rattle.aoe_base.specs.Addresses.{holds}
 use Rattle.aoe_frame.specs.Header.{fields}
 use Rattle.aoe_initiator.specs.declared.op.Op.{Op}
 use Rattle.aoe_initiator.specs.declared.op.Op.TheVariants.{Read, Write, Flush, Identify, Config, Masks, Reserve}
@@ -10,7 +11,6 @@ use Rattle.aoe_initiator.specs.HostLaw.{same_id}
 use Rattle.aoe_initiator.specs.HostLog.{Sending}
 use Rattle.aoe_initiator.specs.Op.{span_of}
 use Rattle.aoe_initiator.specs.Response.{answer}
-use Rattle.aoe_lists.specs.Addresses.{holds}
 use Rattle.aoe_net.specs.Network.{numbered, SentFrame}
 use Rattle.aoe_target.specs.Sectors.{in_span, value_in}
 use Rattle.aoe_history.specs.declared.entry.Entry.{Entry}

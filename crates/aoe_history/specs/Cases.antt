@@ -5,7 +5,7 @@ use Rattle.aoe_disk.specs.declared.loss.Loss.TheVariants.{Keep, Old, Torn}
 use Rattle.aoe_disk.specs.Loss.{left_of}
 use Rattle.aoe_ata.specs.declared.reply.AtaOutcome.TheVariants.{Done as Good, Aborted}
 use Rattle.aoe_frame.specs.Header.{fields}
-use Rattle.aoe_frame.specs.declared.refusal.AoeError.TheVariants.{TargetIsReserved}
+use Rattle.aoe_base.specs.declared.refusal.AoeError.TheVariants.{TargetIsReserved}
 use Rattle.aoe_initiator.specs.declared.op.Op.TheVariants.{Read, Write, Flush, Masks, Reserve}
 use Rattle.aoe_initiator.specs.declared.outcome.Outcome.TheVariants.{Read as ReadOutcome, Written, Flushed, Told, AtaError, AoeError, GaveUp}
 use Rattle.aoe_lists.specs.Settings.{empty_settings}

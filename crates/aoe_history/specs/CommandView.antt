@@ -3,6 +3,7 @@ use Rattle.std.specs.Prelude.{ℕ, zero, suc, ◌≡◌, ◌≤◌, ◌<◌, ◌
 use Rattle.aoe_base.specs.declared.address.Mac.{Mac}
 use Rattle.aoe_base.specs.declared.address.TargetId.{TargetId}
 use Rattle.aoe_base.specs.declared.counted.DeviceNo.{DeviceNo}
+use Rattle.aoe_base.specs.Addresses.{holds}
 use Rattle.aoe_ata.specs.Decision.{written}
 use Rattle.aoe_ata.specs.declared.decision.AtaAnswer.{AtaAnswer}
 use Rattle.aoe_flight.specs.Outstanding.{rest_time}
@@ -14,7 +15,6 @@ use Rattle.aoe_initiator.specs.declared.op.Op.TheVariants.{Flush, Write}
 use Rattle.aoe_initiator.specs.HostLog.{as_entered, one_more, path_log, HostCommand, Sending}
 use Rattle.aoe_initiator.specs.Op.{span_of}
 use Rattle.aoe_initiator.specs.Request.{request, CanSpell}
-use Rattle.aoe_lists.specs.Addresses.{holds}
 use Rattle.aoe_net.specs.Network.{SentFrame}
 use Rattle.aoe_paths.specs.PathLog.{timeout_on}
 use Rattle.aoe_history.specs.declared.entry.Entry.{Entry}

@@ -1,8 +1,8 @@
 -- The read law: what a host reads of a sector that only it wrote.
 use Rattle.std.specs.Prelude.{ℕ, ◌≡◌, ◌⊎◌, Bool, true, false, not, ◌&&◌, ◌||◌, List, [], ◌∷◌, Option, Some, None, if◌then◌else◌, Contains}
 use Rattle.aoe_base.specs.declared.sectors.Span.{Span}
+use Rattle.aoe_base.specs.Addresses.{holds}
 use Rattle.aoe_frame.specs.Header.{fields}
-use Rattle.aoe_lists.specs.Addresses.{holds}
 use Rattle.aoe_initiator.specs.declared.op.Op.TheVariants as op
 use Rattle.aoe_initiator.specs.declared.outcome.Outcome.TheVariants.{Read, Written, Flushed}
 use Rattle.aoe_target.specs.Sectors.{in_span, value_in}

@@ -7,9 +7,9 @@ use Rattle.aoe_base.specs.declared.address.Mac.{Mac}
 use Rattle.aoe_base.specs.declared.address.TargetId.{TargetId}
 use Rattle.aoe_base.specs.declared.counted.DeviceNo.{DeviceNo}
 use Rattle.aoe_base.specs.declared.counted.PathNo.{PathNo}
+use Rattle.aoe_base.specs.Addresses.{holds, same_address}
 use Rattle.aoe_initiator.specs.declared.device.Attached.{Attached}
 use Rattle.aoe_initiator.specs.HostLaw.{same_id}
-use Rattle.aoe_lists.specs.Addresses.{holds, same_address}
 use Rattle.aoe_target.specs.declared.station.Station.{Station}
 
 -- a host: its name, its ports, how many commands may fly or rest, after how long one is given up, and the devices

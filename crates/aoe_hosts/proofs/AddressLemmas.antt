@@ -7,8 +7,8 @@ use Rattle.std.proofs.lemmas.Slice.Eq.{bytes_eq-Decides}
 use Rattle.arrayvec.specs.ArrayVec.{ArrayVec}
 use Rattle.aoe_base.specs.declared.address.Mac.{Mac}
 use Rattle.aoe_base.specs.declared.address.TargetId.{TargetId}
+use Rattle.aoe_base.proofs.AddressLemmas.{holds-each}
 use Rattle.aoe_initiator.specs.declared.device.Attached.{Attached}
-use Rattle.aoe_lists.specs.Addresses.{holds, same_address}
 use Rattle.aoe_history.specs.Setup.{is_slot, HostSetup, IsAttachedTo, IsSetup, Setup, SlotSetup}
 use Rattle.aoe_hosts.specs.Host.{AreAddresses}
 
@@ -20,28 +20,14 @@ found (y ∷ slots) id slot e = go (is_slot y id) e (λ r. found slots id slot r
     go true e more = let s : y ≡ slot = cc in (0, omega arith, s)
     go false e more = Contains-append_right (y ∷ []) slots slot (more e)
 
--- a list holds each of its addresses
-held : (ports : List Mac) (k : ℕ) (d : Mac) → k < length ports → holds ports (get_or ports k d) ≡ true
-held [] k d below = absurd (omega arith)
-held (a ∷ ports) zero d below = first (same_address a a) (holds ports a) ((bytes_eq-Decides a.0 a.0).1 refl)
-  where
-    first : (p q : Bool) → p ≡ true → (p || q) ≡ true
-    first true q e = refl
-    first false q e = absurd (cc)
-held (a ∷ ports) (suc k) d below = second (same_address a (get_or ports k d)) (holds ports (get_or ports k d)) (held ports k d (omega arith))
-  where
-    second : (p q : Bool) → q ≡ true → (p || q) ≡ true
-    second true q e = refl
-    second false q e = e
-
 pub host-addresses : (s : Setup) (host : HostSetup) → IsSetup s → Contains s.hosts host → AreAddresses host.ports
-host-addresses s host setup mine = λ k d below. setup.host_addresses host (get_or host.ports k d) mine (held host.ports k d below)
+host-addresses s host setup mine = λ k d below. setup.host_addresses host (get_or host.ports k d) mine (holds-each host.ports k d below)
 
 pub remote-addresses : (s : Setup) (host : HostSetup) → IsSetup s → Contains s.hosts host → All (λ (d : Attached). AreAddresses d.remotes.items) host.devices
 remote-addresses s host setup mine = λ k d below.
     let a : IsAttachedTo s (get_or host.devices k d) = setup.attached host (get_or host.devices k d) mine (k, below, at host.devices k d (get_or host.devices k d) below) in
     let there : Contains s.slots a.slot = found s.slots (get_or host.devices k d).id a.slot a.there in
-    let all : AreAddresses a.slot.station.ports.items = λ j b inside. setup.shelf_addresses a.slot (get_or a.slot.station.ports.items j b) there (held a.slot.station.ports.items j b inside) in
+    let all : AreAddresses a.slot.station.ports.items = λ j b inside. setup.shelf_addresses a.slot (get_or a.slot.station.ports.items j b) there (holds-each a.slot.station.ports.items j b inside) in
     subst (λ (ports : ArrayVec Mac). AreAddresses ports.items) (sym a.remotes) all
   where
     at : (ds : List Attached) (k : ℕ) (d e : Attached) → k < length ds → get_or ds k e ≡ get_or ds k d

@@ -9,6 +9,7 @@ use Rattle.arrayvec.specs.ArrayVec.{ArrayVec}
 use Rattle.aoe_base.specs.declared.address.Mac.{Mac}
 use Rattle.aoe_base.specs.declared.address.TargetId.{TargetId}
 use Rattle.aoe_base.specs.declared.counted.Ticket.{Ticket}
+use Rattle.aoe_base.specs.Addresses.{holds}
 use Rattle.aoe_frame.specs.declared.header.Header.{Header}
 use Rattle.aoe_frame.specs.Header.{fields, head}
 use Rattle.aoe_hold.specs.Commands.{unsent_count}
@@ -31,7 +32,6 @@ use Rattle.aoe_initiator.specs.HostLog.{after_end, after_send, at_ticket, clock 
 use Rattle.aoe_initiator.specs.HostLog.Event.{Ends, Sends, Submits}
 use Rattle.aoe_initiator.specs.Op.{command_of}
 use Rattle.aoe_initiator.specs.Response.{answer, has_flag}
-use Rattle.aoe_lists.specs.Addresses.{holds}
 use Rattle.aoe_paths.specs.PathLog.{timeout_on}
 
 -- ---- the devices of a host

@@ -11,10 +11,10 @@ use Rattle.std.proofs.lemmas.Slice.Eq.{bytes_eq-Decides}
 use Rattle.std.proofs.Math.Nat.{mod-add-div'}
 use Rattle.aoe_base.specs.declared.address.Mac.{Mac}
 use Rattle.aoe_base.specs.declared.counted.PathNo.{PathNo}
+use Rattle.aoe_base.specs.Addresses.{same_address, IsDistinct}
 use Rattle.aoe_history.specs.Setup.{path_no, HostSetup}
 use Rattle.aoe_initiator.specs.declared.device.Attached.{Attached}
-use Rattle.aoe_lists.specs.Addresses.{same_address}
-use Rattle.aoe_paths.specs.PathTable.{new_paths, pair_at, IsDistinct}
+use Rattle.aoe_paths.specs.PathTable.{new_paths, pair_at}
 use Rattle.aoe_paths.proofs.PairLemmas.{one-place, pair-split}
 
 -- a port that stands at a place is found there

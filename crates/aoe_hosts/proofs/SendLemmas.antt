@@ -10,9 +10,10 @@ use Rattle.aoe_base.specs.declared.address.TargetId.{TargetId}
 use Rattle.aoe_base.specs.declared.counted.DeviceNo.{DeviceNo}
 use Rattle.aoe_base.specs.declared.counted.PathNo.{PathNo}
 use Rattle.aoe_base.specs.declared.counted.Ticket.{Ticket}
+use Rattle.aoe_base.specs.Addresses.{IsDistinct}
 use Rattle.aoe_frame.specs.declared.header.Header.{Header}
 use Rattle.aoe_frame.specs.Header.{fields, header_bytes}
-use Rattle.aoe_frame.proofs.PieceLemmas.{six-is}
+use Rattle.aoe_base.proofs.MacLemmas.{six-is}
 use Rattle.aoe_initiator.specs.declared.device.Attached.{Attached}
 use Rattle.aoe_initiator.specs.declared.device.Device.{Device}
 use Rattle.aoe_initiator.specs.declared.op.Op.{Op}
@@ -23,7 +24,7 @@ use Rattle.aoe_initiator.specs.HostLog.{commands, Event}
 use Rattle.aoe_initiator.specs.HostLog.Event.{Sends}
 use Rattle.aoe_initiator.specs.Request.{arguments, request, request_header}
 use Rattle.aoe_net.specs.Network.{IsFull}
-use Rattle.aoe_paths.specs.PathTable.{new_paths, pair_at, IsDistinct}
+use Rattle.aoe_paths.specs.PathTable.{new_paths, pair_at}
 use Rattle.aoe_paths.proofs.PairLemmas.{pair-split}
 use Rattle.aoe_history.specs.declared.entry.Entry.{Entry}
 use Rattle.aoe_history.specs.declared.entry.Entry.TheVariants.{Sent}

@@ -9,6 +9,7 @@ use Rattle.aoe_base.specs.declared.address.Mac.{Mac}
 use Rattle.aoe_base.specs.declared.counted.DeviceNo.{DeviceNo}
 use Rattle.aoe_base.specs.declared.counted.PathNo.{PathNo}
 use Rattle.aoe_base.specs.declared.counted.Ticket.{Ticket}
+use Rattle.aoe_base.specs.Addresses.{IsDistinct}
 use Rattle.aoe_frame.specs.declared.header.Header.{Header}
 use Rattle.aoe_frame.specs.Header.{fields, head}
 use Rattle.aoe_history.specs.declared.entry.Entry.{Entry}
@@ -40,7 +41,7 @@ use Rattle.aoe_initiator.specs.HostLaw as core
 use Rattle.aoe_initiator.specs.HostLog.{Event, HostCommand}
 use Rattle.aoe_initiator.specs.HostLog.Event.{Advances, Ends}
 use Rattle.aoe_initiator.specs.Response.{outcome_of}
-use Rattle.aoe_paths.specs.PathTable.{pair_at, IsDistinct}
+use Rattle.aoe_paths.specs.PathTable.{pair_at}
 
 -- ---- the path of a response
 

@@ -3,13 +3,13 @@ use Rattle.std.specs.Prelude.{ℕ, ◌≡◌, ◌≤◌, Bool, true, false, not,
 use Rattle.std.specs.Str.{bytes_eq}
 use Rattle.arrayvec.specs.ArrayVec.{ArrayVec}
 use Rattle.aoe_base.specs.declared.address.Mac.{Mac}
+use Rattle.aoe_base.specs.Addresses.{IsDistinct}
 use Rattle.aoe_initiator.specs.declared.device.Attached.{Attached}
 use Rattle.aoe_initiator.specs.declared.device.Device.{Device}
 use Rattle.aoe_initiator.specs.declared.outcome.Done.{Done}
 use Rattle.aoe_initiator.specs.Host.{Host, Matches}
 use Rattle.aoe_initiator.specs.HostLog.{clock as log_clock, commands, path_log, Event}
 use Rattle.aoe_initiator.specs.HostLog.Event.{Advances, Ends}
-use Rattle.aoe_paths.specs.PathTable.{IsDistinct}
 use Rattle.aoe_history.specs.declared.entry.Entry.{Entry}
 use Rattle.aoe_history.specs.declared.entry.Entry.TheVariants.{Submitted, Refused, Sent, Took, Done as Finished, Ticked}
 use Rattle.aoe_history.specs.Commands.{log_of, path_ended, tickets}

@@ -12,7 +12,7 @@ ghost use Rattle.aoe_initiator.specs.Host.{new_device, new_host, with_device, Ma
 ghost use Rattle.aoe_initiator.specs.HostLaw.{attach_refusal, same_id};
 ghost use Rattle.aoe_initiator.specs.HostLog.{Event as LogEvent};
 ghost use Rattle.aoe_initiator.specs.Op.{CanSubmit};
-ghost use Rattle.aoe_paths.specs.PathTable.{IsDistinct};
+ghost use Rattle.aoe_base.specs.Addresses.{IsDistinct};
 ghost use Rattle.aoe_run.specs.Run.{is_plain};
 ghost use Rattle.aoe_script.specs.Rules.{is_event};
 

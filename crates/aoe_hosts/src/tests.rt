@@ -1,6 +1,6 @@
 ghost use Rattle.std.specs.Prelude.{◌≡◌, true, is_some, length, position, IfOk};
 ghost use Rattle.aoe_initiator.specs.HostLaw.{same_id};
-ghost use Rattle.aoe_paths.specs.PathTable.{IsDistinct};
+ghost use Rattle.aoe_base.specs.Addresses.{IsDistinct};
 ghost use Rattle.aoe_script.specs.Classes.{is_name};
 
 use super::*;

@@ -8,10 +8,10 @@ use Rattle.aoe_base.specs.declared.address.Mac.{Mac}
 use Rattle.aoe_base.specs.declared.counted.PathNo.{PathNo}
 use Rattle.aoe_base.specs.declared.counted.Ticket.{Ticket}
 use Rattle.aoe_base.specs.declared.counted.DeviceNo.{DeviceNo}
+use Rattle.aoe_base.specs.Addresses.{holds, same_address}
 use Rattle.aoe_frame.specs.declared.header.Header.{Header}
 use Rattle.aoe_frame.specs.Header.{head}
-use Rattle.aoe_lists.specs.Addresses.{holds, same_address}
-use Rattle.aoe_lists.proofs.AddressLemmas.{same_address-Decides}
+use Rattle.aoe_base.proofs.AddressLemmas.{place-of}
 use Rattle.aoe_paths.specs.PathTable.{pair_of}
 use Rattle.aoe_paths.proofs.PairLemmas.{pair-of-number}
 use Rattle.aoe_initiator.specs.declared.device.Device.{Device}
@@ -217,14 +217,6 @@ none-says host log frame h t at p c m is few f found there none =
 
 -- ---- the path of a response
 
-holds-there : (list : List Mac) (a : Mac) → holds list a ≡ true → (i : ℕ) × (slice_get list i ≡ Some a)
-holds-there [] a is = absurd cc
-holds-there (b ∷ list) a is = at (same_address b a) refl is (holds-there list a)
-  where
-    at : (t : Bool) → same_address b a ≡ t → (t || holds list a) ≡ true → (holds list a ≡ true → (i : ℕ) × (slice_get list i ≡ Some a)) → (i : ℕ) × (slice_get (b ∷ list) i ≡ Some a)
-    at true same is_true rest = (0, ap (λ (m : Mac). Some m) ((same_address-Decides b a).0 same))
-    at false other is_true rest = let behind = rest is_true in (suc behind.0, behind.1)
-
 from-device : (o : Option Device) (op : Op) (h : Header) → is_from o op h ≡ true → (d : Device) × (o ≡ Some d) × (holds d.about.remotes.items h.src ≡ true)
 from-device None op h is = absurd cc
 from-device (Some d) op h is =
@@ -243,8 +235,8 @@ no-path host log h at p from m there hears is_true says none =
     let M : Option Device → Type 0 = λ o. IfSome o (λ e. (n : ℕ) → pair_of e.paths n ≢ Some (h.dst, h.src)) in
     let never_so = subst M d.1 (subst N there none) in
     let has = has-paths host log p.device.0 d.0 m d.1 in
-    let local = holds-there host.ports h.dst (and_parts (nat_eq h.version 1 && has_flag h.flags 0x8) (holds host.ports h.dst) hears).1 in
-    let remote = holds-there d.0.about.remotes.items h.src d.2 in
+    let local = place-of host.ports h.dst (and_parts (nat_eq h.version 1 && has_flag h.flags 0x8) (holds host.ports h.dst) hears).1 in
+    let remote = place-of d.0.about.remotes.items h.src d.2 in
     let L : List Mac → Type 0 = λ l. slice_get l local.0 ≡ Some h.dst in
     let R : List Mac → Type 0 = λ l. slice_get l remote.0 ≡ Some h.src in
     absurd (never_so (local.0 * length d.0.paths.remotes + remote.0) (pair-of-number d.0.paths local.0 remote.0 _ h.dst h.src refl (subst L (sym has.locals) local.1) (subst R (sym has.remotes) remote.1)))

@@ -6,11 +6,12 @@ use Rattle.aoe_base.specs.declared.address.Mac.{Mac}
 use Rattle.aoe_base.specs.declared.address.TargetId.{TargetId}
 use Rattle.aoe_base.specs.declared.counted.DeviceNo.{DeviceNo}
 use Rattle.aoe_base.specs.declared.counted.Ticket.{Ticket}
+use Rattle.aoe_base.specs.Addresses.{IsDistinct}
 use Rattle.aoe_hold.specs.HoldTable.{no_commands as nothing_entered, Recalls as RecallsEntered}
 use Rattle.aoe_flight.specs.FlightTable.{after_change, FlightTable, no_commands as nothing_sent, Recalls as RecallsSent}
 use Rattle.aoe_flight.specs.Outstanding.{after_finish, rest_time}
 use Rattle.aoe_paths.specs.PathLog.{PathEvent, Recalls as RecallsPaths}
-use Rattle.aoe_paths.specs.PathTable.{new_paths, IsDistinct}
+use Rattle.aoe_paths.specs.PathTable.{new_paths}
 use Rattle.aoe_initiator.specs.declared.device.Arrival.{Arrival}
 use Rattle.aoe_initiator.specs.declared.device.Device.{Device}
 use Rattle.aoe_initiator.specs.declared.op.Op.{Op}

@@ -6,9 +6,9 @@ use Rattle.aoe_base.specs.declared.address.Mac.{Mac}
 use Rattle.aoe_base.specs.declared.address.TargetId.{TargetId}
 use Rattle.aoe_base.specs.declared.counted.DeviceNo.{DeviceNo}
 use Rattle.aoe_base.specs.declared.counted.PathNo.{PathNo}
+use Rattle.aoe_base.specs.Addresses.{holds}
 use Rattle.aoe_frame.specs.declared.header.Header.{Header}
 use Rattle.aoe_frame.specs.Header.{head}
-use Rattle.aoe_lists.specs.Addresses.{holds}
 use Rattle.aoe_hold.specs.Commands.{is_clear, unsent_count}
 use Rattle.aoe_flight.specs.declared.outstanding.Outstanding.{Outstanding}
 use Rattle.aoe_flight.specs.Outstanding.{is_due, is_expired, is_taken, live, lower, precedes, rest_time, IsFirst}

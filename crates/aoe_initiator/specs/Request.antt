@@ -9,7 +9,7 @@ use Rattle.aoe_frame.specs.declared.header.Header.{Header}
 use Rattle.aoe_frame.specs.Header.{header_bytes, padded}
 use Rattle.aoe_ata.specs.declared.args.AtaArgs.{AtaArgs}
 use Rattle.aoe_ata.specs.Args.{args_bytes}
-use Rattle.aoe_initiator.specs.declared.op.Dir.{Dir}
+use Rattle.aoe_lists.specs.declared.dir.Dir.{Dir}
 use Rattle.aoe_initiator.specs.declared.op.Op.{Op}
 use Rattle.aoe_initiator.specs.declared.op.Op.TheVariants.{Read, Write, Flush, Identify, Config, Masks, Reserve}
 use Rattle.aoe_initiator.specs.Op.{command_of}

@@ -32,10 +32,11 @@ mod response;
 mod step;
 mod wait;
 
+pub use aoe_lists::{Dir, MAX_DIRS};
 pub use device::Attached;
 pub use initiator::{Initiator, MAX_HELD};
 pub use law::held_law;
-pub use op::{Dir, MAX_DIRS, Op};
+pub use op::Op;
 pub use outcome::{Data, Done, Outcome};
 pub use refusal::{AttachRefusal, SubmitRefusal};
 pub use request::{append_config_args, append_mask_args, append_reserve_args, write_request};

@@ -8,20 +8,11 @@ use crate::device::Attached;
 use crate::refusal::SubmitRefusal;
 use aoe_base::{Blob, Mac, Span};
 use aoe_hold::Kind;
+use aoe_lists::{Dir, MAX_DIRS};
 use arrayvec::ArrayVec;
-
-/// The most directives of a mask list edit, and the most addresses of a reserve list.
-pub const MAX_DIRS: usize = 64;
 
 /// How many bytes a sector has (AoEr11, "ATA command": data comes in sectors of 512 bytes).
 pub(crate) const SECTOR_LEN: usize = 512;
-
-/// One change of a mask list: the address is added, or it is taken out.
-#[derive(Clone, Copy, Debug, Default, PartialEq, Eq)]
-pub struct Dir {
-    pub add: bool,
-    pub mac: Mac,
-}
 
 /// What a host asks of a device.
 #[derive(Debug, Drop)]

@@ -6,10 +6,11 @@ ghost use Rattle.aoe_ata.specs.Command.{code_of};
 ghost use Rattle.aoe_frame.specs.Header.{head};
 ghost use Rattle.aoe_initiator.specs.Request.{arguments, config_bytes, mask_bytes, registers_of, request, request_header, reserve_bytes, write_bytes, CanSpell};
 
-use crate::op::{Dir, Op, SECTOR_LEN};
+use crate::op::{Op, SECTOR_LEN};
 use aoe_ata::{AFLAG_EXTENDED, AFLAG_WRITE, AtaArgs, CommandCode, write_args};
-use aoe_base::{Mac, Span, TargetId};
-use aoe_frame::{Frame, Header, append, pad, write_header};
+use aoe_base::{Mac, Span, TargetId, append};
+use aoe_frame::{Frame, Header, pad, write_header};
+use aoe_lists::Dir;
 
 /// DCmd: the address is added (AoEr11, "MAC Mask List").
 const DIR_ADD: u8 = 1;

@@ -6,7 +6,8 @@ ghost use Rattle.aoe_initiator.specs.Response.{answer, ata_answer, ata_success, 
 use crate::op::{Op, SECTOR_LEN};
 use crate::outcome::{Data, Outcome};
 use aoe_ata::{ARGS_LEN, STATUS_DF, STATUS_ERR};
-use aoe_frame::{ERROR_FLAG, Header, append};
+use aoe_base::append;
+use aoe_frame::{ERROR_FLAG, Header};
 use aoe_lists::{Args, MAX_CONFIG};
 
 /// What a well-formed response says.

@@ -7,8 +7,8 @@ ghost use Rattle.aoe_io.specs.LinkMemory.{got_of, passed, recv_of, send_of, turn
 ghost use Rattle.aoe_io.specs.Memory.{counted};
 
 use crate::{Got, Link};
-use aoe_base::{Blob, Failed, NoMemory};
-use aoe_frame::{Frame, append};
+use aoe_base::{Blob, Failed, NoMemory, append};
+use aoe_frame::Frame;
 use std::alloc::Global;
 use std::marker::Model;
 

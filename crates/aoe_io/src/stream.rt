@@ -7,8 +7,8 @@ ghost use Rattle.std.specs.Int.{w16, to_be_bytes};
 ghost use Rattle.aoe_io.specs.Stream.{framed, IsFrame, IsLength, IsBroken};
 
 use crate::{Sink, Source};
-use aoe_base::Failed;
-use aoe_frame::{Frame, append, stretch};
+use aoe_base::{Failed, append};
+use aoe_frame::{Frame, stretch};
 use arrayvec::ArrayVec;
 use thiserror::Error;
 

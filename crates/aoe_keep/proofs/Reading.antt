@@ -9,7 +9,7 @@ use Rattle.std.proofs.lemmas.Bool.{eqb-true, leb-true, and_parts, and_left, and_
 use Rattle.std.proofs.lemmas.Nat.{be_bytes_2}
 use Rattle.std.proofs.lemmas.Slice.Eq.{starts_is}
 use Rattle.std.proofs.lemmas.Bool.Decides.{Decides-eqb}
-use Rattle.aoe_lists.specs.Addresses.{all_unique}
+use Rattle.aoe_base.specs.Addresses.{all_unique}
 use Rattle.aoe_lists.specs.Reserves.{addresses}
 use Rattle.aoe_lists.specs.Settings.{Settings}
 use Rattle.aoe_keep.specs.Body.{mark, fields_of, is_valid, is_sound, sizes_fit, config_len, decode, spelling, written, HasFault}

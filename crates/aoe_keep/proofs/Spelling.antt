@@ -7,7 +7,7 @@ use Rattle.std.proofs.lemmas.List.{take_at, drop_at, drop-drop, length-replicate
 use Rattle.std.proofs.lemmas.Bool.{lt-ltb, le-leb, and_from, cond-true}
 use Rattle.std.proofs.lemmas.Nat.{from_be_bytes-to_be_bytes_2}
 use Rattle.aoe_base.specs.declared.address.Mac.{Mac}
-use Rattle.aoe_lists.specs.Addresses.{all_unique}
+use Rattle.aoe_base.specs.Addresses.{all_unique}
 use Rattle.aoe_lists.specs.Reserves.{addresses}
 use Rattle.aoe_lists.specs.Settings.{Settings}
 use Rattle.aoe_keep.specs.Body.{Fits, fields_of, is_valid, decode, spelling, written, head_of}

@@ -5,7 +5,7 @@ use Rattle.std.specs.Prelude.{ℕ, ◌≡◌, ◌≤◌, ◌<◌, ◌+◌, ◌-�
 use Rattle.std.specs.Int.{w16, to_be_bytes, from_be_bytes}
 use Rattle.std.specs.List.{All, flat_map, list_all, starts_with}
 use Rattle.std.specs.Simd.{first_chunks}
-use Rattle.aoe_lists.specs.Addresses.{all_unique}
+use Rattle.aoe_base.specs.Addresses.{all_unique}
 use Rattle.aoe_lists.specs.Reserves.{addresses}
 use Rattle.aoe_lists.specs.Settings.{Settings}
 

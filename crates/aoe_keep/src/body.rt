@@ -13,7 +13,7 @@
 ghost use Rattle.std.specs.Prelude.{◌≡◌, ◌≤◌, ◌<◌, ◌+◌, ◌-◌, ◌*◌, ◌++◌, ◌==◌, ◌↔◌, ℕ, List, [], None, Some, true, false, length, replicate, MatchOption};
 ghost use Rattle.std.specs.List.{All, flat_map, list_all};
 ghost use Rattle.std.specs.Simd.{first_chunks};
-ghost use Rattle.aoe_lists.specs.Addresses.{all_unique, holds};
+ghost use Rattle.aoe_base.specs.Addresses.{all_unique, holds};
 ghost use Rattle.aoe_lists.specs.Reserves.{addresses};
 ghost use Rattle.aoe_lists.specs.Settings.{Settings};
 ghost use Rattle.aoe_keep.specs.Body.{decode, spelling, head_of, fields_of, is_valid, sizes_fit, Fits, HasFault};

@@ -7,9 +7,9 @@ use Rattle.std.proofs.lemmas.Option.{same_Some}
 use Rattle.arrayvec.specs.ArrayVec.{ArrayVec}
 use Rattle.aoe_base.specs.declared.address.Mac.{Mac}
 use Rattle.aoe_base.specs.declared.address.TargetId.{TargetId}
+use Rattle.aoe_base.specs.Addresses.{holds, source_of}
 use Rattle.aoe_initiator.specs.declared.device.Attached.{Attached}
 use Rattle.aoe_initiator.specs.HostLaw.{same_id}
-use Rattle.aoe_lists.specs.Addresses.{holds}
 use Rattle.aoe_history.specs.Setup.{is_port, shelf_of, slot_of, HostSetup, SlotSetup}
 use Rattle.aoe_script.specs.declared.event.Event.{Event}
 use Rattle.aoe_script.specs.declared.event.Event.TheVariants.{Read, Write, Flush, Identify, Config, Masks, Reserve, Tick, Deliver, Pass, Skip, Again, Inject, Fail, Stop, Crash}
@@ -17,7 +17,7 @@ use Rattle.aoe_script.specs.declared.refusal.Why.TheVariants.{Station, Unknown, 
 use Rattle.aoe_script.specs.declared.setup.Setup.{Setup as Line}
 use Rattle.aoe_script.specs.declared.setup.Setup.TheVariants.{Life, Shelf, Slot, Host, Attach}
 use Rattle.aoe_script.specs.Classes.{is_name}
-use Rattle.aoe_script.specs.Rules.{asked_why, attaches, event_why, has_attached, has_device, has_port, is_attached, is_device, is_event, is_known, is_shelf_named, is_slot, is_station_named, is_within, known_why, named_why, same, source_of, unless}
+use Rattle.aoe_script.specs.Rules.{asked_why, attaches, event_why, has_attached, has_device, has_port, is_attached, is_device, is_event, is_known, is_shelf_named, is_slot, is_station_named, is_within, known_why, named_why, same, unless}
 use Rattle.aoe_layout.specs.Layout.{about, devices_of, host_of, setup_of, slot_with}
 use Rattle.aoe_layout.specs.Stations.{CanCome, IsAsked, IsShelf, IsThere}
 use Rattle.aoe_layout.proofs.GoodLines.{unless-none, within, AreGood}

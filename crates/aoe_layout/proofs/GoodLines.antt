@@ -6,13 +6,14 @@ use Rattle.std.proofs.lemmas.Bool.{and_parts, leb-false, leb-true, not-false, or
 use Rattle.std.proofs.lemmas.Option.{MatchOption-at_some}
 use Rattle.arrayvec.specs.ArrayVec.{ArrayVec}
 use Rattle.aoe_base.specs.declared.address.Mac.{Mac}
+use Rattle.aoe_base.specs.Addresses.{all_unique, is_individual}
 use Rattle.aoe_script.specs.declared.refusal.Why.{Why}
 use Rattle.aoe_script.specs.declared.refusal.Why.TheVariants.{Place, Value}
 use Rattle.aoe_script.specs.declared.setup.Setup.{Setup as Line}
 use Rattle.aoe_script.specs.declared.setup.Setup.TheVariants.{Life, Shelf, Slot, Host, Attach}
 use Rattle.aoe_script.specs.Classes.{is_name}
 use Rattle.aoe_script.specs.Lines.{IsScript, ScriptLines}
-use Rattle.aoe_script.specs.Rules.{all_unique, are_ports, are_too_many, attaches, declared_why, first_of, has_major, has_port, is_full, is_host, is_host_named, is_individual, is_limit, is_setup, is_shelf, is_shelf_named, is_slot, is_slot_of, is_station_named, is_taken, is_within, setup_why, unless}
+use Rattle.aoe_script.specs.Rules.{are_ports, are_too_many, attaches, declared_why, first_of, has_major, has_port, is_full, is_host, is_host_named, is_limit, is_setup, is_shelf, is_shelf_named, is_slot, is_slot_of, is_station_named, is_taken, is_within, setup_why, unless}
 
 -- ---- causes that don't hold
 

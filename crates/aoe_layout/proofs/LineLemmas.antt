@@ -6,7 +6,8 @@ use Rattle.std.proofs.lemmas.Bool.{and_from, and_parts, cases_order, eq-eqb, eqb
 use Rattle.std.proofs.lemmas.Slice.Eq.{bytes_eq-Decides}
 use Rattle.arrayvec.specs.ArrayVec.{ArrayVec}
 use Rattle.aoe_base.specs.declared.address.Mac.{Mac}
-use Rattle.aoe_lists.specs.Addresses.{holds, same_address}
+use Rattle.aoe_base.specs.Addresses.{holds, same_address}
+use Rattle.aoe_base.proofs.AddressLemmas.{same-address}
 use Rattle.aoe_script.specs.declared.setup.Setup.{Setup as Line}
 use Rattle.aoe_script.specs.declared.setup.Setup.TheVariants.{Life, Shelf, Slot, Host, Attach}
 use Rattle.aoe_script.specs.Rules.{has_major, has_port, is_host_named, is_shelf_named, is_slot, is_station_named, same}
@@ -22,13 +23,10 @@ same-is a b e = ap (λ (l : List ℕ). let v : ArrayVec ℕ = record { items = l
 pub same-self : (a : ArrayVec ℕ) → same a a ≡ true
 same-self a = (bytes_eq-Decides a.items a.items).1 refl
 
-pub address-is : (a b : Mac) → same_address a b ≡ true → a ≡ b
-address-is a b e = ap (λ (l : List ℕ). let m : Mac = record { 0 = l } in m) ((bytes_eq-Decides a.0 b.0).0 e)
-
 pub held-at : (ports : List Mac) (port : Mac) → holds ports port ≡ true → Place ports port
 held-at ports port e =
     let p = any-passes (λ b. same_address b port) ports e in
-    record { at = p.at; there = p.there ∙ ap Some (address-is p.x port p.passes) }
+    record { at = p.at; there = p.there ∙ ap Some (same-address p.x port p.passes) }
 
 -- a slot line with its shelf line
 pub record SlotLine (lines : List Line) (shelf : ArrayVec ℕ) (minor : ℕ) : Type 0 where

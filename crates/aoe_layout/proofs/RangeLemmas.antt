@@ -7,13 +7,13 @@ use Rattle.std.proofs.lemmas.Bool.{and_parts, not-true}
 use Rattle.std.proofs.lemmas.Option.{slice_get-get_or}
 use Rattle.std.proofs.lemmas.Slice.Eq.{bytes_eq-Decides}
 use Rattle.aoe_base.specs.declared.address.Mac.{Mac}
+use Rattle.aoe_base.proofs.AddressLemmas.{all-distinct}
 use Rattle.aoe_initiator.specs.declared.device.Attached.{Attached}
 use Rattle.aoe_initiator.specs.HostLaw.{same_id}
-use Rattle.aoe_paths.specs.PathTable.{IsDistinct}
 use Rattle.aoe_history.specs.Setup.{HostSetup, SlotSetup}
 use Rattle.aoe_script.specs.declared.setup.Setup.{Setup as Line}
 use Rattle.aoe_script.specs.declared.setup.Setup.TheVariants.{Life, Shelf, Slot, Host, Attach}
-use Rattle.aoe_script.specs.Rules.{is_host as is_host_line, all_unique, holds, is_limit, is_within}
+use Rattle.aoe_script.specs.Rules.{is_host as is_host_line, is_limit, is_within}
 use Rattle.aoe_layout.specs.Layout.{host_in, default_dead, default_life, default_room, host_of, life_in, setup_of}
 use Rattle.aoe_layout.specs.Stations.{ArePorts, HasRanges, IsDevice, IsHost, IsSlot}
 use Rattle.aoe_layout.proofs.GoodLines.{within, AreGood, GoodPorts}
@@ -21,20 +21,6 @@ use Rattle.aoe_layout.proofs.HostLemmas.{host-line, device-from, devices-apart, 
 use Rattle.aoe_layout.proofs.ListLemmas.{few-of, length-filtered, apart-by, none-passes}
 use Rattle.aoe_layout.proofs.SetupLemmas.{most-sectors}
 use Rattle.aoe_layout.proofs.SlotLemmas.{same-turn, slot-from, SlotFrom}
-
--- ---- addresses
-
--- no address stands twice
-all-distinct : (ports : List Mac) → all_unique ports ≡ true → IsDistinct ports
-all-distinct [] e i j d lt most same = absurd (omega arith)
-all-distinct (a ∷ ports) e i zero d lt most same = absurd (omega arith)
-all-distinct (a ∷ ports) e zero (suc j) d lt most same =
-    let p = and_parts (not (holds ports a)) (all_unique ports) e in
-    let none = none-passes (λ other. bytes_eq other.0 a.0) ports j (get_or ports j d) (not-true (holds ports a) p.0) (slice_get-get_or ports j d (omega arith)) in
-    let one : bytes_eq (get_or ports j d).0 a.0 ≡ true = (bytes_eq-Decides (get_or ports j d).0 a.0).1 (ap (λ m. m.0) (sym same)) in
-    absurd cc
-all-distinct (a ∷ ports) e (suc i) (suc j) d lt most same =
-    all-distinct ports (and_parts (not (holds ports a)) (all_unique ports) e).1 i j d (omega arith) (omega arith) same
 
 are-ports : (ports : List Mac) → GoodPorts ports → ArePorts ports
 are-ports ports g = record { some = omega (arith, g.some); few = g.few; distinct = all-distinct ports g.unique }

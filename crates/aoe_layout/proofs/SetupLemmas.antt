@@ -4,8 +4,8 @@ use Rattle.std.specs.Prelude.{slice_get}
 use Rattle.std.proofs.lemmas.List.Elements.{All-contains}
 use Rattle.std.proofs.lemmas.Option.{same_Some}
 use Rattle.aoe_base.specs.declared.address.Mac.{Mac}
+use Rattle.aoe_base.specs.Addresses.{holds}
 use Rattle.aoe_initiator.specs.declared.device.Attached.{Attached}
-use Rattle.aoe_lists.specs.Addresses.{holds}
 use Rattle.aoe_history.specs.Setup.{HostSetup, IsAttachedTo, IsSetup, SlotSetup}
 use Rattle.aoe_script.specs.declared.setup.Setup.{Setup as Line}
 use Rattle.aoe_script.specs.declared.setup.Setup.TheVariants.{Shelf, Host}

@@ -1,32 +1,12 @@
 -- Lists of addresses, of which none stands twice.
-use Rattle.std.proofs.Common.{◌≡◌, ◌&&◌, ◌||◌, not, cond, ℕ, Bool, true, false, List, [], ◌∷◌, ◌++◌, append-nil, refl, sym, ap, subst, ◌∙◌}
-use Rattle.std.specs.Bool.{Decides}
-use Rattle.std.proofs.lemmas.Bool.Decides.{same_from_decides}
-use Rattle.std.proofs.lemmas.Slice.Eq.{bytes_eq-Decides}
+use Rattle.std.proofs.Common.{◌≡◌, ◌||◌, not, cond, Bool, true, false, List, [], ◌∷◌, ◌++◌, append-nil, refl, sym, ap, subst, ◌∙◌}
+use Rattle.std.proofs.lemmas.Bool.{and_parts, not-true, or_parts}
 use Rattle.std.proofs.lemmas.List.Elements.{filter-append}
 use Rattle.std.proofs.lemmas.List.Folds.{list_any-append}
 use Rattle.aoe_base.specs.declared.address.Mac.{Mac}
-use Rattle.aoe_lists.specs.Addresses.{same_address, holds, all_unique, without, first_places}
-
-pub same_address-Decides : (a b : Mac) → Decides (same_address a b) (a ≡ b)
-same_address-Decides a b =
-    let bytes = bytes_eq-Decides a.0 b.0 in
-    ((λ e. ap (λ (x : List ℕ). let m : Mac = record { 0 = x } in m) (bytes.0 e)), (λ e. bytes.1 (ap (λ (m : Mac). m.0) e)))
-
-is_same : (a b : Mac) → same_address a b ≡ true → a ≡ b
-is_same a b e = (same_address-Decides a b).0 e
-
-same_address-comm : (a b : Mac) → same_address a b ≡ same_address b a
-same_address-comm a b = same_from_decides (same_address a b) (same_address b a) (same_address-Decides a b)
-    ((λ e. sym (is_same b a e)), (λ e. (same_address-Decides b a).1 (sym e)))
-
-or_false : (x y : Bool) → (x || y) ≡ false → (x ≡ false) × (y ≡ false)
-or_false true y e = absurd (cc)
-or_false false y e = (refl, e)
-
-and_true : (x y : Bool) → (x && y) ≡ true → (x ≡ true) × (y ≡ true)
-and_true true y e = (refl, e)
-and_true false y e = absurd (cc)
+use Rattle.aoe_base.specs.Addresses.{all_unique, holds, same_address}
+use Rattle.aoe_base.proofs.AddressLemmas.{same-address, same_address-comm}
+use Rattle.aoe_lists.specs.Addresses.{without, first_places}
 
 -- the head of a list is taken out, or stays
 without_head : (x : Mac) (list : List Mac) (a : Mac) (P : List Mac → Type 0) → (same_address x a ≡ true → P (without list a)) → (same_address x a ≡ false → P (x ∷ without list a)) → P (without (x ∷ list) a)
@@ -40,7 +20,7 @@ without_head x list a P out stays = at (same_address x a) out stays
 holds-without : (list : List Mac) (a b : Mac) → holds list b ≡ false → holds (without list a) b ≡ false
 holds-without [] a b e = refl
 holds-without (x ∷ list) a b e =
-    let parts = or_false (same_address x b) (holds list b) e in
+    let parts = or_parts (same_address x b) (holds list b) e in
     without_head x list a (λ l. holds l b ≡ false) (λ _. holds-without list a b parts.1) (λ _. rw parts.0 (holds-without list a b parts.1))
 
 -- an address is another than those that are taken out
@@ -49,7 +29,7 @@ holds-without_other [] a b other = refl
 holds-without_other (x ∷ list) a b other =
     without_head x list a (λ l. holds l b ≡ (same_address x b || holds list b))
     (λ same. let P : Mac → Type 0 = λ y. holds (without list a) b ≡ (same_address y b || holds list b) in
-    subst P (sym (is_same x a same)) (rw other (holds-without_other list a b other)))
+    subst P (sym (same-address x a same)) (rw other (holds-without_other list a b other)))
     (λ _. ap (λ t. same_address x b || t) (holds-without_other list a b other))
 
 holds-without_self : (list : List Mac) (a : Mac) → holds (without list a) a ≡ false
@@ -57,24 +37,20 @@ holds-without_self [] a = refl
 holds-without_self (x ∷ list) a =
     without_head x list a (λ l. holds l a ≡ false) (λ _. holds-without_self list a) (λ other. rw other (holds-without_self list a))
 
-not_true : (x : Bool) → not x ≡ true → x ≡ false
-not_true true e = absurd (cc)
-not_true false e = refl
-
 pub all_unique-without : (list : List Mac) (a : Mac) → all_unique list ≡ true → all_unique (without list a) ≡ true
 all_unique-without [] a e = refl
 all_unique-without (x ∷ list) a e =
-    let parts = and_true (not (holds list x)) (all_unique list) e in
+    let parts = and_parts (not (holds list x)) (all_unique list) e in
     without_head x list a (λ l. all_unique l ≡ true) (λ _. all_unique-without list a parts.1)
-    (λ _. rw (holds-without list a x (not_true (holds list x) parts.0)) (all_unique-without list a parts.1))
+    (λ _. rw (holds-without list a x (not-true (holds list x) parts.0)) (all_unique-without list a parts.1))
 
 pub all_unique-append : (list : List Mac) (a : Mac) → all_unique list ≡ true → holds list a ≡ false → all_unique (list ++ a ∷ []) ≡ true
 all_unique-append [] a e new = refl
 all_unique-append (x ∷ list) a e new =
-    let parts = and_true (not (holds list x)) (all_unique list) e in
-    let other = or_false (same_address x a) (holds list a) new in
+    let parts = and_parts (not (holds list x)) (all_unique list) e in
+    let other = or_parts (same_address x a) (holds list a) new in
     let back : same_address a x ≡ false = same_address-comm a x ∙ other.0 in
-    rw (list_any-append (λ b. same_address b x) list (a ∷ []), not_true (holds list x) parts.0, back) (all_unique-append list a parts.1 other.1)
+    rw (list_any-append (λ b. same_address b x) list (a ∷ []), not-true (holds list x) parts.0, back) (all_unique-append list a parts.1 other.1)
 
 pub all_unique-first_places : (list : List Mac) → all_unique (first_places list) ≡ true
 all_unique-first_places [] = refl

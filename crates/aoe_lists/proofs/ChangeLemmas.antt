@@ -6,10 +6,10 @@ use Rattle.std.specs.Bool.{Decides}
 use Rattle.std.proofs.lemmas.Bool.Decides.{Decides-and}
 use Rattle.std.proofs.lemmas.Slice.Eq.{bytes_eq-Decides, slice_eq-Decides}
 use Rattle.aoe_base.specs.declared.address.Mac.{Mac}
-use Rattle.aoe_lists.specs.Addresses.{same_address}
+use Rattle.aoe_base.specs.Addresses.{same_address}
 use Rattle.aoe_lists.specs.Settings.{Settings, same_settings}
 use Rattle.aoe_lists.specs.Step.{Change, IfChange, reply_of, success_of}
-use Rattle.aoe_lists.proofs.AddressLemmas.{same_address-Decides}
+use Rattle.aoe_base.proofs.AddressLemmas.{same_address-Decides}
 
 same_addresses-refl : (list : List Mac) → pointwise same_address list list ≡ true
 same_addresses-refl list = (slice_eq-Decides same_address-Decides list list (pointwise same_address list list) refl).1 refl

@@ -1,12 +1,11 @@
 -- An edit keeps a list in which no address stands twice.
 use Rattle.std.proofs.Common.{◌≡◌, ◌==◌, cond, Bool, true, false, List, [], ◌∷◌, ◌++◌, Result, Ok, Err, length, refl, subst}
 use Rattle.aoe_base.specs.declared.address.Mac.{Mac}
+use Rattle.aoe_base.specs.Addresses.{all_unique, holds}
 use Rattle.aoe_lists.specs.declared.masks.MaskError.{MaskError}
 use Rattle.aoe_lists.specs.declared.masks.MaskError.TheVariants.{ListFull}
-use Rattle.aoe_lists.specs.declared.lists.TheConstants.{MAX_ADDRESSES}
 use Rattle.aoe_lists.specs.declared.masks.Directive.{Directive}
 use Rattle.aoe_lists.specs.declared.masks.Directive.TheVariants.{Nothing, Add, Delete, Unknown}
-use Rattle.aoe_lists.specs.Addresses.{holds, all_unique}
 use Rattle.aoe_lists.specs.Masks.{after_directive}
 use Rattle.aoe_lists.proofs.AddressLemmas.{all_unique-append, all_unique-without}
 
@@ -17,7 +16,7 @@ IsSound (Err e) = Unit {0}
 
 after_directive-sound : (masks : List Mac) (d : Directive) → all_unique masks ≡ true → IsSound (after_directive masks d)
 after_directive-sound masks Nothing once = once
-after_directive-sound masks (Add a) once = at (holds masks a) refl (length masks == MAX_ADDRESSES)
+after_directive-sound masks (Add a) once = at (holds masks a) refl (length masks == 64)
   where
     at : (there : Bool) → holds masks a ≡ there → (full : Bool) → IsSound (cond there (Ok masks) (cond full (Err ListFull) (Ok (masks ++ a ∷ []))))
     at true e full = once

@@ -4,8 +4,7 @@ use Rattle.std.specs.Int.{w16, to_be_bytes, from_be_bytes}
 use Rattle.std.specs.List.{starts_with}
 use Rattle.std.specs.Option.{option_and_then, option_map_or}
 use Rattle.std.specs.Str.{bytes_eq}
-use Rattle.aoe_frame.specs.declared.refusal.AoeError.TheVariants.{BadArgument, ConfigStringPresent}
-use Rattle.aoe_lists.specs.declared.lists.TheConstants.{MAX_CONFIG}
+use Rattle.aoe_base.specs.declared.refusal.AoeError.TheVariants.{BadArgument, ConfigStringPresent}
 use Rattle.aoe_lists.specs.declared.config.ConfigCommand.{ConfigCommand}
 use Rattle.aoe_lists.specs.declared.config.ConfigCommand.TheVariants.{Read, Test, TestPrefix, Set, ForceSet}
 use Rattle.aoe_lists.specs.declared.config.Facts.{Facts}
@@ -43,7 +42,7 @@ has_string command = true
 abbrev pub config_argument : ConfigCommand → ℕ → List ℕ → Option (ConfigCommand × List ℕ)
 config_argument command len rest =
     if not (has_string command) then Some (command, [])
-    else if nat_le len MAX_CONFIG && nat_le len (length rest) then Some (command, take len rest)
+    else if nat_le len 1024 && nat_le len (length rest) then Some (command, take len rest)
     else None
 
 -- the command and the string of a request, or nothing where a field is missing or has a value that isn't taken

@@ -4,15 +4,15 @@ use Rattle.std.specs.List.{flat_map}
 use Rattle.std.specs.Option.{option_and_then, option_map_or}
 use Rattle.std.specs.Simd.{first_chunks}
 use Rattle.aoe_base.specs.declared.address.Mac.{Mac}
-use Rattle.aoe_frame.specs.declared.refusal.AoeError.TheVariants.{BadArgument}
-use Rattle.aoe_lists.specs.declared.lists.TheConstants.{MAX_ADDRESSES}
+use Rattle.aoe_base.specs.declared.refusal.AoeError.TheVariants.{BadArgument}
+use Rattle.aoe_base.specs.Addresses.{holds}
 use Rattle.aoe_lists.specs.declared.masks.MaskCommand.{MaskCommand}
 use Rattle.aoe_lists.specs.declared.masks.MaskCommand.TheVariants.{Read, Edit}
 use Rattle.aoe_lists.specs.declared.masks.MaskError.{MaskError}
 use Rattle.aoe_lists.specs.declared.masks.MaskError.TheVariants.{Unspecified, BadDirective, ListFull}
 use Rattle.aoe_lists.specs.declared.masks.Directive.{Directive}
 use Rattle.aoe_lists.specs.declared.masks.Directive.TheVariants.{Nothing, Add, Delete, Unknown}
-use Rattle.aoe_lists.specs.Addresses.{holds, without}
+use Rattle.aoe_lists.specs.Addresses.{without}
 use Rattle.aoe_lists.specs.Settings.{Settings}
 use Rattle.aoe_lists.specs.Step.{Step, reply_of, refusal_of, success_of}
 
@@ -41,12 +41,12 @@ directive_of bytes =
     else if slice_index bytes 1 == 2 then Delete (record { 0 = drop 2 bytes })
     else Unknown
 
--- what one directive makes of a list
+-- what one directive makes of a list, which has at most 64 addresses
 abbrev pub after_directive : List Mac → Directive → Result (List Mac) MaskError
 after_directive masks Nothing = Ok masks
 after_directive masks (Add a) =
     if holds masks a then Ok masks
-    else if length masks == MAX_ADDRESSES then Err ListFull
+    else if length masks == 64 then Err ListFull
     else Ok (masks ++ a ∷ [])
 after_directive masks (Delete a) = Ok (without masks a)
 after_directive masks Unknown = Err BadDirective

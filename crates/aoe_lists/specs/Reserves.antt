@@ -4,8 +4,7 @@ use Rattle.std.specs.List.{flat_map}
 use Rattle.std.specs.Option.{option_and_then, option_map_or}
 use Rattle.std.specs.Simd.{first_chunks}
 use Rattle.aoe_base.specs.declared.address.Mac.{Mac}
-use Rattle.aoe_frame.specs.declared.refusal.AoeError.TheVariants.{BadArgument, TargetIsReserved}
-use Rattle.aoe_lists.specs.declared.lists.TheConstants.{MAX_ADDRESSES}
+use Rattle.aoe_base.specs.declared.refusal.AoeError.TheVariants.{BadArgument, TargetIsReserved}
 use Rattle.aoe_lists.specs.declared.reserves.ReserveCommand.{ReserveCommand}
 use Rattle.aoe_lists.specs.declared.reserves.ReserveCommand.TheVariants.{Read, Set, ForceSet}
 use Rattle.aoe_lists.specs.Addresses.{first_places}
@@ -42,7 +41,7 @@ has_addresses command = true
 abbrev pub reserve_given : ReserveCommand → ℕ → List ℕ → Option (ReserveCommand × List Mac)
 reserve_given command count rest =
     if not (has_addresses command) then Some (command, [])
-    else if nat_le count MAX_ADDRESSES && nat_le (6 * count) (length rest) then Some (command, addresses (first_chunks 6 count rest))
+    else if nat_le count 64 && nat_le (6 * count) (length rest) then Some (command, addresses (first_chunks 6 count rest))
     else None
 
 -- the command and the addresses of a request, or nothing where a field is missing or has a value that isn't taken

@@ -3,7 +3,7 @@ use Rattle.std.specs.Prelude.{ℕ, Bool, ◌||◌, ◌&&◌, ◌==◌, List, [],
 use Rattle.std.specs.Str.{bytes_eq}
 use Rattle.std.specs.Cmp.Lexicographic.{pointwise}
 use Rattle.aoe_base.specs.declared.address.Mac.{Mac}
-use Rattle.aoe_lists.specs.Addresses.{same_address, holds}
+use Rattle.aoe_base.specs.Addresses.{holds, same_address}
 
 -- the config string, the mask list and the reserve list
 pub record Settings : Type 0 where

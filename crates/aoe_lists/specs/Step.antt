@@ -1,6 +1,6 @@
 -- What a request comes to.
 use Rattle.std.specs.Prelude.{ℕ, List, Option, Some, None, if◌then◌else◌, ⊤}
-use Rattle.aoe_frame.specs.declared.refusal.AoeError.{AoeError}
+use Rattle.aoe_base.specs.declared.refusal.AoeError.{AoeError}
 use Rattle.aoe_lists.specs.declared.answer.Answer.{Answer}
 use Rattle.aoe_lists.specs.declared.answer.Answer.TheVariants as answer
 use Rattle.aoe_lists.specs.Settings.{Settings, same_settings}

@@ -1,5 +1,5 @@
 //! What a request that reads or changes the lists comes to.
-use aoe_frame::AoeError;
+use aoe_base::AoeError;
 
 /// What a request comes to, beside the arguments of its reply and the lists that it makes, which
 /// stand where the caller says.

@@ -15,7 +15,7 @@ ghost use Rattle.aoe_lists.specs.Step.{step_with, success_of};
 
 use crate::lists::refill;
 use crate::{Answer, Args, Lists, MAX_CONFIG};
-use aoe_frame::{AoeError, append};
+use aoe_base::{AoeError, append};
 
 /// What a device says of itself in each config reply.
 #[derive(Clone, Copy, Debug, PartialEq, Eq)]
@@ -89,7 +89,7 @@ impl ConfigCommand {
 /// its length isn't looked at.
 fn read_request(bytes: &[u8]) -> Option<(ConfigCommand, &[u8])>
     ensures request { option_map (λ r. (r.0, r.1.now)) result ≡ config_request bytes.now }
-    ensures bound { IfSome result (λ r. length r.1.now ≤ MAX_CONFIG) }
+    ensures bound { IfSome result (λ r. length r.1.now ≤ 1024) }
 {
     if bytes.len() < STRING_AT {
         return None;
@@ -108,7 +108,7 @@ fn read_request(bytes: &[u8]) -> Option<(ConfigCommand, &[u8])>
 
 /// Makes `args` those of a reply, with the string that stands after the request.
 fn write_args(facts: &Facts, command: ConfigCommand, string: &[u8], args: &mut Args)
-    requires { length string.now ≤ MAX_CONFIG }
+    requires { length string.now ≤ 1024 }
     ensures { args.new.items ≡ config_args facts.now command string.now }
 {
     let [buffers_high, buffers_low] = facts.buffers.to_be_bytes();
@@ -140,7 +140,7 @@ fn reply(
     string: &[u8],
     args: &mut Args,
 ) -> Answer
-    requires { length string.now ≤ MAX_CONFIG }
+    requires { length string.now ≤ 1024 }
     ensures answer { result ≡ Answer.Reply error }
     ensures args { args.new.items ≡ config_args facts.now command string.now }
 {
@@ -157,7 +157,7 @@ fn set(
     next: &mut Lists,
     args: &mut Args,
 ) -> Answer
-    requires { length string.now ≤ MAX_CONFIG }
+    requires { length string.now ≤ 1024 }
     ensures { step_with result args.new.items next.new ≡ success_of lists.now
         (record lists.now { config = string.now }) (config_args facts.now command string.now) }
 {
@@ -180,7 +180,7 @@ fn act(
     next: &mut Lists,
     args: &mut Args,
 ) -> Answer
-    requires { length string.now ≤ MAX_CONFIG }
+    requires { length string.now ≤ 1024 }
     ensures { step_with result args.new.items next.new ≡ config_result lists.now facts.now command string.now }
 {
     let current = lists.config.as_slice();

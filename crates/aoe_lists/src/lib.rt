@@ -5,6 +5,7 @@
 mod answer;
 mod args;
 mod config;
+mod dir;
 mod lists;
 mod masks;
 mod reserves;
@@ -12,6 +13,7 @@ mod reserves;
 pub use answer::Answer;
 pub use args::{Args, MAX_ARGS};
 pub use config::{ConfigCommand, Facts, config_step};
+pub use dir::{Dir, MAX_DIRS};
 pub use lists::{
     AddressList, Lists, MAX_ADDRESSES, MAX_CONFIG, admits, may_use, same_settings_is_equality,
 };

@@ -31,7 +31,7 @@ pub struct Lists {
 impl Model for Lists {
     ghost use Rattle.std.specs.Prelude.{◌≡◌, true};
     ghost use Rattle.aoe_lists.specs.Settings.{Settings};
-    ghost use Rattle.aoe_lists.specs.Addresses.{all_unique};
+    ghost use Rattle.aoe_base.specs.Addresses.{all_unique};
 
     ghost Value = { Settings };
 

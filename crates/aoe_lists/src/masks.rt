@@ -9,15 +9,15 @@
 //! | 4 | 8 each | directives: reserved, DCmd, address |
 ghost use Rattle.std.specs.Prelude.{◌≡◌, ◌≢◌, ◌≤◌, ◌*◌, ◌++◌, Ok, Err, true, MatchResult, OnErr, length, map};
 ghost use Rattle.std.specs.Option.{option_map};
-ghost use Rattle.aoe_lists.specs.Addresses.{all_unique, without};
+ghost use Rattle.aoe_lists.specs.Addresses.{without};
 ghost use Rattle.aoe_lists.specs.Masks.{directive_of, after_directive, after_directives, mask_answer, mask_args, mask_code, mask_command_of, mask_result, mask_edit, mask_error_code, mask_failure, mask_request};
 ghost use Rattle.aoe_lists.specs.Step.{step_with, success_of};
+ghost use Rattle.aoe_base.specs.Addresses.{all_unique};
 
 use crate::args::pieces;
 use crate::lists::refill;
 use crate::{AddressList, Answer, Args, Lists};
-use aoe_base::Mac;
-use aoe_frame::{AoeError, append};
+use aoe_base::{AoeError, Mac, append};
 
 /// Why a mask edit was refused, as its reply's field MError says.
 #[derive(Clone, Copy, Debug, PartialEq, Eq)]

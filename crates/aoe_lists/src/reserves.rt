@@ -7,15 +7,15 @@
 //! | 2 | 6 each | addresses |
 ghost use Rattle.std.specs.Prelude.{◌≡◌, ◌≢◌, ◌≤◌, IfSome, List, true, length};
 ghost use Rattle.std.specs.Option.{option_map};
-ghost use Rattle.aoe_lists.specs.Addresses.{all_unique, first_places, holds};
+ghost use Rattle.aoe_lists.specs.Addresses.{first_places};
 ghost use Rattle.aoe_lists.specs.Reserves.{addresses, reserve_answer, reserve_args, reserve_code, reserve_command_of, reserve_result, reserve_request, reserve_set};
 ghost use Rattle.aoe_lists.specs.Step.{step_with, success_of};
+ghost use Rattle.aoe_base.specs.Addresses.{all_unique, holds};
 
 use crate::args::pieces;
 use crate::lists::refill;
 use crate::{AddressList, Answer, Args, Lists, MAX_ADDRESSES, may_use};
-use aoe_base::Mac;
-use aoe_frame::{AoeError, append};
+use aoe_base::{AoeError, Mac, append};
 
 /// What is done with the reserve list, by the request's field RCmd.
 #[derive(Clone, Copy, Debug, PartialEq, Eq)]
@@ -62,7 +62,7 @@ impl ReserveCommand {
 /// and its count isn't looked at.
 fn read_request(bytes: &[u8]) -> Option<(ReserveCommand, &[[u8; 6]])>
     ensures request { option_map (λ r. (r.0, addresses r.1.now)) result ≡ reserve_request bytes.now }
-    ensures bound { IfSome result (λ r. length r.1.now ≤ MAX_ADDRESSES) }
+    ensures bound { IfSome result (λ r. length r.1.now ≤ 64) }
 {
     if bytes.len() < ADDRESSES_AT {
         return None;
@@ -81,7 +81,7 @@ fn read_request(bytes: &[u8]) -> Option<(ReserveCommand, &[[u8; 6]])>
 
 /// Makes `list` the given addresses, without the later copies of each.
 fn first_of_each(given: &[[u8; 6]], list: &mut AddressList)
-    requires { length given.now ≤ MAX_ADDRESSES }
+    requires { length given.now ≤ 64 }
     ensures value { list.new.items ≡ first_places (addresses given.now) }
     ensures once { all_unique list.new.items ≡ true }
 {
@@ -113,7 +113,7 @@ fn set(
     next: &mut Lists,
     args: &mut Args,
 ) -> Answer
-    requires { length given.now ≤ MAX_ADDRESSES }
+    requires { length given.now ≤ 64 }
     ensures { step_with result args.new.items next.new ≡ reserve_set lists.now command (addresses given.now) }
 {
     first_of_each(given, &mut next.reserves);
@@ -135,7 +135,7 @@ fn act(
     next: &mut Lists,
     args: &mut Args,
 ) -> Answer
-    requires { length given.now ≤ MAX_ADDRESSES }
+    requires { length given.now ≤ 64 }
     ensures { step_with result args.new.items next.new
         ≡ reserve_result lists.now source command (addresses given.now) }
 {

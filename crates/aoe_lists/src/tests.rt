@@ -1,6 +1,5 @@
 use crate::*;
-use aoe_base::Mac;
-use aoe_frame::AoeError;
+use aoe_base::{AoeError, Mac};
 use arrayvec::ArrayVec;
 
 const A: Mac = Mac([2, 0, 0, 0, 0, 0x0a]);

@@ -11,7 +11,8 @@ use Rattle.std.proofs.lemmas.List.Sums.{fails_before_first}
 use Rattle.std.proofs.lemmas.Slice.Eq.{bytes_eq-Decides}
 use Rattle.std.proofs.Math.Nat.{div-lt_iff_lt-mul, mod-add-div'}
 use Rattle.aoe_base.specs.declared.address.Mac.{Mac}
-use Rattle.aoe_paths.specs.PathTable.{PathTable, pair_of, path_count, IsDistinct}
+use Rattle.aoe_base.specs.Addresses.{IsDistinct}
+use Rattle.aoe_paths.specs.PathTable.{PathTable, pair_of, path_count}
 
 -- the ports at the two places of a path are its pair
 pub pair-at : (table : PathTable) (p : ℕ) (local remote : Mac) → slice_get table.locals (p / length table.remotes) ≡ Some local → slice_get table.remotes (p % length table.remotes) ≡ Some remote

@@ -1,8 +1,9 @@
 -- The paths between a host and a device, and which of them is taken next.
-use Rattle.std.specs.Prelude.{ℕ, ◌≡◌, ◌≢◌, ◌+◌, ◌*◌, ◌/◌, ◌%◌, ◌<◌, ◌≤◌, List, [], ◌++◌, length, take, drop, replicate, position, AllPairs, Bool, false, true, not, Option, Some, None, option_and_then, option_map, unwrap_or, slice_get, slice_index_or, slice_set}
+use Rattle.std.specs.Prelude.{ℕ, ◌≡◌, ◌+◌, ◌*◌, ◌/◌, ◌%◌, ◌<◌, ◌≤◌, List, [], ◌++◌, length, take, drop, replicate, position, Bool, false, true, not, Option, Some, None, option_and_then, option_map, unwrap_or, slice_get, slice_index_or, slice_set}
 use Rattle.std.specs.Option.{ForSome}
 use Rattle.aoe_base.specs.declared.address.Mac.{Mac}
 use Rattle.aoe_base.specs.declared.counted.Millis.{Millis}
+use Rattle.aoe_base.specs.Addresses.{IsDistinct}
 use Rattle.aoe_paths.specs.Path.{PathState, after_trip}
 
 -- the ports at both ends, the path that was chosen last, and for each path whether it is marked as
@@ -26,10 +27,6 @@ new_paths locals remotes = record {
   marks = replicate (length locals * length remotes) false;
   trips = replicate (length locals * length remotes) [];
 }
-
--- no address stands twice
-abbrev pub IsDistinct : List Mac → Type 0
-IsDistinct ports = AllPairs (λ a b. a ≢ b) ports
 
 -- the local and the remote port of a path, whose number is local * remotes + remote, all counted from 0
 abbrev pub pair_at : List Mac → List Mac → ℕ → Option (Mac × Mac)

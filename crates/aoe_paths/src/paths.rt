@@ -3,8 +3,9 @@ ghost use Rattle.std.specs.Prelude.{◌≡◌, ◌≢◌, ℕ, ◌<◌, ◌≤�
 ghost use Rattle.aoe_paths.specs.Path.{new_path};
 ghost use Rattle.aoe_paths.specs.PathLog.{next_of, timeout_on, PathEvent, Recalls};
 ghost use Rattle.aoe_paths.specs.PathLog.PathEvent.{Answered, Chosen, Missed};
-ghost use Rattle.aoe_paths.specs.PathTable.{after_answer, after_miss, in_turn, new_paths, next_path, pair_of, path_after, path_count, trips_of, IsDistinct};
+ghost use Rattle.aoe_paths.specs.PathTable.{after_answer, after_miss, in_turn, new_paths, next_path, pair_of, path_after, path_count, trips_of};
 ghost use Rattle.aoe_paths.specs.Timeout.{timeout_of};
+ghost use Rattle.aoe_base.specs.Addresses.{IsDistinct};
 
 use crate::path::Path;
 use aoe_base::{Mac, Millis, NoMemory, PathNo, Ports};

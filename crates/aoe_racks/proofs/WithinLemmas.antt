@@ -7,9 +7,9 @@ use Rattle.aoe_base.specs.declared.sectors.Span.{Span}
 use Rattle.aoe_disk.specs.Memory.{contents_of, state_of, Memory}
 use Rattle.aoe_disk.specs.State.{sector, BothTell}
 use Rattle.aoe_frame.specs.Header.{fields, head}
-use Rattle.aoe_frame.specs.declared.refusal.AoeError.TheVariants.{BadArgument}
+use Rattle.aoe_base.specs.declared.refusal.AoeError.TheVariants.{BadArgument}
 use Rattle.aoe_frame.specs.declared.header.Header.{Header}
-use Rattle.aoe_frame.specs.declared.refusal.AoeError.TheVariants.{BadArgument}
+use Rattle.aoe_base.specs.declared.refusal.AoeError.TheVariants.{BadArgument}
 use Rattle.aoe_ata.specs.Args.{registers}
 use Rattle.aoe_ata.specs.Command.{command_of}
 use Rattle.aoe_ata.specs.Decision.{answer_of, decision, is_taken, written}

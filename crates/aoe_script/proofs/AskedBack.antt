@@ -1,12 +1,12 @@
 -- The words of a submission say what it asks.
 use Rattle.std.proofs.Common.{◌≡◌, ◌^◌, ◌<◌, ◌≤◌, ◌==◌, ℕ, zero, suc, Bool, true, false, List, [], ◌∷◌, length, Some, nat_le, refl, arith}
 use Rattle.std.specs.Prelude.{All, if◌then◌else◌}
-use Rattle.std.proofs.lemmas.Bool.{and_parts}
+use Rattle.std.proofs.lemmas.Bool.{and_from, and_parts}
 use Rattle.std.proofs.lemmas.Bool.Decides.{nat_tests}
 use Rattle.arrayvec.specs.ArrayVec.{ArrayVec}
 use Rattle.aoe_base.specs.declared.address.Mac.{Mac}
 use Rattle.aoe_base.specs.declared.address.TargetId.{TargetId}
-use Rattle.aoe_initiator.specs.declared.op.Dir.{Dir}
+use Rattle.aoe_lists.specs.declared.dir.Dir.{Dir}
 use Rattle.aoe_script.specs.declared.event.Event.TheVariants.{Read, Write, Flush, Identify, Config, Masks, Reserve}
 use Rattle.aoe_script.specs.declared.line.Line.TheVariants.{Asks}
 use Rattle.aoe_script.specs.Classes.{ccmd_of, is_name, rcmd_of}
@@ -16,7 +16,7 @@ use Rattle.aoe_script.specs.Rules.{is_device, is_within}
 use Rattle.aoe_script.specs.Types.{IsAddress, IsByte}
 use Rattle.aoe_script.proofs.ListedLemmas.{AddressLaw, dirs_back, dirs_word, list_back_of, list_word_of}
 use Rattle.aoe_script.proofs.NamedLemmas.{DeviceLaw, device_back, device_word, name_back, name_word}
-use Rattle.aoe_script.proofs.PlainLemmas.{both_true, is_word}
+use Rattle.aoe_script.proofs.PlainLemmas.{is_word}
 use Rattle.aoe_script.proofs.SaidLemmas.{IsSaid}
 use Rattle.aoe_script.proofs.WrittenLemmas.{byte_back, byte_word, bytes_back, bytes_word, number_is, number_word}
 
@@ -26,7 +26,7 @@ module _ (law : AddressLaw) (devices : DeviceLaw)
   unfolding said
   read_is at count low few = record {
     said_is = rw (name_back host named, device_back devices dev known, number_is at low, number_is count few) refl;
-    are_words = both_true _ _ (name_word host named) (both_true _ _ (device_word dev known) (both_true _ _ (number_word at low) (both_true _ _ (number_word count few) refl)));
+    are_words = and_from _ _ (name_word host named) (and_from _ _ (device_word dev known) (and_from _ _ (number_word at low) (and_from _ _ (number_word count few) refl)));
     few = omega arith;
   }
 
@@ -34,7 +34,7 @@ module _ (law : AddressLaw) (devices : DeviceLaw)
   unfolding said
   write_is at count fill low few byte = record {
     said_is = rw (name_back host named, device_back devices dev known, number_is at low, number_is count few, byte_back fill byte) refl;
-    are_words = both_true _ _ (name_word host named) (both_true _ _ (device_word dev known) (both_true _ _ (number_word at low) (both_true _ _ (number_word count few) (both_true _ _ (byte_word fill byte) refl))));
+    are_words = and_from _ _ (name_word host named) (and_from _ _ (device_word dev known) (and_from _ _ (number_word at low) (and_from _ _ (number_word count few) (and_from _ _ (byte_word fill byte) refl))));
     few = omega arith;
   }
 
@@ -42,7 +42,7 @@ module _ (law : AddressLaw) (devices : DeviceLaw)
   unfolding said
   flush_is = record {
     said_is = rw (name_back host named, device_back devices dev known) refl;
-    are_words = both_true _ _ (name_word host named) (both_true _ _ (device_word dev known) refl);
+    are_words = and_from _ _ (name_word host named) (and_from _ _ (device_word dev known) refl);
     few = omega arith;
   }
 
@@ -50,7 +50,7 @@ module _ (law : AddressLaw) (devices : DeviceLaw)
   unfolding said
   identify_is = record {
     said_is = rw (name_back host named, device_back devices dev known) refl;
-    are_words = both_true _ _ (name_word host named) (both_true _ _ (device_word dev known) refl);
+    are_words = and_from _ _ (name_word host named) (and_from _ _ (device_word dev known) refl);
     few = omega arith;
   }
 
@@ -61,7 +61,7 @@ module _ (law : AddressLaw) (devices : DeviceLaw)
   unfolding said
   config_with ccmd text back word some small = record {
     said_is = rw (back, some, name_back host named, device_back devices dev known, bytes_back text small) refl;
-    are_words = rw (word, some) (both_true _ _ (name_word host named) (both_true _ _ (device_word dev known) (both_true _ _ (bytes_word text small) refl)));
+    are_words = rw (word, some) (and_from _ _ (name_word host named) (and_from _ _ (device_word dev known) (and_from _ _ (bytes_word text small) refl)));
     few = rw some (omega arith);
   }
 
@@ -70,7 +70,7 @@ module _ (law : AddressLaw) (devices : DeviceLaw)
   unfolding said
   config_is zero [] e few small = record {
     said_is = rw (name_back host named, device_back devices dev known) refl;
-    are_words = both_true _ _ (name_word host named) (both_true _ _ (device_word dev known) refl);
+    are_words = and_from _ _ (name_word host named) (and_from _ _ (device_word dev known) refl);
     few = omega arith;
   }
   config_is zero (b ∷ text) e few small = absurd (grind (arith, nat_tests))
@@ -85,7 +85,7 @@ module _ (law : AddressLaw) (devices : DeviceLaw)
   unfolding said
   masks_is false [] e fits = record {
     said_is = rw (name_back host named, device_back devices dev known) refl;
-    are_words = both_true _ _ (name_word host named) (both_true _ _ (device_word dev known) refl);
+    are_words = and_from _ _ (name_word host named) (and_from _ _ (device_word dev known) refl);
     few = omega arith;
   }
   masks_is false (dir ∷ dirs) e fits = absurd (grind (arith, nat_tests))
@@ -95,7 +95,7 @@ module _ (law : AddressLaw) (devices : DeviceLaw)
       let most : length dirs ≤ 64 = grind (arith, nat_tests) in
       record {
         said_is = rw (name_back host named, device_back devices dev known, dirs_back law dirs some most fits) refl;
-        are_words = both_true _ _ (name_word host named) (both_true _ _ (device_word dev known) (both_true _ _ (dirs_word law dirs some fits) refl));
+        are_words = and_from _ _ (name_word host named) (and_from _ _ (device_word dev known) (and_from _ _ (dirs_word law dirs some fits) refl));
         few = omega arith;
       }
 
@@ -104,7 +104,7 @@ module _ (law : AddressLaw) (devices : DeviceLaw)
   unfolding said
   reserve_with rcmd list back word some most fits = record {
     said_is = rw (back, some, name_back host named, device_back devices dev known, list_back_of law list most fits) refl;
-    are_words = rw (word, some) (both_true _ _ (name_word host named) (both_true _ _ (device_word dev known) (both_true _ _ (list_word_of law list fits) refl)));
+    are_words = rw (word, some) (and_from _ _ (name_word host named) (and_from _ _ (device_word dev known) (and_from _ _ (list_word_of law list fits) refl)));
     few = rw some (omega arith);
   }
 
@@ -113,7 +113,7 @@ module _ (law : AddressLaw) (devices : DeviceLaw)
   unfolding said
   reserve_is zero [] e few fits = record {
     said_is = rw (name_back host named, device_back devices dev known) refl;
-    are_words = both_true _ _ (name_word host named) (both_true _ _ (device_word dev known) refl);
+    are_words = and_from _ _ (name_word host named) (and_from _ _ (device_word dev known) refl);
     few = omega arith;
   }
   reserve_is zero (mac ∷ list) e few fits = absurd (grind (arith, nat_tests))

@@ -3,25 +3,25 @@ use Rattle.std.proofs.Common.{◌≡◌, ◌∙◌, ◌^◌, ◌<◌, ◌≤◌,
 use Rattle.std.specs.Prelude.{All, codes}
 use Rattle.std.specs.List.{AllByRecursion, join_with_byte, list_all, slice_split}
 use Rattle.std.specs.Str.{bytes_eq}
-use Rattle.std.proofs.lemmas.Bool.{and_parts, lt-ltb}
+use Rattle.std.proofs.lemmas.Bool.{and_from, and_parts, lt-ltb}
 use Rattle.std.proofs.lemmas.Bool.Decides.{nat_tests}
 use Rattle.std.proofs.lemmas.List.{length-append}
 use Rattle.std.proofs.lemmas.List.Elements.{recursion_from_All}
 use Rattle.aoe_base.specs.declared.address.Mac.{Mac}
 use Rattle.aoe_base.specs.Names.{mac_of, mac_text, pair_text}
-use Rattle.aoe_initiator.specs.declared.op.Dir.{Dir}
+use Rattle.aoe_lists.specs.declared.dir.Dir.{Dir}
 use Rattle.aoe_script.specs.Classes.{at_most, dir_of, dirs_of, each, list_of, macs_of, ports_of}
 use Rattle.aoe_script.specs.Print.{dir_text, dirs_text, list_text, macs_text}
 use Rattle.aoe_script.specs.Types.{IsAddress, IsByte}
 use Rattle.aoe_script.specs.Words.{Text}
-use Rattle.aoe_script.proofs.PlainLemmas.{all_joined, all_weaker, both_true, is_part, is_plain, is_word, lacks, parts_back}
+use Rattle.aoe_script.proofs.PlainLemmas.{all_joined, all_weaker, is_part, is_plain, is_word, lacks, parts_back}
 use Rattle.aoe_script.proofs.WrittenLemmas.{and_false, each_back, most_back, pair_part, part_plain}
 
 -- ---- what an address is written as
 
 pairs_part : (bytes : List ℕ) → AllByRecursion IsByte bytes → list_all (λ b. list_all is_part (pair_text b)) bytes ≡ true
 pairs_part [] small = refl
-pairs_part (b ∷ bytes) small = both_true (list_all is_part (pair_text b)) _ (pair_part b small.0) (pairs_part bytes small.1)
+pairs_part (b ∷ bytes) small = and_from (list_all is_part (pair_text b)) _ (pair_part b small.0) (pairs_part bytes small.1)
 
 mac_part : (mac : Mac) → IsAddress mac → list_all is_part (mac_text mac) ≡ true
 mac_part mac is = all_joined is_part 58 pair_text mac.0 refl (pairs_part mac.0 (recursion_from_All IsByte mac.0 is.bytes))
@@ -56,7 +56,7 @@ pub record IsWritten {T : Type 0} (read : Text → Option T) (write : T → Text
 module _ {T : Type 0} (read : Text → Option T) (write : T → Text) where
   all_parts : (xs : List T) → AllByRecursion (IsWritten read write) xs → list_all (λ x. list_all is_part (write x)) xs ≡ true
   all_parts [] h = refl
-  all_parts (x ∷ xs) h = both_true (list_all is_part (write x)) _ h.0.part (all_parts xs h.1)
+  all_parts (x ∷ xs) h = and_from (list_all is_part (write x)) _ h.0.part (all_parts xs h.1)
 
   all_back : (xs : List T) → AllByRecursion (IsWritten read write) xs → AllByRecursion (λ x. read (write x) ≡ Some x) xs
   all_back [] h = tt
@@ -64,7 +64,7 @@ module _ {T : Type 0} (read : Text → Option T) (write : T → Text) where
 
   all_lack : (xs : List T) → AllByRecursion (IsWritten read write) xs → list_all (λ x. lacks 44 (write x)) xs ≡ true
   all_lack [] h = refl
-  all_lack (x ∷ xs) h = both_true (lacks 44 (write x)) _ (all_weaker is_part _ part_lacks (write x) h.0.part) (all_lack xs h.1)
+  all_lack (x ∷ xs) h = and_from (lacks 44 (write x)) _ (all_weaker is_part _ part_lacks (write x) h.0.part) (all_lack xs h.1)
 
   pub list_long : (x : T) (xs : List T) → AllByRecursion (IsWritten read write) (x ∷ xs) → 1 < length (join_with_byte 44 (map write (x ∷ xs)))
   list_long x xs h = joined_long 1 44 write x xs h.0.long
@@ -72,7 +72,7 @@ module _ {T : Type 0} (read : Text → Option T) (write : T → Text) where
   pub list_word : (xs : List T) → 0 < length xs → AllByRecursion (IsWritten read write) xs → is_word (join_with_byte 44 (map write xs)) ≡ true
   list_word [] some h = absurd (omega (arith, some))
   list_word (x ∷ xs) some h =
-      both_true _ _ (lt-ltb 0 _ (omega (arith, list_long x xs h)))
+      and_from _ _ (lt-ltb 0 _ (omega (arith, list_long x xs h)))
       (all_joined is_plain 44 write (x ∷ xs) refl (all_weaker (λ x. list_all is_part (write x)) (λ x. list_all is_plain (write x)) (λ x. all_weaker is_part is_plain part_plain (write x)) (x ∷ xs) (all_parts (x ∷ xs) h)))
 
   pub list_back : (most : ℕ) (xs : List T) → 0 < length xs → length xs ≤ most → AllByRecursion (IsWritten read write) xs

@@ -3,26 +3,26 @@ use Rattle.std.proofs.Common.{◌≡◌, ◌∙◌, ◌+◌, ◌^◌, ◌<◌, �
 use Rattle.std.specs.Prelude.{◌↔◌, codes, decimal, if◌then◌else◌, option_map}
 use Rattle.std.specs.Char.{is_ascii_digit}
 use Rattle.std.specs.List.{list_all}
-use Rattle.std.proofs.lemmas.Bool.{and_parts, lt-ltb}
+use Rattle.std.proofs.lemmas.Bool.{and_from, and_parts, lt-ltb}
 use Rattle.std.proofs.lemmas.Bool.Decides.{nat_tests}
 use Rattle.std.proofs.lemmas.Fmt.{decimal_nonempty}
 use Rattle.std.proofs.lemmas.List.{length-append}
 use Rattle.arrayvec.specs.ArrayVec.{ArrayVec}
 use Rattle.aoe_base.specs.declared.address.TargetId.{TargetId}
-use Rattle.aoe_base.specs.Names.{IsNameOf, device_of}
+use Rattle.aoe_base.specs.Names.{device_of, device_text, IsNameOf}
 use Rattle.aoe_disk.specs.declared.loss.Loss.{Loss}
 use Rattle.aoe_disk.specs.declared.loss.Loss.TheVariants.{Keep as Kept, Old, Torn, Mix}
 use Rattle.aoe_script.specs.declared.event.Which.{Which}
 use Rattle.aoe_script.specs.declared.event.Which.TheVariants.{Store, Keep}
 use Rattle.aoe_script.specs.Classes.{is_lower, is_name, mode_of, name_of, number, which_of}
-use Rattle.aoe_script.specs.Print.{device_text, mode_text, which_text}
+use Rattle.aoe_script.specs.Print.{mode_text, which_text}
 use Rattle.aoe_script.specs.Rules.{is_device}
 use Rattle.aoe_script.specs.Types.{FitsLoss}
-use Rattle.aoe_script.proofs.PlainLemmas.{all_append, all_weaker, both_true, is_plain, is_word}
+use Rattle.aoe_script.proofs.PlainLemmas.{all_append, all_weaker, is_plain, is_word}
 use Rattle.aoe_script.proofs.WrittenLemmas.{digits_plain, number_back, number_is}
 
 pub a_word : (c : ℕ) (word : List ℕ) → list_all is_plain (c ∷ word) ≡ true → is_word (c ∷ word) ≡ true
-a_word c word e = both_true _ _ (lt-ltb 0 _ (omega arith)) e
+a_word c word e = and_from _ _ (lt-ltb 0 _ (omega arith)) e
 
 -- ---- names
 

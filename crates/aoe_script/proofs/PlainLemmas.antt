@@ -1,7 +1,7 @@
 -- Bytes that no list of words, parts or lines is cut at.
-use Rattle.std.proofs.Common.{◌≡◌, ◌∙◌, ◌==◌, ℕ, zero, suc, Bool, true, false, not, ◌&&◌, List, [], ◌∷◌, ◌++◌, length, get_or, map, refl, ap, nat_lt}
+use Rattle.std.proofs.Common.{◌≡◌, ◌∙◌, ◌==◌, ℕ, zero, suc, Bool, true, not, ◌&&◌, List, [], ◌∷◌, ◌++◌, length, get_or, map, refl, ap, nat_lt}
 use Rattle.std.specs.List.{list_all, join_with_byte, slice_split}
-use Rattle.std.proofs.lemmas.Bool.{and_parts, eq-eqb}
+use Rattle.std.proofs.lemmas.Bool.{and_from, and_parts, eq-eqb, not-true}
 use Rattle.std.proofs.lemmas.List.Folds.{list_all-append}
 
 -- a byte that a word may have: no space, no control character
@@ -19,20 +19,12 @@ is_word word = nat_lt 0 (length word) && list_all is_plain word
 abbrev pub lacks : ℕ → List ℕ → Bool
 lacks c = list_all (λ x. not (x == c))
 
-pub both_true : (a b : Bool) → a ≡ true → b ≡ true → (a && b) ≡ true
-both_true true b e f = f
-both_true false b e f = absurd cc
-
-pub is_false : (b : Bool) → not b ≡ true → b ≡ false
-is_false false e = refl
-is_false true e = absurd cc
-
 pub all_weaker : {X : Type 0} (p q : X → Bool) → ((x : X) → p x ≡ true → q x ≡ true) → (xs : List X) → list_all p xs ≡ true → list_all q xs ≡ true
 all_weaker p q weaker [] e = refl
-all_weaker p q weaker (x ∷ xs) e = let h = and_parts (p x) (list_all p xs) e in both_true (q x) (list_all q xs) (weaker x h.0) (all_weaker p q weaker xs h.1)
+all_weaker p q weaker (x ∷ xs) e = let h = and_parts (p x) (list_all p xs) e in and_from (q x) (list_all q xs) (weaker x h.0) (all_weaker p q weaker xs h.1)
 
 pub all_append : {X : Type 0} (p : X → Bool) (xs ys : List X) → list_all p xs ≡ true → list_all p ys ≡ true → list_all p (xs ++ ys) ≡ true
-all_append p xs ys e f = list_all-append p xs ys ∙ both_true (list_all p xs) (list_all p ys) e f
+all_append p xs ys e f = list_all-append p xs ys ∙ and_from (list_all p xs) (list_all p ys) e f
 
 pub all_at : (p : ℕ → Bool) → p 0 ≡ true → (xs : List ℕ) (i : ℕ) → list_all p xs ≡ true → p (get_or xs i 0) ≡ true
 all_at p none [] i e = none
@@ -47,14 +39,14 @@ all_joined p c f (x ∷ []) e each = (and_parts (list_all p (f x)) true each).0
 all_joined p c f (x ∷ y ∷ ys) e each =
     let h = and_parts (list_all p (f x)) (list_all (λ x. list_all p (f x)) (y ∷ ys)) each in
     all_append p (f x) (c ∷ join_with_byte c (map f (y ∷ ys))) h.0
-    (both_true (p c) (list_all p (join_with_byte c (map f (y ∷ ys)))) e (all_joined p c f (y ∷ ys) e h.1))
+    (and_from (p c) (list_all p (join_with_byte c (map f (y ∷ ys)))) e (all_joined p c f (y ∷ ys) e h.1))
 
 -- a text that lacks the byte is one part
 pub one_part : (c : ℕ) (text : List ℕ) → lacks c text ≡ true → slice_split (λ x. x == c) text ≡ text ∷ []
 one_part c [] e = refl
 one_part c (x ∷ text) e =
     let h = and_parts (not (x == c)) (lacks c text) e in
-    let other = is_false (x == c) h.0 in
+    let other = not-true (x == c) h.0 in
     rw (other, one_part c text h.1) refl
 
 -- and ends before the first such byte
@@ -62,7 +54,7 @@ pub first_part : (c : ℕ) (text rest : List ℕ) → lacks c text ≡ true → 
 first_part c [] rest e = let same : (c == c) ≡ true = eq-eqb c c refl in rw same refl
 first_part c (x ∷ text) rest e =
     let h = and_parts (not (x == c)) (lacks c text) e in
-    let other = is_false (x == c) h.0 in
+    let other = not-true (x == c) h.0 in
     rw (other, first_part c text rest h.1) refl
 
 -- parts that lack the byte, joined by it

@@ -6,6 +6,7 @@ use Rattle.std.specs.Str.Lines.{lines}
 use Rattle.std.proofs.lemmas.Bool.Decides.{nat_tests}
 use Rattle.std.proofs.lemmas.List.{append-nil}
 use Rattle.std.proofs.lemmas.List.Elements.{recursion_from_All}
+use Rattle.std.proofs.lemmas.Bool.{and_from}
 use Rattle.aoe_script.specs.declared.event.Event.{Event}
 use Rattle.aoe_script.specs.declared.line.Line.{Line}
 use Rattle.aoe_script.specs.declared.line.Line.TheVariants.{Asks, Declares}
@@ -21,7 +22,7 @@ use Rattle.aoe_script.specs.Words.{Text}
 use Rattle.aoe_script.proofs.EventBack.{event_is}
 use Rattle.aoe_script.proofs.ListedLemmas.{AddressLaw}
 use Rattle.aoe_script.proofs.NamedLemmas.{DeviceLaw}
-use Rattle.aoe_script.proofs.PlainLemmas.{both_true, is_word}
+use Rattle.aoe_script.proofs.PlainLemmas.{is_word}
 use Rattle.aoe_script.proofs.SetupBack.{setup_is}
 use Rattle.aoe_script.proofs.SpelledLemmas.{lines_back}
 use Rattle.aoe_script.proofs.AcceptedLemmas.{first_none, none_refused}
@@ -50,7 +51,7 @@ each_of P Q R weaker (x ∷ xs) h q = (weaker [] x (h 0) q.0, each_of (λ before
 module _ {X : Type 0} (ws : X → List Text) (line : X → Line) where
   all_words : (xs : List X) → AllByRecursion (λ x. IsSaid (ws x) (line x)) xs → list_all (λ x. list_all is_word (ws x)) xs ≡ true
   all_words [] h = refl
-  all_words (x ∷ xs) h = both_true (list_all is_word (ws x)) _ h.0.are_words (all_words xs h.1)
+  all_words (x ∷ xs) h = and_from (list_all is_word (ws x)) _ h.0.are_words (all_words xs h.1)
 
   lines_are : (xs : List X) (rest : List Text) → AllByRecursion (λ x. IsSaid (ws x) (line x)) xs
       → map line_of (map (λ x. spelled (ws x)) xs ++ rest) ≡ map line xs ++ map line_of rest

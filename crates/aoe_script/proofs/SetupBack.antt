@@ -2,21 +2,21 @@
 use Rattle.std.proofs.Common.{◌≡◌, ◌^◌, ◌<◌, ◌≤◌, ℕ, true, ◌&&◌, length, Option, Some, None, nat_le, refl, arith, lit<}
 use Rattle.std.specs.Prelude.{All}
 use Rattle.std.specs.List.{list_all}
-use Rattle.std.proofs.lemmas.Bool.{and_parts}
+use Rattle.std.proofs.lemmas.Bool.{and_from, and_parts}
 use Rattle.std.proofs.lemmas.Bool.Decides.{nat_tests}
 use Rattle.arrayvec.specs.ArrayVec.{ArrayVec}
 use Rattle.aoe_base.specs.declared.address.Mac.{Mac}
+use Rattle.aoe_base.specs.Addresses.{all_unique, is_individual}
 use Rattle.aoe_script.specs.declared.line.Line.TheVariants.{Declares}
 use Rattle.aoe_script.specs.declared.setup.Setup.{Setup}
 use Rattle.aoe_script.specs.declared.setup.Setup.TheVariants.{Life, Shelf, Slot, Host, Attach}
 use Rattle.aoe_script.specs.Classes.{is_name}
 use Rattle.aoe_script.specs.Forms.{said}
 use Rattle.aoe_script.specs.Print.{setup_words}
-use Rattle.aoe_script.specs.Rules.{all_unique, are_ports, is_individual, is_limit, is_setup, is_within}
+use Rattle.aoe_script.specs.Rules.{are_ports, is_limit, is_setup, is_within}
 use Rattle.aoe_script.specs.Types.{FitsSetup, IsAddress}
 use Rattle.aoe_script.proofs.ListedLemmas.{AddressLaw, macs_word, ports_back}
 use Rattle.aoe_script.proofs.NamedLemmas.{name_back, name_word}
-use Rattle.aoe_script.proofs.PlainLemmas.{both_true}
 use Rattle.aoe_script.proofs.SaidLemmas.{IsSaid, most_of, small_of}
 use Rattle.aoe_script.proofs.WrittenLemmas.{number_is, number_word}
 
@@ -32,7 +32,7 @@ module _ (law : AddressLaw) where
   unfolding said
   life_is ms small = record {
     said_is = rw (number_is ms small) refl;
-    are_words = both_true _ _ (number_word ms small) refl;
+    are_words = and_from _ _ (number_word ms small) refl;
     few = omega arith;
   }
 
@@ -41,8 +41,8 @@ module _ (law : AddressLaw) where
   unfolding said
   shelf_is name major ports mtu named high are low fits = record {
     said_is = rw (name_back name named, number_is major high, ports_back law ports.items (few_ports ports are).0 (few_ports ports are).1 fits, number_is mtu low) refl;
-    are_words = both_true _ _ (name_word name named) (both_true _ _ (number_word major high)
-        (both_true _ _ (macs_word law ports.items (few_ports ports are).0 fits) (both_true _ _ (number_word mtu low) refl)));
+    are_words = and_from _ _ (name_word name named) (and_from _ _ (number_word major high)
+        (and_from _ _ (macs_word law ports.items (few_ports ports are).0 fits) (and_from _ _ (number_word mtu low) refl)));
     few = omega arith;
   }
 
@@ -50,7 +50,7 @@ module _ (law : AddressLaw) where
   unfolding said
   slot_is shelf minor sectors named low small = record {
     said_is = rw (name_back shelf named, number_is minor low, number_is sectors small) refl;
-    are_words = both_true _ _ (name_word shelf named) (both_true _ _ (number_word minor low) (both_true _ _ (number_word sectors small) refl));
+    are_words = and_from _ _ (name_word shelf named) (and_from _ _ (number_word minor low) (and_from _ _ (number_word sectors small) refl));
     few = omega arith;
   }
 
@@ -59,7 +59,7 @@ module _ (law : AddressLaw) where
   unfolding said
   host_is name ports named are fits = record {
     said_is = rw (name_back name named, ports_back law ports.items (few_ports ports are).0 (few_ports ports are).1 fits) refl;
-    are_words = both_true _ _ (name_word name named) (both_true _ _ (macs_word law ports.items (few_ports ports are).0 fits) refl);
+    are_words = and_from _ _ (name_word name named) (and_from _ _ (macs_word law ports.items (few_ports ports are).0 fits) refl);
     few = omega arith;
   }
 
@@ -68,8 +68,8 @@ module _ (law : AddressLaw) where
   unfolding said
   limited_is name ports room dead named are high low fits = record {
     said_is = rw (name_back name named, ports_back law ports.items (few_ports ports are).0 (few_ports ports are).1 fits, number_is room high, number_is dead low) refl;
-    are_words = both_true _ _ (name_word name named) (both_true _ _ (macs_word law ports.items (few_ports ports are).0 fits)
-        (both_true _ _ (number_word room high) (both_true _ _ (number_word dead low) refl)));
+    are_words = and_from _ _ (name_word name named) (and_from _ _ (macs_word law ports.items (few_ports ports are).0 fits)
+        (and_from _ _ (number_word room high) (and_from _ _ (number_word dead low) refl)));
     few = omega arith;
   }
 
@@ -77,7 +77,7 @@ module _ (law : AddressLaw) where
   unfolding said
   attach_is host shelf minor named other low = record {
     said_is = rw (name_back host named, name_back shelf other, number_is minor low) refl;
-    are_words = both_true _ _ (name_word host named) (both_true _ _ (name_word shelf other) (both_true _ _ (number_word minor low) refl));
+    are_words = and_from _ _ (name_word host named) (and_from _ _ (name_word shelf other) (and_from _ _ (number_word minor low) refl));
     few = omega arith;
   }
 

@@ -2,11 +2,11 @@
 use Rattle.std.proofs.Common.{◌≡◌, ◌∙◌, ◌-◌, ◌==◌, ℕ, Bool, true, false, not, cond, List, [], ◌∷◌, ◌++◌, length, map, filter, take, refl, sym, ap, arith, nat_lt, append_assoc}
 use Rattle.std.specs.List.{flat_map, list_all, onto_first, slice_split}
 use Rattle.std.specs.Str.Lines.{lines, lines_of_parts, strip_carriage_return}
-use Rattle.std.proofs.lemmas.Bool.{and_parts}
+use Rattle.std.proofs.lemmas.Bool.{and_parts, not-true}
 use Rattle.std.proofs.lemmas.Bool.Decides.{nat_tests}
 use Rattle.aoe_script.specs.Print.{line_text, spaced, spelled}
 use Rattle.aoe_script.specs.Words.{words}
-use Rattle.aoe_script.proofs.PlainLemmas.{all_append, all_at, all_weaker, first_part, is_false, is_plain, is_word, one_part}
+use Rattle.aoe_script.proofs.PlainLemmas.{all_append, all_at, all_weaker, first_part, is_plain, is_word, one_part}
 
 plain_lacks : (c : ℕ) → is_plain c ≡ true → not (c == 32) ≡ true
 plain_lacks c e = grind (arith, nat_tests)
@@ -70,7 +70,7 @@ no_return c e = grind (arith, nat_tests)
 -- no carriage return stands at the end
 not_stripped : (text : List ℕ) → list_all is_of_line text ≡ true → strip_carriage_return text ≡ text
 not_stripped text e =
-    let other = is_false _ (all_at (λ c. not (c == 13)) refl text (length text - 1) (all_weaker is_of_line _ no_return text e)) in
+    let other = not-true _ (all_at (λ c. not (c == 13)) refl text (length text - 1) (all_weaker is_of_line _ no_return text e)) in
     ap (λ b. cond b (take (length text - 1) text) text) other
 
 -- what is cut is one part at least

@@ -3,17 +3,18 @@ use Rattle.std.proofs.Common.{◌≡◌, ◌+◌, ◌*◌, ◌/◌, ◌%◌, ◌
 use Rattle.std.specs.Prelude.{All, codes, decimal}
 use Rattle.std.specs.List.{AllByRecursion, flat_map, list_all}
 use Rattle.std.specs.Char.{digit_char, is_ascii_digit}
-use Rattle.std.proofs.lemmas.Bool.{and_parts, lt-ltb}
+use Rattle.std.proofs.lemmas.Bool.{and_from, and_parts, lt-ltb}
 use Rattle.std.proofs.lemmas.Bool.Decides.{nat_tests}
 use Rattle.std.proofs.lemmas.Fmt.{decimal_nonempty, digits_decimal, digits_value-decimal, length-decimal-le}
 use Rattle.std.proofs.lemmas.List.Elements.{recursion_from_All}
 use Rattle.std.proofs.lemmas.Str.{digit_value-digit_char}
 use Rattle.std.proofs.lemmas.Str.Parse.{IsNumeralModel, numerals_by_weight}
 use Rattle.aoe_base.specs.Decimal.{decimal_value, number_of}
-use Rattle.aoe_base.specs.Names.{is_hex_digit, pair_text}
+use Rattle.aoe_base.specs.Names.{pair_text}
+use Rattle.aoe_base.proofs.MacLemmas.{digit-is}
 use Rattle.aoe_script.specs.Classes.{at_most, byte_of, bytes_of, each, number, pair, pairs}
 use Rattle.aoe_script.specs.Print.{bytes_text}
-use Rattle.aoe_script.proofs.PlainLemmas.{all_append, all_weaker, both_true, is_part, is_plain, is_word}
+use Rattle.aoe_script.proofs.PlainLemmas.{all_append, all_weaker, is_part, is_plain, is_word}
 
 -- ---- numbers
 
@@ -34,7 +35,7 @@ digits_plain n small = all_weaker is_ascii_digit is_plain digit_plain (decimal n
 
 pub number_word : (n : ℕ) → n < 2 ^ 64 → is_word (decimal n) ≡ true
 number_word n small =
-    both_true _ _ (lt-ltb 0 _ (decimal_nonempty n small)) (all_weaker is_ascii_digit is_plain digit_plain (decimal n) (digits_are n small))
+    and_from _ _ (lt-ltb 0 _ (decimal_nonempty n small)) (all_weaker is_ascii_digit is_plain digit_plain (decimal n) (digits_are n small))
 
 pub number_back : (n max : ℕ) → n < 2 ^ 64 → n ≤ max → number_of (decimal n) max ≡ Some n
 number_back n max small most =
@@ -51,21 +52,18 @@ number_is n small = number_back n 18446744073709551615 small (omega (arith, smal
 
 -- ---- bytes
 
-hex_digit : (d : ℕ) → d < 16 → is_hex_digit (digit_char d) ≡ true
-hex_digit d small = grind arith
-
 hex_part : (d : ℕ) → d < 16 → is_part (digit_char d) ≡ true
 hex_part d small = grind (arith, nat_tests)
 
 pub pair_part : (b : ℕ) → b < 2 ^ 8 → list_all is_part (pair_text b) ≡ true
-pair_part b small = both_true _ _ (hex_part (b / 16) (omega (arith, small))) (both_true _ _ (hex_part (b % 16) (omega arith)) refl)
+pair_part b small = and_from _ _ (hex_part (b / 16) (omega (arith, small))) (and_from _ _ (hex_part (b % 16) (omega arith)) refl)
 
 pub pair_back : (b : ℕ) → b < 2 ^ 8 → pair (digit_char (b / 16)) (digit_char (b % 16)) ≡ Some b
 pair_back b small =
     let hs : b / 16 < 16 = omega (arith, small) in
     let ls : b % 16 < 16 = omega arith in
-    let hd = hex_digit (b / 16) hs in
-    let ld = hex_digit (b % 16) ls in
+    let hd = digit-is (b / 16) hs in
+    let ld = digit-is (b % 16) ls in
     let hv = digit_value-digit_char (b / 16) (omega (arith, hs)) in
     let lv = digit_value-digit_char (b % 16) (omega (arith, ls)) in
     let same : (b / 16) * 16 + b % 16 ≡ b = omega arith in
@@ -88,7 +86,7 @@ part_plain c e = (and_parts (is_plain c) (not (c == 44)) e).0
 -- digits are never a hyphen alone
 pairs_word : (bytes : List ℕ) (b : ℕ) → AllByRecursion (λ b. b < 2 ^ 8) (b ∷ bytes) → is_word (flat_map pair_text (b ∷ bytes)) ≡ true
 pairs_word bytes b small =
-    both_true _ _ (lt-ltb 0 _ (omega arith)) (all_weaker is_part is_plain part_plain (flat_map pair_text (b ∷ bytes)) (pairs_part (b ∷ bytes) small))
+    and_from _ _ (lt-ltb 0 _ (omega arith)) (all_weaker is_part is_plain part_plain (flat_map pair_text (b ∷ bytes)) (pairs_part (b ∷ bytes) small))
 
 pub byte_word : (b : ℕ) → b < 2 ^ 8 → is_word (pair_text b) ≡ true
 byte_word b small = all_weaker is_part is_plain part_plain (pair_text b) (pair_part b small)

@@ -10,7 +10,7 @@ use Rattle.aoe_base.specs.Names.{is_hex_digit, mac_of}
 use Rattle.aoe_base.specs.declared.address.Mac.{Mac}
 use Rattle.aoe_disk.specs.declared.loss.Loss.{Loss}
 use Rattle.aoe_disk.specs.declared.loss.Loss.TheVariants.{Keep as Kept, Old, Torn, Mix}
-use Rattle.aoe_initiator.specs.declared.op.Dir.{Dir}
+use Rattle.aoe_lists.specs.declared.dir.Dir.{Dir}
 use Rattle.aoe_script.specs.declared.event.Which.{Which}
 use Rattle.aoe_script.specs.declared.event.Which.TheVariants.{Store, Keep}
 use Rattle.aoe_script.specs.Words.{Text}

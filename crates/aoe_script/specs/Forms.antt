@@ -6,7 +6,7 @@ use Rattle.arrayvec.specs.ArrayVec.{ArrayVec}
 use Rattle.aoe_base.specs.Names.{device_of}
 use Rattle.aoe_base.specs.declared.address.Mac.{Mac}
 use Rattle.aoe_base.specs.declared.address.TargetId.{TargetId}
-use Rattle.aoe_initiator.specs.declared.op.Dir.{Dir}
+use Rattle.aoe_lists.specs.declared.dir.Dir.{Dir}
 use Rattle.aoe_script.specs.declared.event.Event.{Event}
 use Rattle.aoe_script.specs.declared.event.Event.TheVariants.{Read, Write, Flush, Identify, Config, Masks, Reserve, Tick, Deliver, Pass, Skip, Again, Inject, Fail, Stop, Crash}
 use Rattle.aoe_script.specs.declared.refusal.Why.TheVariants.{Word, Value}

@@ -1,12 +1,11 @@
 -- The spelling of lines: words that single spaces part, numbers without leading zeros.
 use Rattle.std.specs.Prelude.{ℕ, Bool, true, false, ◌==◌, List, [], ◌∷◌, ◌++◌, length, map, Option, Some, None, if◌then◌else◌, codes, decimal}
 use Rattle.std.specs.List.{flat_map, join_with_byte}
-use Rattle.aoe_base.specs.Names.{mac_text, pair_text}
+use Rattle.aoe_base.specs.Names.{device_text, mac_text, pair_text}
 use Rattle.aoe_base.specs.declared.address.Mac.{Mac}
-use Rattle.aoe_base.specs.declared.address.TargetId.{TargetId}
 use Rattle.aoe_disk.specs.declared.loss.Loss.{Loss}
 use Rattle.aoe_disk.specs.declared.loss.Loss.TheVariants.{Keep as Kept, Old, Torn, Mix}
-use Rattle.aoe_initiator.specs.declared.op.Dir.{Dir}
+use Rattle.aoe_lists.specs.declared.dir.Dir.{Dir}
 use Rattle.aoe_script.specs.declared.event.Event.{Event}
 use Rattle.aoe_script.specs.declared.event.Event.TheVariants.{Read, Write, Flush, Identify, Config, Masks, Reserve, Tick, Deliver, Pass, Skip, Again, Inject, Fail, Stop, Crash}
 use Rattle.aoe_script.specs.declared.event.Which.{Which}
@@ -22,10 +21,7 @@ use Rattle.aoe_script.specs.Words.{Text}
 abbrev pub between : ℕ → ℕ → Text
 between byte i = if i == 0 then [] else byte ∷ []
 
--- e, the shelf's number, a point and the slot's number
-abbrev pub device_text : TargetId → Text
-device_text dev = 101 ∷ (decimal dev.major ++ 46 ∷ decimal dev.minor)
-
+-- addresses, joined by commas (44)
 abbrev pub macs_text : List Mac → Text
 macs_text macs = join_with_byte 44 (map mac_text macs)
 

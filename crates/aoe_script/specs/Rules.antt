@@ -1,10 +1,11 @@
 -- What a line may say, by what stands before it: the first rule that doesn't hold.
-use Rattle.std.specs.Prelude.{ℕ, ◌+◌, ◌%◌, Bool, true, false, not, ◌&&◌, ◌||◌, ◌==◌, List, [], ◌∷◌, length, nat_lt, nat_le, slice_index, slice_range, count_by, sum_by, Option, Some, None, if◌then◌else◌}
+use Rattle.std.specs.Prelude.{ℕ, ◌+◌, Bool, true, false, not, ◌&&◌, ◌||◌, ◌==◌, List, length, nat_lt, nat_le, count_by, sum_by, Option, Some, None, if◌then◌else◌}
 use Rattle.std.specs.List.{list_all, list_any}
 use Rattle.std.specs.Str.{bytes_eq}
 use Rattle.arrayvec.specs.ArrayVec.{ArrayVec}
 use Rattle.aoe_base.specs.declared.address.Mac.{Mac}
 use Rattle.aoe_base.specs.declared.address.TargetId.{TargetId}
+use Rattle.aoe_base.specs.Addresses.{all_unique, holds, is_individual, source_of}
 use Rattle.aoe_script.specs.declared.event.Event.{Event}
 use Rattle.aoe_script.specs.declared.event.Event.TheVariants.{Read, Write, Flush, Identify, Config, Masks, Reserve, Tick, Deliver, Pass, Skip, Again, Inject, Fail, Stop, Crash}
 use Rattle.aoe_script.specs.declared.refusal.Why.{Why}
@@ -17,18 +18,6 @@ use Rattle.aoe_script.specs.Classes.{is_name}
 
 abbrev pub is_within : ℕ → ℕ → ℕ → Bool
 is_within least most n = nat_le least n && nat_le n most
-
--- one station's address: the lowest bit of its first byte is that of a group (IEEE 802, "individual/group")
-abbrev pub is_individual : Mac → Bool
-is_individual mac = slice_index mac.0 0 % 2 == 0
-
--- the address stands in the list
-abbrev pub holds : List Mac → Mac → Bool
-holds list mac = list_any (λ other. bytes_eq other.0 mac.0) list
-
-abbrev pub all_unique : List Mac → Bool
-all_unique [] = true
-all_unique (mac ∷ list) = not (holds list mac) && all_unique list
 
 -- the addresses of a station: one at least, none of a group, none twice
 unfoldable pub are_ports : ArrayVec Mac → Bool
@@ -194,10 +183,6 @@ unfoldable pub setup_why : List Setup → Bool → Setup → Option Why
 setup_why setups behind setup = unless (not (is_setup setup)) Value (unless behind Place (declared_why setups setup))
 
 -- ---- event lines
-
--- the source of a frame (IEEE 802.3)
-abbrev pub source_of : List ℕ → Mac
-source_of frame = record { 0 = slice_range frame 6 12 }
 
 -- the device to which the host has to be attached
 abbrev pub asked_why : List Setup → ArrayVec ℕ → TargetId → Option Why

@@ -2,7 +2,7 @@
 use crate::setup::Name;
 use aoe_base::{Blob, Mac, TargetId};
 use aoe_disk::Loss;
-use aoe_initiator::{Dir, MAX_DIRS};
+use aoe_lists::{Dir, MAX_DIRS};
 use arrayvec::ArrayVec;
 
 /// A disk of a device: that of its sectors, or that of its lists.

@@ -30,7 +30,7 @@ pub use laws::{printed_line_reads_back, printed_script_reads_back};
 pub use line::Line;
 pub use print::print_script;
 pub use refusal::{ScriptRefusal, Why};
-pub use script::{MAX_EVENTS, Script, read_script};
+pub use script::{LONGEST_TEXT, MAX_EVENTS, Script, read_script};
 pub use setup::{Name, Setup};
 
 #[cfg(test)]

@@ -7,7 +7,7 @@ ghost use Rattle.aoe_script.specs.Classes.{at_most, dir_of, dirs_of, each, list_
 
 use crate::cuts::from;
 use aoe_base::{Mac, Ports, read_mac};
-use aoe_initiator::{Dir, MAX_DIRS};
+use aoe_lists::{Dir, MAX_DIRS};
 use arrayvec::ArrayVec;
 
 /// The addresses that the parts of a text spell, where they are 64 at most.

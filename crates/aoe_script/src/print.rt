@@ -1,7 +1,8 @@
 //! The text of a script.
 ghost use Rattle.std.specs.Prelude.{◌≡◌, ◌≤◌, ◌++◌, ◌∷◌, [], decimal, length, true, IfOk, None, OnOk};
+ghost use Rattle.aoe_base.specs.Names.{device_text};
 ghost use Rattle.aoe_script.specs.Lines.{refusal, script_of};
-ghost use Rattle.aoe_script.specs.Print.{device_text, event_words, is_action, is_submission, optional_word, script_text, setup_words, spaced, spelled, which_text};
+ghost use Rattle.aoe_script.specs.Print.{event_words, is_action, is_submission, optional_word, script_text, setup_words, spaced, spelled, which_text};
 
 use crate::event::{Event, Which};
 use crate::laws::printed_script_reads_back;
@@ -12,7 +13,7 @@ use crate::spelling::{
     put_named, put_pair, put_reserve_words, put_which,
 };
 use aoe_base::{Blob, Mac, NoMemory, Ports, TargetId};
-use aoe_initiator::{Dir, MAX_DIRS};
+use aoe_lists::{Dir, MAX_DIRS};
 use arrayvec::ArrayVec;
 use std::alloc::Global;
 

@@ -1,13 +1,14 @@
 //! The ranges of words.
 ghost use Rattle.std.specs.Prelude.{◌≡◌, ◌==◌, nat_le, length, if◌then◌else◌};
 ghost use Rattle.std.specs.List.{list_all};
-ghost use Rattle.aoe_script.specs.Rules.{all_unique, are_ports, is_asked, is_device, is_event, is_individual, is_limit, is_setup, is_span, is_within};
+ghost use Rattle.aoe_script.specs.Rules.{are_ports, is_asked, is_device, is_event, is_limit, is_setup, is_span, is_within};
+ghost use Rattle.aoe_base.specs.Addresses.{all_unique, is_individual};
 
 use crate::classes::is_name;
 use crate::event::Event;
 use crate::setup::{Name, Setup};
-use aoe_base::{Blob, Mac, Ports, TargetId};
-use aoe_initiator::{Dir, MAX_DIRS};
+use aoe_base::{Blob, Mac, Ports, TargetId, all_unique};
+use aoe_lists::{Dir, MAX_DIRS};
 use arrayvec::ArrayVec;
 
 /// The first sector that has no 48-bit address.
@@ -20,28 +21,11 @@ fn is_within(least: u64, most: u64, n: u64) -> bool
     least <= n && n <= most
 }
 
-/// Whether an address is that of one station, and of no group.
-fn is_individual(mac: &Mac) -> bool
-    ensures { result ≡ is_individual mac.now }
-{
-    mac.0[0] % 2 == 0
-}
-
 /// Whether no address is that of a group.
 fn are_individual(ports: &[Mac]) -> bool
     ensures { result ≡ list_all is_individual ports.now }
 {
-    ports.iter().all(|mac| is_individual(mac))
-}
-
-/// Whether no address stands twice.
-fn all_unique(ports: &[Mac]) -> bool
-    ensures { result ≡ all_unique ports.now }
-{
-    match ports {
-        [first, rest @ ..] => !rest.contains(first) && all_unique(rest),
-        [] => true,
-    }
+    ports.iter().all(|mac| mac.is_individual())
 }
 
 /// Whether these can be the addresses of a station.

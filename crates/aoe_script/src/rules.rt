@@ -1,7 +1,8 @@
 //! What is wrong with a line, by what stands before it.
 ghost use Rattle.std.specs.Prelude.{◌≡◌, ◌≤◌, ◌+◌, slice_range, true, false, not, ◌||◌, ◌&&◌, length, None};
 ghost use Rattle.std.specs.List.{list_any};
-ghost use Rattle.aoe_script.specs.Rules.{are_too_many, asked_why, attaches, declared_why, event_why, first_of, has_major, has_port, is_event, is_full, is_host_named, is_shelf, is_shelf_named, is_slot, is_slot_of, is_station_named, is_taken, known_why, named_why, setup_why, source_of, unless};
+ghost use Rattle.aoe_base.specs.Addresses.{source_of};
+ghost use Rattle.aoe_script.specs.Rules.{are_too_many, asked_why, attaches, declared_why, event_why, first_of, has_major, has_port, is_event, is_full, is_host_named, is_shelf, is_shelf_named, is_slot, is_slot_of, is_station_named, is_taken, known_why, named_why, setup_why, unless};
 
 use crate::event::Event;
 use crate::refusal::Why;

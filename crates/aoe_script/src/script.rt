@@ -13,7 +13,7 @@ use std::alloc::Global;
 use std::marker::Model;
 
 /// The longest text of a script, in bytes.
-const LONGEST_TEXT: usize = 16_777_216;
+pub const LONGEST_TEXT: usize = 16_777_216;
 
 /// The most events of a script.
 pub const MAX_EVENTS: usize = 50_000;

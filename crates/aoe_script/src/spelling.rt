@@ -2,14 +2,14 @@
 ghost use Rattle.std.specs.Prelude.{◌≡◌, ◌++◌, ◌∷◌, ◌<◌, decimal, map, OnOk};
 ghost use Rattle.std.specs.List.{join_with_byte};
 ghost use Rattle.std.specs.Char.{digit_char};
-ghost use Rattle.aoe_base.specs.Names.{mac_text, pair_text};
-ghost use Rattle.aoe_script.specs.Print.{between, bytes_text, ccmd_text, config_words, device_text, dir_text, dirs_text, list_text, macs_text, masks_words, mode_text, rcmd_text, reserve_words, spaced, which_text};
+ghost use Rattle.aoe_base.specs.Names.{device_text, mac_text, pair_text};
+ghost use Rattle.aoe_script.specs.Print.{between, bytes_text, ccmd_text, config_words, dir_text, dirs_text, list_text, macs_text, masks_words, mode_text, rcmd_text, reserve_words, spaced, which_text};
 
 use crate::event::Which;
 use crate::setup::Name;
 use aoe_base::{Blob, Mac, NoMemory, TargetId};
 use aoe_disk::Loss;
-use aoe_initiator::{Dir, MAX_DIRS};
+use aoe_lists::{Dir, MAX_DIRS};
 use arrayvec::ArrayVec;
 use itoa::Buffer;
 

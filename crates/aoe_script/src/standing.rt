@@ -2,7 +2,8 @@
 //! question goes over all of them.
 ghost use Rattle.std.specs.Prelude.{◌≡◌, ◌+◌, ◌||◌, count_by, sum_by};
 ghost use Rattle.std.specs.List.{list_any};
-ghost use Rattle.aoe_script.specs.Rules.{are_too_many, attaches, has_attached, has_device, has_major, has_port, holds, is_attached, is_full, is_host, is_host_named, is_known, is_life, is_shelf, is_shelf_named, is_slot, is_slot_of, is_station_named, is_taken, same, sectors_of};
+ghost use Rattle.aoe_script.specs.Rules.{are_too_many, attaches, has_attached, has_device, has_major, has_port, is_attached, is_full, is_host, is_host_named, is_known, is_life, is_shelf, is_shelf_named, is_slot, is_slot_of, is_station_named, is_taken, same, sectors_of};
+ghost use Rattle.aoe_base.specs.Addresses.{holds};
 
 use crate::setup::{Name, Setup};
 use aoe_base::{Mac, TargetId};

@@ -9,7 +9,7 @@ use crate::network::{event_row, network_line};
 use crate::parts::{dirs_of, list_of};
 use crate::words::Words;
 use aoe_base::{Blob, Mac, NoMemory, read_device};
-use aoe_initiator::{Dir, MAX_DIRS};
+use aoe_lists::{Dir, MAX_DIRS};
 use arrayvec::ArrayVec;
 use std::alloc::Global;
 

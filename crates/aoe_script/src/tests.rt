@@ -367,3 +367,22 @@ fn prints_what_it_read(rt: HostRuntime) -> Result<(), Fail> {
     assert_eq!(rt; printed.bytes(), text.as_bytes());
     Ok(())
 }
+
+#[test]
+fn says_why_a_script_is_refused(rt: HostRuntime) -> Result<(), Fail> {
+    let bad = ScriptRefusal::BadLine {
+        line: 7,
+        why: Why::Word,
+    };
+    let cases = [
+        (ScriptRefusal::NoMemory, "no memory"),
+        (bad, "line 7 is bad"),
+        (ScriptRefusal::TooMany, "too many events"),
+        (ScriptRefusal::TooLong, "too many bytes"),
+    ];
+    for (refusal, text) in cases {
+        let told = format!(in rt.alloc(); "{refusal}")?;
+        assert_eq!(rt; told.as_str(), text);
+    }
+    Ok(())
+}

@@ -7,7 +7,7 @@ use crate::event::Event;
 use crate::setup::Setup;
 use aoe_base::Mac;
 use aoe_disk::Loss;
-use aoe_initiator::Dir;
+use aoe_lists::Dir;
 
 /// Each is below 256.
 fn bytes_fit(bytes: &[u8])

@@ -4,18 +4,19 @@ use Rattle.std.specs.Option.{option_map}
 use Rattle.aoe_base.specs.declared.address.Mac.{Mac}
 use Rattle.aoe_base.specs.declared.sectors.Span.{Span}
 use Rattle.aoe_frame.specs.Header.{fields, header_bytes, padded, reply_header}
-use Rattle.aoe_frame.specs.Refusal.{code_of_error}
+use Rattle.aoe_base.specs.Refusal.{code_of_error}
 use Rattle.aoe_frame.specs.declared.header.Header.{Header}
-use Rattle.aoe_frame.specs.declared.refusal.AoeError.{AoeError}
-use Rattle.aoe_frame.specs.declared.refusal.AoeError.TheVariants.{ConfigStringPresent}
+use Rattle.aoe_base.specs.declared.refusal.AoeError.{AoeError}
+use Rattle.aoe_base.specs.declared.refusal.AoeError.TheVariants.{ConfigStringPresent}
+use Rattle.aoe_base.specs.Addresses.{holds}
+use Rattle.aoe_base.specs.Names.{device_text}
 use Rattle.aoe_ata.specs.Args.{args_bytes}
 use Rattle.aoe_ata.specs.Identify.{page}
 use Rattle.aoe_ata.specs.Reply.{reply_of}
-use Rattle.aoe_ata.specs.Serial.{device_name, filled}
+use Rattle.aoe_ata.specs.Serial.{filled}
 use Rattle.aoe_ata.specs.declared.args.AtaArgs.{AtaArgs}
 use Rattle.aoe_ata.specs.declared.reply.AtaOutcome.{AtaOutcome}
 use Rattle.aoe_ata.specs.declared.reply.AtaOutcome.TheVariants.{Done}
-use Rattle.aoe_lists.specs.Addresses.{holds}
 use Rattle.aoe_target.specs.declared.station.Station.{Station}
 
 -- the port that a reply comes from: the one that the request went to, else the shelf's first
@@ -57,4 +58,4 @@ data_of span reply = slice_range reply 36 (36 + 512 * span.count)
 
 -- the identify page of the target, whose serial number is its name
 abbrev pub identity : Station → List ℕ
-identity station = page station.sectors (filled 20 (device_name station.id))
+identity station = page station.sectors (filled 20 (device_text station.id))

@@ -1,23 +1,21 @@
 -- What a target does with a frame: the first check that applies decides (AoEr11, "Common AoE header" and the four commands).
 use Rattle.std.specs.Prelude.{ℕ, ◌^◌, ◌<◌, Bool, ◌&&◌, ◌||◌, ◌==◌, not, List, drop, nat_lt, Result, Ok, Err, if◌then◌else◌, is_some}
 use Rattle.std.specs.Str.{bytes_eq}
-use Rattle.aoe_base.specs.declared.address.TheConstants.{BROADCAST}
 use Rattle.aoe_base.specs.declared.address.Mac.{Mac}
 use Rattle.aoe_frame.specs.Header.{head, fields}
 use Rattle.aoe_frame.specs.declared.header.Header.{Header}
-use Rattle.aoe_frame.specs.declared.refusal.AoeError.{AoeError}
-use Rattle.aoe_frame.specs.declared.refusal.AoeError.TheVariants.{UnrecognizedCommand, UnsupportedVersion, TargetIsReserved}
+use Rattle.aoe_base.specs.declared.refusal.AoeError.{AoeError}
+use Rattle.aoe_base.specs.declared.refusal.AoeError.TheVariants.{UnrecognizedCommand, UnsupportedVersion, TargetIsReserved}
+use Rattle.aoe_base.specs.Addresses.{broadcast, holds, same_address}
 use Rattle.aoe_ata.specs.declared.decision.AtaDecision.{AtaDecision}
 use Rattle.aoe_ata.specs.Decision.{decision, CanServe}
 use Rattle.aoe_lists.specs.declared.config.Facts.{Facts}
 use Rattle.aoe_lists.specs.Step.{Step}
-use Rattle.aoe_lists.specs.Addresses.{holds}
 use Rattle.aoe_lists.specs.Settings.{Settings, admits, may_use}
 use Rattle.aoe_lists.specs.Config.{config_answer}
 use Rattle.aoe_lists.specs.Masks.{mask_answer}
 use Rattle.aoe_lists.specs.Reserves.{reserve_answer}
 use Rattle.aoe_target.specs.declared.station.Station.{Station}
-use Rattle.aoe_target.specs.declared.station.TheConstants.{BUFFER_COUNT, FIRMWARE_VERSION}
 use Rattle.aoe_target.specs.declared.verdict.ListCommand.{ListCommand}
 use Rattle.aoe_target.specs.declared.verdict.ListCommand.TheVariants.{Config, Masks, Reserves}
 use Rattle.aoe_target.specs.declared.verdict.Verdict.{Verdict}
@@ -25,7 +23,7 @@ use Rattle.aoe_target.specs.declared.verdict.Verdict.TheVariants.{Ignored, Silen
 
 -- the request is for the target: to a port of its shelf or to all stations, no response, to its shelf or all, to its slot or all
 abbrev pub is_heard : Station → Header → Bool
-is_heard station h = (holds station.ports.items h.dst || bytes_eq h.dst.0 BROADCAST.0)
+is_heard station h = (holds station.ports.items h.dst || same_address h.dst broadcast)
     && nat_lt h.flags 8
     && (h.id.major == station.id.major || h.id.major == 65535)
     && (h.id.minor == station.id.minor || h.id.minor == 255)
@@ -57,9 +55,9 @@ judged station lists h args =
 unfoldable pub verdict : Station → Settings → List ℕ → Verdict
 verdict station lists f = if is_some (head f) then judged station lists (fields f) (drop 24 f) else Ignored
 
--- what the target says of itself
+-- what the target says of itself: it holds up to 16 requests, and its firmware is version 1
 abbrev pub facts : Station → Facts
-facts station = record { buffers = BUFFER_COUNT; firmware = FIRMWARE_VERSION; max = station.max }
+facts station = record { buffers = 16; firmware = 1; max = station.max }
 
 -- the written answer to a request that reads or changes the lists
 abbrev pub list_step : Station → Settings → Mac → List ℕ → ListCommand → Step

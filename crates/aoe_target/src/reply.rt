@@ -2,7 +2,7 @@
 ghost use Rattle.std.specs.Prelude.{◌≡◌, ◌^◌, ◌≤◌, ◌++◌, Some, None, length, slice_range};
 ghost use Rattle.std.specs.Option.{option_map};
 ghost use Rattle.aoe_frame.specs.Header.{fields, padded};
-ghost use Rattle.aoe_frame.specs.Refusal.{code_of_error};
+ghost use Rattle.aoe_base.specs.Refusal.{code_of_error};
 ghost use Rattle.aoe_ata.specs.Args.{args_bytes};
 ghost use Rattle.aoe_ata.specs.Reply.{reply_of};
 ghost use Rattle.aoe_ata.specs.declared.reply.AtaOutcome.{AtaOutcome};
@@ -12,9 +12,8 @@ use crate::Station;
 use aoe_ata::{
     ARGS_LEN, AtaArgs, AtaOutcome, args_array, identify_page, reply_args, serial_number,
 };
-use aoe_frame::{
-    AoeError, Frame, HEADER_LEN, Header, MIN_FRAME, append, header_array, pad, refill, turn_round,
-};
+use aoe_base::{AoeError, append};
+use aoe_frame::{Frame, HEADER_LEN, Header, MIN_FRAME, header_array, pad, refill, turn_round};
 
 /// Where the data of a reply stand.
 pub(crate) const DATA_AT: usize = HEADER_LEN + ARGS_LEN;

@@ -1,6 +1,6 @@
 //! What of a target never changes.
 ghost use Rattle.std.specs.Prelude.{◌≡◌};
-ghost use Rattle.aoe_lists.specs.Addresses.{holds};
+ghost use Rattle.aoe_base.specs.Addresses.{holds};
 ghost use Rattle.aoe_target.specs.Verdict.{is_heard, facts};
 ghost use Rattle.aoe_target.specs.Reply.{reply_port};
 

@@ -8,8 +8,8 @@ ghost use Rattle.aoe_target.specs.Verdict.{ata_verdict, judged, list_step, CanAc
 use crate::Station;
 use crate::scratch::Scratch;
 use aoe_ata::{AtaDecision, decide};
-use aoe_base::Mac;
-use aoe_frame::{AoeError, HEADER_LEN, Header, read_header};
+use aoe_base::{AoeError, Mac};
+use aoe_frame::{HEADER_LEN, Header, read_header};
 use aoe_lists::{Answer, Lists, admits, config_step, mask_step, may_use, reserve_step};
 
 /// The command "ATA" (AoEr11, "Command").

@@ -2,7 +2,7 @@
 use Rattle.std.specs.Prelude.{ℕ, ◌≡◌, ◌≢◌, ◌/◌, ◌==◌, Bool, true, List, [], ◌∷◌, ◌++◌, length, map, reverse, Some, if◌then◌else◌, is_some, codes, decimal, slice_index, ⊤}
 use Rattle.std.specs.List.{flat_map, join_with_byte}
 use Rattle.arrayvec.specs.ArrayVec.{ArrayVec}
-use Rattle.aoe_base.specs.Names.{pair_text}
+use Rattle.aoe_base.specs.Names.{device_text, pair_text}
 use Rattle.aoe_base.specs.declared.address.Mac.{Mac}
 use Rattle.aoe_base.specs.declared.address.TargetId.{TargetId}
 use Rattle.aoe_history.specs.Asks.{op_of}
@@ -17,7 +17,7 @@ use Rattle.aoe_initiator.specs.declared.outcome.Outcome.TheVariants.{Read as Gav
 use Rattle.aoe_initiator.specs.declared.refusal.SubmitRefusal.{SubmitRefusal}
 use Rattle.aoe_initiator.specs.declared.refusal.SubmitRefusal.TheVariants.{NoMemory, OutOfRange, TooLong, Backlog, Empty}
 use Rattle.aoe_lists.specs.Settings.{Settings}
-use Rattle.aoe_script.specs.Print.{bytes_text, device_text, event_words, line_text, which_text}
+use Rattle.aoe_script.specs.Print.{bytes_text, event_words, line_text, which_text}
 use Rattle.aoe_script.specs.Rules.{is_event}
 use Rattle.aoe_script.specs.Words.{Text}
 use Rattle.aoe_script.specs.declared.event.Event.{Event}

@@ -1,6 +1,7 @@
 //! The text of what happened.
 ghost use Rattle.std.specs.Prelude.{◌≡◌, ◌++◌, ◌∷◌, [], codes, decimal, if◌then◌else◌, IfOk, OnOk};
-ghost use Rattle.aoe_script.specs.Print.{device_text, spaced, spelled, which_text};
+ghost use Rattle.aoe_base.specs.Names.{device_text};
+ghost use Rattle.aoe_script.specs.Print.{spaced, spelled, which_text};
 ghost use Rattle.aoe_transcript.specs.Print.{addresses_text, armed_text, entry_text, entry_words, fate_words, list_words, outcome_words, refusal_words, CanPrint, HasCause};
 
 use crate::outcome::{put_fate, put_outcome};

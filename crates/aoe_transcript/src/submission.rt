@@ -1,7 +1,7 @@
 //! The lines of what hosts were asked for.
 ghost use Rattle.std.specs.Prelude.{◌≡◌, ◌++◌, ◌∷◌, ◌/◌, [], codes, decimal, length, slice_index, OnOk};
-ghost use Rattle.aoe_base.specs.Names.{pair_text};
-ghost use Rattle.aoe_script.specs.Print.{device_text, event_words, spaced, spelled};
+ghost use Rattle.aoe_base.specs.Names.{device_text, pair_text};
+ghost use Rattle.aoe_script.specs.Print.{event_words, spaced, spelled};
 ghost use Rattle.aoe_transcript.specs.Print.{asking, refusal_words, submit_words, HasCause};
 
 use aoe_base::{Blob, NoMemory, Span, TargetId};

@@ -9,6 +9,7 @@ use Rattle.std.proofs.lemmas.Option.{slice_get_within}
 use Rattle.std.proofs.lemmas.List.{length-map}
 use Rattle.arrayvec.specs.ArrayVec.{ArrayVec}
 use Rattle.aoe_base.specs.declared.address.Mac.{Mac}
+use Rattle.aoe_base.specs.Addresses.{IsDistinct}
 use Rattle.aoe_history.specs.Setup.{host_called, HostSetup, IsSetup}
 use Rattle.aoe_hosts.proofs.AddressLemmas.{host-addresses, remote-addresses}
 use Rattle.aoe_hosts.proofs.Apart.{settled-new}
@@ -19,7 +20,6 @@ use Rattle.aoe_initiator.specs.declared.refusal.AttachRefusal.TheVariants.{Alrea
 use Rattle.aoe_initiator.specs.Host.{new_host, Matches}
 use Rattle.aoe_initiator.specs.HostLaw.{has_id, same_id}
 use Rattle.aoe_initiator.specs.HostLog.{Event}
-use Rattle.aoe_paths.specs.PathTable.{IsDistinct}
 use Rattle.aoe_layout.specs.Layout.{about, attached_to, default_dead, default_life, default_room, devices_of, host_in, host_of, life_in, setup_of, slot_named}
 use Rattle.aoe_layout.specs.Stations.{IsDevice}
 use Rattle.aoe_layout.specs.Stations.{IsHost as HasWords}

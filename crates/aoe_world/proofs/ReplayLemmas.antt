@@ -26,7 +26,7 @@ use Rattle.aoe_history.specs.Setup.{device_place, host_called, is_called, is_por
 use Rattle.aoe_frame.specs.Header.{fields}
 use Rattle.aoe_history.specs.Asks.{submission_in}
 use Rattle.aoe_hosts.specs.Host.{NamedHost}
-use Rattle.aoe_initiator.specs.declared.op.Dir.{Dir}
+use Rattle.aoe_lists.specs.declared.dir.Dir.{Dir}
 use Rattle.aoe_initiator.specs.declared.op.Op.TheVariants as op
 use Rattle.aoe_initiator.specs.declared.device.Attached.{Attached}
 use Rattle.aoe_initiator.specs.declared.device.Device.{Device}

@@ -7,7 +7,7 @@ use Rattle.aoe_initiator.specs.declared.device.Attached.{Attached}
 use Rattle.aoe_initiator.specs.declared.device.Device.{Device}
 use Rattle.aoe_initiator.specs.HostLaw.{attach_refusal}
 use Rattle.aoe_layout.specs.Layout.{host_in, majors_of, setup_of, stations_of, Placed}
-use Rattle.aoe_paths.specs.PathTable.{IsDistinct}
+use Rattle.aoe_base.specs.Addresses.{IsDistinct}
 use Rattle.aoe_racks.specs.Rack.{MemoryRack, Serves}
 use Rattle.aoe_script.specs.declared.setup.Setup.{Setup as Line}
 use Rattle.aoe_world.specs.declared.place.Place.{Place}

@@ -4,11 +4,10 @@ use Rattle.std.specs.List.{filter}
 use Rattle.std.specs.Option.{option_map_or}
 use Rattle.arrayvec.specs.ArrayVec.{ArrayVec}
 use Rattle.aoe_base.specs.declared.address.Mac.{Mac}
-use Rattle.aoe_base.specs.declared.address.TheConstants.{BROADCAST}
+use Rattle.aoe_base.specs.Addresses.{broadcast, holds, same_address}
 use Rattle.aoe_frame.specs.Header.{fields}
 use Rattle.aoe_history.specs.Asks.{submission_in}
 use Rattle.aoe_layout.specs.Layout.{station_named, stations_of, Placed}
-use Rattle.aoe_lists.specs.Addresses.{holds, same_address}
 use Rattle.aoe_script.specs.declared.event.Event.{Event}
 use Rattle.aoe_script.specs.declared.event.Event.TheVariants as event
 use Rattle.aoe_script.specs.declared.setup.Setup.{Setup as Line}
@@ -25,7 +24,7 @@ use Rattle.aoe_history.specs.Setup.{Setup}
 -- a frame with this destination and this source is for the station with these ports: one of them is the destination; a frame for all
 -- is for every station but its source
 abbrev pub is_for : Mac → Mac → List Mac → Bool
-is_for dst src ports = if same_address dst BROADCAST then not (holds ports src) else holds ports dst
+is_for dst src ports = if same_address dst broadcast then not (holds ports src) else holds ports dst
 
 abbrev pub gets : List ℕ → Placed → Bool
 gets f place = is_for (fields f).dst (fields f).src place.ports

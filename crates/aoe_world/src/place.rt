@@ -1,6 +1,6 @@
 //! Where the stations of a world stand, and which frames they get.
 ghost use Rattle.std.specs.Prelude.{◌≡◌};
-ghost use Rattle.aoe_lists.specs.Addresses.{holds};
+ghost use Rattle.aoe_base.specs.Addresses.{holds};
 ghost use Rattle.aoe_world.specs.Schedule.{is_for};
 
 use aoe_base::{BROADCAST, Mac, Ports};

@@ -1,9 +1,9 @@
 use Rattle.std.proofs.Common.{◌∙◌, ℕ, List, [], get_or, ap, sym, arith, rules}
 use Rattle.std.proofs.lemmas.Grind.{common_steps}
 use Rattle.std.proofs.lemmas.List.{map_push}
-use Rattle.aoe_lists.specs.Addresses.{holds, all_unique}
 use Rattle.aoe_lists.specs.Reserves.{addresses}
 use Rattle.aoe_base.specs.declared.address.Mac.{Mac}
+use Rattle.aoe_base.specs.Addresses.{all_unique, holds}
 use Rattle.aoe_lists.proofs.AddressLemmas.{all_unique-append}
 use Rattle.aoe_keep.proofs.Uniqueness.{twice_at}
 use Rattle.aoe_keep.proofs.body.read_addresses.Goals as goal

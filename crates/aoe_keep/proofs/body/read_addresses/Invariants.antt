@@ -1,5 +1,5 @@
 use Rattle.std.proofs.Common.{◌≡◌, take, length, true}
-use Rattle.aoe_lists.specs.Addresses.{all_unique}
+use Rattle.aoe_base.specs.Addresses.{all_unique}
 use Rattle.aoe_lists.specs.Reserves.{addresses}
 use Rattle.aoe_keep.proofs.body.read_addresses.Given as goal
 

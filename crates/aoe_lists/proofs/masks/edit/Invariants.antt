@@ -1,5 +1,5 @@
 use Rattle.std.proofs.Common.{◌≡◌, true, drop, map}
-use Rattle.aoe_lists.specs.Addresses.{all_unique}
+use Rattle.aoe_base.specs.Addresses.{all_unique}
 use Rattle.aoe_lists.specs.Masks.{directive_of, after_directives}
 use Rattle.aoe_lists.proofs.masks.edit.Given as goal
 

@@ -1,8 +1,9 @@
 use Rattle.std.proofs.Common.{ℕ, ◌≡◌, ◌+◌, ◌*◌, length, Some, None, ap, sym, ◌∙◌}
 use Rattle.std.specs.Prelude.{position, slice_get, bytes_eq}
-use Rattle.aoe_paths.specs.PathTable.{PathTable, IsDistinct}
+use Rattle.aoe_paths.specs.PathTable.{PathTable}
 use Rattle.aoe_paths.proofs.PairLemmas.{pair-split, port-found, port-missing, pair-of-number, one-number}
 use Rattle.aoe_paths.proofs.paths.Paths.find.Goals as goal
+use Rattle.aoe_base.specs.Addresses.{IsDistinct}
 
 pub returns-in_err-local-clause-none : goal.returns-in_err-local-clause-none
 returns-in_err-local-clause-none c =

@@ -1,7 +1,7 @@
 -- The codes of the errors that a reply can bear (AoEr11, "Error").
 use Rattle.std.specs.Prelude.{ℕ}
-use Rattle.aoe_frame.specs.declared.refusal.AoeError.{AoeError}
-use Rattle.aoe_frame.specs.declared.refusal.AoeError.TheVariants.{UnrecognizedCommand, BadArgument, DeviceUnavailable, ConfigStringPresent, UnsupportedVersion, TargetIsReserved}
+use Rattle.aoe_base.specs.declared.refusal.AoeError.{AoeError}
+use Rattle.aoe_base.specs.declared.refusal.AoeError.TheVariants.{UnrecognizedCommand, BadArgument, DeviceUnavailable, ConfigStringPresent, UnsupportedVersion, TargetIsReserved}
 
 abbrev pub code_of_error : AoeError → ℕ
 code_of_error UnrecognizedCommand = 1

@@ -1,6 +1,6 @@
 //! The errors that a reply can bear.
 ghost use Rattle.std.specs.Prelude.{◌≡◌};
-ghost use Rattle.aoe_frame.specs.Refusal.{code_of_error};
+ghost use Rattle.aoe_base.specs.Refusal.{code_of_error};
 
 /// Why a target refuses a request (AoEr11, "Error").
 #[derive(Clone, Copy, Debug, PartialEq, Eq, Hash)]
