@@ -74,7 +74,7 @@ impl Net {
     ///
     /// Frames keep the order of their times: `now` isn't before the latest sending.
     pub fn send(&mut self, now: Millis, frame: &[u8]) -> Result<FrameNo, NetRefusal>
-        requires len { length frame.now ≤ MAX_FRAME_LEN }
+        requires len { length frame.now ≤ 9018 }
         requires time { self.old.latest ≤ now.0 }
         ensures sent { OnOk result (self.new ≡ with_frame self.old now.0 frame.now) }
         ensures number { IfOk result (λ number. number.0 ≡ length self.new.sent) }
@@ -94,7 +94,7 @@ impl Net {
 
     /// Sends a frame whose bytes somebody else has too.
     pub fn send_shared(&mut self, now: Millis, frame: FrameBytes) -> Result<FrameNo, NetRefusal>
-        requires len { length frame ≤ MAX_FRAME_LEN }
+        requires len { length frame ≤ 9018 }
         requires time { self.old.latest ≤ now.0 }
         ensures sent { OnOk result (self.new ≡ with_frame self.old now.0 frame) }
         ensures number { IfOk result (λ number. number.0 ≡ length self.new.sent) }
@@ -150,7 +150,7 @@ impl Net {
     /// How many frames were sent: the number of the latest one.
     pub fn count(&self) -> u32
         ensures count { result ≡ length self.now.sent }
-        ensures bound { result ≤ MAX_FRAMES }
+        ensures bound { result ≤ 200000 }
     {
         self.frames.len() as u32
     }
@@ -158,7 +158,7 @@ impl Net {
     /// How many bytes the frames have together.
     pub fn total_bytes(&self) -> u64
         ensures total { result ≡ total_bytes self.now }
-        ensures bound { result ≤ MAX_BYTES }
+        ensures bound { result ≤ 536870912 }
     {
         self.total
     }
@@ -214,20 +214,15 @@ mod tests {
     }
 
     #[test]
-    fn is_full_at_the_limit(rt: HostRuntime) -> Result<(), Fail> {
-        let mut net = Net::new(rt.alloc(), Millis(2000));
-        for _ in 0..MAX_FRAMES {
-            assert!(rt; net.send(Millis(0), b"x").is_ok());
-        }
-        assert_eq!(rt; net.send(Millis(0), b"x"), Err(NetRefusal::Full));
-        assert_eq!(rt; net.count(), 200_000);
-        Ok(())
-    }
-
-    #[test]
     fn says_why(rt: HostRuntime) -> Result<(), Fail> {
-        let full = format!(in rt.alloc(); "{}", NetRefusal::Full)?;
-        assert_eq!(rt; full.as_str(), "the network is full");
+        let cases = [
+            (NetRefusal::Full, "the network is full"),
+            (NetRefusal::NoMemory, "no memory"),
+        ];
+        for (refusal, text) in cases {
+            let told = format!(in rt.alloc(); "{refusal}")?;
+            assert_eq!(rt; told.as_str(), text);
+        }
         Ok(())
     }
 }

@@ -7,9 +7,9 @@ use Rattle.clap.specs.Words.{Row, Text}
 use Rattle.aoe_base.specs.Decimal.{number_of}
 use Rattle.aoe_base.specs.Names.{id_of}
 use Rattle.aoe_base.specs.declared.address.TargetId.{TargetId}
-use Rattle.aoe_words.specs.declared.values.TheConstants.{DEFAULT_PORT}
 use Rattle.aoe_words.specs.declared.command.Command.{Command}
 use Rattle.aoe_words.specs.declared.command.Command.TheVariants.{Answer}
+use Rattle.aoe_words.specs.Values.{default_port}
 use Rattle.aoe_words.specs.Words.{command, file_names, files_of, is_plain, is_word, plain_answer, plain_files, spelled}
 use Rattle.aoe_words.proofs.PlainLemmas.{found, plain_parsed}
 
@@ -52,7 +52,7 @@ module _ (x1 x2 x3 x4 : ℕ) (t1 t2 t3 t4 : Text) (p1 : is_plain (x1 ∷ t1) ≡
     where
       go : (m n : Option ℕ)
           → option_map with_rows (option_map Answer (option_and_then (λ major. option_and_then (λ minor.
-          Some (record { id = record { major = major; minor = minor }; port = DEFAULT_PORT; mtu = 1500 })) n) m))
+          Some (record { id = record { major = major; minor = minor }; port = default_port; mtu = 1500 })) n) m))
           ≡ option_map spelling (option_and_then (λ major. option_and_then (λ minor. Some record { major = major; minor = minor }) n) m)
       go None n = refl
       go (Some major) None = refl

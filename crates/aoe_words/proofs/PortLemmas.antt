@@ -8,7 +8,8 @@ use Rattle.std.proofs.lemmas.Bool.Decides.{nat_tests}
 use Rattle.clap.specs.Words.{Text}
 use Rattle.aoe_base.specs.declared.address.Mac.{Mac}
 use Rattle.aoe_base.specs.Names.{mac_of}
-use Rattle.aoe_words.specs.Values.{all_unique, each_port, is_individual, port_of, up_to_four}
+use Rattle.aoe_base.specs.Addresses.{all_unique, is_individual}
+use Rattle.aoe_words.specs.Values.{each_port, port_of, up_to_four}
 use Rattle.aoe_words.specs.Words.{ArePorts}
 
 -- n parts were read, and spelled these ports

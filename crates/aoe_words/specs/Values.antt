@@ -1,32 +1,23 @@
 -- The values that words have: numbers, and the addresses of ports.
-use Rattle.std.specs.Prelude.{ℕ, ◌%◌, Bool, true, not, ◌&&◌, ◌==◌, List, [], ◌∷◌, length, nat_le, slice_index, Option, Some, None, if◌then◌else◌, option_and_then, option_map}
-use Rattle.std.specs.List.{list_any, slice_split}
-use Rattle.std.specs.Str.{bytes_eq}
+use Rattle.std.specs.Prelude.{ℕ, ◌==◌, List, [], ◌∷◌, length, nat_le, Option, Some, None, if◌then◌else◌, option_and_then, option_map}
+use Rattle.std.specs.List.{slice_split}
 use Rattle.clap.specs.Words.{Text}
 use Rattle.aoe_base.specs.Decimal.{number_of}
 use Rattle.aoe_base.specs.declared.address.Mac.{Mac}
+use Rattle.aoe_base.specs.Addresses.{all_unique, is_individual}
 use Rattle.aoe_base.specs.Names.{mac_of}
 
 -- the number from least to most that a text spells, or nothing
 abbrev pub number_within : ℕ → ℕ → Text → Option ℕ
 number_within least most text = option_and_then (λ n. if nat_le least n then Some n else None) (number_of text most)
 
--- one station's address: the lowest bit of its first byte is that of a group (IEEE 802, "individual/group")
-abbrev pub is_individual : Mac → Bool
-is_individual mac = slice_index mac.0 0 % 2 == 0
+-- the port where none is named: an address that its owner chose (IEEE 802, "locally administered")
+abbrev pub default_port : Mac
+default_port = record { 0 = 2 ∷ 0 ∷ 0 ∷ 0 ∷ 0 ∷ 1 ∷ [] }
 
 -- the address of a port that a text spells, or nothing
 abbrev pub port_of : Text → Option Mac
 port_of text = option_and_then (λ mac. if is_individual mac then Some mac else None) (mac_of text)
-
--- the address stands in the list
-abbrev pub holds : List Mac → Mac → Bool
-holds list mac = list_any (λ other. bytes_eq other.0 mac.0) list
-
--- no address stands twice
-abbrev pub all_unique : List Mac → Bool
-all_unique [] = true
-all_unique (mac ∷ list) = not (holds list mac) && all_unique list
 
 -- the addresses of the ports that texts spell, or nothing where one spells none
 abbrev pub each_port : List Text → Option (List Mac)

@@ -9,9 +9,9 @@ use Rattle.clap.specs.Words.{Row, Text, all_of, fault_of, first_of, subcommand_o
 use Rattle.aoe_base.specs.Decimal.{number_of}
 use Rattle.aoe_base.specs.declared.address.Mac.{Mac}
 use Rattle.aoe_base.specs.declared.address.TargetId.{TargetId}
+use Rattle.aoe_base.specs.Addresses.{all_unique, is_individual}
 use Rattle.aoe_words.specs.Apps.{aoe_app}
-use Rattle.aoe_words.specs.Values.{all_unique, is_individual, number_within, port_of, ports_of}
-use Rattle.aoe_words.specs.declared.values.TheConstants.{DEFAULT_PORT}
+use Rattle.aoe_words.specs.Values.{default_port, number_within, port_of, ports_of}
 use Rattle.aoe_words.specs.declared.command.Answer.{Answer as Answers}
 use Rattle.aoe_words.specs.declared.command.Serve.{Serve as Serves}
 use Rattle.aoe_words.specs.declared.command.PortWords.{PortWords}
@@ -68,7 +68,7 @@ answer_of rows =
     if not (length (files rows) == 2) then None else
     option_and_then (λ major. option_and_then (λ minor. option_and_then (λ port. option_map (λ mtu.
     record { id = record { major = major; minor = minor }; port = port; mtu = mtu })
-    (mtu_of rows)) (given_or (codes "port") port_of DEFAULT_PORT rows)) (slot_of rows)) (shelf_of rows)
+    (mtu_of rows)) (given_or (codes "port") port_of default_port rows)) (slot_of rows)) (shelf_of rows)
 
 -- the ends of the link of serve
 abbrev pub link : List Row → Option PortWords
@@ -86,7 +86,7 @@ serve_of rows =
     option_and_then (λ link. option_and_then (λ shelf. option_and_then (λ ports. option_and_then (λ mtu. option_and_then (λ frames. option_map (λ idle.
     record { shelf = shelf; slots = length (files rows) / 2; ports = record { items = ports }; mtu = mtu; frames = frames; idle = idle })
     (given_or (codes "idle") (number_within 1 1000000) 3000 rows)) (given_or (codes "frames") (number_within 1 4294967295) 4294967295 rows))
-    (mtu_of rows)) (given_or (codes "ports") ports_of (DEFAULT_PORT ∷ []) rows)) (shelf_of rows)) (link rows)
+    (mtu_of rows)) (given_or (codes "ports") ports_of (default_port ∷ []) rows)) (shelf_of rows)) (link rows)
 
 -- the command of this name
 abbrev pub command_of : Text → List Row → Option Command
@@ -171,7 +171,7 @@ is_plain word = nat_lt 0 (length word) && nat_le (length word) 4096 && not (slic
 
 -- what `answer` asks for where no option is given, and over which files
 abbrev pub plain_answer : TargetId → Command
-plain_answer id = Answer (record { id = id; port = DEFAULT_PORT; mtu = 1500 })
+plain_answer id = Answer (record { id = id; port = default_port; mtu = 1500 })
 
 abbrev pub plain_files : Option TargetId → Text → Text → List Text
 plain_files None file keep = []

@@ -1,10 +1,11 @@
 //! Lists of ports as text.
 ghost use Rattle.std.specs.Prelude.{◌≡◌, ◌==◌, option_map, true, IfSome};
 ghost use Rattle.std.specs.List.{slice_split};
-ghost use Rattle.aoe_words.specs.Values.{all_unique, each_port, is_individual, port_of, ports_of, up_to_four};
+ghost use Rattle.aoe_words.specs.Values.{each_port, port_of, ports_of, up_to_four};
 ghost use Rattle.aoe_words.specs.Words.{ArePorts};
+ghost use Rattle.aoe_base.specs.Addresses.{all_unique, is_individual};
 
-use aoe_base::{Mac, Ports, read_mac};
+use aoe_base::{Mac, Ports, all_unique, read_mac};
 
 /// The address of a port: of one station, and of no group.
 pub(crate) fn read_port(text: &[u8]) -> Option<Mac>
@@ -12,17 +13,7 @@ pub(crate) fn read_port(text: &[u8]) -> Option<Mac>
     ensures individual { IfSome result (λ port. is_individual port ≡ true) }
 {
     let mac = read_mac(text)?;
-    if mac.0[0] % 2 == 0 { Some(mac) } else { None }
-}
-
-/// Whether no address stands twice.
-fn all_unique(ports: &[Mac]) -> bool
-    ensures { result ≡ all_unique ports.now }
-{
-    match ports {
-        [first, rest @ ..] => !rest.contains(first) && all_unique(rest),
-        [] => true,
-    }
+    if mac.is_individual() { Some(mac) } else { None }
 }
 
 /// The addresses of ports that the parts of a text spell, where they are four at most.

@@ -2,7 +2,8 @@
 ghost use Rattle.std.specs.Prelude.{◌≡◌, ◌≤◌, [], ◌∷◌, codes, map, option_map, true, IfSome};
 ghost use Rattle.clap.specs.Words.{all_of, first_of, found_of, rows_of};
 ghost use Rattle.aoe_base.specs.Decimal.{number_of};
-ghost use Rattle.aoe_words.specs.Values.{is_individual, number_within, port_of, ports_of};
+ghost use Rattle.aoe_base.specs.Addresses.{is_individual};
+ghost use Rattle.aoe_words.specs.Values.{default_port, number_within, port_of, ports_of};
 ghost use Rattle.aoe_words.specs.Words.{ArePorts, given, given_or};
 
 use crate::ports::{read_port, read_ports};
@@ -69,7 +70,7 @@ pub(crate) fn number_or(found: &ArgMatches, id: &str, option: &NumberOption) -> 
 
 /// The address of a port.
 pub(crate) fn port_or_default(found: &ArgMatches, id: &str) -> Option<Mac>
-    ensures value { result ≡ given_or id.now port_of DEFAULT_PORT (rows_of (found_of found.now)) }
+    ensures value { result ≡ given_or id.now port_of default_port (rows_of (found_of found.now)) }
     ensures individual { IfSome result (λ port. is_individual port ≡ true) }
 {
     match text(found, id) {
@@ -80,7 +81,7 @@ pub(crate) fn port_or_default(found: &ArgMatches, id: &str) -> Option<Mac>
 
 /// The one default port.
 fn default_ports() -> Ports
-    ensures { result.items ≡ DEFAULT_PORT ∷ [] }
+    ensures { result.items ≡ default_port ∷ [] }
 {
     let mut ports = Ports::new();
     ports.push(DEFAULT_PORT);
@@ -89,7 +90,7 @@ fn default_ports() -> Ports
 
 /// The addresses of ports.
 pub(crate) fn ports_or_default(found: &ArgMatches, id: &str) -> Option<Ports>
-    ensures value { option_map (λ ports. ports.items) result ≡ given_or id.now ports_of (DEFAULT_PORT ∷ []) (rows_of (found_of found.now)) }
+    ensures value { option_map (λ ports. ports.items) result ≡ given_or id.now ports_of (default_port ∷ []) (rows_of (found_of found.now)) }
     ensures ports { IfSome result (λ ports. ArePorts ports.items) }
 {
     match text(found, id) {
