@@ -82,7 +82,7 @@ pub enum Entry {
         outcome: Boxed<Outcome>,
     },
 
-    /// So many milliseconds went by.
+    /// Time went by, in milliseconds.
     Ticked {
         ms: u64,
     },

@@ -39,7 +39,7 @@ impl History {
         self.entries.len()
     }
 
-    /// The entry with so many before it.
+    /// The entry with `i` entries before it.
     pub fn entry(&self, i: usize) -> &Entry
         requires { i < length self.now }
         ensures { slice_get (reverse self.now) i ≡ Some result.now }

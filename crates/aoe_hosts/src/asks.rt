@@ -10,7 +10,7 @@ use aoe_script::Event;
 use arrayvec::ArrayVec;
 use std::alloc::Global;
 
-/// The bytes of a write of so many sectors: every one is the same.
+/// The bytes of a write of `count` sectors: every one is the same.
 fn filled(alloc: Global, count: u64, fill: u8) -> Result<Blob, NoMemory>
     requires { count < 256 }
     ensures { IfOk result (λ bytes. bytes ≡ replicate (512 * count) fill) }

@@ -20,7 +20,7 @@ use aoe_net::NetRefusal;
 use aoe_run::Run;
 
 impl NamedHost {
-    /// Takes down the outcome of a command.
+    /// Records the outcome of a command.
     fn tell(&self, run: &mut Run, done: Done) -> Result<(), NoMemory>
         ensures ok { OnOk result (run.new ≡ with_entry run.old (Finished self.now.name done.ticket.0 done.outcome)) }
         ensures err { OnErr result (run.new ≡ run.old) }
@@ -33,7 +33,7 @@ impl NamedHost {
         })
     }
 
-    /// Takes down the outcomes that wait, in the order in which they came.
+    /// Records the outcomes that wait, in the order in which they came.
     fn tell_all(&mut self, run: &mut Run) -> Result<(), NoMemory>
         ensures life { run.new.life ≡ run.old.life }
         ensures same { self.new ≡ record self.old { core = record self.old.core { waiting = self.new.core.waiting } } }

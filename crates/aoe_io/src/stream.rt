@@ -34,7 +34,7 @@ pub enum Next {
 pub enum StreamRefusal {
     #[error("source fault")]
     SourceFault,
-    /// `offset` bytes stand before the length whose frame isn't whole or is too short or too long.
+    /// The frame at this byte offset is truncated, or its length isn't 14 to 9018.
     #[error("bad stream at byte {offset}")]
     Stream { offset: u64 },
 }

@@ -79,7 +79,7 @@ impl Net {
         ensures sent { OnOk result (self.new ≡ with_frame self.old now.0 frame.now) }
         ensures number { IfOk result (λ number. number.0 ≡ length self.new.sent) }
 
-        // Want of memory is found last, so a full network is always reported as such.
+        // Memory is asked for last, so a full network is always reported as such.
         ensures full { (result ≡ Err NetRefusal.Full) ↔ IsFull self.old frame.now }
         ensures refused { OnErr result (self.new ≡ self.old) }
     {

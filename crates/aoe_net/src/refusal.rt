@@ -4,7 +4,7 @@ use thiserror::Error;
 /// Why a frame wasn't sent.
 #[derive(Clone, Copy, Debug, PartialEq, Eq, Error)]
 pub enum NetRefusal {
-    /// The network keeps as many frames as it can, or as many bytes.
+    /// The network keeps the most frames that it can, or the most bytes.
     #[error("the network is full")]
     Full,
     /// An allocation was refused.

@@ -12,7 +12,7 @@ use aoe_base::{Mac, Millis, NoMemory, PathNo, Ports};
 use std::alloc::Global;
 use std::marker::Model;
 
-/// As many paths without a mark and a trip.
+/// `count` paths without a mark and a trip.
 fn fresh(alloc: Global, count: usize) -> Result<Vec<Path>, NoMemory>
     ensures { IfOk result (λ paths. paths.items ≡ replicate count new_path) }
 {

@@ -32,7 +32,7 @@ fn stop_at(stops: Stops, heard: Heard) -> Option<Loss>
     }
 }
 
-/// Takes down an arrival of which no frame comes.
+/// Records an arrival that sends no frame.
 fn note(run: &mut Run, dev: TargetId, number: FrameNo, fate: Fate) -> Result<(), NetRefusal>
     requires { is_plain (Arrived dev number.0 fate) ≡ true }
     ensures ok { OnOk result (run.new ≡ with_entry run.old (Arrived dev number.0 fate)) }
@@ -50,7 +50,7 @@ fn note(run: &mut Run, dev: TargetId, number: FrameNo, fate: Fate) -> Result<(),
     }
 }
 
-/// Takes down what became of a frame at a target; a reply is brought into the network.
+/// Records what became of a frame at a target; a reply is brought into the network.
 fn take_down(
     run: &mut Run,
     dev: TargetId,

@@ -46,7 +46,7 @@ fn restart(shelf: &mut MemShelf, how: Loss)
     seat(shelf, minor, lose(store.close(), how), keep);
 }
 
-/// Takes down that the target at the slot lost its power.
+/// Records that the target at the slot lost its power.
 fn note(run: &mut Run, shelf: &MemShelf, slot: usize, how: Loss) -> Result<(), NoMemory>
     requires { slot < length shelf.now.targets }
     ensures ok { OnOk result (IsSomeAnd (slice_get shelf.now.targets slot)
@@ -61,7 +61,7 @@ fn note(run: &mut Run, shelf: &MemShelf, slot: usize, how: Loss) -> Result<(), N
     })
 }
 
-/// Takes down that each target lost its power, as far as there is memory.
+/// Records that each target lost its power, as far as there is memory.
 fn note_each(run: &mut Run, shelf: &MemShelf, how: Loss) -> Result<(), NoMemory>
     ensures ok { OnOk result (run.new ≡ record run.old { entries = with_crashes how shelf.now.targets run.old.entries }) }
     ensures err { OnErr result ((n : ℕ) × (run.new ≡ record run.old { entries = with_crashes how (take n shelf.now.targets) run.old.entries })) }
@@ -72,7 +72,7 @@ fn note_each(run: &mut Run, shelf: &MemShelf, how: Loss) -> Result<(), NoMemory>
     Ok(())
 }
 
-/// No disk of so many slots is armed with a stop.
+/// No disk of `count` slots is armed with a stop.
 fn no_stops(count: usize) -> ArrayVec<Stops, MAX_TARGETS>
     requires { count ≤ 16 }
     ensures { result.items ≡ replicate count (record { store = None; keep = None }) }

@@ -1,7 +1,7 @@
 //! How a replay ends.
 use aoe_script::Why;
 
-/// Of what there was too much.
+/// Which limit was exceeded.
 #[derive(Clone, Copy, Debug, PartialEq, Eq)]
 pub enum ReplayLimit {
     /// The text has more than 16,777,216 bytes.

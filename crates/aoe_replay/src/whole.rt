@@ -17,7 +17,7 @@ use aoe_transcript::print_run;
 use aoe_world::World;
 use std::alloc::Global;
 
-/// Writes the text of the run of a script of so many events.
+/// Writes the text of the run of a script of `script_events` events.
 fn write_run<K: Sink>(
     alloc: Global,
     script_events: u64,

@@ -114,7 +114,7 @@ impl Run {
         self.net.fetch(number, self.clock)
     }
 
-    /// Takes down what happened, where no frame came of it and no time went by.
+    /// Records an entry that sends no frame and takes no time.
     pub fn note(&mut self, entry: Entry) -> Result<(), NoMemory>
         requires plain { is_plain entry ≡ true }
         ensures ok { OnOk result (self.new ≡ with_entry self.old entry) }
@@ -137,7 +137,7 @@ impl Run {
         Ok(())
     }
 
-    /// Takes down what happened, and brings the frame that came of it into the network.
+    /// Records an entry, and brings the frame that it sends into the network.
     fn bring(&mut self, entry: Entry, frame: FrameBytes) -> Result<(), NetRefusal>
         requires len { length frame ≤ 9018 }
         requires frames { frames (entry ∷ self.old.entries) ≡ record { bytes = frame; birth = clock self.old.entries } ∷ frames self.old.entries }

@@ -79,12 +79,12 @@ pub enum Event {
         station: Name,
     },
 
-    /// As many frames are handed to their addressees, in order.
+    /// Hands the next `n` frames to their addressees, in order.
     Pass {
         n: u64,
     },
 
-    /// As many frames are lost, in order.
+    /// Loses the next `n` frames, in order.
     Skip {
         n: u64,
     },
@@ -92,7 +92,7 @@ pub enum Event {
     /// The frame that was handed over last is handed over once more.
     Again,
 
-    /// A frame of no station stands in the network.
+    /// Injects a frame that no station sent.
     Inject {
         bytes: Blob,
     },

@@ -41,7 +41,7 @@ fn replies(fate: &Fate) -> u64
 }
 
 impl Summary {
-    /// Nothing happened in the run of a script of so many events.
+    /// Nothing happened in the run of a script of `events` events.
     fn new(events: u64) -> Summary
         ensures { result ≡ summary_of events [] }
     {
@@ -85,7 +85,7 @@ impl Summary {
     }
 }
 
-/// How much happened in the run of a script of so many events.
+/// How much happened in the run of a script of `events` events.
 pub fn summarize(alloc: Global, events: u64, history: &History) -> Result<Summary, NoMemory>
     ensures { IfOk result (λ counts. counts ≡ summary_of events history.now) }
 {

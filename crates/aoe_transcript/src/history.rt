@@ -41,7 +41,7 @@ fn put_run(out: &mut Vec<u8>, history: &History, summary: &Summary) -> Result<()
     put_summary(out, summary)
 }
 
-/// The text of the run of a script of so many events: a line for each thing that happened, the
+/// The text of the run of a script of `script_events` events: a line for each thing that happened, the
 /// oldest first, and the line of how much did.
 pub fn print_run(alloc: Global, script_events: u64, history: &History) -> Result<Blob, NoMemory>
     requires { All CanPrint history.now }

@@ -313,7 +313,7 @@ fn build_shelf(
 }
 
 impl Replay<'_> {
-    /// Takes down where a station stands.
+    /// Records the place of a station.
     fn place(&mut self, name: &Name, ports: &Ports, at: At) -> Result<(), NoMemory>
         ensures places { OnOk result (self.new.places.items ≡ self.old.places.items ++ record { name = name.now; ports = ports.now; at = at } ∷ []) }
         ensures stage { self.new.stage ≡ self.old.stage }

@@ -8,7 +8,7 @@ pub enum WorldRefusal {
     #[error("out of memory")]
     NoMemory,
 
-    /// The network has no room for the next frame: it has so many frames, of so many bytes together.
+    /// The network has no room for the next frame: it has `frames` frames, of `bytes` bytes together.
     #[error("the network is full: {frames} frames, {bytes} bytes")]
     NetFull { frames: u32, bytes: u64 },
 }
