@@ -109,7 +109,7 @@ impl FileDisk {
 }
 
 impl Disk for FileDisk {
-    ghost state = { λ d. record { sectors = d.sectors; faults = d.faults; contents = None; schedule = None } };
+    ghost state = { λ d. record { sectors = d.sectors; faults = d.faults; contents = None; schedule = None; log = None } };
 
     fn sectors(&self) -> u64 {
         self.sectors

@@ -83,6 +83,7 @@ module _ (b s : List ℕ) (l : List Bool) (a : Option Arm) (o : Bool) (m : IsMem
     memory_writes r moves = record {
       call = memory_run b s l a o f c m _ s _ a' o' f' c' memory_put false (length-with_marks l at (length piece / 512) range.within) later tt moves;
       contents = record { bytes = refl; loose = refl; settled = refl };
+      log = refl;
     }
 
     pub memory_fails_to_write : {T E : Type 0} (e : E) → OnTrue true (Rose f f') → MovesOn 1 true f f' (schedule_of a o) (schedule_of a' o')
@@ -95,6 +96,7 @@ module _ (b s : List ℕ) (l : List Bool) (a : Option Arm) (o : Bool) (m : IsMem
         settled = refl;
         exact = λ _. refl;
       };
+      log = refl;
     }
 
 pub memory_armed : (m : Memory) (arm : Arm) → ArmsTo arm (state_of m) (state_of (record m { arming = Some arm; out = false }))
@@ -103,6 +105,7 @@ memory_armed m arm = record {
   faults = refl;
   contents = refl;
   schedule = record { armed = armed arm; out = refl; due = refl };
+  log = refl;
 }
   where
     armed : (arm : Arm) → IsArmedBy arm (armed_of (Some arm))

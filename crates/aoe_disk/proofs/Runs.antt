@@ -1,10 +1,13 @@
 -- Runs of device calls, one after another.
-use Rattle.std.proofs.Common.{◌≡◌, ◌≤◌, ◌<◌, ◌+◌, ◌-◌, ◌^◌, ℕ, Bool, true, false, Option, Some, None, IfSome, IsSome, is_some, is_none, refl, arith, ◌∙◌, ap, subst}
+use Rattle.std.proofs.Common.{◌≡◌, ◌≤◌, ◌<◌, ◌+◌, ◌-◌, ◌^◌, ℕ, Bool, true, false, Option, Some, None, IfSome, IsSome, is_some, is_none, List, [], ◌∷◌, ◌++◌, length, take, refl, sym, arith, ◌∙◌, ap, subst, length-append}
 use Rattle.std.specs.Bool.{OnTrue}
+use Rattle.std.specs.Option.{option_map}
 use Rattle.std.proofs.lemmas.Bool.{cases_lt, cases_Bool}
+use Rattle.std.proofs.lemmas.List.{append_assoc, take-append-le}
+use Rattle.std.proofs.Math.Seq.{take-length, take-append-add}
 use Rattle.aoe_base.specs.Faults.{Rose}
-use Rattle.aoe_disk.specs.State.{Schedule, DiskState, IsDisk, IsSchedule, BothTell}
-use Rattle.aoe_disk.specs.Calls.{MovesDueCall, MovesDue, MovesOn, IsRun}
+use Rattle.aoe_disk.specs.State.{Schedule, DiskState, DeviceCall, IsDisk, IsSchedule, BothTell}
+use Rattle.aoe_disk.specs.Calls.{MovesDueCall, MovesDue, MovesOn, IsRun, Logs, Makes}
 use Rattle.std.proofs.Common.{inl, inr}
 
 -- no call
@@ -145,4 +148,39 @@ run_then m n f a b c t u = record {
   later = omega (arith, t.later, u.later);
   cause = cause_later f a.faults b.faults c.faults t.later u.later u.cause;
   schedule = moves_then m n f a.faults b.faults c.faults a.schedule b.schedule c.schedule t.later u.later t.schedule u.schedule;
+}
+
+-- the calls of a run, and those of the next
+pub logs_then : (xs ys : List DeviceCall) (a b c : DiskState) → Logs xs a b → Logs ys b c → Logs (xs ++ ys) a c
+logs_then xs ys a b c one two = two ∙ ap (option_map (λ made. made ++ ys)) one ∙ joined a.log
+  where
+    joined : (log : Option (List DeviceCall)) → option_map (λ made. made ++ ys) (option_map (λ made. made ++ xs) log) ≡ option_map (λ made. made ++ (xs ++ ys)) log
+    joined None = refl
+    joined (Some made) = ap Some (append_assoc made xs ys)
+
+pub makes_one : (call : DeviceCall) (failed : Bool) (a b : DiskState) → Logs (call ∷ []) a b → Makes (call ∷ []) failed a b
+makes_one call failed a b log = record { made = 1; within = omega arith; some = λ _. omega arith; all = λ _. refl; log = log }
+
+-- none of these calls failed, and others follow
+pub makes_then : (xs ys : List DeviceCall) (failed : Bool) (a b c : DiskState) → Makes xs false a b → Makes ys failed b c → Makes (xs ++ ys) failed a c
+makes_then xs ys failed a b c one two =
+    let whole : one.made ≡ length xs = one.all refl in
+    let size = length-append xs ys in
+    let first : Logs xs a b = subst (λ l. Logs l a b) (ap (λ (n : ℕ). take n xs) whole ∙ take-length xs) one.log in
+    record {
+      made = length xs + two.made;
+      within = omega (arith, size, two.within);
+      some = λ e. let some = two.some e in omega (arith, some);
+      all = λ e. ap (λ (n : ℕ). length xs + n) (two.all e) ∙ sym size;
+      log = subst (λ l. Logs l a c) (sym (take-append-add xs ys two.made)) (logs_then xs (take two.made ys) a b c first two.log);
+    }
+
+-- one of these calls failed, so no others follow
+pub makes_stop : (xs ys : List DeviceCall) (a b : DiskState) → Makes xs true a b → Makes (xs ++ ys) true a b
+makes_stop xs ys a b one = record {
+  made = one.made;
+  within = omega (arith, one.within, length-append xs ys);
+  some = one.some;
+  all = λ e. cc;
+  log = subst (λ l. Logs l a b) (sym (take-append-le one.made xs ys one.within)) one.log;
 }

@@ -27,6 +27,7 @@ pub record ArmsTo (arm : Arm) (old new : DiskState) : Type 0 where
   pub faults : new.faults ≡ old.faults
   pub contents : new.contents ≡ old.contents
   pub schedule : BothTell (Arms arm) old.schedule new.schedule
+  pub log : new.log ≡ old.log
 
 -- a disk that tells its schedule, just armed
 abbrev pub IsArmed : Arm → DiskState → Type 0

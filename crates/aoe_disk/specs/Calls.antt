@@ -1,8 +1,10 @@
 -- What device calls do: reads, writes and syncs.
-use Rattle.std.specs.Prelude.{◌≡◌, ◌+◌, ◌-◌, ◌*◌, ◌/◌, ◌≤◌, ◌<◌, ℕ, Bool, true, false, Option, None, Some, IfSome, IsSome, is_some, is_none, unwrap_or, List, length, take, drop, replicate, Result, Ok, Err, OnOk, is_err, if◌then◌else◌}
+use Rattle.std.specs.Prelude.{◌≡◌, ◌+◌, ◌-◌, ◌*◌, ◌/◌, ◌≤◌, ◌<◌, ℕ, Bool, true, false, Option, None, Some, IfSome, IsSome, is_some, is_none, unwrap_or, List, [], ◌∷◌, ◌++◌, length, take, drop, replicate, Result, Ok, Err, OnOk, is_err, if◌then◌else◌}
 use Rattle.std.specs.Bool.{OnTrue}
+use Rattle.std.specs.Option.{option_map}
 use Rattle.aoe_base.specs.Faults.{Rose}
-use Rattle.aoe_disk.specs.State.{Contents, Schedule, DiskState, IsDisk, BothTell, with_piece, with_marks, spoiled_sector, is_loose}
+use Rattle.aoe_disk.specs.State.{Contents, Schedule, DiskState, DeviceCall, IsDisk, BothTell, with_piece, with_marks, spoiled_sector, is_loose}
+use Rattle.aoe_disk.specs.State.{Read, Write, Sync}
 
 -- n bytes from sector at on are whole sectors of the disk, one at least
 pub record IsRange (at n sectors : ℕ) : Type 0 where
@@ -41,11 +43,24 @@ pub record IsRun (m : ℕ) (failed : Bool) (old new : DiskState) : Type 0 where
   pub cause : OnTrue failed (Rose old.faults new.faults)
   pub schedule : BothTell (MovesOn m failed old.faults new.faults) old.schedule new.schedule
 
+-- a disk that tells its calls was called so, whether or not the last of them failed; one that doesn't goes on telling none
+abbrev pub Logs : List DeviceCall → DiskState → DiskState → Type 0
+Logs calls old new = new.log ≡ option_map (λ made. made ++ calls) old.log
+
+-- these calls in their order, or those up to one that failed
+pub record Makes (calls : List DeviceCall) (failed : Bool) (old new : DiskState) : Type 0 where
+  pub made : ℕ
+  pub within : made ≤ length calls
+  pub some : failed ≡ true → 0 < made
+  pub all : failed ≡ false → made ≡ length calls
+  pub log : Logs (take made calls) old new
+
 -- a read of n bytes
 pub record Reads {T E : Type 0} (at n : ℕ) (result : Result T E) (out : List ℕ) (old new : DiskState) : Type 0 where
   pub call : IsRun 1 (is_err result) old new
   pub same : new.contents ≡ old.contents
   pub given : OnOk result (IfSome old.contents (λ c. out ≡ take n (drop (512 * at) c.bytes)))
+  pub log : Logs (Read at n ∷ []) old new
 
 -- an Ok write: the piece stands in its sectors, which are loose
 pub record Puts (at : ℕ) (piece : List ℕ) (old new : Contents) : Type 0 where
@@ -75,6 +90,7 @@ Writes at piece (Err _) old new = Spoils at (length piece) old new
 pub record WritesTo {T E : Type 0} (at : ℕ) (piece : List ℕ) (result : Result T E) (old new : DiskState) : Type 0 where
   pub call : IsRun 1 (is_err result) old new
   pub contents : BothTell (Writes at piece result) old.contents new.contents
+  pub log : Logs (Write at piece ∷ []) old new
 
 -- an Ok sync: nothing is loose, and the bytes are settled
 pub record Settles (old new : Contents) : Type 0 where
@@ -98,3 +114,4 @@ Syncs (Err _) old new = MaySettle old new
 pub record SyncsTo {T E : Type 0} (result : Result T E) (old new : DiskState) : Type 0 where
   pub call : IsRun 1 (is_err result) old new
   pub contents : BothTell (Syncs result) old.contents new.contents
+  pub log : Logs (Sync ∷ []) old new

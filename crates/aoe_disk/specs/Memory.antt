@@ -29,13 +29,14 @@ armed_of (Some (Stop k)) = None
 abbrev pub schedule_of : Option Arm → Bool → Schedule
 schedule_of arming out = record { armed = armed_of arming; out = out; due = Some (option_map number_of arming) }
 
--- a disk in memory tells everything
+-- a disk in memory tells everything but its calls, which it counts
 abbrev pub state_of : Memory → DiskState
 state_of m = record {
   sectors = length m.loose;
   faults = m.faults;
   contents = Some (contents_of m);
   schedule = Some (schedule_of m.arming m.out);
+  log = None;
 }
 
 -- a disk with this image that was never called

@@ -14,12 +14,20 @@ pub record Schedule : Type 0 where
   pub out : Bool
   pub due : Option (Option ℕ)
 
--- a disk: its size, its faults so far, and its contents and its schedule where it tells them
+-- a device call: a read of so many bytes from a sector on, a write of a piece there, or a sync
+pub data DeviceCall : Type 0 where
+  Read : ℕ → ℕ → DeviceCall
+  Write : ℕ → List ℕ → DeviceCall
+  Sync : DeviceCall
+
+-- a disk: its size, its faults so far, and its contents, its schedule and the calls that were made of it, in their order, where it
+-- tells them
 pub record DiskState : Type 0 where
   pub sectors : ℕ
   pub faults : ℕ
   pub contents : Option Contents
   pub schedule : Option Schedule
+  pub log : Option (List DeviceCall)
 
 -- a relation between what was told before and what is told after: telling neither begins nor ends
 abbrev pub BothTell : {A B : Type 0} → (A → B → Type 0) → Option A → Option B → Type 0

@@ -11,7 +11,7 @@ use aoe_base::Failed;
 /// in it. A call that fails counts a fault. A loss of power within a call is that this call and all
 /// later ones fail, and then a crash.
 pub trait Disk {
-    // Its size and faults, and its contents and its schedule of failures where it tells them.
+    // Its size and faults, and its contents, its schedule of failures and its calls where it tells them.
     ghost state: { Self → DiskState };
 
     /// How many sectors the disk has, which never changes. This is no device call: it can't fail.

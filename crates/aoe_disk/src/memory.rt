@@ -209,7 +209,15 @@ impl Disk for MemDisk {
 }
 
 impl Armed for MemDisk {
-    fn arm(&mut self, arm: Arm) {
+    ghost use Rattle.std.specs.Prelude.{◌≡◌, ◌<◌, Some, false};
+    ghost use Rattle.aoe_disk.specs.Arming.{number_of, ArmsTo};
+    ghost use Rattle.aoe_disk.specs.Memory.{state_of};
+
+    fn arm(&mut self, arm: Arm)
+        requires { 0 < number_of arm }
+        ensures arms { ArmsTo arm (state_of self.old) (state_of self.new) }
+        ensures rest { self.new ≡ record self.old { arming = Some arm; out = false } }
+    {
         match arm {
             Arm::Fail(k) => self.fail_at(k),
             Arm::Stop(k) => self.stop_at(k),

@@ -10,7 +10,7 @@ use aoe_disk::Arm;
 /// Exported sectors of 512 bytes, numbered from 0, over a disk: its calls are those of a
 /// [`Disk`](aoe_disk::Disk), and fail only where the faults of that disk rose.
 pub trait Store {
-    // Its size and faults, and its contents and its schedule of failures where it tells them.
+    // Its size and faults, and its contents, its schedule of failures and its calls where it tells them.
     ghost state: { Self → DiskState };
 
     /// How many sectors are exported, which never changes. This is no device call: it can't fail.
@@ -23,8 +23,8 @@ pub trait Store {
         requires { IsRange at (length out.old) (state self.old).sectors }
         ensures { Reads at (length out.old) result out.new (state self.old) (state self.new) };
 
-    /// Writes `piece`, whole sectors, to those from `at` on. Where the write fails they have any
-    /// bytes, and all others are as they were.
+    /// Writes `piece`, whole sectors, to those from `at` on. Where the write fails each of them has any
+    /// bytes and is loose, or is as it was, and all others are as they were.
     fn write(&mut self, at: u64, piece: &[u8]) -> Result<(), Failed>
         requires { IsRange at (length piece.now) (state self.old).sectors }
         ensures { StoresTo at piece.now result (state self.old) (state self.new) };
