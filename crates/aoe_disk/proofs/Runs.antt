@@ -3,7 +3,7 @@ use Rattle.std.proofs.Common.{◌≡◌, ◌≤◌, ◌<◌, ◌+◌, ◌-◌, �
 use Rattle.std.specs.Bool.{OnTrue}
 use Rattle.std.specs.Option.{option_map}
 use Rattle.std.proofs.lemmas.Bool.{cases_lt, cases_Bool}
-use Rattle.std.proofs.lemmas.List.{append_assoc, take-append-le}
+use Rattle.std.proofs.lemmas.List.{append_assoc, append-nil, take-append-le}
 use Rattle.std.proofs.Math.Seq.{take-length, take-append-add}
 use Rattle.aoe_base.specs.Faults.{Rose}
 use Rattle.aoe_disk.specs.State.{Schedule, DiskState, DeviceCall, IsDisk, IsSchedule, BothTell}
@@ -158,11 +158,19 @@ logs_then xs ys a b c one two = two ∙ ap (option_map (λ made. made ++ ys)) on
     joined None = refl
     joined (Some made) = ap Some (append_assoc made xs ys)
 
-pub makes_one : (call : DeviceCall) (failed : Bool) (a b : DiskState) → Logs (call ∷ []) a b → Makes (call ∷ []) failed a b
+-- no call
+pub logs_none : (a : DiskState) → Logs [] a a
+logs_none a = same a.log
+  where
+    same : (log : Option (List DeviceCall)) → log ≡ option_map (λ made. made ++ []) log
+    same None = refl
+    same (Some made) = ap Some (sym (append-nil made))
+
+unfoldable pub makes_one : (call : DeviceCall) (failed : Bool) (a b : DiskState) → Logs (call ∷ []) a b → Makes (call ∷ []) failed a b
 makes_one call failed a b log = record { made = 1; within = omega arith; some = λ _. omega arith; all = λ _. refl; log = log }
 
 -- none of these calls failed, and others follow
-pub makes_then : (xs ys : List DeviceCall) (failed : Bool) (a b c : DiskState) → Makes xs false a b → Makes ys failed b c → Makes (xs ++ ys) failed a c
+unfoldable pub makes_then : (xs ys : List DeviceCall) (failed : Bool) (a b c : DiskState) → Makes xs false a b → Makes ys failed b c → Makes (xs ++ ys) failed a c
 makes_then xs ys failed a b c one two =
     let whole : one.made ≡ length xs = one.all refl in
     let size = length-append xs ys in
@@ -176,7 +184,7 @@ makes_then xs ys failed a b c one two =
     }
 
 -- one of these calls failed, so no others follow
-pub makes_stop : (xs ys : List DeviceCall) (a b : DiskState) → Makes xs true a b → Makes (xs ++ ys) true a b
+unfoldable pub makes_stop : (xs ys : List DeviceCall) (a b : DiskState) → Makes xs true a b → Makes (xs ++ ys) true a b
 makes_stop xs ys a b one = record {
   made = one.made;
   within = omega (arith, one.within, length-append xs ys);

@@ -12,3 +12,4 @@ mod Keeping
 mod Uniqueness
 mod Spelling
 mod Reading
+mod Making

@@ -116,6 +116,7 @@ read_told (Ok f) o p a b settles e g h =
       ap found (sym settles.bytes) ∙ there,
       settles,
       subst (λ (q : Option Place × Bool). IsKept q.0 q.1 f.lists b) h.1 (kept_from b (settles_kept a b settles) o p f.lists e g h.0),
+      ap (λ (l : List ℕ). placement (slot l 0) (slot l 1)) (sym settles.bytes) ∙ (λ i. placement (e i) (g i)) ∙ h.1,
     )
 read_told (Err k) o p a b settles e g h = (ap found (sym settles.bytes) ∙ (λ i. choice (e i) (g i)) ∙ h, settles)
 

@@ -1,20 +1,24 @@
 -- A keep, and what its calls come to.
-use Rattle.std.specs.Prelude.{◌≡◌, ◌≤◌, ◌<◌, ℕ, Bool, true, false, IfSome, Result, Ok, Err}
+use Rattle.std.specs.Prelude.{◌≡◌, ◌≤◌, ◌<◌, ℕ, Bool, true, false, Option, IfSome, Result, Ok, Err}
 use Rattle.aoe_lists.specs.Settings.{Settings}
 use Rattle.aoe_disk.specs.State.{DiskState, Contents, BothTell}
 use Rattle.aoe_disk.specs.Calls.{IsRun, Settles}
 use Rattle.aoe_disk.specs.Sectors.{Calms, Touches}
-use Rattle.aoe_keep.specs.Found.{found, AlwaysFinds}
-use Rattle.aoe_keep.specs.Stages.{IsKept, IsCleared, IsStaged, IsInterrupted, IsReplaced}
+use Rattle.aoe_keep.specs.Found.{found, slot, AlwaysFinds}
+use Rattle.aoe_keep.specs.Stages.{IsKept, IsCleared, IsStaged, IsInterrupted, IsReplaced, placement}
 use Rattle.aoe_keep.specs.declared.mounted.Mounted.{Mounted}
 use Rattle.aoe_keep.specs.declared.mount.Present.{Present}
+use Rattle.aoe_keep.specs.declared.place.Place.{Place}
 use Rattle.aoe_keep.specs.declared.refusal.MountRefusal.{MountRefusal}
 use Rattle.aoe_keep.specs.declared.refusal.MountRefusal.TheVariants.{Failed, TooSmall, BadKeep}
 
--- what a keep shows: its disk, and the lists that it keeps there
+-- what a keep shows: its disk, the lists that it keeps there, the slot where these stand with the turn of its body, if they stand in
+-- one, and whether the gate of the other slot is known to be closed
 pub record Kept (D : Type 0) : Type 0 where
   pub disk : D
   pub lists : Settings
+  pub place : Option Place
+  pub is_closed : Bool
 
 -- of a disk that tells its contents: all but the 16 sectors of a keep are as they were, and none of them is newly loose
 pub record KeepsOthers (old new : DiskState) : Type 0 where
@@ -79,5 +83,6 @@ IsRefused state disk (BadKeep k) left =
 
 -- what was read of a disk that was synced: the present lists with their place, or the slot that is bad
 abbrev pub ReadsSlots : Result Present ℕ → Contents → Contents → Type 0
-ReadsSlots (Ok p) a b = (found a.bytes ≡ Ok p.lists) × Settles a b × IsKept p.place p.is_closed p.lists b
+ReadsSlots (Ok p) a b =
+    (found a.bytes ≡ Ok p.lists) × Settles a b × IsKept p.place p.is_closed p.lists b × (placement (slot a.bytes 0) (slot a.bytes 1) ≡ (p.place, p.is_closed))
 ReadsSlots (Err k) a b = (found a.bytes ≡ Err k) × Settles a b

@@ -2,3 +2,4 @@ pub mod Body
 pub mod Found
 pub mod Stages
 pub mod Keep
+pub mod Calls

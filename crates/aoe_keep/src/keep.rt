@@ -1,8 +1,9 @@
 //! A keep: lists on a disk.
-ghost use Rattle.std.specs.Prelude.{◌≡◌, ◌≤◌, OnOk, OnErr, IfOk, IfErr, is_err};
+ghost use Rattle.std.specs.Prelude.{◌≡◌, ◌≤◌, OnOk, OnErr, IfOk, IfErr, false, is_err};
 ghost use Rattle.aoe_disk.specs.Calls.{IsRun};
 ghost use Rattle.aoe_keep.specs.Found.{AlwaysFinds, FindsOffered};
 ghost use Rattle.aoe_keep.specs.Keep.{Mounts, IsRefused, KeepsOthers};
+ghost use Rattle.aoe_keep.specs.Calls.{MountsBy, RefusesBy, ReplacesBy, StandsBy};
 
 use crate::MountRefusal;
 use crate::mount::mount;
@@ -23,18 +24,26 @@ impl<D: Disk> Model for Keep<D> {
 
     ghost Value = { Kept D };
 
-    ghost view = { λ k. record { disk = k.mounted.disk; lists = k.mounted.lists } };
+    ghost view = { λ k. record {
+      disk = k.mounted.disk;
+      lists = k.mounted.lists;
+      place = k.mounted.place;
+      is_closed = k.mounted.is_closed;
+    } };
 
     ghost invariant = { λ k. IsMounted D.state k.mounted };
 }
 
 impl<D: Disk> Keep<D> {
-    /// The keep of a disk of at least 16 sectors. The disk is synced and then read, and nothing is
-    /// written to it.
+    /// The keep of a disk of at least 16 sectors. The disk is synced, then both gates are read and the
+    /// bodies behind open ones; nothing else is, and nothing is written.
     pub fn mount(disk: D) -> Result<Keep<D>, (MountRefusal, D)>
         ensures lists { IfOk result (λ keep. Mounts (D.state disk) (D.state keep.disk) keep.lists) }
         ensures finds { IfOk result (λ keep. AlwaysFinds (D.state keep.disk) keep.lists) }
+        ensures stands { IfOk result (λ keep. StandsBy (D.state disk) keep) }
         ensures refused { IfErr result (λ e. IsRefused D.state disk e.0 e.1) }
+        ensures calls { IfOk result (λ keep. MountsBy false (D.state disk) (D.state keep.disk)) }
+        ensures refused_calls { IfErr result (λ e. RefusesBy D.state disk e.0 e.1) }
     {
         Ok(Keep {
             mounted: mount(disk)?,
@@ -58,6 +67,7 @@ impl<D: Disk> Keep<D> {
         ensures offered { OnErr result (FindsOffered (D.state self.old.disk) (D.state self.new.disk) self.old.lists next.now) }
         ensures others { KeepsOthers (D.state self.old.disk) (D.state self.new.disk) }
         ensures run { IsRun 6 (is_err result) (D.state self.old.disk) (D.state self.new.disk) }
+        ensures calls { ReplacesBy D.state next.now (is_err result) self.old self.new }
     {
         self.mounted.replace(next)
     }
@@ -77,6 +87,7 @@ impl<D: Armed> Keep<D> {
     /// Arms the disk, in place of what was armed before.
     pub fn arm(&mut self, arm: Arm)
         requires { 0 < number_of arm }
+        ensures rest { self.new ≡ record self.old { disk = self.new.disk } }
         ensures lists { self.new.lists ≡ self.old.lists }
         ensures armed { ArmsTo arm (D.state self.old.disk) (D.state self.new.disk) }
     {

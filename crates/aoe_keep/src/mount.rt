@@ -7,6 +7,7 @@ ghost use Rattle.aoe_disk.specs.Sectors.{Calms};
 ghost use Rattle.aoe_keep.specs.Found.{slot, choice};
 ghost use Rattle.aoe_keep.specs.Stages.{placement};
 ghost use Rattle.aoe_keep.specs.Keep.{IsMounted, Mounts, IsRefused, RunsBetween, ReadsSlots};
+ghost use Rattle.aoe_keep.specs.Calls.{MountsBy, ReadsSlot, RefusesBy};
 
 use crate::MountRefusal;
 use crate::body::{BODY, read};
@@ -91,6 +92,7 @@ fn read_slot<D: Disk>(disk: &mut D, k: u8) -> Result<Slot, Failed>
     ensures slot { IfOk result (λ held. IfSome (D.state disk.old).contents (λ c. slot c.bytes k ≡ held)) }
     ensures same { (D.state disk.new).contents ≡ (D.state disk.old).contents }
     ensures run { RunsBetween 1 2 (is_err result) (D.state disk.old) (D.state disk.new) }
+    ensures reads { ReadsSlot k (is_err result) (D.state disk.old) (D.state disk.new) }
 {
     let start = 8 * u64::from(k);
     let mut gate = [0; 512];
@@ -110,6 +112,7 @@ fn read_slots<D: Disk>(disk: &mut D) -> Result<Result<Present, u8>, Failed>
     ensures calm { BothTell Calms (D.state disk.old).contents (D.state disk.new).contents }
     ensures err { OnErr result (RunsBetween 1 5 true (D.state disk.old) (D.state disk.new)) }
     ensures ok { OnOk result (RunsBetween 3 5 false (D.state disk.old) (D.state disk.new)) }
+    ensures calls { MountsBy (is_err result) (D.state disk.old) (D.state disk.new) }
 {
     disk.sync()?;
     let first = read_slot(disk, 0)?;
@@ -121,7 +124,11 @@ fn read_slots<D: Disk>(disk: &mut D) -> Result<Result<Present, u8>, Failed>
 pub(crate) fn mount<D: Disk>(disk: D) -> Result<Mounted<D>, (MountRefusal, D)>
     ensures mounted { IfOk result (λ k. IsMounted D.state k) }
     ensures ok { IfOk result (λ k. Mounts (D.state disk) (D.state k.disk) k.lists) }
+    ensures stands { IfOk result (λ k. IfSome (D.state disk).contents
+        (λ c. placement (slot c.bytes 0) (slot c.bytes 1) ≡ (k.place, k.is_closed))) }
     ensures refused { IfErr result (λ e. IsRefused D.state disk e.0 e.1) }
+    ensures calls { IfOk result (λ k. MountsBy false (D.state disk) (D.state k.disk)) }
+    ensures refused_calls { IfErr result (λ e. RefusesBy D.state disk e.0 e.1) }
 {
     let mut disk = disk;
     let sectors = disk.sectors();

@@ -1,7 +1,8 @@
 //! The six device calls that replace the lists.
-ghost use Rattle.std.specs.Prelude.{◌≡◌, ◌≤◌, ◌<◌, ◌+◌, ◌*◌, ◌==◌, ℕ, List, true, false, length, get_or, OnOk, OnErr, is_err};
-ghost use Rattle.aoe_disk.specs.State.{BothTell};
-ghost use Rattle.aoe_disk.specs.Calls.{IsRun};
+ghost use Rattle.std.specs.Prelude.{◌≡◌, ◌≤◌, ◌<◌, ◌+◌, ◌*◌, ◌==◌, ◌||◌, ℕ, List, [], ◌∷◌, true, false, length, get_or, OnOk, OnErr, is_err, is_ok};
+ghost use Rattle.aoe_disk.specs.State.{BothTell, Write, Sync};
+ghost use Rattle.aoe_disk.specs.Calls.{IsRun, Logs, Makes};
+ghost use Rattle.aoe_keep.specs.Calls as calls;
 ghost use Rattle.aoe_keep.specs.Stages.{WritesGate, WritesBody};
 ghost use Rattle.aoe_keep.specs.Keep.{IsMounted, HasCleared, HasStaged, HasOpened, HasHalfOpened, HasReplaced, HasFailed, KeepsOthers};
 
@@ -30,7 +31,8 @@ pub(crate) struct Mounted<D: Disk> {
 
 /// The bytes of a gate.
 fn gate_of(opens: bool) -> [u8; 512]
-    ensures { (get_or result 0 0 == 0xa7) ≡ opens }
+    ensures bytes { result ≡ calls.gate opens }
+    ensures first { (get_or result 0 0 == 0xa7) ≡ opens }
 {
     let mut gate = [0; 512];
     gate[0] = if opens { OPEN } else { 0 };
@@ -45,6 +47,7 @@ fn write_gate<D: Disk>(disk: &mut D, slot: u8, opens: bool) -> Result<(), Failed
     ensures gate { BothTell (WritesGate (D.state disk.old).sectors slot opens result)
         (D.state disk.old).contents (D.state disk.new).contents }
     ensures others { KeepsOthers (D.state disk.old) (D.state disk.new) }
+    ensures log { Logs (Write (8 * slot) (calls.gate opens) ∷ []) (D.state disk.old) (D.state disk.new) }
 {
     let gate = gate_of(opens);
     disk.write(8 * u64::from(slot), &gate)
@@ -59,6 +62,7 @@ fn write_body<D: Disk>(disk: &mut D, slot: u8, body: &[u8]) -> Result<(), Failed
     ensures body { BothTell (WritesBody slot body.now result)
         (D.state disk.old).contents (D.state disk.new).contents }
     ensures others { KeepsOthers (D.state disk.old) (D.state disk.new) }
+    ensures log { Logs (Write (8 * slot + 1) body.now ∷ []) (D.state disk.old) (D.state disk.new) }
 {
     disk.write(8 * u64::from(slot) + 1, body)
 }
@@ -73,6 +77,9 @@ impl<D: Disk> Mounted<D> {
         ensures place { self.new.place ≡ self.old.place }
         ensures others { KeepsOthers (D.state self.old.disk) (D.state self.new.disk) }
         ensures run { IsRun 1 (is_err result) (D.state self.old.disk) (D.state self.new.disk) }
+        ensures known { self.new.is_closed ≡ (self.old.is_closed || is_ok result) }
+        ensures log { Logs (calls.close_gate self.old.place self.old.is_closed ∷ [])
+            (D.state self.old.disk) (D.state self.new.disk) }
     {
         if self.is_closed {
             return self.disk.sync();
@@ -91,6 +98,7 @@ impl<D: Disk> Mounted<D> {
         ensures place { self.new.place ≡ self.old.place }
         ensures others { KeepsOthers (D.state self.old.disk) (D.state self.new.disk) }
         ensures run { IsRun 2 (is_err result) (D.state self.old.disk) (D.state self.new.disk) }
+        ensures calls { calls.Clears D.state (is_err result) self.old self.new }
     {
         self.close_gate(next)?;
         self.disk.sync()
@@ -105,6 +113,9 @@ impl<D: Disk> Mounted<D> {
         ensures place { self.new.place ≡ self.old.place }
         ensures others { KeepsOthers (D.state self.old.disk) (D.state self.new.disk) }
         ensures run { IsRun 2 (is_err result) (D.state self.old.disk) (D.state self.new.disk) }
+        ensures closed { self.new.is_closed ≡ self.old.is_closed }
+        ensures calls { Makes (calls.write_body self.old.place next.now ∷ Sync ∷ []) (is_err result)
+            (D.state self.old.disk) (D.state self.new.disk) }
     {
         let body = spell(spare_turn(self.place), next);
         write_body(&mut self.disk, spare_slot(self.place), body.as_slice())?;
@@ -120,6 +131,9 @@ impl<D: Disk> Mounted<D> {
         ensures place { self.new.place ≡ self.old.place }
         ensures others { KeepsOthers (D.state self.old.disk) (D.state self.new.disk) }
         ensures run { IsRun 2 (is_err result) (D.state self.old.disk) (D.state self.new.disk) }
+        ensures closed { self.new.is_closed ≡ false }
+        ensures calls { Makes (calls.write_gate self.old.place true ∷ Sync ∷ []) (is_err result)
+            (D.state self.old.disk) (D.state self.new.disk) }
     {
         self.is_closed = false;
         write_gate(&mut self.disk, spare_slot(self.place), true)?;
@@ -133,6 +147,8 @@ impl<D: Disk> Mounted<D> {
         ensures err { OnErr result (HasFailed D.state next.now self.old self.new) }
         ensures others { KeepsOthers (D.state self.old.disk) (D.state self.new.disk) }
         ensures run { IsRun 6 (is_err result) (D.state self.old.disk) (D.state self.new.disk) }
+        ensures calls { calls.ReplacesBy D.state next.now (is_err result)
+            (calls.shown self.old) (calls.shown self.new) }
     {
         self.clear(next)?;
         self.stage(next)?;

@@ -5,7 +5,7 @@ use thiserror::Error;
 #[derive(Clone, Copy, Debug, PartialEq, Eq, Error)]
 pub enum MountRefusal {
     /// A call of the disk failed.
-    #[error("failed")]
+    #[error("a device call failed")]
     Failed,
 
     /// It has fewer than 16 sectors.

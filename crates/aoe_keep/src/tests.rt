@@ -146,10 +146,19 @@ fn refuses_small_disks_and_failures(rt: HostRuntime) -> Result<(), Fail> {
 
 #[test]
 fn says_why_a_disk_is_not_mounted(rt: HostRuntime) -> Result<(), Fail> {
-    let small = format!(in rt.alloc(); "{}", MountRefusal::TooSmall { sectors: 15 })?;
-    assert_eq!(rt; small.as_str(), "15 sectors, 16 needed");
-    let bad = format!(in rt.alloc(); "{}", MountRefusal::BadKeep { slot: 0 })?;
-    assert_eq!(rt; bad.as_str(), "slot 0 holds no lists");
+    let texts = [
+        (MountRefusal::Failed, "a device call failed"),
+        (
+            MountRefusal::TooSmall { sectors: 15 },
+            "15 sectors, 16 needed",
+        ),
+        (MountRefusal::BadKeep { slot: 0 }, "slot 0 holds no lists"),
+        (MountRefusal::BadKeep { slot: 1 }, "slot 1 holds no lists"),
+    ];
+    for (refusal, wanted) in texts {
+        let text = format!(in rt.alloc(); "{refusal}")?;
+        assert_eq!(rt; text.as_str(), wanted);
+    }
     Ok(())
 }
 

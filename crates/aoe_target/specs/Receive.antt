@@ -1,10 +1,12 @@
 -- What a target that is handed a frame answers, calls and leaves.
-use Rattle.std.specs.Prelude.{ℕ, ◌≡◌, Bool, true, false, List, Option}
+use Rattle.std.specs.Prelude.{ℕ, ◌*◌, ◌≡◌, Bool, true, false, List, [], ◌∷◌, drop, Option}
 use Rattle.std.specs.Option.{option_map}
-use Rattle.aoe_disk.specs.State.{Contents, DiskState, BothTell}
+use Rattle.aoe_disk.specs.State.{Contents, DiskState, DeviceCall, BothTell}
+use Rattle.aoe_disk.specs.State as device
 use Rattle.aoe_disk.specs.Calls.{IsRun}
 use Rattle.aoe_keep.specs.Found.{AlwaysFinds, FindsOffered}
 use Rattle.aoe_keep.specs.Keep.{KeepsOthers}
+use Rattle.aoe_ata.specs.Decision.{written}
 use Rattle.aoe_ata.specs.declared.decision.AtaAnswer.{AtaAnswer}
 use Rattle.aoe_ata.specs.declared.decision.AtaAnswer.TheVariants.{Give, Put, Verify, Sync}
 use Rattle.aoe_lists.specs.Settings.{Settings}
@@ -37,6 +39,20 @@ calls_for answer = false
 abbrev pub calls_store : Verdict → Bool
 calls_store (Ata d) = calls_for d.answer
 calls_store v = false
+
+-- the device call that an answer to an ATA command needs: of exactly the sectors that the command names. A read whose data isn't
+-- given is a read of them all
+abbrev pub ata_calls : List ℕ → AtaAnswer → List DeviceCall
+ata_calls f (Give span) = device.Read span.at (512 * span.count) ∷ []
+ata_calls f (Verify span) = device.Read span.at (512 * span.count) ∷ []
+ata_calls f (Put span) = device.Write span.at (written (drop 24 f) span) ∷ []
+ata_calls f Sync = device.Sync ∷ []
+ata_calls f answer = []
+
+-- the calls of the store that a verdict on a frame needs
+abbrev pub store_calls : List ℕ → Verdict → List DeviceCall
+store_calls f (Ata d) = ata_calls f d.answer
+store_calls f v = []
 
 -- the lists change
 abbrev pub is_change : Step → Bool

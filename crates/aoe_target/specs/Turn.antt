@@ -3,13 +3,13 @@ use Rattle.std.specs.Prelude.{ℕ, ◌≡◌, true, false, List, []}
 use Rattle.std.specs.Bool.{OnTrue}
 use Rattle.aoe_base.specs.Faults.{Rose}
 use Rattle.aoe_disk.specs.State.{DiskState}
-use Rattle.aoe_disk.specs.Calls.{IsRun}
+use Rattle.aoe_disk.specs.Calls.{IsRun, Logs}
 use Rattle.aoe_target.specs.declared.heard.Heard.{Heard}
 use Rattle.aoe_target.specs.declared.heard.Heard.TheVariants as heard
 use Rattle.aoe_target.specs.Device.{State, Holds}
 use Rattle.aoe_target.specs.Law.{IsStep}
 use Rattle.aoe_target.specs.Mounted.{Mounted, device_of}
-use Rattle.aoe_target.specs.Receive.{calls_store, edits, fate_of, is_faulty, is_unkept, Replaces}
+use Rattle.aoe_target.specs.Receive.{calls_store, store_calls, edits, fate_of, is_faulty, is_unkept, Replaces}
 use Rattle.aoe_target.specs.Verdict.{verdict}
 
 -- a target is handed a frame: a step of the shelf law for all that is known of it, and the calls of its store and of its keep, which
@@ -21,6 +21,7 @@ pub record Receives {S D : Type 0} (store : S → DiskState) (keep : D → DiskS
   pub silent : h ≡ heard.Silent → out ≡ []
   pub ignored : h ≡ heard.Ignored → out ≡ []
   pub call : OnTrue (calls_store (verdict before.station before.keep.lists f)) (IsRun 1 (is_faulty h) (store before.store) (store after.store))
+  pub log : Logs (store_calls f (verdict before.station before.keep.lists f)) (store before.store) (store after.store)
   pub idle : calls_store (verdict before.station before.keep.lists f) ≡ false → after.store ≡ before.store
   pub fault : is_faulty h ≡ true → Rose (store before.store).faults (store after.store).faults
   pub edit : OnTrue (edits before.station before.keep.lists f (verdict before.station before.keep.lists f)) (Replaces (is_unkept h) (keep before.keep.disk) (keep after.keep.disk))

@@ -1,9 +1,9 @@
 //! What the ATA commands that reach the store do to it.
-ghost use Rattle.std.specs.Prelude.{◌≡◌, ◌+◌, ◌*◌, ◌≤◌, ◌++◌, None, true, false, length, take, drop};
+ghost use Rattle.std.specs.Prelude.{◌≡◌, ◌+◌, ◌*◌, ◌≤◌, [], ◌∷◌, ◌++◌, None, true, false, length, take, drop};
 ghost use Rattle.std.specs.Bool.{OnTrue};
 ghost use Rattle.std.specs.Option.{option_map};
 ghost use Rattle.aoe_base.specs.Faults.{Rose};
-ghost use Rattle.aoe_disk.specs.Calls.{IsRange, IsRun, Reads};
+ghost use Rattle.aoe_disk.specs.Calls.{IsRange, IsRun, Logs, Reads};
 ghost use Rattle.aoe_ata.specs.Args.{args_bytes};
 ghost use Rattle.aoe_ata.specs.Decision.{InRange, CanServe};
 ghost use Rattle.aoe_ata.specs.Reply.{reply_of};
@@ -11,7 +11,7 @@ ghost use Rattle.aoe_ata.specs.declared.decision.AtaAnswer.{AtaAnswer};
 ghost use Rattle.aoe_target.specs.Reply.{reply_head};
 ghost use Rattle.aoe_target.specs.Sectors.{sectors_of};
 ghost use Rattle.aoe_target.specs.Law.{AllowsAta, Gives, Syncs, Verifies, Writes, replied};
-ghost use Rattle.aoe_target.specs.Receive.{Leaves, calls_for, is_fault};
+ghost use Rattle.aoe_target.specs.Receive.{Leaves, ata_calls, calls_for, is_fault};
 ghost use Rattle.aoe_target.specs.Mounted.{IsMounted};
 
 use crate::reply::{DATA_AT, ata_front, reply_ata, reply_page};
@@ -64,6 +64,7 @@ fn give<S: Store>(
         result out.new.items }
     ensures same { (S.state store.new).contents ≡ (S.state store.old).contents }
     ensures call { IsRun 1 (is_fault result) (S.state store.old) (S.state store.new) }
+    ensures log { Logs (ata_calls [] (AtaAnswer.Give span)) (S.state store.old) (S.state store.new) }
 {
     begin_data(station, header, args, span.count, out);
     match read_into(store, span, out) {
@@ -92,6 +93,7 @@ fn verify<S: Store>(
     ensures verifies { Verifies station.now header.now args.now result out.new.items }
     ensures same { (S.state store.new).contents ≡ (S.state store.old).contents }
     ensures call { IsRun 1 (is_fault result) (S.state store.old) (S.state store.new) }
+    ensures log { Logs (ata_calls [] (AtaAnswer.Verify span)) (S.state store.old) (S.state store.new) }
 {
     begin_data(station, header, args, span.count, out);
     match read_into(store, span, out) {
@@ -124,6 +126,7 @@ fn put<S: Store>(
     ensures leaves { Leaves frame.now (AtaAnswer.Put span) result out.new.items
         (S.state store.old).contents (S.state store.new).contents }
     ensures call { IsRun 1 (is_fault result) (S.state store.old) (S.state store.new) }
+    ensures log { Logs (ata_calls frame.now (AtaAnswer.Put span)) (S.state store.old) (S.state store.new) }
 {
     match store.write(span.at, put_data(args_of(frame), span)) {
         Ok(()) => {
@@ -150,6 +153,7 @@ fn sync<S: Store>(
     ensures leaves { Leaves frame.now AtaAnswer.Sync result out.new.items
         (S.state store.old).contents (S.state store.new).contents }
     ensures call { IsRun 1 (is_fault result) (S.state store.old) (S.state store.new) }
+    ensures log { Logs (ata_calls frame.now AtaAnswer.Sync) (S.state store.old) (S.state store.new) }
 {
     match store.sync() {
         Ok(()) => {
@@ -181,6 +185,7 @@ pub(crate) fn serve<S: Store>(
         (S.state store.old).contents (S.state store.new).contents }
     ensures call { OnTrue (calls_for decision.answer)
         (IsRun 1 (is_fault result) (S.state store.old) (S.state store.new)) }
+    ensures log { Logs (ata_calls frame.now decision.answer) (S.state store.old) (S.state store.new) }
     ensures idle { calls_for decision.answer ≡ false → store.new ≡ store.old }
     ensures fault { is_fault result ≡ true → Rose (S.state store.old).faults (S.state store.new).faults }
 {

@@ -107,10 +107,10 @@ impl<S: Store, D: Disk> Target<S, D> {
     ghost use Rattle.std.specs.Prelude.{◌≡◌, ◌≤◌, ◌<◌, [], true, false, length};
     ghost use Rattle.std.specs.Bool.{OnTrue};
     ghost use Rattle.aoe_base.specs.Faults.{Rose};
-    ghost use Rattle.aoe_disk.specs.Calls.{IsRun, SyncsTo};
+    ghost use Rattle.aoe_disk.specs.Calls.{IsRun, Logs, SyncsTo};
     ghost use Rattle.aoe_target.specs.Device.{State, Holds};
     ghost use Rattle.aoe_target.specs.Law.{IsStep};
-    ghost use Rattle.aoe_target.specs.Receive.{calls_store, edits, fate_of, is_faulty, is_unkept, Replaces};
+    ghost use Rattle.aoe_target.specs.Receive.{calls_store, store_calls, edits, fate_of, is_faulty, is_unkept, Replaces};
     ghost use Rattle.aoe_target.specs.Mounted.{device_of, station_of};
     ghost use Rattle.aoe_target.specs.Verdict.{verdict};
 
@@ -170,9 +170,11 @@ impl<S: Store, D: Disk> Target<S, D> {
         ensures silent { result ≡ Heard.Silent → out.new.items ≡ [] }
         ensures ignored { result ≡ Heard.Ignored → out.new.items ≡ [] }
 
-        // The store is called where the verdict says so, and then once.
+        // The store is called where the verdict says so, and then once, for the sectors of the command.
         ensures call { OnTrue (calls_store (verdict self.old.station self.old.keep.lists frame.now))
             (IsRun 1 (is_faulty result) (S.state self.old.store) (S.state self.new.store)) }
+        ensures log { Logs (store_calls frame.now (verdict self.old.station self.old.keep.lists frame.now))
+            (S.state self.old.store) (S.state self.new.store) }
         ensures idle { calls_store (verdict self.old.station self.old.keep.lists frame.now) ≡ false
             → self.new.store ≡ self.old.store }
         ensures fault { is_faulty result ≡ true → Rose (S.state self.old.store).faults (S.state self.new.store).faults }

@@ -1,9 +1,12 @@
+ghost use Rattle.std.specs.Prelude.{◌≡◌, ◌≤◌, None, length};
+ghost use Rattle.aoe_base.specs.Faults.{Rose};
+
 use crate::{Effect, Heard, Target};
-use aoe_base::{Mac, Ports, Span, TargetId};
-use aoe_disk::{Arm, Loss, MemDisk};
+use aoe_base::{Failed, Mac, Ports, Span, TargetId};
+use aoe_disk::{Arm, Disk, Loss, MemDisk};
 use aoe_frame::{Frame, pad};
 use aoe_keep::Keep;
-use aoe_store::Direct;
+use aoe_store::{Direct, Store};
 use std::alloc::Global;
 use std::test::Fail;
 
@@ -23,16 +26,21 @@ const EDITED: Heard = Heard::Replied {
     effect: Effect::Edited,
 };
 
-/// The target 1.0 of 16 zero sectors, behind one port, with the lists of a disk.
+/// The target 1.0, behind one port.
+fn target_of<S: Store, D: Disk>(store: S, keep: Keep<D>) -> Target<S, D> {
+    let mut ports = Ports::new();
+    ports.push(Mac(PORT));
+    let id = TargetId { major: 1, minor: 0 };
+    Target::mount(store, keep, id, ports, 1500)
+}
+
+/// The target of 16 zero sectors, with the lists of a disk.
 fn target_over(alloc: Global, keep: MemDisk) -> Result<Target<Direct<MemDisk>, MemDisk>, Fail> {
     let disk = MemDisk::new(alloc, 16)?;
     let Ok(keep) = Keep::mount(keep) else {
         return Err(Fail::from("no keep"));
     };
-    let mut ports = Ports::new();
-    ports.push(Mac(PORT));
-    let id = TargetId { major: 1, minor: 0 };
-    Ok(Target::mount(Direct::new(disk), keep, id, ports, 1500))
+    Ok(target_of(Direct::new(disk), keep))
 }
 
 /// The target with a keep of 16 zero sectors.
@@ -63,8 +71,8 @@ fn reply(station: &[u8; 6], flags: u8, error: u8, command: u8, args: &[u8]) -> F
 }
 
 /// What becomes of a request of version 1, and its reply.
-fn exchange(
-    target: &mut Target<Direct<MemDisk>, MemDisk>,
+fn exchange<S: Store, D: Disk>(
+    target: &mut Target<S, D>,
     station: &[u8; 6],
     command: u8,
     args: &[u8],
@@ -301,5 +309,119 @@ fn failed_calls(rt: HostRuntime) -> Result<(), Fail> {
     target.arm_store(Arm::Stop(1));
     assert!(rt; target.sync().is_err());
     assert!(rt; target.store_is_out());
+    Ok(())
+}
+
+/// A disk of which one sector can't be read. It tells nothing of its content.
+#[derive(Drop)]
+struct BadSector {
+    disk: MemDisk,
+    bad: u64,
+    faults: u64,
+}
+
+impl BadSector {
+    fn new(disk: MemDisk, bad: u64) -> BadSector {
+        BadSector {
+            disk,
+            bad,
+            faults: 0,
+        }
+    }
+
+    fn fail(&mut self) -> Failed
+        ensures disk { self.new.disk ≡ self.old.disk }
+        ensures rose { Rose self.old.faults self.new.faults }
+        ensures later { self.old.faults ≤ self.new.faults }
+    {
+        self.faults = self.faults.saturating_add(1);
+        Failed
+    }
+}
+
+impl Disk for BadSector {
+    ghost state = { λ d. record {
+      sectors = length d.disk.loose;
+      faults = d.faults;
+      contents = None;
+      schedule = None;
+      log = None;
+    } };
+
+    fn sectors(&self) -> u64 {
+        self.disk.sectors()
+    }
+
+    fn read(&mut self, at: u64, out: &mut [u8]) -> Result<(), Failed> {
+        let touches = at <= self.bad && self.bad - at < (out.len() / 512) as u64;
+        if touches || self.disk.read(at, out).is_err() {
+            return Err(self.fail());
+        }
+        Ok(())
+    }
+
+    fn write(&mut self, at: u64, piece: &[u8]) -> Result<(), Failed> {
+        match self.disk.write(at, piece) {
+            Ok(()) => Ok(()),
+            Err(Failed) => Err(self.fail()),
+        }
+    }
+
+    fn sync(&mut self) -> Result<(), Failed> {
+        match self.disk.sync() {
+            Ok(()) => Ok(()),
+            Err(Failed) => Err(self.fail()),
+        }
+    }
+}
+
+#[test]
+fn a_sector_that_can_not_be_read(rt: HostRuntime) -> Result<(), Fail> {
+    let (_, keep) = target(rt.alloc())?.close();
+    let store = Direct::new(BadSector::new(MemDisk::new(rt.alloc(), 16)?, 5));
+    let mut target = target_of(store, keep);
+    let ranges = [
+        (0, 2, true),
+        (3, 2, true),
+        (4, 1, true),
+        (4, 2, false),
+        (5, 1, false),
+        (5, 2, false),
+        (6, 1, true),
+        (6, 2, true),
+        (14, 2, true),
+    ];
+    for (at, count, is_read) in ranges {
+        for command in [0x24, 0x42] {
+            let args = [0x40, 0, count, command, at, 0, 0, 0, 0, 0, 0, 0];
+            let effect = if is_read {
+                Effect::None
+            } else {
+                Effect::ReadFault
+            };
+            let (heard, _) = exchange(&mut target, &A, 0, &args);
+            assert_eq!(rt; heard, Heard::Replied { effect });
+        }
+    }
+    Ok(())
+}
+
+#[test]
+fn lists_with_a_sector_that_can_not_be_read(rt: HostRuntime) -> Result<(), Fail> {
+    // Slot 0 is open: its gate and its body are read, and the gate of slot 1.
+    for (bad, is_mounted) in [
+        (0, false),
+        (1, false),
+        (7, false),
+        (8, false),
+        (9, true),
+        (15, true),
+    ] {
+        let mut target = target(rt.alloc())?;
+        let (_, _) = exchange(&mut target, &A, 1, b"\0\0\0\0\0\x03\0\x02ab");
+        let (_, keep) = target.close();
+        let disk = BadSector::new(keep.close(), bad);
+        assert_eq!(rt; Keep::mount(disk).is_ok(), is_mounted);
+    }
     Ok(())
 }

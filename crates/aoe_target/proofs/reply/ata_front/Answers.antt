@@ -1,6 +1,5 @@
 use Rattle.std.proofs.Common.{ap, ◌++◌, ◌∙◌, rules}
 use Rattle.aoe_ata.specs.Args.{args_bytes}
-use Rattle.aoe_target.specs.Reply.{reply_head}
 use Rattle.aoe_target.proofs.PieceLemmas.{front_is}
 use Rattle.aoe_target.proofs.reply.ata_front.Goals as goal
 

@@ -1,4 +1,5 @@
-use Rattle.std.proofs.Common.{◌≡◌, true, arith}
+use Rattle.std.proofs.Common.{◌≡◌, true, is_err, arith}
+use Rattle.aoe_keep.proofs.Making.{clears_failed, clears_done}
 use Rattle.std.proofs.lemmas.Result.{on_err_weaker, on_ok_weaker}
 use Rattle.aoe_keep.proofs.Calls.{cleared_err, cleared_ok}
 use Rattle.aoe_keep.proofs.Others.{sync_others, others_then}
@@ -18,3 +19,11 @@ returns-clause-ok g c =
 
 pub returns-clause-others : goal.returns-clause-others
 returns-clause-others g c = others_then _ _ _ c.close_gate.ensures.others (sync_others c.sync.result _ _ c.sync.ensures.contents)
+
+pub returns-in_err-close_gate-clause-calls : goal.returns-in_err-close_gate-clause-calls
+returns-in_err-close_gate-clause-calls g c =
+    clears_failed g.D.Disk.state c.close_gate.result _ (is_err c.from_residual.result) c.args.self.now c.close_gate.new.self c.in_err-close_gate.was c.from_residual.ensures.0 c.close_gate.ensures.known c.close_gate.ensures.log
+
+pub returns-clause-calls : goal.returns-clause-calls
+returns-clause-calls g c =
+    clears_done g.D.Disk.state (is_err c.sync.result) c.args.self.now _ (g.D.Disk.state c.close_gate.new.self.disk) c.in_ok-close_gate.ensures.closed c.close_gate.ensures.log c.sync.ensures.log

@@ -1,4 +1,8 @@
-use Rattle.std.proofs.Common.{arith}
+use Rattle.std.proofs.Common.{arith, ℕ, ◌*◌, true, is_err, [], ◌∷◌, subst}
+use Rattle.aoe_disk.specs.Calls.{Logs}
+use Rattle.aoe_disk.specs.State.{Write, Sync}
+use Rattle.aoe_keep.specs.Calls.{gate, write_gate}
+use Rattle.aoe_keep.proofs.Making.{makes_first, makes_two}
 use Rattle.std.proofs.lemmas.Result.{on_ok_weaker}
 use Rattle.aoe_keep.proofs.Calls.{open_err, opened_err, opened_ok, err_now, err_at}
 use Rattle.aoe_keep.proofs.Runs.{run_ends}
@@ -27,3 +31,13 @@ returns-in_err-write_gate-clause-run g c = run_ends 1 2 c.write_gate.result _ _ 
 
 pub returns-clause-others : goal.returns-clause-others
 returns-clause-others g c = others_then _ _ _ c.write_gate.ensures.others (sync_others c.sync.result _ _ c.sync.ensures.contents)
+
+pub returns-in_err-write_gate-clause-calls : goal.returns-in_err-write_gate-clause-calls
+returns-in_err-write_gate-clause-calls g c =
+    makes_first (write_gate c.args.self.now.place true) Sync (is_err c.from_residual.result) (g.D.Disk.state c.args.self.now.disk) (g.D.Disk.state c.write_gate.new.disk) c.from_residual.ensures.0
+    (subst (λ (k : ℕ). Logs (Write (8 * k) (gate true) ∷ []) (g.D.Disk.state c.args.self.now.disk) (g.D.Disk.state c.write_gate.new.disk)) c.spare_slot.ensures.slot c.write_gate.ensures.log)
+
+pub returns-clause-calls : goal.returns-clause-calls
+returns-clause-calls g c =
+    makes_two (write_gate c.args.self.now.place true) Sync (is_err c.sync.result) (g.D.Disk.state c.args.self.now.disk) (g.D.Disk.state c.write_gate.new.disk) (g.D.Disk.state c.sync.new.self)
+    (subst (λ (k : ℕ). Logs (Write (8 * k) (gate true) ∷ []) (g.D.Disk.state c.args.self.now.disk) (g.D.Disk.state c.write_gate.new.disk)) c.spare_slot.ensures.slot c.write_gate.ensures.log) c.sync.ensures.log

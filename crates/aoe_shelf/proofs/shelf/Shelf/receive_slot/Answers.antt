@@ -12,6 +12,7 @@ returns-clause-receives g c =
       silent = c.receive.ensures.silent;
       ignored = c.receive.ensures.ignored;
       call = c.receive.ensures.call;
+      log = c.receive.ensures.log;
       idle = c.receive.ensures.idle;
       fault = c.receive.ensures.fault;
       edit = c.receive.ensures.edit;

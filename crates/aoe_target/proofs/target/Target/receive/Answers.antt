@@ -1,9 +1,10 @@
 use Rattle.std.proofs.Common.{◌≡◌, false, refl, subst}
 use Rattle.std.specs.Bool.{OnTrue}
-use Rattle.aoe_disk.specs.Calls.{IsRun}
+use Rattle.aoe_disk.specs.Calls.{IsRun, Logs}
+use Rattle.aoe_disk.proofs.Runs.{logs_none}
 use Rattle.aoe_target.specs.Device.{State, Holds}
 use Rattle.aoe_target.specs.Law.{ignored, silent, replied, IsStep}
-use Rattle.aoe_target.specs.Receive.{calls_store, edits, fate_of, is_edit_fault, is_fault, is_faulty, is_unkept, Replaces}
+use Rattle.aoe_target.specs.Receive.{calls_store, store_calls, edits, fate_of, is_edit_fault, is_fault, is_faulty, is_unkept, Replaces}
 use Rattle.aoe_target.specs.Mounted.{Mounted, device_of}
 use Rattle.aoe_target.specs.declared.heard.Effect.TheVariants as effect
 use Rattle.aoe_target.specs.declared.verdict.Verdict.{Verdict}
@@ -132,3 +133,38 @@ returns-in-Ata-clause-edit g c =
     let v = judged_is c.self.inside.station c.self.inside.keep.lists c.lists.result.now c.args.frame.now c.in-Some.header c.args_of.result.now (Ata c.in-Ata.decision) c.in-Some.ensures.there c.in-Some.ensures.fields c.args_of.ensures c.lists.ensures c.in-Ata.ensures.verdict in
     let Q : Mounted _ _ → Verdict → Type 0 = λ t w. OnTrue (edits t.station t.keep.lists c.args.frame.now w) (Replaces (is_edit_fault c.serve-effect.result) (g.D.Disk.state t.keep.disk) (g.D.Disk.state c.self.inside.keep.disk)) in
     by_verdict _ _ c.args.frame.now (Ata c.in-Ata.decision) Q c.self.view_is v tt
+
+pub returns-in_default-clause-log : goal.returns-in_default-clause-log
+returns-in_default-clause-log g c =
+    let Q : Mounted _ _ → Verdict → Type 0 = λ t w. Logs (store_calls c.args.frame.now w) (g.S.Store.state t.store) (g.S.Store.state t.store) in
+    by_verdict c.args.self.now c.args.self.now c.args.frame.now Ignored Q refl (unheard c.args.self.now.station c.args.self.now.keep.lists c.args.frame.now c.in_default.ensures.there) (logs_none (g.S.Store.state c.args.self.now.store))
+
+pub returns-in-Ignored-clause-log : goal.returns-in-Ignored-clause-log
+returns-in-Ignored-clause-log g c =
+    let v = judged_is c.self.inside.station c.self.inside.keep.lists c.lists.result.now c.args.frame.now c.in-Some.header c.args_of.result.now Ignored c.in-Some.ensures.there c.in-Some.ensures.fields c.args_of.ensures c.lists.ensures c.in-Ignored.ensures.verdict in
+    let Q : Mounted _ _ → Verdict → Type 0 = λ t w. Logs (store_calls c.args.frame.now w) (g.S.Store.state t.store) (g.S.Store.state t.store) in
+    by_verdict _ _ c.args.frame.now Ignored Q c.self.view_is v (logs_none (g.S.Store.state c.self.inside.store))
+
+pub returns-in-Silent-clause-log : goal.returns-in-Silent-clause-log
+returns-in-Silent-clause-log g c =
+    let v = judged_is c.self.inside.station c.self.inside.keep.lists c.lists.result.now c.args.frame.now c.in-Some.header c.args_of.result.now Silent c.in-Some.ensures.there c.in-Some.ensures.fields c.args_of.ensures c.lists.ensures c.in-Silent.ensures.verdict in
+    let Q : Mounted _ _ → Verdict → Type 0 = λ t w. Logs (store_calls c.args.frame.now w) (g.S.Store.state t.store) (g.S.Store.state t.store) in
+    by_verdict _ _ c.args.frame.now Silent Q c.self.view_is v (logs_none (g.S.Store.state c.self.inside.store))
+
+pub returns-in-Refused-clause-log : goal.returns-in-Refused-clause-log
+returns-in-Refused-clause-log g c =
+    let v = judged_is c.self.inside.station c.self.inside.keep.lists c.lists.result.now c.args.frame.now c.in-Some.header c.args_of.result.now (Refused c.in-Refused.error) c.in-Some.ensures.there c.in-Some.ensures.fields c.args_of.ensures c.lists.ensures c.in-Refused.ensures.verdict in
+    let Q : Mounted _ _ → Verdict → Type 0 = λ t w. Logs (store_calls c.args.frame.now w) (g.S.Store.state t.store) (g.S.Store.state t.store) in
+    by_verdict _ _ c.args.frame.now (Refused c.in-Refused.error) Q c.self.view_is v (logs_none (g.S.Store.state c.self.inside.store))
+
+pub returns-in-Lists-clause-log : goal.returns-in-Lists-clause-log
+returns-in-Lists-clause-log g c =
+    let v = judged_is c.self.inside.station c.self.inside.keep.lists c.lists.result.now c.args.frame.now c.in-Some.header c.args_of.result.now (Lists c.in-Lists.command) c.in-Some.ensures.there c.in-Some.ensures.fields c.args_of.ensures c.lists.ensures c.in-Lists.ensures.verdict in
+    let Q : Mounted _ _ → Verdict → Type 0 = λ t w. Logs (store_calls c.args.frame.now w) (g.S.Store.state t.store) (g.S.Store.state c.self.inside.store) in
+    by_verdict _ _ c.args.frame.now (Lists c.in-Lists.command) Q c.self.view_is v (logs_none (g.S.Store.state c.self.inside.store))
+
+pub returns-in-Ata-clause-log : goal.returns-in-Ata-clause-log
+returns-in-Ata-clause-log g c =
+    let v = judged_is c.self.inside.station c.self.inside.keep.lists c.lists.result.now c.args.frame.now c.in-Some.header c.args_of.result.now (Ata c.in-Ata.decision) c.in-Some.ensures.there c.in-Some.ensures.fields c.args_of.ensures c.lists.ensures c.in-Ata.ensures.verdict in
+    let Q : Mounted _ _ → Verdict → Type 0 = λ t w. Logs (store_calls c.args.frame.now w) (g.S.Store.state t.store) (g.S.Store.state c.serve-effect.new.store) in
+    by_verdict _ _ c.args.frame.now (Ata c.in-Ata.decision) Q c.self.view_is v c.serve-effect.ensures.log
