@@ -1,0 +1,82 @@
+-- Runs of adjacent sectors, joined in one device write.
+use Rattle.std.proofs.Common.{◌≡◌, ◌≢◌, ◌≤◌, ◌<◌, ◌+◌, ◌*◌, ◌++◌, ℕ, zero, suc, Bool, true, List, [], ◌∷◌, Some, None, length, take, drop, replicate, refl, sym, arith, ◌∙◌, ap, inl, inr, append_assoc, length-append, length-drop, take-append-drop}
+use Rattle.std.proofs.lemmas.Bool.{cases_eq}
+use Rattle.std.proofs.lemmas.List.{length-take-le, take_at, drop_at, drop-drop, append-nil, length-replicate, replicate-append-replicate}
+use Rattle.aoe_disk.specs.State.{with_piece, with_marks}
+use Rattle.aoe_cache.specs.declared.place.HeldSector.{HeldSector}
+use Rattle.aoe_cache.specs.Held.{IsAscending, AreBelow, held_for, laid_over, marked}
+use Rattle.aoe_cache.specs.Down.{AreAdjacent, bytes_of}
+use Rattle.aoe_cache.proofs.Ascending.{held_same, held_other}
+
+-- the size of a run, and its range
+
+pub length-bytes_of : (low : ℕ) (hs : List HeldSector) → IsAscending low hs → length (bytes_of hs) ≡ 512 * length hs
+length-bytes_of low [] order = refl
+length-bytes_of low (h ∷ hs) order = omega (arith, length-append h.bytes (bytes_of hs), order.1, length-bytes_of (h.at + 1) hs order.2)
+
+pub adjacent_fits : (at high : ℕ) (hs : List HeldSector) → 0 < length hs → AreAdjacent at hs → AreBelow high hs → at + length hs ≤ high
+adjacent_fits at high [] some a b = absurd (omega arith)
+adjacent_fits at high (h ∷ []) some a b = omega (arith, a.0, b.0)
+adjacent_fits at high (h ∷ (g ∷ hs)) some a b = omega (arith, adjacent_fits (at + 1) high (g ∷ hs) (omega arith) a.1 b.1)
+
+-- a sector of a run is held
+pub adjacent_held : (at n s : ℕ) (hs : List HeldSector) → AreAdjacent at (take n hs) → n ≤ length hs → at ≤ s → s < at + n → held_for hs s ≢ None
+adjacent_held at zero s hs a le low high e = absurd (omega arith)
+adjacent_held at (suc n) s [] a le low high e = absurd (omega arith)
+adjacent_held at (suc n) s (h ∷ hs) a le low high e = elim (cases_eq h.at s) [
+  | inl same ↦ let there : Some h.bytes ≡ None = sym (held_same s h hs same) ∙ e in cc
+  | inr other ↦ adjacent_held (at + 1) n s hs a.1 (omega arith) (omega (arith, other, a.0)) (omega arith) (sym (held_other s h hs other) ∙ e)
+]
+
+-- one piece behind another
+
+module _ {A : Type 0} (xs p : List A) (i : ℕ) (fits : i + length p ≤ length xs) where
+  length-put : length (take i xs ++ p ++ drop (i + length p) xs) ≡ length xs
+  length-put = omega (arith, length-append (take i xs ++ p) (drop (i + length p) xs), length-append (take i xs) p, length-take-le i xs (omega arith), length-drop (i + length p) xs)
+
+  put_append : (q : List A) → take (i + length p) (take i xs ++ p ++ drop (i + length p) xs) ++ q ++ drop (i + length p + length q) (take i xs ++ p ++ drop (i + length p) xs) ≡ take i xs ++ (p ++ q) ++ drop (i + (length p + length q)) xs
+  put_append q =
+      let front : length (take i xs ++ p) ≡ i + length p = omega (arith, length-append (take i xs) p, length-take-le i xs (omega arith)) in
+      let old : List A = take i xs ++ p ++ drop (i + length p) xs in
+      let head : take (i + length p) old ≡ take i xs ++ p = take_at (take i xs ++ p) (drop (i + length p) xs) (i + length p) front in
+      let sum : i + length p + length q ≡ i + (length p + length q) = omega arith in
+      let tail : drop (i + length p + length q) old ≡ drop (i + (length p + length q)) xs =
+      sym (drop-drop (length q) (i + length p) old) ∙ ap (drop (length q)) (drop_at (take i xs ++ p) (drop (i + length p) xs) (i + length p) front) ∙ drop-drop (length q) (i + length p) xs ∙ ap (λ (m : ℕ). drop m xs) sum in
+      ap (λ (l : List A). l ++ q ++ drop (i + length p + length q) old) head ∙ ap (λ (l : List A). (take i xs ++ p) ++ q ++ l) tail
+      ∙ ap (λ (l : List A). l ++ drop (i + (length p + length q)) xs) (append_assoc (take i xs) p q)
+
+put_nothing : {A : Type 0} (xs : List A) (i : ℕ) → take i xs ++ [] ++ drop (i + 0) xs ≡ xs
+put_nothing {A} xs i = let e : i + 0 ≡ i = omega arith in ap (λ (l : List A). l ++ drop (i + 0) xs) (append-nil (take i xs)) ∙ ap (λ (m : ℕ). take i xs ++ drop m xs) e ∙ take-append-drop i xs
+
+-- the sectors of a run, written at once
+
+pub laid_run : (low at : ℕ) (bytes : List ℕ) (hs : List HeldSector) → IsAscending low hs → AreAdjacent at hs → 512 * at + 512 * length hs ≤ length bytes → laid_over bytes hs ≡ with_piece bytes (512 * at) (bytes_of hs)
+laid_run low at bytes [] order a fits = sym (put_nothing bytes (512 * at))
+laid_run low at bytes (h ∷ hs) order a fits =
+    let here : 512 * h.at ≡ 512 * at = omega (arith, a.0) in
+    let room : 512 * at + length h.bytes ≤ length bytes = omega (arith, order.1) in
+    let more : 512 * (at + 1) ≡ 512 * at + length h.bytes = omega (arith, order.1) in
+    let len : length h.bytes + length (bytes_of hs) ≡ length (h.bytes ++ bytes_of hs) = sym (length-append h.bytes (bytes_of hs)) in
+    let size : length (with_piece bytes (512 * at) h.bytes) ≡ length bytes = length-put bytes h.bytes (512 * at) room in
+    ap (λ (m : ℕ). laid_over (with_piece bytes m h.bytes) hs) here
+    ∙ laid_run (h.at + 1) (at + 1) (with_piece bytes (512 * at) h.bytes) hs order.2 a.1 (omega (arith, size))
+    ∙ ap (λ (m : ℕ). with_piece (with_piece bytes (512 * at) h.bytes) m (bytes_of hs)) more
+    ∙ put_append bytes h.bytes (512 * at) room (bytes_of hs)
+    ∙ ap (λ (m : ℕ). take (512 * at) bytes ++ (h.bytes ++ bytes_of hs) ++ drop (512 * at + m) bytes) len
+
+pub marked_run : (at : ℕ) (loose : List Bool) (hs : List HeldSector) → AreAdjacent at hs → at + length hs ≤ length loose → marked loose hs ≡ with_marks loose at (length hs)
+marked_run at loose [] a fits = sym (put_nothing loose at)
+marked_run at loose (h ∷ hs) a fits =
+    let one : List Bool = replicate 1 true in
+    let room : at + 1 ≤ length loose = omega arith in
+    let size : length (with_marks loose at 1) ≡ length loose = length-put loose one at room in
+    let n : ℕ = length hs in
+    let sum : 1 + n ≡ suc n = omega arith in
+    let ln : length (replicate n true) ≡ n = length-replicate n true in
+    ap (λ (m : ℕ). marked (with_marks loose m 1) hs) a.0
+    ∙ marked_run (at + 1) (with_marks loose at 1) hs a.1 (omega (arith, size))
+    ∙ ap (λ (m : ℕ). take (at + 1) (with_marks loose at 1) ++ replicate n true ++ drop (at + 1 + m) (with_marks loose at 1)) (sym ln)
+    ∙ put_append loose one at room (replicate n true)
+    ∙ ap (λ (m : ℕ). take at loose ++ (one ++ replicate n true) ++ drop (at + (1 + m)) loose) ln
+    ∙ ap (λ (l : List Bool). take at loose ++ l ++ drop (at + (1 + n)) loose) (replicate-append-replicate 1 n true)
+    ∙ ap (λ (m : ℕ). take at loose ++ replicate m true ++ drop (at + m) loose) sum

@@ -1,0 +1,5 @@
+pub mod Held
+pub mod Down
+pub mod Cache
+pub mod Free
+pub mod Any

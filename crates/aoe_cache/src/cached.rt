@@ -1,0 +1,116 @@
+//! A store that writes to its disk later.
+ghost use Rattle.std.specs.Prelude.{◌≡◌, ◌≤◌, [], true, IfOk, IfErr, IfSome};
+ghost use Rattle.aoe_disk.specs.State.{BothTell};
+ghost use Rattle.aoe_cache.specs.Cache.{state_of};
+ghost use Rattle.aoe_cache.specs.Free.{KeepsSettled, free, is_settled};
+
+use crate::write_behind::WriteBehind;
+use aoe_base::{Failed, NoMemory};
+use aoe_disk::{Arm, Armed, Disk};
+use aoe_store::{ArmedStore, Store};
+use std::alloc::Global;
+use std::marker::Model;
+
+/// A disk as a store that holds back what was written to it, until its buffer is full or a sync.
+#[derive(Drop)]
+pub struct Cached<D: Disk> {
+    behind: WriteBehind<D>,
+}
+
+impl<D: Disk> Model for Cached<D> {
+    ghost use Rattle.aoe_cache.specs.Cache.{Cache, IsWriteBehind, cache_of};
+
+    ghost Value = { Cache D };
+
+    ghost view = { λ c. cache_of c.behind };
+
+    ghost invariant = { λ c. IsWriteBehind D.state c.behind };
+}
+
+impl<D: Disk> Cached<D> {
+    /// The disk as a store that holds back up to `room` sectors. All its memory is taken here, for
+    /// `room` sectors or for all of the disk, whichever are fewer.
+    pub fn mount(alloc: Global, disk: D, room: u32) -> Result<Cached<D>, (NoMemory, D)>
+        requires some { 1 ≤ room }
+        requires most { room ≤ 65536 }
+        ensures store { IfOk result (λ store. store ≡ record { disk = disk; held = []; room = room }) }
+        ensures free { IfOk result (λ store. IfSome (D.state disk).contents (λ c.
+            is_settled c ≡ true → free D.state store ≡ Some room)) }
+        ensures refused { IfErr result (λ e. e.1 ≡ disk) }
+    {
+        match WriteBehind::new(alloc, disk, room) {
+            Ok(behind) => Ok(Cached { behind }),
+            Err(refused) => Err(refused),
+        }
+    }
+
+    /// The disk. What is in the buffer is lost, so sync before.
+    pub fn close(self) -> D
+        ensures disk { result ≡ self.disk }
+        ensures kept { BothTell KeepsSettled (state_of D.state self).contents (D.state result).contents }
+    {
+        self.behind.disk
+    }
+}
+
+impl<D: Disk> Store for Cached<D> {
+    ghost use Rattle.std.specs.Prelude.{◌/◌, length};
+    ghost use Rattle.aoe_disk.specs.Calls.{IsRange, Reads, SyncsTo};
+    ghost use Rattle.aoe_store.specs.Store.{StoresTo};
+    ghost use Rattle.aoe_cache.specs.Cache.{CacheReads, CacheSyncs, CacheWrites, state_of};
+    ghost use Rattle.aoe_cache.specs.Free.{FreesAll, KeepsFree, SpendsFree};
+
+    ghost state = { λ s. state_of D.state s };
+
+    fn sectors(&self) -> u64 {
+        self.behind.disk.sectors()
+    }
+
+    fn read(&mut self, at: u64, out: &mut [u8]) -> Result<(), Failed>
+        requires { IsRange at (length out.old) (state_of D.state self.old).sectors }
+        ensures reads { Reads at (length out.old) result out.new
+            (state_of D.state self.old) (state_of D.state self.new) }
+        ensures device { CacheReads D.state at (length out.old) result self.old self.new }
+        ensures free { KeepsFree D.state self.old self.new }
+    {
+        self.behind.read(at, out)
+    }
+
+    fn write(&mut self, at: u64, piece: &[u8]) -> Result<(), Failed>
+        requires { IsRange at (length piece.now) (state_of D.state self.old).sectors }
+        ensures stores { StoresTo at piece.now result (state_of D.state self.old) (state_of D.state self.new) }
+        ensures device { CacheWrites D.state at piece.now result self.old self.new }
+        ensures free { SpendsFree D.state (length piece.now / 512) self.old self.new }
+    {
+        self.behind.write(at, piece)
+    }
+
+    fn sync(&mut self) -> Result<(), Failed>
+        ensures syncs { SyncsTo result (state_of D.state self.old) (state_of D.state self.new) }
+        ensures device { CacheSyncs D.state result self.old self.new }
+        ensures free { FreesAll D.state result self.old self.new }
+    {
+        self.behind.sync()
+    }
+}
+
+impl<D: Armed> ArmedStore for Cached<D> {
+    ghost use Rattle.std.specs.Prelude.{◌<◌};
+    ghost use Rattle.aoe_disk.specs.Arming.{number_of, ArmsTo};
+    ghost use Rattle.aoe_cache.specs.Cache.{CacheArms, state_of};
+
+    fn arm(&mut self, arm: Arm)
+        requires { 0 < number_of arm }
+        ensures arms { ArmsTo arm (state_of D.state self.old) (state_of D.state self.new) }
+        ensures device { CacheArms D.state arm self.old self.new }
+    {
+        self.behind.disk.arm(arm);
+    }
+
+    fn is_out(&self) -> bool {
+        self.behind.disk.is_out()
+    }
+}
+
+#[cfg(test)]
+mod tests;

@@ -1,0 +1,35 @@
+//! A store that writes to its disk later.
+//!
+//! A [`Cached`] is a disk as a [`Store`](aoe_store::Store) that holds back what was written to it.
+//! Its calls come in this order:
+//!
+//! 1. [`Cached::mount`] takes a disk and the most sectors that it is to hold back, and all the memory
+//!    that it will ever use. Where that can't be had, it gives the disk back.
+//! 2. `write` puts sectors to the buffer, which is kept in ascending order and holds each sector once,
+//!    as it was last written. As long as they find room this makes no device call. A write that finds
+//!    none first writes the whole buffer down, and a write of more sectors than the room goes to the
+//!    disk after it.
+//! 3. `read` makes one device read and lays what the buffer holds over it.
+//! 4. `sync` writes the buffer down, adjacent sectors joined into device writes of up to 64, and then
+//!    syncs the disk. Only what was synced outlives a loss of power.
+//! 5. [`Cached::close`] gives the disk.
+//!
+//! A device write that fails ends the call that made it: its sectors stay in the buffer, and so do
+//! those behind them, while those written before have left it. They are still read, and the next call
+//! that writes down tries them again.
+//!
+//! It writes nothing by itself: no timer and no share of the room that is full does. It doesn't sync
+//! when it is closed or let go of. It doesn't read ahead, and keeps nothing that was only read.
+//!
+//! [`AnyStore`] is a [`Direct`](aoe_store::Direct) or a [`Cached`] store, for a program that is told
+//! which when it starts.
+#![tactic(auto)]
+
+mod any;
+mod buffer;
+mod cached;
+mod place;
+mod write_behind;
+
+pub use any::AnyStore;
+pub use cached::Cached;

@@ -1,0 +1,80 @@
+//! One place of a buffer.
+ghost use Rattle.std.specs.Prelude.{◌≡◌, ◌≤◌, ◌+◌, ◌-◌, ◌*◌, length};
+ghost use Rattle.aoe_disk.specs.State.{with_piece};
+
+use aoe_base::NoMemory;
+use std::alloc::Global;
+use std::marker::Model;
+
+/// The length of a sector in bytes.
+pub const SECTOR: usize = 512;
+
+/// A sector's number and its bytes.
+#[derive(Drop)]
+pub struct HeldSector {
+    pub at: u64,
+    pub bytes: [u8; 512],
+}
+
+/// Room for one sector in an allocation of its own, so that a buffer moves its places and not the
+/// bytes in them.
+#[derive(Drop)]
+pub(crate) struct Place {
+    inner: Box<HeldSector>,
+}
+
+impl Model for Place {
+    ghost use Rattle.aoe_cache.specs.declared.place.HeldSector.{HeldSector};
+
+    ghost Value = { HeldSector };
+
+    ghost view = { λ p. p.inner.value };
+}
+
+impl Place {
+    /// A place that no sector was put to.
+    pub(crate) fn new(alloc: Global) -> Result<Place, NoMemory> {
+        let empty = HeldSector {
+            at: 0,
+            bytes: [0; 512],
+        };
+        match Box::new(alloc, empty) {
+            Ok(inner) => Ok(Place { inner }),
+            Err(_) => Err(NoMemory),
+        }
+    }
+
+    /// The number of its sector.
+    pub(crate) fn at(&self) -> u64
+        ensures { result ≡ self.now.at }
+    {
+        self.inner.at
+    }
+
+    /// The bytes of its sector.
+    pub(crate) fn bytes(&self) -> &[u8]
+        ensures value { result.now ≡ self.now.bytes }
+        ensures whole { length result.now ≡ 512 }
+    {
+        &self.inner.bytes
+    }
+
+    /// Lays its sector over those from sector `at` on.
+    pub(crate) fn lay_over(&self, at: u64, out: &mut [u8])
+        requires from { at ≤ self.now.at }
+        requires room { 512 * (self.now.at - at) + 512 ≤ length out.old }
+        ensures { out.new ≡ with_piece out.old (512 * (self.now.at - at)) self.now.bytes }
+    {
+        let start = SECTOR * (self.at() - at) as usize;
+        out[start..start + SECTOR].copy_from_slice(self.bytes());
+    }
+
+    /// Puts a sector in the place of what stood there.
+    pub(crate) fn put(&mut self, at: u64, bytes: &[u8])
+        requires { length bytes.now ≡ 512 }
+        ensures { self.new ≡ record { at = at; bytes = bytes.now } }
+    {
+        self.inner.at = at;
+        self.inner.bytes.copy_from_slice(bytes);
+    }
+}

@@ -1,0 +1,172 @@
+//! Sectors that are written behind: they stand in a buffer, and go down to the disk later.
+ghost use Rattle.std.specs.Prelude.{◌≡◌, ◌≤◌, ◌<◌, ◌⊎◌, ◌/◌, [], length, take, drop, IfOk, IfErr};
+ghost use Rattle.aoe_disk.specs.State.{IsDisk};
+ghost use Rattle.aoe_disk.specs.Calls.{IsRange, Reads, WritesTo};
+ghost use Rattle.aoe_cache.specs.Held.{held_of, with_written};
+ghost use Rattle.aoe_cache.specs.Down.{IsJoined, StopsShort, WritesDown, bytes_of, first_of};
+ghost use Rattle.aoe_cache.specs.Cache.{CacheReads, CacheSyncs, CacheWrites, IsWriteBehind, IsBuffer, WritesAfter, cache_of, state_of};
+
+use crate::buffer::{Buffer, MOST_JOINED};
+use crate::place::SECTOR;
+use aoe_base::{Failed, NoMemory};
+use aoe_disk::Disk;
+use std::alloc::Global;
+
+/// The length of the longest device write of joined sectors.
+const JOINED: usize = SECTOR * MOST_JOINED;
+
+// Writes `count` sectors of the buffer from place `from` on by one device write.
+fn write_run<D: Disk>(
+    disk: &mut D,
+    buffer: &Buffer,
+    from: usize,
+    count: usize,
+    scratch: &mut [u8],
+) -> Result<(), Failed>
+    requires buffer { IsBuffer (D.state disk.old).sectors buffer.now }
+    requires joined { IsJoined count (drop from (held_of buffer.now)) }
+    requires scratch { length scratch.old ≡ 32768 }
+    requires disk { IsDisk (D.state disk.old) }
+    ensures { WritesTo (first_of (drop from (held_of buffer.now)))
+        (bytes_of (take count (drop from (held_of buffer.now)))) result (D.state disk.old) (D.state disk.new) }
+{
+    let length = SECTOR * count;
+    buffer.gather(from, count, scratch);
+    disk.write(buffer.first_from(from), &scratch[..length])
+}
+
+// Writes the buffer down from the lowest sector on, and says how many of its sectors were written.
+fn write_runs<D: Disk>(
+    disk: &mut D,
+    buffer: &Buffer,
+    scratch: &mut [u8],
+) -> (usize, Result<(), Failed>)
+    requires buffer { IsBuffer (D.state disk.old).sectors buffer.now }
+    requires scratch { length scratch.old ≡ 32768 }
+    requires disk { IsDisk (D.state disk.old) }
+    ensures count { result.0 ≤ length (held_of buffer.now) }
+    ensures down { WritesDown result.1 (held_of buffer.now) (drop result.0 (held_of buffer.now))
+        (D.state disk.old) (D.state disk.new) }
+{
+    let mut done = 0;
+    'runs: while done < buffer.len() {
+        let count = buffer.run_from(done);
+        if let Err(Failed) = write_run(disk, buffer, done, count, scratch) {
+            return (done, Err(Failed));
+        }
+        done += count;
+    }
+    (done, Ok(()))
+}
+
+// Writes the buffer down. What was written leaves it, and the rest stays where a write failed.
+fn write_down<D: Disk>(disk: &mut D, buffer: &mut Buffer, scratch: &mut [u8]) -> Result<(), Failed>
+    requires buffer { IsBuffer (D.state disk.old).sectors buffer.old }
+    requires scratch { length scratch.old ≡ 32768 }
+    requires disk { IsDisk (D.state disk.old) }
+    ensures disk { IsDisk (D.state disk.new) }
+    ensures sectors { (D.state disk.new).sectors ≡ (D.state disk.old).sectors }
+    ensures buffer { IsBuffer (D.state disk.new).sectors buffer.new }
+    ensures places { length buffer.new.places.items ≡ length buffer.old.places.items }
+    ensures down { WritesDown result (held_of buffer.old) (held_of buffer.new)
+        (D.state disk.old) (D.state disk.new) }
+{
+    let (written, result) = write_runs(disk, buffer, scratch);
+    buffer.forget(written);
+    result
+}
+
+/// A disk and the sectors that are to be written to it.
+#[derive(Drop)]
+pub(crate) struct WriteBehind<D: Disk> {
+    pub(crate) disk: D,
+    pub(crate) buffer: Buffer,
+
+    // The most sectors that stand in the buffer.
+    pub(crate) room: u32,
+
+    // The bytes of joined sectors on their way to the disk.
+    pub(crate) scratch: Vec<u8>,
+}
+
+impl<D: Disk> WriteBehind<D> {
+    /// Takes all memory that the later calls need.
+    pub(crate) fn new(alloc: Global, disk: D, room: u32) -> Result<WriteBehind<D>, (NoMemory, D)>
+        ensures behind { IfOk result (λ behind. IsWriteBehind D.state behind) }
+        ensures cache { IfOk result (λ behind. cache_of behind ≡ record { disk = disk; held = []; room = room }) }
+        ensures refused { IfErr result (λ e. e.1 ≡ disk) }
+    {
+        let places = disk.sectors().min(u64::from(room)) as usize;
+        let Ok(buffer) = Buffer::new(alloc, places) else {
+            return Err((NoMemory, disk));
+        };
+        let Ok(scratch) = Vec::from_elem(alloc, 0, JOINED) else {
+            return Err((NoMemory, disk));
+        };
+        Ok(WriteBehind {
+            disk,
+            buffer,
+            room,
+            scratch,
+        })
+    }
+
+    /// Reads the disk, and lays the buffer over what it gave.
+    pub(crate) fn read(&mut self, at: u64, out: &mut [u8]) -> Result<(), Failed>
+        requires behind { IsWriteBehind D.state self.old }
+        requires range { IsRange at (length out.old) (D.state self.old.disk).sectors }
+        ensures behind { IsWriteBehind D.state self.new }
+        ensures reads { CacheReads D.state at (length out.old) result (cache_of self.old) (cache_of self.new) }
+        ensures seen { Reads at (length out.old) result out.new
+            (state_of D.state (cache_of self.old)) (state_of D.state (cache_of self.new)) }
+    {
+        if let Err(Failed) = self.disk.read(at, out) {
+            return Err(Failed);
+        }
+        self.buffer.lay_over(at, out);
+        Ok(())
+    }
+
+    // A write that the buffer has no room for beside what stands there.
+    fn write_beyond(&mut self, at: u64, piece: &[u8]) -> Result<(), Failed>
+        requires behind { IsWriteBehind D.state self.old }
+        requires range { IsRange at (length piece.now) (D.state self.old.disk).sectors }
+        ensures behind { IsWriteBehind D.state self.new }
+        ensures room { self.new.room ≡ self.old.room }
+        ensures writes { StopsShort result (held_of self.old.buffer) (held_of self.new.buffer)
+            (D.state self.old.disk) (D.state self.new.disk)
+            ⊎ WritesAfter D.state at (length piece.now / 512) piece.now result (cache_of self.old) (cache_of self.new) }
+    {
+        write_down(&mut self.disk, &mut self.buffer, &mut self.scratch)?;
+        if piece.len() / SECTOR > self.room as usize {
+            return self.disk.write(at, piece);
+        }
+        self.buffer.put(at, piece);
+        Ok(())
+    }
+
+    /// Puts the piece to the buffer, which is written down first where it hasn't the room. A piece
+    /// that is longer than its whole room goes to the disk.
+    pub(crate) fn write(&mut self, at: u64, piece: &[u8]) -> Result<(), Failed>
+        requires behind { IsWriteBehind D.state self.old }
+        requires range { IsRange at (length piece.now) (D.state self.old.disk).sectors }
+        ensures behind { IsWriteBehind D.state self.new }
+        ensures writes { CacheWrites D.state at piece.now result (cache_of self.old) (cache_of self.new) }
+    {
+        if self.buffer.len_with(at, piece.len() / SECTOR) > self.room as usize {
+            return self.write_beyond(at, piece);
+        }
+        self.buffer.put(at, piece);
+        Ok(())
+    }
+
+    /// Writes the buffer down and syncs the disk.
+    pub(crate) fn sync(&mut self) -> Result<(), Failed>
+        requires { IsWriteBehind D.state self.old }
+        ensures behind { IsWriteBehind D.state self.new }
+        ensures syncs { CacheSyncs D.state result (cache_of self.old) (cache_of self.new) }
+    {
+        write_down(&mut self.disk, &mut self.buffer, &mut self.scratch)?;
+        self.disk.sync()
+    }
+}
