@@ -27,7 +27,7 @@ buffer_more low high b le is = record { used = is.used; order = is.order; below 
 pub as_ok : {T E : Type 0} (at : ℕ) (piece : List ℕ) (result : Result T E) (v : T) (old new : DiskState) → result ≡ Ok v → WritesTo at piece result old new → WritesTo at piece was_ok old new
 as_ok {E = E} at piece result v old new is write =
     let w : WritesTo {E = E} at piece (Ok v) old new = subst (λ r. WritesTo at piece r old new) is write in
-    record { call = w.call; contents = w.contents }
+    record { call = w.call; contents = w.contents; log = w.log }
 
 -- one more run was written
 pub runs_more : (calls n : ℕ) (held rest : List HeldSector) (old mid new : DiskState) → WritesRuns calls held rest old mid → WritesRun n was_ok rest mid new → WritesRuns (suc calls) held (drop n rest) old new

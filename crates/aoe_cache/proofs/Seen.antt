@@ -74,11 +74,13 @@ reads_seen at n (Ok v) hs read out old new range order below lays reads = record
   call = seen_run 1 false hs hs old new reads.call (seen_disk hs old reads.call.before order below) (seen_disk hs new reads.call.after order (subst (λ (s : ℕ). AreBelow s hs) (sym reads.call.sectors) below));
   same = ap (option_map (seen_contents hs)) reads.same;
   given = read_laid old.sectors at n hs read out old.contents (omega (arith, range.whole, range.within)) reads.call.before.shape reads.given lays;
+  log = refl;
 }
 reads_seen at n (Err e) hs read out old new range order below lays reads = record {
   call = seen_run 1 true hs hs old new reads.call (seen_disk hs old reads.call.before order below) (seen_disk hs new reads.call.after order (subst (λ (s : ℕ). AreBelow s hs) (sym reads.call.sectors) below));
   same = ap (option_map (seen_contents hs)) reads.same;
   given = tt;
+  log = refl;
 }
 
 -- writes
@@ -103,7 +105,7 @@ module _ (at : ℕ) (piece : List ℕ) (sectors : ℕ) (range : IsRange at (leng
   write_seen (Ok v) (Some x) (Some y) shape told = record { bytes = told.bytes; loose = told.loose; settled = refl }
   write_seen (Err e) (Some x) (Some y) shape told =
       let may : MaySpoil at (length piece) x y = spoils_may_spoil at (length piece) x y sectors shape range told in
-      record { bytes = may.bytes; loose = may.loose; settled = refl; exact = λ some. cc }
+      record { bytes = may.bytes; loose = may.loose; kept = may.kept; settled = refl; exact = λ some. cc }
 
 -- nowhere, where the buffer couldn't be written down
 same_stored : {T E : Type 0} (at : ℕ) (piece : List ℕ) (result : Result T E) (c d : Option Contents) → is_err result ≡ true → IfSome c (λ c. c.settled ≡ None) → d ≡ c → BothTell (Stores at piece result) c d
@@ -113,6 +115,7 @@ same_stored {T = T} {E = E} at piece (Err e) (Some x) d err unsettled same =
     let spoils : MaySpoil at (length piece) x x = record {
       bytes = record { size = refl; before = refl; after = refl };
       loose = record { size = refl; before = refl; after = refl };
+      kept = λ s solid. (solid, refl);
       settled = refl;
       exact = λ some. cc;
     } in
@@ -142,6 +145,7 @@ module _ {T E : Type 0} (at : ℕ) (piece : List ℕ) (result : Result T E) (hs 
       let there : StoresTo at piece result (seen hs old) (seen (with_written at n piece hs) old) = record {
         call = subst (λ (f : Bool). IsRun 1 f (seen hs old) (seen (with_written at n piece hs) old)) (sym ok) (seen_run 0 false hs (with_written at n piece hs) old old (run_none old disk) (seen_disk hs old disk order below) (seen_disk (with_written at n piece hs) old disk (put_order hs order) (put_below hs below)));
         contents = stored_as at piece result (option_map (seen_contents hs) old.contents) (option_map (seen_contents (with_written at n piece hs)) old.contents) ok (put_seen at piece old.sectors range hs old.contents order below disk.shape);
+        log = refl;
       } in
       subst (λ (d : DiskState). StoresTo at piece result (seen hs old) (seen gs d)) (sym same) (subst (λ (l : List HeldSector). StoresTo at piece result (seen hs old) (seen l old)) (sym held) there)
 
@@ -152,6 +156,7 @@ module _ {T E : Type 0} (at : ℕ) (piece : List ℕ) (result : Result T E) (hs 
       record {
         call = subst (λ (f : Bool). IsRun 1 f (seen hs old) (seen gs new)) (sym stops.failed) (seen_run stays.calls true hs gs old new stays.run (seen_disk hs old disk order below) (seen_disk gs new stays.run.after stays.order (subst (λ (s : ℕ). AreBelow s gs) (sym stays.run.sectors) stays.below)));
         contents = same_stored at piece result (option_map (seen_contents hs) old.contents) (option_map (seen_contents gs) new.contents) stops.failed (unsettled hs old.contents) stays.same;
+        log = refl;
       }
 
   module _ (between : DiskState) (down : Empties hs [] old between) where
@@ -172,6 +177,7 @@ module _ {T E : Type 0} (at : ℕ) (piece : List ℕ) (result : Result T E) (hs 
           call = subst (λ (f : Bool). IsRun 1 f (seen hs old) (seen (with_written at n piece []) between)) (sym ok) (seen_run emptied.calls false hs (with_written at n piece []) old between emptied.run (seen_disk hs old disk order below) after);
           contents = stored_as at piece result (option_map (seen_contents hs) old.contents) (option_map (seen_contents (with_written at n piece [])) between.contents) ok
               (subst (λ (o : Option Contents). BothTell (Puts at piece) o (option_map (seen_contents (with_written at n piece [])) between.contents)) emptied.same puts);
+          log = refl;
         } in
         subst (λ (d : DiskState). StoresTo at piece result (seen hs old) (seen gs d)) (sym same) (subst (λ (l : List HeldSector). StoresTo at piece result (seen hs old) (seen l between)) (sym held) there)
 
@@ -182,6 +188,7 @@ module _ {T E : Type 0} (at : ℕ) (piece : List ℕ) (result : Result T E) (hs 
         let there : StoresTo at piece result (seen hs old) (seen [] new) = record {
           call = seen_run (emptied.calls + 1) (is_err result) hs [] old new run (seen_disk hs old disk order below) (seen_disk [] new run.after tt tt);
           contents = subst (λ (o : Option Contents). BothTell (Stores at piece result) o (option_map (seen_contents []) new.contents)) emptied.same (write_seen at piece old.sectors range result between.contents new.contents shape_between write.contents);
+          log = refl;
         } in
         subst (λ (l : List HeldSector). StoresTo at piece result (seen hs old) (seen l new)) (sym held) there
 
@@ -223,6 +230,7 @@ module _ {D T E : Type 0} (state : D → DiskState) (result : Result T E) (old n
       record {
         call = subst (λ (f : Bool). IsRun 1 f (state_of state old) (state_of state new)) (sym stops.failed) (seen_run stays.calls true old.held new.held (state old.disk) (state new.disk) stays.run (seen_disk old.held (state old.disk) disk order below) (seen_disk new.held (state new.disk) stays.run.after stays.order (subst (λ (s : ℕ). AreBelow s new.held) (sym stays.run.sectors) stays.below)));
         contents = same_synced result (option_map (seen_contents old.held) (state old.disk).contents) (option_map (seen_contents new.held) (state new.disk).contents) stops.failed (unsettled old.held (state old.disk).contents) stays.same;
+        log = refl;
       }
 
   after_synced : SyncsAfter result old.held new.held (state old.disk) (state new.disk) → SyncsTo result (state_of state old) (state_of state new)
@@ -233,6 +241,7 @@ module _ {D T E : Type 0} (state : D → DiskState) (result : Result T E) (old n
       let there : SyncsTo result (state_of state old) (seen [] (state new.disk)) = record {
         call = seen_run (stays.calls + 1) (is_err result) old.held [] (state old.disk) (state new.disk) run (seen_disk old.held (state old.disk) disk order below) (seen_disk [] (state new.disk) run.after tt tt);
         contents = subst (λ (o : Option Contents). BothTell (Syncs result) o (option_map (seen_contents []) (state new.disk).contents)) same (sync_seen result after.between.contents (state new.disk).contents after.sync.contents);
+        log = refl;
       } in
       subst (λ (l : List HeldSector). SyncsTo result (state_of state old) (seen l (state new.disk))) (sym after.down.empty) there
 

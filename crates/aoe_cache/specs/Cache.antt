@@ -20,7 +20,7 @@ pub record Cache (D : Type 0) : Type 0 where
 abbrev pub seen_contents : List HeldSector → Contents → Contents
 seen_contents held c = record { bytes = laid_over c.bytes held; loose = marked c.loose held; settled = None }
 
--- a store that makes many device calls, or none, can't tell which call is the next to fail
+-- a store that makes many device calls, or none, can't tell which call is the next to fail, nor the calls as its own
 abbrev pub seen_schedule : Schedule → Schedule
 seen_schedule s = record { armed = s.armed; out = s.out; due = None }
 
@@ -30,6 +30,7 @@ seen held d = record {
   faults = d.faults;
   contents = option_map (seen_contents held) d.contents;
   schedule = option_map seen_schedule d.schedule;
+  log = None;
 }
 
 -- what a cached store shows, where the function says it of its disk
