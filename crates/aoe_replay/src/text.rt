@@ -1,5 +1,5 @@
 //! The text of a script, read from a source to its end.
-ghost use Rattle.std.specs.Prelude.{◌≡◌, ◌++◌, ◌<◌, ◌≤◌, [], length, take, None, Err, IfErr, IfOk};
+ghost use Rattle.std.specs.Prelude.{◌≡◌, ◌≢◌, ◌++◌, ◌<◌, ◌≤◌, ◌+◌, [], length, take, None, Err, IfErr, IfOk, OnOk};
 ghost use Rattle.aoe_base.specs.Faults.{Rose};
 ghost use Rattle.aoe_io.specs.Bytes.{Gave, IsEnded};
 ghost use Rattle.aoe_script.specs.Lines.{refusal, script_of};
@@ -31,6 +31,9 @@ fn read_piece<S: Source>(
     ensures unread { IfErr result (λ end. Unread end (S.left source.old) (S.left source.new)) }
     ensures count { S.faults source.old ≤ S.faults source.new }
     ensures source_fault { result ≡ Err ReplayEnd.SourceFault → Rose (S.faults source.old) (S.faults source.new) }
+    ensures no_fault { OnOk result (S.faults source.new ≡ S.faults source.old) }
+    ensures untold { IfErr result (λ end. end ≢ ReplayEnd.SourceFault → S.faults source.new ≡ S.faults source.old) }
+    ensures one_fault { S.faults source.new ≤ S.faults source.old + 1 }
 {
     let n = match source.read(buffer) {
         Ok(n) => n,
@@ -55,6 +58,9 @@ fn read_pieces<S: Source>(
     ensures unread { IfErr result (λ end. Unread end (S.left source.old) (S.left source.new)) }
     ensures count { S.faults source.old ≤ S.faults source.new }
     ensures source_fault { result ≡ Err ReplayEnd.SourceFault → Rose (S.faults source.old) (S.faults source.new) }
+    ensures no_fault { OnOk result (S.faults source.new ≡ S.faults source.old) }
+    ensures untold { IfErr result (λ end. end ≢ ReplayEnd.SourceFault → S.faults source.new ≡ S.faults source.old) }
+    ensures one_fault { S.faults source.new ≤ S.faults source.old + 1 }
 {
     'pieces: while text.len() <= LONGEST_TEXT {
         match read_piece(source, buffer, text) {
@@ -72,6 +78,9 @@ pub fn read_text<S: Source>(alloc: Global, source: &mut S) -> Result<Vec<u8>, Re
     ensures unread { IfErr result (λ end. Unread end (S.left source.old) (S.left source.new)) }
     ensures count { S.faults source.old ≤ S.faults source.new }
     ensures source_fault { result ≡ Err ReplayEnd.SourceFault → Rose (S.faults source.old) (S.faults source.new) }
+    ensures no_fault { OnOk result (S.faults source.new ≡ S.faults source.old) }
+    ensures untold { IfErr result (λ end. end ≢ ReplayEnd.SourceFault → S.faults source.new ≡ S.faults source.old) }
+    ensures one_fault { S.faults source.new ≤ S.faults source.old + 1 }
 {
     let mut buffer = [0; PIECE];
     let mut text = Vec::new(alloc);

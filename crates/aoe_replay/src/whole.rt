@@ -1,5 +1,5 @@
 //! A whole replay: the text of a script, its run, and the text of the run.
-ghost use Rattle.std.specs.Prelude.{ℕ, ◌≡◌, ◌≤◌, All, List, None, Some};
+ghost use Rattle.std.specs.Prelude.{ℕ, ◌≡◌, ◌≢◌, ◌≤◌, ◌+◌, All, List, None, Some};
 ghost use Rattle.aoe_base.specs.Faults.{Rose};
 ghost use Rattle.aoe_replay.specs.Replay.{HasRun, IsFaultless, LeavesSink, Replayed, Runs, Writes};
 ghost use Rattle.aoe_script.specs.Lines.{refusal, script_of};
@@ -29,6 +29,8 @@ fn write_run<K: Sink>(
     ensures leaves { LeavesSink result sink.old sink.new }
     ensures count { K.faults sink.old ≤ K.faults sink.new }
     ensures sink_fault { result ≡ ReplayEnd.SinkFault → Rose (K.faults sink.old) (K.faults sink.new) }
+    ensures sink_no_fault { result ≢ ReplayEnd.SinkFault → K.faults sink.new ≡ K.faults sink.old }
+    ensures sink_one_fault { K.faults sink.new ≤ K.faults sink.old + 1 }
 {
     let text = match print_run(alloc, script_events, history) {
         Ok(text) => text,
@@ -46,6 +48,8 @@ fn run_script<K: Sink>(alloc: Global, script: &Script, sink: &mut K) -> ReplayEn
     ensures leaves { LeavesSink result sink.old sink.new }
     ensures count { K.faults sink.old ≤ K.faults sink.new }
     ensures sink_fault { result ≡ ReplayEnd.SinkFault → Rose (K.faults sink.old) (K.faults sink.new) }
+    ensures sink_no_fault { result ≢ ReplayEnd.SinkFault → K.faults sink.new ≡ K.faults sink.old }
+    ensures sink_one_fault { K.faults sink.new ≤ K.faults sink.old + 1 }
 {
     let mut world = match World::new(alloc, script) {
         Ok(world) => world,
@@ -65,6 +69,10 @@ fn replay_script<S: Source, K: Sink>(alloc: Global, source: &mut S, sink: &mut K
     ensures sink_count { K.faults sink.old ≤ K.faults sink.new }
     ensures source_fault { result ≡ ReplayEnd.SourceFault → Rose (S.faults source.old) (S.faults source.new) }
     ensures sink_fault { result ≡ ReplayEnd.SinkFault → Rose (K.faults sink.old) (K.faults sink.new) }
+    ensures source_no_fault { result ≢ ReplayEnd.SourceFault → S.faults source.new ≡ S.faults source.old }
+    ensures source_one_fault { S.faults source.new ≤ S.faults source.old + 1 }
+    ensures sink_no_fault { result ≢ ReplayEnd.SinkFault → K.faults sink.new ≡ K.faults sink.old }
+    ensures sink_one_fault { K.faults sink.new ≤ K.faults sink.old + 1 }
 {
     let text = match read_text(alloc, source) {
         Ok(text) => text,
@@ -85,6 +93,10 @@ pub fn replay<S: Source, K: Sink>(alloc: Global, source: &mut S, sink: &mut K) -
     ensures sink_count { K.faults sink.old ≤ K.faults sink.new }
     ensures source_fault { result ≡ ReplayEnd.SourceFault → Rose (S.faults source.old) (S.faults source.new) }
     ensures sink_fault { result ≡ ReplayEnd.SinkFault → Rose (K.faults sink.old) (K.faults sink.new) }
+    ensures source_no_fault { result ≢ ReplayEnd.SourceFault → S.faults source.new ≡ S.faults source.old }
+    ensures source_one_fault { S.faults source.new ≤ S.faults source.old + 1 }
+    ensures sink_no_fault { result ≢ ReplayEnd.SinkFault → K.faults sink.new ≡ K.faults sink.old }
+    ensures sink_one_fault { K.faults sink.new ≤ K.faults sink.old + 1 }
     ensures replays { (text : List ℕ) → S.left source.old ≡ Some text → refusal text ≡ None → IsFaultless (S.faults source.old) (S.faults source.new) → IsFaultless (K.faults sink.old) (K.faults sink.new) → HasRun result (script_of text) }
 {
     replay_script(alloc, source, sink)
