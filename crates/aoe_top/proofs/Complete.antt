@@ -16,14 +16,16 @@ use Rattle.aoe_serve.specs.declared.over_stream.AnswerEnd.{AnswerEnd}
 use Rattle.aoe_serve.specs.declared.over_stream.AnswerEnd.TheVariants as answer
 use Rattle.aoe_serve.specs.declared.over_link.ServeEnd.TheVariants as serve
 use Rattle.aoe_export.specs.Run.{AtFirst, HasRun, Outside, Tells}
+use Rattle.aoe_export.specs.declared.plan.Exported.{Exported}
 use Rattle.aoe_export.specs.declared.plan.Plan.TheVariants as plan
 use Rattle.aoe_export.specs.declared.plan.RunEnd.{RunEnd}
 use Rattle.aoe_export.specs.declared.plan.RunEnd.TheVariants as end
 use Rattle.aoe_words.specs.declared.command.Answer.{Answer as Answers}
 use Rattle.aoe_words.specs.declared.command.Serve.{Serve as Serves}
 use Rattle.aoe_words.specs.declared.command.Command.TheVariants.{Answer, Serve}
-use Rattle.aoe_top.specs.Ending.{after_syncs, ended_by}
-use Rattle.aoe_top.specs.Run.{NoFault, OnSlot, Ran}
+use Rattle.aoe_replay.specs.Replay.{IsFaultless}
+use Rattle.aoe_top.specs.Ending.{after_syncs, ended_by, status_of}
+use Rattle.aoe_top.specs.Run.{OnSlot, Ran}
 use Rattle.aoe_top.specs.declared.status.Status.{Status}
 use Rattle.aoe_top.specs.declared.status.Status.TheVariants as status
 use Rattle.aoe_top.proofs.Exits.{all-synced}
@@ -101,11 +103,11 @@ all-synced-same (status.Stream offset) None e = refl
 all-synced-same (status.Limit excess) None e = refl
 all-synced-same (status.Script line cause) None e = refl
 
-pub no-fault : (before after : ℕ) → NoFault before after → Rose before after → ⊥
-no-fault before after fine rose = let more = rose fine.1 in omega (arith, fine.0, more)
+pub no-fault : (before after : ℕ) → IsFaultless before after → Rose before after → ⊥
+no-fault before after fine rose = let more = rose fine.room in omega (arith, fine.same, more)
 
 module _ {D S K L : Type 0} (state : D → DiskState) (t : Tells S K L) (s : Status) (a b : Outside S K L) (disks disks' : List (Option D))
-    (fine : (slot : ℕ) → OnSlot (λ file file' _ _. NoFault (state file).faults (state file').faults) slot disks disks') where
+    (fine : (slot : ℕ) → OnSlot (λ file file' _ _. IsFaultless (state file).faults (state file').faults) slot disks disks') where
   answers-by : (e : RunEnd) (old new : List Slot) (fs : List (List ℕ)) → HasRun t plan.Answer e a b old new → s ≡ ended_by e → t.left a.source ≡ Some (stream fs) → All IsFrame fs → length fs < 4294967295
       → s ≢ status.SourceFault → s ≢ status.SinkFault → s ≡ status.Ok
   answers-by (end.Served e) old new fs ran is left_is all few source sink = absurd ran
@@ -130,7 +132,17 @@ module _ {D S K L : Type 0} (state : D → DiskState) (t : Tells S K L) (s : Sta
       serves-by r.exported.end asked.frames asked.idle r.run.first r.run.run.middle r.run.run.ran (r.ends ∙ all-synced-same (ended_by r.exported.end) r.exported.unsynced synced) link
 
 -- a link that didn't fail isn't told as one that did
-pub link-fine : {L : Type 0} (faults : L → ℕ) (links links' : List L) → AtFirst (λ a b. NoFault (faults a) (faults b)) links links' → AtFirst (λ a b. Rose (faults a) (faults b)) links links' → 0 < length links → ⊥
+pub link-fine : {L : Type 0} (faults : L → ℕ) (links links' : List L) → AtFirst (λ a b. IsFaultless (faults a) (faults b)) links links' → AtFirst (λ a b. Rose (faults a) (faults b)) links links' → 0 < length links → ⊥
 link-fine faults [] links' fine rose some = omega (arith, some)
 link-fine faults (l ∷ links) [] fine rose some = fine
 link-fine faults (l ∷ links) (l' ∷ links') fine rose some = no-fault (faults l) (faults l') fine.0 rose.0
+
+-- a fault that ends the frames is told, whatever the last syncs did
+pub source-told : (e : Exported) → e.end ≡ end.Answered answer.SourceFault → status_of e ≡ status.SourceFault
+source-told e is = ap (λ (x : RunEnd). after_syncs (ended_by x) e.unsynced) is
+
+pub sink-told : (e : Exported) → e.end ≡ end.Answered answer.SinkFault → status_of e ≡ status.SinkFault
+sink-told e is = ap (λ (x : RunEnd). after_syncs (ended_by x) e.unsynced) is
+
+pub link-told : (e : Exported) → e.end ≡ end.Served serve.LinkFault → status_of e ≡ status.LinkFault 0
+link-told e is = ap (λ (x : RunEnd). after_syncs (ended_by x) e.unsynced) is

@@ -18,8 +18,9 @@ use Rattle.aoe_export.specs.Slots.{HasMounted, IsOver, OverFiles}
 use Rattle.aoe_export.specs.declared.plan.Exported.{Exported}
 use Rattle.aoe_export.specs.declared.plan.Plan.{Plan}
 use Rattle.aoe_export.proofs.EndLemmas.{served_in, there}
+use Rattle.aoe_replay.specs.Replay.{IsFaultless}
 use Rattle.aoe_top.specs.Ending.{file_at}
-use Rattle.aoe_top.specs.Run.{NoFault, NothingLoose, OnSlot}
+use Rattle.aoe_top.specs.Run.{NothingLoose, OnSlot}
 use Rattle.aoe_top.proofs.OnSlots.{Disks, disks-first, disks-then, on-first, on-map, on-then}
 
 -- a slot over these disks, from its beginning to its end
@@ -193,7 +194,7 @@ module _ {D S K L : Type 0} (state : D → DiskState) (name : ℕ → ℕ → St
       (λ file file' keep keep' s. let l = last-sync slot file file' keep keep' s in subst P l.back (sync-done (get_or x.run.results slot (Ok tt)) l.before l.after ok l.sync)) (stands slot)
 
   -- where no file failed each slot was synced
-  pub all-synced : ((slot : ℕ) → OnSlot (λ file file' _ _. NoFault (state file).faults (state file').faults) slot disks disks') → e.unsynced ≡ None
+  pub all-synced : ((slot : ℕ) → OnSlot (λ file file' _ _. IsFaultless (state file).faults (state file').faults) slot disks disks') → e.unsynced ≡ None
   all-synced fine = by e.unsynced refl
     where
       by : (o : Option ℕ) → e.unsynced ≡ o → o ≡ None
@@ -202,5 +203,5 @@ module _ {D S K L : Type 0} (state : D → DiskState) (name : ℕ → ℕ → St
           let f = failed-at x.run.results slot (sym x.run.unsynced ∙ is) in
           let d = all-over.has slot (omega (arith, f.within, x.run.synced.count, served.slots.count)) in
           let none = fine slot d.file d.file' d.keep d.keep' d.file_is d.file_is' d.keep_is d.keep_is' in
-          let rose = unsynced-rose slot is d.file d.file' d.keep d.keep' d.file_is d.file_is' d.keep_is d.keep_is' none.1 in
-          absurd (omega (arith, none.0, rose))
+          let rose = unsynced-rose slot is d.file d.file' d.keep d.keep' d.file_is d.file_is' d.keep_is d.keep_is' none.room in
+          absurd (omega (arith, none.same, rose))

@@ -23,8 +23,9 @@ use Rattle.aoe_replay.specs.declared.end.ReplayEnd.TheVariants as replay
 use Rattle.aoe_words.specs.Words.{file_count}
 use Rattle.aoe_words.specs.declared.command.Command.{Command}
 use Rattle.aoe_words.specs.declared.command.Command.TheVariants as command
+use Rattle.aoe_replay.specs.Replay.{IsFaultless}
 use Rattle.aoe_top.specs.Ending.{after_syncs, ended_by, file_at, keep_at, refused_as, refused_slot, replayed_as, slot_of_keep}
-use Rattle.aoe_top.specs.Run.{HasLists, IsBad, IsSmall, NoFault, NothingLoose, OnSlot, Ran, RanFiles, Refused, refused_before}
+use Rattle.aoe_top.specs.Run.{HasLists, IsBad, IsSmall, NothingLoose, OnSlot, Ran, RanFiles, Refused, refused_before}
 use Rattle.aoe_top.specs.declared.status.Status.{Status}
 use Rattle.aoe_top.specs.declared.status.Status.TheVariants as status
 use Rattle.aoe_top.proofs.Exits.{Stands, all-settled, stands, unsynced-rose, unsynced-within}
@@ -238,11 +239,11 @@ module _ {D : Type 0} (state : D → DiskState) (s : Status) (slot : ℕ) (keep 
   bad-of k is = bad-told k (state keep).contents refl is
 
   -- a keep that holds lists is mounted where its disk doesn't fail
-  pub mounted-of : (lists : Settings) → KeepIs state s slot keep keep' → HasLists (state keep) lists → NoFault (state keep).faults (state keep').faults → refused_slot s ≡ Some slot → ⊥
+  pub mounted-of : (lists : Settings) → KeepIs state s slot keep keep' → HasLists (state keep) lists → IsFaultless (state keep).faults (state keep').faults → refused_slot s ≡ Some slot → ⊥
   mounted-of lists (is_mounted after found m later) has fine e = omega (arith, later slot e)
   mounted-of lists (is_behind k is below) has fine e = omega (arith, told-as k e is, below)
   mounted-of lists (no_memory is) has fine e = cc
-  mounted-of lists (is_refused refusal.Failed why is) has fine e = let more : (state keep).faults < (state keep').faults = why.2.run.cause fine.1 in omega (arith, more, fine.0)
+  mounted-of lists (is_refused refusal.Failed why is) has fine e = let more : (state keep).faults < (state keep').faults = why.2.run.cause fine.room in omega (arith, more, fine.same)
   mounted-of lists (is_refused (refusal.TooSmall n) why is) has fine e = omega (arith, has.room, why.0, why.1)
   mounted-of lists (is_refused (refusal.BadKeep n) why is) has fine e =
       found-one has.contents lists n has.stand (told-of (λ a. found a.bytes ≡ Err n) has.contents (state keep).contents (state keep').contents why.1 has.told)
@@ -365,8 +366,8 @@ module _ {D S K L : Type 0} (state : D → DiskState) (command : Command) (t : T
   keep-bad slot bad = on-map (λ _ _ keep keep'. KeepIs state s slot keep keep') (λ _ _ keep _. IfSome (state keep).contents (λ c. (s ≡ status.KeepBad (keep_at slot) bad) ↔ IsBad (state keep) c s slot bad)) slot disks disks'
       (λ _ _ keep keep' is. bad-of state s slot keep keep' bad is) (keep-is slot)
 
-  pub mounted : (slot : ℕ) (lists : Settings) → OnSlot (λ _ _ keep keep'. HasLists (state keep) lists → NoFault (state keep).faults (state keep').faults → refused_slot s ≢ Some slot) slot disks disks'
-  mounted slot lists = on-map (λ _ _ keep keep'. KeepIs state s slot keep keep') (λ _ _ keep keep'. HasLists (state keep) lists → NoFault (state keep).faults (state keep').faults → refused_slot s ≢ Some slot) slot disks disks'
+  pub mounted : (slot : ℕ) (lists : Settings) → OnSlot (λ _ _ keep keep'. HasLists (state keep) lists → IsFaultless (state keep).faults (state keep').faults → refused_slot s ≢ Some slot) slot disks disks'
+  mounted slot lists = on-map (λ _ _ keep keep'. KeepIs state s slot keep keep') (λ _ _ keep keep'. HasLists (state keep) lists → IsFaultless (state keep).faults (state keep').faults → refused_slot s ≢ Some slot) slot disks disks'
       (λ _ _ keep keep' is has fine e. mounted-of state s slot keep keep' lists is has fine e) (keep-is slot)
 
   -- the disk of a fault is there

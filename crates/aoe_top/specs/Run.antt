@@ -1,5 +1,5 @@
 -- What a run takes, gives and leaves, by its status.
-use Rattle.std.specs.Prelude.{ℕ, ◌<◌, ◌≤◌, ◌-◌, ◌^◌, ◌≡◌, ◌≢◌, ◌⊎◌, Bool, false, List, Option, Some, None, Ok, Err, nat_lt, slice_get}
+use Rattle.std.specs.Prelude.{ℕ, ◌<◌, ◌≤◌, ◌≡◌, ◌≢◌, ◌⊎◌, Bool, false, List, Option, Some, None, Ok, Err, nat_lt, slice_get}
 use Rattle.std.specs.Option.{option_map_or}
 use Rattle.aoe_disk.specs.State.{Contents, DiskState, is_loose}
 use Rattle.aoe_keep.specs.Found.{found}
@@ -82,7 +82,3 @@ pub record HasLists (keep : DiskState) (lists : Settings) : Type 0 where
   pub contents : Contents
   pub told : keep.contents ≡ Some contents
   pub stand : found contents.bytes ≡ Ok lists
-
--- a count of faults that didn't rise in a run, below its end
-abbrev pub NoFault : ℕ → ℕ → Type 0
-NoFault before after = (after ≡ before) × (before < 2 ^ 64 - 1)

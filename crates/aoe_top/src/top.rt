@@ -1,16 +1,17 @@
 //! The call that the program makes.
-ghost use Rattle.std.specs.Prelude.{◌≡◌, ◌≢◌, ◌≤◌, ◌<◌, ◌↔◌, List, ℕ, All, length, map, string_bytes, IfSome, IsSome, None, Some};
+ghost use Rattle.std.specs.Prelude.{◌≡◌, ◌≢◌, ◌≤◌, ◌<◌, ◌+◌, ◌↔◌, List, ℕ, All, length, map, string_bytes, IfSome, IsSome, None, Some};
 ghost use Rattle.aoe_base.specs.Faults.{Rose};
 ghost use Rattle.aoe_io.specs.Stream.{stream, IsFrame};
 ghost use Rattle.aoe_lists.specs.Settings.{Settings};
 ghost use Rattle.aoe_export.specs.Run.{AtFirst};
+ghost use Rattle.aoe_replay.specs.Replay.{IsFaultless};
 ghost use Rattle.aoe_script.specs.Lines.{refusal, script_of};
 ghost use Rattle.aoe_words.specs.Words.{IsInRange, command, file_count, file_names, link_count, port_words};
 ghost use Rattle.aoe_words.specs.declared.command.Answer.{Answer as Answers};
 ghost use Rattle.aoe_words.specs.declared.command.Serve.{Serve as Serves};
 ghost use Rattle.aoe_top.specs.Commands.{CanExport};
 ghost use Rattle.aoe_top.specs.Ending.{file_at, keep_at, refused_slot};
-ghost use Rattle.aoe_top.specs.Run.{HasLists, HasReplayed, IsBad, IsSmall, NoFault, NothingLoose, OnSlot, Ran, RanFiles, RanScript, Refused};
+ghost use Rattle.aoe_top.specs.Run.{HasLists, HasReplayed, IsBad, IsSmall, NothingLoose, OnSlot, Ran, RanFiles, RanScript, Refused};
 
 use crate::plan::{plan, refused_as, replayed_as, status_of};
 use crate::status::Status;
@@ -46,6 +47,12 @@ fn run_files<S: Source, K: Sink, D: Disk + Drop, L: Link>(
     ensures source_fault { result ≡ Status.SourceFault → Rose (S.faults source.old) (S.faults source.new) }
     ensures sink_fault { result ≡ Status.SinkFault → Rose (K.faults sink.old) (K.faults sink.new) }
     ensures link_fault { (link : ℕ) → result ≡ Status.LinkFault link → (link ≡ 0) × AtFirst (λ a b. Rose (L.faults a) (L.faults b)) links.old links.new }
+    ensures source_no_fault { result ≢ Status.SourceFault → S.faults source.new ≡ S.faults source.old }
+    ensures sink_no_fault { result ≢ Status.SinkFault → K.faults sink.new ≡ K.faults sink.old }
+    ensures link_no_fault { result ≢ Status.LinkFault 0 → AtFirst (λ a b. L.faults b ≡ L.faults a) links.old links.new }
+    ensures source_one_fault { S.faults source.new ≤ S.faults source.old + 1 }
+    ensures sink_one_fault { K.faults sink.new ≤ K.faults sink.old + 1 }
+    ensures link_one_fault { AtFirst (λ a b. L.faults b ≤ L.faults a + 1) links.old links.new }
 {
     match export(alloc, rack, plan, source, sink, disks, links) {
         Ok(exported) => status_of(exported),
@@ -64,8 +71,12 @@ fn run_script<S: Source, K: Sink>(alloc: Global, source: &mut S, sink: &mut K) -
     ensures memory { result ≡ Status.NoMemory → sink.new ≡ sink.old }
     ensures source_fault { result ≡ Status.SourceFault → Rose (S.faults source.old) (S.faults source.new) }
     ensures sink_fault { result ≡ Status.SinkFault → Rose (K.faults sink.old) (K.faults sink.new) }
+    ensures source_no_fault { result ≢ Status.SourceFault → S.faults source.new ≡ S.faults source.old }
+    ensures sink_no_fault { result ≢ Status.SinkFault → K.faults sink.new ≡ K.faults sink.old }
+    ensures source_one_fault { S.faults source.new ≤ S.faults source.old + 1 }
+    ensures sink_one_fault { K.faults sink.new ≤ K.faults sink.old + 1 }
     ensures replays { (text : List ℕ) → S.left source.old ≡ Some text → refusal text ≡ None
-        → NoFault (S.faults source.old) (S.faults source.new) → NoFault (K.faults sink.old) (K.faults sink.new) → HasReplayed (script_of text) result }
+        → IsFaultless (S.faults source.old) (S.faults source.new) → IsFaultless (K.faults sink.old) (K.faults sink.new) → HasReplayed (script_of text) result }
 {
     replayed_as(replay(alloc, source, sink))
 }
@@ -95,8 +106,14 @@ fn run_command<S: Source, K: Sink, D: Disk + Drop, L: Link>(
     ensures source_fault { result ≡ Status.SourceFault → Rose (S.faults source.old) (S.faults source.new) }
     ensures sink_fault { result ≡ Status.SinkFault → Rose (K.faults sink.old) (K.faults sink.new) }
     ensures link_fault { (link : ℕ) → result ≡ Status.LinkFault link → (link ≡ 0) × AtFirst (λ a b. Rose (L.faults a) (L.faults b)) links.old links.new }
+    ensures source_no_fault { result ≢ Status.SourceFault → S.faults source.new ≡ S.faults source.old }
+    ensures sink_no_fault { result ≢ Status.SinkFault → K.faults sink.new ≡ K.faults sink.old }
+    ensures link_no_fault { result ≢ Status.LinkFault 0 → AtFirst (λ a b. L.faults b ≡ L.faults a) links.old links.new }
+    ensures source_one_fault { S.faults source.new ≤ S.faults source.old + 1 }
+    ensures sink_one_fault { K.faults sink.new ≤ K.faults sink.old + 1 }
+    ensures link_one_fault { AtFirst (λ a b. L.faults b ≤ L.faults a + 1) links.old links.new }
     ensures replays { (text : List ℕ) → command ≡ Command.Replay → S.left source.old ≡ Some text → refusal text ≡ None
-        → NoFault (S.faults source.old) (S.faults source.new) → NoFault (K.faults sink.old) (K.faults sink.new) → HasReplayed (script_of text) result }
+        → IsFaultless (S.faults source.old) (S.faults source.new) → IsFaultless (K.faults sink.old) (K.faults sink.new) → HasReplayed (script_of text) result }
 {
     match plan(command) {
         Some((rack, plan)) => run_files(alloc, rack, plan, source, sink, disks, links),
@@ -152,10 +169,17 @@ pub fn aoe<S: Source, K: Sink, D: Disk + Drop, L: Link>(
     ensures settled { (slot : ℕ) → result ≡ Status.Ok → OnSlot (λ _ file' _ _. IfSome (D.state file').contents NothingLoose) slot disks.old disks.new }
     ensures there { All IsSome disks.new }
 
-    // When a fault is told, and when a keep is refused.
+    // When a fault is told, and when a keep is refused. An object whose fault isn't told had none, and one whose fault is told had one:
+    // the first trouble ends the run.
     ensures source_fault { result ≡ Status.SourceFault → Rose (S.faults source.old) (S.faults source.new) }
     ensures sink_fault { result ≡ Status.SinkFault → Rose (K.faults sink.old) (K.faults sink.new) }
     ensures link_fault { (link : ℕ) → result ≡ Status.LinkFault link → (link ≡ 0) × AtFirst (λ a b. Rose (L.faults a) (L.faults b)) links.old links.new }
+    ensures source_no_fault { result ≢ Status.SourceFault → S.faults source.new ≡ S.faults source.old }
+    ensures sink_no_fault { result ≢ Status.SinkFault → K.faults sink.new ≡ K.faults sink.old }
+    ensures link_no_fault { result ≢ Status.LinkFault 0 → AtFirst (λ a b. L.faults b ≡ L.faults a) links.old links.new }
+    ensures source_one_fault { S.faults source.new ≤ S.faults source.old + 1 }
+    ensures sink_one_fault { K.faults sink.new ≤ K.faults sink.old + 1 }
+    ensures link_one_fault { AtFirst (λ a b. L.faults b ≤ L.faults a + 1) links.old links.new }
     ensures disk_fault { (disk : ℕ) → result ≡ Status.DiskFault disk → disk < length disks.old }
     ensures file_fault { (slot : ℕ) → result ≡ Status.DiskFault (file_at slot) → OnSlot (λ file file' _ _. Rose (D.state file).faults (D.state file').faults) slot disks.old disks.new }
     ensures keep_fault { (slot : ℕ) → result ≡ Status.DiskFault (keep_at slot) → OnSlot (λ _ _ keep keep'. Rose (D.state keep).faults (D.state keep').faults) slot disks.old disks.new }
@@ -168,18 +192,18 @@ pub fn aoe<S: Source, K: Sink, D: Disk + Drop, L: Link>(
     // With no fault keeps that hold lists are mounted, and then a stream of frames is answered to its end, and a link is served;
     // and a script with no bad line is run.
     ensures mounted { (slot : ℕ) (lists : Settings) → OnSlot (λ _ _ keep keep'. HasLists (D.state keep) lists
-        → NoFault (D.state keep).faults (D.state keep').faults → refused_slot result ≢ Some slot) slot disks.old disks.new }
+        → IsFaultless (D.state keep).faults (D.state keep').faults → refused_slot result ≢ Some slot) slot disks.old disks.new }
     ensures answers { (asked : Answers) (frames : List (List ℕ)) → command (map string_bytes words.now) ≡ Some (Command.Answer asked) → refused_slot result ≡ None → result ≢ Status.NoMemory
         → S.left source.old ≡ Some (stream frames) → All IsFrame frames → length frames < 4294967295
-        → NoFault (S.faults source.old) (S.faults source.new) → NoFault (K.faults sink.old) (K.faults sink.new)
-        → ((slot : ℕ) → OnSlot (λ file file' _ _. NoFault (D.state file).faults (D.state file').faults) slot disks.old disks.new)
+        → IsFaultless (S.faults source.old) (S.faults source.new) → IsFaultless (K.faults sink.old) (K.faults sink.new)
+        → ((slot : ℕ) → OnSlot (λ file file' _ _. IsFaultless (D.state file).faults (D.state file').faults) slot disks.old disks.new)
         → result ≡ Status.Ok }
     ensures serves { (asked : Serves) → command (map string_bytes words.now) ≡ Some (Command.Serve asked) → refused_slot result ≡ None → result ≢ Status.NoMemory
-        → AtFirst (λ a b. NoFault (L.faults a) (L.faults b)) links.old links.new
-        → ((slot : ℕ) → OnSlot (λ file file' _ _. NoFault (D.state file).faults (D.state file').faults) slot disks.old disks.new)
+        → AtFirst (λ a b. IsFaultless (L.faults a) (L.faults b)) links.old links.new
+        → ((slot : ℕ) → OnSlot (λ file file' _ _. IsFaultless (D.state file).faults (D.state file').faults) slot disks.old disks.new)
         → result ≡ Status.Ok }
     ensures replays { (text : List ℕ) → command (map string_bytes words.now) ≡ Some Command.Replay → S.left source.old ≡ Some text → refusal text ≡ None
-        → NoFault (S.faults source.old) (S.faults source.new) → NoFault (K.faults sink.old) (K.faults sink.new) → HasReplayed (script_of text) result }
+        → IsFaultless (S.faults source.old) (S.faults source.new) → IsFaultless (K.faults sink.old) (K.faults sink.new) → HasReplayed (script_of text) result }
 {
     match read_words(alloc, words) {
         Ok(Some(command)) => run_command(alloc, command, source, sink, disks, links),

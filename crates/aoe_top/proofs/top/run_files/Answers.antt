@@ -1,6 +1,7 @@
-use Rattle.std.proofs.Common.{◌≡◌, ◌≤◌, ◌<◌, ◌+◌, ℕ, Option, None, Some, Err, arith, refl, ap}
+use Rattle.std.proofs.Common.{◌≡◌, ◌≤◌, ◌<◌, ◌+◌, ◌∙◌, ℕ, Option, None, Some, Err, arith, refl, ap}
 use Rattle.std.specs.Prelude.{IfSome}
 use Rattle.aoe_top.specs.Ending.{file_at}
+use Rattle.aoe_top.proofs.Complete.{link-told, sink-told, source-told}
 use Rattle.aoe_top.proofs.Exits.{unsynced-within}
 use Rattle.aoe_top.proofs.Refusals.{backed}
 use Rattle.aoe_top.proofs.top.run_files.Goals as goal
@@ -17,3 +18,12 @@ pub refused_as-requires : goal.refused_as-requires
 refused_as-requires g c =
     let back = c.in-Err-Keep.ensures.refused c.in-Err-Keep.slot c.in-Err-Keep.refusal (ap Err c.in-Err-Keep.field-0-is) in
     omega (arith, (backed _ _ _ _ _ back).within, c.requires.possible.room)
+
+pub returns-in-Ok-clause-source_no_fault : goal.returns-in-Ok-clause-source_no_fault
+returns-in-Ok-clause-source_no_fault g c untold = c.in-Ok.ensures.source_no_fault (λ e. untold (c.status_of.ensures ∙ source-told c.in-Ok.exported e))
+
+pub returns-in-Ok-clause-sink_no_fault : goal.returns-in-Ok-clause-sink_no_fault
+returns-in-Ok-clause-sink_no_fault g c untold = c.in-Ok.ensures.sink_no_fault (λ e. untold (c.status_of.ensures ∙ sink-told c.in-Ok.exported e))
+
+pub returns-in-Ok-clause-link_no_fault : goal.returns-in-Ok-clause-link_no_fault
+returns-in-Ok-clause-link_no_fault g c untold = c.in-Ok.ensures.link_no_fault (λ e. untold (c.status_of.ensures ∙ link-told c.in-Ok.exported e))
