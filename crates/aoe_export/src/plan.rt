@@ -9,7 +9,7 @@ pub enum Plan {
     /// The frames of the source are answered on the sink.
     Answer,
 
-    /// The first link is served, until `frames` frames came or `idle` turns in a row were quiet.
+    /// The first link is served, until `frames` frames came or `idle` consecutive turns were quiet.
     Serve { frames: u32, idle: u32 },
 }
 

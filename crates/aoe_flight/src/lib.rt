@@ -1,5 +1,5 @@
-//! The commands of a host that were sent: their tags, which of them are due to be sent again, and
-//! which are given up.
+//! Commands in flight, those of a host that were sent: their tags, which of them are due to be sent
+//! again, and which are given up.
 //!
 //! `Flight::new` makes the room. `launch` notes a first send and gives it a tag, `due` gives the
 //! command that is to be sent again, which `repeat` notes; a response is found by `match_tag`, and

@@ -147,7 +147,7 @@ pub fn repeat(
     });
 }
 
-/// The tag that comes so many steps after the next of `last`.
+/// The tag that comes `steps` steps after the next of `last`.
 fn tag_after(last: u32, steps: u32) -> u32
     requires { steps < 2 ^ 32 - 1 }
     ensures { result ≡ tag_after last steps }

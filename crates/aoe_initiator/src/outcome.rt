@@ -20,7 +20,7 @@ impl Model for Data {
 }
 
 impl Data {
-    /// As many zeros.
+    /// `len` zeros.
     pub fn zeros(alloc: Global, len: usize) -> Result<Data, NoMemory>
         ensures { IfOk result (λ zeros. zeros ≡ replicate {A = ℕ} len 0) }
     {
@@ -30,7 +30,7 @@ impl Data {
         }
     }
 
-    /// Becomes these bytes, which are as many as there were.
+    /// Overwrites the data; the length must not change.
     pub(crate) fn fill(&mut self, bytes: &[u8])
         requires { length bytes.now ≡ length self.old }
         ensures { self.new ≡ bytes.now }

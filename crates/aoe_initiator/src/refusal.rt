@@ -23,7 +23,7 @@ pub enum SubmitRefusal {
     /// More sectors than the device takes in one command.
     TooLong { max: u32 },
 
-    /// As many commands as a device's line has room for wait there for their first send.
+    /// The most commands that may wait at a device for their first send wait there.
     Backlog { held: u32 },
 
     /// No sector.

@@ -13,7 +13,7 @@ use aoe_lists::{Args, MAX_CONFIG};
 /// What a well-formed response says.
 #[derive(Clone, Copy, Debug, PartialEq, Eq)]
 pub enum Answer {
-    /// So many bytes of data stand behind the registers: sectors or the identify page.
+    /// Behind the registers are `len` bytes of data: sectors or the identify page.
     Data { len: usize },
 
     /// The sectors are written.
@@ -22,7 +22,7 @@ pub enum Answer {
     /// What was written before is on the medium.
     Flushed,
 
-    /// So many bytes behind the header tell of the lists.
+    /// The `len` bytes behind the header tell of the lists.
     Told { len: usize },
 
     /// The registers of status and error, where the status shows a failure.
@@ -39,7 +39,7 @@ fn is_failure(status: u8) -> bool
     status & STATUS_ERR != 0 || status & STATUS_DF != 0
 }
 
-/// As many bytes of data, where they are there.
+/// `len` bytes of data, where they are there.
 fn data_if(len: usize, there: usize) -> Option<Answer>
     ensures { result ≡ data_if len there }
 {

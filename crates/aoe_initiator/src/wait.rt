@@ -1,4 +1,4 @@
-//! How long responses are waited for.
+//! How long the host waits for responses.
 ghost use Rattle.std.specs.Prelude.{◌≡◌, ◌+◌, min};
 ghost use Rattle.aoe_initiator.specs.Devices.{trip_from};
 ghost use Rattle.aoe_initiator.specs.HostLog.{wait_of};
@@ -11,8 +11,8 @@ use aoe_paths::MAX_TIMEOUT;
 /// times is above a minute already, and `aoe_flight` counts no more frames than these.
 const MOST_DOUBLINGS: u32 = 32;
 
-/// How long the response to a frame is waited for that is sent after so many others of its
-/// command: as long as an answer on its path, and twice as long with each frame, up to a minute.
+/// How long the host waits for the response to a frame that is sent after `sends` others of its
+/// command: as long as for an answer on its path, twice as long with each frame, up to a minute.
 pub(crate) fn wait_after(timeout: Millis, sends: u32) -> Millis
     ensures { result.0 ≡ wait_of timeout.0 (min sends 32 + 1) }
 {

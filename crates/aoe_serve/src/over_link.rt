@@ -16,7 +16,7 @@ use aoe_store::Store;
 /// How a run of `serve` ended.
 #[derive(Clone, Copy, Debug, PartialEq, Eq)]
 pub enum ServeEnd {
-    /// As many frames came as were asked for, as many turns in a row were quiet, or the link ended.
+    /// As many frames came or as many consecutive turns were quiet as was asked for, or the link ended.
     Ended,
 
     /// The link failed.
@@ -45,7 +45,7 @@ fn wait<L: Link>(link: &mut L, idle: u32, out: &mut Frame) -> Result<Got, Failed
 }
 
 /// Gives each frame of the link to every slot in turn, and the replies to the link, until `frames`
-/// frames came or `idle` turns in a row were quiet, or the link ends or fails. Where it fails to take
+/// frames came or `idle` consecutive turns were quiet, or the link ends or fails. Where it fails to take
 /// a reply, the slots behind still get the frame, and the link isn't called again. Takes no memory.
 pub fn serve<S: Store, D: Disk, L: Link>(
     shelf: &mut Shelf<S, D>,

@@ -26,8 +26,7 @@ pub enum AnswerEnd {
     /// The sink failed.
     SinkFault,
 
-    /// What is left of the source isn't a stream of frames: `offset` bytes stand before the length of
-    /// the first frame that isn't whole, or that is too short or too long.
+    /// The frame at this byte offset is truncated, or its length isn't 14 to 9018.
     Stream { offset: u64 },
 
     /// 4,294,967,295 frames came, the most that a run answers.

@@ -68,7 +68,7 @@ pub(crate) fn reply(
     }
 }
 
-/// What of a request the reply that bears an error repeats.
+/// The part of a request that an error reply repeats: bytes 24 to 59.
 fn repeated(frame: &[u8]) -> &[u8]
     requires { 24 ≤ length frame.now }
     ensures bytes { result.now ≡ slice_range frame.now 24 60 }

@@ -1,4 +1,4 @@
-//! What of a target never changes.
+//! The constant part of a target: its name, ports and size.
 ghost use Rattle.std.specs.Prelude.{◌≡◌};
 ghost use Rattle.aoe_base.specs.Addresses.{holds};
 ghost use Rattle.aoe_target.specs.Verdict.{is_heard, facts};

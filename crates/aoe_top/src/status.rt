@@ -26,13 +26,12 @@ pub enum Status {
     LinkFault { link: u32 },
     /// An allocation was refused.
     NoMemory,
-    /// The keep on the disk with that number has so many sectors, and 16 are needed.
+    /// The keep on the disk with that number has `sectors` sectors, and 16 are needed.
     KeepSmall { disk: u32, sectors: u64 },
     /// The keep on the disk with that number holds no lists: the gate of that slot is open before
     /// something else, or both gates are open before lists of one turn, which is the fault of slot 1.
     KeepBad { disk: u32, slot: u8 },
-    /// The input isn't a stream of frames: the length of the first frame that isn't whole, or that
-    /// is too short or too long, stands behind `offset` bytes.
+    /// The frame of the input at this byte offset is truncated, or its length isn't 14 to 9018.
     Stream { offset: u64 },
     /// A limit of the program was reached.
     Limit(What),

@@ -127,7 +127,7 @@ fn run_command<S: Source, K: Sink, D: Disk + Drop, L: Link>(
 /// SHELF.SLOT over the first disk and behind the port that `--port` names, with at most one frame on
 /// the sink's stream. `serve SHELF FILE KEEP ..` answers each frame that the first link brings, as
 /// the targets SHELF.0, SHELF.1 and so on over the pairs of disks and behind the ports that `--ports`
-/// names, until `--frames` frames came or `--idle` turns in a row brought none. A frame carries as
+/// names, until `--frames` frames came or `--idle` consecutive turns brought none. A frame carries as
 /// much as `--mtu` says.
 ///
 /// `replay` reads the source to its end as a script, runs the events of the script through shelves
