@@ -1,9 +1,12 @@
-use Rattle.std.proofs.Common.{◌≡◌, [], ◌∷◌, ◌++◌, ◌∙◌, ap, length, length-append, arith}
+use Rattle.std.proofs.Common.{◌≡◌, [], ◌∷◌, ◌++◌, ◌∙◌, ap, length, length-append, refl, arith}
 use Rattle.std.proofs.lemmas.List.{length-map}
 use Rattle.aoe_shelf.specs.Shelf.{Rack}
 use Rattle.aoe_serve.specs.Slots.{slot_of, slots_of}
-use Rattle.aoe_export.proofs.SyncLemmas.{first-more, partly_then, partly_whole, syncs_at}
+use Rattle.aoe_export.proofs.SyncLemmas.{first-more, partly_begun, partly_then, partly_whole, syncs_at}
 use Rattle.aoe_export.proofs.run.sync_each.Goals as goal
+
+pub slots-init : goal.slots-init
+slots-init g c = (([], refl, partly_begun (slots_of g.S.Store.state g.D.Disk.state c.args.shelf.now.targets), refl), refl, refl)
 
 pub slots-preserved : goal.slots-preserved
 slots-preserved g c =
