@@ -353,11 +353,11 @@ impl Disk for BadSector {
     }
 
     fn read(&mut self, at: u64, out: &mut [u8]) -> Result<(), Failed> {
-        let touches = at <= self.bad && self.bad - at < (out.len() / 512) as u64;
-        if touches || self.disk.read(at, out).is_err() {
-            return Err(self.fail());
+        let is_bad = at <= self.bad && self.bad - at < (out.len() / 512) as u64;
+        match self.disk.read(at, out) {
+            Ok(()) if !is_bad => Ok(()),
+            _ => Err(self.fail()),
         }
-        Ok(())
     }
 
     fn write(&mut self, at: u64, piece: &[u8]) -> Result<(), Failed> {
