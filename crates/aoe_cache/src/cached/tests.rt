@@ -146,7 +146,7 @@ fn loses_what_was_not_synced(rt: HostRuntime) -> Result<(), Fail> {
     assert!(rt; store.sync().is_ok());
     assert!(rt; put(&mut store, 1, &[2; 512 * 2]));
     assert_eq!(rt; four(&mut store, 0), Some([1, 2, 2, 0]));
-    let disk = store.close().crash(Loss::Keep);
+    let disk = store.close().crash(Loss::Old);
     assert_eq!(rt; four(&mut Direct::new(disk), 0), Some([1, 1, 0, 0]));
     Ok(())
 }
