@@ -269,3 +269,17 @@ pub whole_at : (low : ℕ) (hs : List HeldSector) (i : ℕ) (d : HeldSector) →
 whole_at low [] i d order lt = absurd (omega arith)
 whole_at low (h ∷ hs) zero d order lt = order.1
 whole_at low (h ∷ hs) (suc i) d order lt = whole_at (h.at + 1) hs i d order.2 (omega arith)
+
+-- a walk over those below a sector, one place on and at its end
+
+pub count_more : (s : ℕ) (hs : List HeldSector) (i : ℕ) (d : HeldSector) → IsAscending 0 hs → i < length hs → i ≤ count_below s hs → (get_or hs i d).at < s → i + 1 ≤ count_below s hs
+count_more s hs i d order lt le below = elim (cases_lt i (count_below s hs)) [
+  | inl more ↦ omega arith
+  | inr past ↦ absurd (omega (arith, count_past 0 s hs i d order past lt))
+]
+
+pub count_end : (s : ℕ) (hs : List HeldSector) (i : ℕ) (d : HeldSector) → i ≤ count_below s hs → s ≤ (get_or hs i d).at → i ≡ count_below s hs
+count_end s hs i d le above = elim (cases_lt i (count_below s hs)) [
+  | inl more ↦ absurd (omega (arith, count_within s hs i d more))
+  | inr past ↦ omega arith
+]

@@ -52,21 +52,37 @@ impl Buffer {
         self.held
     }
 
-    // How many of its sectors lie below this one: the place where it stands or is to stand.
-    fn position(&self, sector: u64) -> usize
+    /// How many of its sectors lie below this one: the place where it stands or is to stand.
+    pub(crate) fn position(&self, sector: u64) -> usize
         requires { IsBuffer (2 ^ 40) self.now }
         ensures { result ≡ count_below sector (held_of self.now) }
     {
         self.places[..self.held].partition_point(|place| place.at() < sector)
     }
 
-    /// How many sectors stand in it once `count` sectors from `at` on were put.
-    pub(crate) fn len_with(&self, at: u64, count: usize) -> usize
+    // The same of a sector that lies above those before place `from`, step by step: a write or a read
+    // has few sectors, and they are looked at next.
+    fn position_from(&self, from: usize, sector: u64) -> usize
         requires buffer { IsBuffer (2 ^ 40) self.now }
+        requires from { from ≤ count_below sector (held_of self.now) }
+        ensures { result ≡ count_below sector (held_of self.now) }
+    {
+        let mut place = from;
+        'below: while place < self.held && self.places[place].at() < sector {
+            place += 1;
+        }
+        place
+    }
+
+    /// How many sectors stand in it once `count` sectors from `at` on were put, of which the first has
+    /// the place `first`.
+    pub(crate) fn len_with(&self, first: usize, at: u64, count: usize) -> usize
+        requires buffer { IsBuffer (2 ^ 40) self.now }
+        requires first { first ≡ count_below at (held_of self.now) }
         requires range { at + count ≤ 2 ^ 40 }
         ensures { (piece : List ℕ) → result ≡ length (with_written at count piece (held_of self.now)) }
     {
-        self.position(at) + count + (self.held - self.position(at + count as u64))
+        first + count + (self.held - self.position_from(first, at + count as u64))
     }
 
     // Makes `more` of the places that hold no sector stand before the place `behind`.
@@ -98,9 +114,11 @@ impl Buffer {
         }
     }
 
-    /// Puts the sectors of a piece, each in the place of what stood for it before.
-    pub(crate) fn put(&mut self, at: u64, piece: &[u8])
+    /// Puts the sectors of a piece, each in the place of what stood for it before. The first has the
+    /// place `first`.
+    pub(crate) fn put(&mut self, first: usize, at: u64, piece: &[u8])
         requires buffer { IsBuffer (2 ^ 40) self.old }
+        requires first { first ≡ count_below at (held_of self.old) }
         requires whole { 512 * (length piece.now / 512) ≡ length piece.now }
         requires range { at + length piece.now / 512 ≤ 2 ^ 40 }
         requires room { length (with_written at (length piece.now / 512) piece.now (held_of self.old))
@@ -110,8 +128,7 @@ impl Buffer {
         ensures places { length self.new.places.items ≡ length self.old.places.items }
     {
         let count = piece.len() / SECTOR;
-        let first = self.position(at);
-        let behind = self.position(at + count as u64);
+        let behind = self.position_from(first, at + count as u64);
         self.make_room(behind, count - (behind - first));
         self.fill(first, at, piece);
     }
@@ -126,7 +143,7 @@ impl Buffer {
             → out.new ≡ take (length out.old) (drop (512 * at) (laid_over bytes (held_of self.now))) }
     {
         let first = self.position(at);
-        let behind = self.position(at + (out.len() / SECTOR) as u64);
+        let behind = self.position_from(first, at + (out.len() / SECTOR) as u64);
         'sectors: for i in first..behind {
             self.places[i].lay_over(at, out);
         }

@@ -141,7 +141,7 @@ impl<D: Disk> WriteBehind<D> {
         if piece.len() / SECTOR > self.room as usize {
             return self.disk.write(at, piece);
         }
-        self.buffer.put(at, piece);
+        self.buffer.put(0, at, piece);
         Ok(())
     }
 
@@ -153,10 +153,11 @@ impl<D: Disk> WriteBehind<D> {
         ensures behind { IsWriteBehind D.state self.new }
         ensures writes { CacheWrites D.state at piece.now result (cache_of self.old) (cache_of self.new) }
     {
-        if self.buffer.len_with(at, piece.len() / SECTOR) > self.room as usize {
+        let first = self.buffer.position(at);
+        if self.buffer.len_with(first, at, piece.len() / SECTOR) > self.room as usize {
             return self.write_beyond(at, piece);
         }
-        self.buffer.put(at, piece);
+        self.buffer.put(first, at, piece);
         Ok(())
     }
 

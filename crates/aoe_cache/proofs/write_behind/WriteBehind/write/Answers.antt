@@ -21,3 +21,6 @@ returns-clause-behind g c = record {
   places = c.put.ensures.places ∙ c.requires.behind.places;
   scratch = c.requires.behind.scratch;
 }
+
+pub position-first-requires : goal.position-first-requires
+position-first-requires g c = buffer_more (g.D.Disk.state c.args.self.now.disk).sectors (2 ^ 40) c.args.self.now.buffer c.requires.behind.disk.bound c.requires.behind.buffer
