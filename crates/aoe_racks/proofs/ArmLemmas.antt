@@ -13,7 +13,7 @@ use Rattle.aoe_disk.specs.State.{BothTell, Contents}
 use Rattle.aoe_disk.specs.declared.armed.Arm.{Arm}
 use Rattle.aoe_disk.specs.declared.loss.Loss.{Loss}
 use Rattle.aoe_keep.specs.Found.{Finds}
-use Rattle.aoe_lists.specs.Settings.{Settings}
+use Rattle.aoe_keep.specs.Keep.{Kept}
 use Rattle.aoe_shelf.specs.Shelf.{Rack}
 use Rattle.aoe_shelf.specs.Slot.{ChangesAt}
 use Rattle.aoe_shelf.proofs.SlotLemmas.{get-after, get-other, length-changed}
@@ -104,10 +104,10 @@ store-armed slot h k mode t m stops first s a =
     }
 
 -- that of the keep is
-keep-armed : (slot : SlotSetup) (h : List Entry) (k : ℕ) (mode : Option Loss) (t : Mounted Memory Memory) (m : Memory) (lists : Settings) (stops : Stops) → 0 < k → IsServing slot h t stops → lists ≡ t.keep.lists
-    → ArmsTo (arm_of k mode) (state_of t.keep.disk) (state_of m)
-    → IsServing slot (Armed slot.station.id Keep k mode ∷ h) (record t { keep = record { disk = m; lists = lists } }) (record stops { keep = mode })
-keep-armed slot h k mode t m lists stops first s same a =
+keep-armed : (slot : SlotSetup) (h : List Entry) (k : ℕ) (mode : Option Loss) (t : Mounted Memory Memory) (new : Kept Memory) (stops : Stops) → 0 < k → IsServing slot h t stops → new.lists ≡ t.keep.lists
+    → ArmsTo (arm_of k mode) (state_of t.keep.disk) (state_of new.disk)
+    → IsServing slot (Armed slot.station.id Keep k mode ∷ h) (record t { keep = new }) (record stops { keep = mode })
+keep-armed slot h k mode t new stops first s same a =
     let mine = stretch-begun slot h Keep Keep k mode refl in
     let other = stretch-other slot h Keep Store k mode refl in
     record {
@@ -119,7 +119,7 @@ keep-armed slot h k mode t m lists stops first s same a =
         sectors = s.holds.sectors;
       };
       store_due = subst (λ (o : Option Stretch). IsDue Store o (schedule_of t.store.arming t.store.out)) (sym other) s.store_due;
-      keep_due = subst (λ (o : Option Stretch). IsDue Keep o (schedule_of m.arming m.out)) (sym mine) (due-begun Keep k mode t.keep.disk m first a);
+      keep_due = subst (λ (o : Option Stretch). IsDue Keep o (schedule_of new.disk.arming new.disk.out)) (sym mine) (due-begun Keep k mode t.keep.disk new.disk first a);
       store_stop = s.store_stop ∙ ap stop_in (sym other);
       keep_stop = ap stop_in (sym mine);
     }
@@ -130,7 +130,7 @@ armed Store slot h k mode t u stops first s a =
     subst (λ (w : Mounted Memory Memory). IsServing slot (Armed slot.station.id Store k mode ∷ h) w (record stops { store = mode })) (sym a.rest) (store-armed slot h k mode t u.store stops first s a.arms)
 armed Keep slot h k mode t u stops first s a =
     subst (λ (w : Mounted Memory Memory). IsServing slot (Armed slot.station.id Keep k mode ∷ h) w (record stops { keep = mode })) (sym a.rest)
-    (keep-armed slot h k mode t u.keep.disk u.keep.lists stops first s a.lists a.arms)
+    (keep-armed slot h k mode t u.keep stops first s a.lists a.arms)
 
 -- a target that is armed is the same one: its disks hold what they held
 same-sectors : (a b : Option Contents) (k : Option Sectors) → b ≡ a → BothTell Agrees (option_map sectors_of a) k → BothTell Agrees (option_map sectors_of b) k
