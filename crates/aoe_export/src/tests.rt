@@ -152,7 +152,10 @@ fn says_why_nothing_was_run(rt: HostRuntime) -> Result<(), Fail> {
             of_keep(MountRefusal::TooSmall { sectors: 15 }),
             "keep of slot 3: 15 sectors, 16 needed",
         ),
-        (of_keep(MountRefusal::Failed), "keep of slot 3: failed"),
+        (
+            of_keep(MountRefusal::Failed),
+            "keep of slot 3: a device call failed",
+        ),
         (
             of_keep(MountRefusal::BadKeep { slot: 1 }),
             "keep of slot 3: slot 1 holds no lists",
