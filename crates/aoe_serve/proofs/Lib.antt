@@ -3,3 +3,6 @@ mod RunLemmas
 mod TurnLemmas
 mod LinkLemmas
 mod ShelfLinkLemmas
+mod SyncLemmas
+pub mod EndLemmas
+mod FileLemmas

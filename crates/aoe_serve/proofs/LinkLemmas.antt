@@ -1,74 +1,22 @@
 -- Rounds over a link make runs. What a link gave and took stands latest first.
-use Rattle.std.proofs.Common.{◌≡◌, ◌≤◌, ◌<◌, ◌+◌, ◌-◌, ◌^◌, min, ℕ, zero, suc, List, [], ◌∷◌, ◌++◌, length, length-append, take, replicate, Option, Some, None, Bool, true, false, ◌||◌, refl, sym, ap, subst, ◌∙◌, append-nil, arith, inl, inr}
+use Rattle.std.proofs.Common.{◌≡◌, ◌≤◌, ◌<◌, ◌+◌, ◌-◌, ◌^◌, min, ℕ, zero, suc, List, [], ◌∷◌, ◌++◌, length, length-append, take, replicate, Option, Some, None, Bool, true, false, ◌||◌, refl, sym, ap, subst, ◌∙◌, arith, inl, inr}
 use Rattle.std.proofs.lemmas.Bool.{eq-eqb, eqb-true}
-use Rattle.std.proofs.lemmas.Grind.{flat_map-append}
-use Rattle.std.proofs.lemmas.List.{reverse-append, take-append-le}
+use Rattle.std.proofs.lemmas.List.{reverse-append}
 use Rattle.std.specs.Prelude.{reverse, Result, Ok, Err, nat_eq}
 use Rattle.aoe_base.specs.declared.failure.Failed.{Failed}
-use Rattle.aoe_io.proofs.LinkLemmas.{Added-then, GaveTurns-then}
-use Rattle.aoe_io.specs.Link.{Added, GaveTurns, Turn, came, quiet, ended}
-use Rattle.aoe_target.specs.Law.{Fate}
-use Rattle.aoe_serve.specs.Arrivals.{Arrived, AreServed, frames, replies, replies_of, reply_of}
+use Rattle.aoe_io.proofs.LinkLemmas.{Added-then, turned-nothing, turned-then}
+use Rattle.aoe_io.specs.Link.{Added, Turn, Turned, came, quiet, ended}
+use Rattle.aoe_serve.specs.Arrivals.{Arrived, AreServed, frames, replies, replies_of}
 use Rattle.aoe_io.specs.declared.links.Got.{Got}
 use Rattle.aoe_io.specs.declared.links.Got.TheVariants.{Frame, Quiet, Ended}
-use Rattle.aoe_serve.specs.Serving.{Waited, GoesOn, Sends, SendsOn, Sent, Served, Turned, came_in, has_ended, is_over, quiet_since}
+use Rattle.aoe_serve.specs.Rounds.{LinkTook, Outcome, Round}
+use Rattle.aoe_serve.specs.Serving.{Waited, GoesOn, Sends, Served, came_in, has_ended, is_over, quiet_since}
 use Rattle.aoe_serve.specs.Slots.{Slot}
 use Rattle.aoe_serve.specs.declared.over_link.ServeEnd.TheVariants as end
+use Rattle.aoe_serve.specs.OutletLaws.{Frames, added_nothing, sends_more}
 use Rattle.aoe_serve.proofs.RunLemmas.{served_begun, served_then}
 
--- Fronts of lists.
-
-take_past : {X : Type 0} (xs ys : List X) (n m : ℕ) → m ≡ length xs + n → take m (xs ++ ys) ≡ xs ++ take n ys
-take_past [] ys n m e = ap (λ (k : ℕ). take k ys) (omega (arith, e))
-take_past (x ∷ xs) ys n zero e = absurd (omega (arith, e))
-take_past {X} (x ∷ xs) ys n (suc m) e = ap (λ (l : List X). x ∷ l) (take_past xs ys n m (omega (arith, e)))
-
--- What the link took.
-
-abbrev pub Frames : Type 0
-Frames = List (List ℕ)
-
--- all of the first, and then all of the second or some
-sends-after : {T E : Type 0} (result : Result T E) (a b c : Option Frames) (xs ys : Frames) → Added a b (reverse xs) → Sends result b c ys → Sends result a c (xs ++ ys)
-sends-after (Ok v) a b c xs ys one two = subst (λ (l : Frames). Added a c l) (sym (reverse-append xs ys)) (Added-then a b c (reverse xs) (reverse ys) one two)
-sends-after (Err e) a b c xs ys one two =
-    let n = two.0 in
-    (length xs + n, omega (arith, two.1, length-append xs ys), subst (λ (l : Frames). Added a c l) (sym (ap reverse (take_past xs ys n (length xs + n) refl) ∙ reverse-append xs (take n ys))) (Added-then a b c (reverse xs) (reverse (take n ys)) one two.2))
-
-pub sends-on : {T E : Type 0} (given result : Result T E) (a b c : Option Frames) (xs ys : Frames) → Sends given a b xs → SendsOn given result b c ys → Sends result a c (xs ++ ys)
-sends-on (Ok u) result a b c xs ys one two = sends-after result a b c xs ys one two
-sends-on (Err f) (Ok v) a b c xs ys one two = absurd (let no : false ≡ true → ⊥ = λ q. (cc) in no two.0)
-sends-on (Err f) (Err e) a b c xs ys one two =
-    let n = one.0 in
-    let front : take n (xs ++ ys) ≡ take n xs = take-append-le n xs ys (omega (arith, one.1)) in
-    (n, omega (arith, one.1, length-append xs ys), subst (λ (o : Option Frames). Added a o (reverse (take n (xs ++ ys)))) (sym two.1) (subst (λ (l : Frames). Added a b (reverse l)) (sym front) one.2))
-
-pub replies-on : (fates : List Fate) (fate : Fate) → replies_of (fates ++ fate ∷ []) ≡ replies_of fates ++ reply_of fate
-replies-on fates fate = flat_map-append reply_of fates (fate ∷ []) ∙ ap (λ (t : Frames). replies_of fates ++ t) (append-nil (reply_of fate))
-
 -- Turns.
-
-pub turned-nothing : (n : ℕ) (a : Option (List Turn)) → Turned n n a a []
-turned-nothing n None = record { gave = λ below. refl; later = omega arith; counted = omega arith }
-turned-nothing n (Some l) = record { gave = λ below. refl; later = omega arith; counted = omega arith }
-
-pub turned-then : (l m n : ℕ) (a b c : Option (List Turn)) (xs ys : List Turn) → Turned l m a b xs → Turned m n b c ys → Turned l n a c (ys ++ xs)
-turned-then l m n a b c xs ys one two = record {
-  gave = GaveTurns-then m n a b c xs ys two.later one.gave two.gave;
-  later = omega (arith, one.later, two.later);
-  counted = omega (arith, one.counted, two.counted, length-append ys xs);
-}
-
--- one turn more
-pub turned-by : (m n : ℕ) (b c : Option (List Turn)) (t : Turn) → GaveTurns n b c (t ∷ []) → m ≤ n → n ≡ min (m + 1) (2 ^ 64 - 1) → Turned m n b c (t ∷ [])
-turned-by m n b c t gave later e = record { gave = gave; later = later; counted = omega (arith, e) }
-
--- a call of recv that failed
-pub turned-same : (l m n : ℕ) (a b c : Option (List Turn)) (xs : List Turn) → Turned l m a b xs → n ≡ m → c ≡ b → Turned l n a c xs
-turned-same l m n a b c xs t e f =
-    let P : ℕ → Type 0 = λ k. Turned l k a b xs in
-    let Q : Option (List Turn) → Type 0 = λ o. Turned l n a o xs in
-    subst Q (sym f) (subst P (sym e) t)
 
 came_quiet : (n : ℕ) (turns : List Turn) → came_in (replicate n quiet ++ turns) ≡ came_in turns
 came_quiet zero turns = refl
@@ -122,10 +70,6 @@ pub record SoFar (limit idle start now : ℕ) (given given' : Option (List Turn)
   pub loud : quiet_since turns ≡ 0
   pub going : has_ended turns ≡ false
 
-added_nothing : {A : Type 0} (a : Option (List A)) → Added a a []
-added_nothing None = refl
-added_nothing (Some l) = refl
-
 pub begun : (limit idle start : ℕ) (given : Option (List Turn)) (taken : Option Frames) (old : List Slot) → SoFar limit idle start start given given taken taken old old 0
 begun limit idle start given taken old = record {
   turns = [];
@@ -169,24 +113,24 @@ module _ (limit idle start now : ℕ) (given0 given : Option (List Turn)) (taken
     turned' : Turned start later given0 given' turns'
     turned' = turned-then start now later given0 given given' s.turns (came f ∷ replicate n quiet) s.turned t
 
-    module _ {T E : Type 0} (result : Result T E) (taken' : Option Frames) (new : List Slot) (g : Sent result f taken taken' mid new) where
+    module _ (result : Outcome) (taken' : Option Frames) (new : List Slot) (r : Round (Sends result taken taken') f mid new) where
       abbrev h' : List Arrived
-      h' = record { frame = f; fates = g.fates } ∷ s.arrivals
+      h' = record { frame = f; fates = r.fates } ∷ s.arrivals
 
       frames' : frames h' ≡ came_in turns'
       frames' = ap (λ (l : Frames). l ++ f ∷ []) s.frames_are ∙ sym came'
 
-      sends' : Sends result taken0 taken' (replies h')
-      sends' = sends-after result taken0 taken taken' (replies s.arrivals) (replies_of g.fates) s.sends g.sends
+      served' : AreServed old new h'
+      served' = served_then old mid new f r.fates s.arrivals s.served r.meets
 
-    pub goes_on : {E : Type 0} (u : Unit {0}) (taken' : Option Frames) (new : List Slot) → Sent {T = Unit {0}} {E = E} (Ok u) f taken taken' mid new → SoFar limit idle start later given0 given' taken0 taken' old new (count + 1)
-    goes_on u taken' new g = record {
+    pub goes_on : (taken' : Option Frames) (new : List Slot) → Round (Sends {T = Unit {0}} {E = Failed} (Ok tt) taken taken') f mid new → SoFar limit idle start later given0 given' taken0 taken' old new (count + 1)
+    goes_on taken' new r = record {
       turns = turns';
-      arrivals = h' (Ok u) taken' new g;
-      frames_are = frames' (Ok u) taken' new g;
-      served = served_then old mid new f g.fates s.arrivals s.served g.meets;
+      arrivals = h' (Ok tt) taken' new r;
+      frames_are = frames' (Ok tt) taken' new r;
+      served = served' (Ok tt) taken' new r;
       turned = turned';
-      sends = sends' (Ok u) taken' new g;
+      sends = sends_more (Ok tt) taken0 taken taken' (replies s.arrivals) (replies_of r.fates) s.sends r.took;
       goes_on = on';
       counted = omega (arith, ap length came', length-append (came_in s.turns) (f ∷ []), s.counted);
       loud = refl;
@@ -194,19 +138,19 @@ module _ (limit idle start now : ℕ) (given0 given : Option (List Turn)) (taken
     }
 
     -- the link failed to take a reply
-    pub breaks : {E : Type 0} (e : E) (taken' : Option Frames) (new : List Slot) → Sent {T = Unit {0}} {E = E} (Err e) f taken taken' mid new → Served end.LinkFault limit idle start later given0 given' taken0 taken' old new
-    breaks e taken' new g =
+    pub breaks : (e : Failed) (taken' : Option Frames) (new : List Slot) → Round (Sends {T = Unit {0}} (Err e) taken taken') f mid new → Served end.LinkFault limit idle start later given0 given' taken0 taken' old new
+    breaks e taken' new r =
         let before : Frames = replies s.arrivals in
-        let n = g.sends.0 in
-        let last : Frames = take n (replies_of g.fates) in
+        let n = r.took.0 in
+        let last : Frames = take n (replies_of r.fates) in
         record {
           turns = turns';
-          arrivals = h' (Err e) taken' new g;
-          frames_are = frames' (Err e) taken' new g;
-          served = served_then old mid new f g.fates s.arrivals s.served g.meets;
+          arrivals = h' (Err e) taken' new r;
+          frames_are = frames' (Err e) taken' new r;
+          served = served' (Err e) taken' new r;
           turned = turned';
           goes_on = on';
-          finishes = inr (n, g.sends.1, subst (λ (l : Frames). Added taken0 taken' l) (sym (reverse-append before last)) (Added-then taken0 taken taken' (reverse before) (reverse last) s.sends g.sends.2));
+          finishes = inr (n, r.took.1, subst (λ (l : Frames). Added taken0 taken' l) (sym (reverse-append before last)) (Added-then taken0 taken taken' (reverse before) (reverse last) s.sends r.took.2));
         }
 
   module _ (later : ℕ) (given' : Option (List Turn)) where
@@ -281,19 +225,23 @@ module _ (limit idle start now later : ℕ) (given0 given given' : Option (List 
   pub by_failure : (e : Failed) → AfterWait (Err e) idle f now later given given' → Served end.LinkFault limit idle start later given0 given' taken0 waiting old mid
   by_failure e w = link_fails limit idle start now given0 given taken0 waiting old mid count few s later given' w.1.0 w.1.1 (subst (λ (l : List Turn). Turned now later given given' l) w.1.2 w.2)
 
-  module _ (last : ℕ) (given'' : Option (List Turn)) (taken' : Option Frames) (new : List Slot) (turns_is : last ≡ later) (given_is : given'' ≡ given') where
-    pub by_frame : {F : Type 0} (u : Unit {0}) → AfterWait (Ok Frame) idle f now later given given' → Sent {T = Unit {0}} {E = F} (Ok u) f waiting taken' mid new
-        → SoFar limit idle start last given0 given'' taken0 taken' old new (count + 1)
-    by_frame u w sent =
-        let t = subst (λ (l : List Turn). Turned now later given given' l) w.1.2 w.2 in
+  module _ (last : ℕ) (given'' : Option (List Turn)) (taken' : Option Frames) (new : List Slot) (result : Outcome) (m n : ℕ) (w : AfterWait (Ok Frame) idle f now later given given')
+      (r : Round (LinkTook result waiting taken' given' given'' later last m n) f mid new) where
+    t : Turned now later given given' (came f ∷ replicate w.1.0 quiet)
+    t = subst (λ (l : List Turn). Turned now later given given' l) w.1.2 w.2
+
+    -- what was sent of a round
+    sent : (o : Outcome) → result ≡ o → Round (Sends o waiting taken') f mid new
+    sent o is = record { fates = r.fates; meets = r.meets; took = subst (λ (o : Outcome). Sends o waiting taken' (replies_of r.fates)) is r.took.sends }
+
+    pub by_frame : result ≡ Ok tt → SoFar limit idle start last given0 given'' taken0 taken' old new (count + 1)
+    by_frame is =
         let P : ℕ → Type 0 = λ k. SoFar limit idle start k given0 given'' taken0 taken' old new (count + 1) in
         let Q : Option (List Turn) → Type 0 = λ o. SoFar limit idle start later given0 o taken0 taken' old new (count + 1) in
-        subst P (sym turns_is) (subst Q (sym given_is) (goes_on limit idle start now given0 given taken0 waiting old mid count few s later given' w.1.0 w.1.1 f t u taken' new sent))
+        subst P (sym r.took.same_turns) (subst Q (sym r.took.same_given) (goes_on limit idle start now given0 given taken0 waiting old mid count few s later given' w.1.0 w.1.1 f t taken' new (sent (Ok tt) is)))
 
-    pub by_break : {F : Type 0} (e : F) → AfterWait (Ok Frame) idle f now later given given' → Sent {T = Unit {0}} {E = F} (Err e) f waiting taken' mid new
-        → Served end.LinkFault limit idle start last given0 given'' taken0 taken' old new
-    by_break e w sent =
-        let t = subst (λ (l : List Turn). Turned now later given given' l) w.1.2 w.2 in
+    pub by_break : (e : Failed) → result ≡ Err e → Served end.LinkFault limit idle start last given0 given'' taken0 taken' old new
+    by_break e is =
         let P : ℕ → Type 0 = λ k. Served end.LinkFault limit idle start k given0 given'' taken0 taken' old new in
         let Q : Option (List Turn) → Type 0 = λ o. Served end.LinkFault limit idle start later given0 o taken0 taken' old new in
-        subst P (sym turns_is) (subst Q (sym given_is) (breaks limit idle start now given0 given taken0 waiting old mid count few s later given' w.1.0 w.1.1 f t e taken' new sent))
+        subst P (sym r.took.same_turns) (subst Q (sym r.took.same_given) (breaks limit idle start now given0 given taken0 waiting old mid count few s later given' w.1.0 w.1.1 f t e taken' new (sent (Err e) is)))

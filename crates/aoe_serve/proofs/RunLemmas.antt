@@ -1,53 +1,29 @@
 -- Rounds make runs.
 use Rattle.std.proofs.Common.{◌≡◌, ◌≤◌, ◌<◌, ◌+◌, ◌*◌, ◌-◌, ◌^◌, min, ℕ, suc, List, [], ◌∷◌, ◌++◌, length, length-append, Option, Bool, true, false, refl, sym, ap, subst, ◌∙◌, append-nil, arith, inl, inr}
 use Rattle.std.proofs.lemmas.Bool.{cases_lt}
-use Rattle.std.proofs.lemmas.Grind.{flat_map-append}
 use Rattle.std.proofs.lemmas.List.{get_or_append_left, get_or_at}
 use Rattle.std.proofs.lemmas.Option.{same_Some, slice_get_within}
-use Rattle.std.specs.Prelude.{All, if◌then◌else◌, Result, Ok, Err, OnOk, OnErr, is_err}
-use Rattle.aoe_base.specs.Faults.{Rose}
-use Rattle.aoe_base.specs.declared.failure.Failed.{Failed}
-use Rattle.aoe_io.proofs.BytesLemmas.{Gave-then, Gave-nothing, Took-then, Took-nothing, TookSome-then, TookSome-front}
-use Rattle.aoe_io.specs.Bytes.{Gave, Took, TookSome}
+use Rattle.std.specs.Prelude.{All, if◌then◌else◌, Ok}
+use Rattle.aoe_io.proofs.BytesLemmas.{Gave-then, Gave-nothing, Took-then, Took-nothing}
+use Rattle.aoe_io.specs.Bytes.{Gave, Took}
 use Rattle.aoe_io.specs.Stream.{framed, stream, IsFrame}
 use Rattle.aoe_target.specs.Device.{State, Holds}
 use Rattle.aoe_target.specs.History.{Met, count_failed, keep_failed, left_by, store_failed}
 use Rattle.aoe_target.specs.Law.{Fate, IsStep}
 use Rattle.aoe_target.specs.declared.station.Station.{Station}
-use Rattle.aoe_serve.specs.Arrivals.{Arrived, AreServed, MeetAll, at_slot, fate_at, frames, replies, replies_of, reply_of}
-use Rattle.aoe_serve.specs.Run.{Answered, Ends, Gives, WritesTo, WritesOn}
+use Rattle.aoe_serve.specs.Arrivals.{Arrived, AreServed, MeetAll, at_slot, fate_at, frames, replies, replies_of}
+use Rattle.aoe_serve.specs.Rounds.{Round, SinkTook}
+use Rattle.aoe_serve.specs.Answering.{Answered, Ends}
 use Rattle.aoe_serve.specs.Slots.{IsServed, Meets, Slot}
 use Rattle.aoe_serve.specs.declared.over_stream.AnswerEnd.{AnswerEnd}
 use Rattle.aoe_serve.specs.declared.over_stream.AnswerEnd.TheVariants as end
+use Rattle.aoe_serve.specs.OutletLaws.{stream-append}
 use Rattle.aoe_serve.proofs.SlotLemmas.{there}
 
 -- Streams.
 
-pub stream-append : (xs ys : List (List ℕ)) → stream (xs ++ ys) ≡ stream xs ++ stream ys
-stream-append xs ys = flat_map-append framed xs ys
-
 pub stream-frame : (fs : List (List ℕ)) (f : List ℕ) → stream (fs ++ f ∷ []) ≡ stream fs ++ framed f
 stream-frame fs f = stream-append fs (f ∷ []) ∙ ap (λ (t : List ℕ). stream fs ++ t) (append-nil (framed f))
-
-pub stream-replies : (fates : List Fate) (fate : Fate) → stream (replies_of (fates ++ fate ∷ [])) ≡ stream (replies_of fates) ++ stream (reply_of fate)
-stream-replies fates fate =
-    ap stream (flat_map-append reply_of fates (fate ∷ []) ∙ ap (λ (t : List (List ℕ)). replies_of fates ++ t) (append-nil (reply_of fate)))
-    ∙ stream-append (replies_of fates) (reply_of fate)
-
--- what the sink took of the replies of a round, and of one more
-pub writes-on : {T E : Type 0} (given result : Result T E) (a b c : Option (List ℕ)) (fates : List Fate) (fate : Fate)
-    → WritesTo given a b (stream (replies_of fates)) → WritesOn given result b c (stream (reply_of fate)) → WritesTo result a c (stream (replies_of (fates ++ fate ∷ [])))
-writes-on (Ok u) (Ok v) a b c fates fate one two = subst (λ (xs : List ℕ). Took a c xs) (sym (stream-replies fates fate)) (Took-then a b c (stream (replies_of fates)) (stream (reply_of fate)) one two)
-writes-on (Ok u) (Err f) a b c fates fate one two = subst (λ (xs : List ℕ). TookSome a c xs) (sym (stream-replies fates fate)) (TookSome-then a b c (stream (replies_of fates)) (stream (reply_of fate)) one two)
-writes-on (Err f) (Ok u) a b c fates fate one two = absurd (let no : false ≡ true → ⊥ = λ q. (cc) in no two.0)
-writes-on (Err f) (Err g) a b c fates fate one two =
-    let P : Option (List ℕ) → Type 0 = λ x. TookSome a x (stream (replies_of fates)) in
-    subst (λ (xs : List ℕ). TookSome a c xs) (sym (stream-replies fates fate)) (TookSome-front a c (stream (replies_of fates)) (stream (reply_of fate)) (subst P (sym two.1) one))
-
--- what the sink took of one reply
-pub writes-one : {T E : Type 0} (result : Result T E) (a b : Option (List ℕ)) (f : List ℕ) → OnOk result (Took a b (framed f)) → OnErr result (TookSome a b (framed f)) → WritesTo result a b (stream (f ∷ []))
-writes-one (Ok u) a b f all some = subst (λ (xs : List ℕ). Took a b xs) (sym (append-nil (framed f))) all
-writes-one (Err e) a b f all some = subst (λ (xs : List ℕ). TookSome a b xs) (sym (append-nil (framed f))) some
 
 -- Faults.
 
@@ -64,31 +40,6 @@ same_many o n b c before later = omega arith
 counted-step : (o n b c : ℕ) (fault : Bool) → min (o + n) (2 ^ 64 - 1) ≤ b → b ≤ c → (fault ≡ true → b < 2 ^ 64 - 1 → b < c) → min (o + (n + (if fault then 1 else 0))) (2 ^ 64 - 1) ≤ c
 counted-step o n b c true before later rose = one_more o n b c before later (rose refl)
 counted-step o n b c false before later rose = same_many o n b c before later
-
--- the count of faults of an object that is called until it fails
-pub record Counts (result : Result (Unit {0}) Failed) (a b : ℕ) : Type 0 where
-  pub later : a ≤ b
-  pub fault : OnErr result (Rose a b)
-  pub no_fault : OnOk result (b ≡ a)
-  pub one_fault : b ≤ a + 1
-
-pub counts_begun : (a : ℕ) → Counts (Ok tt) a a
-counts_begun a = record { later = omega arith; fault = tt; no_fault = refl; one_fault = omega arith }
-
--- one round more, in which the object isn't called once it failed
-pub counts_on : (given result : Result (Unit {0}) Failed) (a b c : ℕ) → Counts given a b → b ≤ c → (given ≡ Ok tt → OnErr result (Rose b c)) → OnOk result (c ≡ b) → c ≤ b + 1
-    → OnErr given (is_err result ≡ true) → OnErr given (c ≡ b) → Counts result a c
-counts_on (Ok u) (Ok v) a b c before later rose same one failed still =
-    record { later = omega (arith, before.later, later); fault = tt; no_fault = same ∙ before.no_fault; one_fault = omega (arith, same, before.one_fault) }
-counts_on (Ok u) (Err e) a b c before later rose same one failed still =
-    let first : b ≡ a = before.no_fault in
-    let more : Rose b c = rose refl in
-    record { later = omega (arith, first, later); fault = λ below. let less : b < c = more (omega (arith, first, below)) in omega (arith, less, first); no_fault = tt; one_fault = omega (arith, one, first) }
-counts_on (Err f) (Ok v) a b c before later rose same one failed still = absurd (let no : false ≡ true → ⊥ = λ q. (cc) in no failed)
-counts_on (Err f) (Err e) a b c before later rose same one failed still =
-    let last : c ≡ b = still in
-    let more : Rose a b = before.fault in
-    record { later = omega (arith, before.later, last); fault = λ below. let less : a < b = more below in omega (arith, less, last); no_fault = tt; one_fault = omega (arith, before.one_fault, last) }
 
 -- Slots.
 
@@ -153,23 +104,22 @@ begun left held old = record {
   took = Took-nothing held;
 }
 
-pub goes_on : {T E : Type 0} (result : Result T E) (left0 left left' held0 held held' : Option (List ℕ)) (old now new : List Slot) (offset count n : ℕ) (f : List ℕ) (u : T) → Ok u ≡ result
-    → SoFar left0 left held0 held old now offset count → n ≡ length f → IsFrame f → Gave left left' (framed f) → Gives result f held held' now new
+pub goes_on : (left0 left left' held0 held held' : Option (List ℕ)) (old now new : List Slot) (offset count n l m : ℕ) (f : List ℕ)
+    → SoFar left0 left held0 held old now offset count → n ≡ length f → IsFrame f → Gave left left' (framed f) → Round (SinkTook (Ok tt) held held' l m) f now new
     → SoFar left0 left' held0 held' old new (offset + (2 + n)) (count + 1)
-goes_on (Ok u) left0 left left' held0 held held' old now new offset count n f v ok s n_is is gave g =
+goes_on left0 left left' held0 held held' old now new offset count n l m f s n_is is gave r =
     let h = s.arrivals in
     let P : List ℕ → Type 0 = λ xs. Gave left0 left' xs in
     let Q : List ℕ → Type 0 = λ xs. Took held0 held' xs in
     record {
-      arrivals = record { frame = f; fates = g.fates } ∷ h;
+      arrivals = record { frame = f; fates = r.fates } ∷ h;
       whole = all_frames (frames h) f s.whole is;
-      served = served_then old now new f g.fates h s.served g.meets;
+      served = served_then old now new f r.fates h s.served r.meets;
       count_is = omega (arith, s.count_is);
       offset_is = omega (arith, s.offset_is, ap length (stream-frame (frames h) f), length-append (stream (frames h)) (framed f), n_is);
       gave = subst P (sym (stream-frame (frames h) f)) (Gave-then left0 left left' (stream (frames h)) (framed f) s.gave gave);
-      took = subst Q (sym (stream-append (replies h) (replies_of g.fates))) (Took-then held0 held held' (stream (replies h)) (stream (replies_of g.fates)) s.took g.writes);
+      took = subst Q (sym (stream-append (replies h) (replies_of r.fates))) (Took-then held0 held held' (stream (replies h)) (stream (replies_of r.fates)) s.took r.took.writes);
     }
-goes_on (Err e) left0 left left' held0 held held' old now new offset count n f v ok s n_is is gave g = absurd (cc)
 
 length-stream : (fs : List (List ℕ)) → All IsFrame fs → length (stream fs) ≤ 9020 * length fs
 length-stream [] all = omega arith

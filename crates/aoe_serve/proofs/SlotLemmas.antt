@@ -1,13 +1,14 @@
 -- A frame comes to one slot after the other.
-use Rattle.std.proofs.Common.{◌≡◌, ◌≤◌, ◌<◌, ◌+◌, ℕ, zero, suc, List, [], ◌∷◌, ◌++◌, length, length-append, Some, false, refl, sym, ap, subst, ◌∙◌, arith, inl, inr, get_or}
+use Rattle.std.proofs.Common.{◌≡◌, ◌≤◌, ◌<◌, ◌+◌, ℕ, zero, suc, List, [], ◌∷◌, ◌++◌, length, length-append, Some, false, refl, sym, ap, subst, ◌∙◌, arith, inl, inr, get_or, append-nil}
+use Rattle.std.proofs.lemmas.Grind.{flat_map-append}
 use Rattle.std.proofs.lemmas.Bool.{cases_lt}
 use Rattle.std.proofs.lemmas.List.{get_or_append_left, get_or_at}
 use Rattle.std.proofs.lemmas.Option.{slice_get-get_or, slice_get_within, same_Some}
 use Rattle.std.specs.Prelude.{slice_get}
 use Rattle.aoe_target.specs.History.{is_cut}
 use Rattle.aoe_target.specs.Law.{Fate, ignored}
-use Rattle.aoe_serve.specs.Arrivals.{MeetAll, fate_at}
-use Rattle.aoe_serve.specs.Run.{MeetsAt}
+use Rattle.aoe_serve.specs.Arrivals.{MeetAll, fate_at, replies_of, reply_of}
+use Rattle.aoe_serve.specs.Answering.{MeetsAt}
 use Rattle.aoe_serve.specs.Slots.{Meets, Slot}
 
 -- the first slots met the frame, and the others are as they were
@@ -18,6 +19,9 @@ pub record Partly (old new : List Slot) (frame : List ℕ) (fates : List Fate) :
 
 pub partly_begun : (old : List Slot) (frame : List ℕ) → Partly old old frame []
 partly_begun old frame = record { count = refl; done = λ i a b below. absurd (omega (arith, below)); rest = λ i above. refl }
+
+pub replies-on : (fates : List Fate) (fate : Fate) → replies_of (fates ++ fate ∷ []) ≡ replies_of fates ++ reply_of fate
+replies-on fates fate = flat_map-append reply_of fates (fate ∷ []) ∙ ap (λ (t : List (List ℕ)). replies_of fates ++ t) (append-nil (reply_of fate))
 
 fate_before : (fates : List Fate) (fate : Fate) (i : ℕ) → i < length fates → fate_at i (fates ++ fate ∷ []) ≡ fate_at i fates
 fate_before fates fate i below = get_or_append_left fates (fate ∷ []) ignored i below

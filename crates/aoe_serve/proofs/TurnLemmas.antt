@@ -16,7 +16,7 @@ use Rattle.aoe_target.specs.Receive.{Replaces, fate_of, is_faulty, is_unkept}
 use Rattle.aoe_target.specs.Turn.{Receives}
 use Rattle.aoe_target.specs.declared.heard.Heard.{Heard}
 use Rattle.aoe_target.specs.declared.heard.Heard.TheVariants as heard
-use Rattle.aoe_serve.specs.Run.{MeetsAt}
+use Rattle.aoe_serve.specs.Answering.{MeetsAt}
 use Rattle.aoe_serve.specs.Slots.{Meets, Slot, slot_of, slots_of}
 
 -- One element of a list changes.

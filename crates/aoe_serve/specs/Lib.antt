@@ -1,5 +1,10 @@
 pub mod Slots
 pub mod Arrivals
-pub mod Run
+pub mod Answering
 pub mod Serving
 pub mod ShelfLink
+pub mod Rounds
+pub mod OutletLaws
+pub mod Files
+pub mod Ending
+pub mod Exporting

@@ -1,10 +1,9 @@
 -- What a run of serve gives and takes over its link, by how it ended. The turns of the link and the frames that it took stand latest first.
-use Rattle.std.specs.Prelude.{ℕ, ◌≡◌, ◌+◌, ◌<◌, ◌≤◌, ◌^◌, ◌-◌, min, List, [], ◌∷◌, ◌++◌, length, take, reverse, replicate, Option, Bool, true, false, ◌||◌, ◌⊎◌, nat_eq, Result, Ok, Err, is_err}
-use Rattle.aoe_io.specs.Link.{Added, GaveTurns, Turn, came, quiet, ended}
+use Rattle.std.specs.Prelude.{ℕ, ◌≡◌, ◌+◌, ◌<◌, ◌≤◌, ◌^◌, ◌-◌, min, List, [], ◌∷◌, ◌++◌, length, take, reverse, replicate, Option, Bool, true, false, ◌||◌, ◌⊎◌, nat_eq, Result, Ok, Err}
+use Rattle.aoe_io.specs.Link.{Added, Turn, Turned, came, quiet, ended}
 use Rattle.aoe_io.specs.declared.links.Got.{Got}
 use Rattle.aoe_io.specs.declared.links.Got.TheVariants.{Frame, Quiet, Ended}
-use Rattle.aoe_target.specs.Law.{Fate}
-use Rattle.aoe_serve.specs.Arrivals.{Arrived, AreServed, MeetAll, frames, replies, replies_of}
+use Rattle.aoe_serve.specs.Arrivals.{Arrived, AreServed, frames, replies, replies_of}
 use Rattle.aoe_serve.specs.Slots.{Slot}
 use Rattle.aoe_serve.specs.declared.over_link.ServeEnd.{ServeEnd}
 use Rattle.aoe_serve.specs.declared.over_link.ServeEnd.TheVariants as end
@@ -51,29 +50,12 @@ abbrev pub Sends : {T E : Type 0} → Result T E → Option (List (List ℕ)) �
 Sends (Ok u) before after replies = Added before after (reverse replies)
 Sends (Err failed) before after replies = (n : ℕ) × (n < length replies) × Added before after (reverse (take n replies))
 
--- what the link takes of a further reply: nothing once it failed
-abbrev pub SendsOn : {T E : Type 0} → Result T E → Result T E → Option (List (List ℕ)) → Option (List (List ℕ)) → List (List ℕ) → Type 0
-SendsOn (Ok u) result before after replies = Sends result before after replies
-SendsOn (Err failed) result before after replies = (is_err result ≡ true) × (after ≡ before)
-
--- a round: a frame came to each slot, and the link took the replies, or the first of them where it failed
-pub record Sent {T E : Type 0} (result : Result T E) (frame : List ℕ) (taken taken' : Option (List (List ℕ))) (old new : List Slot) : Type 0 where
-  pub fates : List Fate
-  pub meets : MeetAll old new frame fates
-  pub sends : Sends result taken taken' (replies_of fates)
-
 -- so many turns were quiet, and then came what else there is
 abbrev pub Waited : {E : Type 0} → Result Got E → ℕ → List ℕ → List Turn → Type 0
 Waited (Ok Frame) idle frame turns = (n : ℕ) × (n < idle) × (turns ≡ came frame ∷ replicate n quiet)
 Waited (Ok Quiet) idle frame turns = turns ≡ replicate idle quiet
 Waited (Ok Ended) idle frame turns = (n : ℕ) × (n < idle) × (turns ≡ ended ∷ replicate n quiet)
 Waited (Err failed) idle frame turns = (n : ℕ) × (n < idle) × (turns ≡ replicate n quiet)
-
--- a link gave these turns, and its count of turns is greater by as many, up to the end of the count
-pub record Turned (turned turned' : ℕ) (given given' : Option (List Turn)) (turns : List Turn) : Type 0 where
-  pub gave : GaveTurns turned' given given' turns
-  pub later : turned ≤ turned'
-  pub counted : min turned' (2 ^ 64 - 1) ≡ min (turned + length turns) (2 ^ 64 - 1)
 
 -- A run over a shelf and a link: each frame that the link gave came to each slot, and the link took the replies. A call of the link
 -- that failed was the last.

@@ -1,11 +1,12 @@
 //! The loop of `serve`: a frame from the link, its replies to the link.
 ghost use Rattle.std.specs.Prelude.{◌≡◌, ◌≢◌, ◌≤◌, ◌+◌, List, OnErr, OnOk, Ok, Err};
 ghost use Rattle.aoe_base.specs.Faults.{Rose};
-ghost use Rattle.aoe_io.specs.Link.{Turn};
-ghost use Rattle.aoe_serve.specs.Serving.{Sent, Served, Turned, Waited};
+ghost use Rattle.aoe_io.specs.Link.{Turn, Turned};
+ghost use Rattle.aoe_serve.specs.Serving.{Served, Waited};
 ghost use Rattle.aoe_serve.specs.Slots.{slots_of};
 
-use crate::link_rounds::send_round;
+use crate::outlet::AsFrames;
+use crate::rounds::round;
 use aoe_base::Failed;
 use aoe_disk::Disk;
 use aoe_frame::Frame;
@@ -70,7 +71,7 @@ pub fn serve<S: Store, D: Disk, L: Link>(
             Ok(Got::Ended) => return ServeEnd::Ended,
             Err(Failed) => return ServeEnd::LinkFault,
         }
-        match send_round(shelf, request.as_slice(), &mut reply, link) {
+        match round::<S, D, AsFrames, L>(shelf, request.as_slice(), &mut reply, link) {
             Ok(()) => {}
             Err(Failed) => return ServeEnd::LinkFault,
         }

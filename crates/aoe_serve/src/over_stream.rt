@@ -1,11 +1,13 @@
 //! The loop of `answer`: a frame from the source, its replies to the sink.
-ghost use Rattle.std.specs.Prelude.{◌≡◌, ◌≢◌, ◌≤◌, ◌+◌, OnOk, IfErr};
+ghost use Rattle.std.specs.Prelude.{◌≡◌, ◌≢◌, ◌≤◌, ◌+◌, IfErr, Ok, OnOk};
 ghost use Rattle.aoe_base.specs.Faults.{Rose};
 ghost use Rattle.aoe_io.specs.Bytes.{Gave};
 ghost use Rattle.aoe_io.specs.Stream.{framed, IsFrame};
-ghost use Rattle.aoe_serve.specs.Run.{Answered, Ends, Gives};
+ghost use Rattle.aoe_serve.specs.Rounds.{Round, SinkTook};
+ghost use Rattle.aoe_serve.specs.Answering.{Answered, Ends};
 ghost use Rattle.aoe_serve.specs.Slots.{slots_of};
 
+use crate::outlet::AsStream;
 use crate::rounds::round;
 use aoe_base::Failed;
 use aoe_disk::Disk;
@@ -45,7 +47,7 @@ fn turn<S: Store, D: Disk, R: Source, K: Sink>(
 ) -> Result<(), AnswerEnd>
     ensures frame { OnOk result (IsFrame request.new.items) }
     ensures gave { OnOk result (Gave (R.left source.old) (R.left source.new) (framed request.new.items)) }
-    ensures gives { OnOk result (Gives result request.new.items (K.held sink.old) (K.held sink.new)
+    ensures round { OnOk result (Round (SinkTook (Ok tt) (K.held sink.old) (K.held sink.new) (K.faults sink.old) (K.faults sink.new)) request.new.items
         (slots_of S.state D.state shelf.old.targets) (slots_of S.state D.state shelf.new.targets)) }
     ensures ends { IfErr result (λ end. Ends end offset (R.left source.old) (R.left source.new) (K.held sink.old) (K.held sink.new)
         (slots_of S.state D.state shelf.old.targets) (slots_of S.state D.state shelf.new.targets)) }
@@ -67,7 +69,7 @@ fn turn<S: Store, D: Disk, R: Source, K: Sink>(
         Err(StreamRefusal::SourceFault) => return Err(AnswerEnd::SourceFault),
         Err(StreamRefusal::Stream { offset }) => return Err(AnswerEnd::Stream { offset }),
     }
-    match round(shelf, request.as_slice(), reply, sink) {
+    match round::<S, D, AsStream, K>(shelf, request.as_slice(), reply, sink) {
         Ok(()) => Ok(()),
         Err(Failed) => Err(AnswerEnd::SinkFault),
     }

@@ -1,12 +1,12 @@
 //! The replies that wait to be given.
 ghost use Rattle.std.specs.Prelude.{◌≡◌, ◌≤◌, ◌++◌, [], ◌∷◌, drop, false, length, true, IfOk};
-ghost use Rattle.aoe_target.specs.Receive.{fate_of};
-ghost use Rattle.aoe_serve.specs.Arrivals.{reply_of};
+ghost use Rattle.aoe_serve.specs.Rounds.{Keeps};
 ghost use Rattle.aoe_serve.specs.ShelfLink.{with_room};
+ghost use Rattle.aoe_serve.specs.OutletLaws.{keeps_more, keeps_none, keeps_over};
 
-use aoe_base::NoMemory;
+use crate::outlet::Outlet;
+use aoe_base::{Failed, NoMemory};
 use aoe_frame::{Frame, refill};
-use aoe_target::Heard;
 use circular_buffer::HeapCircularBuffer;
 use std::alloc::Global;
 use std::marker::Model;
@@ -53,19 +53,8 @@ impl Replies {
         let _ = self.frames.try_push_back(copy);
     }
 
-    /// Lets the reply to a frame wait, where there is one.
-    pub(crate) fn keep(&mut self, heard: Heard, reply: &Frame)
-        requires { length self.old ≤ 64 }
-        ensures { self.new ≡ with_room (self.old ++ reply_of (fate_of heard reply.now.items)) }
-    {
-        match heard {
-            Heard::Replied { .. } => self.push(reply),
-            Heard::Ignored | Heard::Silent => {}
-        }
-    }
-
     /// Makes `out` the first reply, and waits with it no longer: false where none waits.
-    pub(crate) fn give(&mut self, out: &mut Frame) -> bool
+    pub(crate) fn pop(&mut self, out: &mut Frame) -> bool
         ensures first { result ≡ true → self.old ≡ out.new.items ∷ self.new }
         ensures empty { result ≡ false → self.old ≡ [] }
         ensures left { self.new ≡ drop 1 self.old }
@@ -78,4 +67,22 @@ impl Replies {
             None => false,
         }
     }
+}
+
+/// The replies wait in a queue.
+pub(crate) struct Queued;
+
+impl Outlet<Queued> for Replies {
+    ghost took = { Keeps };
+
+    fn give(&mut self, reply: &Frame) -> Result<(), Failed> {
+        self.push(reply);
+        Ok(())
+    }
+
+    ghost none = { keeps_none };
+
+    ghost more = { keeps_more };
+
+    ghost over = { keeps_over };
 }

@@ -1,90 +1,72 @@
-//! One frame for every slot of a shelf, with the replies on a sink.
-ghost use Rattle.std.specs.Prelude.{◌≡◌, ◌≤◌, ◌<◌, ◌+◌, length, IsErr, Ok, OnErr, OnOk};
-ghost use Rattle.aoe_base.specs.Faults.{Rose};
-ghost use Rattle.aoe_io.specs.Stream.{stream};
+//! One frame for every slot of a shelf.
+ghost use Rattle.std.specs.Prelude.{◌≡◌, ◌<◌, length};
 ghost use Rattle.aoe_target.specs.Law.{Fate};
 ghost use Rattle.aoe_target.specs.Receive.{fate_of};
-ghost use Rattle.aoe_serve.specs.Arrivals.{replies_of, reply_of};
-ghost use Rattle.aoe_serve.specs.Run.{Gives, MeetsAt, WritesOn};
+ghost use Rattle.aoe_serve.specs.Arrivals.{reply_of};
+ghost use Rattle.aoe_serve.specs.Rounds.{Round, TakesOn};
+ghost use Rattle.aoe_serve.specs.Answering.{MeetsAt};
 ghost use Rattle.aoe_serve.specs.Slots.{slots_of};
 
+use crate::outlet::Outlet;
 use aoe_base::Failed;
 use aoe_disk::Disk;
 use aoe_frame::Frame;
-use aoe_io::{Sink, give_frame};
 use aoe_shelf::Shelf;
 use aoe_store::Store;
 use aoe_target::Heard;
 
-/// Gives the reply to a frame to the sink, where there is one, unless the sink failed before.
-fn give<K: Sink>(
+/// Gives the reply to a frame to the outlet, where there is one, unless that failed before.
+fn give<By, O: Outlet<By>>(
     heard: Heard,
     reply: &Frame,
-    sink: &mut K,
+    outlet: &mut O,
     given: Result<(), Failed>,
 ) -> Result<(), Failed>
-    ensures writes { WritesOn given result (K.held sink.old) (K.held sink.new) (stream (reply_of (fate_of heard reply.now.items))) }
-    ensures count { K.faults sink.old ≤ K.faults sink.new }
-    ensures cause { given ≡ Ok tt → OnErr result (Rose (K.faults sink.old) (K.faults sink.new)) }
-    ensures no_fault { OnOk result (K.faults sink.new ≡ K.faults sink.old) }
-    ensures one_fault { K.faults sink.new ≤ K.faults sink.old + 1 }
-    ensures failed { OnErr given (IsErr result) }
-    ensures uncalled { OnErr given (K.faults sink.new ≡ K.faults sink.old) }
+    ensures { TakesOn O.took given result outlet.old outlet.new (reply_of (fate_of heard reply.now.items)) }
 {
     match given {
         Ok(()) => {}
         Err(Failed) => return Err(Failed),
     }
     match heard {
-        Heard::Replied { .. } => give_frame(sink, reply.as_slice()),
+        Heard::Replied { .. } => outlet.give(reply),
         Heard::Ignored | Heard::Silent => Ok(()),
     }
 }
 
-/// Hands a frame to one slot, and gives the reply to the sink, unless that failed before.
-fn meet<S: Store, D: Disk, K: Sink>(
+/// Hands a frame to one slot, and gives the reply to the outlet, unless that failed before.
+fn meet<S: Store, D: Disk, By, O: Outlet<By>>(
     shelf: &mut Shelf<S, D>,
     slot: usize,
     frame: &[u8],
     reply: &mut Frame,
-    sink: &mut K,
+    outlet: &mut O,
     given: Result<(), Failed>,
 ) -> Result<(), Failed>
     requires { slot < length shelf.old.targets }
     ensures meets { (fate : Fate) × MeetsAt slot (slots_of S.state D.state shelf.old.targets) (slots_of S.state D.state shelf.new.targets) frame.now fate
-        × WritesOn given result (K.held sink.old) (K.held sink.new) (stream (reply_of fate)) }
+        × TakesOn O.took given result outlet.old outlet.new (reply_of fate) }
     ensures len { length shelf.new.targets ≡ length shelf.old.targets }
     ensures rest { shelf.new ≡ record shelf.old { targets = shelf.new.targets } }
-    ensures count { K.faults sink.old ≤ K.faults sink.new }
-    ensures cause { given ≡ Ok tt → OnErr result (Rose (K.faults sink.old) (K.faults sink.new)) }
-    ensures no_fault { OnOk result (K.faults sink.new ≡ K.faults sink.old) }
-    ensures one_fault { K.faults sink.new ≤ K.faults sink.old + 1 }
-    ensures failed { OnErr given (IsErr result) }
-    ensures uncalled { OnErr given (K.faults sink.new ≡ K.faults sink.old) }
 {
     let heard = shelf.receive_slot(slot, frame, reply);
-    give(heard, reply, sink, given)
+    give::<By, O>(heard, reply, outlet, given)
 }
 
-/// Hands a frame to every slot in turn, and gives the replies to the sink. Where the sink fails it is
+/// Hands a frame to every slot in turn, and gives the replies to the outlet. Where that fails it is
 /// given no more, and the slots that are left get the frame all the same.
-pub(crate) fn round<S: Store, D: Disk, K: Sink>(
+pub(crate) fn round<S: Store, D: Disk, By, O: Outlet<By>>(
     shelf: &mut Shelf<S, D>,
     frame: &[u8],
     reply: &mut Frame,
-    sink: &mut K,
+    outlet: &mut O,
 ) -> Result<(), Failed>
-    ensures gives { Gives result frame.now (K.held sink.old) (K.held sink.new)
-        (slots_of S.state D.state shelf.old.targets) (slots_of S.state D.state shelf.new.targets) }
+    ensures round { Round (O.took result outlet.old outlet.new) frame.now (slots_of S.state D.state shelf.old.targets) (slots_of S.state D.state shelf.new.targets) }
     ensures rest { shelf.new ≡ record shelf.old { targets = shelf.new.targets } }
-    ensures count { K.faults sink.old ≤ K.faults sink.new }
-    ensures cause { OnErr result (Rose (K.faults sink.old) (K.faults sink.new)) }
-    ensures no_fault { OnOk result (K.faults sink.new ≡ K.faults sink.old) }
-    ensures one_fault { K.faults sink.new ≤ K.faults sink.old + 1 }
 {
     let mut given = Ok(());
     'slots: for slot in 0..shelf.count() {
-        given = meet(shelf, slot, frame, reply, sink, given);
+        given = meet::<S, D, By, O>(shelf, slot, frame, reply, outlet, given);
     }
     given
 }

@@ -4,8 +4,8 @@ ghost use Rattle.aoe_io.specs.Memory.{counted};
 ghost use Rattle.aoe_serve.specs.ShelfLink.{Hands, got_of};
 ghost use Rattle.aoe_serve.specs.Slots.{slots_of};
 
-use crate::hand_rounds::hand_round;
-use crate::replies::Replies;
+use crate::replies::{Queued, Replies};
+use crate::rounds::round;
 use aoe_base::{Failed, NoMemory};
 use aoe_disk::Disk;
 use aoe_frame::Frame;
@@ -92,8 +92,7 @@ impl<S: Store, D: Disk> Link for ShelfLink<S, D> {
           waiting = self.new.waiting;
         } }
     {
-        hand_round(&mut self.shelf, frame, &mut self.reply, &mut self.waiting);
-        Ok(())
+        round::<S, D, Queued, Replies>(&mut self.shelf, frame, &mut self.reply, &mut self.waiting)
     }
 
     fn recv(&mut self, out: &mut Frame) -> Result<Got, Failed>
@@ -103,7 +102,7 @@ impl<S: Store, D: Disk> Link for ShelfLink<S, D> {
         ensures left { self.new ≡ record self.old { waiting = drop 1 self.old.waiting; turns = counted self.old.turns } }
     {
         self.turns = self.turns.saturating_add(1);
-        if self.waiting.give(out) {
+        if self.waiting.pop(out) {
             Ok(Got::Frame)
         } else {
             Ok(Got::Quiet)

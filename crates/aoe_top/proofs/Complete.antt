@@ -10,20 +10,20 @@ use Rattle.aoe_io.proofs.StreamLemmas.{First, first-frame, stream-whole}
 use Rattle.aoe_io.specs.Bytes.{Gave}
 use Rattle.aoe_io.specs.Stream.{framed, stream, IsFrame, IsBroken}
 use Rattle.aoe_serve.specs.Arrivals.{Arrived, frames}
-use Rattle.aoe_serve.specs.Run.{Answered}
+use Rattle.aoe_serve.specs.Answering.{Answered}
 use Rattle.aoe_serve.specs.Slots.{Slot}
 use Rattle.aoe_serve.specs.declared.over_stream.AnswerEnd.{AnswerEnd}
 use Rattle.aoe_serve.specs.declared.over_stream.AnswerEnd.TheVariants as answer
 use Rattle.aoe_serve.specs.declared.over_link.ServeEnd.TheVariants as serve
-use Rattle.aoe_export.specs.Run.{AtFirst, HasRun, Outside, Tells}
-use Rattle.aoe_export.specs.declared.plan.Exported.{Exported}
-use Rattle.aoe_export.specs.declared.plan.Plan.TheVariants as plan
-use Rattle.aoe_export.specs.declared.plan.RunEnd.{RunEnd}
-use Rattle.aoe_export.specs.declared.plan.RunEnd.TheVariants as end
+use Rattle.aoe_serve.specs.Exporting.{AtFirst, HasRun, Outside, Tells}
+use Rattle.aoe_serve.specs.declared.plan.Exported.{Exported}
+use Rattle.aoe_serve.specs.declared.plan.Plan.TheVariants as plan
+use Rattle.aoe_serve.specs.declared.plan.RunEnd.{RunEnd}
+use Rattle.aoe_serve.specs.declared.plan.RunEnd.TheVariants as end
 use Rattle.aoe_words.specs.declared.command.Answer.{Answer as Answers}
 use Rattle.aoe_words.specs.declared.command.Serve.{Serve as Serves}
 use Rattle.aoe_words.specs.declared.command.Command.TheVariants.{Answer, Serve}
-use Rattle.aoe_replay.specs.Replay.{IsFaultless}
+use Rattle.aoe_world.specs.Replay.{IsFaultless}
 use Rattle.aoe_top.specs.Ending.{after_syncs, ended_by, status_of}
 use Rattle.aoe_top.specs.Run.{OnSlot, Ran}
 use Rattle.aoe_top.specs.declared.status.Status.{Status}

@@ -13,12 +13,12 @@ use Rattle.aoe_serve.specs.Arrivals.{Arrived, AreServed, at_slot}
 use Rattle.aoe_serve.specs.Slots.{IsServed, Slot}
 use Rattle.aoe_target.specs.History.{count_failed, store_failed}
 use Rattle.aoe_target.specs.declared.station.Station.{Station}
-use Rattle.aoe_export.specs.Run.{IsExported, Outside, Tells, arrivals_in, first_failed}
-use Rattle.aoe_export.specs.Slots.{HasMounted, IsOver, OverFiles}
-use Rattle.aoe_export.specs.declared.plan.Exported.{Exported}
-use Rattle.aoe_export.specs.declared.plan.Plan.{Plan}
-use Rattle.aoe_export.proofs.EndLemmas.{served_in, there}
-use Rattle.aoe_replay.specs.Replay.{IsFaultless}
+use Rattle.aoe_serve.specs.Exporting.{IsExported, Outside, Tells, arrivals_in, first_failed}
+use Rattle.aoe_serve.specs.Files.{HasMounted, IsOver, OverFiles}
+use Rattle.aoe_serve.specs.declared.plan.Exported.{Exported}
+use Rattle.aoe_serve.specs.declared.plan.Plan.{Plan}
+use Rattle.aoe_serve.proofs.EndLemmas.{served_in, there}
+use Rattle.aoe_world.specs.Replay.{IsFaultless}
 use Rattle.aoe_top.specs.Ending.{file_at}
 use Rattle.aoe_top.specs.Run.{NothingLoose, OnSlot}
 use Rattle.aoe_top.proofs.OnSlots.{Disks, disks-first, disks-then, on-first, on-map, on-then}

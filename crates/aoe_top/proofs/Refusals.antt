@@ -10,20 +10,20 @@ use Rattle.aoe_keep.specs.Keep.{IsRefused}
 use Rattle.aoe_keep.specs.declared.refusal.MountRefusal.{MountRefusal}
 use Rattle.aoe_keep.specs.declared.refusal.MountRefusal.TheVariants as refusal
 use Rattle.aoe_lists.specs.Settings.{Settings}
-use Rattle.aoe_export.specs.Run.{Outside, Tells}
-use Rattle.aoe_export.specs.Slots.{GivesBack, HasMounted}
-use Rattle.aoe_export.specs.declared.files.Rack.{Rack}
-use Rattle.aoe_export.specs.declared.plan.Plan.{Plan}
-use Rattle.aoe_export.specs.declared.plan.RunEnd.{RunEnd}
-use Rattle.aoe_export.specs.declared.plan.RunEnd.TheVariants.{Answered, Served}
+use Rattle.aoe_serve.specs.Exporting.{Outside, Tells}
+use Rattle.aoe_serve.specs.Files.{GivesBack, HasMounted}
+use Rattle.aoe_serve.specs.declared.over_files.Rack.{Rack}
+use Rattle.aoe_serve.specs.declared.plan.Plan.{Plan}
+use Rattle.aoe_serve.specs.declared.plan.RunEnd.{RunEnd}
+use Rattle.aoe_serve.specs.declared.plan.RunEnd.TheVariants.{Answered, Served}
 use Rattle.aoe_serve.specs.declared.over_stream.AnswerEnd.TheVariants as answer
 use Rattle.aoe_serve.specs.declared.over_link.ServeEnd.TheVariants as serve
-use Rattle.aoe_replay.specs.declared.end.ReplayEnd.{ReplayEnd}
-use Rattle.aoe_replay.specs.declared.end.ReplayEnd.TheVariants as replay
+use Rattle.aoe_world.specs.declared.end.ReplayEnd.{ReplayEnd}
+use Rattle.aoe_world.specs.declared.end.ReplayEnd.TheVariants as replay
 use Rattle.aoe_words.specs.Words.{file_count}
 use Rattle.aoe_words.specs.declared.command.Command.{Command}
 use Rattle.aoe_words.specs.declared.command.Command.TheVariants as command
-use Rattle.aoe_replay.specs.Replay.{IsFaultless}
+use Rattle.aoe_world.specs.Replay.{IsFaultless}
 use Rattle.aoe_top.specs.Ending.{after_syncs, ended_by, file_at, keep_at, refused_as, refused_slot, replayed_as, slot_of_keep}
 use Rattle.aoe_top.specs.Run.{HasLists, IsBad, IsSmall, NothingLoose, OnSlot, Ran, RanFiles, Refused, refused_before}
 use Rattle.aoe_top.specs.declared.status.Status.{Status}

@@ -1,11 +1,11 @@
 -- What each command exports, and how its frames come.
 use Rattle.std.specs.Prelude.{ℕ, ◌+◌, ◌/◌, ◌%◌, ◌<◌, ◌≤◌, ◌≡◌, true, [], ◌∷◌, length, Option, Some, None}
 use Rattle.aoe_target.specs.declared.station.Station.{Station}
-use Rattle.aoe_export.specs.Run.{is_served}
-use Rattle.aoe_export.specs.Slots.{named}
-use Rattle.aoe_export.specs.declared.files.Rack.{Rack}
-use Rattle.aoe_export.specs.declared.plan.Plan.{Plan}
-use Rattle.aoe_export.specs.declared.plan.Plan.TheVariants as plan
+use Rattle.aoe_serve.specs.Exporting.{is_served}
+use Rattle.aoe_serve.specs.Files.{named}
+use Rattle.aoe_serve.specs.declared.over_files.Rack.{Rack}
+use Rattle.aoe_serve.specs.declared.plan.Plan.{Plan}
+use Rattle.aoe_serve.specs.declared.plan.Plan.TheVariants as plan
 use Rattle.aoe_words.specs.declared.command.Command.{Command}
 use Rattle.aoe_words.specs.declared.command.Command.TheVariants.{Answer, Serve, Replay}
 

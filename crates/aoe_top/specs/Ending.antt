@@ -5,13 +5,13 @@ use Rattle.aoe_keep.specs.declared.refusal.MountRefusal.{MountRefusal}
 use Rattle.aoe_keep.specs.declared.refusal.MountRefusal.TheVariants as refusal
 use Rattle.aoe_serve.specs.declared.over_stream.AnswerEnd.TheVariants as answer
 use Rattle.aoe_serve.specs.declared.over_link.ServeEnd.TheVariants as serve
-use Rattle.aoe_export.specs.declared.plan.Exported.{Exported}
-use Rattle.aoe_export.specs.declared.plan.RunEnd.{RunEnd}
-use Rattle.aoe_export.specs.declared.plan.RunEnd.TheVariants.{Answered, Served}
-use Rattle.aoe_replay.specs.declared.end.ReplayEnd.{ReplayEnd}
-use Rattle.aoe_replay.specs.declared.end.ReplayEnd.TheVariants as replay
-use Rattle.aoe_replay.specs.declared.end.ReplayLimit.{ReplayLimit}
-use Rattle.aoe_replay.specs.declared.end.ReplayLimit.TheVariants as limit
+use Rattle.aoe_serve.specs.declared.plan.Exported.{Exported}
+use Rattle.aoe_serve.specs.declared.plan.RunEnd.{RunEnd}
+use Rattle.aoe_serve.specs.declared.plan.RunEnd.TheVariants.{Answered, Served}
+use Rattle.aoe_world.specs.declared.end.ReplayEnd.{ReplayEnd}
+use Rattle.aoe_world.specs.declared.end.ReplayEnd.TheVariants as replay
+use Rattle.aoe_world.specs.declared.end.ReplayLimit.{ReplayLimit}
+use Rattle.aoe_world.specs.declared.end.ReplayLimit.TheVariants as limit
 use Rattle.aoe_script.specs.declared.refusal.Why.{Why}
 use Rattle.aoe_script.specs.declared.refusal.Why.TheVariants as why
 use Rattle.aoe_top.specs.declared.status.What.{What}

@@ -5,14 +5,14 @@ use Rattle.aoe_disk.specs.State.{Contents, DiskState, is_loose}
 use Rattle.aoe_keep.specs.Found.{found}
 use Rattle.aoe_keep.specs.declared.refusal.MountRefusal.{MountRefusal}
 use Rattle.aoe_lists.specs.Settings.{Settings}
-use Rattle.aoe_export.specs.Run.{IsExported, Outside, Tells}
-use Rattle.aoe_export.specs.Slots.{GivesBack}
-use Rattle.aoe_export.specs.declared.plan.Exported.{Exported}
-use Rattle.aoe_export.specs.declared.files.Rack.{Rack}
-use Rattle.aoe_export.specs.declared.plan.Plan.{Plan}
-use Rattle.aoe_replay.specs.Replay.{HasRun, LeavesSink, Replayed}
+use Rattle.aoe_serve.specs.Exporting.{IsExported, Outside, Tells}
+use Rattle.aoe_serve.specs.Files.{GivesBack}
+use Rattle.aoe_serve.specs.declared.plan.Exported.{Exported}
+use Rattle.aoe_serve.specs.declared.over_files.Rack.{Rack}
+use Rattle.aoe_serve.specs.declared.plan.Plan.{Plan}
+use Rattle.aoe_world.specs.Replay.{HasRun, LeavesSink, Replayed}
 use Rattle.aoe_script.specs.Lines.{ScriptLines}
-use Rattle.aoe_replay.specs.declared.end.ReplayEnd.{ReplayEnd}
+use Rattle.aoe_world.specs.declared.end.ReplayEnd.{ReplayEnd}
 use Rattle.aoe_words.specs.declared.command.Command.{Command}
 use Rattle.aoe_top.specs.Commands.{plan_of, target_of}
 use Rattle.aoe_top.specs.Ending.{file_at, keep_at, refused_as, refused_slot, replayed_as, status_of}

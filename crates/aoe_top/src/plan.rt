@@ -6,11 +6,10 @@ ghost use Rattle.aoe_top.specs.Ending.{after_syncs, ended_by, excess_of, refused
 
 use crate::{Status, What};
 use aoe_base::{Mac, Ports, TargetId};
-use aoe_export::{Exported, Plan, Rack, RunEnd};
 use aoe_keep::MountRefusal;
-use aoe_replay::{ReplayEnd, ReplayLimit};
-use aoe_serve::{AnswerEnd, ServeEnd};
+use aoe_serve::{AnswerEnd, Exported, Plan, Rack, RunEnd, ServeEnd};
 use aoe_words::Command;
+use aoe_world::{ReplayEnd, ReplayLimit};
 
 /// A list of one port.
 fn one_port(port: Mac) -> Ports

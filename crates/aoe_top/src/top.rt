@@ -3,8 +3,8 @@ ghost use Rattle.std.specs.Prelude.{◌≡◌, ◌≢◌, ◌≤◌, ◌<◌, �
 ghost use Rattle.aoe_base.specs.Faults.{Rose};
 ghost use Rattle.aoe_io.specs.Stream.{stream, IsFrame};
 ghost use Rattle.aoe_lists.specs.Settings.{Settings};
-ghost use Rattle.aoe_export.specs.Run.{AtFirst};
-ghost use Rattle.aoe_replay.specs.Replay.{IsFaultless};
+ghost use Rattle.aoe_serve.specs.Exporting.{AtFirst};
+ghost use Rattle.aoe_world.specs.Replay.{IsFaultless};
 ghost use Rattle.aoe_script.specs.Lines.{refusal, script_of};
 ghost use Rattle.aoe_words.specs.Words.{IsInRange, command, file_count, file_names, link_count, port_words};
 ghost use Rattle.aoe_words.specs.declared.command.Answer.{Answer as Answers};
@@ -17,10 +17,10 @@ use crate::plan::{plan, refused_as, replayed_as, status_of};
 use crate::status::Status;
 use aoe_base::NoMemory;
 use aoe_disk::Disk;
-use aoe_export::{ExportRefusal, Plan, Rack, export};
 use aoe_io::{Link, Sink, Source};
-use aoe_replay::replay;
+use aoe_serve::{ExportRefusal, Plan, Rack, export};
 use aoe_words::{Command, read_words};
+use aoe_world::replay;
 use std::alloc::Global;
 
 /// Runs a plan over files and links.

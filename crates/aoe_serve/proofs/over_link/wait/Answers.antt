@@ -1,8 +1,7 @@
 use Rattle.std.proofs.Common.{arith, refl, subst, [], ◌∷◌, replicate}
-use Rattle.aoe_io.specs.Link.{GaveTurns, Turn, came, ended, quiet, turn_of}
+use Rattle.aoe_io.specs.Link.{GaveTurns, Turn, Turned, came, ended, quiet, turn_of}
 use Rattle.aoe_io.specs.declared.links.Got.{Got}
-use Rattle.aoe_serve.specs.Serving.{Turned}
-use Rattle.aoe_serve.proofs.LinkLemmas.{turned-by, turned-nothing, turned-then}
+use Rattle.aoe_io.proofs.LinkLemmas.{turned-by, turned-nothing, turned-then}
 use Rattle.aoe_serve.proofs.over_link.wait.Goals as goal
 
 pub turns-init : goal.turns-init

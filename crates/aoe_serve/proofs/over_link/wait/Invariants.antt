@@ -1,6 +1,5 @@
 use Rattle.std.proofs.Common.{◌≡◌, replicate}
-use Rattle.aoe_io.specs.Link.{quiet}
-use Rattle.aoe_serve.specs.Serving.{Turned}
+use Rattle.aoe_io.specs.Link.{Turned, quiet}
 use Rattle.aoe_serve.proofs.over_link.wait.Given as goal
 
 abbrev pub invariant-turns : goal.invariant-turns

@@ -1,5 +1,4 @@
 use Rattle.std.proofs.Common.{◌∙◌, arith, refl}
-use Rattle.std.specs.Prelude.{Ok}
 use Rattle.aoe_serve.specs.Slots.{slots_of}
 use Rattle.aoe_serve.proofs.RunLemmas.{begun, goes_on, ends, offset-fits}
 use Rattle.aoe_serve.proofs.TurnLemmas.{rest_then}
@@ -17,8 +16,8 @@ overflow_add-offset-in-frames g c = omega (arith, offset-fits _ _ _ _ _ _ c.fram
 
 pub frames-preserved : goal.frames-preserved
 frames-preserved g c = (
-  goes_on (Ok c.in-Ok.field-0) _ _ _ _ _ _ _ _ _ c.frames.offset c.frames.count c.len.result c.turn.new.request.items c.in-Ok.field-0 refl
-      c.frames.invariant.0 c.len.ensures.value c.in-Ok.ensures.frame c.in-Ok.ensures.gave c.in-Ok.ensures.gives,
+  goes_on _ _ _ _ _ _ _ _ _ c.frames.offset c.frames.count c.len.result _ _ c.turn.new.request.items
+      c.frames.invariant.0 c.len.ensures.value c.in-Ok.ensures.frame c.in-Ok.ensures.gave c.in-Ok.ensures.round,
   rest_then c.args.shelf.now c.frames.shelf c.turn.new.shelf c.frames.invariant.1 c.turn.ensures.rest,
   c.in-Ok.ensures.source_answers ∙ c.frames.invariant.2,
   c.in-Ok.ensures.sink_answers ∙ c.frames.invariant.3,

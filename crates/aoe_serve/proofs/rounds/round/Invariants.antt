@@ -1,17 +1,13 @@
 use Rattle.std.proofs.Common.{◌≡◌, List, length}
-use Rattle.aoe_io.specs.Stream.{stream}
 use Rattle.aoe_target.specs.Law.{Fate}
 use Rattle.aoe_serve.specs.Arrivals.{replies_of}
-use Rattle.aoe_serve.specs.Run.{WritesTo}
 use Rattle.aoe_serve.specs.Slots.{slots_of}
-use Rattle.aoe_serve.proofs.RunLemmas.{Counts}
 use Rattle.aoe_serve.proofs.SlotLemmas.{Partly}
 use Rattle.aoe_serve.proofs.rounds.round.Given as goal
 
 abbrev pub invariant-slots : goal.invariant-slots
 invariant-slots g l = ((fates : List Fate) × (length fates ≡ l.slot)
     × Partly (slots_of g.S.Store.state g.D.Disk.state l.initial.shelf.targets) (slots_of g.S.Store.state g.D.Disk.state l.shelf.targets) l.frame fates
-    × WritesTo l.given (g.K.Sink.held l.initial.sink) (g.K.Sink.held l.sink) (stream (replies_of fates)))
+    × g.O.Outlet.took l.given l.initial.outlet l.outlet (replies_of fates))
     × (l.shelf ≡ record l.initial.shelf { targets = l.shelf.targets })
     × (length l.shelf.targets ≡ length l.initial.shelf.targets)
-    × Counts l.given (g.K.Sink.faults l.initial.sink) (g.K.Sink.faults l.sink)

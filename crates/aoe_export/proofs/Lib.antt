@@ -1,3 +1,0 @@
-mod SyncLemmas
-pub mod EndLemmas
-mod FileLemmas

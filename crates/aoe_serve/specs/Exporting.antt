@@ -1,0 +1,113 @@
+-- What a run over the slots of a shelf takes, gives and leaves.
+use Rattle.std.specs.Prelude.{ℕ, ◌+◌, ◌≡◌, Bool, true, false, List, [], ◌∷◌, length, get_or, Option, Some, None, Result, Ok, Err}
+use Rattle.std.specs.Option.{option_map}
+use Rattle.aoe_base.specs.declared.failure.Failed.{Failed}
+use Rattle.aoe_disk.specs.Calls.{SyncsTo}
+use Rattle.aoe_disk.specs.State.{DiskState}
+use Rattle.aoe_io.specs.Link.{Turn}
+use Rattle.aoe_serve.specs.Arrivals.{Arrived, at_slot}
+use Rattle.aoe_serve.specs.Answering.{Answered}
+use Rattle.aoe_serve.specs.Serving.{Served}
+use Rattle.aoe_serve.specs.Slots.{EachSlot, Slot}
+use Rattle.aoe_serve.specs.declared.over_link.ServeEnd.{ServeEnd}
+use Rattle.aoe_serve.specs.declared.over_stream.AnswerEnd.{AnswerEnd}
+use Rattle.aoe_serve.specs.Ending.{EndsAfter}
+use Rattle.aoe_serve.specs.Files.{OverFiles}
+use Rattle.aoe_serve.specs.declared.plan.Exported.{Exported}
+use Rattle.aoe_serve.specs.declared.plan.Plan.{Plan}
+use Rattle.aoe_serve.specs.declared.plan.Plan.TheVariants as plan
+use Rattle.aoe_serve.specs.declared.plan.RunEnd.{RunEnd}
+use Rattle.aoe_serve.specs.declared.plan.RunEnd.TheVariants as end
+use Rattle.aoe_target.specs.declared.station.Station.{Station}
+
+-- the objects of the outside
+pub record Outside (S K L : Type 0) : Type 0 where
+  pub source : S
+  pub sink : K
+  pub links : List L
+
+-- what they tell: what is left of a source, what a sink holds, and the turns of a link with what it gave and took
+pub record Tells (S K L : Type 0) : Type 0 where
+  pub left : S → Option (List ℕ)
+  pub held : K → Option (List ℕ)
+  pub turns : L → ℕ
+  pub given : L → Option (List Turn)
+  pub taken : L → Option (List (List ℕ))
+
+abbrev pub is_served : Plan → Bool
+is_served plan.Answer = false
+is_served (plan.Serve frames idle) = true
+
+-- R of the first before and after, where there is one, and the others are as they were
+abbrev pub AtFirst : {X : Type 0} → (X → X → Type 0) → List X → List X → Type 0
+AtFirst R [] [] = Unit {0}
+AtFirst R (x ∷ xs) (y ∷ ys) = R x y × (ys ≡ xs)
+AtFirst R _ _ = ⊥
+
+-- the source was answered on the sink
+pub record AnswersSource {S K L : Type 0} (t : Tells S K L) (e : AnswerEnd) (a b : Outside S K L) (old new : List Slot) : Type 0 where
+  pub answered : Answered e (t.left a.source) (t.left b.source) (t.held a.sink) (t.held b.sink) old new
+  pub links : b.links ≡ a.links
+
+-- the first link was served
+pub record ServesFirst {S K L : Type 0} (t : Tells S K L) (frames idle : ℕ) (e : ServeEnd) (a b : Outside S K L) (old new : List Slot) : Type 0 where
+  pub before : L
+  pub after : L
+  pub others : List L
+  pub was : a.links ≡ before ∷ others
+  pub is : b.links ≡ after ∷ others
+  pub served : Served e frames idle (t.turns before) (t.turns after) (t.given before) (t.given after) (t.taken before) (t.taken after) old new
+  pub source : b.source ≡ a.source
+  pub sink : b.sink ≡ a.sink
+
+-- the plan was run over these slots
+abbrev pub HasRun : {S K L : Type 0} → Tells S K L → Plan → RunEnd → Outside S K L → Outside S K L → List Slot → List Slot → Type 0
+HasRun t plan.Answer (end.Answered e) a b old new = AnswersSource t e a b old new
+HasRun t (plan.Serve frames idle) (end.Served e) a b old new = ServesFirst t frames idle e a b old new
+HasRun t _ _ a b old new = ⊥
+
+-- the frames that came in the run
+abbrev pub arrivals_in : {S K L : Type 0} (t : Tells S K L) (p : Plan) (e : RunEnd) (a b : Outside S K L) (old new : List Slot) → HasRun t p e a b old new → List Arrived
+arrivals_in t plan.Answer (end.Answered e) a b old new ran = ran.answered.arrivals
+arrivals_in t plan.Answer (end.Served e) a b old new ran = []
+arrivals_in t (plan.Serve frames idle) (end.Answered e) a b old new ran = []
+arrivals_in t (plan.Serve frames idle) (end.Served e) a b old new ran = ran.served.arrivals
+
+-- the store of a slot was synced, or the sync failed; all else is as it was
+pub record SyncsSlot (result : Result (Unit {0}) Failed) (a b : Slot) : Type 0 where
+  pub syncs : SyncsTo result a.device.store b.device.store
+  pub rest : b ≡ record a { device = record a.device { store = b.device.store } }
+
+-- the store of each slot was synced, with these results
+pub record SyncsEach (results : List (Result (Unit {0}) Failed)) (old new : List Slot) : Type 0 where
+  pub count : length results ≡ length old
+  pub slots : EachSlot (λ i a b. SyncsSlot (get_or results i (Ok tt)) a b) old new
+
+-- the first of the results that is a failure
+abbrev pub first_failed : List (Result (Unit {0}) Failed) → Option ℕ
+first_failed [] = None
+first_failed (Err failed ∷ results) = Some 0
+first_failed (Ok done ∷ results) = option_map (λ slot. slot + 1) (first_failed results)
+
+-- the first failure, with that of this slot, which is behind the others
+abbrev pub first_of : Option ℕ → Result (Unit {0}) Failed → ℕ → Option ℕ
+first_of None (Err failed) slot = Some slot
+first_of first result slot = first
+
+-- the plan was run over these slots, and then each was synced
+pub record HasRunAndSynced {S K L : Type 0} (t : Tells S K L) (p : Plan) (e : Exported) (a b : Outside S K L) (old new : List Slot) : Type 0 where
+  pub middle : List Slot
+  pub ran : HasRun t p e.end a b old middle
+  pub results : List (Result (Unit {0}) Failed)
+  pub synced : SyncsEach results middle new
+  pub unsynced : e.unsynced ≡ first_failed results
+
+-- A run over files and their keeps: each pair was a slot, the plan was run over the slots, and then each was synced. At the end the disks
+-- of each slot hold what is known after the frames that came to it and the sync, and outlive a loss of power.
+pub record IsExported {D S K L : Type 0} (state : D → DiskState) (name : ℕ → ℕ → Station) (minor : ℕ) (t : Tells S K L) (p : Plan) (e : Exported)
+    (a b : Outside S K L) (disks disks' : List (Option D)) : Type 0 where
+  pub first : List Slot
+  pub last : List Slot
+  pub over : OverFiles state name minor disks disks' first last
+  pub run : HasRunAndSynced t p e a b first last
+  pub ends : EachSlot (λ i x y. EndsAfter (at_slot i (arrivals_in t p e.end a b first run.middle run.ran)) (get_or run.results i (Ok tt)) x y) first last

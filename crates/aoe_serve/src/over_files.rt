@@ -1,0 +1,90 @@
+//! The call that exports files.
+ghost use Rattle.std.specs.Prelude.{◌≡◌, ◌≢◌, ◌≤◌, ◌<◌, ◌+◌, ◌/◌, ◌%◌, ℕ, true, All, Err, IfOk, IsSome, OnErr, length};
+ghost use Rattle.aoe_base.specs.Faults.{Rose};
+ghost use Rattle.aoe_serve.specs.Exporting.{AtFirst, IsExported, is_served};
+ghost use Rattle.aoe_serve.specs.Files.{GivesBack, named};
+ghost use Rattle.aoe_keep.specs.declared.refusal.MountRefusal.{MountRefusal};
+
+use crate::mount::{mount, unmount};
+use crate::run::{run, sync_each};
+use crate::{AnswerEnd, ExportRefusal, Exported, Plan, RunEnd, ServeEnd};
+use aoe_base::{NoMemory, Ports, TargetId};
+use aoe_disk::Disk;
+use aoe_io::{Link, Sink, Source};
+use aoe_keep::MountRefusal;
+use aoe_shelf::Shelf;
+use std::alloc::Global;
+
+/// What the slots have in common.
+pub struct Rack {
+    /// The name of the first slot. Those of the others have the same major, and count up its minor.
+    pub first: TargetId,
+    pub ports: Ports,
+
+    /// How many bytes an Ethernet frame carries.
+    pub mtu: u32,
+}
+
+/// Exports each pair of the disks, a file and its keep, as a slot of a shelf, for one run.
+///
+/// All keeps are mounted first, in order. Where one is refused nothing is read or sent. Else the plan
+/// is run over the slots, and at the end the stores are synced in order, however the run ended. Each
+/// disk is given back, also where nothing was run.
+pub fn export<D: Disk + Drop, S: Source, K: Sink, L: Link>(
+    alloc: Global,
+    rack: Rack,
+    plan: Plan,
+    source: &mut S,
+    sink: &mut K,
+    disks: &mut [Option<D>],
+    links: &mut [L],
+) -> Result<Exported, ExportRefusal>
+    requires major { rack.first.major < 65535 }
+    requires ports { 1 ≤ length rack.ports.items }
+    requires shortest { 1500 ≤ rack.mtu }
+    requires longest { rack.mtu ≤ 9000 }
+    requires pairs { length disks.old % 2 ≡ 0 }
+    requires room { length disks.old ≤ 32 }
+    requires there { All IsSome disks.old }
+    requires minors { rack.first.minor + length disks.old / 2 ≤ 255 }
+    requires link { is_served plan ≡ true → 0 < length links.old }
+    ensures ran { IfOk result (λ e. IsExported D.state (named rack.first.major rack.ports.items rack.mtu) rack.first.minor
+        record { left = S.left; held = K.held; turns = L.turns; given = L.given; taken = L.taken } plan e
+        record { source = source.old; sink = sink.old; links = links.old } record { source = source.new; sink = sink.new; links = links.new }
+        disks.old disks.new) }
+
+    // Nothing was run: where a keep was refused, those in front of it were mounted, and those behind it weren't.
+    ensures refused { (slot : ℕ) (refusal : MountRefusal) → result ≡ Err (ExportRefusal.Keep slot refusal) → GivesBack D.state slot refusal disks.old disks.new }
+    ensures memory { result ≡ Err ExportRefusal.NoMemory → disks.new ≡ disks.old }
+    ensures source { OnErr result (source.new ≡ source.old) }
+    ensures sink { OnErr result (sink.new ≡ sink.old) }
+    ensures links { OnErr result (links.new ≡ links.old) }
+
+    ensures there { All IsSome disks.new }
+    ensures source_count { S.faults source.old ≤ S.faults source.new }
+    ensures sink_count { K.faults sink.old ≤ K.faults sink.new }
+    ensures link_count { AtFirst (λ a b. L.faults a ≤ L.faults b) links.old links.new }
+    ensures source_fault { IfOk result (λ e. e.end ≡ RunEnd.Answered AnswerEnd.SourceFault → Rose (S.faults source.old) (S.faults source.new)) }
+    ensures sink_fault { IfOk result (λ e. e.end ≡ RunEnd.Answered AnswerEnd.SinkFault → Rose (K.faults sink.old) (K.faults sink.new)) }
+    ensures link_fault { IfOk result (λ e. e.end ≡ RunEnd.Served ServeEnd.LinkFault → AtFirst (λ a b. Rose (L.faults a) (L.faults b)) links.old links.new) }
+    ensures source_no_fault { IfOk result (λ e. e.end ≢ RunEnd.Answered AnswerEnd.SourceFault → S.faults source.new ≡ S.faults source.old) }
+    ensures sink_no_fault { IfOk result (λ e. e.end ≢ RunEnd.Answered AnswerEnd.SinkFault → K.faults sink.new ≡ K.faults sink.old) }
+    ensures link_no_fault { IfOk result (λ e. e.end ≢ RunEnd.Served ServeEnd.LinkFault → AtFirst (λ a b. L.faults b ≡ L.faults a) links.old links.new) }
+    ensures source_one_fault { S.faults source.new ≤ S.faults source.old + 1 }
+    ensures sink_one_fault { K.faults sink.new ≤ K.faults sink.old + 1 }
+    ensures link_one_fault { AtFirst (λ a b. L.faults b ≤ L.faults a + 1) links.old links.new }
+{
+    let Rack { first, ports, mtu } = rack;
+    let mut shelf = match Shelf::new(alloc, first.major, ports, mtu) {
+        Ok(shelf) => shelf,
+        Err(NoMemory) => return Err(ExportRefusal::NoMemory),
+    };
+    match mount(&mut shelf, first.minor, disks) {
+        Ok(()) => {}
+        Err((slot, refusal)) => return Err(ExportRefusal::Keep { slot, refusal }),
+    }
+    let end = run(&mut shelf, plan, source, sink, links);
+    let unsynced = sync_each(&mut shelf);
+    unmount(&mut shelf, disks);
+    Ok(Exported { end, unsynced })
+}
