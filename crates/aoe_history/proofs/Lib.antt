@@ -40,3 +40,5 @@ mod DoneLemmas
 mod ToldLemmas
 mod ReadLemmas
 mod SetupLemmas
+mod RunLemmas
+pub mod FullLemmas

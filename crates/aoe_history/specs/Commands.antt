@@ -100,7 +100,7 @@ abbrev pub devices_of : List Mac → ℕ → ℕ → List HostCommand → ℕ �
 devices_of ports life now cs n [] = []
 devices_of ports life now cs n (d ∷ ds) = record {
   about = d;
-  holds = record { life = life; latest = now; greatest = None; commands = entered_at n cs };
+  holds = record { life = life; latest = now; greatest = None; commands = entered_at n cs; ready = [] };
   paths = new_paths ports d.remotes.items;
 } ∷ devices_of ports life now cs (n + 1) ds
 

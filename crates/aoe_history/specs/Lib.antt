@@ -13,3 +13,4 @@ pub mod Cases
 pub mod PathCases
 pub mod Conversation
 pub mod Asks
+pub mod Run

@@ -3,7 +3,8 @@
 //! A [`History`] has an [`Entry`] for each thing that happened, in order. What its entries say of
 //! times, frames, sectors and commands, which entry may come next by the shelf law, the host law
 //! and the network, and what a host may then read of a sector, stands in specs/. That every lawful
-//! history keeps the law of what is read is [`read_law`].
+//! history keeps the law of what is read is [`read_law`]. A [`Run`] is a history under way: its
+//! clock, the frames that are in its network, and all that happened.
 #![tactic(auto)]
 
 mod boxed;
@@ -13,6 +14,7 @@ mod conversation;
 mod entry;
 mod history;
 mod reading;
+mod run;
 
 pub use boxed::Boxed;
 pub use cases::{
@@ -23,6 +25,7 @@ pub use conversation::{requests_are_understood, responses_tell_truly};
 pub use entry::{Entry, Fate};
 pub use history::History;
 pub use reading::read_law;
+pub use run::Run;
 
 #[cfg(test)]
 mod tests;

@@ -29,7 +29,7 @@ pub fn print_history(alloc: Global, history: &History) -> Result<Blob, NoMemory>
 {
     let mut out = Vec::new(alloc);
     put_history(&mut out, history)?;
-    Blob::of(alloc, out.as_slice())
+    Ok(Blob::from_vec(out))
 }
 
 /// Adds the lines of a history, and then the line of a summary.
@@ -50,5 +50,5 @@ pub fn print_run(alloc: Global, script_events: u64, history: &History) -> Result
     let summary = summarize(alloc, script_events, history)?;
     let mut out = Vec::new(alloc);
     put_run(&mut out, history, &summary)?;
-    Blob::of(alloc, out.as_slice())
+    Ok(Blob::from_vec(out))
 }

@@ -184,5 +184,5 @@ pub fn print_entry(alloc: Global, entry: &Entry) -> Result<Blob, NoMemory>
 {
     let mut out = Vec::new(alloc);
     put_line(&mut out, entry)?;
-    Blob::of(alloc, out.as_slice())
+    Ok(Blob::from_vec(out))
 }

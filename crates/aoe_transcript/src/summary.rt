@@ -71,5 +71,5 @@ pub fn print_summary(alloc: Global, summary: &Summary) -> Result<Blob, NoMemory>
 {
     let mut out = Vec::new(alloc);
     put_summary(&mut out, summary)?;
-    Blob::of(alloc, out.as_slice())
+    Ok(Blob::from_vec(out))
 }

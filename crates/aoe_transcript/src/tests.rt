@@ -6,7 +6,7 @@ use crate::{Summary, print_entry, print_history, print_run, print_summary, summa
 use aoe_base::{Blob, Mac, Millis, NoMemory, Span, TargetId};
 use aoe_disk::Loss;
 use aoe_history::{Boxed, Entry, Fate, History};
-use aoe_initiator::{Data, Dir, Op, Outcome, SubmitRefusal};
+use aoe_initiator::{Dir, Op, Outcome, SubmitRefusal};
 use aoe_lists::{Args, Lists};
 use aoe_net::FrameBytes;
 use aoe_script::{Name, Which};
@@ -209,7 +209,7 @@ fn told(alloc: Global) -> Result<Blob, NoMemory> {
 }
 
 fn read(alloc: Global) -> Result<Blob, NoMemory> {
-    done(alloc, Outcome::Read(Data::zeros(alloc, 512)?))
+    done(alloc, Outcome::Read(Blob::zeros(alloc, 512)?))
 }
 
 fn runs(alloc: Global, bytes: &[u8]) -> Result<Blob, NoMemory> {

@@ -1,5 +1,5 @@
 -- Acts: their entries, and then the turns of the hosts.
-use Rattle.std.proofs.Common.{ℕ, zero, suc, ◌≡◌, ◌≢◌, ◌≤◌, ◌<◌, ◌⊎◌, if◌then◌else◌, nat_eq, Bool, true, false, not, List, [], ◌∷◌, Option, Some, None, Result, Ok, Err, refl, sym, ap, subst, ◌∙◌, arith, inl, inr}
+use Rattle.std.proofs.Common.{ℕ, zero, suc, ◌≡◌, ◌≢◌, ◌≤◌, ◌<◌, ◌⊎◌, if◌then◌else◌, nat_eq, Bool, true, false, not, List, [], ◌∷◌, Option, Some, None, Result, Ok, Err, refl, sym, ap, subst, ◌∙◌, arith, inl, inr, MatchOption, OnErr, OnOk}
 use Rattle.std.specs.Prelude.{slice_get, slice_set}
 use Rattle.std.specs.List.{filter, list_any}
 use Rattle.std.proofs.lemmas.Bool.{cases_lt}
@@ -7,23 +7,28 @@ use Rattle.std.proofs.lemmas.Bool.Decides.{nat_tests}
 use Rattle.std.proofs.lemmas.Option.{same_Some, slice_get_within}
 use Rattle.aoe_base.specs.declared.address.TargetId.{TargetId}
 use Rattle.aoe_history.specs.declared.entry.Entry.{Entry}
-use Rattle.aoe_history.specs.declared.entry.Entry.TheVariants.{Armed, Ticked}
-use Rattle.aoe_history.specs.Groups.{Act, Enters, EntersSome, Got, IsBegun, TurnsSome}
+use Rattle.aoe_history.specs.declared.entry.Entry.TheVariants.{Armed, Injected, Lost, Ticked}
+use Rattle.aoe_frame.specs.Header.{fields}
+use Rattle.aoe_history.specs.Frames.{arriving, next_number}
+use Rattle.aoe_history.specs.Groups.{Act, ArriveAtSome, ComesTo, Enters, EntersSome, Got, IsBegun, Station, TurnsSome}
+use Rattle.aoe_history.specs.Groups.Act.{Hand, Inject, Lose}
+use Rattle.aoe_history.specs.Groups.Station.{Shelf as ShelfStation, Host as HostStation}
 use Rattle.aoe_history.specs.Lawful.{IsLawful, MayCome}
-use Rattle.aoe_history.specs.Setup.{is_called, is_slot, shelf_of, HostSetup, Setup, SlotSetup}
+use Rattle.aoe_history.specs.Setup.{is_called, is_port, is_slot, shelf_of, HostSetup, Setup, SlotSetup}
 use Rattle.arrayvec.specs.ArrayVec.{ArrayVec}
-use Rattle.aoe_hosts.proofs.Apart.{awaits-settled, awaits-ticked}
-use Rattle.aoe_hosts.proofs.Called.{is-called}
-use Rattle.aoe_hosts.specs.Host.{is_apart as is_apart_of_host, NamedHost}
+use Rattle.aoe_sim_hosts.proofs.Apart.{awaits-settled, awaits-ticked}
+use Rattle.aoe_sim_hosts.proofs.Called.{is-called}
+use Rattle.aoe_sim_hosts.specs.Host.{is_apart as is_apart_of_host, NamedHost}
 use Rattle.aoe_net.specs.declared.refusal.NetRefusal.{NetRefusal}
-use Rattle.aoe_net.specs.declared.refusal.NetRefusal.TheVariants.{NoMemory}
-use Rattle.aoe_racks.specs.Rack.{is_apart as is_apart_of_slots, MemoryRack, Serves}
-use Rattle.aoe_run.specs.Run.{with_entry}
-use Rattle.aoe_run.proofs.FullLemmas.{full-more}
+use Rattle.aoe_net.specs.declared.refusal.NetRefusal.TheVariants.{Full, NoMemory}
+use Rattle.aoe_net.specs.Network.{IsFull}
+use Rattle.aoe_sim_shelves.specs.Rack.{is_apart as is_apart_of_slots, MemoryRack, Serves}
+use Rattle.aoe_history.specs.Run.{network_of, with_entry, MeetsFull, Recorded}
+use Rattle.aoe_history.proofs.FullLemmas.{full-more}
 use Rattle.aoe_world.proofs.AddsLemmas.{adds_none, adds_one, Adds, SpeaksOf}
 use Rattle.aoe_world.proofs.TurnLemmas.{get-set, length-set, serves-adds, set-get, settled-adds, there-is}
-use Rattle.aoe_world.specs.declared.stage.Stage.{Stage}
-use Rattle.aoe_world.specs.Stage.{AllServe, AllSettled, Does, HadTurns, IsLeft, IsNetwork, IsReady, IsTurning, Settles}
+use Rattle.aoe_world.specs.declared.sim.Sim.{Sim}
+use Rattle.aoe_world.specs.Sim.{AllServe, AllSettled, Does, HadTurns, IsEntered, IsLeft, IsNetwork, IsReady, IsTurning, Settles}
 
 -- WHAT CAME OF AN ACT
 
@@ -32,7 +37,7 @@ pub left-more : (s : Setup) (part whole : List Entry → Type 0) (refusal : NetR
     → IsLeft s part refusal h → IsLeft s whole refusal h
 left-more s part whole refusal h more left = record { begun = more h left.begun; lawful = left.lawful; full = λ e. full-more s part whole h more (left.full e) }
 
-pub act-done : (result : Result (Unit {0}) NetRefusal) (s : Setup) (majors : List ℕ) (act : Act) (got : Option Got) (old mid new : Stage)
+pub act-done : (result : Result (Unit {0}) NetRefusal) (s : Setup) (majors : List ℕ) (act : Act) (got : Option Got) (old mid new : Sim)
     → Enters s old.run.entries act got mid.run.entries → Settles result s majors got mid new → Does result s majors act old new
 act-done (Ok u) s majors act got old mid new enters (turns, k) = (record { got = got; entered = mid.run.entries; enters = enters; turns = turns }, k)
 act-done (Err refusal) s majors act got old mid new enters left =
@@ -87,7 +92,7 @@ shelves-after s majors h m shelves adds k = record {
 }
 
 -- one entry that says nothing of any station
-pub turning-by : (s : Setup) (majors : List ℕ) (old mid : Stage) (e : Entry) → IsReady s majors old → MayCome s old.run.entries e → mid.run ≡ with_entry old.run e
+pub turning-by : (s : Setup) (majors : List ℕ) (old mid : Sim) (e : Entry) → IsReady s majors old → MayCome s old.run.entries e → mid.run ≡ with_entry old.run e
     → mid.hosts ≡ old.hosts → mid.shelves ≡ old.shelves → ((host : HostSetup) → is_apart_of_host host e ≡ true) → ((slots : List SlotSetup) → is_apart_of_slots slots e ≡ true)
     → IsTurning s majors None 0 mid
 turning-by s majors old mid e k may run hosts shelves of-hosts of-slots = record {
@@ -101,7 +106,7 @@ turning-by s majors old mid e k may run hosts shelves of-hosts of-slots = record
       (shelves-after s majors old.run.entries (e ∷ old.run.entries) old.shelves.items (λ slots. adds_one e (of-slots slots) adds_none) k.shelves_are));
 }
 
-pub turning-ticked : (s : Setup) (majors : List ℕ) (old mid : Stage) (ms : ℕ) → IsReady s majors old → mid.run ≡ with_entry old.run (Ticked ms)
+pub turning-ticked : (s : Setup) (majors : List ℕ) (old mid : Sim) (ms : ℕ) → IsReady s majors old → mid.run ≡ with_entry old.run (Ticked ms)
     → mid.hosts ≡ old.hosts → mid.shelves ≡ old.shelves → IsTurning s majors None 0 mid
 turning-ticked s majors old mid ms k run hosts shelves = record {
   life = ap (λ r. r.life) run ∙ k.life;
@@ -195,3 +200,74 @@ one-shelf s majors i major x y h m shelves net em ex adds serves same k = record
 
     go-each : (j n : ℕ) (z : MemoryRack) → slice_get majors j ≡ Some n → slice_get (slice_set shelves i y) j ≡ Some z → (j < i) ⊎ (i ≤ j) → Serves (shelf_of s n) m z
     go-each j n z en ez c = (go j n z en ez c).1
+
+-- ONE ENTRY
+
+-- a frame is lost
+pub lost-by : (s : Setup) (majors : List ℕ) (frame number : ℕ) (old mid : Sim) → IsReady s majors old → number ≡ frame → mid.run ≡ with_entry old.run (Lost number)
+    → mid.hosts ≡ old.hosts → mid.shelves ≡ old.shelves → (got : Option Got) × Enters s old.run.entries (Lose frame) got mid.run.entries × IsTurning s majors got 0 mid
+lost-by s majors frame number old mid k is run hosts shelves = (
+  None,
+  (refl, ap (λ (r : Recorded). r.entries) run ∙ ap (λ n. Lost n ∷ old.run.entries) is),
+  turning-by s majors old mid (Lost number) k tt run hosts shelves (λ host. refl) (λ slots. refl),
+)
+
+-- a frame that can't be handed over is lost
+pub lose-as-hand : {T : Type 0} (r : Result T NetRefusal) (s : Setup) (majors : List ℕ) (life frame : ℕ) (station : Station) (old mid new : Sim) → life ≡ s.life
+    → mid.run.entries ≡ old.run.entries → arriving life old.run.entries frame ≡ None → IsEntered r s majors (Lose frame) mid new → IsEntered r s majors (Hand frame station) old new
+lose-as-hand (Ok u) s majors life frame station old mid new el es none (got, enters, turning) =
+    let gone : arriving s.life old.run.entries frame ≡ None = ap (λ l. arriving l old.run.entries frame) (sym el) ∙ none in (
+      got,
+      subst (λ o. MatchOption o ((got ≡ None) × (new.run.entries ≡ Lost frame ∷ old.run.entries)) (λ f. ComesTo s frame f station old.run.entries got new.run.entries)) (sym gone)
+          (subst (λ h. (got ≡ None) × (new.run.entries ≡ Lost frame ∷ h)) es enters),
+      turning,
+    )
+lose-as-hand (Err refusal) s majors life frame station old mid new el es none left =
+    left-more s (IsBegun s old.run.entries (Lose frame)) (IsBegun s old.run.entries (Hand frame station)) refusal new.run.entries
+    (λ m begun. go m station (ap (λ l. arriving l old.run.entries frame) (sym el) ∙ none) begun)
+    (subst (λ h. IsLeft s (IsBegun s h (Lose frame)) refusal new.run.entries) es left)
+  where
+    entered : (station : Station) → arriving s.life old.run.entries frame ≡ None → (got : Option Got) (m : List Entry) → Enters s old.run.entries (Lose frame) got m → Enters s old.run.entries (Hand frame station) got m
+    entered station gone got m e = subst (λ o. MatchOption o ((got ≡ None) × (m ≡ Lost frame ∷ old.run.entries)) (λ f. ComesTo s frame f station old.run.entries got m)) (sym gone) e
+
+    go : (n : List Entry) (station : Station) → arriving s.life old.run.entries frame ≡ None → IsBegun s old.run.entries (Lose frame) n → IsBegun s old.run.entries (Hand frame station) n
+    go n (ShelfStation major) gone (inl e) =
+        inl (subst (λ o. MatchOption o (n ≡ old.run.entries) (λ f. ArriveAtSome frame f (shelf_of s major) (shelf_of s major) old.run.entries n)) (sym gone) e)
+    go n (HostStation name) gone (inl e) = inl e
+    go n station gone (inr (got, m, enters, turns)) = inr (got, m, entered station gone got m enters, turns)
+
+-- a frame of no station came into the network, or there was no room for it
+pub injected-by : (r : Result (Unit {0}) NetRefusal) (s : Setup) (majors : List ℕ) (f : List ℕ) (old mid : Sim) → IsNetwork s majors → IsReady s majors old → is_port s (fields f).src ≡ false
+    → mid.hosts ≡ old.hosts → mid.shelves ≡ old.shelves → OnOk r (mid.run ≡ with_entry old.run (Injected (next_number old.run.entries) f))
+    → (r ≡ Err Full → IsFull (network_of old.run) f) → OnErr r (mid.run ≡ old.run) → IsEntered r s majors (Inject f) old mid
+injected-by (Ok u) s majors f old mid net k foreign hosts shelves run full same = (
+  None,
+  (refl, ap (λ (r : Recorded). r.entries) run),
+  turning-by s majors old mid (Injected (next_number old.run.entries) f) k (record { source = foreign; number_is = refl }) run hosts shelves (λ host. refl) (λ slots. refl),
+)
+injected-by (Err refusal) s majors f old mid net k foreign hosts shelves run full same =
+    subst (λ (r : Recorded). IsLeft s (IsBegun s old.run.entries (Inject f)) refusal r.entries) (sym same) (record { begun = inl refl; lawful = k.lawful; full = meets })
+  where
+    meets : refusal ≡ Full → MeetsFull s (IsBegun s old.run.entries (Inject f)) old.run.entries
+    meets e = record {
+      entry = Injected (next_number old.run.entries) f;
+      called_for = inr (None, Injected (next_number old.run.entries) f ∷ old.run.entries, (refl, refl), no-turn s s.hosts None _ (hosts-called s old.run.entries old.hosts.items k.hosts_are));
+      may_come = record { source = foreign; number_is = refl };
+      bytes = f;
+      brings = refl;
+      full = full (ap Err e);
+    }
+
+-- the bytes are those of the frame
+pub injected-at : (r : Result (Unit {0}) NetRefusal) (s : Setup) (majors : List ℕ) (f g : List ℕ) (old mid : Sim) → IsNetwork s majors → IsReady s majors old → g ≡ f → is_port s (fields f).src ≡ false
+    → mid.hosts ≡ old.hosts → mid.shelves ≡ old.shelves → OnOk r (mid.run ≡ with_entry old.run (Injected (next_number old.run.entries) g))
+    → (r ≡ Err Full → IsFull (network_of old.run) g) → OnErr r (mid.run ≡ old.run) → IsEntered r s majors (Inject f) old mid
+injected-at r s majors f g old mid net k is foreign hosts shelves run full same =
+    subst (λ x. IsEntered r s majors (Inject x) old mid) is
+    (injected-by r s majors g old mid net k (ap (λ x. is_port s (fields x).src) is ∙ foreign) hosts shelves run full same)
+
+-- of what was before only the history counts
+pub entered-from : (r : Result (Unit {0}) NetRefusal) (s : Setup) (majors : List ℕ) (act : Act) (old mid new : Sim) → mid.run.entries ≡ old.run.entries
+    → IsEntered r s majors act mid new → IsEntered r s majors act old new
+entered-from (Ok u) s majors act old mid new e (got, enters, turning) = (got, subst (λ h. Enters s h act got new.run.entries) e enters, turning)
+entered-from (Err refusal) s majors act old mid new e left = subst (λ h. IsLeft s (IsBegun s h act) refusal new.run.entries) e left

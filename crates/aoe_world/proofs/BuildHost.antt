@@ -11,24 +11,24 @@ use Rattle.arrayvec.specs.ArrayVec.{ArrayVec}
 use Rattle.aoe_base.specs.declared.address.Mac.{Mac}
 use Rattle.aoe_base.specs.Addresses.{IsDistinct}
 use Rattle.aoe_history.specs.Setup.{host_called, HostSetup, IsSetup}
-use Rattle.aoe_hosts.proofs.AddressLemmas.{host-addresses, remote-addresses}
-use Rattle.aoe_hosts.proofs.Apart.{settled-new}
-use Rattle.aoe_hosts.specs.Host.{IsHost, IsSettled, NamedHost}
+use Rattle.aoe_sim_hosts.proofs.AddressLemmas.{host-addresses, remote-addresses}
+use Rattle.aoe_sim_hosts.proofs.Apart.{settled-new}
+use Rattle.aoe_sim_hosts.specs.Host.{IsHost, IsSettled, NamedHost}
 use Rattle.aoe_initiator.specs.declared.device.Attached.{Attached}
 use Rattle.aoe_initiator.specs.declared.device.Device.{Device}
 use Rattle.aoe_initiator.specs.declared.refusal.AttachRefusal.TheVariants.{Already, NoPort}
 use Rattle.aoe_initiator.specs.Host.{new_host, Matches}
 use Rattle.aoe_initiator.specs.HostLaw.{has_id, same_id}
 use Rattle.aoe_initiator.specs.HostLog.{Event}
-use Rattle.aoe_layout.specs.Layout.{about, attached_to, default_dead, default_life, default_room, devices_of, host_in, host_of, life_in, setup_of, slot_named}
-use Rattle.aoe_layout.specs.Stations.{IsDevice}
-use Rattle.aoe_layout.specs.Stations.{IsHost as HasWords}
-use Rattle.aoe_layout.proofs.GoodLines.{are-good}
-use Rattle.aoe_layout.proofs.HostLemmas.{has-hosts}
-use Rattle.aoe_layout.proofs.LineLemmas.{same-self}
-use Rattle.aoe_layout.proofs.ListLemmas.{contains-at, filtered-at}
-use Rattle.aoe_layout.proofs.RangeLemmas.{has-ranges}
-use Rattle.aoe_layout.proofs.SetupLemmas.{is-setup}
+use Rattle.aoe_sim_setup.specs.Layout.{about, attached_to, default_dead, default_life, default_room, devices_of, host_in, host_of, life_in, setup_of, slot_named}
+use Rattle.aoe_sim_setup.specs.Stations.{IsDevice}
+use Rattle.aoe_sim_setup.specs.Stations.{IsHost as HasWords}
+use Rattle.aoe_sim_setup.proofs.GoodLines.{are-good}
+use Rattle.aoe_sim_setup.proofs.HostLemmas.{has-hosts}
+use Rattle.aoe_sim_setup.proofs.LineLemmas.{same-self}
+use Rattle.aoe_sim_setup.proofs.ListLemmas.{contains-at, filtered-at}
+use Rattle.aoe_sim_setup.proofs.RangeLemmas.{has-ranges}
+use Rattle.aoe_sim_setup.proofs.SetupLemmas.{is-setup}
 use Rattle.aoe_script.specs.declared.setup.Setup.{Setup as Line}
 use Rattle.aoe_script.specs.declared.setup.Setup.TheVariants.{Shelf, Slot, Host, Attach}
 use Rattle.aoe_script.specs.Lines.{IsScript, ScriptLines}

@@ -8,10 +8,10 @@ use Rattle.std.proofs.lemmas.List.{map-append}
 use Rattle.arrayvec.specs.ArrayVec.{ArrayVec}
 use Rattle.aoe_base.specs.declared.address.Mac.{Mac}
 use Rattle.aoe_history.specs.Setup.{shelf_of, SlotSetup}
-use Rattle.aoe_layout.specs.Layout.{setup_of, slot_of_shelf, slot_with}
-use Rattle.aoe_layout.proofs.GoodLines.{are-good}
-use Rattle.aoe_layout.proofs.SlotLemmas.{has-shelves}
-use Rattle.aoe_racks.specs.Rack.{MemoryRack, Serves}
+use Rattle.aoe_sim_setup.specs.Layout.{setup_of, slot_of_shelf, slot_with}
+use Rattle.aoe_sim_setup.proofs.GoodLines.{are-good}
+use Rattle.aoe_sim_setup.proofs.SlotLemmas.{has-shelves}
+use Rattle.aoe_sim_shelves.specs.Rack.{MemoryRack, Serves}
 use Rattle.aoe_script.specs.declared.setup.Setup.{Setup as Line}
 use Rattle.aoe_script.specs.declared.setup.Setup.TheVariants.{Life, Shelf, Slot, Host, Attach}
 use Rattle.aoe_script.specs.Lines.{IsScript, ScriptLines}

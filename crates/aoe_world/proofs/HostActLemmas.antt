@@ -16,18 +16,18 @@ use Rattle.aoe_history.specs.Groups.Act.{Hand, Submit}
 use Rattle.aoe_history.specs.Groups.Station.{Host as HostStation}
 use Rattle.aoe_history.specs.Lawful.{IsLawful}
 use Rattle.aoe_history.specs.Setup.{device_no, is_called, HostSetup, Setup}
-use Rattle.aoe_hosts.proofs.Apart.{awaits-other, awaits-settled}
-use Rattle.aoe_hosts.proofs.Called.{is-called}
-use Rattle.aoe_hosts.specs.Host.{is_apart as is_apart_of_host, is_told, Awaits, IsSettled, NamedHost}
+use Rattle.aoe_sim_hosts.proofs.Apart.{awaits-other, awaits-settled}
+use Rattle.aoe_sim_hosts.proofs.Called.{is-called}
+use Rattle.aoe_sim_hosts.specs.Host.{is_apart as is_apart_of_host, is_told, Awaits, IsSettled, NamedHost}
 use Rattle.aoe_initiator.specs.declared.op.Op.{Op}
 use Rattle.aoe_initiator.specs.declared.refusal.SubmitRefusal.{SubmitRefusal}
 use Rattle.aoe_initiator.specs.HostLaw.{submit_refusal}
-use Rattle.aoe_racks.specs.Rack.{is_apart as is_apart_of_slots}
+use Rattle.aoe_sim_shelves.specs.Rack.{is_apart as is_apart_of_slots}
 use Rattle.aoe_world.proofs.AddsLemmas.{adds_none, adds_one, Adds}
 use Rattle.aoe_world.proofs.TurnLemmas.{get-set, length-set, set-get, settled-adds}
 use Rattle.aoe_world.proofs.ActLemmas.{shelves-after}
-use Rattle.aoe_world.specs.declared.stage.Stage.{Stage}
-use Rattle.aoe_world.specs.Stage.{AllServe, AllSettled, HadTurns, IsNetwork, IsReady}
+use Rattle.aoe_world.specs.declared.sim.Sim.{Sim}
+use Rattle.aoe_world.specs.Sim.{AllServe, AllSettled, HadTurns, IsNetwork, IsReady}
 
 bytes-apart : (a b : List ℕ) → bytes_eq a b ≡ false → bytes_eq b a ≡ false
 bytes-apart a b e = go (bytes_eq b a) refl
@@ -110,14 +110,14 @@ takes-adds p s host name number f h m (Some got) t k = subst (Adds p h) (sym k.2
 -- A HOST TAKES A FRAME
 
 -- what a host took makes the act
-pub record HasTaken (s : Setup) (majors : List ℕ) (name : ArrayVec ℕ) (number i : ℕ) (y : NamedHost) (old : Stage) (m : List Entry) : Type 0 where
+pub record HasTaken (s : Setup) (majors : List ℕ) (name : ArrayVec ℕ) (number i : ℕ) (y : NamedHost) (old : Sim) (m : List Entry) : Type 0 where
   pub got : Option Got
   pub enters : Enters s old.run.entries (Hand number (HostStation name)) got m
   pub lawful : IsLawful s m
   pub hosts_are : HadTurns s got m 0 (slice_set old.hosts.items i y)
   pub shelves_are : AllServe s majors m old.shelves.items
 
-pub has-taken : (s : Setup) (majors : List ℕ) (name : ArrayVec ℕ) (number i : ℕ) (f : List ℕ) (x y : NamedHost) (old : Stage) (m : List Entry) (host : HostSetup) → IsNetwork s majors → IsReady s majors old
+pub has-taken : (s : Setup) (majors : List ℕ) (name : ArrayVec ℕ) (number i : ℕ) (f : List ℕ) (x y : NamedHost) (old : Sim) (m : List Entry) (host : HostSetup) → IsNetwork s majors → IsReady s majors old
     → slice_get s.hosts i ≡ Some host → is_called host name ≡ true → slice_get old.hosts.items i ≡ Some x → arriving s.life old.run.entries number ≡ Some f
     → ((z : Setup) (o : HostSetup) → IsSettled z o old.run.entries x → IsLawful z old.run.entries → arriving z.life old.run.entries number ≡ Some f
     → (got : Option Got) × Takes z o x.name number f old.run.entries got m × IsLawful z m × Awaits z o got m y)
@@ -141,7 +141,7 @@ has-taken s majors name number i f x y old m host net k at called there fresh to
 
 -- A HOST SUBMITS
 
-pub record HasSubmitted (s : Setup) (majors : List ℕ) (name : ArrayVec ℕ) (dev : TargetId) (op : Op) (i : ℕ) (y : NamedHost) (old : Stage) (m : List Entry) : Type 0 where
+pub record HasSubmitted (s : Setup) (majors : List ℕ) (name : ArrayVec ℕ) (dev : TargetId) (op : Op) (i : ℕ) (y : NamedHost) (old : Sim) (m : List Entry) : Type 0 where
   pub enters : Enters s old.run.entries (Submit name dev op) None m
   pub lawful : IsLawful s m
   pub hosts_are : HadTurns s None m 0 (slice_set old.hosts.items i y)
@@ -152,7 +152,7 @@ entry-adds : (p : Entry → Bool) (s : Setup) (host : HostSetup) (h : List Entry
 entry-adds p s host h name dev op None a b = a _
 entry-adds p s host h name dev op (Some refusal) a b = b refusal
 
-pub has-submitted : (s : Setup) (majors : List ℕ) (name : ArrayVec ℕ) (dev : TargetId) (op : Op) (i : ℕ) (x y : NamedHost) (old : Stage) (m : List Entry) (host : HostSetup) → IsNetwork s majors
+pub has-submitted : (s : Setup) (majors : List ℕ) (name : ArrayVec ℕ) (dev : TargetId) (op : Op) (i : ℕ) (x y : NamedHost) (old : Sim) (m : List Entry) (host : HostSetup) → IsNetwork s majors
     → IsReady s majors old → slice_get s.hosts i ≡ Some host → is_called host name ≡ true → slice_get old.hosts.items i ≡ Some x
     → ((z : Setup) (o : HostSetup) → IsSettled z o old.run.entries x → IsLawful z old.run.entries
     → (m ≡ submitted_as z o old.run.entries x.name dev op ∷ old.run.entries) × IsLawful z m × Awaits z o None m y)

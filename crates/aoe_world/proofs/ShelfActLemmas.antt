@@ -1,5 +1,5 @@
 -- An act of one shelf.
-use Rattle.std.proofs.Common.{ℕ, ◌≡◌, ◌≢◌, ◌<◌, Bool, true, List, ◌∷◌, Option, Some, None, refl, sym, subst, MatchOption}
+use Rattle.std.proofs.Common.{ℕ, ◌≡◌, ◌≢◌, ◌<◌, Bool, true, List, ◌∷◌, Option, Some, None, Result, Ok, Err, refl, sym, ap, subst, inl, ◌∙◌, MatchOption, OnErr, OnOk}
 use Rattle.std.specs.Prelude.{slice_get, slice_set}
 use Rattle.std.proofs.lemmas.Option.{slice_get_within}
 use Rattle.aoe_disk.specs.Memory.{Memory}
@@ -7,27 +7,31 @@ use Rattle.aoe_disk.specs.declared.loss.Loss.{Loss}
 use Rattle.aoe_history.specs.declared.entry.Entry.{Entry}
 use Rattle.aoe_history.specs.declared.entry.Entry.TheVariants.{Armed, Lost}
 use Rattle.aoe_history.specs.Frames.{arriving}
-use Rattle.aoe_history.specs.Groups.{ArriveAtEach, ArriveAtSome, ComesTo, CrashEach, Enters, EntersSome, Got}
+use Rattle.aoe_history.specs.Groups.{ArriveAtEach, ArriveAtSome, ComesTo, CrashEach, Enters, EntersSome, Got, IsBegun}
 use Rattle.aoe_history.specs.Groups.Act.{Hand}
 use Rattle.aoe_history.specs.Groups.Station.{Shelf as ShelfStation}
-use Rattle.aoe_history.specs.Setup.{shelf_of, HostSetup, Setup}
-use Rattle.aoe_hosts.specs.Host.{is_apart as is_apart_of_host}
-use Rattle.aoe_racks.proofs.Apart.{there}
-use Rattle.aoe_racks.specs.Rack.{is_apart as is_apart_of_slots, MemoryRack, Serves}
+use Rattle.aoe_history.specs.Lawful.{IsLawful}
+use Rattle.aoe_history.specs.Run.{MeetsFull}
+use Rattle.aoe_history.specs.Setup.{shelf_of, AreSlots, HostSetup, Setup, SlotSetup}
+use Rattle.aoe_net.specs.declared.refusal.NetRefusal.{NetRefusal}
+use Rattle.aoe_net.specs.declared.refusal.NetRefusal.TheVariants.{Full}
+use Rattle.aoe_sim_hosts.specs.Host.{is_apart as is_apart_of_host}
+use Rattle.aoe_sim_shelves.proofs.Apart.{there}
+use Rattle.aoe_sim_shelves.specs.Rack.{is_apart as is_apart_of_slots, MemoryRack, Serves}
 use Rattle.aoe_script.specs.declared.event.Which.{Which}
 use Rattle.aoe_target.specs.declared.station.Station.{Station}
 use Rattle.aoe_target.specs.Mounted.{Mounted}
-use Rattle.aoe_world.proofs.ActLemmas.{armed-apart, hosts-after, one-shelf, speaks-apart}
+use Rattle.aoe_world.proofs.ActLemmas.{armed-apart, hosts-after, left-more, one-shelf, speaks-apart}
 use Rattle.aoe_world.proofs.AddsLemmas.{adds_none, adds_one, arrive-adds, crash-adds, Adds, SpeaksOf}
-use Rattle.aoe_world.specs.declared.stage.Stage.{Stage}
-use Rattle.aoe_world.specs.Stage.{AllServe, HadTurns, IsNetwork, IsReady}
+use Rattle.aoe_world.specs.declared.sim.Sim.{Sim}
+use Rattle.aoe_world.specs.Sim.{AllServe, HadTurns, IsEntered, IsNetwork, IsReady}
 
 -- what came of one shelf
-pub record HasCome (s : Setup) (majors : List ℕ) (i : ℕ) (y : MemoryRack) (old : Stage) (m : List Entry) : Type 0 where
+pub record HasCome (s : Setup) (majors : List ℕ) (i : ℕ) (y : MemoryRack) (old : Sim) (m : List Entry) : Type 0 where
   pub hosts_are : HadTurns s None m 0 old.hosts.items
   pub shelves_are : AllServe s majors m (slice_set old.shelves.items i y)
 
-module _ (s : Setup) (majors : List ℕ) (i major : ℕ) (x y : MemoryRack) (old : Stage) (m : List Entry) (net : IsNetwork s majors) (k : IsReady s majors old) (em : slice_get majors i ≡ Some major)
+module _ (s : Setup) (majors : List ℕ) (i major : ℕ) (x y : MemoryRack) (old : Sim) (m : List Entry) (net : IsNetwork s majors) (k : IsReady s majors old) (em : slice_get majors i ≡ Some major)
     (ex : slice_get old.shelves.items i ≡ Some x) (serves : Serves (shelf_of s major) m y) (same : y.shelf.major ≡ x.shelf.major) where
   comes-by : ((host : HostSetup) → Adds (is_apart_of_host host) old.run.entries m) → ((other : ℕ) → other ≢ major → Adds (is_apart_of_slots (shelf_of s other)) old.run.entries m)
       → HasCome s majors i y old m
@@ -83,3 +87,34 @@ pub arrival-begun : (s : Setup) (number major : ℕ) (f : List ℕ) (h m : List 
     → EntersSome s h (Hand number (ShelfStation major)) m
 arrival-begun s number major f h m fresh came =
     subst (λ o. MatchOption o (m ≡ h) (λ g. ArriveAtSome number g (shelf_of s major) (shelf_of s major) h m)) (sym fresh) came
+
+-- a frame came to a shelf, or as much of that came as could
+pub arrived-by : (r : Result (Unit {0}) NetRefusal) (s : Setup) (majors : List ℕ) (i major number : ℕ) (f : List ℕ) (x y : MemoryRack) (old new : Sim) → IsNetwork s majors → IsReady s majors old
+    → slice_get majors i ≡ Some major → slice_get old.shelves.items i ≡ Some x → arriving s.life old.run.entries number ≡ Some f
+    → new.run.life ≡ old.run.life → y.shelf.major ≡ x.shelf.major → new.hosts ≡ old.hosts → new.shelves.items ≡ slice_set old.shelves.items i y
+    → OnOk r ((z : Setup) (slots : List SlotSetup) → AreSlots z slots → Serves slots old.run.entries x → IsLawful z old.run.entries → arriving z.life old.run.entries number ≡ Some f
+    → ArriveAtEach number f slots slots old.run.entries new.run.entries × IsLawful z new.run.entries × Serves slots new.run.entries y)
+    → OnErr r ((z : Setup) (slots : List SlotSetup) → AreSlots z slots → Serves slots old.run.entries x → IsLawful z old.run.entries → arriving z.life old.run.entries number ≡ Some f
+    → ArriveAtSome number f slots slots old.run.entries new.run.entries × IsLawful z new.run.entries)
+    → (r ≡ Err Full → (z : Setup) (slots : List SlotSetup) → AreSlots z slots → Serves slots old.run.entries x → IsLawful z old.run.entries → arriving z.life old.run.entries number ≡ Some f
+    → MeetsFull z (ArriveAtSome number f slots slots old.run.entries) new.run.entries)
+    → IsEntered r s majors (Hand number (ShelfStation major)) old new
+arrived-by (Ok u) s majors i major number f x y old new net k em ex came life same hosts shelves ok err full =
+    let t = ok s (shelf_of s major) (net.slots i major em) (k.shelves_are.each i major x em ex) k.lawful came in
+    let w = has-arrived s majors i major x y old new.run.entries net k em ex t.2 same number f t.0 in (
+      None,
+      arrival-enters s number major f old.run.entries new.run.entries came t.0,
+      record {
+        life = life ∙ k.life;
+        lawful = t.1;
+        hosts_are = subst (λ xs. HadTurns s None new.run.entries 0 xs.items) (sym hosts) w.hosts_are;
+        shelves_are = subst (λ xs. AllServe s majors new.run.entries xs) (sym shelves) w.shelves_are;
+      },
+    )
+arrived-by (Err refusal) s majors i major number f x y old new net k em ex came life same hosts shelves ok err full =
+    let serves = k.shelves_are.each i major x em ex in
+    let slots = net.slots i major em in
+    let t = err s (shelf_of s major) slots serves k.lawful came in
+    let some = ArriveAtSome number f (shelf_of s major) (shelf_of s major) old.run.entries in
+    left-more s some (IsBegun s old.run.entries (Hand number (ShelfStation major))) refusal new.run.entries (λ m part. inl (arrival-begun s number major f old.run.entries m came part))
+    (record { begun = t.0; lawful = t.1; full = λ e. full (ap Err e) s (shelf_of s major) slots serves k.lawful came })

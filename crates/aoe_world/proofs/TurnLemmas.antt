@@ -7,17 +7,17 @@ use Rattle.aoe_history.specs.declared.entry.Entry.{Entry}
 use Rattle.aoe_history.specs.Groups.{Got, Turn, Turns, TurnSome, TurnsSome}
 use Rattle.aoe_history.specs.Lawful.{IsLawful}
 use Rattle.aoe_history.specs.Setup.{is_called, shelf_of, HostSetup, Setup}
-use Rattle.aoe_hosts.proofs.Apart.{awaits-apart, settled-apart}
-use Rattle.aoe_hosts.specs.Host.{is_apart as is_apart_of_host, Awaits, IsSettled, NamedHost}
+use Rattle.aoe_sim_hosts.proofs.Apart.{awaits-apart, settled-apart}
+use Rattle.aoe_sim_hosts.specs.Host.{is_apart as is_apart_of_host, Awaits, IsSettled, NamedHost}
 use Rattle.aoe_net.specs.declared.refusal.NetRefusal.{NetRefusal}
 use Rattle.aoe_net.specs.declared.refusal.NetRefusal.TheVariants.{Full}
-use Rattle.aoe_racks.proofs.Apart.{serves-apart}
-use Rattle.aoe_racks.specs.Rack.{is_apart as is_apart_of_slots, MemoryRack, Serves}
-use Rattle.aoe_run.specs.Run.{MeetsFull}
-use Rattle.aoe_run.proofs.FullLemmas.{full-more}
+use Rattle.aoe_sim_shelves.proofs.Apart.{serves-apart}
+use Rattle.aoe_sim_shelves.specs.Rack.{is_apart as is_apart_of_slots, MemoryRack, Serves}
+use Rattle.aoe_history.specs.Run.{MeetsFull}
+use Rattle.aoe_history.proofs.FullLemmas.{full-more}
 use Rattle.aoe_world.proofs.AddsLemmas.{adds-keep, turn-adds, Adds, TellsOf}
-use Rattle.aoe_world.specs.declared.stage.Stage.{Stage}
-use Rattle.aoe_world.specs.Stage.{AllServe, AllSettled, HadTurns, IsLeft, IsNetwork, IsReady, IsTurning}
+use Rattle.aoe_world.specs.declared.sim.Sim.{Sim}
+use Rattle.aoe_world.specs.Sim.{AllServe, AllSettled, HadTurns, IsLeft, IsNetwork, IsReady, IsTurning}
 
 -- LISTS
 
@@ -149,18 +149,18 @@ all-settled s got h k hosts e t = record {
 -- THE LOOP
 
 -- so many hosts had their turn
-pub record Going (old now : Stage) (i end : ℕ) : Type 0 where
+pub record Going (old now : Sim) (i end : ℕ) : Type 0 where
   pub upto : i ≤ end
   pub count : length now.hosts.items ≡ end
   pub frame : now.frame ≡ old.frame
   pub turns : (s : Setup) (majors : List ℕ) (got : Option Got) → IsNetwork s majors → IsTurning s majors got 0 old
       → Turns s (take i s.hosts) got old.run.entries now.run.entries × IsTurning s majors got i now
 
-pub going-none : (old : Stage) → Going old old 0 (length old.hosts.items)
+pub going-none : (old : Sim) → Going old old 0 (length old.hosts.items)
 going-none old = record { upto = omega arith; count = refl; frame = refl; turns = λ s majors got net k. (refl, k) }
 
 -- one turn more
-pub going-on : (old now new : Stage) (i end : ℕ) (x y : NamedHost) → Going old now i end → slice_get now.hosts.items i ≡ Some x
+pub going-on : (old now new : Sim) (i end : ℕ) (x y : NamedHost) → Going old now i end → slice_get now.hosts.items i ≡ Some x
     → ((s : Setup) (host : HostSetup) (got : Option Got) → Awaits s host got now.run.entries x → IsLawful s now.run.entries
     → Turn s host got now.run.entries new.run.entries × IsLawful s new.run.entries × IsSettled s host new.run.entries y)
     → new.run.life ≡ now.run.life → new.shelves.items ≡ now.shelves.items → new.hosts.items ≡ slice_set now.hosts.items i y → new.frame ≡ now.frame → Going old new (i + 1) end
@@ -192,7 +192,7 @@ going-on old now new i end x y g there turn life shelves hosts frame = subst (λ
         )
 
 -- the turn of a host came in part
-pub going-broken : (old now : Stage) (m : List Entry) (i end : ℕ) (x : NamedHost) (refusal : NetRefusal) → Going old now i end → slice_get now.hosts.items i ≡ Some x
+pub going-broken : (old now : Sim) (m : List Entry) (i end : ℕ) (x : NamedHost) (refusal : NetRefusal) → Going old now i end → slice_get now.hosts.items i ≡ Some x
     → ((s : Setup) (host : HostSetup) (got : Option Got) → Awaits s host got now.run.entries x → IsLawful s now.run.entries
     → TurnSome host got now.run.entries m × IsLawful s m)
     → (refusal ≡ Full → (s : Setup) (host : HostSetup) (got : Option Got) → Awaits s host got now.run.entries x → IsLawful s now.run.entries → MeetsFull s (TurnSome host got now.run.entries) m)
@@ -214,7 +214,7 @@ going-broken old now m i end x refusal g there turn full s majors got net begun 
     }
 
 -- all had their turn
-pub going-done : (old now : Stage) (i end : ℕ) → Going old now i end → end ≤ i → (s : Setup) (majors : List ℕ) (got : Option Got) → IsNetwork s majors → IsTurning s majors got 0 old
+pub going-done : (old now : Sim) (i end : ℕ) → Going old now i end → end ≤ i → (s : Setup) (majors : List ℕ) (got : Option Got) → IsNetwork s majors → IsTurning s majors got 0 old
     → Turns s s.hosts got old.run.entries now.run.entries × IsReady s majors now
 going-done old now i end g last s majors got net begun =
     let is : i ≡ length now.hosts.items = omega (arith, g.upto, last, g.count) in

@@ -1,5 +1,5 @@
 -- How long a history grows by an event, and what a world keeps.
-use Rattle.std.proofs.Common.{ℕ, suc, ◌≡◌, ◌≤◌, ◌+◌, ◌-◌, true, List, [], ◌∷◌, Option, Some, None, refl, sym, ap, subst, arith, inl, inr}
+use Rattle.std.proofs.Common.{ℕ, suc, ◌≡◌, ◌≤◌, ◌<◌, ◌+◌, ◌-◌, true, List, [], ◌∷◌, Option, Some, None, refl, sym, ap, subst, arith, inl, inr}
 use Rattle.std.specs.Prelude.{length, map, All, IfNone, IfSome}
 use Rattle.std.specs.Option.{option_map_or}
 use Rattle.std.proofs.lemmas.List.Elements.{All-cons, All-nil}
@@ -13,9 +13,9 @@ use Rattle.aoe_history.specs.Groups.{Act, Station}
 use Rattle.aoe_history.specs.Groups.Act.{Hand, Lose, Submit, Tick}
 use Rattle.aoe_history.specs.Lawful.{IsLawful}
 use Rattle.aoe_history.specs.Setup.{Setup}
-use Rattle.aoe_layout.specs.Layout.{majors_of, setup_of, stations_of, Placed}
-use Rattle.aoe_layout.specs.Stations.{CanCome}
-use Rattle.aoe_run.specs.Run.{IsWithin}
+use Rattle.aoe_sim_setup.specs.Layout.{majors_of, setup_of, stations_of, Placed}
+use Rattle.aoe_sim_setup.specs.Stations.{CanCome}
+use Rattle.aoe_history.specs.Run.{IsWithin}
 use Rattle.aoe_script.specs.Lines.{ScriptLines}
 use Rattle.aoe_script.specs.Rules.{is_event}
 use Rattle.aoe_script.specs.declared.event.Event.{Event}
@@ -30,9 +30,10 @@ use Rattle.aoe_net.specs.declared.refusal.NetRefusal.{NetRefusal}
 use Rattle.aoe_net.specs.declared.refusal.NetRefusal.TheVariants.{Full}
 use Rattle.aoe_world.specs.declared.refusal.WorldRefusal.{WorldRefusal}
 use Rattle.aoe_world.specs.declared.refusal.WorldRefusal.TheVariants.{NetFull, NoMemory}
-use Rattle.aoe_world.specs.declared.stage.Stage.{Stage}
+use Rattle.aoe_world.specs.declared.sim.Sim.{Sim}
 use Rattle.aoe_world.specs.Schedule.{acts_of, addressees, hand_each, handings, losses, Comes, ComesSome, Moves, MovesBy, MovesSome}
-use Rattle.aoe_world.specs.Stage.{IsLeft, IsReady}
+use Rattle.aoe_world.specs.Plan.{Knows}
+use Rattle.aoe_world.specs.Sim.{ArePlaces, IsLeft, IsReady}
 use Rattle.aoe_world.specs.World.{IsCounted, IsGoing, IsRefusedAt, IsStaged, IsWorld, Stepped}
 
 -- ACTS THAT ARE ASIDE
@@ -112,7 +113,7 @@ some-comes s lines e cursor h m good can some = some-grows s (acts_of s lines cu
 
 -- WORLDS
 
-module _ (script : ScriptLines) (places : List Place) (old new : Stage) (cursor behind events : ℕ) (refused : Option WorldRefusal) (world : IsWorld script places old cursor events refused) where
+module _ (script : ScriptLines) (places : List Place) (old new : Sim) (cursor behind events : ℕ) (refused : Option WorldRefusal) (world : IsWorld script places old cursor events refused) where
   goes-on : (e : Event) → is_event e ≡ true → CanCome script.setups (setup_of script.setups) e → IsGoing script places old cursor events
       → Comes (setup_of script.setups) script.setups e cursor old.run.entries behind new.run.entries → IsReady (setup_of script.setups) (majors_of script.setups) new
       → (1 ≤ behind) × (behind ≤ suc (length (frames new.run.entries))) → IsGoing script places new behind (events + 1)
@@ -151,11 +152,16 @@ module _ (script : ScriptLines) (places : List Place) (old new : Stage) (cursor 
     refusal = at;
   }
 
-pub same-world : (script other : ScriptLines) (places others : List Place) (stage : Stage) (cursor events : ℕ) (refused : Option WorldRefusal)
-    → other ≡ script → others ≡ places → IsWorld script places stage cursor events refused → IsWorld other others stage cursor events refused
-same-world script other places others stage cursor events refused lines at world =
-    subst (λ (x : ScriptLines). IsWorld x others stage cursor events refused) (sym lines)
-    (subst (λ (x : List Place). IsWorld script x stage cursor events refused) (sym at) world)
+-- as long as a world goes on, all is known for one more line
+pub knows-of : (script : ScriptLines) (places others : List Place) (sim : Sim) (cursor events : ℕ) → others ≡ places → IsGoing script places sim cursor events → events < 50000
+    → Knows script.setups others sim
+knows-of script places others sim cursor events same going few = record {
+  network_is = going.staged.network_is;
+  places_are = subst (λ xs. ArePlaces (setup_of script.setups) (majors_of script.setups) (stations_of script.setups) xs) (sym same) going.staged.places_are;
+  ready = going.ready;
+  time = let time = going.time in omega (arith, time, few);
+  few = λ host. let most = going.tickets_are host in omega (arith, most, few);
+}
 
 -- what came of an event, of what contracts see of a world
 pub seen-comes : (seen is : Stepped) (e : Event) (behind : ℕ) (m : List Entry) → is ≡ seen → Comes (setup_of is.lines) is.lines e is.cursor is.entries behind m
@@ -180,9 +186,9 @@ refused-at s begins refusal h NoMemory left counted full = tt
 refused-at s begins refusal h (NetFull frames bytes) left counted full = (counted, left.full (full frames bytes refl))
 
 -- before any event
-pub new-world : (script : ScriptLines) (places : List Place) (stage : Stage) (cursor : ℕ) → IsStaged script places stage cursor
-    → IsReady (setup_of script.setups) (majors_of script.setups) stage → stage.run.entries ≡ [] → IsWorld script places stage cursor 0 None
-new-world script places stage cursor staged ready empty = record {
+pub new-world : (script : ScriptLines) (places : List Place) (sim : Sim) (cursor : ℕ) → IsStaged script places sim cursor
+    → IsReady (setup_of script.setups) (majors_of script.setups) sim → sim.run.entries ≡ [] → IsWorld script places sim cursor 0 None
+new-world script places sim cursor staged ready empty = record {
   setup = staged.network_is.setup;
   lawful = ready.lawful;
   room = subst (λ (h : List Entry). IsWithin (frames h)) (sym empty) (record { few = omega arith; small = omega arith });
@@ -190,8 +196,8 @@ new-world script places stage cursor staged ready empty = record {
   going = λ same. record {
     staged = staged;
     ready = ready;
-    time = let at : clock stage.run.entries ≡ 0 = ap clock empty in omega (arith, at);
-    tickets_are = λ host. let at : tickets host stage.run.entries ≡ 0 = ap (tickets host) empty in omega (arith, at);
+    time = let at : clock sim.run.entries ≡ 0 = ap clock empty in omega (arith, at);
+    tickets_are = λ host. let at : tickets host sim.run.entries ≡ 0 = ap (tickets host) empty in omega (arith, at);
   };
   refusal = tt;
 }

@@ -2,17 +2,17 @@
 use Rattle.std.specs.Prelude.{ℕ, ◌≡◌, ◌==◌, ◌-◌, ◌^◌, ◌<◌, ◌≤◌, false, List, [], length, take, slice_get, Some, None}
 use Rattle.std.specs.List.{filter_map, list_any}
 use Rattle.aoe_history.specs.Setup.{shelf_of, HostSetup, Setup}
-use Rattle.aoe_hosts.specs.Host.{IsSettled, NamedHost}
+use Rattle.aoe_sim_hosts.specs.Host.{IsSettled, NamedHost}
 use Rattle.aoe_initiator.specs.declared.device.Attached.{Attached}
 use Rattle.aoe_initiator.specs.declared.device.Device.{Device}
 use Rattle.aoe_initiator.specs.HostLaw.{attach_refusal}
-use Rattle.aoe_layout.specs.Layout.{host_in, majors_of, setup_of, stations_of, Placed}
+use Rattle.aoe_sim_setup.specs.Layout.{host_in, majors_of, setup_of, stations_of, Placed}
 use Rattle.aoe_base.specs.Addresses.{IsDistinct}
-use Rattle.aoe_racks.specs.Rack.{MemoryRack, Serves}
+use Rattle.aoe_sim_shelves.specs.Rack.{MemoryRack, Serves}
 use Rattle.aoe_script.specs.declared.setup.Setup.{Setup as Line}
 use Rattle.aoe_world.specs.declared.place.Place.{Place}
-use Rattle.aoe_world.specs.declared.stage.Stage.{Stage}
-use Rattle.aoe_world.specs.Stage.{IsAt}
+use Rattle.aoe_world.specs.declared.sim.Sim.{Sim}
+use Rattle.aoe_world.specs.Sim.{IsAt}
 
 -- a host with these devices can be attached to this one
 pub record CanAttach (d : Attached) (devices : List Device) : Type 0 where
@@ -46,9 +46,9 @@ abbrev pub IsPlace : Setup → List ℕ → Placed → Place → Type 0
 IsPlace s majors p place = (place.name ≡ p.name) × (place.ports.items ≡ p.ports) × IsAt s majors place.at p.station
 
 -- the stations of the first n lines
-pub record IsBuilt (lines : List Line) (n : ℕ) (stage : Stage) (places : List Place) : Type 0 where
-  pub life : stage.run.life ≡ (setup_of lines).life
-  pub nothing : stage.run.entries ≡ []
-  pub shelves_are : Along (IsShelf (setup_of lines)) (majors_of (take n lines)) stage.shelves.items
-  pub hosts_are : Along (IsHost (setup_of lines)) (filter_map (host_in lines) (take n lines)) stage.hosts.items
+pub record IsBuilt (lines : List Line) (n : ℕ) (sim : Sim) (places : List Place) : Type 0 where
+  pub life : sim.run.life ≡ (setup_of lines).life
+  pub nothing : sim.run.entries ≡ []
+  pub shelves_are : Along (IsShelf (setup_of lines)) (majors_of (take n lines)) sim.shelves.items
+  pub hosts_are : Along (IsHost (setup_of lines)) (filter_map (host_in lines) (take n lines)) sim.hosts.items
   pub places_are : Along (IsPlace (setup_of lines) (majors_of lines)) (stations_of (take n lines)) places

@@ -1,4 +1,7 @@
 pub mod Build
 pub mod Schedule
-pub mod Stage
+pub mod Sim
+pub mod Acts
+pub mod Plan
 pub mod World
+pub mod Replay

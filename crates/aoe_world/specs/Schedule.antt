@@ -7,7 +7,7 @@ use Rattle.aoe_base.specs.declared.address.Mac.{Mac}
 use Rattle.aoe_base.specs.Addresses.{broadcast, holds, same_address}
 use Rattle.aoe_frame.specs.Header.{fields}
 use Rattle.aoe_history.specs.Asks.{submission_in}
-use Rattle.aoe_layout.specs.Layout.{station_named, stations_of, Placed}
+use Rattle.aoe_sim_setup.specs.Layout.{station_named, stations_of, Placed}
 use Rattle.aoe_script.specs.declared.event.Event.{Event}
 use Rattle.aoe_script.specs.declared.event.Event.TheVariants as event
 use Rattle.aoe_script.specs.declared.setup.Setup.{Setup as Line}

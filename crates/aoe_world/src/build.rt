@@ -4,27 +4,27 @@ ghost use Rattle.std.specs.List.{find};
 ghost use Rattle.std.specs.Option.{option_to_list};
 ghost use Rattle.aoe_base.specs.declared.address.Mac.{Mac};
 ghost use Rattle.aoe_history.specs.Setup.{shelf_of, SlotSetup};
-ghost use Rattle.aoe_hosts.specs.Host.{IsSettled};
+ghost use Rattle.aoe_sim_hosts.specs.Host.{IsSettled};
 ghost use Rattle.aoe_initiator.specs.Host.{Matches};
 ghost use Rattle.aoe_initiator.specs.HostLog.{Event as LogEvent};
-ghost use Rattle.aoe_layout.specs.Layout.{about, attached_to, host_of, life_in, majors_of, setup_of, slot_named, slot_of_shelf, slot_with};
-ghost use Rattle.aoe_racks.specs.Rack.{Serves};
+ghost use Rattle.aoe_sim_setup.specs.Layout.{about, attached_to, host_of, life_in, majors_of, setup_of, slot_named, slot_of_shelf, slot_with};
+ghost use Rattle.aoe_sim_shelves.specs.Rack.{Serves};
 ghost use Rattle.aoe_script.specs.Rules.{is_shelf_named, is_slot, same};
 ghost use Rattle.aoe_world.specs.Build.{CanAdd, CanAttach, IsBuilt};
-ghost use Rattle.aoe_world.specs.Stage.{IsNetwork, IsReady};
+ghost use Rattle.aoe_world.specs.Sim.{IsNetwork, IsReady};
 ghost use Rattle.aoe_world.specs.World.{IsStaged};
 
-use crate::place::{At, Place};
-use crate::replay::Replay;
-use crate::stage::Stage;
+use crate::act::At;
+use crate::place::Place;
+use crate::sim::Sim;
 use aoe_base::{Millis, NoMemory, Ports, TargetId};
 use aoe_frame::Frame;
-use aoe_hosts::NamedHost;
+use aoe_history::Run;
 use aoe_initiator::Attached;
-use aoe_layout::layout_law;
-use aoe_racks::MemoryRack;
-use aoe_run::Run;
 use aoe_script::{Name, Script, Setup};
+use aoe_sim_hosts::NamedHost;
+use aoe_sim_setup::layout_law;
+use aoe_sim_shelves::MemoryRack;
 use std::alloc::Global;
 
 /// How long a frame can be handed over where no line says it, in milliseconds.
@@ -312,13 +312,22 @@ fn build_shelf(
     Ok(shelf)
 }
 
-impl Replay<'_> {
+/// The stations of the first lines of a script.
+#[derive(Drop)]
+pub(crate) struct Builder<'a> {
+    script: &'a Script,
+    pub(crate) sim: Sim,
+
+    /// In the order of their lines.
+    pub(crate) places: Vec<Place>,
+}
+
+impl Builder<'_> {
     /// Records the place of a station.
     fn place(&mut self, name: &Name, ports: &Ports, at: At) -> Result<(), NoMemory>
         ensures places { OnOk result (self.new.places.items ≡ self.old.places.items ++ record { name = name.now; ports = ports.now; at = at } ∷ []) }
-        ensures stage { self.new.stage ≡ self.old.stage }
+        ensures sim { self.new.sim ≡ self.old.sim }
         ensures script { self.new.script ≡ self.old.script }
-        ensures cursor { self.new.cursor ≡ self.old.cursor }
     {
         let name = name_of(name);
         let ports = copy_of(ports);
@@ -330,16 +339,15 @@ impl Replay<'_> {
 
     /// Adds a shelf behind the others.
     fn add_shelf(&mut self, name: &Name, ports: &Ports, shelf: MemoryRack) -> Result<(), NoMemory>
-        ensures shelves { OnOk result (self.new.stage.shelves.items ≡ self.old.stage.shelves.items ++ shelf ∷ []) }
+        ensures shelves { OnOk result (self.new.sim.shelves.items ≡ self.old.sim.shelves.items ++ shelf ∷ []) }
         ensures places { OnOk result (self.new.places.items ≡ self.old.places.items
-            ++ record { name = name.now; ports = ports.now; at = At.Shelf (length self.old.stage.shelves.items) } ∷ []) }
-        ensures hosts { self.new.stage.hosts ≡ self.old.stage.hosts }
-        ensures run { self.new.stage.run ≡ self.old.stage.run }
+            ++ record { name = name.now; ports = ports.now; at = At.Shelf (length self.old.sim.shelves.items) } ∷ []) }
+        ensures hosts { self.new.sim.hosts ≡ self.old.sim.hosts }
+        ensures run { self.new.sim.run ≡ self.old.sim.run }
         ensures script { self.new.script ≡ self.old.script }
-        ensures cursor { self.new.cursor ≡ self.old.cursor }
     {
-        let at = At::Shelf(self.stage.shelves.len());
-        match self.stage.shelves.push(shelf) {
+        let at = At::Shelf(self.sim.shelves.len());
+        match self.sim.shelves.push(shelf) {
             Ok(()) => self.place(name, ports, at),
             Err(_) => Err(NoMemory),
         }
@@ -347,16 +355,15 @@ impl Replay<'_> {
 
     /// Adds a host behind the others.
     fn add_host(&mut self, name: &Name, ports: &Ports, host: NamedHost) -> Result<(), NoMemory>
-        ensures hosts { OnOk result (self.new.stage.hosts.items ≡ self.old.stage.hosts.items ++ host ∷ []) }
+        ensures hosts { OnOk result (self.new.sim.hosts.items ≡ self.old.sim.hosts.items ++ host ∷ []) }
         ensures places { OnOk result (self.new.places.items ≡ self.old.places.items
-            ++ record { name = name.now; ports = ports.now; at = At.Host (length self.old.stage.hosts.items) } ∷ []) }
-        ensures shelves { self.new.stage.shelves ≡ self.old.stage.shelves }
-        ensures run { self.new.stage.run ≡ self.old.stage.run }
+            ++ record { name = name.now; ports = ports.now; at = At.Host (length self.old.sim.hosts.items) } ∷ []) }
+        ensures shelves { self.new.sim.shelves ≡ self.old.sim.shelves }
+        ensures run { self.new.sim.run ≡ self.old.sim.run }
         ensures script { self.new.script ≡ self.old.script }
-        ensures cursor { self.new.cursor ≡ self.old.cursor }
     {
-        let at = At::Host(self.stage.hosts.len());
-        match self.stage.hosts.push(host) {
+        let at = At::Host(self.sim.hosts.len());
+        match self.sim.hosts.push(host) {
             Ok(()) => self.place(name, ports, at),
             Err(_) => Err(NoMemory),
         }
@@ -365,10 +372,9 @@ impl Replay<'_> {
     /// Builds the station of a line, where it declares one.
     fn build(&mut self, alloc: Global, i: usize) -> Result<(), NoMemory>
         requires there { i < length self.old.script.now.setups }
-        requires built { IsBuilt self.old.script.now.setups i self.old.stage self.old.places.items }
-        ensures built { OnOk result (IsBuilt self.old.script.now.setups (i + 1) self.new.stage self.new.places.items) }
+        requires built { IsBuilt self.old.script.now.setups i self.old.sim self.old.places.items }
+        ensures built { OnOk result (IsBuilt self.old.script.now.setups (i + 1) self.new.sim self.new.places.items) }
         ensures script { self.new.script ≡ self.old.script }
-        ensures cursor { self.new.cursor ≡ self.old.cursor }
     {
         let script = self.script;
         match script.setup(i) {
@@ -401,43 +407,40 @@ impl Replay<'_> {
     }
 }
 
-impl<'a> Replay<'a> {
+impl<'a> Builder<'a> {
     /// No station, before anything happens.
-    fn empty(alloc: Global, script: &'a Script) -> Replay<'a>
-        ensures built { IsBuilt script.now.setups 0 result.stage result.places.items }
+    fn empty(alloc: Global, script: &'a Script) -> Builder<'a>
+        ensures built { IsBuilt script.now.setups 0 result.sim result.places.items }
         ensures script { result.script.now ≡ script.now }
-        ensures cursor { result.cursor ≡ 1 }
     {
-        let stage = Stage {
+        let sim = Sim {
             run: Run::new(alloc, life_of(script)),
             shelves: Vec::new(alloc),
             hosts: Vec::new(alloc),
             frame: Frame::new(),
             made: Frame::new(),
         };
-        Replay {
+        Builder {
             script,
-            stage,
+            sim,
             places: Vec::new(alloc),
-            cursor: 1,
         }
     }
 
     /// The stations of a script, before anything happens.
-    pub(crate) fn new(alloc: Global, script: &'a Script) -> Result<Replay<'a>, NoMemory>
+    pub(crate) fn new(alloc: Global, script: &'a Script) -> Result<Builder<'a>, NoMemory>
         ensures network { IsNetwork (setup_of script.now.setups) (majors_of script.now.setups) }
-        ensures staged { IfOk result (λ r. IsStaged script.now r.places.items r.stage r.cursor) }
-        ensures ready { IfOk result (λ r. IsReady (setup_of script.now.setups) (majors_of script.now.setups) r.stage) }
-        ensures entries { IfOk result (λ r. r.stage.run.entries ≡ []) }
-        ensures cursor { IfOk result (λ r. r.cursor ≡ 1) }
+        ensures staged { IfOk result (λ r. IsStaged script.now r.places.items r.sim 1) }
+        ensures ready { IfOk result (λ r. IsReady (setup_of script.now.setups) (majors_of script.now.setups) r.sim) }
+        ensures entries { IfOk result (λ r. r.sim.run.entries ≡ []) }
         ensures script { IfOk result (λ r. r.script.now ≡ script.now) }
     {
         layout_law();
         let count = script.setups();
-        let mut replay = Replay::empty(alloc, script);
+        let mut builder = Builder::empty(alloc, script);
         'lines: for i in 0..count {
-            replay.build(alloc, i)?;
+            builder.build(alloc, i)?;
         }
-        Ok(replay)
+        Ok(builder)
     }
 }

@@ -2,18 +2,27 @@
 //!
 //! A [`World`] has the stations that a script declares. Each event of the script is one
 //! [`World::step`], which adds to the history just what the shelf law, the host law and the network
-//! allow, and each such history keeps the law of what is read.
+//! allow, and each such history keeps the law of what is read. [`replay`] does all of it: the text of
+//! a script comes in, and the text of its run goes out.
 #![tactic(auto)]
 
+mod act;
+mod asks;
 mod build;
+mod end;
+mod events;
 mod place;
+mod plan;
 mod refusal;
-mod replay;
 mod schedule;
-mod stage;
+mod sim;
+mod text;
+mod whole;
 mod world;
 
+pub use end::{ReplayEnd, ReplayLimit};
 pub use refusal::WorldRefusal;
+pub use whole::replay;
 pub use world::World;
 
 #[cfg(test)]

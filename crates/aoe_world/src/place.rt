@@ -1,17 +1,16 @@
 //! Where the stations of a world stand, and which frames they get.
-ghost use Rattle.std.specs.Prelude.{◌≡◌};
+ghost use Rattle.std.specs.Prelude.{◌≡◌, ℕ, List, option_map, IfSome, IsSomeAnd};
+ghost use Rattle.std.specs.List.{find};
 ghost use Rattle.aoe_base.specs.Addresses.{holds};
+ghost use Rattle.aoe_history.specs.Setup.{Setup};
+ghost use Rattle.aoe_script.specs.Rules.{same};
+ghost use Rattle.aoe_sim_setup.specs.Layout.{Placed};
 ghost use Rattle.aoe_world.specs.Schedule.{is_for};
+ghost use Rattle.aoe_world.specs.Sim.{ArePlaces, IsAt};
 
+use crate::act::At;
 use aoe_base::{BROADCAST, Mac, Ports};
 use aoe_script::Name;
-
-/// Where a station stands among the shelves or among the hosts.
-#[derive(Clone, Copy, Debug, PartialEq, Eq)]
-pub(crate) enum At {
-    Shelf(usize),
-    Host(usize),
-}
 
 /// A station by its name and its ports.
 #[derive(Drop)]
@@ -39,5 +38,22 @@ impl Place {
         } else {
             has(&self.ports, destination)
         }
+    }
+}
+
+fn place_named<'a>(places: &'a [Place], name: &Name) -> Option<&'a Place>
+    ensures { option_map (λ place. place.now) result ≡ find (λ place. same place.name name.now) places.now }
+{
+    places.iter().find(|place| place.name == *name)
+}
+
+/// Where the station with a name stands.
+pub(crate) fn place_of(places: &[Place], name: &Name) -> Option<At>
+    ensures { (s : Setup) (majors : List ℕ) (stations : List Placed) → ArePlaces s majors stations places.now
+        → IfSome (find (λ p. same p.name name.now) stations) (λ p. IsSomeAnd result (λ at. IsAt s majors at p.station)) }
+{
+    match place_named(places, name) {
+        Some(place) => Some(place.at),
+        None => None,
     }
 }

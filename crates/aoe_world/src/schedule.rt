@@ -1,13 +1,16 @@
-//! Frames that are handed over as their addresses say.
-ghost use Rattle.std.specs.Prelude.{◌≡◌, ◌≤◌, ℕ, List, Some, slice_range};
-ghost use Rattle.aoe_history.specs.Frames.{arriving};
+//! Frames that are handed over as their addresses say, one after another.
+ghost use Rattle.std.specs.Prelude.{◌≡◌, ◌≤◌, ℕ, suc, List, length, false, slice_range};
+ghost use Rattle.std.specs.Option.{option_map_or};
+ghost use Rattle.aoe_frame.specs.Header.{fields};
+ghost use Rattle.aoe_history.specs.Frames.{arriving, frames};
 ghost use Rattle.aoe_history.specs.Setup.{Setup};
-ghost use Rattle.aoe_layout.specs.Layout.{Placed};
-ghost use Rattle.aoe_world.specs.Schedule.{addressees, handings};
-ghost use Rattle.aoe_world.specs.Stage.{ArePlaces, DoesAll, HandsEach, HasPlaces, IsNetwork, IsReady};
+ghost use Rattle.aoe_sim_setup.specs.Layout.{Placed};
+ghost use Rattle.aoe_world.specs.Schedule.{handings, is_for, losses};
+ghost use Rattle.aoe_world.specs.Sim.{ArePlaces, DoesAll, HasPlaces, IsNetwork, IsReady, Moved};
 
+use crate::act::Act;
 use crate::place::Place;
-use crate::stage::Stage;
+use crate::sim::Sim;
 use aoe_base::FrameNo;
 use aoe_net::NetRefusal;
 
@@ -21,41 +24,83 @@ fn part(frame: &[u8], from: usize, to: usize) -> &[u8]
     &frame[start..end]
 }
 
-impl Stage {
-    /// Hands the fetched frame to each station that it is for, and says whether there was one.
-    fn hand_each(&mut self, number: FrameNo, places: &[Place]) -> Result<bool, NetRefusal>
-        requires places { HasPlaces places.now self.old }
-        requires fresh { arriving self.old.run.life self.old.run.entries number.0 ≡ Some self.old.frame.items }
-        ensures { (s : Setup) (majors : List ℕ) (stations : List Placed) → IsNetwork s majors → IsReady s majors self.old
-            → ArePlaces s majors stations places.now
-            → HandsEach result s majors number.0 (addressees stations self.old.frame.items) self.old self.new }
+impl Sim {
+    /// Whether a frame can be handed over and is for a station.
+    fn is_for(&self, number: FrameNo, place: &Place) -> bool
+        ensures { result ≡ option_map_or (λ f. is_for (fields f).dst (fields f).src place.now.ports.items) (arriving self.now.run.life self.now.run.entries number.0) false }
     {
-        let mut any = false;
-        'places: for place in places {
-            if place.gets(part(&self.frame, 0, 6), part(&self.frame, 6, 12)) {
-                match self.hand(number, place.at) {
-                    Ok(()) => any = true,
-                    Err(refusal) => return Err(refusal),
-                }
-            }
+        match self.run.fetch(number) {
+            Some(frame) => place.gets(part(frame, 0, 6), part(frame, 6, 12)),
+            None => false,
         }
-        Ok(any)
     }
 
-    /// Hands a frame to its addressees, or loses it.
-    pub(crate) fn treat(&mut self, number: FrameNo, places: &[Place]) -> Result<(), NetRefusal>
+    /// Hands a frame to its addressees, in the order of their lines, or loses it where it has none.
+    pub(crate) fn hand_over(&mut self, number: FrameNo, places: &[Place]) -> Result<(), NetRefusal>
         requires { HasPlaces places.now self.old }
         ensures { (s : Setup) (majors : List ℕ) (stations : List Placed) → IsNetwork s majors → IsReady s majors self.old
             → ArePlaces s majors stations places.now
             → DoesAll result s majors (handings s stations self.old.run.entries number.0) self.old self.new }
     {
-        if !self.fetch(number) {
-            return self.lose(u64::from(number.0));
+        let mut any = false;
+        'places: for place in places {
+            if self.is_for(number, place) {
+                match self.act(Act::Hand {
+                    frame: number,
+                    to: place.at,
+                }) {
+                    Ok(()) => any = true,
+                    Err(refusal) => return Err(refusal),
+                }
+            }
         }
-        match self.hand_each(number, places) {
-            Ok(true) => Ok(()),
-            Ok(false) => self.lose(u64::from(number.0)),
-            Err(refusal) => Err(refusal),
+        if any {
+            return Ok(());
         }
+        self.act(Act::Lose { frame: number })
+    }
+
+    /// Hands over the frames from the cursor on, as many as there are of `n`.
+    pub(crate) fn pass(
+        &mut self,
+        places: &[Place],
+        cursor: &mut u32,
+        n: u64,
+    ) -> Result<(), NetRefusal>
+        requires { HasPlaces places.now self.old }
+        ensures { (s : Setup) (majors : List ℕ) (stations : List Placed) → IsNetwork s majors → IsReady s majors self.old
+            → ArePlaces s majors stations places.now → 1 ≤ cursor.old → cursor.old ≤ suc (length (frames self.old.run.entries))
+            → Moved result s majors (handings s stations) n cursor.old cursor.new self.old self.new }
+    {
+        'passed: for _ in 0..n {
+            if *cursor > self.run.frames() {
+                return Ok(());
+            }
+            match self.hand_over(FrameNo(*cursor), places) {
+                Ok(()) => *cursor += 1,
+                Err(refusal) => return Err(refusal),
+            }
+        }
+        Ok(())
+    }
+
+    /// Loses the frames from the cursor on, as many as there are of `n`.
+    pub(crate) fn skip(&mut self, cursor: &mut u32, n: u64) -> Result<(), NetRefusal>
+        ensures { (s : Setup) (majors : List ℕ) → IsNetwork s majors → IsReady s majors self.old
+            → 1 ≤ cursor.old → cursor.old ≤ suc (length (frames self.old.run.entries))
+            → Moved result s majors losses n cursor.old cursor.new self.old self.new }
+    {
+        'skipped: for _ in 0..n {
+            if *cursor > self.run.frames() {
+                return Ok(());
+            }
+            match self.act(Act::Lose {
+                frame: FrameNo(*cursor),
+            }) {
+                Ok(()) => *cursor += 1,
+                Err(refusal) => return Err(refusal),
+            }
+        }
+        Ok(())
     }
 }

@@ -6,6 +6,7 @@ mod network;
 mod paths;
 mod refusals;
 mod repeats;
+mod replays;
 
 use super::*;
 use aoe_base::Blob;

@@ -1,24 +1,29 @@
 //! A world: a run of a script's events through its shelves and its hosts.
-ghost use Rattle.std.specs.Prelude.{ℕ, ◌≡◌, ◌+◌, ◌<◌, [], All, None, Some, Err, IfErr, IfNone, IfOk, IfSome, OnErr, OnOk};
+ghost use Rattle.std.specs.Prelude.{ℕ, ◌≡◌, ◌+◌, ◌<◌, ◌≤◌, suc, length, [], List, All, None, Some, Err, true, IfErr, IfNone, IfOk, IfSome, OnErr, OnOk};
 ghost use Rattle.aoe_history.specs.Lawful.{IsLawful};
 ghost use Rattle.aoe_history.specs.Reading.{HasReadLaw};
 ghost use Rattle.aoe_history.specs.Setup.{IsSetup, Setup};
 ghost use Rattle.aoe_history.specs.Frames.{frames};
-ghost use Rattle.aoe_layout.specs.Layout.{setup_of};
-ghost use Rattle.aoe_run.specs.Run.{IsWithin};
-ghost use Rattle.aoe_script.specs.Rules.{event_why};
+ghost use Rattle.aoe_sim_setup.specs.Layout.{setup_of};
+ghost use Rattle.aoe_sim_setup.specs.Stations.{CanCome};
+ghost use Rattle.aoe_history.specs.Run.{IsWithin};
+ghost use Rattle.aoe_script.specs.declared.setup.Setup.{Setup as Line};
+ghost use Rattle.aoe_script.specs.Rules.{event_why, is_event};
 ghost use Rattle.aoe_transcript.specs.Print.{CanPrint};
 ghost use Rattle.aoe_world.specs.Schedule.{Comes, ComesSome};
-ghost use Rattle.aoe_world.specs.World.{IsCounted, IsRefusedAt};
+ghost use Rattle.aoe_world.specs.Plan.{Goes, Knows};
+ghost use Rattle.aoe_world.specs.World.{IsCounted, IsRefusedAt, Runs};
 
+use crate::build::Builder;
+use crate::place::Place;
+use crate::plan::{Plan, plan_of};
 use crate::refusal::WorldRefusal;
-use crate::replay::Replay;
-use aoe_base::NoMemory;
-use aoe_history::{History, read_law};
-use aoe_layout::events_law;
+use crate::sim::Sim;
+use aoe_base::{FrameNo, NoMemory};
+use aoe_history::{History, Run, read_law};
 use aoe_net::NetRefusal;
-use aoe_run::Run;
 use aoe_script::{Event, Script};
+use aoe_sim_setup::events_law;
 use aoe_transcript::lawful_histories_print;
 use std::alloc::Global;
 use std::marker::Model;
@@ -37,11 +42,36 @@ fn refusal_of(run: &Run, refusal: NetRefusal) -> WorldRefusal
     }
 }
 
+/// Runs an event line in which nothing is wrong.
+fn run(sim: &mut Sim, places: &[Place], cursor: &mut u32, event: &Event) -> Result<(), NetRefusal>
+    requires goes { Goes places.now sim.old event.now }
+    requires range { is_event event.now ≡ true }
+    requires from_one { 1 ≤ cursor.old }
+    ensures { (lines : List Line) → Knows lines places.now sim.old → CanCome lines (setup_of lines) event.now → cursor.old ≤ suc (length (frames sim.old.run.entries))
+        → Runs result lines event.now cursor.old cursor.new sim.old sim.new }
+{
+    match plan_of(sim.run.alloc(), sim, places, event) {
+        Ok(Some(Plan::One(act))) => sim.act(act),
+        Ok(Some(Plan::Pass(n))) => sim.pass(places, cursor, n),
+        Ok(Some(Plan::Skip(n))) => sim.skip(cursor, n),
+        Ok(Some(Plan::Again)) => sim.hand_over(FrameNo(*cursor - 1), places),
+        Ok(None) => Ok(()),
+        Err(NoMemory) => Err(NetRefusal::NoMemory),
+    }
+}
+
 /// A run of the events of a script, each after the one before it, through shelves with disks in
 /// memory and hosts.
 #[derive(Drop)]
 pub struct World<'a> {
-    replay: Replay<'a>,
+    script: &'a Script,
+    sim: Sim,
+
+    /// The stations in the order of their lines.
+    places: Vec<Place>,
+
+    /// The number of the frame that is passed or skipped next.
+    cursor: u32,
 
     /// How many events were stepped.
     events: u32,
@@ -56,14 +86,14 @@ impl<'a> Model for World<'a> {
     ghost Value = { Stepped };
 
     ghost view = { λ w. record {
-      lines = w.replay.script.now.setups;
-      entries = w.replay.stage.run.entries;
-      cursor = w.replay.cursor;
+      lines = w.script.now.setups;
+      entries = w.sim.run.entries;
+      cursor = w.cursor;
       events = w.events;
       refused = w.refusal;
     } };
 
-    ghost invariant = { λ w. IsWorld w.replay.script.now w.replay.places.items w.replay.stage w.replay.cursor w.events w.refusal };
+    ghost invariant = { λ w. IsWorld w.script.now w.places.items w.sim w.cursor w.events w.refusal };
 }
 
 impl<'a> World<'a> {
@@ -73,9 +103,12 @@ impl<'a> World<'a> {
         ensures new { IfOk result (λ world. world ≡ record { lines = script.now.setups; entries = []; cursor = 1; events = 0; refused = None }) }
         ensures setup { IsSetup (setup_of script.now.setups) }
     {
-        let replay = Replay::new(alloc, script)?;
+        let Builder { sim, places, .. } = Builder::new(alloc, script)?;
         Ok(World {
-            replay,
+            script,
+            sim,
+            places,
+            cursor: 1,
             events: 0,
             refusal: None,
         })
@@ -100,14 +133,7 @@ impl World<'_> {
     {
         read_law();
         lawful_histories_print();
-        self.replay.stage.run.history()
-    }
-
-    /// Why it goes no further, if it doesn't.
-    pub fn refused(&self) -> Option<WorldRefusal>
-        ensures { result ≡ self.now.refused }
-    {
-        self.refusal
+        self.sim.run.history()
     }
 
     /// Runs an event. After a refusal every step answers that refusal, and nothing more happens. The
@@ -132,15 +158,20 @@ impl World<'_> {
         if let Some(refusal) = self.refusal {
             return Err(refusal);
         }
-        let ran = self.replay.run(event);
-        let _ = self.replay.stage.run.history();
+        let ran = run(
+            &mut self.sim,
+            self.places.as_slice(),
+            &mut self.cursor,
+            event,
+        );
+        let _ = self.sim.run.history();
         match ran {
             Ok(()) => {
                 self.events += 1;
                 Ok(())
             }
             Err(refusal) => {
-                let refusal = refusal_of(&self.replay.stage.run, refusal);
+                let refusal = refusal_of(&self.sim.run, refusal);
                 self.refusal = Some(refusal);
                 Err(refusal)
             }

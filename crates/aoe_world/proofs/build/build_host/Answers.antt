@@ -1,7 +1,7 @@
 use Rattle.std.proofs.Common.{◌≤◌, ◌∙◌, ap, arith}
 use Rattle.std.specs.Prelude.{unwrap_or}
 use Rattle.aoe_initiator.specs.Host.{new_host}
-use Rattle.aoe_layout.specs.Layout.{default_dead, default_room, setup_of}
+use Rattle.aoe_sim_setup.specs.Layout.{default_dead, default_room, setup_of}
 use Rattle.aoe_world.proofs.BuildHost.{begins, device-can, host-begun, host-built, host-more, words-of}
 use Rattle.aoe_world.proofs.build.build_host.Goals as goal
 

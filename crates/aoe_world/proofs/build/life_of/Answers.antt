@@ -1,6 +1,6 @@
 use Rattle.std.proofs.Common.{sym, ap, ◌∙◌}
 use Rattle.std.specs.Prelude.{is_some}
-use Rattle.aoe_layout.specs.Layout.{life_in}
+use Rattle.aoe_sim_setup.specs.Layout.{life_in}
 use Rattle.aoe_world.proofs.BuildHost.{life-said}
 use Rattle.aoe_world.proofs.BuildLists.{find-here, find-past}
 use Rattle.aoe_world.proofs.build.life_of.Goals as goal

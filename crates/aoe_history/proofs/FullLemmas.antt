@@ -1,0 +1,17 @@
+-- A network without room.
+use Rattle.std.proofs.Common.{List}
+use Rattle.aoe_history.specs.declared.entry.Entry.{Entry}
+use Rattle.aoe_history.specs.Setup.{Setup}
+use Rattle.aoe_history.specs.Run.{MeetsFull}
+
+-- the room that a part of an act lacks, the act lacks
+pub full-more : (s : Setup) (part whole : List Entry → Type 0) (h : List Entry) → ((m : List Entry) → part m → whole m)
+    → MeetsFull s part h → MeetsFull s whole h
+full-more s part whole h more full = record {
+  entry = full.entry;
+  called_for = more _ full.called_for;
+  may_come = full.may_come;
+  bytes = full.bytes;
+  brings = full.brings;
+  full = full.full;
+}

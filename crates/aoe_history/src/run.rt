@@ -1,0 +1,234 @@
+//! The clock, the network and the history of a run.
+ghost use Rattle.std.specs.Prelude.{◌≡◌, ◌+◌, ◌<◌, ◌≤◌, ◌^◌, List, [], ◌∷◌, length, option_map, true, IfOk, IfSome, IsOkUnless, OnErr, OnOk, Err};
+ghost use Rattle.aoe_net.specs.Network.{total_bytes, IsFull};
+ghost use Rattle.aoe_history.specs.declared.entry.Entry.{Entry};
+ghost use Rattle.aoe_history.specs.declared.entry.Entry.TheVariants.{Sent, Injected, Arrived, Ticked};
+ghost use Rattle.aoe_history.specs.declared.entry.Fate.TheVariants.{Replied};
+ghost use Rattle.aoe_history.specs.Frames.{arriving, clock, frames, next_number};
+ghost use Rattle.aoe_history.specs.Run.{is_plain, network_of, with_entry, IsWithin};
+
+use crate::{Entry, Fate, History};
+use aoe_base::{FrameNo, Millis, NoMemory, TargetId, Ticket};
+use aoe_net::{FrameBytes, Net, NetRefusal};
+use aoe_script::Name;
+use aoe_target::Effect;
+use std::alloc::Global;
+use std::marker::Model;
+
+/// A run so far. Its history says everything: the clock and the network are what it says.
+#[derive(Drop)]
+pub struct Run {
+    alloc: Global,
+    life: Millis,
+    clock: Millis,
+    net: Net,
+    history: History,
+}
+
+impl Model for Run {
+    ghost use Rattle.aoe_history.specs.Run.{Carries, Recorded};
+
+    ghost Value = { Recorded };
+
+    ghost view = { λ r. record { life = r.life.0; entries = r.history } };
+
+    ghost invariant = { λ r. Carries r.life.0 r.clock.0 r.history r.net };
+}
+
+/// A copy of the bytes of a frame, for the history and for the network.
+fn twice(alloc: Global, frame: &[u8]) -> Result<(FrameBytes, FrameBytes), NetRefusal>
+    ensures both { IfOk result (λ both. (both.0 ≡ frame.now) × (both.1 ≡ frame.now)) }
+    ensures cause { IsOkUnless result NetRefusal.NoMemory }
+{
+    let Ok(bytes) = FrameBytes::of(alloc, frame) else {
+        return Err(NetRefusal::NoMemory);
+    };
+    match bytes.share() {
+        Ok(same) => Ok((bytes, same)),
+        Err(NoMemory) => Err(NetRefusal::NoMemory),
+    }
+}
+
+/// Takes back what was pushed last.
+fn take_back(history: &mut History)
+    ensures { (last : Entry) (before : List Entry) → history.old ≡ last ∷ before → history.new ≡ before }
+{
+    let _ = history.pop();
+}
+
+impl Run {
+    /// A run in which nothing happened yet. A frame can be handed over until it is older than
+    /// `life`.
+    pub fn new(alloc: Global, life: Millis) -> Run
+        ensures { result ≡ record { life = life.0; entries = [] } }
+    {
+        Run {
+            alloc,
+            life,
+            clock: Millis(0),
+            net: Net::new(alloc, life),
+            history: History::new(alloc),
+        }
+    }
+
+    /// The allocator of its history.
+    pub fn alloc(&self) -> Global {
+        self.alloc
+    }
+
+    /// What happened.
+    pub fn history(&self) -> &History
+        ensures history { result.now ≡ self.now.entries }
+        ensures room { IsWithin (frames self.now.entries) }
+    {
+        &self.history
+    }
+
+    /// How much time went by.
+    pub fn clock(&self) -> Millis
+        ensures { result.0 ≡ clock self.now.entries }
+    {
+        self.clock
+    }
+
+    /// How many frames came into the network: the number of the latest one.
+    pub fn frames(&self) -> u32
+        ensures count { result ≡ length (frames self.now.entries) }
+        ensures bound { result ≤ 200000 }
+    {
+        self.net.count()
+    }
+
+    /// How many bytes they have together.
+    pub fn total_bytes(&self) -> u64
+        ensures { result ≡ total_bytes (network_of self.now) }
+    {
+        self.net.total_bytes()
+    }
+
+    /// The frame with a number, as long as it can be handed over.
+    pub fn fetch(&self, number: FrameNo) -> Option<&[u8]>
+        ensures frame { option_map (λ frame. frame.now) result ≡ arriving self.now.life self.now.entries number.0 }
+        ensures bound { IfSome result (λ frame. length frame.now ≤ 9018) }
+    {
+        self.net.fetch(number, self.clock)
+    }
+
+    /// Records an entry that sends no frame and takes no time.
+    pub fn note(&mut self, entry: Entry) -> Result<(), NoMemory>
+        requires plain { is_plain entry ≡ true }
+        ensures ok { OnOk result (self.new ≡ with_entry self.old entry) }
+        ensures err { OnErr result (self.new ≡ self.old) }
+    {
+        self.history.push(entry)
+    }
+
+    /// Some milliseconds go by.
+    pub fn tick(&mut self, ms: u64) -> Result<(), NoMemory>
+        requires fits { clock self.old.entries + ms < 2 ^ 64 }
+        ensures ok { OnOk result (self.new ≡ with_entry self.old (Ticked ms)) }
+        ensures err { OnErr result (self.new ≡ self.old) }
+    {
+        match self.history.push(Entry::Ticked { ms }) {
+            Ok(()) => {}
+            Err(NoMemory) => return Err(NoMemory),
+        }
+        self.clock = Millis(self.clock.0 + ms);
+        Ok(())
+    }
+
+    /// Records an entry, and brings the frame that it sends into the network.
+    fn bring(&mut self, entry: Entry, frame: FrameBytes) -> Result<(), NetRefusal>
+        requires len { length frame ≤ 9018 }
+        requires frames { frames (entry ∷ self.old.entries) ≡ record { bytes = frame; birth = clock self.old.entries } ∷ frames self.old.entries }
+        requires clock { clock (entry ∷ self.old.entries) ≡ clock self.old.entries }
+        ensures ok { OnOk result (self.new ≡ with_entry self.old entry) }
+        ensures room { OnOk result (¬ IsFull (network_of self.old) frame) }
+        ensures full { result ≡ Err NetRefusal.Full → IsFull (network_of self.old) frame }
+        ensures err { OnErr result (self.new ≡ self.old) }
+    {
+        match self.history.push(entry) {
+            Ok(()) => {}
+            Err(NoMemory) => return Err(NetRefusal::NoMemory),
+        }
+        match self.net.send_shared(self.clock, frame) {
+            Ok(_) => Ok(()),
+            Err(refusal) => {
+                take_back(&mut self.history);
+                Err(refusal)
+            }
+        }
+    }
+
+    /// The number that the next frame will have.
+    fn next_number(&self) -> u64
+        ensures { result ≡ next_number self.now.entries }
+    {
+        u64::from(self.net.count()) + 1
+    }
+
+    /// A host sends a frame of a command.
+    pub fn send(&mut self, host: &Name, ticket: Ticket, frame: &[u8]) -> Result<(), NetRefusal>
+        requires len { length frame.now ≤ 9018 }
+        ensures ok { OnOk result (self.new ≡ with_entry self.old (Sent host.now ticket.0 (next_number self.old.entries) frame.now)) }
+        ensures room { OnOk result (¬ IsFull (network_of self.old) frame.now) }
+        ensures full { result ≡ Err NetRefusal.Full → IsFull (network_of self.old) frame.now }
+        ensures err { OnErr result (self.new ≡ self.old) }
+    {
+        let Ok(host) = host.clone() else {
+            return Err(NetRefusal::NoMemory);
+        };
+        let (bytes, same) = twice(self.alloc, frame)?;
+        let entry = Entry::Sent {
+            host,
+            ticket: ticket.0,
+            frame: self.next_number(),
+            bytes,
+        };
+        self.bring(entry, same)
+    }
+
+    /// A frame of no station comes into the network.
+    pub fn inject(&mut self, frame: &[u8]) -> Result<(), NetRefusal>
+        requires len { length frame.now ≤ 9018 }
+        ensures ok { OnOk result (self.new ≡ with_entry self.old (Injected (next_number self.old.entries) frame.now)) }
+        ensures room { OnOk result (¬ IsFull (network_of self.old) frame.now) }
+        ensures full { result ≡ Err NetRefusal.Full → IsFull (network_of self.old) frame.now }
+        ensures err { OnErr result (self.new ≡ self.old) }
+    {
+        let (bytes, same) = twice(self.alloc, frame)?;
+        let entry = Entry::Injected {
+            frame: self.next_number(),
+            bytes,
+        };
+        self.bring(entry, same)
+    }
+
+    /// A frame came to a target, and this is its reply.
+    pub fn reply(
+        &mut self,
+        dev: TargetId,
+        number: FrameNo,
+        effect: Effect,
+        reply: &[u8],
+    ) -> Result<(), NetRefusal>
+        requires len { length reply.now ≤ 9018 }
+        ensures ok { OnOk result (self.new ≡ with_entry self.old (Arrived dev number.0 (Replied effect (next_number self.old.entries) reply.now))) }
+        ensures room { OnOk result (¬ IsFull (network_of self.old) reply.now) }
+        ensures full { result ≡ Err NetRefusal.Full → IsFull (network_of self.old) reply.now }
+        ensures err { OnErr result (self.new ≡ self.old) }
+    {
+        let (bytes, same) = twice(self.alloc, reply)?;
+        let fate = Fate::Replied {
+            effect,
+            frame: self.next_number(),
+            bytes,
+        };
+        let entry = Entry::Arrived {
+            dev,
+            frame: u64::from(number.0),
+            fate,
+        };
+        self.bring(entry, same)
+    }
+}

@@ -1,9 +1,0 @@
-use Rattle.aoe_layout.proofs.EventLemmas.{can-come, why-parts}
-use Rattle.aoe_layout.proofs.GoodLines.{are-good}
-use Rattle.aoe_layout.proofs.laws.events_law.Goals as goal
-
-pub returns-clause-comes : goal.returns-clause-comes
-returns-clause-comes c script event is none = can-come script.setups (are-good script is) event (why-parts script.setups event none)
-
-pub returns-clause-ranges : goal.returns-clause-ranges
-returns-clause-ranges c script event none = (why-parts script.setups event none).0

@@ -1,5 +1,0 @@
-use Rattle.std.proofs.Common.{length}
-use Rattle.aoe_racks.proofs.crash.+restart.Given as goal
-
-abbrev pub decreases-restart : goal.decreases-restart
-decreases-restart l = length l.shelf.now.targets

@@ -1,0 +1,100 @@
+-- Events that come one after the other.
+use Rattle.std.proofs.Common.{◌≡◌, ◌∙◌, ◌+◌, ◌≤◌, ◌<◌, if◌then◌else◌, nat_le, Bool, true, false, ℕ, zero, suc, List, [], ◌∷◌, length, take, Some, None, refl, sym, subst, arith}
+use Rattle.std.specs.Prelude.{slice_get}
+use Rattle.std.proofs.lemmas.Bool.Decides.{nat_tests}
+use Rattle.std.proofs.lemmas.List.{take_all}
+use Rattle.aoe_history.specs.declared.entry.Entry.{Entry}
+use Rattle.aoe_history.specs.Setup.{Setup}
+use Rattle.aoe_sim_setup.specs.Layout.{setup_of}
+use Rattle.aoe_history.specs.Run.{MeetsFull}
+use Rattle.aoe_script.specs.declared.event.Event.{Event}
+use Rattle.aoe_script.specs.declared.setup.Setup.{Setup as Line}
+use Rattle.aoe_script.specs.Lines.{ScriptLines}
+use Rattle.aoe_world.specs.Schedule.{Comes, ComesSome}
+use Rattle.aoe_world.specs.declared.refusal.WorldRefusal.{WorldRefusal}
+use Rattle.aoe_world.specs.declared.refusal.WorldRefusal.TheVariants as refused
+use Rattle.aoe_world.specs.declared.refusal.WorldRefusal.TheVariants.{NetFull}
+use Rattle.aoe_world.specs.World.{IsRefusedAt, Stepped}
+use Rattle.aoe_world.specs.declared.end.ReplayEnd.TheVariants.{Limit}
+use Rattle.aoe_world.specs.declared.end.ReplayLimit.TheVariants.{Frames, FrameBytes}
+use Rattle.aoe_world.specs.Replay.{end_of, Filled, IsSound, Plays, Stops}
+
+module _ (s : Setup) (lines : List Line) where
+  plays_on : (events : List Event) (i : ℕ) (event : Event) (cursor : ℕ) (h : List Entry) (middle : ℕ) (m : List Entry) (behind : ℕ) (later : List Entry)
+      → slice_get events i ≡ Some event → Plays s lines (take i events) cursor h middle m → Comes s lines event middle m behind later → Plays s lines (take (i + 1) events) cursor h behind later
+  plays_on [] zero event cursor h middle m behind later is plays comes = absurd cc
+  plays_on [] (suc i) event cursor h middle m behind later is plays comes = absurd cc
+  plays_on (e ∷ events) zero event cursor h middle m behind later is plays comes =
+      let same : event ≡ e = cc in
+      let P : Event → Type 0 = λ x. Comes s lines x middle m behind later in
+      let Q : ℕ → Type 0 = λ k. Comes s lines e k m behind later in
+      let R : List Entry → Type 0 = λ l. Comes s lines e cursor l behind later in
+      (behind, later, subst R plays.1 (subst Q plays.0 (subst P same comes)), (refl, refl))
+  plays_on (e ∷ events) (suc i) event cursor h middle m behind later is plays comes =
+      let one : suc i + 1 ≡ suc (i + 1) = omega arith in
+      let P : ℕ → Type 0 = λ k. Plays s lines (take k (e ∷ events)) cursor h behind later in
+      subst P (sym one) (plays.0, plays.1, plays.2, plays_on events i event plays.0 plays.1 middle m behind later is plays.3 comes)
+
+-- the first so many events of a script came in this world
+pub record IsPlayed (script : ScriptLines) (i : ℕ) (world : Stepped) : Type 0 where
+  pub lines_are : world.lines ≡ script.setups
+  pub counted : world.events ≡ i
+  pub goes_on : world.refused ≡ None
+  pub plays : Plays (setup_of script.setups) script.setups (take i script.events) 1 [] world.cursor world.entries
+
+pub none_played : (script : ScriptLines) (world : Stepped) → world ≡ record { lines = script.setups; entries = []; cursor = 1; events = 0; refused = None } → IsPlayed script 0 world
+none_played script world e =
+    let P : Stepped → Type 0 = λ w. IsPlayed script 0 w in
+    subst P (sym e) record { lines_are = refl; counted = refl; goes_on = refl; plays = (refl, refl) }
+
+-- one more came
+pub one_played : (script : ScriptLines) (i : ℕ) (old new : Stepped) (event : Event) → IsPlayed script i old → slice_get script.events i ≡ Some event
+    → Comes (setup_of old.lines) old.lines event old.cursor old.entries new.cursor new.entries → new.lines ≡ old.lines → new.events ≡ old.events + 1 → new.refused ≡ None → IsPlayed script (i + 1) new
+one_played script i old new event before is comes lines counted goes =
+    let P : List Line → Type 0 = λ l. Comes (setup_of l) l event old.cursor old.entries new.cursor new.entries in
+    record {
+      lines_are = lines ∙ before.lines_are;
+      counted = omega (arith, counted, before.counted);
+      goes_on = goes;
+      plays = plays_on (setup_of script.setups) script.setups script.events i event 1 [] old.cursor old.entries new.cursor new.entries is before.plays (subst P before.lines_are comes);
+    }
+
+-- all came
+pub all_played : (script : ScriptLines) (i : ℕ) (world : Stepped) → IsPlayed script i world → length script.events ≤ i → Plays (setup_of script.setups) script.setups script.events 1 [] world.cursor world.entries
+all_played script i world played all =
+    let P : List Event → Type 0 = λ l. Plays (setup_of script.setups) script.setups l 1 [] world.cursor world.entries in
+    subst P (take_all i script.events all) played.plays
+
+-- of the next a part came
+module _ (script : ScriptLines) (i : ℕ) (old new : Stepped) (event : Event) (before : IsPlayed script i old) (is : slice_get script.events i ≡ Some event)
+    (begins : ComesSome (setup_of old.lines) old.lines event old.cursor old.entries new.entries) (lines : new.lines ≡ old.lines)
+    (sound : IsSound (setup_of new.lines) new.entries) where
+  abbrev begun : List Line → List Entry → Type 0
+  begun l = ComesSome (setup_of l) l event old.cursor old.entries
+
+  abbrev filled : MeetsFull (setup_of old.lines) (begun old.lines) new.entries → Filled script
+  filled full =
+      let P : List Line → Type 0 = λ l. begun l new.entries in
+      let F : List Line → Type 0 = λ l. MeetsFull (setup_of l) (begun l) new.entries in
+      let S : List Line → Type 0 = λ l. IsSound (setup_of l) new.entries in
+      record {
+        count = i;
+        event = event;
+        is_next = is;
+        cursor = old.cursor;
+        before = old.entries;
+        plays = before.plays;
+        entries = new.entries;
+        begins = subst P before.lines_are begins;
+        sound = subst S (lines ∙ before.lines_are) sound;
+        full = subst F before.lines_are full;
+      }
+
+  counted : (b : Bool) (frames bytes : ℕ) → nat_le 200000 frames ≡ b → IsRefusedAt (setup_of old.lines) (begun old.lines) new.entries (NetFull frames bytes)
+      → Stops (if b then Limit Frames else Limit FrameBytes) script
+  counted true frames bytes q (count, full) = let n = count.0 in let most : 200000 ≤ frames = grind (arith, nat_tests, q) in (filled full, omega (arith, n, most))
+  counted false frames bytes q (count, full) = let n = count.0 in let below : frames < 200000 = grind (arith, nat_tests, q) in (filled full, omega (arith, n, below))
+
+  pub stops : (refusal : WorldRefusal) → IsRefusedAt (setup_of old.lines) (begun old.lines) new.entries refusal → Stops (end_of refusal) script
+  stops refused.NoMemory at = tt
+  stops (NetFull frames bytes) at = counted (nat_le 200000 frames) frames bytes refl at

@@ -1,0 +1,164 @@
+-- What becomes of a script, and of the sink.
+use Rattle.std.proofs.Common.{inl, inr, ◌≡◌, ◌∙◌, ◌<◌, ◌≤◌, ℕ, List, [], ◌++◌, length, Option, Some, None, refl, sym, ap, subst, arith}
+use Rattle.std.proofs.lemmas.List.{length-append, append-nil}
+use Rattle.aoe_base.specs.Faults.{Rose}
+use Rattle.aoe_io.specs.Bytes.{Gave, IsEnded}
+use Rattle.aoe_history.specs.declared.entry.Entry.{Entry}
+use Rattle.aoe_sim_setup.specs.Layout.{setup_of}
+use Rattle.aoe_script.specs.declared.refusal.ScriptRefusal.{ScriptRefusal}
+use Rattle.aoe_script.specs.declared.setup.Setup.{Setup as Line}
+use Rattle.aoe_transcript.specs.Counts.{run_text}
+use Rattle.aoe_world.specs.World.{Stepped}
+use Rattle.aoe_script.specs.Lines.{ScriptLines, refusal, script_of}
+use Rattle.aoe_world.specs.declared.end.ReplayEnd.{ReplayEnd}
+use Rattle.aoe_world.specs.declared.end.ReplayEnd.TheVariants.{Ended, SourceFault, SinkFault, NoMemory, Script, Limit}
+use Rattle.aoe_world.specs.declared.end.ReplayLimit.TheVariants.{ScriptBytes, Events, Frames, FrameBytes}
+use Rattle.aoe_world.specs.Replay.{GaveAll, IsFaultless, IsRead, IsRefusedAs, IsSound, HasRun, LeavesSink, Played, Plays, Refuses, Replayed, Runs, Spells, Stops, Unread, Writes, text_of}
+use Rattle.aoe_world.proofs.TextLemmas.{short_none}
+
+pub left_alone : {T : Type 0} (end : ReplayEnd) (a : T) → LeavesSink end a a
+left_alone Ended a = tt
+left_alone SinkFault a = tt
+left_alone (Limit limit) a = refl
+left_alone (Script line why) a = refl
+left_alone SourceFault a = refl
+left_alone NoMemory a = refl
+
+-- ---- the run of a script
+
+pub finished : (end : ReplayEnd) (script : ScriptLines) (held held' : Option (List ℕ)) (run : Played script) → Writes end held held' (text_of script run) → Runs end script held held'
+finished Ended script held held' run writes = (run, writes)
+finished SinkFault script held held' run writes = (run, writes)
+finished NoMemory script held held' run writes = writes
+finished (Limit limit) script held held' run writes = absurd writes
+finished (Script line why) script held held' run writes = absurd writes
+finished SourceFault script held held' run writes = absurd writes
+
+-- all events of a script came in a world, and the text of its history was written
+pub finished_in : (end : ReplayEnd) (script : ScriptLines) (held held' : Option (List ℕ)) (world : Stepped) (count : ℕ) (entries : List Entry)
+    → world.lines ≡ script.setups → Plays (setup_of script.setups) script.setups script.events 1 [] world.cursor world.entries
+    → IsSound (setup_of world.lines) world.entries
+    → count ≡ length script.events → entries ≡ world.entries → Writes end held held' (run_text count entries) → Runs end script held held'
+finished_in end script held held' world count entries lines plays sound counted same writes =
+    let P : List Line → Type 0 = λ l. IsSound (setup_of l) world.entries in
+    let R : ℕ → Type 0 = λ k. Writes end held held' (run_text k world.entries) in
+    let S : List Entry → Type 0 = λ l. Writes end held held' (run_text count l) in
+    finished end script held held' record {
+      entries = world.entries;
+      cursor = world.cursor;
+      plays = plays;
+      sound = subst P lines sound;
+    } (subst R counted (subst S same writes))
+
+pub stopped : (end : ReplayEnd) (script : ScriptLines) (held : Option (List ℕ)) → Stops end script → Runs end script held held
+stopped NoMemory script held stops = refl
+stopped (Limit Frames) script held stops = (stops, refl)
+stopped (Limit FrameBytes) script held stops = (stops, refl)
+stopped (Limit ScriptBytes) script held stops = stops
+stopped (Limit Events) script held stops = stops
+stopped (Script line why) script held stops = stops
+stopped Ended script held stops = absurd stops
+stopped SourceFault script held stops = stops
+stopped SinkFault script held stops = absurd stops
+
+pub stops_no_sink : (end : ReplayEnd) (script : ScriptLines) → Stops end script → end ≡ SinkFault → ⊥
+stops_no_sink end script stops e = let P : ReplayEnd → Type 0 = λ x. Stops x script in subst P e stops
+
+-- ---- a replay
+
+module _ (left left' held : Option (List ℕ)) where
+  pub unread : (end : ReplayEnd) → Unread end left left' → Replayed end left left' held held
+  unread SourceFault u = (u, refl)
+  unread NoMemory u = (u, refl)
+  unread (Limit limit) u = absurd u
+  unread (Script line why) u = absurd u
+  unread Ended u = absurd u
+  unread SinkFault u = absurd u
+
+  pub unread_no_sink : (end : ReplayEnd) → Unread end left left' → end ≡ SinkFault → ⊥
+  unread_no_sink end u e = let P : ReplayEnd → Type 0 = λ x. Unread x left left' in subst P e u
+
+module _ (left left' : Option (List ℕ)) (text : List ℕ) (read : IsRead left left' text) where
+  gave_all : length text ≤ 16777216 → GaveAll left left' text
+  gave_all short = record { gave = read.gave; ended = read.ended short; short = short }
+
+  pub refused : (end : ReplayEnd) (held : Option (List ℕ)) → IsRefusedAs end text → Replayed end left left' held held
+  refused NoMemory held r = ((text, read.gave), refl)
+  refused (Script line why) held r = ((text, gave_all r.0, r.1), refl)
+  refused (Limit Events) held r = ((text, gave_all r.0, r.1), refl)
+  refused (Limit ScriptBytes) held r = (record { text = text; gave = read.gave; long = r; within = read.within }, refl)
+  refused (Limit Frames) held r = absurd r
+  refused (Limit FrameBytes) held r = absurd r
+  refused Ended held r = absurd r
+  refused SourceFault held r = absurd r
+  refused SinkFault held r = absurd r
+
+  module _ (held held' : Option (List ℕ)) (good : refusal text ≡ None) where
+    spelled : (end : ReplayEnd) → Runs end (script_of text) held held' → Spells end left left' held held'
+    spelled end runs = (text, gave_all (short_none text good), good, runs)
+
+    ran_script : (end : ReplayEnd) → Runs end (script_of text) held held' → Replayed end left left' held held'
+    ran_script Ended runs = spelled Ended runs
+    ran_script SinkFault runs = spelled SinkFault runs
+    ran_script (Limit Frames) runs = spelled (Limit Frames) runs
+    ran_script (Limit FrameBytes) runs = spelled (Limit FrameBytes) runs
+    ran_script NoMemory runs = ((text, read.gave), runs)
+    ran_script (Limit ScriptBytes) runs = absurd runs
+    ran_script (Limit Events) runs = absurd runs
+    ran_script (Script line why) runs = absurd runs
+    ran_script SourceFault runs = absurd runs
+
+    pub ran : (end : ReplayEnd) (script : ScriptLines) → script ≡ script_of text → Runs end script held held' → Replayed end left left' held held'
+    ran end script is runs = let P : ScriptLines → Type 0 = λ x. Runs end x held held' in ran_script end (subst P is runs)
+
+pub refused_no_source : (end : ReplayEnd) (text : List ℕ) → IsRefusedAs end text → end ≡ SourceFault → ⊥
+refused_no_source end text r e = let P : ReplayEnd → Type 0 = λ x. IsRefusedAs x text in subst P e r
+
+pub refused_no_sink : (end : ReplayEnd) (text : List ℕ) → IsRefusedAs end text → end ≡ SinkFault → ⊥
+refused_no_sink end text r e = let P : ReplayEnd → Type 0 = λ x. IsRefusedAs x text in subst P e r
+
+pub runs_no_source : (end : ReplayEnd) (script : ScriptLines) (held held' : Option (List ℕ)) → Runs end script held held' → end ≡ SourceFault → ⊥
+runs_no_source end script held held' r e = let P : ReplayEnd → Type 0 = λ x. Runs x script held held' in subst P e r
+
+-- ---- what is refused is refused for its text alone
+
+-- a source that tells its bytes gave a front of them
+front_of : (left left' : Option (List ℕ)) (bytes text : List ℕ) → left ≡ Some bytes → Gave left left' text → (rest : List ℕ) × (left' ≡ Some rest) × (bytes ≡ text ++ rest)
+front_of left None bytes text is gave = absurd (let both : Some bytes ≡ None = sym is ∙ gave in cc)
+front_of left (Some rest) bytes text is gave = (rest, refl, (let both : Some bytes ≡ Some (text ++ rest) = sym is ∙ gave in cc))
+
+-- to the end it gave all of them
+all_of : (left left' : Option (List ℕ)) (bytes text : List ℕ) → left ≡ Some bytes → GaveAll left left' text → bytes ≡ text
+all_of left left' bytes text is all =
+    let f = front_of left left' bytes text is all.gave in
+    let none : f.0 ≡ [] = subst IsEnded f.1 all.ended in
+    f.2 ∙ ap (λ (r : List ℕ). text ++ r) none ∙ append-nil text
+
+no_refusal : (left left' : Option (List ℕ)) (bytes : List ℕ) (cause : ScriptRefusal) → left ≡ Some bytes → refusal bytes ≡ None → Refuses left left' cause → ⊥
+no_refusal left left' bytes cause is good r =
+    let same : refusal bytes ≡ refusal r.0 = ap refusal (all_of left left' bytes r.0 is r.1) in
+    let both : None ≡ Some cause = sym good ∙ same ∙ r.2 in
+    cc
+
+no_fault : (before after : ℕ) → IsFaultless before after → Rose before after → ⊥
+no_fault before after f rose = let more : before < after = rose f.room in omega (arith, f.same, more)
+
+module _ (left left' held held' : Option (List ℕ)) (bytes : List ℕ) (sources sources' sinks sinks' : ℕ) (is : left ≡ Some bytes) (good : refusal bytes ≡ None)
+    (source : IsFaultless sources sources') (sink : IsFaultless sinks sinks') where
+  -- the text that it gave to its end is all of its bytes
+  stops_of : (end : ReplayEnd) (text : List ℕ) → GaveAll left left' text → Stops end (script_of text) → Stops end (script_of bytes)
+  stops_of end text gave stops = subst (λ (t : List ℕ). Stops end (script_of t)) (sym (all_of left left' bytes text is gave)) stops
+
+  pub goes_through : (end : ReplayEnd) → Replayed end left left' held held' → (end ≡ SourceFault → Rose sources sources') → (end ≡ SinkFault → Rose sinks sinks') → HasRun end (script_of bytes)
+  goes_through Ended r a b = inl refl
+  goes_through NoMemory r a b = inr tt
+  goes_through (Limit Frames) r a b = inr (stops_of (Limit Frames) r.0 r.1 r.3.0)
+  goes_through (Limit FrameBytes) r a b = inr (stops_of (Limit FrameBytes) r.0 r.1 r.3.0)
+  goes_through (Limit ScriptBytes) r a b = absurd (
+      let more = r.0 in
+      let f = front_of left left' bytes more.text is more.gave in
+      omega (arith, short_none bytes good, more.long, ap length f.2, length-append more.text f.0))
+  goes_through (Limit Events) r a b = absurd (no_refusal left left' bytes _ is good r.0)
+  goes_through (Script line why) r a b = absurd (no_refusal left left' bytes _ is good r.0)
+  goes_through SourceFault r a b = absurd (no_fault sources sources' source (a refl))
+  goes_through SinkFault r a b = absurd (no_fault sinks sinks' sink (b refl))

@@ -1,0 +1,185 @@
+-- What a replay takes, gives and leaves, by how it ended.
+use Rattle.std.specs.Prelude.{ℕ, ◌+◌, ◌-◌, ◌^◌, ◌<◌, ◌≤◌, ◌≡◌, ◌⊎◌, if◌then◌else◌, nat_le, List, [], ◌∷◌, length, take, slice_get, Option, Some, None}
+use Rattle.aoe_io.specs.Bytes.{Gave, GaveSome, Took, TookSome, IsEnded}
+use Rattle.aoe_history.specs.declared.entry.Entry.{Entry}
+use Rattle.aoe_history.specs.Frames.{frames}
+use Rattle.aoe_history.specs.Lawful.{IsLawful}
+use Rattle.aoe_history.specs.Reading.{HasReadLaw}
+use Rattle.aoe_history.specs.Setup.{Setup}
+use Rattle.aoe_sim_setup.specs.Layout.{setup_of}
+use Rattle.aoe_history.specs.Run.{IsWithin, MeetsFull}
+use Rattle.aoe_script.specs.declared.event.Event.{Event}
+use Rattle.aoe_script.specs.declared.refusal.ScriptRefusal.{ScriptRefusal}
+use Rattle.aoe_script.specs.declared.refusal.ScriptRefusal.TheVariants.{BadLine, TooMany}
+use Rattle.aoe_script.specs.declared.setup.Setup.{Setup as Line}
+use Rattle.aoe_script.specs.Lines.{ScriptLines, refusal, script_of}
+use Rattle.aoe_transcript.specs.Counts.{run_text}
+use Rattle.aoe_world.specs.declared.refusal.WorldRefusal.{WorldRefusal}
+use Rattle.aoe_world.specs.declared.refusal.WorldRefusal.TheVariants as refused
+use Rattle.aoe_world.specs.Schedule.{Comes, ComesSome}
+use Rattle.aoe_world.specs.declared.end.ReplayEnd.{ReplayEnd}
+use Rattle.aoe_world.specs.declared.end.ReplayEnd.TheVariants.{Ended, SourceFault, SinkFault, NoMemory, Script, Limit}
+use Rattle.aoe_world.specs.declared.end.ReplayLimit.TheVariants.{ScriptBytes, Events, Frames, FrameBytes}
+
+-- ---- events
+
+-- the events came one after the other from a cursor and a history on: the cursor and the history behind them
+abbrev pub Plays : Setup → List Line → List Event → ℕ → List Entry → ℕ → List Entry → Type 0
+Plays s lines [] cursor h behind m = (behind ≡ cursor) × (m ≡ h)
+Plays s lines (event ∷ events) cursor h behind m =
+    (next_cursor : ℕ) × (next_h : List Entry) × Comes s lines event cursor h next_cursor next_h × Plays s lines events next_cursor next_h behind m
+
+-- a history that is lawful, in which what is read is what was written, and whose frames a network has room for
+pub record IsSound (s : Setup) (h : List Entry) : Type 0 where
+  pub lawful : IsLawful s h
+  pub reading : HasReadLaw s h
+  pub room : IsWithin (frames h)
+
+-- all events of a script came, from an empty history and the first frame on
+pub record Played (script : ScriptLines) : Type 0 where
+  pub entries : List Entry
+  pub cursor : ℕ
+  pub plays : Plays (setup_of script.setups) script.setups script.events 1 [] cursor entries
+  pub sound : IsSound (setup_of script.setups) entries
+
+-- the first so many came and of the next a part, and there was no room for the frame that this one calls for next
+pub record Filled (script : ScriptLines) : Type 0 where
+  pub count : ℕ
+  pub event : Event
+  pub is_next : slice_get script.events count ≡ Some event
+  pub cursor : ℕ
+  pub before : List Entry
+  pub plays : Plays (setup_of script.setups) script.setups (take count script.events) 1 [] cursor before
+  pub entries : List Entry
+  pub begins : ComesSome (setup_of script.setups) script.setups event cursor before entries
+  pub sound : IsSound (setup_of script.setups) entries
+  pub full : MeetsFull (setup_of script.setups) (ComesSome (setup_of script.setups) script.setups event cursor before) entries
+
+-- how a script ends whose events didn't all come: there was no memory, or no room for a frame that it calls for
+abbrev pub Stops : ReplayEnd → ScriptLines → Type 0
+Stops NoMemory script = Unit {0}
+Stops (Limit Frames) script = (run : Filled script) × (200000 ≤ length (frames run.entries))
+Stops (Limit FrameBytes) script = (run : Filled script) × (length (frames run.entries) < 200000)
+Stops (Limit ScriptBytes) script = ⊥
+Stops (Limit Events) script = ⊥
+Stops (Script line why) script = ⊥
+Stops Ended script = ⊥
+Stops SourceFault script = ⊥
+Stops SinkFault script = ⊥
+
+-- ---- the run of a script
+
+-- the text of a run
+abbrev pub text_of : (script : ScriptLines) → Played script → List ℕ
+text_of script run = run_text (length script.events) run.entries
+
+-- what became of a script, and what the sink took: the whole text at the end, a front of it where the sink failed, and else nothing
+abbrev pub Runs : ReplayEnd → ScriptLines → Option (List ℕ) → Option (List ℕ) → Type 0
+Runs Ended script held held' = (run : Played script) × Took held held' (text_of script run)
+Runs SinkFault script held held' = (run : Played script) × TookSome held held' (text_of script run)
+Runs NoMemory script held held' = held' ≡ held
+Runs (Limit Frames) script held held' = Stops (Limit Frames) script × (held' ≡ held)
+Runs (Limit FrameBytes) script held held' = Stops (Limit FrameBytes) script × (held' ≡ held)
+Runs (Limit ScriptBytes) script held held' = ⊥
+Runs (Limit Events) script held held' = ⊥
+Runs (Script line why) script held held' = ⊥
+Runs SourceFault script held held' = ⊥
+
+-- ---- the text of a script
+
+-- the source gave this text to its end
+pub record GaveAll (left left' : Option (List ℕ)) (text : List ℕ) : Type 0 where
+  pub gave : Gave left left' text
+  pub ended : IsEnded left'
+  pub short : length text ≤ 16777216
+
+-- it gave more bytes than a script has, and no more than one read (65,536 bytes) behind that
+pub record GaveMore (left left' : Option (List ℕ)) : Type 0 where
+  pub text : List ℕ
+  pub gave : Gave left left' text
+  pub long : 16777216 < length text
+  pub within : length text ≤ 16777216 + 65536
+
+-- its text to its end is refused for this
+abbrev pub Refuses : Option (List ℕ) → Option (List ℕ) → ScriptRefusal → Type 0
+Refuses left left' cause = (text : List ℕ) × GaveAll left left' text × (refusal text ≡ Some cause)
+
+-- its text to its end spells a script, which had this end
+abbrev pub Spells : ReplayEnd → Option (List ℕ) → Option (List ℕ) → Option (List ℕ) → Option (List ℕ) → Type 0
+Spells end left left' held held' =
+    (text : List ℕ) × GaveAll left left' text × (refusal text ≡ None) × Runs end (script_of text) held held'
+
+-- ---- a replay
+
+abbrev pub Replayed : ReplayEnd → Option (List ℕ) → Option (List ℕ) → Option (List ℕ) → Option (List ℕ) → Type 0
+Replayed Ended left left' held held' = Spells Ended left left' held held'
+Replayed SinkFault left left' held held' = Spells SinkFault left left' held held'
+Replayed (Limit Frames) left left' held held' = Spells (Limit Frames) left left' held held'
+Replayed (Limit FrameBytes) left left' held held' = Spells (Limit FrameBytes) left left' held held'
+Replayed (Limit ScriptBytes) left left' held held' = GaveMore left left' × (held' ≡ held)
+Replayed (Limit Events) left left' held held' = Refuses left left' TooMany × (held' ≡ held)
+Replayed (Script line why) left left' held held' = Refuses left left' (BadLine line why) × (held' ≡ held)
+Replayed SourceFault left left' held held' = GaveSome left left' × (held' ≡ held)
+Replayed NoMemory left left' held held' = GaveSome left left' × (held' ≡ held)
+
+-- but at the end and where it failed, the sink is as it was
+abbrev pub LeavesSink : {T : Type 0} → ReplayEnd → T → T → Type 0
+LeavesSink Ended before after = Unit {0}
+LeavesSink SinkFault before after = Unit {0}
+LeavesSink (Limit limit) before after = after ≡ before
+LeavesSink (Script line why) before after = after ≡ before
+LeavesSink SourceFault before after = after ≡ before
+LeavesSink NoMemory before after = after ≡ before
+
+-- a count of faults that didn't rise, where it isn't at its type's end
+pub record IsFaultless (before after : ℕ) : Type 0 where
+  pub room : before < 2 ^ 64 - 1
+  pub same : after ≡ before
+
+-- How a script ends that isn't refused, where neither source nor sink fails: its events all came, or there was no memory or
+-- no room. So a script of which no run meets a limit ends, where there is memory.
+abbrev pub HasRun : ReplayEnd → ScriptLines → Type 0
+HasRun end script = (end ≡ Ended) ⊎ Stops end script
+
+-- ---- steps of a replay
+
+-- why no text came
+abbrev pub Unread : ReplayEnd → Option (List ℕ) → Option (List ℕ) → Type 0
+Unread SourceFault left left' = GaveSome left left'
+Unread NoMemory left left' = GaveSome left left'
+Unread (Limit limit) left left' = ⊥
+Unread (Script line why) left left' = ⊥
+Unread Ended left left' = ⊥
+Unread SinkFault left left' = ⊥
+
+-- what was read of a source: all of it where that isn't more than a script has
+pub record IsRead (left left' : Option (List ℕ)) (text : List ℕ) : Type 0 where
+  pub gave : Gave left left' text
+  pub ended : length text ≤ 16777216 → IsEnded left'
+  pub within : length text ≤ 16777216 + 65536
+
+-- why a text spells no script
+abbrev pub IsRefusedAs : ReplayEnd → List ℕ → Type 0
+IsRefusedAs NoMemory text = Unit {0}
+IsRefusedAs (Script line why) text = (length text ≤ 16777216) × (refusal text ≡ Some (BadLine line why))
+IsRefusedAs (Limit Events) text = (length text ≤ 16777216) × (refusal text ≡ Some TooMany)
+IsRefusedAs (Limit ScriptBytes) text = 16777216 < length text
+IsRefusedAs (Limit Frames) text = ⊥
+IsRefusedAs (Limit FrameBytes) text = ⊥
+IsRefusedAs Ended text = ⊥
+IsRefusedAs SourceFault text = ⊥
+IsRefusedAs SinkFault text = ⊥
+
+-- what the sink took of a text
+abbrev pub Writes : ReplayEnd → Option (List ℕ) → Option (List ℕ) → List ℕ → Type 0
+Writes Ended held held' text = Took held held' text
+Writes SinkFault held held' text = TookSome held held' text
+Writes NoMemory held held' text = held' ≡ held
+Writes (Limit limit) held held' text = ⊥
+Writes (Script line why) held held' text = ⊥
+Writes SourceFault held held' text = ⊥
+
+-- how a replay ends whose world goes no further
+abbrev pub end_of : WorldRefusal → ReplayEnd
+end_of refused.NoMemory = NoMemory
+end_of (refused.NetFull frames bytes) = if nat_le 200000 frames then Limit Frames else Limit FrameBytes
