@@ -1,12 +1,12 @@
 -- The best of a list in an order.
-use Rattle.std.proofs.Common.{ℕ, ◌≡◌, ◌-◌, ◌<◌, ◌≤◌, ◌&&◌, not, Bool, true, false, List, [], ◌∷◌, Option, Some, None, ◌⊎◌, inl, inr, refl, sym, subst, ◌∙◌, arith, nat_eq, nat_lt, nat_le}
+use Rattle.std.proofs.Common.{ℕ, ◌≡◌, ◌-◌, ◌&&◌, not, Bool, true, false, List, [], ◌∷◌, Option, Some, None, ◌⊎◌, inl, inr, refl, sym, subst, ◌∙◌, arith, nat_le}
 use Rattle.std.specs.Prelude.{option_map, Contains, All, IfNone, IfSome}
-use Rattle.std.proofs.lemmas.Bool.{and_cases, and_left, and_parts, and_right, cases_eq, eqb-false, eqb-true, not-true, or_cases, or_from, le-ltb, ltb-true, ltb-false, ne_eqb, or_parts, cases_Bool}
+use Rattle.std.proofs.lemmas.Bool.{and_parts, not-true, le-ltb, ltb-true, ltb-false, cases_Bool}
 use Rattle.std.proofs.lemmas.List.Elements.{All-cons, All-filter, All-nil}
 use Rattle.slab.proofs.SlabLemmas.{Contains-cons}
 use Rattle.aoe_base.specs.declared.counted.Ticket.{Ticket}
 use Rattle.aoe_flight.specs.declared.outstanding.Outstanding.{Outstanding}
-use Rattle.aoe_flight.specs.Outstanding.{best, deadline, is_better, is_due, is_expired, is_over, live, lower, precedes, IsFirst}
+use Rattle.aoe_flight.specs.Outstanding.{best, is_better, is_expired, is_over, live, lower, IsFirst}
 use Rattle.aoe_flight.proofs.LiveLemmas.{Contains-live}
 
 pub record IsOrder (before : Outstanding → Outstanding → Bool) : Type 0 where
@@ -19,49 +19,6 @@ lower-order = record {
   same = λ a. le-ltb a.ticket.0 a.ticket.0 (omega arith);
   past = λ a b c is out. le-ltb b.ticket.0 c.ticket.0 (omega (arith, ltb-true a.ticket.0 b.ticket.0 is, ltb-false a.ticket.0 c.ticket.0 out));
   neither = λ a b c first second. le-ltb a.ticket.0 c.ticket.0 (omega (arith, ltb-false a.ticket.0 b.ticket.0 first, ltb-false b.ticket.0 c.ticket.0 second));
-}
-
-precedes-false : (a b : Outstanding) → precedes a b ≡ false → (deadline b ≤ deadline a) × (deadline a ≡ deadline b → b.ticket.0 ≤ a.ticket.0)
-precedes-false a b out =
-    let parts = or_parts (nat_lt (deadline a) (deadline b)) (nat_eq (deadline a) (deadline b) && nat_lt a.ticket.0 b.ticket.0) out in (
-      ltb-false (deadline a) (deadline b) parts.0,
-      λ same. elim (and_cases (nat_eq (deadline a) (deadline b)) (nat_lt a.ticket.0 b.ticket.0) parts.1) [
-        | inl other ↦ absurd (eqb-false (deadline a) (deadline b) other same)
-        | inr higher ↦ ltb-false a.ticket.0 b.ticket.0 higher
-      ],
-    )
-
-precedes-from : (a b : Outstanding) → deadline b ≤ deadline a → (deadline a ≡ deadline b → b.ticket.0 ≤ a.ticket.0) → precedes a b ≡ false
-precedes-from a b later higher =
-    or_from (nat_lt (deadline a) (deadline b)) (nat_eq (deadline a) (deadline b) && nat_lt a.ticket.0 b.ticket.0) (le-ltb (deadline a) (deadline b) later)
-    (elim (cases_eq (deadline a) (deadline b)) [
-      | inl same ↦ and_right (nat_eq (deadline a) (deadline b)) (nat_lt a.ticket.0 b.ticket.0) (le-ltb a.ticket.0 b.ticket.0 (higher same))
-      | inr other ↦ and_left (nat_eq (deadline a) (deadline b)) (nat_lt a.ticket.0 b.ticket.0) (ne_eqb (deadline a) (deadline b) other)
-    ])
-
-precedes-true : (a b : Outstanding) → precedes a b ≡ true → (deadline a < deadline b) ⊎ ((deadline a ≡ deadline b) × (a.ticket.0 < b.ticket.0))
-precedes-true a b is = elim (or_cases (nat_lt (deadline a) (deadline b)) (nat_eq (deadline a) (deadline b) && nat_lt a.ticket.0 b.ticket.0) is) [
-  | inl earlier ↦ inl (ltb-true (deadline a) (deadline b) earlier)
-  | inr both ↦
-      let parts = and_parts (nat_eq (deadline a) (deadline b)) (nat_lt a.ticket.0 b.ticket.0) both in
-      inr (eqb-true (deadline a) (deadline b) parts.0, ltb-true a.ticket.0 b.ticket.0 parts.1)
-]
-
-pub precedes-order : IsOrder precedes
-precedes-order = record {
-  same = λ a. precedes-from a a (omega arith) (λ _. omega arith);
-  past = λ a b c is out.
-      let after = precedes-false a c out in
-      elim (precedes-true a b is) [
-        | inl earlier ↦ precedes-from b c (omega (arith, earlier, after.0)) (λ same. absurd (omega (arith, earlier, after.0, same)))
-        | inr tied ↦ precedes-from b c (omega (arith, tied.0, after.0)) (λ same. omega (arith, tied.1, after.1 (tied.0 ∙ same)))
-      ];
-  neither = λ a b c first second.
-      let one = precedes-false a b first in
-      let two = precedes-false b c second in
-      precedes-from a c (omega (arith, one.0, two.0)) (λ same.
-      let tied : deadline a ≡ deadline b = omega (arith, one.0, two.0, same) in
-      omega (arith, one.1 tied, two.1 (sym tied ∙ same)));
 }
 
 -- what the best of a list and of the best so far has
@@ -168,9 +125,6 @@ none-live test before rest latest commands None is = at (best test before None c
     at : (o : Option Outstanding) → best test before None commands ≡ o → None ≡ option_map (λ c. c.ticket) o → All (λ c. test c ≡ false) (live rest latest commands)
     at (Some c) found named = absurd cc
     at None found named = All-filter (λ (d : Outstanding). not (is_over rest latest d)) (λ c. test c ≡ false) commands (best-none test before commands None found).1
-
-pub due-flies : (now : ℕ) (c : Outstanding) → is_due now c ≡ true → c.finished ≡ false
-due-flies now c due = not-true c.finished (and_parts (not c.finished) (nat_le c.wait.0 (now - c.flying.last.0)) due).0
 
 pub expired-flies : (dead now : ℕ) (c : Outstanding) → is_expired dead now c ≡ true → c.finished ≡ false
 expired-flies dead now c expired = not-true c.finished (and_parts (not c.finished) (nat_le dead (now - c.flying.first.0)) expired).0

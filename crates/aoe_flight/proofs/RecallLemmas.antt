@@ -1,40 +1,19 @@
 -- What a table says of all commands that were sent, of which it has those that fly or rest.
-use Rattle.std.proofs.Common.{zero-add, nat_lt, ◌-◌, ℕ, ◌≡◌, ◌+◌, ◌<◌, ◌≤◌, ◌&&◌, cond, not, Bool, true, false, List, [], ◌∷◌, length, map, Option, Some, None, inl, inr, refl, sym, ap, subst, ◌∙◌, arith, nat_eq}
+use Rattle.std.proofs.Common.{nat_lt, ◌-◌, ℕ, ◌≡◌, ◌<◌, ◌≤◌, ◌&&◌, cond, not, Bool, true, false, List, [], ◌∷◌, length, map, Option, Some, None, inl, inr, refl, sym, ap, subst, ◌∙◌, arith, nat_eq}
 use Rattle.std.specs.List.{count_by, filter, find, list_any}
 use Rattle.std.specs.List.Sorted.{IsPermutation}
 use Rattle.std.specs.Prelude.{option_map, All, Contains, IfNone, IfSome}
 use Rattle.std.proofs.lemmas.Bool.{and_parts, eq-eqb, eqb-true, not-true, or_parts}
 use Rattle.std.proofs.lemmas.List.Elements.{All-cons, All-head, All-nil, All-tail, All-weaker}
 use Rattle.std.proofs.lemmas.List.Sorted.{sum_by-IsPermutation}
-use Rattle.std.proofs.lemmas.List.Sums.{sum_by-cons}
 use Rattle.slab.proofs.SlabLemmas.{Contains-cons, Contains-cons_cases}
 use Rattle.aoe_base.specs.declared.counted.Ticket.{Ticket}
 use Rattle.aoe_flight.specs.declared.outstanding.Flying.{Flying}
 use Rattle.aoe_flight.specs.declared.outstanding.Outstanding.{Outstanding}
 use Rattle.aoe_flight.specs.FlightTable.{after_change, at_time, live_at, FlightTable, Recalls, SameCommands}
 use Rattle.aoe_flight.specs.Outstanding.{change_of, flies_with, is_over, is_taken, has_tag, live, tag_count, IsFirst}
+use Rattle.aoe_flight.proofs.CountLemmas.{all-none, count-cons, count-filter, count-map, count-yes, counted-some, none-all, some-counted}
 use Rattle.aoe_flight.proofs.LiveLemmas.{live-changed, live-live, Contains-live}
-
-pub count-cons : (test : Outstanding → Bool) (x : Outstanding) (xs : List Outstanding) → count_by test (x ∷ xs) ≡ cond (test x) 1 0 + count_by test xs
-count-cons test x xs = sum_by-cons (λ (y : Outstanding). cond (test y) 1 0) x xs
-
-count-yes : (test : Outstanding → Bool) (x : Outstanding) (xs : List Outstanding) → test x ≡ true → count_by test (x ∷ xs) ≡ 1 + count_by test xs
-count-yes test x xs is = count-cons test x xs ∙ rw is refl
-
-count-no : (test : Outstanding → Bool) (x : Outstanding) (xs : List Outstanding) → test x ≡ false → count_by test (x ∷ xs) ≡ count_by test xs
-count-no test x xs is = count-cons test x xs ∙ rw is (zero-add (count_by test xs))
-
-count-filter : (test p : Outstanding → Bool) (xs : List Outstanding) → count_by test (filter p xs) ≡ count_by (λ x. p x && test x) xs
-count-filter test p [] = refl
-count-filter test p (x ∷ xs) = at (p x) refl (count-filter test p xs)
-  where
-    at : (b : Bool) → p x ≡ b → count_by test (filter p xs) ≡ count_by (λ y. p y && test y) xs → count_by test (cond b (x ∷ filter p xs) (filter p xs)) ≡ count_by (λ y. p y && test y) (x ∷ xs)
-    at true is same = count-cons test x (filter p xs) ∙ rw same (sym (count-cons (λ y. p y && test y) x xs ∙ rw is refl))
-    at false is same = same ∙ sym (count-no (λ y. p y && test y) x xs (rw is refl))
-
-count-map : (test : Outstanding → Bool) (f : Outstanding → Outstanding) (xs : List Outstanding) → count_by test (map f xs) ≡ count_by (λ x. test (f x)) xs
-count-map test f [] = refl
-count-map test f (x ∷ xs) = count-cons test (f x) (map f xs) ∙ rw (count-map test f xs) (sym (count-cons (λ y. test (f y)) x xs))
 
 pub same-filter : (p : Outstanding → Bool) (xs ys : List Outstanding) → SameCommands xs ys → SameCommands (filter p xs) (filter p ys)
 same-filter p xs ys same test = count-filter test p xs ∙ same (λ x. p x && test x) ∙ sym (count-filter test p ys)
@@ -48,39 +27,8 @@ same-cons x xs ys same test = count-cons test x xs ∙ rw (same test) (sym (coun
 pub same-permutation : (xs ys : List Outstanding) → IsPermutation xs ys → SameCommands ys xs
 same-permutation xs ys is test = sum_by-IsPermutation (λ (y : Outstanding). cond (test y) 1 0) xs ys is
 
--- all pass or none, by the count
-all-none : (test : Outstanding → Bool) (xs : List Outstanding) → All (λ c. test c ≡ false) xs → count_by test xs ≡ 0
-all-none test [] all = refl
-all-none test (x ∷ xs) all =
-    count-no test x xs (All-head (λ c. test c ≡ false) x xs all) ∙ all-none test xs (All-tail (λ c. test c ≡ false) x xs all)
-
-none-all : (test : Outstanding → Bool) (xs : List Outstanding) → count_by test xs ≡ 0 → All (λ c. test c ≡ false) xs
-none-all test [] none = All-nil (λ c. test c ≡ false)
-none-all test (x ∷ xs) none = at (test x) refl (none-all test xs)
-  where
-    at : (b : Bool) → test x ≡ b → (count_by test xs ≡ 0 → All (λ c. test c ≡ false) xs) → All (λ c. test c ≡ false) (x ∷ xs)
-    at true is rest = absurd (omega (arith, count-yes test x xs is, none))
-    at false is rest = All-cons (λ c. test c ≡ false) x xs is (rest (sym (count-no test x xs is) ∙ none))
-
 pub all-same : (test : Outstanding → Bool) (xs ys : List Outstanding) → SameCommands xs ys → All (λ c. test c ≡ false) xs → All (λ c. test c ≡ false) ys
 all-same test xs ys same all = none-all test ys (sym (same test) ∙ all-none test xs all)
-
-some-counted : (test : Outstanding → Bool) (xs : List Outstanding) (c : Outstanding) → Contains xs c → test c ≡ true → 0 < count_by test xs
-some-counted test [] c there passes = absurd (omega (arith, there.1))
-some-counted test (x ∷ xs) c there passes = elim (Contains-cons_cases x c xs there) [
-  | inl same ↦ omega (arith, count-yes test x xs (ap test same ∙ passes))
-  | inr behind ↦ omega (arith, count-cons test x xs, some-counted test xs c behind passes)
-]
-
-counted-some : (test : Outstanding → Bool) (xs : List Outstanding) → 0 < count_by test xs → (c : Outstanding) × Contains xs c × (test c ≡ true)
-counted-some test [] some = absurd (omega (arith, some))
-counted-some test (x ∷ xs) some = at (test x) refl (counted-some test xs)
-  where
-    at : (b : Bool) → test x ≡ b → (0 < count_by test xs → (c : Outstanding) × Contains xs c × (test c ≡ true)) → (c : Outstanding) × Contains (x ∷ xs) c × (test c ≡ true)
-    at true is rest = (x, (0, omega arith, refl), is)
-    at false is rest =
-        let behind = rest (omega (arith, some, count-no test x xs is)) in
-        (behind.0, Contains-cons x behind.0 xs behind.1, behind.2)
 
 -- a test that one command alone passes
 both : Bool → Bool → Bool

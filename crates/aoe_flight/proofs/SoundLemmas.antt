@@ -121,7 +121,7 @@ flies-new ticket c commands after is flies =
 abbrev pub table_of : ℕ → ℕ → ℕ → ℕ → ℕ → List Outstanding → FlightTable
 table_of room rest dead latest last_tag commands = record { room = room; rest = rest; dead = dead; latest = latest; last_tag = last_tag; commands = live rest latest commands }
 
-time-of : (room rest dead latest last_tag now : ℕ) (commands : List Outstanding) (table : FlightTable) → table_of room rest dead latest last_tag commands ≡ table → table.latest ≤ now → latest ≤ now
+pub time-of : (room rest dead latest last_tag now : ℕ) (commands : List Outstanding) (table : FlightTable) → table_of room rest dead latest last_tag commands ≡ table → table.latest ≤ now → latest ≤ now
 time-of room rest dead latest last_tag now commands table is later =
     let P : FlightTable → Type 0 = λ t. t.latest ≤ now in
     subst P (sym is) later

@@ -1,2 +1,3 @@
 pub mod Outstanding
 pub mod FlightTable
+pub mod Deadlines

@@ -1,17 +1,19 @@
 //! The commands of a host that fly or rest.
-ghost use Rattle.std.specs.Prelude.{◌≡◌, ◌↔◌, ◌<◌, ◌≤◌, ◌∷◌, length, map, ℕ, List, [], false, true, All, Contains, IsTrue, IsSome, IfNone, IfOk, IfSome, OnSome, Some, option_map};
+ghost use Rattle.std.specs.Prelude.{◌≡◌, ◌+◌, ◌↔◌, ◌<◌, ◌≤◌, ◌∷◌, length, map, ℕ, List, [], false, true, All, Contains, IsTrue, IsSome, IfNone, IfOk, IfSome, OnSome, Some, option_map};
 ghost use Rattle.std.specs.List.{find};
 ghost use Rattle.std.specs.List.Sorted.{IsPermutation};
 ghost use Rattle.aoe_flight.specs.declared.outstanding.Outstanding.{Outstanding};
 ghost use Rattle.aoe_flight.specs.FlightTable.{after_change, at_time, live_at, no_commands, Recalls};
 ghost use Rattle.aoe_flight.specs.Outstanding.{after_finish, after_repeat, change_of, flies_as, flies_with, is_due, is_expired, is_taken, launched, live, lower, precedes, tag_count, IsFirst, IsNextTag};
 
+use crate::deadlines::{Deadlines, Due};
 use crate::outstanding::{Flying, Outstanding};
 use crate::table;
-use aoe_base::{Millis, NoMemory, PathNo, Ticket};
+use aoe_base::{Millis, NoMemory, PathNo, Steps, Ticket};
 use slab::Slab;
 use std::alloc::Global;
 use std::marker::Model;
+use std::sync::ledger::Ledger;
 
 /// The most commands that a host can have room for: a limit of this program, since `Flight::new`
 /// makes all the room.
@@ -40,10 +42,14 @@ pub struct Flight {
     last_tag: u32,
 
     commands: Slab<Outstanding>,
+
+    /// The flying ones among them, in the order in which they are due.
+    deadlines: Deadlines,
 }
 
 impl Model for Flight {
     ghost use Rattle.slab.specs.Slab.{values};
+    ghost use Rattle.aoe_flight.specs.Deadlines.{AreDues};
     ghost use Rattle.aoe_flight.specs.FlightTable.{FlightTable, IsSound};
     ghost use Rattle.aoe_flight.specs.Outstanding.{live};
 
@@ -58,7 +64,9 @@ impl Model for Flight {
       commands = live flight.rest.0 flight.latest.0 (values flight.commands);
     } };
 
-    ghost invariant = { λ flight. IsSound flight.room flight.commands.capacity (values flight.commands) };
+    ghost invariant = { λ flight.
+        IsSound flight.room flight.commands.capacity (values flight.commands)
+        × AreDues flight.room flight.latest.0 (values flight.commands) flight.deadlines };
 }
 
 impl Flight {
@@ -72,6 +80,7 @@ impl Flight {
         ensures value { IfOk result (λ flight. flight ≡ no_commands room life.0 dead.0) }
         ensures recalls { IfOk result (λ flight. Recalls flight []) }
     {
+        let deadlines = Deadlines::new(alloc, room)?;
         match Slab::with_capacity(alloc, room as usize) {
             Ok(commands) => Ok(Flight {
                 room,
@@ -80,6 +89,7 @@ impl Flight {
                 latest: Millis(0),
                 last_tag: 0,
                 commands,
+                deadlines,
             }),
             Err(_) => Err(NoMemory),
         }
@@ -114,10 +124,9 @@ impl Flight {
         }
         let tag = table::next_tag(&self.commands, self.last_tag);
         self.last_tag = tag;
-        table::insert(
-            &mut self.commands,
-            Outstanding::launched(ticket, tag, now, path, wait),
-        );
+        let command = Outstanding::launched(ticket, tag, now, path, wait);
+        table::insert(&mut self.commands, command);
+        self.deadlines.insert(command.due());
         Some(tag)
     }
 
@@ -128,7 +137,8 @@ impl Flight {
         ensures sent { (sent : List Outstanding) → Recalls self.now sent
             → IsTrue result ↔ (self.now.room ≤ length (live self.now.rest now.0 sent)) }
     {
-        table::live_count(&self.commands, self.rest, now) >= self.room as usize
+        let room = self.room as usize;
+        self.commands.len() >= room && table::live_count(&self.commands, self.rest, now) >= room
     }
 
     /// What is known of a flying command.
@@ -143,7 +153,8 @@ impl Flight {
 
     /// The command to be sent again: of the flying ones that waited for their response long
     /// enough, the one that was due first.
-    pub fn due(&self, now: Millis) -> Option<Ticket>
+    pub fn due<L: Ledger>(&self, now: Millis, steps: &mut Steps<L>) -> Option<Ticket>
+        requires { self.now.latest ≤ now.0 }
         ensures first { IfSome result (λ ticket.
             (c : Outstanding) × (c.ticket ≡ ticket)
             × IsFirst (is_due now.0) precedes self.now.commands c) }
@@ -153,8 +164,14 @@ impl Flight {
             → (c : Outstanding) × (c.ticket ≡ ticket) × IsFirst (is_due now.0) precedes sent c) }
         ensures none_sent { IfNone result ((sent : List Outstanding) → Recalls self.now sent
             → All (λ c. is_due now.0 c ≡ false) sent) }
+        ensures bound { steps.new ≤ steps.old + 1 }
     {
-        table::first_due(&self.commands, now).map(|command| command.ticket)
+        let first = self.deadlines.look(0, steps)?;
+        if first.at <= u128::from(now.0) {
+            Some(first.ticket)
+        } else {
+            None
+        }
     }
 
     /// Takes note that a flying command was sent again.
@@ -166,6 +183,7 @@ impl Flight {
     {
         self.latest = now;
         table::repeat(&mut self.commands, ticket, now, path, wait);
+        self.deadlines.replace(Due::of(ticket, now, wait));
     }
 
     /// The flying command with a tag.
@@ -188,6 +206,7 @@ impl Flight {
             → Recalls self.new (map (change_of ticket.0 after_finish) sent) }
     {
         table::finish(&mut self.commands, ticket);
+        self.deadlines.remove(ticket);
     }
 
     /// The flying command with the lowest ticket that has to be given up.

@@ -1,7 +1,9 @@
 //! One command that was sent.
-ghost use Rattle.std.specs.Prelude.{◌≡◌, ◌+◌};
-ghost use Rattle.aoe_flight.specs.Outstanding.{after_repeat, deadline, flies_as, flies_with, is_due, is_expired, is_over, launched, precedes};
+ghost use Rattle.std.specs.Prelude.{◌≡◌};
+ghost use Rattle.aoe_flight.specs.Deadlines.{due_of};
+ghost use Rattle.aoe_flight.specs.Outstanding.{after_repeat, flies_as, flies_with, is_expired, is_over, launched};
 
+use crate::deadlines::Due;
 use aoe_base::{Millis, PathNo, Ticket};
 
 /// The most sends of a command that are counted: long before, its wait has grown to a minute and
@@ -86,13 +88,6 @@ impl Outstanding {
         self.finished && now.0.saturating_sub(self.flying.last.0) > rest.0
     }
 
-    /// Whether the command has to be sent again.
-    pub fn is_due(&self, now: Millis) -> bool
-        ensures { result ≡ is_due now.0 self.now }
-    {
-        !self.finished && now.0.saturating_sub(self.flying.last.0) >= self.wait.0
-    }
-
     /// Whether the command flies for as long as commands are waited for at most.
     pub fn is_expired(&self, dead: Millis, now: Millis) -> bool
         ensures { result ≡ is_expired dead.0 now.0 self.now }
@@ -100,19 +95,11 @@ impl Outstanding {
         !self.finished && now.0.saturating_sub(self.flying.first.0) >= dead.0
     }
 
-    /// The time at which the command is due.
-    fn deadline(&self) -> u128
-        ensures { result ≡ deadline self.now }
+    /// When the command is due.
+    pub fn due(&self) -> Due
+        ensures { result ≡ due_of self.now }
     {
-        u128::from(self.flying.last.0) + u128::from(self.wait.0)
-    }
-
-    /// Whether the command was due before another, or at the same time with a lower ticket.
-    pub fn precedes(&self, other: &Outstanding) -> bool
-        ensures { result ≡ precedes self.now other.now }
-    {
-        let (deadline, other_deadline) = (self.deadline(), other.deadline());
-        deadline < other_deadline || deadline == other_deadline && self.ticket < other.ticket
+        Due::of(self.ticket, self.flying.last, self.wait)
     }
 
     /// The command after it was sent again.

@@ -3,7 +3,7 @@ ghost use Rattle.std.specs.Prelude.{◌≡◌, ◌-◌, ◌^◌, ◌<◌, ◌∷
 ghost use Rattle.std.specs.List.{find};
 ghost use Rattle.std.specs.List.Sorted.{IsPermutation};
 ghost use Rattle.slab.specs.Slab.{values};
-ghost use Rattle.aoe_flight.specs.Outstanding.{after_finish, after_repeat, best, change_of, flies_as, flies_with, is_better, is_due, is_expired, is_taken, live, lower, precedes, tag_after, IsNextTag};
+ghost use Rattle.aoe_flight.specs.Outstanding.{after_finish, after_repeat, best, change_of, flies_as, flies_with, is_better, is_expired, is_taken, live, lower, tag_after, IsNextTag};
 
 use crate::outstanding::Outstanding;
 use aoe_base::{Millis, PathNo, Ticket};
@@ -59,28 +59,6 @@ pub fn live_count(commands: &Slab<Outstanding>, rest: Millis, now: Millis) -> us
         }
     }
     count
-}
-
-/// The due command that no other precedes.
-pub fn first_due(commands: &Slab<Outstanding>, now: Millis) -> Option<Outstanding>
-    ensures { result ≡ best (is_due now.0) precedes None (values commands.now) }
-{
-    let mut first: Option<Outstanding> = None;
-    'commands: for (_, command) in commands.iter() {
-        if command.is_due(now) && is_first(first, *command) {
-            first = Some(*command);
-        }
-    }
-    first
-}
-
-fn is_first(first: Option<Outstanding>, command: Outstanding) -> bool
-    ensures { result ≡ is_better precedes command first }
-{
-    match first {
-        Some(first) => command.precedes(&first),
-        None => true,
-    }
 }
 
 /// The expired command with the lowest ticket.

@@ -1,6 +1,13 @@
-mod ListLemmas
-pub mod LiveLemmas
-mod StageLemmas
-mod OrderLemmas
-mod TableLemmas
 mod ClearLemmas
+mod CountLemmas
+mod HoldLemmas
+mod IndexLemmas
+mod ListLemmas
+mod MoveLemmas
+mod OrderLemmas
+mod QueueLemmas
+mod ReleaseLemmas
+mod StageLemmas
+mod TableLemmas
+mod WaitLemmas
+pub mod LiveLemmas

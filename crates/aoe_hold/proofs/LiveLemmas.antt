@@ -10,7 +10,7 @@ use Rattle.aoe_hold.specs.Commands.{after_stage, all_gone, clear_tickets, confli
 use Rattle.aoe_hold.specs.HoldTable.{HoldTable, Recalls}
 use Rattle.aoe_hold.proofs.ListLemmas.{count_by-filter, filter-filter, filter-map, list_any-filter}
 
-over-later : (life latest now : ℕ) (stage : Stage) → latest ≤ now → over life latest stage ≡ true → over life now stage ≡ true
+pub over-later : (life latest now : ℕ) (stage : Stage) → latest ≤ now → over life latest stage ≡ true → over life now stage ≡ true
 over-later life latest now Unsent after is = is
 over-later life latest now (Flying last) after is = is
 over-later life latest now (Finished last) after is = lt-ltb life (now - last.0) (omega (arith, ltb-true life (latest - last.0) is))
@@ -70,7 +70,7 @@ none-kept true true false d = refl
 none-kept true true true false = refl
 none-kept true true true true = refl
 
-past-finished : (life now : ℕ) (stage : Stage) → over life now stage ≡ true → (finished stage ≡ true) × (all_gone life now stage ≡ true) × (unsent stage ≡ false)
+pub past-finished : (life now : ℕ) (stage : Stage) → over life now stage ≡ true → (finished stage ≡ true) × (all_gone life now stage ≡ true) × (unsent stage ≡ false)
 past-finished life now Unsent is = absurd cc
 past-finished life now (Flying last) is = absurd cc
 past-finished life now (Finished last) is = (refl, is, refl)

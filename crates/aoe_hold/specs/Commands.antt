@@ -30,6 +30,10 @@ conflict a b =
     || (is_write a.kind && is_flush b.kind)
     || (is_edit a.kind && is_edit b.kind)
 
+-- one was entered before the other, and they conflict
+abbrev pub comes_first : Command → Command → Bool
+comes_first earlier later = nat_lt earlier.ticket.0 later.ticket.0 && conflict earlier later
+
 -- a frame that comes late can still change what the device has
 abbrev pub has_effect : Kind → Bool
 has_effect kind = is_write kind || is_edit kind

@@ -1,24 +1,25 @@
 -- What a host keeps of its commands at one device.
-use Rattle.std.specs.Prelude.{ℕ, ◌≡◌, ◌&&◌, Bool, true, false, nat_lt, nat_le, List, [], ◌∷◌, ◌++◌, Option, Some, None}
-use Rattle.std.specs.List.{list_all}
+use Rattle.std.specs.Prelude.{ℕ, ◌≡◌, ◌&&◌, Bool, true, false, not, nat_eq, nat_lt, nat_le, List, [], ◌∷◌, ◌++◌, Option, Some, None}
+use Rattle.std.specs.List.{filter, list_all}
 use Rattle.aoe_base.specs.declared.counted.Ticket.{Ticket}
 use Rattle.aoe_base.specs.declared.sectors.Span.{Span}
 use Rattle.aoe_base.specs.declared.counted.Millis.{Millis}
 use Rattle.aoe_hold.specs.declared.command.Command.{Command}
 use Rattle.aoe_hold.specs.declared.command.Kind.{Kind}
 use Rattle.aoe_hold.specs.declared.command.Stage.TheVariants.{Unsent}
-use Rattle.aoe_hold.specs.Commands.{after_stage, live, stage_finished, stage_sent, unsent_count}
+use Rattle.aoe_hold.specs.Commands.{after_stage, clear_tickets, live, stage_finished, stage_sent, unsent_count}
 
 -- how long a frame can arrive, the latest time that was told, the greatest ticket entered, and the commands
--- that are held, in the order of their tickets
+-- that are held, in the order of their tickets; and the tickets of those that were found clear and weren't sent
 pub record HoldTable : Type 0 where
   pub life : ℕ
   pub latest : ℕ
   pub greatest : Option ℕ
   pub commands : List Command
+  pub ready : List ℕ
 
 abbrev pub no_commands : ℕ → HoldTable
-no_commands life = record { life = life; latest = 0; greatest = None; commands = [] }
+no_commands life = record { life = life; latest = 0; greatest = None; commands = []; ready = [] }
 
 -- of these commands that were entered, the table holds each that a later answer can go by
 abbrev pub Recalls : HoldTable → List Command → Type 0
@@ -34,13 +35,15 @@ with_command table c = record table {
   commands = live table.life table.latest table.commands ++ c ∷ [];
 }
 
+-- the commands that are clear at a later time
 abbrev pub at_time : HoldTable → ℕ → HoldTable
-at_time table now = record table { latest = now }
+at_time table now = record table { latest = now; ready = clear_tickets table.life now table.commands }
 
 abbrev pub after_send : HoldTable → ℕ → Millis → HoldTable
 after_send table ticket now = record table {
   latest = now.0;
   commands = after_stage ticket (stage_sent now) table.commands;
+  ready = filter (λ other. not (nat_eq other ticket)) table.ready;
 }
 
 abbrev pub after_finish : HoldTable → ℕ → HoldTable

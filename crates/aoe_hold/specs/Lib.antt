@@ -1,2 +1,4 @@
 pub mod Commands
 pub mod HoldTable
+pub mod Queue
+pub mod Order

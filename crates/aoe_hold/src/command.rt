@@ -1,6 +1,7 @@
 //! Commands, and which of them keep others back.
-ghost use Rattle.std.specs.Prelude.{◌≡◌};
-ghost use Rattle.aoe_hold.specs.Commands.{conflict, has_effect, is_past, is_unsent, keeps_back, rests_on_effects, stage_finished, stage_sent};
+ghost use Rattle.std.specs.Prelude.{◌≡◌, ◌+◌, ◌&&◌, ℕ, not, nat_le};
+ghost use Rattle.aoe_hold.specs.Queue.{blocks, lingers};
+ghost use Rattle.aoe_hold.specs.Commands.{comes_first, conflict, has_effect, is_past, is_unsent, rests_on_effects, stage_finished, stage_sent};
 
 use aoe_base::{Millis, Span, Ticket};
 
@@ -64,6 +65,13 @@ impl Stage {
     }
 }
 
+/// The time from which no frame can arrive that was sent by `last`.
+fn expiry(last: Millis, life: Millis) -> u128
+    ensures { result ≡ last.0 + life.0 + 1 }
+{
+    u128::from(last.0) + u128::from(life.0) + 1
+}
+
 /// A command that was entered.
 #[derive(Clone, Copy, Debug, PartialEq, Eq)]
 pub struct Command {
@@ -103,19 +111,43 @@ impl Command {
         }
     }
 
-    /// Whether a later command has to wait for this one.
-    pub fn keeps_back(&self, later: &Command, life: Millis, now: Millis) -> bool
-        ensures { result ≡ keeps_back life.0 now.0 self.now later.now }
+    /// Whether the command came before a later one in conflict.
+    pub fn comes_first(&self, later: &Command) -> bool
+        ensures { result ≡ comes_first self.now later.now }
     {
-        if self.ticket >= later.ticket || !self.conflicts(later) {
-            return false;
-        }
+        self.ticket < later.ticket && self.conflicts(later)
+    }
+
+    /// Whether the command came before a later one in conflict, and isn't finished.
+    pub fn blocks(&self, later: &Command) -> bool
+        ensures { result ≡ blocks later.now self.now }
+    {
+        self.comes_first(later) && !matches!(self.stage, Stage::Finished(_))
+    }
+
+    /// Whether the command was never sent, and waits for an earlier one that isn't finished.
+    pub fn waits_for(&self, earlier: &Command) -> bool
+        ensures { result ≡ (is_unsent self.now && blocks self.now earlier.now) }
+    {
+        self.is_unsent() && earlier.blocks(self)
+    }
+
+    /// The time from which no frame of the command can arrive that a later one waits for, once the
+    /// command is finished.
+    pub fn lingers_until(&self, later: &Command, life: Millis) -> u128
+        ensures { (now : ℕ) → lingers life.0 now later.now self.now ≡ not (nat_le result now) }
+    {
         match self.stage {
-            Stage::Finished(_) => {
-                self.kind.has_effect() && later.kind.rests_on_effects() && !self.is_past(life, now)
-            }
-            _ => true,
+            Stage::Finished(last) if self.lasts_for(later) => expiry(last, life),
+            _ => 0,
         }
+    }
+
+    /// Whether frames of the command can change what a later one rests on.
+    fn lasts_for(&self, later: &Command) -> bool
+        ensures { result ≡ (comes_first self.now later.now && has_effect self.now.kind && rests_on_effects later.now.kind) }
+    {
+        self.comes_first(later) && self.kind.has_effect() && later.kind.rests_on_effects()
     }
 }
 

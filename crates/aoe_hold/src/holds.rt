@@ -1,39 +1,119 @@
 //! The commands of one host at one device.
-ghost use Rattle.std.specs.Prelude.{◌≡◌, ◌+◌, ◌-◌, ◌^◌, ◌<◌, ◌≤◌, nat_eq, true, List, [], ◌∷◌, ◌++◌, length, option_map, position, All, Contains, IfNone, IfSome, OnErr, OnOk};
-ghost use Rattle.std.specs.List.{find, list_any};
+ghost use Rattle.std.specs.Prelude.{◌≡◌, ◌+◌, ◌-◌, ◌^◌, ◌<◌, ◌≤◌, ◌&&◌, ℕ, Bool, nat_eq, nat_le, not, cond, false, List, [], ◌∷◌, ◌++◌, length, position, All, Contains, IfNone, IfSome, OnErr, OnOk};
+ghost use Rattle.std.specs.List.{count_by, list_any};
 ghost use Rattle.std.specs.Option.{ForSome};
 ghost use Rattle.std.specs.Vec.{vec_capacity, vec_len};
-ghost use Rattle.aoe_hold.specs.Commands.{after_stage, clear_tickets, is_clear, is_unsent, keeps_back, live, stage_finished, stage_sent, unsent_count};
+ghost use Rattle.aoe_hold.specs.Commands.{after_stage, clear_tickets, live, stage_finished, stage_sent, unsent_count};
 ghost use Rattle.aoe_hold.specs.HoldTable.{after_finish, after_send, at_time, new_command, no_commands, with_command, Recalls};
+ghost use Rattle.aoe_hold.specs.Queue.{is_blocked, is_released, lingers, Knows, Moved};
 
 use crate::command::{Command, Kind, Stage};
-use aoe_base::{Millis, NoMemory, Span, Ticket};
+use crate::queue::{Queue, Waiter};
+use aoe_base::{Millis, NoMemory, Span, Steps, Ticket};
 use std::alloc::Global;
 use std::marker::Model;
+use std::sync::ledger::Ledger;
 
-fn is_kept_back(commands: &[Command], command: &Command, life: Millis, now: Millis) -> bool
-    ensures { result
-        ≡ list_any (λ earlier. keeps_back life.0 now.0 earlier command.now) commands.now }
+/// Whether an earlier command in conflict is unfinished.
+fn is_blocked(commands: &[Command], command: &Command) -> bool
+    ensures { result ≡ is_blocked commands.now command.now }
 {
-    commands
-        .iter()
-        .any(|earlier| earlier.keeps_back(command, life, now))
+    commands.iter().any(|earlier| earlier.blocks(command))
 }
 
-fn is_clear(commands: &[Command], command: &Command, life: Millis, now: Millis) -> bool
-    ensures { result ≡ is_clear life.0 now.0 commands.now command.now }
+/// The time from which no frame can arrive that a command waits for.
+fn clear_from(commands: &[Command], command: &Command, life: Millis) -> u128
+    ensures { (now : ℕ) → list_any (λ e. lingers life.0 now command.now e) commands.now ≡ not (nat_le result now) }
 {
-    command.is_unsent() && !is_kept_back(commands, command, life, now)
+    let mut from = 0;
+    'earlier: for earlier in commands {
+        from = from.max(earlier.lingers_until(command, life));
+    }
+    from
 }
 
-fn first_clear(commands: &[Command], life: Millis, now: Millis) -> Option<Ticket>
-    ensures { result
-        ≡ option_map (λ c. c.ticket) (find (is_clear life.0 now.0 commands.now) commands.now) }
+/// Makes room for one more command, and for so many in the queues.
+fn make_room(
+    commands: &mut Vec<Command>,
+    timed: &mut Queue,
+    ready: &mut Queue,
+    room: u32,
+) -> Result<(), NoMemory>
+    requires timed { length timed.old.waiters ≤ room }
+    requires ready { length ready.old.waiters ≤ room }
+    ensures commands { commands.new.items ≡ commands.old.items }
+    ensures place { OnOk result (vec_len commands.new < vec_capacity commands.new) }
+    ensures timed { timed.new.waiters ≡ timed.old.waiters }
+    ensures ready { ready.new.waiters ≡ ready.old.waiters }
+    ensures timed_more { timed.old.room ≤ timed.new.room }
+    ensures ready_more { ready.old.room ≤ ready.new.room }
+    ensures timed_room { OnOk result (room ≤ timed.new.room) }
+    ensures ready_room { OnOk result (room ≤ ready.new.room) }
 {
-    commands
-        .iter()
-        .find(|command| is_clear(commands, command, life, now))
-        .map(|command| command.ticket)
+    if commands.reserve(1).is_err() {
+        return Err(NoMemory);
+    }
+    timed.reserve(room)?;
+    ready.reserve(room)
+}
+
+/// Queues a command that was never sent, where no earlier one in conflict is unfinished.
+fn queue(commands: &[Command], timed: &mut Queue, command: Command, life: Millis)
+    requires { is_blocked commands.now command ≡ false → length timed.old.waiters < timed.old.room }
+    ensures waiters { (test : Command → Bool) → count_by (λ w. test w.command) timed.new.waiters
+        ≡ cond (not (is_blocked commands.now command) && test command) 1 0
+        + count_by (λ w. test w.command) timed.old.waiters }
+    ensures knows { (latest : ℕ) → All (Knows life.0 latest commands.now) timed.old.waiters
+        → All (Knows life.0 latest commands.now) timed.new.waiters }
+    ensures room { timed.new.room ≡ timed.old.room }
+{
+    if !is_blocked(commands, &command) {
+        let from = clear_from(commands, &command, life);
+        timed.insert(Waiter { command, from });
+    }
+}
+
+/// Queues the commands that waited for one alone, which isn't unfinished any more.
+fn release(commands: &[Command], timed: &mut Queue, ended: &Command, life: Millis)
+    requires { length timed.old.waiters + count_by (is_released commands.now ended.now) commands.now ≤ timed.old.room }
+    ensures waiters { (test : Command → Bool) → count_by (λ w. test w.command) timed.new.waiters
+        ≡ count_by (λ w. test w.command) timed.old.waiters
+        + count_by (λ c. is_released commands.now ended.now c && test c) commands.now }
+    ensures knows { (latest : ℕ) → All (Knows life.0 latest commands.now) timed.old.waiters
+        → All (Knows life.0 latest commands.now) timed.new.waiters }
+    ensures room { timed.new.room ≡ timed.old.room }
+{
+    'later: for later in commands {
+        if later.waits_for(ended) {
+            queue(commands, timed, *later, life);
+        }
+    }
+}
+
+/// Takes the first of the commands out, where its time is past.
+fn pop_past<L: Ledger>(timed: &mut Queue, now: Millis, steps: &mut Steps<L>) -> Option<Waiter>
+    ensures some { IfSome result (λ w. (w.from ≤ now.0) × (timed.old.waiters ≡ w ∷ timed.new.waiters)) }
+    ensures none { IfNone result (timed.new.waiters ≡ timed.old.waiters) }
+    ensures late { IfNone result (All (λ w. now.0 < w.from) timed.old.waiters) }
+    ensures room { timed.new.room ≡ timed.old.room }
+    ensures step { steps.new ≡ steps.old + 1 }
+{
+    if timed.look(steps)?.from > u128::from(now.0) {
+        return None;
+    }
+    timed.pop()
+}
+
+/// Moves the commands whose time is past to those that may be sent.
+fn make_ready<L: Ledger>(timed: &mut Queue, ready: &mut Queue, now: Millis, steps: &mut Steps<L>)
+    requires { length timed.old.waiters + length ready.old.waiters ≤ ready.old.room }
+    ensures moved { Moved now.0 timed.old ready.old timed.new ready.new }
+    ensures late { All (λ w. now.0 < w.from) timed.new.waiters }
+    ensures steps { steps.new + length ready.old.waiters ≡ steps.old + 1 + length ready.new.waiters }
+{
+    'past: while let Some(waiter) = pop_past(timed, now, steps) {
+        ready.insert(Waiter { from: 0, ..waiter });
+    }
 }
 
 fn place_of(commands: &[Command], ticket: Ticket) -> Option<usize>
@@ -71,11 +151,19 @@ pub struct Holds {
 
     /// In the order of their tickets.
     commands: Vec<Command>,
+
+    /// Of those that were never sent and for which no earlier one in conflict is unfinished, those
+    /// that wait for frames to expire, and those that weren't looked at since they may be sent.
+    timed: Queue,
+
+    /// The others of these: they may be sent, and stand in the order of their tickets.
+    ready: Queue,
 }
 
 impl Model for Holds {
-    ghost use Rattle.std.specs.Prelude.{option_map};
+    ghost use Rattle.std.specs.Prelude.{map, option_map};
     ghost use Rattle.aoe_hold.specs.HoldTable.{HoldTable, IsSound};
+    ghost use Rattle.aoe_hold.specs.Queue.{ticket_of, IsIndex};
 
     ghost Value = { HoldTable };
 
@@ -84,10 +172,12 @@ impl Model for Holds {
       latest = holds.latest.0;
       greatest = option_map (λ t. t.0) holds.greatest;
       commands = holds.commands.items;
+      ready = map ticket_of holds.ready.waiters;
     } };
 
     ghost invariant = { λ holds.
-        IsSound (option_map (λ t. t.0) holds.greatest) holds.unsent holds.commands.items };
+        IsSound (option_map (λ t. t.0) holds.greatest) holds.unsent holds.commands.items
+        × IsIndex holds.life.0 holds.latest.0 holds.unsent holds.commands.items holds.timed holds.ready };
 }
 
 impl Holds {
@@ -101,6 +191,8 @@ impl Holds {
             greatest: None,
             unsent: 0,
             commands: Vec::new(alloc),
+            timed: Queue::new(alloc),
+            ready: Queue::new(alloc),
         }
     }
 
@@ -114,23 +206,24 @@ impl Holds {
             → Recalls self.new (entered ++ new_command ticket kind span ∷ [])) }
         ensures err { OnErr result (self.new ≡ self.old) }
     {
-        if self.commands.reserve(1).is_err() {
-            return Err(NoMemory);
-        }
+        let room = self.unsent + 1;
+        make_room(&mut self.commands, &mut self.timed, &mut self.ready, room)?;
         forget(&mut self.commands, self.life, self.latest);
-        self.commands.push_reserved(Command {
+        let command = Command {
             ticket,
             kind,
             span,
             stage: Stage::Unsent,
-        });
+        };
+        queue(&self.commands, &mut self.timed, command, self.life);
+        self.commands.push_reserved(command);
         self.greatest = Some(ticket);
         self.unsent += 1;
         Ok(())
     }
 
     /// The command that may be sent next for the first time.
-    pub fn next_clear(&mut self, now: Millis) -> Option<Ticket>
+    pub fn next_clear<L: Ledger>(&mut self, now: Millis, steps: &mut Steps<L>) -> Option<Ticket>
         requires { self.old.latest ≤ now.0 }
         ensures clear { IfSome result (λ ticket.
             (entered : List Command) → Recalls self.old entered
@@ -143,9 +236,13 @@ impl Holds {
         ensures same { self.new ≡ at_time self.old now.0 }
         ensures recalls { (entered : List Command) → Recalls self.old entered
             → Recalls self.new entered }
+        ensures bound { steps.new ≤ steps.old + 2
+            + (length (clear_tickets self.old.life now.0 self.old.commands) - length self.old.ready) }
     {
         self.latest = now;
-        first_clear(&self.commands, self.life, now)
+        make_ready(&mut self.timed, &mut self.ready, now, steps);
+        let first = self.ready.look(steps);
+        first.map(|waiter| waiter.command.ticket)
     }
 
     /// Takes note that a frame of a command was sent, for the first time or again. A finished
@@ -157,6 +254,8 @@ impl Holds {
             → Recalls self.new (after_stage ticket.0 (stage_sent now) entered) }
     {
         self.latest = now;
+        self.timed.remove(ticket);
+        self.ready.remove(ticket);
         if let Some(at) = place_of(&self.commands, ticket) {
             let command = &mut self.commands[at];
             self.unsent -= u32::from(command.is_unsent());
@@ -172,7 +271,9 @@ impl Holds {
     {
         if let Some(at) = place_of(&self.commands, ticket) {
             let command = &mut self.commands[at];
+            let ended = *command;
             command.stage = command.stage.finished();
+            release(&self.commands, &mut self.timed, &ended, self.life);
         }
     }
 

@@ -14,6 +14,7 @@
 mod command;
 mod holds;
 mod law;
+mod queue;
 
 pub use command::{Command, Kind, Stage};
 pub use holds::Holds;

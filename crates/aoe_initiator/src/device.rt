@@ -4,6 +4,7 @@ ghost use Rattle.aoe_initiator.specs.Devices.{after_arrival, after_choice, all_c
 ghost use Rattle.aoe_initiator.specs.Host.{RecallAll};
 ghost use Rattle.aoe_initiator.specs.HostLog.{HostCommand};
 
+use crate::counted::first_clear;
 use aoe_base::{DeviceNo, Mac, Millis, PathNo, Ports, TargetId, Ticket};
 use aoe_hold::Holds;
 use aoe_paths::Paths;
@@ -102,7 +103,7 @@ pub(crate) fn next_clear(devices: &mut Vec<Device>, now: Millis) -> Option<Ticke
 {
     let mut lowest = None;
     'devices: for device in devices.iter_mut() {
-        lowest = lower(lowest, device.holds.next_clear(now));
+        lowest = lower(lowest, first_clear(&mut device.holds, now));
     }
     lowest
 }

@@ -24,16 +24,17 @@ ghost use Rattle.aoe_initiator.specs.Request.{CanSpell};
 ghost use Rattle.aoe_initiator.specs.Response.{outcome_of, CanFill};
 ghost use Rattle.aoe_initiator.specs.Steps.{is_full, place, InTime, Launches, Repeats};
 
+use crate::counted::first_due;
 use crate::device::{Arrival, Attached, Device, next_clear, note_finished, note_sent};
 use crate::op::{Op, op_refusal};
-use crate::outcome::{Data, Done, Outcome};
+use crate::outcome::{Done, Outcome};
 use crate::pending::{Pending, place_of};
 use crate::refusal::{AttachRefusal, SubmitRefusal};
 use crate::request::write_request;
 use crate::response::{Answer, read_answer};
 use crate::step::{Sent, Taken};
 use crate::wait::{trip_at, wait_after};
-use aoe_base::{DeviceNo, Mac, Millis, NoMemory, PathNo, Ports, TargetId, Ticket};
+use aoe_base::{Blob, DeviceNo, Mac, Millis, NoMemory, PathNo, Ports, TargetId, Ticket, copy_of};
 use aoe_flight::Flight;
 use aoe_frame::{Frame, HEADER_LEN, Header, RESPONSE_FLAG, read_header};
 use aoe_hold::Holds;
@@ -117,14 +118,6 @@ struct Heard {
     answer: Answer,
 }
 
-fn copy_of(ports: &Ports) -> Ports
-    ensures { result.items ≡ ports.now.items }
-{
-    let mut copy = Ports::new();
-    let _ = copy.try_extend_from_slice(ports);
-    copy
-}
-
 /// Whether a device has the name.
 fn is_attached(devices: &[Device], id: TargetId) -> bool
     ensures { result ≡ has_id id devices.now }
@@ -139,7 +132,7 @@ fn make_room(
     pending: &mut Vec<Pending>,
     done: &mut VecDeque<Done>,
     len: usize,
-) -> Result<Data, NoMemory>
+) -> Result<Blob, NoMemory>
     ensures pending { pending.new.items ≡ pending.old.items }
     ensures done { done.new.items ≡ done.old.items }
     ensures capacity { deque_capacity done.old ≤ deque_capacity done.new }
@@ -150,7 +143,7 @@ fn make_room(
     if pending.reserve(1).is_err() || done.reserve(pending.len() + 1).is_err() {
         return Err(NoMemory);
     }
-    Data::zeros(alloc, len)
+    Blob::zeros(alloc, len)
 }
 
 /// Ends the pending command at a place, by a response if one came: it rests from now on.
@@ -456,7 +449,7 @@ impl Initiator {
         ensures stays { IfNone result ((log : List Event) → Matches log self.old → Matches log self.new) }
         ensures same { IsSame self.old self.new × (self.new.clock ≡ self.old.clock) × (self.new.last_ticket ≡ self.old.last_ticket) × (self.new.waiting ≡ self.old.waiting) }
     {
-        match self.flight.due(self.clock) {
+        match first_due(&self.flight, self.clock) {
             Some(ticket) => self.repeat(ticket, out),
             None => self.start(out),
         }

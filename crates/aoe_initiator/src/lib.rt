@@ -20,6 +20,7 @@
 //! what a device refused.
 #![tactic(auto)]
 
+mod counted;
 mod device;
 mod initiator;
 mod law;
@@ -37,7 +38,7 @@ pub use device::Attached;
 pub use initiator::{Initiator, MAX_HELD};
 pub use law::held_law;
 pub use op::Op;
-pub use outcome::{Data, Done, Outcome};
+pub use outcome::{Done, Outcome};
 pub use refusal::{AttachRefusal, SubmitRefusal};
 pub use request::{append_config_args, append_mask_args, append_reserve_args, write_request};
 pub use response::{Answer, config_args_len, mask_args_len, read_answer, reserve_args_len};

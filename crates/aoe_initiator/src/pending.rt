@@ -2,8 +2,7 @@
 ghost use Rattle.std.specs.Prelude.{◌≡◌, nat_eq, position};
 
 use crate::op::Op;
-use crate::outcome::Data;
-use aoe_base::{DeviceNo, Ticket};
+use aoe_base::{Blob, DeviceNo, Ticket};
 
 /// A command without its outcome.
 #[derive(Drop)]
@@ -13,7 +12,7 @@ pub(crate) struct Pending {
     pub op: Op,
 
     /// Room for the data of its response.
-    pub room: Data,
+    pub room: Blob,
 }
 
 /// The place of the command with a ticket.

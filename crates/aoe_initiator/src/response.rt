@@ -4,9 +4,9 @@ ghost use Rattle.aoe_initiator.specs.Op.{data_len};
 ghost use Rattle.aoe_initiator.specs.Response.{answer, ata_answer, ata_success, config_len, data_if, is_failure, mask_len, outcome_of, reserve_len, success, told, CanFill};
 
 use crate::op::{Op, SECTOR_LEN};
-use crate::outcome::{Data, Outcome};
+use crate::outcome::Outcome;
 use aoe_ata::{ARGS_LEN, STATUS_DF, STATUS_ERR};
-use aoe_base::append;
+use aoe_base::{Blob, append};
 use aoe_frame::{ERROR_FLAG, Header};
 use aoe_lists::{Args, MAX_CONFIG};
 
@@ -153,7 +153,7 @@ pub fn read_answer(op: &Op, header: &Header, args: &[u8]) -> Option<Answer>
 
 impl Answer {
     /// The outcome, with its data in `room`, which has as many bytes. No memory is taken.
-    pub(crate) fn into_outcome(self, args: &[u8], room: Data) -> Outcome
+    pub(crate) fn into_outcome(self, args: &[u8], room: Blob) -> Outcome
         requires { CanFill self args.now (length room) }
         ensures { result ≡ outcome_of self args.now }
     {

@@ -13,10 +13,10 @@ devices-preserved c =
     let is : item ≡ get_or items c.devices.device-index item = subst P c.device-item.is c.device-item.is in
     let inside : c.devices.device-index < length xs = omega (arith, c.devices-test.true, c.devices.auto.device-items) in
     let read = item-before (device_at c.args.now.0) xs items c.devices.device-index item c.devices.invariant.devices is inside in
-    let new : Device = record { about = item.about; holds = c.next_clear.new.self; paths = item.paths } in
-    let changed : new ≡ device_at c.args.now.0 item = rw c.next_clear.ensures.same refl in
+    let new : Device = record { about = item.about; holds = c.first_clear.new.holds; paths = item.paths } in
+    let changed : new ≡ device_at c.args.now.0 item = rw c.first_clear.ensures.same refl in
     record {
       devices = items-after (device_at c.args.now.0) xs items c.devices.device-index item new c.devices.invariant.devices is inside changed;
-      lowest = lowest-after xs c.devices.device-index c.args.now.0 item c.devices.lowest c.next_clear.result c.lower-lowest.result inside read c.devices.invariant.lowest
-          (lowest-of item.holds c.args.now.0 c.next_clear.result c.next_clear.ensures.clear c.next_clear.ensures.lowest c.next_clear.ensures.none) c.lower-lowest.ensures;
+      lowest = lowest-after xs c.devices.device-index c.args.now.0 item c.devices.lowest c.first_clear.result c.lower-lowest.result inside read c.devices.invariant.lowest
+          (lowest-of item.holds c.args.now.0 c.first_clear.result c.first_clear.ensures.clear c.first_clear.ensures.lowest c.first_clear.ensures.none) c.lower-lowest.ensures;
     }

@@ -1,27 +1,34 @@
-use Rattle.std.proofs.Common.{◌≡◌, ap, ◌∙◌, rules}
-use Rattle.std.specs.Prelude.{option_map}
+use Rattle.std.proofs.Common.{◌≡◌, arith, false, refl, sym, Some, None}
 use Rattle.slab.specs.Slab.{values}
-use Rattle.aoe_flight.specs.declared.outstanding.Outstanding.{Outstanding}
+use Rattle.std.specs.Prelude.{All}
 use Rattle.aoe_flight.specs.Outstanding.{is_due, precedes}
-use Rattle.aoe_flight.proofs.FirstLemmas.{due-flies, first-live, none-live, precedes-order}
-use Rattle.std.proofs.Common.{refl}
+use Rattle.aoe_flight.proofs.DueLemmas.{first-due, if-none, none-due, none-left, none-passed}
 use Rattle.aoe_flight.proofs.RecallLemmas.{first-recalled, none-recalled}
+use Rattle.aoe_flight.proofs.SoundLemmas.{time-of}
 use Rattle.aoe_flight.proofs.flight.Flight.due.Goals as goal
 
-pub returns-clause-first : goal.returns-clause-first
-returns-clause-first c =
-    let mapped : c.map.result ≡ option_map (λ (d : Outstanding). d.ticket) c.first_due.result = search rules in
-    let is = mapped ∙ ap (option_map (λ (d : Outstanding). d.ticket)) c.first_due.ensures in
-    rw (← c.self.view_is) (first-live (is_due c.args.now.0) precedes c.self.inside.rest.0 c.self.inside.latest.0 precedes-order (due-flies c.args.now.0) (values c.self.inside.commands) c.map.result is)
+pub returns-in_err-first-clause-none : goal.returns-in_err-first-clause-none
+returns-in_err-first-clause-none g c =
+    let later = time-of _ _ _ _ _ c.args.now.0 (values c.self.inside.commands) c.args.self.now c.self.view_is c.requires in
+    if-none c.from_residual.result (All (λ d. is_due c.args.now.0 d ≡ false) c.args.self.now.commands)
+    (rw (← c.self.view_is) (none-due _ _ c.self.inside.rest.0 c.args.now.0 (values c.self.inside.commands) c.self.inside.deadlines c.self.invariant.1 later (none-left c.self.inside.deadlines.dues c.args.now.0 (sym c.in_err-first.ensures.value))))
 
-pub returns-clause-none : goal.returns-clause-none
-returns-clause-none c =
-    let mapped : c.map.result ≡ option_map (λ (d : Outstanding). d.ticket) c.first_due.result = search rules in
-    let is = mapped ∙ ap (option_map (λ (d : Outstanding). d.ticket)) c.first_due.ensures in
-    rw (← c.self.view_is) (none-live (is_due c.args.now.0) precedes c.self.inside.rest.0 c.self.inside.latest.0 (values c.self.inside.commands) c.map.result is)
+pub returns-in_err-first-clause-none_sent : goal.returns-in_err-first-clause-none_sent
+returns-in_err-first-clause-none_sent g c = none-recalled (is_due c.args.now.0) c.args.self.now (λ d is. rw is refl) c.from_residual.result (returns-in_err-first-clause-none g c)
 
-pub returns-clause-first_sent : goal.returns-clause-first_sent
-returns-clause-first_sent c = first-recalled (is_due c.args.now.0) precedes c.args.self.now (λ d is. rw is refl) c.map.result (returns-clause-first c)
+pub returns-then-first-from-clause-first : goal.returns-then-first-from-clause-first
+returns-then-first-from-clause-first g c =
+    let later = time-of _ _ _ _ _ c.args.now.0 (values c.self.inside.commands) c.args.self.now c.self.view_is c.requires in
+    rw (← c.self.view_is) (first-due _ _ c.self.inside.rest.0 c.args.now.0 (values c.self.inside.commands) c.self.inside.deadlines c.in_ok-first.first.now c.self.invariant.1 c.look.ensures.order later (sym c.in_ok-first.ensures.value) (omega (arith, c.if-first-from.true, c.from.ensures)))
 
-pub returns-clause-none_sent : goal.returns-clause-none_sent
-returns-clause-none_sent c = none-recalled (is_due c.args.now.0) c.args.self.now (λ d is. rw is refl) c.map.result (returns-clause-none c)
+pub returns-then-first-from-clause-first_sent : goal.returns-then-first-from-clause-first_sent
+returns-then-first-from-clause-first_sent g c = first-recalled (is_due c.args.now.0) precedes c.args.self.now (λ d is. rw is refl) (Some c.in_ok-first.first.now.ticket) (returns-then-first-from-clause-first g c)
+
+pub returns-else-first-from-clause-none : goal.returns-else-first-from-clause-none
+returns-else-first-from-clause-none g c =
+    let later = time-of _ _ _ _ _ c.args.now.0 (values c.self.inside.commands) c.args.self.now c.self.view_is c.requires in
+    let passed = none-passed c.self.inside.deadlines.dues c.in_ok-first.first.now c.args.now.0 c.look.ensures.order (sym c.in_ok-first.ensures.value) (omega (arith, c.if-first-from.false, c.from.ensures)) in
+    rw (← c.self.view_is) (none-due _ _ c.self.inside.rest.0 c.args.now.0 (values c.self.inside.commands) c.self.inside.deadlines c.self.invariant.1 later passed)
+
+pub returns-else-first-from-clause-none_sent : goal.returns-else-first-from-clause-none_sent
+returns-else-first-from-clause-none_sent g c = none-recalled (is_due c.args.now.0) c.args.self.now (λ d is. rw is refl) None (returns-else-first-from-clause-none g c)

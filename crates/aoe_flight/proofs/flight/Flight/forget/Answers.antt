@@ -1,10 +1,15 @@
 use Rattle.slab.specs.Slab.{values}
-use Rattle.aoe_flight.proofs.SoundLemmas.{forget-value, sound-live}
+use Rattle.aoe_flight.proofs.DueLemmas.{dues-live}
+use Rattle.aoe_flight.proofs.SoundLemmas.{forget-value, sound-live, time-of}
 use Rattle.aoe_flight.proofs.RecallLemmas.{recalls-at}
 use Rattle.aoe_flight.proofs.flight.Flight.forget.Goals as goal
 
 pub invariant_of-self : goal.invariant_of-self
-invariant_of-self c = sound-live _ _ c.self.inside.rest.0 c.args.now.0 (values c.self.inside.commands) _ _ c.forget.ensures.values c.forget.ensures.capacity c.self.invariant
+invariant_of-self c =
+    let later = time-of _ _ _ _ _ c.args.now.0 (values c.self.inside.commands) c.args.self.now c.self.view_is c.requires in (
+      sound-live _ _ c.self.inside.rest.0 c.args.now.0 (values c.self.inside.commands) _ _ c.forget.ensures.values c.forget.ensures.capacity c.self.invariant.0,
+      dues-live _ _ c.self.inside.rest.0 c.args.now.0 (values c.self.inside.commands) _ c.self.inside.deadlines c.forget.ensures.values later c.self.invariant.1,
+    )
 
 pub returns-clause-value : goal.returns-clause-value
 returns-clause-value c = forget-value _ _ _ _ _ c.args.now.0 (values c.self.inside.commands) _ c.args.self.now c.self.view_is c.requires c.forget.ensures.values

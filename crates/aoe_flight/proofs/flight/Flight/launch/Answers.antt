@@ -1,18 +1,24 @@
-use Rattle.std.proofs.Common.{◌≡◌, List, ◌∷◌, ap, length, refl, subst, sym, ◌∙◌, arith}
+use Rattle.std.proofs.Common.{◌≡◌, false, List, ◌∷◌, ap, length, refl, subst, sym, ◌∙◌, arith}
 use Rattle.std.specs.List.Sorted.{IsPermutation}
 use Rattle.std.proofs.lemmas.Bool.{eq-eqb}
 use Rattle.slab.specs.Slab.{values}
 use Rattle.aoe_flight.specs.declared.outstanding.Outstanding.{Outstanding}
 use Rattle.aoe_flight.specs.FlightTable.{FlightTable}
 use Rattle.aoe_flight.specs.Outstanding.{is_taken, launched, live}
+use Rattle.aoe_flight.specs.declared.deadlines.Due.{Due}
+use Rattle.aoe_flight.proofs.DueLemmas.{deadlines-fewer, dues-launched, dues-live}
 use Rattle.aoe_flight.proofs.SlotLemmas.{length-held}
-use Rattle.aoe_flight.proofs.SoundLemmas.{count-live, flies-new, forget-value, live-new, live-view, sound-live, sound-new}
+use Rattle.aoe_flight.proofs.SoundLemmas.{count-live, flies-new, forget-value, live-new, live-view, sound-live, sound-new, time-of}
 use Rattle.std.proofs.Common.{rules}
 use Rattle.aoe_flight.proofs.RecallLemmas.{free-recalled, recalls-launch}
 use Rattle.aoe_flight.proofs.flight.Flight.launch.Goals as goal
 
 pub invariant_of-self : goal.invariant_of-self
-invariant_of-self c = sound-live _ _ c.self.inside.rest.0 c.args.now.0 (values c.self.inside.commands) (values c.forget.new.commands) c.forget.new.commands.capacity c.forget.ensures.values c.forget.ensures.capacity c.self.invariant
+invariant_of-self c =
+    let later = time-of _ _ _ _ _ c.args.now.0 (values c.self.inside.commands) c.args.self.now c.self.view_is c.requires in (
+      sound-live _ _ c.self.inside.rest.0 c.args.now.0 (values c.self.inside.commands) (values c.forget.new.commands) c.forget.new.commands.capacity c.forget.ensures.values c.forget.ensures.capacity c.self.invariant.0,
+      dues-live _ _ c.self.inside.rest.0 c.args.now.0 (values c.self.inside.commands) _ c.self.inside.deadlines c.forget.ensures.values later c.self.invariant.1,
+    )
 
 pub returns-then-len-self-clause-full : goal.returns-then-len-self-clause-full
 returns-then-len-self-clause-full c =
@@ -27,27 +33,32 @@ returns-then-len-self-clause-unchanged c = forget-value _ _ _ _ _ c.args.now.0 (
 
 pub returns-then-len-self-clause-distinct : goal.returns-then-len-self-clause-distinct
 returns-then-len-self-clause-distinct c =
-    let sound = sound-live _ _ c.self.inside.rest.0 c.args.now.0 (values c.self.inside.commands) (values c.forget.new.commands) c.forget.new.commands.capacity c.forget.ensures.values c.forget.ensures.capacity c.self.invariant in
+    let sound = sound-live _ _ c.self.inside.rest.0 c.args.now.0 (values c.self.inside.commands) (values c.forget.new.commands) c.forget.new.commands.capacity c.forget.ensures.values c.forget.ensures.capacity c.self.invariant.0 in
     λ tag. count-live c.self.inside.rest.0 c.args.now.0 (values c.forget.new.commands) tag (sound.distinct tag)
 
 pub next_tag-tag-requires : goal.next_tag-tag-requires
 next_tag-tag-requires c =
-    let sound = sound-live _ _ c.self.inside.rest.0 c.args.now.0 (values c.self.inside.commands) (values c.forget.new.commands) c.forget.new.commands.capacity c.forget.ensures.values c.forget.ensures.capacity c.self.invariant in
+    let sound = sound-live _ _ c.self.inside.rest.0 c.args.now.0 (values c.self.inside.commands) (values c.forget.new.commands) c.forget.new.commands.capacity c.forget.ensures.values c.forget.ensures.capacity c.self.invariant.0 in
     omega (arith, sound.fits, sound.few)
 
 pub insert-requires : goal.insert-requires
 insert-requires c =
-    let sound = sound-live _ _ c.self.inside.rest.0 c.args.now.0 (values c.self.inside.commands) (values c.forget.new.commands) c.forget.new.commands.capacity c.forget.ensures.values c.forget.ensures.capacity c.self.invariant in
+    let sound = sound-live _ _ c.self.inside.rest.0 c.args.now.0 (values c.self.inside.commands) (values c.forget.new.commands) c.forget.new.commands.capacity c.forget.ensures.values c.forget.ensures.capacity c.self.invariant.0 in
     let count : c.len.result ≡ length (values c.forget.new.commands) = c.len.ensures ∙ length-held c.forget.new.commands.slots in
     omega (arith, count, c.if-len-self.false, sound.reserved)
 
 pub invariant_of-self-2 : goal.invariant_of-self-2
 invariant_of-self-2 c =
     let count : c.len.result ≡ length (values c.forget.new.commands) = c.len.ensures ∙ length-held c.forget.new.commands.slots in
-    let sound = sound-live _ _ c.self.inside.rest.0 c.args.now.0 (values c.self.inside.commands) (values c.forget.new.commands) c.forget.new.commands.capacity c.forget.ensures.values c.forget.ensures.capacity c.self.invariant in
-    let free = ap (λ (d : Outstanding). is_taken (values c.forget.new.commands) d.flying.tag) c.launched.ensures ∙ c.next_tag-tag.ensures.free in
-    let after = sound-new _ _ c.launched.result (values c.forget.new.commands) (values c.insert.new.commands) c.insert.new.commands.capacity c.insert.ensures.values free c.insert.ensures.capacity (omega (arith, count, c.if-len-self.false)) sound in
-    after
+    let sound = sound-live _ _ c.self.inside.rest.0 c.args.now.0 (values c.self.inside.commands) (values c.forget.new.commands) c.forget.new.commands.capacity c.forget.ensures.values c.forget.ensures.capacity c.self.invariant.0 in
+    let free = ap (λ (d : Outstanding). is_taken (values c.forget.new.commands) d.flying.tag) c.launched-command.ensures ∙ c.next_tag-tag.ensures.free in
+    let after = sound-new _ _ c.launched-command.result (values c.forget.new.commands) (values c.insert.new.commands) c.insert.new.commands.capacity c.insert.ensures.values free c.insert.ensures.capacity (omega (arith, count, c.if-len-self.false)) sound in
+    let later = time-of _ _ _ _ _ c.args.now.0 (values c.self.inside.commands) c.args.self.now c.self.view_is c.requires in
+    let dues = dues-live _ _ c.self.inside.rest.0 c.args.now.0 (values c.self.inside.commands) _ c.self.inside.deadlines c.forget.ensures.values later c.self.invariant.1 in
+    let flying : c.launched-command.result.finished ≡ false = ap (λ (d : Outstanding). d.finished) c.launched-command.ensures in
+    let last : c.launched-command.result.flying.last.0 ≡ c.args.now.0 = ap (λ (d : Outstanding). d.flying.last.0) c.launched-command.ensures in
+    let D : Due → Type 0 = λ d. IsPermutation (d ∷ c.self.inside.deadlines.dues) c.insert-2.new.self.dues in
+    (after, dues-launched _ c.args.now.0 c.launched-command.result (values c.forget.new.commands) (values c.insert.new.commands) c.self.inside.deadlines c.insert-2.new.self flying (omega (arith, last)) c.insert.ensures.values (subst D c.due.ensures c.insert-2.ensures.dues) c.insert-2.ensures.room dues)
 
 pub returns-clause-room : goal.returns-clause-room
 returns-clause-room c =
@@ -71,7 +82,7 @@ returns-clause-command c =
     let new = launched c.args.ticket c.next_tag-tag.result c.args.now c.args.path c.args.wait in
     let P : Outstanding → Type 0 = λ d. IsPermutation (d ∷ values c.forget.new.commands) (values c.insert.new.commands) in
     let Q : List Outstanding → Type 0 = λ l. IsPermutation (new ∷ l) (values c.insert.new.commands) in
-    let all : IsPermutation (new ∷ live c.self.inside.rest.0 c.args.now.0 (values c.self.inside.commands)) (values c.insert.new.commands) = subst Q c.forget.ensures.values (subst P c.launched.ensures c.insert.ensures.values) in
+    let all : IsPermutation (new ∷ live c.self.inside.rest.0 c.args.now.0 (values c.self.inside.commands)) (values c.insert.new.commands) = subst Q c.forget.ensures.values (subst P c.launched-command.ensures c.insert.ensures.values) in
     let alive = live-new c.self.inside.rest.0 c.args.now.0 new (values c.self.inside.commands) (values c.insert.new.commands) refl all in
     rw (old, alive) all
 
@@ -80,16 +91,16 @@ returns-clause-flies c =
     let new = launched c.args.ticket c.next_tag-tag.result c.args.now c.args.path c.args.wait in
     let P : Outstanding → Type 0 = λ d. IsPermutation (d ∷ values c.forget.new.commands) (values c.insert.new.commands) in
     let Q : List Outstanding → Type 0 = λ l. IsPermutation (new ∷ l) (values c.insert.new.commands) in
-    let all : IsPermutation (new ∷ live c.self.inside.rest.0 c.args.now.0 (values c.self.inside.commands)) (values c.insert.new.commands) = subst Q c.forget.ensures.values (subst P c.launched.ensures c.insert.ensures.values) in
+    let all : IsPermutation (new ∷ live c.self.inside.rest.0 c.args.now.0 (values c.self.inside.commands)) (values c.insert.new.commands) = subst Q c.forget.ensures.values (subst P c.launched-command.ensures c.insert.ensures.values) in
     let alive = live-new c.self.inside.rest.0 c.args.now.0 new (values c.self.inside.commands) (values c.insert.new.commands) refl all in
     rw alive (flies-new c.args.ticket.0 new (live c.self.inside.rest.0 c.args.now.0 (values c.self.inside.commands)) (values c.insert.new.commands) all (eq-eqb c.args.ticket.0 c.args.ticket.0 refl))
 
 pub returns-clause-distinct : goal.returns-clause-distinct
 returns-clause-distinct c =
     let count : c.len.result ≡ length (values c.forget.new.commands) = c.len.ensures ∙ length-held c.forget.new.commands.slots in
-    let sound = sound-live _ _ c.self.inside.rest.0 c.args.now.0 (values c.self.inside.commands) (values c.forget.new.commands) c.forget.new.commands.capacity c.forget.ensures.values c.forget.ensures.capacity c.self.invariant in
-    let free = ap (λ (d : Outstanding). is_taken (values c.forget.new.commands) d.flying.tag) c.launched.ensures ∙ c.next_tag-tag.ensures.free in
-    let after = sound-new _ _ c.launched.result (values c.forget.new.commands) (values c.insert.new.commands) c.insert.new.commands.capacity c.insert.ensures.values free c.insert.ensures.capacity (omega (arith, count, c.if-len-self.false)) sound in
+    let sound = sound-live _ _ c.self.inside.rest.0 c.args.now.0 (values c.self.inside.commands) (values c.forget.new.commands) c.forget.new.commands.capacity c.forget.ensures.values c.forget.ensures.capacity c.self.invariant.0 in
+    let free = ap (λ (d : Outstanding). is_taken (values c.forget.new.commands) d.flying.tag) c.launched-command.ensures ∙ c.next_tag-tag.ensures.free in
+    let after = sound-new _ _ c.launched-command.result (values c.forget.new.commands) (values c.insert.new.commands) c.insert.new.commands.capacity c.insert.ensures.values free c.insert.ensures.capacity (omega (arith, count, c.if-len-self.false)) sound in
     λ tag. count-live c.self.inside.rest.0 c.args.now.0 (values c.insert.new.commands) tag (after.distinct tag)
 
 pub returns-clause-same : goal.returns-clause-same
@@ -103,3 +114,10 @@ returns-clause-recalls c = λ sent recalls.
 
 pub returns-clause-free : goal.returns-clause-free
 returns-clause-free c = λ sent recalls. free-recalled c.args.self.now sent c.args.now.0 c.next_tag-tag.result recalls c.requires (returns-clause-tag c).free
+
+pub insert-requires-2 : goal.insert-requires-2
+insert-requires-2 c =
+    let count : c.len.result ≡ length (values c.forget.new.commands) = c.len.ensures ∙ length-held c.forget.new.commands.slots in
+    let later = time-of _ _ _ _ _ c.args.now.0 (values c.self.inside.commands) c.args.self.now c.self.view_is c.requires in
+    let dues = dues-live _ _ c.self.inside.rest.0 c.args.now.0 (values c.self.inside.commands) _ c.self.inside.deadlines c.forget.ensures.values later c.self.invariant.1 in
+    omega (arith, count, c.if-len-self.false, dues.reserved, deadlines-fewer _ _ _ _ dues)

@@ -1,11 +1,14 @@
-use Rattle.std.proofs.Common.{◌≡◌, Some, None, sym, subst, ◌∙◌, rules, nat_eq}
+use Rattle.std.proofs.Common.{◌≡◌, List, ap, Some, None, sym, subst, ◌∙◌, rules, nat_eq}
 use Rattle.std.specs.Prelude.{position}
 use Rattle.aoe_hold.specs.declared.command.Command.{Command}
-use Rattle.aoe_hold.specs.Commands.{after_stage, stage_finished}
+use Rattle.aoe_hold.specs.Commands.{after_stage, stage_finished, unsent_count}
+use Rattle.aoe_hold.specs.Queue.{IsIndex}
 use Rattle.aoe_hold.specs.HoldTable.{HoldTable, Recalls}
 use Rattle.aoe_hold.proofs.StageLemmas.{count-finished, place-within, stage-missing, stage-set}
 use Rattle.aoe_hold.proofs.OrderLemmas.{ascending-after_stage, up_to-after_stage}
 use Rattle.aoe_hold.proofs.TableLemmas.{finish-recalls, finish-value}
+use Rattle.aoe_hold.proofs.HoldLemmas.{index-ended, index-ended_room}
+use Rattle.aoe_hold.proofs.ReleaseLemmas.{one-at, Ended}
 use Rattle.aoe_hold.proofs.holds.Holds.finished.Goals as goal
 
 pub invariant_of-self : goal.invariant_of-self
@@ -13,12 +16,30 @@ invariant_of-self c =
     let held = c.self.inside.commands.items in
     let command = c.index_mut-command.result.now in
     let found : position (λ (d : Command). nat_eq d.ticket.0 c.args.ticket.0) held ≡ Some c.in-Some.at = search rules in
-    let after = stage-set c.args.ticket.0 stage_finished held c.in-Some.at command c.finished-command.result c.self.invariant.0 found c.index_mut-command.ensures.value c.finished-command.ensures in
-    let within = place-within c.args.ticket.0 held c.in-Some.at command found in (
-      rw after (ascending-after_stage c.args.ticket.0 stage_finished held c.self.invariant.0),
-      rw after (up_to-after_stage c.args.ticket.0 stage_finished _ held c.self.invariant.1),
-      c.self.invariant.2 ∙ sym (count-finished held c.in-Some.at command c.finished-command.result within c.index_mut-command.ensures.value c.finished-command.ensures),
+    let after = stage-set c.args.ticket.0 stage_finished held c.in-Some.at command c.finished-command.result c.self.invariant.0.0 found c.index_mut-command.ensures.value c.finished-command.ensures in
+    let within = place-within c.args.ticket.0 held c.in-Some.at command found in
+    let seen = c.deref-in-Some.ensures.value in
+    let ended : Ended c.args.ticket.0 held c.deref-in-Some.result.now command = record { is = seen ∙ after; once = λ p. one-at c.args.ticket.0 p held c.in-Some.at command c.self.invariant.0.0 found c.index_mut-command.ensures.value } in
+    let P : List Command → Type 0 = λ l. IsIndex c.self.inside.life.0 c.self.inside.latest.0 c.self.inside.unsent l c.release.new.timed c.self.inside.ready in (
+      (
+        rw after (ascending-after_stage c.args.ticket.0 stage_finished held c.self.invariant.0.0),
+        rw after (up_to-after_stage c.args.ticket.0 stage_finished _ held c.self.invariant.0.1),
+        c.self.invariant.0.2 ∙ sym (count-finished held c.in-Some.at command c.finished-command.result within c.index_mut-command.ensures.value c.finished-command.ensures),
+      ),
+      subst P seen (index-ended c.self.inside.life.0 c.self.inside.latest.0 c.self.inside.unsent c.args.ticket.0 held c.deref-in-Some.result.now command c.self.inside.timed c.self.inside.ready c.release.new.timed ended c.release.ensures.waiters c.release.ensures.knows c.release.ensures.room c.self.invariant.1),
     )
+
+pub release-requires : goal.release-requires
+release-requires c =
+    let held = c.self.inside.commands.items in
+    let command = c.index_mut-command.result.now in
+    let found : position (λ (d : Command). nat_eq d.ticket.0 c.args.ticket.0) held ≡ Some c.in-Some.at = search rules in
+    let after = stage-set c.args.ticket.0 stage_finished held c.in-Some.at command c.finished-command.result c.self.invariant.0.0 found c.index_mut-command.ensures.value c.finished-command.ensures in
+    let within = place-within c.args.ticket.0 held c.in-Some.at command found in
+    let seen = c.deref-in-Some.ensures.value in
+    let ended : Ended c.args.ticket.0 held c.deref-in-Some.result.now command = record { is = seen ∙ after; once = λ p. one-at c.args.ticket.0 p held c.in-Some.at command c.self.invariant.0.0 found c.index_mut-command.ensures.value } in
+    index-ended_room c.self.inside.life.0 c.self.inside.latest.0 c.self.inside.unsent c.args.ticket.0 held c.deref-in-Some.result.now command c.self.inside.timed c.self.inside.ready ended
+    (c.self.invariant.0.2 ∙ sym (count-finished held c.in-Some.at command c.finished-command.result within c.index_mut-command.ensures.value c.finished-command.ensures) ∙ sym (ap unsent_count seen)) c.self.invariant.1
 
 pub returns-in-Some-clause-value : goal.returns-in-Some-clause-value
 returns-in-Some-clause-value c =
@@ -26,7 +47,7 @@ returns-in-Some-clause-value c =
     let command = c.index_mut-command.result.now in
     let found : position (λ (d : Command). nat_eq d.ticket.0 c.args.ticket.0) held ≡ Some c.in-Some.at = search rules in
     finish-value _ _ c.args.ticket.0 _ held _ c.args.self.now c.self.view_is
-    (stage-set c.args.ticket.0 stage_finished held c.in-Some.at command c.finished-command.result c.self.invariant.0 found c.index_mut-command.ensures.value c.finished-command.ensures)
+    (stage-set c.args.ticket.0 stage_finished held c.in-Some.at command c.finished-command.result c.self.invariant.0.0 found c.index_mut-command.ensures.value c.finished-command.ensures)
 
 pub returns-in-Some-clause-recalls : goal.returns-in-Some-clause-recalls
 returns-in-Some-clause-recalls c =
@@ -34,7 +55,7 @@ returns-in-Some-clause-recalls c =
     let command = c.index_mut-command.result.now in
     let found : position (λ (d : Command). nat_eq d.ticket.0 c.args.ticket.0) held ≡ Some c.in-Some.at = search rules in
     finish-recalls _ _ c.args.ticket.0 _ held _ c.args.self.now c.self.view_is
-    (stage-set c.args.ticket.0 stage_finished held c.in-Some.at command c.finished-command.result c.self.invariant.0 found c.index_mut-command.ensures.value c.finished-command.ensures)
+    (stage-set c.args.ticket.0 stage_finished held c.in-Some.at command c.finished-command.result c.self.invariant.0.0 found c.index_mut-command.ensures.value c.finished-command.ensures)
 
 pub returns-in_default-clause-value : goal.returns-in_default-clause-value
 returns-in_default-clause-value c =

@@ -1,14 +1,61 @@
-use Rattle.aoe_hold.proofs.TableLemmas.{answer-clear, answer-lowest, answer-none, time-recalls}
+use Rattle.std.proofs.Common.{◌≡◌, ◌+◌, ◌-◌, ◌≤◌, arith, length, rules, subst, ◌∙◌}
+use Rattle.std.specs.Prelude.{option_copied, option_map}
+use Rattle.aoe_hold.specs.declared.queue.Waiter.{Waiter}
+use Rattle.aoe_hold.specs.Commands.{clear_tickets}
+use Rattle.aoe_hold.specs.HoldTable.{HoldTable}
+use Rattle.aoe_hold.proofs.HoldLemmas.{index-few, index-moved, index-ready, steps-few}
+use Rattle.aoe_hold.proofs.TableLemmas.{answer-clear, answer-lowest, answer-none, time-of, time-recalls, time-value}
+use Rattle.aoe_hold.proofs.WaitLemmas.{first-clear}
 use Rattle.aoe_hold.proofs.holds.Holds.next_clear.Goals as goal
 
+pub make_ready-requires : goal.make_ready-requires
+make_ready-requires g c =
+    let few = index-few c.self.inside.life.0 c.self.inside.latest.0 c.self.inside.unsent c.self.inside.commands.items c.self.inside.timed c.self.inside.ready c.self.invariant.0.2 c.self.invariant.1 in
+    omega (arith, few, c.self.invariant.1.ready_room)
+
+pub invariant_of-self : goal.invariant_of-self
+invariant_of-self g c =
+    let later = time-of _ _ c.args.now.0 _ c.self.inside.commands.items c.args.self.now c.self.view_is c.requires in
+    (c.self.invariant.0, index-moved c.self.inside.life.0 c.self.inside.latest.0 c.args.now.0 c.self.inside.unsent c.self.inside.commands.items c.self.inside.timed c.self.inside.ready _ _ later c.make_ready.ensures.moved c.self.invariant.1)
+
 pub returns-clause-clear : goal.returns-clause-clear
-returns-clause-clear c = answer-clear _ _ c.args.now.0 _ c.self.inside.commands.items c.args.self.now c.self.view_is c.requires c.first_clear.result (rw (← c.deref.ensures.value) c.first_clear.ensures)
+returns-clause-clear g c =
+    let later = time-of _ _ c.args.now.0 _ c.self.inside.commands.items c.args.self.now c.self.view_is c.requires in
+    let index = index-moved c.self.inside.life.0 c.self.inside.latest.0 c.args.now.0 c.self.inside.unsent c.self.inside.commands.items c.self.inside.timed c.self.inside.ready _ _ later c.make_ready.ensures.moved c.self.invariant.1 in
+    let ready = index-ready c.self.inside.life.0 c.args.now.0 c.self.inside.unsent c.self.inside.commands.items _ _ c.self.invariant.0.0 index c.make_ready.ensures.late c.look-first.ensures.order in
+    let mapped : c.map.result ≡ option_map (λ (w : Waiter). w.command.ticket) (option_copied c.look-first.result) = search rules in
+    answer-clear _ _ c.args.now.0 _ c.self.inside.commands.items c.args.self.now c.self.view_is c.requires c.map.result (mapped ∙ first-clear c.self.inside.life.0 c.args.now.0 c.self.inside.commands.items _ (option_copied c.look-first.result) c.look-first.ensures.value ready)
 
 pub returns-clause-lowest : goal.returns-clause-lowest
-returns-clause-lowest c = answer-lowest _ _ c.args.now.0 _ c.self.inside.commands.items c.args.self.now c.self.view_is c.requires c.self.invariant.0 c.first_clear.result (rw (← c.deref.ensures.value) c.first_clear.ensures)
+returns-clause-lowest g c =
+    let later = time-of _ _ c.args.now.0 _ c.self.inside.commands.items c.args.self.now c.self.view_is c.requires in
+    let index = index-moved c.self.inside.life.0 c.self.inside.latest.0 c.args.now.0 c.self.inside.unsent c.self.inside.commands.items c.self.inside.timed c.self.inside.ready _ _ later c.make_ready.ensures.moved c.self.invariant.1 in
+    let ready = index-ready c.self.inside.life.0 c.args.now.0 c.self.inside.unsent c.self.inside.commands.items _ _ c.self.invariant.0.0 index c.make_ready.ensures.late c.look-first.ensures.order in
+    let mapped : c.map.result ≡ option_map (λ (w : Waiter). w.command.ticket) (option_copied c.look-first.result) = search rules in
+    answer-lowest _ _ c.args.now.0 _ c.self.inside.commands.items c.args.self.now c.self.view_is c.requires c.self.invariant.0.0 c.map.result (mapped ∙ first-clear c.self.inside.life.0 c.args.now.0 c.self.inside.commands.items _ (option_copied c.look-first.result) c.look-first.ensures.value ready)
 
 pub returns-clause-none : goal.returns-clause-none
-returns-clause-none c = answer-none _ _ c.args.now.0 _ c.self.inside.commands.items c.args.self.now c.self.view_is c.requires c.first_clear.result (rw (← c.deref.ensures.value) c.first_clear.ensures)
+returns-clause-none g c =
+    let later = time-of _ _ c.args.now.0 _ c.self.inside.commands.items c.args.self.now c.self.view_is c.requires in
+    let index = index-moved c.self.inside.life.0 c.self.inside.latest.0 c.args.now.0 c.self.inside.unsent c.self.inside.commands.items c.self.inside.timed c.self.inside.ready _ _ later c.make_ready.ensures.moved c.self.invariant.1 in
+    let ready = index-ready c.self.inside.life.0 c.args.now.0 c.self.inside.unsent c.self.inside.commands.items _ _ c.self.invariant.0.0 index c.make_ready.ensures.late c.look-first.ensures.order in
+    let mapped : c.map.result ≡ option_map (λ (w : Waiter). w.command.ticket) (option_copied c.look-first.result) = search rules in
+    answer-none _ _ c.args.now.0 _ c.self.inside.commands.items c.args.self.now c.self.view_is c.requires c.map.result (mapped ∙ first-clear c.self.inside.life.0 c.args.now.0 c.self.inside.commands.items _ (option_copied c.look-first.result) c.look-first.ensures.value ready)
+
+pub returns-clause-same : goal.returns-clause-same
+returns-clause-same g c =
+    let later = time-of _ _ c.args.now.0 _ c.self.inside.commands.items c.args.self.now c.self.view_is c.requires in
+    let index = index-moved c.self.inside.life.0 c.self.inside.latest.0 c.args.now.0 c.self.inside.unsent c.self.inside.commands.items c.self.inside.timed c.self.inside.ready _ _ later c.make_ready.ensures.moved c.self.invariant.1 in
+    let ready = index-ready c.self.inside.life.0 c.args.now.0 c.self.inside.unsent c.self.inside.commands.items _ _ c.self.invariant.0.0 index c.make_ready.ensures.late c.look-first.ensures.order in
+    time-value _ _ c.args.now.0 _ c.self.inside.commands.items c.args.self.now c.self.view_is _ ready
 
 pub returns-clause-recalls : goal.returns-clause-recalls
-returns-clause-recalls c = time-recalls _ _ c.args.now.0 _ c.self.inside.commands.items c.args.self.now c.self.view_is c.requires
+returns-clause-recalls g c = time-recalls _ _ c.args.now.0 _ c.self.inside.commands.items c.args.self.now c.self.view_is c.requires
+
+pub returns-clause-bound : goal.returns-clause-bound
+returns-clause-bound g c =
+    let later = time-of _ _ c.args.now.0 _ c.self.inside.commands.items c.args.self.now c.self.view_is c.requires in
+    let index = index-moved c.self.inside.life.0 c.self.inside.latest.0 c.args.now.0 c.self.inside.unsent c.self.inside.commands.items c.self.inside.timed c.self.inside.ready _ _ later c.make_ready.ensures.moved c.self.invariant.1 in
+    let ready = index-ready c.self.inside.life.0 c.args.now.0 c.self.inside.unsent c.self.inside.commands.items _ _ c.self.invariant.0.0 index c.make_ready.ensures.late c.look-first.ensures.order in
+    let P : HoldTable → Type 0 = λ t. c.look-first.new.steps ≤ c.args.steps.now + 2 + (length (clear_tickets t.life c.args.now.0 t.commands) - length t.ready) in
+    subst P c.self.view_is (steps-few c.args.steps.now c.look-first.new.steps c.make_ready.new.steps c.self.inside.ready.waiters _ _ ready c.make_ready.ensures.steps c.look-first.ensures.step)

@@ -1,0 +1,102 @@
+-- Things in the order of their times and tickets.
+use Rattle.std.proofs.Common.{ℕ, zero, suc, ◌≡◌, ◌<◌, ◌≤◌, ◌&&◌, cond, Bool, true, false, List, [], ◌∷◌, length, get_or, ◌⊎◌, inl, inr, sym, ◌∙◌, arith, nat_eq, nat_lt, if◌then◌else◌, Some}
+use Rattle.std.specs.Prelude.{slice_get, All, Contains, Err, IsOk, Ok, Result, is_ok}
+use Rattle.std.specs.List.{filter, insert}
+use Rattle.std.specs.List.Sorted.{IsPartitionedBy}
+use Rattle.std.proofs.lemmas.Bool.{and_cases, and_left, and_parts, and_right, cases_eq, cases_Bool, eqb-false, eqb-true, le-ltb, ltb-false, ltb-true, ne_eqb, or_cases, or_from, or_parts}
+use Rattle.std.proofs.lemmas.List.Elements.{All-cons, All-filter, All-nil}
+use Rattle.std.proofs.lemmas.List.Sorted.{All-permutation, IsPermutation-insert}
+use Rattle.aoe_hold.specs.Order.{comes_before, AreInOrder}
+
+before-false : {X : Type 0} (time ticket : X → ℕ) (a b : X) → comes_before time ticket a b ≡ false → (time b ≤ time a) × (time a ≡ time b → ticket b ≤ ticket a)
+before-false time ticket a b out =
+    let parts = or_parts (nat_lt (time a) (time b)) (nat_eq (time a) (time b) && nat_lt (ticket a) (ticket b)) out in (
+      ltb-false (time a) (time b) parts.0,
+      λ same. elim (and_cases (nat_eq (time a) (time b)) (nat_lt (ticket a) (ticket b)) parts.1) [
+        | inl other ↦ absurd (eqb-false (time a) (time b) other same)
+        | inr higher ↦ ltb-false (ticket a) (ticket b) higher
+      ],
+    )
+
+before-from : {X : Type 0} (time ticket : X → ℕ) (a b : X) → time b ≤ time a → (time a ≡ time b → ticket b ≤ ticket a) → comes_before time ticket a b ≡ false
+before-from time ticket a b later higher =
+    or_from (nat_lt (time a) (time b)) (nat_eq (time a) (time b) && nat_lt (ticket a) (ticket b)) (le-ltb (time a) (time b) later)
+    (elim (cases_eq (time a) (time b)) [
+      | inl same ↦ and_right (nat_eq (time a) (time b)) (nat_lt (ticket a) (ticket b)) (le-ltb (ticket a) (ticket b) (higher same))
+      | inr other ↦ and_left (nat_eq (time a) (time b)) (nat_lt (ticket a) (ticket b)) (ne_eqb (time a) (time b) other)
+    ])
+
+before-true : {X : Type 0} (time ticket : X → ℕ) (a b : X) → comes_before time ticket a b ≡ true → (time a < time b) ⊎ ((time a ≡ time b) × (ticket a < ticket b))
+before-true time ticket a b is = elim (or_cases (nat_lt (time a) (time b)) (nat_eq (time a) (time b) && nat_lt (ticket a) (ticket b)) is) [
+  | inl earlier ↦ inl (ltb-true (time a) (time b) earlier)
+  | inr both ↦
+      let parts = and_parts (nat_eq (time a) (time b)) (nat_lt (ticket a) (ticket b)) both in
+      inr (eqb-true (time a) (time b) parts.0, ltb-true (ticket a) (ticket b) parts.1)
+]
+
+before-self : {X : Type 0} (time ticket : X → ℕ) (a : X) → comes_before time ticket a a ≡ false
+before-self time ticket a = before-from time ticket a a (omega arith) (λ _. omega arith)
+
+before-back : {X : Type 0} (time ticket : X → ℕ) (a b : X) → comes_before time ticket a b ≡ true → comes_before time ticket b a ≡ false
+before-back time ticket a b is = elim (before-true time ticket a b is) [
+  | inl earlier ↦ before-from time ticket b a (omega (arith, earlier)) (λ same. absurd (omega (arith, earlier, same)))
+  | inr tied ↦ before-from time ticket b a (omega (arith, tied.0)) (λ same. omega (arith, tied.1))
+]
+
+before-neither : {X : Type 0} (time ticket : X → ℕ) (a b c : X) → comes_before time ticket a b ≡ false → comes_before time ticket b c ≡ false → comes_before time ticket a c ≡ false
+before-neither time ticket a b c first second =
+    let one = before-false time ticket a b first in
+    let two = before-false time ticket b c second in
+    before-from time ticket a c (omega (arith, one.0, two.0)) (λ same.
+    let tied : time a ≡ time b = omega (arith, one.0, two.0, same) in
+    omega (arith, one.1 tied, two.1 (sym tied ∙ same)))
+
+-- what stands ahead of one that comes before another comes before it, too
+before-ahead : {X : Type 0} (time ticket : X → ℕ) (a b c : X) → comes_before time ticket b a ≡ false → comes_before time ticket b c ≡ true → comes_before time ticket a c ≡ true
+before-ahead time ticket a b c ahead is = elim (cases_Bool (comes_before time ticket a c)) [
+  | inl first ↦ first
+  | inr out ↦ let none : comes_before time ticket b c ≡ false = before-neither time ticket b a c ahead out in absurd cc
+]
+
+-- no earlier than the head, and with no lower ticket at the same time
+pub not-before : {X : Type 0} (time ticket : X → ℕ) (head x : X) → comes_before time ticket x head ≡ false → (time head ≤ time x) × (time x ≡ time head → ticket head ≤ ticket x)
+not-before time ticket head x is = before-false time ticket x head is
+
+pub ordered-insert : {X : Type 0} (time ticket : X → ℕ) (y : X) (xs : List X) (i : ℕ) → AreInOrder time ticket xs → i ≤ length xs
+    → ((k : ℕ) (d : X) → 0 ≤ k → k < i → comes_before time ticket (get_or xs k d) y ≡ true)
+    → ((k : ℕ) (d : X) → i ≤ k → k < length xs → comes_before time ticket (get_or xs k d) y ≡ false) → AreInOrder time ticket (insert xs i y)
+ordered-insert time ticket y [] zero order within low high = (All-nil (λ later. comes_before time ticket later y ≡ false), tt)
+ordered-insert time ticket y [] (suc i) order within low high = absurd (omega (arith, within))
+ordered-insert time ticket y (x ∷ xs) zero order within low high = ((λ k d below. high k d (omega arith) below), order)
+ordered-insert time ticket y (x ∷ xs) (suc i) order within low high =
+    let behind : comes_before time ticket y x ≡ false = before-back time ticket x y (low 0 x (omega arith) (omega arith)) in (
+      All-permutation (λ later. comes_before time ticket later x ≡ false) (y ∷ xs) (insert xs i y) (IsPermutation-insert xs i y) (All-cons (λ later. comes_before time ticket later x ≡ false) y xs behind order.0),
+      ordered-insert time ticket y xs i order.1 (omega (arith, within)) (λ k d from below. low (suc k) d (omega arith) (omega (arith, below))) (λ k d from below. high (suc k) d (omega (arith, from)) (omega (arith, below))),
+    )
+
+pub partitioned : {X : Type 0} (time ticket : X → ℕ) (y : X) (xs : List X) → AreInOrder time ticket xs → IsPartitionedBy (λ d. comes_before time ticket d y) xs
+partitioned time ticket y [] order i j d le below passes = absurd (omega (arith, below))
+partitioned time ticket y (x ∷ xs) order zero zero d le below passes = passes
+partitioned time ticket y (x ∷ xs) order zero (suc j) d le below passes = before-ahead time ticket x (get_or xs j d) y (order.0 j d (omega (arith, below))) passes
+partitioned time ticket y (x ∷ xs) order (suc i) zero d le below passes = absurd (omega (arith, le))
+partitioned time ticket y (x ∷ xs) order (suc i) (suc j) d le below passes = partitioned time ticket y xs order.1 i j d (omega (arith, le)) (omega (arith, below)) passes
+
+pub ordered-filter : {X : Type 0} (time ticket : X → ℕ) (p : X → Bool) (xs : List X) → AreInOrder time ticket xs → AreInOrder time ticket (filter p xs)
+ordered-filter time ticket p [] order = tt
+ordered-filter time ticket p (x ∷ xs) order = at (p x) (ordered-filter time ticket p xs order.1)
+  where
+    at : (b : Bool) → AreInOrder time ticket (filter p xs) → AreInOrder time ticket (cond b (x ∷ filter p xs) (filter p xs))
+    at true rest = (All-filter p (λ later. comes_before time ticket later x ≡ false) xs order.0, rest)
+    at false rest = rest
+
+-- the head of the list: none comes before it
+pub head-first : {X : Type 0} (time ticket : X → ℕ) (xs : List X) (d : X) → AreInOrder time ticket xs → slice_get xs 0 ≡ Some d → Contains xs d × All (λ e. comes_before time ticket e d ≡ false) xs
+head-first time ticket [] d order is = absurd cc
+head-first time ticket (x ∷ xs) d order is =
+    let same : x ≡ d = cc in
+    ((0, omega arith, same), rw (← same) (All-cons (λ e. comes_before time ticket e x ≡ false) x xs (before-self time ticket x) order.0))
+
+-- an insert for which there was room
+pub inserted-ok : {X T E : Type 0} (r : Result T E) (xs new : List X) (i : ℕ) (x : X) → IsOk r → new ≡ (if is_ok r then insert xs i x else xs) → new ≡ insert xs i x
+inserted-ok (Ok done) xs new i x ok is = is
+inserted-ok (Err refused) xs new i x ok is = absurd cc

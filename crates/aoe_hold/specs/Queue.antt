@@ -1,0 +1,75 @@
+-- Commands that may be sent from some time on, in the order of these times.
+use Rattle.std.specs.Prelude.{ℕ, ◌≡◌, ◌+◌, ◌≤◌, ◌&&◌, Bool, not, List, [], nat_le, All}
+use Rattle.std.specs.List.{count_by, list_any}
+use Rattle.aoe_hold.specs.Order.{AreInOrder}
+use Rattle.aoe_hold.specs.declared.command.Command.{Command}
+use Rattle.aoe_hold.specs.declared.queue.Waiter.{Waiter}
+use Rattle.aoe_hold.specs.Commands.{all_gone, comes_first, finished, has_effect, is_unsent, rests_on_effects}
+
+-- for how many there is room, and those that wait, the one that may be sent first at the head
+pub record QueueTable : Type 0 where
+  pub room : ℕ
+  pub waiters : List Waiter
+
+abbrev pub no_waiters : QueueTable
+no_waiters = record { room = 0; waiters = [] }
+
+-- the time from which a command may be sent, and its ticket
+abbrev pub time_of : Waiter → ℕ
+time_of w = w.from
+
+abbrev pub ticket_of : Waiter → ℕ
+ticket_of w = w.command.ticket.0
+
+abbrev pub IsInOrder : List Waiter → Type 0
+IsInOrder waiters = AreInOrder time_of ticket_of waiters
+
+-- all stand in order, and there is memory for as many as there is room for
+pub record IsInRoom (room capacity : ℕ) (waiters : List Waiter) : Type 0 where
+  pub order : IsInOrder waiters
+  pub reserved : room ≤ capacity
+
+-- an earlier command in conflict isn't finished
+abbrev pub blocks : Command → Command → Bool
+blocks later earlier = comes_first earlier later && not (finished earlier.stage)
+
+abbrev pub is_blocked : List Command → Command → Bool
+is_blocked commands c = list_any (blocks c) commands
+
+-- frames of an earlier command in conflict, which is finished, can still change what the later one rests on
+abbrev pub lingers : ℕ → ℕ → Command → Command → Bool
+lingers life now later earlier =
+    comes_first earlier later && has_effect earlier.kind && rests_on_effects later.kind
+    && finished earlier.stage && not (all_gone life now earlier.stage)
+
+-- a command was never sent, and no earlier one in conflict is unfinished
+abbrev pub waits : List Command → Command → Bool
+waits commands c = is_unsent c && not (is_blocked commands c)
+
+-- a command waited for an ended one, and waits for no other
+abbrev pub is_released : List Command → Command → Command → Bool
+is_released commands ended c = is_unsent c && blocks c ended && not (is_blocked commands c)
+
+-- from its time on no frame can arrive that a command waits for
+abbrev pub Knows : ℕ → ℕ → List Command → Waiter → Type 0
+Knows life latest commands w = (now : ℕ) → latest ≤ now → list_any (λ e. lingers life now w.command e) commands ≡ not (nat_le w.from now)
+
+-- the two queues have just the commands that wait, each with its time; in the second this is past
+pub record IsIndex (life latest unsent : ℕ) (commands : List Command) (timed ready : QueueTable) : Type 0 where
+  pub same : (test : Command → Bool) → count_by (λ w. test w.command) timed.waiters + count_by (λ w. test w.command) ready.waiters
+      ≡ count_by (λ c. waits commands c && test c) commands
+  pub knows_timed : All (Knows life latest commands) timed.waiters
+  pub knows_ready : All (Knows life latest commands) ready.waiters
+  pub past : All (λ w. w.from ≡ 0) ready.waiters
+  pub timed_room : unsent ≤ timed.room
+  pub ready_room : unsent ≤ ready.room
+
+-- commands whose time was past were moved from the first queue to the second
+pub record Moved (now : ℕ) (old_timed old_ready timed ready : QueueTable) : Type 0 where
+  pub same : (test : Command → Bool) → count_by (λ w. test w.command) timed.waiters + count_by (λ w. test w.command) ready.waiters
+      ≡ count_by (λ w. test w.command) old_timed.waiters + count_by (λ w. test w.command) old_ready.waiters
+  pub knows : (life : ℕ) (commands : List Command) → All (Knows life now commands) old_timed.waiters → All (Knows life now commands) old_ready.waiters
+      → All (Knows life now commands) timed.waiters × All (Knows life now commands) ready.waiters
+  pub past : All (λ w. w.from ≡ 0) old_ready.waiters → All (λ w. w.from ≡ 0) ready.waiters
+  pub timed_room : timed.room ≡ old_timed.room
+  pub ready_room : ready.room ≡ old_ready.room

@@ -1,0 +1,121 @@
+//! Commands that may be sent from some time on, in the order of these times.
+ghost use Rattle.std.specs.Prelude.{◌≡◌, ◌+◌, ◌<◌, ◌≤◌, ◌∷◌, ◌++◌, length, not, nat_eq, IfNone, OnOk, option_copied, slice_get};
+ghost use Rattle.std.specs.List.{filter};
+ghost use Rattle.std.specs.List.Sorted.{IsPermutation};
+ghost use Rattle.std.specs.Option.{option_to_list};
+ghost use Rattle.aoe_hold.specs.Order.{comes_before};
+ghost use Rattle.aoe_hold.specs.Queue.{no_waiters, ticket_of, time_of, IsInOrder};
+
+use crate::command::Command;
+use aoe_base::{NoMemory, Steps, Ticket};
+use std::alloc::Global;
+use std::collections::VecDeque;
+use std::marker::Model;
+use std::sync::ledger::Ledger;
+
+/// A command that was never sent and for which no earlier one in conflict is unfinished.
+#[derive(Clone, Copy)]
+pub struct Waiter {
+    pub command: Command,
+
+    /// The time from which no frame can arrive that the command waits for: a sum of two times and
+    /// one needs more than 64 bits.
+    pub from: u128,
+}
+
+impl Waiter {
+    /// Whether the command may be sent before another, or at the same time and has a lower ticket.
+    fn is_before(&self, other: &Waiter) -> bool
+        ensures { result ≡ comes_before time_of ticket_of self.now other.now }
+    {
+        self.from < other.from
+            || self.from == other.from && self.command.ticket < other.command.ticket
+    }
+}
+
+/// Such commands, the one that may be sent first at the head.
+#[derive(Drop)]
+pub struct Queue {
+    /// For how many there is room.
+    room: u32,
+
+    waiters: VecDeque<Waiter>,
+}
+
+impl Model for Queue {
+    ghost use Rattle.std.specs.VecDeque.{deque_capacity};
+    ghost use Rattle.aoe_hold.specs.Queue.{QueueTable, IsInRoom};
+
+    ghost Value = { QueueTable };
+
+    ghost view = { λ q. record { room = q.room; waiters = q.waiters.items } };
+
+    ghost invariant = { λ q. IsInRoom q.room (deque_capacity q.waiters) q.waiters.items };
+}
+
+impl Queue {
+    /// No command waits.
+    pub fn new(alloc: Global) -> Queue
+        ensures { result ≡ no_waiters }
+    {
+        Queue {
+            room: 0,
+            waiters: VecDeque::new(alloc),
+        }
+    }
+
+    /// Makes room for so many commands.
+    pub fn reserve(&mut self, room: u32) -> Result<(), NoMemory>
+        requires { length self.old.waiters ≤ room }
+        ensures waiters { self.new.waiters ≡ self.old.waiters }
+        ensures room { OnOk result (room ≤ self.new.room) }
+        ensures more { self.old.room ≤ self.new.room }
+    {
+        let more = room as usize - self.waiters.len();
+        if self.waiters.reserve(more).is_err() {
+            return Err(NoMemory);
+        }
+        self.room = self.room.max(room);
+        Ok(())
+    }
+
+    /// Looks at the first command: one step.
+    pub fn look<L: Ledger>(&self, steps: &mut Steps<L>) -> Option<&Waiter>
+        ensures value { option_copied result ≡ slice_get self.now.waiters 0 }
+        ensures order { IsInOrder self.now.waiters }
+        ensures step { steps.new ≡ steps.old + 1 }
+    {
+        steps.tick();
+        self.waiters.front()
+    }
+
+    /// Takes the first command out.
+    pub fn pop(&mut self) -> Option<Waiter>
+        ensures waiters { self.old.waiters ≡ option_to_list result ++ self.new.waiters }
+        ensures none { IfNone result (length self.old.waiters ≡ 0) }
+        ensures room { self.new.room ≡ self.old.room }
+    {
+        self.waiters.pop_front()
+    }
+
+    /// Adds a command, for which there is room.
+    pub fn insert(&mut self, waiter: Waiter)
+        requires { length self.old.waiters < self.old.room }
+        ensures waiters { IsPermutation (waiter ∷ self.old.waiters) self.new.waiters }
+        ensures room { self.new.room ≡ self.old.room }
+    {
+        let place = self
+            .waiters
+            .partition_point(|other| other.is_before(&waiter));
+        let _ = self.waiters.insert(place, waiter);
+    }
+
+    /// Takes a command out.
+    pub fn remove(&mut self, ticket: Ticket)
+        ensures waiters { self.new.waiters ≡ filter (λ w. not (nat_eq w.command.ticket.0 ticket.0)) self.old.waiters }
+        ensures room { self.new.room ≡ self.old.room }
+    {
+        self.waiters
+            .retain(|waiter| waiter.command.ticket != ticket);
+    }
+}
