@@ -1,0 +1,6 @@
+mod CallLemmas
+mod LawLemmas
+mod PartLemmas
+mod PlaceLemmas
+mod SoundLemmas
+mod StageLemmas
