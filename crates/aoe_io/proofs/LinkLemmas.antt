@@ -1,10 +1,10 @@
 -- The turns of a link in memory.
-use Rattle.std.proofs.Common.{ℕ, suc, ◌≡◌, ◌<◌, ◌≤◌, ◌+◌, ◌-◌, ◌^◌, true, List, [], ◌∷◌, ◌++◌, Option, Some, None, drop, take, length, map, reverse, min, nat_lt, refl, sym, ap, ◌∙◌, arith, inl, inr, if◌then◌else◌}
+use Rattle.std.proofs.Common.{ℕ, suc, ◌≡◌, ◌<◌, ◌≤◌, ◌+◌, ◌-◌, ◌^◌, true, List, [], ◌∷◌, ◌++◌, Option, Some, None, drop, take, length, length-append, map, reverse, min, nat_lt, refl, sym, ap, subst, ◌∙◌, arith, inl, inr, if◌then◌else◌}
 use Rattle.std.specs.Prelude.{get_or}
 use Rattle.std.specs.Option.{option_map}
 use Rattle.std.proofs.lemmas.List.{append_assoc, drop-drop, drop_all, drop_more, take_more, map-append, reverse-append}
 use Rattle.std.proofs.lemmas.Bool.{cases_lt, lt-ltb, le-ltb}
-use Rattle.aoe_io.specs.Link.{Added, GaveTurns, Turn}
+use Rattle.aoe_io.specs.Link.{Added, GaveTurns, Turn, Turned}
 use Rattle.aoe_io.specs.LinkMemory.{Linking, given_of, passed, turn_next, IsTurned}
 use Rattle.aoe_io.specs.Memory.{counted}
 
@@ -82,3 +82,19 @@ Added-then (Some l) b c xs ys first second = second ∙ ap (option_map (λ told.
 
 pub GaveTurns-then : (m n : ℕ) (a b c : Option (List Turn)) (xs ys : List Turn) → m ≤ n → GaveTurns m a b xs → GaveTurns n b c ys → GaveTurns n a c (ys ++ xs)
 GaveTurns-then m n a b c xs ys more first second = λ below. Added-then a b c xs ys (first (omega arith)) (second below)
+
+-- no turn, further turns, one turn
+
+pub turned-nothing : (n : ℕ) (a : Option (List Turn)) → Turned n n a a []
+turned-nothing n None = record { gave = λ below. refl; later = omega arith; counted = omega arith }
+turned-nothing n (Some l) = record { gave = λ below. refl; later = omega arith; counted = omega arith }
+
+pub turned-then : (l m n : ℕ) (a b c : Option (List Turn)) (xs ys : List Turn) → Turned l m a b xs → Turned m n b c ys → Turned l n a c (ys ++ xs)
+turned-then l m n a b c xs ys one two = record {
+  gave = GaveTurns-then m n a b c xs ys two.later one.gave two.gave;
+  later = omega (arith, one.later, two.later);
+  counted = omega (arith, one.counted, two.counted, length-append ys xs);
+}
+
+pub turned-by : (m n : ℕ) (b c : Option (List Turn)) (t : Turn) → GaveTurns n b c (t ∷ []) → m ≤ n → n ≡ min (m + 1) (2 ^ 64 - 1) → Turned m n b c (t ∷ [])
+turned-by m n b c t gave later e = record { gave = gave; later = later; counted = omega (arith, e) }

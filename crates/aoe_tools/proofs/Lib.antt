@@ -1,0 +1,5 @@
+mod DiscoverLemmas
+mod FoundLemmas
+mod ListenLemmas
+mod OneLemmas
+mod QuestionLemmas

@@ -1,0 +1,31 @@
+-- The tool that asks which devices there are.
+use Rattle.std.specs.Prelude.{ℕ, ◌≡◌, ◌≤◌, ◌<◌, List, [], ◌∷◌, length, Option, Result, Ok, Err}
+use Rattle.aoe_io.specs.Link.{Added, Turn, Turned}
+use Rattle.aoe_tools.specs.Asking.{Response, TookSome, asked, responses}
+use Rattle.aoe_tools.specs.Found.{found_in}
+use Rattle.aoe_tools.specs.declared.end.ToolRefusal.{ToolRefusal}
+use Rattle.aoe_tools.specs.declared.end.ToolRefusal.TheVariants as tool
+use Rattle.aoe_tools.specs.declared.found.Seen.{Seen}
+use Rattle.aoe_tools.specs.declared.question.Question.{Question}
+
+-- the devices that were found, or that nobody answered
+abbrev pub unless_none : ℕ → List Seen → Result (List Seen) ToolRefusal
+unless_none limit [] = Err (tool.Unanswered limit)
+unless_none limit (s ∷ list) = Ok (s ∷ list)
+
+-- what it says of the responses that came in all of its turns
+abbrev pub discovered : ℕ → List Response → Result (List Seen) ToolRefusal
+discovered limit responses = unless_none limit (found_in responses)
+
+-- How it ends: after all of its turns, whatever they brought, or before, where the link failed or there was no memory. The link took
+-- what was asked.
+abbrev pub Ends : Result (List Seen) ToolRefusal → Question → List ℕ → ℕ → List Turn → Option (List (List ℕ)) → Option (List (List ℕ)) → Type 0
+Ends (Err tool.LinkFault) q request limit turns before after = (length turns < limit) × TookSome request 0 (length turns) before after
+Ends (Err tool.NoMemory) q request limit turns before after = (length turns ≤ limit) × Added before after (asked request (length turns))
+Ends result q request limit turns before after = (length turns ≡ limit) × (result ≡ discovered limit (responses q turns)) × Added before after (asked request (length turns))
+
+-- A run of it over a link, with its turns, latest first.
+pub record Discovers (result : Result (List Seen) ToolRefusal) (q : Question) (request : List ℕ) (limit start turned' : ℕ) (given given' : Option (List Turn)) (taken taken' : Option (List (List ℕ))) : Type 0 where
+  pub turns : List Turn
+  pub turned : Turned start turned' given given' turns
+  pub ends : Ends result q request limit turns taken taken'

@@ -1,0 +1,6 @@
+pub mod Asking
+pub mod Discovery
+pub mod Ending
+pub mod Found
+pub mod Listening
+pub mod One

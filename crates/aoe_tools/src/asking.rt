@@ -1,0 +1,91 @@
+//! The loop of every request: it is sent, and a response is waited for.
+ghost use Rattle.std.specs.Prelude.{◌≡◌, ◌≤◌, ◌+◌, IfOk, IfSome, OnErr, OnOk};
+ghost use Rattle.aoe_base.specs.Faults.{Rose};
+ghost use Rattle.aoe_tools.specs.Asking.{asked_at, CanRead};
+ghost use Rattle.aoe_tools.specs.Listening.{Listens, TakesTurn};
+ghost use Rattle.aoe_io.specs.Link.{Added};
+
+use crate::question::{Question, Reply};
+use aoe_base::Failed;
+use aoe_frame::Frame;
+use aoe_io::{Got, Link};
+
+/// A request that isn't answered is sent again after so many turns.
+const TURNS_BETWEEN: u32 = 10;
+
+/// Sends a request that has waited for `passed` turns, where it is time.
+fn send_due<L: Link>(request: &Frame, passed: u32, link: &mut L) -> Result<(), Failed>
+    ensures took { OnOk result (Added (L.taken link.old) (L.taken link.new) (asked_at request.now.items passed)) }
+    ensures err { OnErr result (L.taken link.new ≡ L.taken link.old) }
+    ensures given { L.given link.new ≡ L.given link.old }
+    ensures turns { L.turns link.new ≡ L.turns link.old }
+    ensures count { L.faults link.old ≤ L.faults link.new }
+    ensures cause { OnErr result (Rose (L.faults link.old) (L.faults link.new)) }
+    ensures no_fault { OnOk result (L.faults link.new ≡ L.faults link.old) }
+    ensures one_fault { L.faults link.new ≤ L.faults link.old + 1 }
+{
+    if passed % TURNS_BETWEEN != 0 {
+        return Ok(());
+    }
+    link.send(request.as_slice())
+}
+
+/// Sends a request that has waited for `passed` turns, where it is time, and takes one turn more:
+/// the response that it brings, where it counts. `frame` holds it then.
+fn take_turn<L: Link>(
+    question: &Question,
+    request: &Frame,
+    passed: u32,
+    link: &mut L,
+    frame: &mut Frame,
+) -> Result<Option<Reply>, Failed>
+    ensures turn { TakesTurn result question.now request.now.items passed frame.new.items (L.turns link.old) (L.turns link.new) (L.given link.old) (L.given link.new) (L.taken link.old) (L.taken link.new) }
+    ensures here { IfOk result (λ reply. IfSome reply (λ r. CanRead r.answer frame.new.items)) }
+    ensures count { L.faults link.old ≤ L.faults link.new }
+    ensures cause { OnErr result (Rose (L.faults link.old) (L.faults link.new)) }
+    ensures no_fault { OnOk result (L.faults link.new ≡ L.faults link.old) }
+    ensures one_fault { L.faults link.new ≤ L.faults link.old + 1 }
+{
+    match send_due(request, passed, link) {
+        Ok(()) => {}
+        Err(Failed) => return Err(Failed),
+    }
+    match link.recv(frame) {
+        Ok(Got::Frame) => Ok(question.reply(frame.as_slice())),
+        Ok(Got::Quiet) => Ok(None),
+        Ok(Got::Ended) => Ok(None),
+        Err(Failed) => Err(Failed),
+    }
+}
+
+/// Waits for the next response that counts, until the request has waited for `limit` turns.
+/// `passed` counts its turns, and `frame` holds the response.
+pub(crate) fn listen<L: Link>(
+    question: &Question,
+    request: &Frame,
+    limit: u32,
+    passed: &mut u32,
+    link: &mut L,
+    frame: &mut Frame,
+) -> Result<Option<Reply>, Failed>
+    requires { passed.old ≤ limit }
+    ensures listens { Listens result question.now request.now.items limit passed.old passed.new frame.new.items (L.turns link.old) (L.turns link.new) (L.given link.old) (L.given link.new) (L.taken link.old) (L.taken link.new) }
+    ensures here { IfOk result (λ reply. IfSome reply (λ r. CanRead r.answer frame.new.items)) }
+    ensures within { passed.new ≤ limit }
+    ensures count { L.faults link.old ≤ L.faults link.new }
+    ensures cause { OnErr result (Rose (L.faults link.old) (L.faults link.new)) }
+    ensures no_fault { OnOk result (L.faults link.new ≡ L.faults link.old) }
+    ensures one_fault { L.faults link.new ≤ L.faults link.old + 1 }
+{
+    'turns: while *passed < limit {
+        match take_turn(question, request, *passed, link, frame) {
+            Ok(None) => *passed += 1,
+            Ok(Some(reply)) => {
+                *passed += 1;
+                return Ok(Some(reply));
+            }
+            Err(Failed) => return Err(Failed),
+        }
+    }
+    Ok(None)
+}

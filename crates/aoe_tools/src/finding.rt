@@ -1,0 +1,93 @@
+//! The tool that asks which devices there are.
+ghost use Rattle.std.specs.Prelude.{◌≡◌, ◌≢◌, ◌≤◌, ◌+◌, ℕ, [], Err, None, Ok};
+ghost use Rattle.aoe_base.specs.Addresses.{broadcast};
+ghost use Rattle.aoe_base.specs.Faults.{Rose};
+ghost use Rattle.aoe_initiator.specs.declared.op.Op.TheVariants as op;
+ghost use Rattle.aoe_initiator.specs.Request.{request};
+ghost use Rattle.aoe_tools.specs.Asking.{Answers, everyone, tag_of};
+ghost use Rattle.aoe_tools.specs.Discovery.{Discovers, unless_none};
+
+use crate::asking::listen;
+use crate::end::ToolRefusal;
+use crate::found::Found;
+use crate::question::{Ask, Question, Subject, tag_of};
+use crate::request::config_request;
+use aoe_base::{Failed, NoMemory, TargetId};
+use aoe_frame::Frame;
+use aoe_io::{Clock, Link};
+use std::alloc::Global;
+
+/// Every device (AoEr11, "Major" and "Minor").
+const EVERYONE: TargetId = TargetId {
+    major: 0xffff,
+    minor: 0xff,
+};
+
+/// The devices, where there are any.
+fn unless_none(found: Found, turns: u32) -> Result<Found, ToolRefusal>
+    ensures { result ≡ unless_none turns found }
+{
+    if found.count() == 0 {
+        return Err(ToolRefusal::Unanswered { turns });
+    }
+    Ok(found)
+}
+
+/// Takes all turns, and notes who answers.
+fn find_all<L: Link>(
+    alloc: Global,
+    question: &Question,
+    request: &Frame,
+    turns: u32,
+    link: &mut L,
+) -> Result<Found, ToolRefusal>
+    ensures run { Discovers result question.now request.now.items turns (L.turns link.old) (L.turns link.new) (L.given link.old) (L.given link.new) (L.taken link.old) (L.taken link.new) }
+    ensures count { L.faults link.old ≤ L.faults link.new }
+    ensures cause { result ≡ Err ToolRefusal.LinkFault → Rose (L.faults link.old) (L.faults link.new) }
+    ensures no_fault { result ≢ Err ToolRefusal.LinkFault → L.faults link.new ≡ L.faults link.old }
+    ensures one_fault { L.faults link.new ≤ L.faults link.old + 1 }
+{
+    let mut found = Found::new(alloc);
+    let mut frame = Frame::new();
+    let mut passed = 0;
+    'responses: loop {
+        let reply = match listen(question, request, turns, &mut passed, link, &mut frame) {
+            Ok(Some(reply)) => reply,
+            Ok(None) => break,
+            Err(Failed) => return Err(ToolRefusal::LinkFault),
+        };
+        match found.note(reply.id, reply.source) {
+            Ok(()) => {}
+            Err(NoMemory) => return Err(ToolRefusal::NoMemory),
+        }
+    }
+    unless_none(found, turns)
+}
+
+/// Asks every device for its config string, in all of the turns, and gives those that answer.
+pub fn discover<L: Link, C: Clock>(
+    alloc: Global,
+    ask: &Ask,
+    link: &mut L,
+    clock: &mut C,
+) -> Result<Found, ToolRefusal>
+    ensures run { (first : ℕ) × Answers first (C.least clock.old) (C.answers clock.old) (C.answers clock.new)
+        × Discovers result (record { subject = Subject.Config; id = None; port = ask.now.port; tag = tag_of first 0 })
+        (request (op.Config 0 []) everyone broadcast ask.now.port (tag_of first 0)) ask.now.turns
+        (L.turns link.old) (L.turns link.new) (L.given link.old) (L.given link.new) (L.taken link.old) (L.taken link.new) }
+    ensures count { L.faults link.old ≤ L.faults link.new }
+    ensures cause { result ≡ Err ToolRefusal.LinkFault → Rose (L.faults link.old) (L.faults link.new) }
+    ensures no_fault { result ≢ Err ToolRefusal.LinkFault → L.faults link.new ≡ L.faults link.old }
+    ensures one_fault { L.faults link.new ≤ L.faults link.old + 1 }
+{
+    let tag = tag_of(clock.now(), 0);
+    let question = Question {
+        subject: Subject::Config,
+        id: None,
+        port: ask.port,
+        tag,
+    };
+    let mut request = Frame::new();
+    config_request(0, b"", EVERYONE, ask.port, tag, &mut request);
+    find_all(alloc, &question, &request, ask.turns, link)
+}
