@@ -1,5 +1,5 @@
 //! Byte strings, on the heap and in fixed room.
-ghost use Rattle.std.specs.Prelude.{◌≡◌, ◌+◌, ◌≤◌, ◌++◌, ℕ, List, length, IfOk};
+ghost use Rattle.std.specs.Prelude.{◌≡◌, ◌+◌, ◌≤◌, ◌++◌, ℕ, List, length, take, drop, replicate, IfOk};
 ghost use Rattle.arrayvec.specs.ArrayVec.{array_vec_len};
 
 use crate::NoMemory;
@@ -30,6 +30,39 @@ impl Blob {
         }
     }
 
+    /// The bytes of a vector, which aren't copied.
+    pub fn from_vec(bytes: Vec<u8>) -> Blob
+        ensures { result ≡ bytes.items }
+    {
+        Blob { held: bytes }
+    }
+
+    /// So many zeros.
+    pub fn zeros(alloc: Global, len: usize) -> Result<Blob, NoMemory>
+        ensures { IfOk result (λ zeros. zeros ≡ replicate {A = ℕ} len 0) }
+    {
+        match Vec::from_elem(alloc, 0u8, len) {
+            Ok(held) => Ok(Blob { held }),
+            Err(_) => Err(NoMemory),
+        }
+    }
+
+    /// Writes other bytes over these, as many.
+    pub fn fill(&mut self, bytes: &[u8])
+        requires { length bytes.now ≡ length self.old }
+        ensures { self.new ≡ bytes.now }
+    {
+        self.held.as_mut_slice().copy_from_slice(bytes);
+    }
+
+    /// Writes other bytes over those from `start` on.
+    pub fn overwrite(&mut self, start: usize, bytes: &[u8])
+        requires { start + length bytes.now ≤ length self.old }
+        ensures { self.new ≡ take start self.old ++ bytes.now ++ drop (start + length bytes.now) self.old }
+    {
+        self.held[start..start + bytes.len()].copy_from_slice(bytes);
+    }
+
     /// The bytes.
     pub fn bytes(&self) -> &[u8]
         ensures { result.now ≡ self.now }
@@ -46,6 +79,17 @@ pub fn append<const CAP: usize>(out: &mut ArrayVec<u8, CAP>, bytes: &[u8])
     let _ = out.try_extend_from_slice(bytes);
 }
 
+/// A copy of a list in fixed room, which takes no memory.
+pub fn copy_of<T: Copy + Default + Drop, const CAP: usize>(
+    list: &ArrayVec<T, CAP>,
+) -> ArrayVec<T, CAP>
+    ensures { result ≡ list.now }
+{
+    let mut copy = ArrayVec::new();
+    let _ = copy.try_extend_from_slice(list.as_slice());
+    copy
+}
+
 #[cfg(test)]
 mod tests {
     use super::*;
@@ -55,6 +99,14 @@ mod tests {
     fn keeps_its_bytes(rt: HostRuntime) -> Result<(), Fail> {
         let blob = Blob::of(rt.alloc(), b"e1.0")?;
         assert_eq!(rt; blob.bytes(), b"e1.0".as_slice());
+        let mut room = Blob::zeros(rt.alloc(), 2)?;
+        assert_eq!(rt; room.bytes(), [0, 0].as_slice());
+        room.fill(b"ab");
+        assert_eq!(rt; room.bytes(), b"ab".as_slice());
+        room.overwrite(1, b"c");
+        assert_eq!(rt; room.bytes(), b"ac".as_slice());
+        let same = Blob::from_vec(Vec::from_slice(rt.alloc(), b"cd")?);
+        assert_eq!(rt; same.bytes(), b"cd".as_slice());
         Ok(())
     }
 }

@@ -13,7 +13,7 @@ mod sectors;
 mod steps;
 
 pub use address::{BROADCAST, Mac, Ports, TargetId, all_unique, read_device, read_mac};
-pub use bytes::{Blob, append};
+pub use bytes::{Blob, append, copy_of};
 pub use counted::{DeviceNo, FrameNo, Millis, PathNo, Ticket};
 pub use decimal::read_number;
 pub use failure::{Failed, NoMemory};

@@ -2,7 +2,7 @@
 ghost use Rattle.std.specs.Prelude.{◌≡◌, ◌⊎◌, ◌↔◌, ◌≤◌, [], true, IsTrue, Contains, length};
 ghost use Rattle.aoe_lists.specs.Settings.{Settings, admits as is_admitted, empty_settings, may_use as is_user, same_settings};
 
-use aoe_base::Mac;
+use aoe_base::{Mac, copy_of};
 use arrayvec::ArrayVec;
 use std::marker::Model;
 
@@ -58,15 +58,6 @@ pub(crate) fn refill<T: Copy + Default + Drop, const N: usize>(
     let _ = list.try_extend_from_slice(items);
 }
 
-/// A copy of a list in fixed room, which takes no memory.
-fn copied<T: Copy + Default + Drop, const N: usize>(list: &ArrayVec<T, N>) -> ArrayVec<T, N>
-    ensures { result.items ≡ list.now.items }
-{
-    let mut copy = ArrayVec::new();
-    let _ = copy.try_extend_from_slice(list.as_slice());
-    copy
-}
-
 impl Lists {
     /// The lists of a new device: no config string and no address.
     pub fn new() -> Self
@@ -84,9 +75,9 @@ impl Lists {
         ensures { result ≡ self.now }
     {
         Lists {
-            config: copied(&self.config),
-            masks: copied(&self.masks),
-            reserves: copied(&self.reserves),
+            config: copy_of(&self.config),
+            masks: copy_of(&self.masks),
+            reserves: copy_of(&self.reserves),
         }
     }
 }

@@ -7,5 +7,5 @@ mod net;
 mod refusal;
 
 pub use frame_bytes::FrameBytes;
-pub use net::{MAX_BYTES, MAX_FRAME_LEN, MAX_FRAMES, Net};
+pub use net::{MAX_BYTES, MAX_FRAMES, Net};
 pub use refusal::NetRefusal;

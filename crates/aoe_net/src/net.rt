@@ -13,9 +13,6 @@ pub const MAX_FRAMES: u32 = 200_000;
 /// The most bytes that the frames of a network have together.
 pub const MAX_BYTES: u64 = 536_870_912;
 
-/// The most bytes of one frame.
-pub const MAX_FRAME_LEN: usize = 9018;
-
 /// A frame, and when it was sent.
 #[derive(Drop)]
 struct Kept {

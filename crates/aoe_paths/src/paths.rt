@@ -8,7 +8,7 @@ ghost use Rattle.aoe_paths.specs.Timeout.{timeout_of};
 ghost use Rattle.aoe_base.specs.Addresses.{IsDistinct};
 
 use crate::path::Path;
-use aoe_base::{Mac, Millis, NoMemory, PathNo, Ports};
+use aoe_base::{Mac, Millis, NoMemory, PathNo, Ports, copy_of};
 use std::alloc::Global;
 use std::marker::Model;
 
@@ -24,14 +24,6 @@ fn fresh(alloc: Global, count: usize) -> Result<Vec<Path>, NoMemory>
         }
     }
     Ok(paths)
-}
-
-fn copy_of(ports: &Ports) -> Ports
-    ensures { result.items ≡ ports.now.items }
-{
-    let mut copy = Ports::new();
-    let _ = copy.try_extend_from_slice(ports);
-    copy
 }
 
 /// The path after the one chosen last, in cyclic order.

@@ -112,7 +112,7 @@ fn pairs(alloc: Global, text: &[u8]) -> Result<Option<Blob>, NoMemory>
         add(&mut bytes, byte)?;
         i += 2;
     }
-    Ok(Some(Blob::of(alloc, bytes.as_slice())?))
+    Ok(Some(Blob::from_vec(bytes)))
 }
 
 /// The bytes that a word spells: an even number of digits, or a hyphen for none.

@@ -305,5 +305,5 @@ pub fn print_script(alloc: Global, script: &Script) -> Result<Blob, NoMemory>
         put_event(&mut out, script.event(i))?;
         put(&mut out, b"\n")?;
     }
-    Blob::of(alloc, out.as_slice())
+    Ok(Blob::from_vec(out))
 }

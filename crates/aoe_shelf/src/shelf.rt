@@ -4,7 +4,7 @@ ghost use Rattle.std.specs.List.{list_any};
 ghost use Rattle.aoe_shelf.specs.Shelf.{has_minor};
 
 use crate::ShelfRefusal;
-use aoe_base::{Failed, NoMemory, Ports, TargetId};
+use aoe_base::{Failed, NoMemory, Ports, TargetId, copy_of};
 use aoe_disk::{Arm, Armed, Disk};
 use aoe_frame::Frame;
 use aoe_keep::Keep;
@@ -42,14 +42,6 @@ impl<S: Store, D: Disk> Model for Shelf<S, D> {
     ghost view = { λ s. record { major = s.major; ports = s.ports.items; mtu = s.mtu; targets = s.targets.items } };
 
     ghost invariant = { λ s. IsShelf s.major s.ports.items s.mtu (length s.targets.items) (vec_capacity s.targets) };
-}
-
-fn copy_of(ports: &Ports) -> Ports
-    ensures { result.items ≡ ports.now.items }
-{
-    let mut copy = Ports::new();
-    let _ = copy.try_extend_from_slice(ports);
-    copy
 }
 
 fn has_minor<S: Store, D: Disk>(targets: &[Target<S, D>], minor: u8) -> bool
