@@ -1,5 +1,6 @@
 mod DiscoverLemmas
 mod FoundLemmas
+mod JoinLemmas
 mod ListenLemmas
 mod OneLemmas
 mod QuestionLemmas

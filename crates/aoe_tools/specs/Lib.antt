@@ -4,3 +4,4 @@ pub mod Ending
 pub mod Found
 pub mod Listening
 pub mod One
+pub mod Text

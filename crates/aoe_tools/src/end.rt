@@ -107,7 +107,7 @@ fn digit(value: u8) -> u8
 }
 
 /// A byte as two hexadecimal digits.
-fn pair(byte: u8) -> [u8; 2]
+pub(crate) fn pair(byte: u8) -> [u8; 2]
     ensures { result ≡ pair_text byte }
 {
     [digit(byte / 16), digit(byte % 16)]

@@ -11,12 +11,14 @@ mod found;
 mod lists;
 mod question;
 mod request;
+mod text;
 
 pub use end::{Refusal, ToolRefusal};
 pub use finding::discover;
 pub use found::{Found, Seen, State};
 pub use lists::{cfg, mask, reserve};
 pub use question::Ask;
+pub use text::{print_config, print_found, print_masks, print_reserves};
 
 #[cfg(test)]
 mod tests;

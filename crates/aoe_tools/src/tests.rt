@@ -1,7 +1,10 @@
 //! The tools over links in memory.
 ghost use Rattle.std.specs.Prelude.{◌≤◌, IfOk, length};
 
-use crate::{Ask, Refusal, ToolRefusal, cfg, discover, mask, reserve};
+use crate::{
+    Ask, Refusal, ToolRefusal, cfg, discover, mask, print_config, print_found, print_masks,
+    print_reserves, reserve,
+};
 use aoe_base::{Blob, Mac, NoMemory, TargetId};
 use aoe_frame::Frame;
 use aoe_io::{MemLink, SetClock};
@@ -83,6 +86,8 @@ fn finds_devices(rt: HostRuntime) -> Result<(), Fail> {
         assert_eq!(rt; found.device(0).ports.as_slice(), ports.as_slice());
         assert_eq!(rt; found.device(1).id, TargetId { major: 1, minor: 7 });
     }
+    let text = b"e1.0 02:00:00:00:00:03,02:00:00:00:00:01\ne1.7 02:00:00:00:00:02\n";
+    assert_eq!(rt; print_found(alloc, &found)?.bytes(), text.as_slice());
     Ok(())
 }
 
@@ -92,32 +97,36 @@ fn asks_for_lists(rt: HostRuntime) -> Result<(), Fail> {
     let ask = Ask { port: A, turns: 50 };
     let string = [0, 16, 0, 1, 2, 0x10, 0, 2, b'a', b'b'];
     let mut link = link_of(alloc, 1, 0, &string)?;
-    let told = cfg(&ask, DEVICE, 0, b"", &mut link, &mut SetClock::new(0, 10));
-    assert_eq!(rt;
-        told.is_ok_and(|args| args.as_slice() == string.as_slice()),
-        true
-    );
+    let Ok(told) = cfg(&ask, DEVICE, 0, b"", &mut link, &mut SetClock::new(0, 10)) else {
+        return Err(Fail::from("no config string"));
+    };
+    assert_eq!(rt; told.as_slice(), string.as_slice());
+    assert_eq!(rt; print_config(alloc, &told)?.bytes(), b"ab\n".as_slice());
     let masks = [0, 1, 0, 1, 0, 0, 2, 0, 0, 0, 0, 0x0a];
     let dirs = [Dir { add: true, mac: A }];
     let mut link = link_of(alloc, 2, 0, &masks)?;
-    let told = mask(
+    let Ok(told) = mask(
         &ask,
         DEVICE,
         Some(&dirs),
         &mut link,
         &mut SetClock::new(0, 10),
-    );
+    ) else {
+        return Err(Fail::from("no mask list"));
+    };
+    assert_eq!(rt; told.as_slice(), masks.as_slice());
     assert_eq!(rt;
-        told.is_ok_and(|args| args.as_slice() == masks.as_slice()),
-        true
+        print_masks(alloc, &told)?.bytes(),
+        b"02:00:00:00:00:0a\n".as_slice()
     );
-    let reserves = [1, 1, 2, 0, 0, 0, 0, 0x0a];
+    let reserves = [1, 2, 2, 0, 0, 0, 0, 0x0a, 2, 0, 0, 0, 0, 0x0b];
     let mut link = link_of(alloc, 3, 0, &reserves)?;
-    let told = reserve(&ask, DEVICE, 1, &[A], &mut link, &mut SetClock::new(0, 10));
-    assert_eq!(rt;
-        told.is_ok_and(|args| args.as_slice() == reserves.as_slice()),
-        true
-    );
+    let Ok(told) = reserve(&ask, DEVICE, 1, &[A], &mut link, &mut SetClock::new(0, 10)) else {
+        return Err(Fail::from("no reserve list"));
+    };
+    assert_eq!(rt; told.as_slice(), reserves.as_slice());
+    let text = b"02:00:00:00:00:0a\n02:00:00:00:00:0b\n";
+    assert_eq!(rt; print_reserves(alloc, &told)?.bytes(), text.as_slice());
     Ok(())
 }
 

@@ -1,0 +1,47 @@
+-- What the tools print.
+use Rattle.std.specs.Prelude.{ℕ, ◌/◌, ◌==◌, List, [], ◌∷◌, ◌++◌, map, drop, length, if◌then◌else◌}
+use Rattle.std.specs.List.{flat_map, join_with_byte}
+use Rattle.std.specs.Simd.{first_chunks}
+use Rattle.aoe_base.specs.Names.{device_text, mac_text}
+use Rattle.aoe_base.specs.declared.address.Mac.{Mac}
+use Rattle.aoe_tools.specs.declared.found.Seen.{Seen}
+
+-- what stands before the part at a place: nothing before the first
+abbrev pub between : ℕ → ℕ → List ℕ
+between byte i = if i == 0 then [] else byte ∷ []
+
+-- addresses, joined by commas (44)
+abbrev pub macs_text : List Mac → List ℕ
+macs_text macs = join_with_byte 44 (map mac_text macs)
+
+-- a device that was found: its name, a space, its ports, a line feed
+abbrev pub device_line : Seen → List ℕ
+device_line s = device_text s.id ++ 32 ∷ (macs_text s.ports.items ++ 10 ∷ [])
+
+-- the devices that were found, one a line
+abbrev pub found_text : List Seen → List ℕ
+found_text found = flat_map device_line found
+
+-- the arguments behind the fixed ones, in pieces of n bytes each
+abbrev pub pieces : ℕ → ℕ → List ℕ → List (List ℕ)
+pieces n fixed args = first_chunks n (length (drop fixed args) / n) (drop fixed args)
+
+-- a config string and a line feed: it stands behind 8 bytes of the arguments (AoEr11, "Query Config Information")
+abbrev pub config_text : List ℕ → List ℕ
+config_text args = drop 8 args ++ 10 ∷ []
+
+-- the line of an address, by its bytes
+abbrev pub mac_line : List ℕ → List ℕ
+mac_line bytes = mac_text (record { 0 = bytes }) ++ 10 ∷ []
+
+-- the line of a directive: its address stands behind two bytes (AoEr11, "MAC Mask List")
+abbrev pub dir_line : List ℕ → List ℕ
+dir_line dir = mac_line (drop 2 dir)
+
+-- the addresses of a mask list, one a line: behind 4 bytes of the arguments stand directives of 8 bytes
+abbrev pub masks_text : List ℕ → List ℕ
+masks_text args = flat_map dir_line (pieces 8 4 args)
+
+-- the addresses of a reserve list, one a line: behind 2 bytes of the arguments stand addresses of 6 (AoEr11, "Reserve / Release")
+abbrev pub reserves_text : List ℕ → List ℕ
+reserves_text args = flat_map mac_line (pieces 6 2 args)

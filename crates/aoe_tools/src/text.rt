@@ -1,0 +1,156 @@
+//! What the tools print.
+ghost use Rattle.std.specs.Prelude.{◌≡◌, ◌<◌, ◌++◌, IfOk, OnOk, drop, map};
+ghost use Rattle.std.specs.List.{join_with_byte};
+ghost use Rattle.aoe_base.specs.Names.{device_text, mac_text, pair_text};
+ghost use Rattle.aoe_tools.specs.Text.{between, config_text, device_line, found_text, mac_line, macs_text, masks_text, pieces, reserves_text};
+
+use crate::end::pair;
+use crate::found::{Found, Seen};
+use aoe_base::{Blob, Mac, NoMemory, TargetId};
+use aoe_lists::Args;
+use std::alloc::Global;
+
+/// Adds bytes.
+fn put(out: &mut Vec<u8>, bytes: &[u8]) -> Result<(), NoMemory>
+    ensures { OnOk result (out.new.items ≡ out.old.items ++ bytes.now) }
+{
+    match out.extend_from_slice(bytes) {
+        Ok(()) => Ok(()),
+        Err(_) => Err(NoMemory),
+    }
+}
+
+/// Adds what stands before the part at a place: nothing before the first.
+fn put_between(out: &mut Vec<u8>, i: usize, byte: u8) -> Result<(), NoMemory>
+    ensures { OnOk result (out.new.items ≡ out.old.items ++ between byte i) }
+{
+    if i == 0 { Ok(()) } else { put(out, &[byte]) }
+}
+
+/// Adds a byte as two hexadecimal digits.
+fn put_pair(out: &mut Vec<u8>, byte: u8) -> Result<(), NoMemory>
+    ensures { OnOk result (out.new.items ≡ out.old.items ++ pair_text byte) }
+{
+    put(out, &pair(byte))
+}
+
+/// Adds bytes as pairs of hexadecimal digits, joined by colons.
+fn put_pairs(out: &mut Vec<u8>, bytes: &[u8]) -> Result<(), NoMemory>
+    ensures { OnOk result (out.new.items ≡ out.old.items ++ join_with_byte 58 (map pair_text bytes.now)) }
+{
+    'pairs: for (i, byte) in bytes.iter().enumerate() {
+        put_between(out, i, b':')?;
+        put_pair(out, *byte)?;
+    }
+    Ok(())
+}
+
+/// Adds an address.
+fn put_mac(out: &mut Vec<u8>, mac: &Mac) -> Result<(), NoMemory>
+    ensures { OnOk result (out.new.items ≡ out.old.items ++ mac_text mac.now) }
+{
+    put_pairs(out, &mac.0)
+}
+
+/// Adds addresses, joined by commas.
+fn put_macs(out: &mut Vec<u8>, macs: &[Mac]) -> Result<(), NoMemory>
+    ensures { OnOk result (out.new.items ≡ out.old.items ++ macs_text macs.now) }
+{
+    'macs: for (i, mac) in macs.iter().enumerate() {
+        put_between(out, i, b',')?;
+        put_mac(out, mac)?;
+    }
+    Ok(())
+}
+
+/// Adds the name of a device.
+fn put_device(alloc: Global, out: &mut Vec<u8>, id: TargetId) -> Result<(), NoMemory>
+    ensures { OnOk result (out.new.items ≡ out.old.items ++ device_text id) }
+{
+    let TargetId { major, minor } = id;
+    match format!(in alloc; "e{major}.{minor}") {
+        Ok(name) => put(out, name.as_bytes()),
+        Err(_) => Err(NoMemory),
+    }
+}
+
+/// Adds the line of a device that was found.
+fn put_line(alloc: Global, out: &mut Vec<u8>, seen: &Seen) -> Result<(), NoMemory>
+    ensures { OnOk result (out.new.items ≡ out.old.items ++ device_line seen.now) }
+{
+    put_device(alloc, out, seen.id)?;
+    put(out, b" ")?;
+    put_macs(out, seen.ports.as_slice())?;
+    put(out, b"\n")
+}
+
+/// What `discover` prints: the devices with their ports, one a line.
+pub fn print_found(alloc: Global, found: &Found) -> Result<Blob, NoMemory>
+    ensures { IfOk result (λ text. text ≡ found_text found.now) }
+{
+    let mut out = Vec::new(alloc);
+    'devices: for i in 0..found.count() {
+        put_line(alloc, &mut out, found.device(i))?;
+    }
+    Ok(Blob::from_vec(out))
+}
+
+/// The arguments behind the fixed ones.
+fn behind(args: &[u8], fixed: usize) -> &[u8]
+    ensures { result.now ≡ drop fixed args.now }
+{
+    match args.get(fixed..) {
+        Some(rest) => rest,
+        None => &[],
+    }
+}
+
+/// The arguments behind the fixed ones, in pieces of `N` bytes each.
+fn pieces<const N: usize>(args: &[u8], fixed: usize) -> &[[u8; N]]
+    requires { 0 < N }
+    ensures { result.now ≡ pieces N fixed args.now }
+{
+    behind(args, fixed).as_chunks::<N>().0
+}
+
+/// What `cfg` prints: the string of the arguments that it gave, and a line feed.
+pub fn print_config(alloc: Global, args: &Args) -> Result<Blob, NoMemory>
+    ensures { IfOk result (λ text. text ≡ config_text args.now.items) }
+{
+    let mut out = Vec::new(alloc);
+    put(&mut out, behind(args.as_slice(), 8))?;
+    put(&mut out, b"\n")?;
+    Ok(Blob::from_vec(out))
+}
+
+/// Adds the line of an address, by its bytes.
+fn put_mac_line(out: &mut Vec<u8>, bytes: &[u8]) -> Result<(), NoMemory>
+    ensures { OnOk result (out.new.items ≡ out.old.items ++ mac_line bytes.now) }
+{
+    put_pairs(out, bytes)?;
+    put(out, b"\n")
+}
+
+/// What `mask` prints: the addresses of the arguments that it gave, one a line.
+pub fn print_masks(alloc: Global, args: &Args) -> Result<Blob, NoMemory>
+    ensures { IfOk result (λ text. text ≡ masks_text args.now.items) }
+{
+    let mut out = Vec::new(alloc);
+    let dirs = pieces::<8>(args.as_slice(), 4);
+    'dirs: for dir in dirs {
+        put_mac_line(&mut out, behind(dir, 2))?;
+    }
+    Ok(Blob::from_vec(out))
+}
+
+/// What `reserve` prints: the addresses of the arguments that it gave, one a line.
+pub fn print_reserves(alloc: Global, args: &Args) -> Result<Blob, NoMemory>
+    ensures { IfOk result (λ text. text ≡ reserves_text args.now.items) }
+{
+    let mut out = Vec::new(alloc);
+    let macs = pieces::<6>(args.as_slice(), 2);
+    'macs: for mac in macs {
+        put_mac_line(&mut out, mac)?;
+    }
+    Ok(Blob::from_vec(out))
+}
