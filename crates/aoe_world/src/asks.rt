@@ -4,11 +4,9 @@ ghost use Rattle.aoe_history.specs.Asks.{op_of};
 ghost use Rattle.aoe_initiator.specs.Op.{CanSubmit};
 ghost use Rattle.aoe_script.specs.Rules.{is_event};
 
-use aoe_base::{Blob, Mac, NoMemory, Span};
+use aoe_base::{Blob, NoMemory, Span, copy_of};
 use aoe_initiator::Op;
-use aoe_lists::{Dir, MAX_DIRS};
 use aoe_script::Event;
-use arrayvec::ArrayVec;
 use std::alloc::Global;
 
 /// The bytes of a write of `count` sectors: every one is the same.
@@ -20,22 +18,6 @@ fn filled(alloc: Global, count: u64, fill: u8) -> Result<Blob, NoMemory>
         Ok(bytes) => Ok(Blob::from_vec(bytes)),
         Err(_) => Err(NoMemory),
     }
-}
-
-fn dirs_of(dirs: &ArrayVec<Dir, MAX_DIRS>) -> ArrayVec<Dir, MAX_DIRS>
-    ensures { result ≡ dirs.now }
-{
-    let mut copy = ArrayVec::new();
-    let _ = copy.try_extend_from_slice(dirs);
-    copy
-}
-
-fn list_of(list: &ArrayVec<Mac, MAX_DIRS>) -> ArrayVec<Mac, MAX_DIRS>
-    ensures { result ≡ list.now }
-{
-    let mut copy = ArrayVec::new();
-    let _ = copy.try_extend_from_slice(list);
-    copy
 }
 
 /// The operation that an event line submits, where it submits one.
@@ -66,11 +48,11 @@ pub(crate) fn op_of(alloc: Global, event: &Event) -> Result<Option<Op>, NoMemory
         }
         Event::Masks { edit, dirs, .. } => Ok(Some(Op::Masks {
             edit: *edit,
-            dirs: dirs_of(dirs),
+            dirs: copy_of(dirs),
         })),
         Event::Reserve { rcmd, list, .. } => Ok(Some(Op::Reserve {
             rcmd: *rcmd,
-            list: list_of(list),
+            list: copy_of(list),
         })),
         Event::Tick { .. }
         | Event::Deliver { .. }

@@ -17,7 +17,7 @@ ghost use Rattle.aoe_world.specs.World.{IsStaged};
 use crate::act::At;
 use crate::place::Place;
 use crate::sim::Sim;
-use aoe_base::{Millis, NoMemory, Ports, TargetId};
+use aoe_base::{Millis, NoMemory, Ports, TargetId, copy_of};
 use aoe_frame::Frame;
 use aoe_history::Run;
 use aoe_initiator::Attached;
@@ -58,22 +58,6 @@ struct HostLine {
     ports: Ports,
     room: Option<u64>,
     dead: Option<u64>,
-}
-
-fn name_of(name: &Name) -> Name
-    ensures { result ≡ name.now }
-{
-    let mut copy = Name::new();
-    let _ = copy.try_extend_from_slice(name);
-    copy
-}
-
-fn copy_of(ports: &Ports) -> Ports
-    ensures { result ≡ ports.now }
-{
-    let mut copy = Ports::new();
-    let _ = copy.try_extend_from_slice(ports);
-    copy
 }
 
 /// Whether two names are one.
@@ -230,7 +214,7 @@ fn host_line(name: &Name, ports: &Ports, room: Option<u64>, dead: Option<u64>) -
     ensures { result ≡ record { name = name.now; ports = ports.now; room = room; dead = dead } }
 {
     HostLine {
-        name: name_of(name),
+        name: copy_of(name),
         ports: copy_of(ports),
         room,
         dead,
@@ -246,7 +230,7 @@ fn build_host(alloc: Global, script: &Script, line: HostLine) -> Result<NamedHos
     let life = life_of(script);
     let room = line.room.unwrap_or(ROOM) as u32;
     let dead = Millis(line.dead.unwrap_or(DEAD));
-    let mut host = NamedHost::new(alloc, name_of(&line.name), &line.ports, life, room, dead)?;
+    let mut host = NamedHost::new(alloc, copy_of(&line.name), &line.ports, life, room, dead)?;
     'lines: for i in 0..count {
         attach(&mut host, attached_to(script, &line.name, script.setup(i)))?;
     }
@@ -329,7 +313,7 @@ impl Builder<'_> {
         ensures sim { self.new.sim ≡ self.old.sim }
         ensures script { self.new.script ≡ self.old.script }
     {
-        let name = name_of(name);
+        let name = copy_of(name);
         let ports = copy_of(ports);
         match self.places.push(Place { name, ports, at }) {
             Ok(()) => Ok(()),

@@ -21,7 +21,7 @@ pub lines-init : goal.lines-init
 lines-init c =
     host-begun c.args.script.now.setups c.args.line.name c.args.line.ports (setup_of c.args.script.now.setups).life (unwrap_or c.args.line.room default_room) (unwrap_or c.args.line.dead default_dead)
     c.life_of-life.result.0 c.unwrap_or-room.result c.unwrap_or.result c.in_ok-host.host c.life_of-life.ensures c.unwrap_or-room.ensures c.unwrap_or.ensures
-    (c.in_ok-host.ensures.value ∙ ap (λ n. record { name = n; core = new_host c.args.line.ports.items c.life_of-life.result.0 c.unwrap_or-room.result c.unwrap_or.result }) c.name_of.ensures)
+    (c.in_ok-host.ensures.value ∙ ap (λ n. record { name = n; core = new_host c.args.line.ports.items c.life_of-life.result.0 c.unwrap_or-room.result c.unwrap_or.result }) c.copy_of.ensures)
     c.in_ok-host.ensures.matches
 
 pub attach-requires : goal.attach-requires
