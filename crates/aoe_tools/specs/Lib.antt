@@ -4,4 +4,5 @@ pub mod Ending
 pub mod Found
 pub mod Listening
 pub mod One
+pub mod Runs
 pub mod Text

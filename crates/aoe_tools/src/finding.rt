@@ -1,11 +1,8 @@
 //! The tool that asks which devices there are.
-ghost use Rattle.std.specs.Prelude.{◌≡◌, ◌≢◌, ◌≤◌, ◌+◌, ℕ, [], Err, None, Ok};
-ghost use Rattle.aoe_base.specs.Addresses.{broadcast};
+ghost use Rattle.std.specs.Prelude.{◌≡◌, ◌≢◌, ◌≤◌, ◌+◌, Err};
 ghost use Rattle.aoe_base.specs.Faults.{Rose};
-ghost use Rattle.aoe_initiator.specs.declared.op.Op.TheVariants as op;
-ghost use Rattle.aoe_initiator.specs.Request.{request};
-ghost use Rattle.aoe_tools.specs.Asking.{Answers, everyone, tag_of};
 ghost use Rattle.aoe_tools.specs.Discovery.{Discovers, unless_none};
+ghost use Rattle.aoe_tools.specs.Runs.{RunsDiscovery};
 
 use crate::asking::listen;
 use crate::end::ToolRefusal;
@@ -71,10 +68,18 @@ pub fn discover<L: Link, C: Clock>(
     link: &mut L,
     clock: &mut C,
 ) -> Result<Found, ToolRefusal>
-    ensures run { (first : ℕ) × Answers first (C.least clock.old) (C.answers clock.old) (C.answers clock.new)
-        × Discovers result (record { subject = Subject.Config; id = None; port = ask.now.port; tag = tag_of first 0 })
-        (request (op.Config 0 []) everyone broadcast ask.now.port (tag_of first 0)) ask.now.turns
-        (L.turns link.old) (L.turns link.new) (L.given link.old) (L.given link.new) (L.taken link.old) (L.taken link.new) }
+    ensures run { RunsDiscovery result ask.now
+        record {
+          least = C.least clock.old;
+          answers = C.answers clock.old;
+          answers' = C.answers clock.new;
+          turns = L.turns link.old;
+          turns' = L.turns link.new;
+          given = L.given link.old;
+          given' = L.given link.new;
+          taken = L.taken link.old;
+          taken' = L.taken link.new;
+        } }
     ensures count { L.faults link.old ≤ L.faults link.new }
     ensures cause { result ≡ Err ToolRefusal.LinkFault → Rose (L.faults link.old) (L.faults link.new) }
     ensures no_fault { result ≢ Err ToolRefusal.LinkFault → L.faults link.new ≡ L.faults link.old }

@@ -1,12 +1,10 @@
 //! The tools that ask one device for a list, or change it.
-ghost use Rattle.std.specs.Prelude.{◌≡◌, ◌≢◌, ◌≤◌, ◌+◌, ℕ, Err, Some, length, option_copied};
-ghost use Rattle.aoe_base.specs.Addresses.{broadcast};
+ghost use Rattle.std.specs.Prelude.{◌≡◌, ◌≢◌, ◌≤◌, ◌+◌, Err, length, option_copied};
 ghost use Rattle.aoe_base.specs.Faults.{Rose};
 ghost use Rattle.aoe_initiator.specs.Response.{CanFill};
 ghost use Rattle.aoe_initiator.specs.declared.op.Op.TheVariants as op;
-ghost use Rattle.aoe_initiator.specs.Request.{request};
-ghost use Rattle.aoe_tools.specs.Asking.{Answers, tag_of};
 ghost use Rattle.aoe_tools.specs.One.{AsksOne, args_of, edits_by, mask_refusal, refusal_of, told_len, unless_refused};
+ghost use Rattle.aoe_tools.specs.Runs.{RunsOne};
 
 use crate::asking::listen;
 use crate::end::{Refusal, ToolRefusal};
@@ -104,10 +102,18 @@ pub fn cfg<L: Link, C: Clock>(
 ) -> Result<Args, ToolRefusal>
     requires command { ccmd ≤ 4 }
     requires text { length text.now ≤ 1024 }
-    ensures run { (first : ℕ) × Answers first (C.least clock.old) (C.answers clock.old) (C.answers clock.new)
-        × AsksOne result (record { subject = Subject.Config; id = Some id; port = ask.now.port; tag = tag_of first 0 })
-        (request (op.Config ccmd text.now) id broadcast ask.now.port (tag_of first 0)) ask.now.turns
-        (L.turns link.old) (L.turns link.new) (L.given link.old) (L.given link.new) (L.taken link.old) (L.taken link.new) }
+    ensures run { RunsOne result Subject.Config (op.Config ccmd text.now) id ask.now
+        record {
+          least = C.least clock.old;
+          answers = C.answers clock.old;
+          answers' = C.answers clock.new;
+          turns = L.turns link.old;
+          turns' = L.turns link.new;
+          given = L.given link.old;
+          given' = L.given link.new;
+          taken = L.taken link.old;
+          taken' = L.taken link.new;
+        } }
     ensures count { L.faults link.old ≤ L.faults link.new }
     ensures cause { result ≡ Err ToolRefusal.LinkFault → Rose (L.faults link.old) (L.faults link.new) }
     ensures no_fault { result ≢ Err ToolRefusal.LinkFault → L.faults link.new ≡ L.faults link.old }
@@ -134,10 +140,18 @@ pub fn mask<L: Link, C: Clock>(
     clock: &mut C,
 ) -> Result<Args, ToolRefusal>
     requires { length (edits_by (option_copied dirs)).1 ≤ 64 }
-    ensures run { (first : ℕ) × Answers first (C.least clock.old) (C.answers clock.old) (C.answers clock.new)
-        × AsksOne result (record { subject = Subject.Masks; id = Some id; port = ask.now.port; tag = tag_of first 0 })
-        (request (op.Masks (edits_by (option_copied dirs.entry)).0 (record { items = (edits_by (option_copied dirs.entry)).1 })) id broadcast ask.now.port (tag_of first 0)) ask.now.turns
-        (L.turns link.old) (L.turns link.new) (L.given link.old) (L.given link.new) (L.taken link.old) (L.taken link.new) }
+    ensures run { RunsOne result Subject.Masks (op.Masks (edits_by (option_copied dirs.entry)).0 (record { items = (edits_by (option_copied dirs.entry)).1 })) id ask.now
+        record {
+          least = C.least clock.old;
+          answers = C.answers clock.old;
+          answers' = C.answers clock.new;
+          turns = L.turns link.old;
+          turns' = L.turns link.new;
+          given = L.given link.old;
+          given' = L.given link.new;
+          taken = L.taken link.old;
+          taken' = L.taken link.new;
+        } }
     ensures count { L.faults link.old ≤ L.faults link.new }
     ensures cause { result ≡ Err ToolRefusal.LinkFault → Rose (L.faults link.old) (L.faults link.new) }
     ensures no_fault { result ≢ Err ToolRefusal.LinkFault → L.faults link.new ≡ L.faults link.old }
@@ -169,10 +183,18 @@ pub fn reserve<L: Link, C: Clock>(
 ) -> Result<Args, ToolRefusal>
     requires command { rcmd ≤ 2 }
     requires few { length list.now ≤ 64 }
-    ensures run { (first : ℕ) × Answers first (C.least clock.old) (C.answers clock.old) (C.answers clock.new)
-        × AsksOne result (record { subject = Subject.Reserve; id = Some id; port = ask.now.port; tag = tag_of first 0 })
-        (request (op.Reserve rcmd (record { items = list.now })) id broadcast ask.now.port (tag_of first 0)) ask.now.turns
-        (L.turns link.old) (L.turns link.new) (L.given link.old) (L.given link.new) (L.taken link.old) (L.taken link.new) }
+    ensures run { RunsOne result Subject.Reserve (op.Reserve rcmd (record { items = list.now })) id ask.now
+        record {
+          least = C.least clock.old;
+          answers = C.answers clock.old;
+          answers' = C.answers clock.new;
+          turns = L.turns link.old;
+          turns' = L.turns link.new;
+          given = L.given link.old;
+          given' = L.given link.new;
+          taken = L.taken link.old;
+          taken' = L.taken link.new;
+        } }
     ensures count { L.faults link.old ≤ L.faults link.new }
     ensures cause { result ≡ Err ToolRefusal.LinkFault → Rose (L.faults link.old) (L.faults link.new) }
     ensures no_fault { result ≢ Err ToolRefusal.LinkFault → L.faults link.new ≡ L.faults link.old }

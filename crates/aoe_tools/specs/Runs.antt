@@ -1,0 +1,46 @@
+-- What a run of each tool is, over a link and a clock that tell what they gave.
+use Rattle.std.specs.Prelude.{ℕ, List, [], Option, Some, None, Result}
+use Rattle.arrayvec.specs.ArrayVec.{ArrayVec}
+use Rattle.aoe_base.specs.Addresses.{broadcast}
+use Rattle.aoe_base.specs.declared.address.TargetId.{TargetId}
+use Rattle.aoe_initiator.specs.Request.{request}
+use Rattle.aoe_initiator.specs.declared.op.Op.{Op}
+use Rattle.aoe_initiator.specs.declared.op.Op.TheVariants as op
+use Rattle.aoe_io.specs.Link.{Turn}
+use Rattle.aoe_tools.specs.Asking.{Answers, everyone, tag_of}
+use Rattle.aoe_tools.specs.Discovery.{Discovers}
+use Rattle.aoe_tools.specs.One.{AsksOne}
+use Rattle.aoe_tools.specs.declared.end.ToolRefusal.{ToolRefusal}
+use Rattle.aoe_tools.specs.declared.found.Seen.{Seen}
+use Rattle.aoe_tools.specs.declared.question.Ask.{Ask}
+use Rattle.aoe_tools.specs.declared.question.Question.{Question}
+use Rattle.aoe_tools.specs.declared.question.Subject.{Subject}
+use Rattle.aoe_tools.specs.declared.question.Subject.TheVariants as subject
+
+-- what a clock and a link tell before a run and after it: the least that the clock can answer next and its answers, the turns of the
+-- link, and the frames that it gave and took
+pub record Told : Type 0 where
+  pub least : ℕ
+  pub answers : Option (List ℕ)
+  pub answers' : Option (List ℕ)
+  pub turns : ℕ
+  pub turns' : ℕ
+  pub given : Option (List Turn)
+  pub given' : Option (List Turn)
+  pub taken : Option (List (List ℕ))
+  pub taken' : Option (List (List ℕ))
+
+-- the first question of a tool, to one device or to all, by the clock's first answer
+abbrev pub question : Subject → Option TargetId → Ask → ℕ → Question
+question s id ask first = record { subject = s; id = id; port = ask.port; tag = tag_of first 0 }
+
+-- the operation was asked of the device, from all stations, with the clock's first answer in its tag
+abbrev pub RunsOne : Result (ArrayVec ℕ) ToolRefusal → Subject → Op → TargetId → Ask → Told → Type 0
+RunsOne result s o id ask t = (first : ℕ) × Answers first t.least t.answers t.answers'
+    × AsksOne result (question s (Some id) ask first) (request o id broadcast ask.port (tag_of first 0)) ask.turns t.turns t.turns' t.given t.given' t.taken t.taken'
+
+-- every device was asked for its config string
+abbrev pub RunsDiscovery : Result (List Seen) ToolRefusal → Ask → Told → Type 0
+RunsDiscovery result ask t = (first : ℕ) × Answers first t.least t.answers t.answers'
+    × Discovers result (question subject.Config None ask first) (request (op.Config 0 []) everyone broadcast ask.port (tag_of first 0)) ask.turns
+    t.turns t.turns' t.given t.given' t.taken t.taken'
