@@ -29,7 +29,7 @@ answer_front = with_rule (with_rule (with_rule (bare (codes "answer")) (needed (
 
 -- with its options
 abbrev pub answer_app : App
-answer_app = with_rule (with_rule answer_front (optional (codes "port"))) (optional (codes "mtu"))
+answer_app = with_rule (with_rule (with_rule answer_front (optional (codes "port"))) (optional (codes "mtu"))) (optional (codes "cache"))
 
 -- serve SHELF FILES
 abbrev pub serve_front : App
@@ -39,9 +39,13 @@ serve_front = with_rule (with_rule (bare (codes "serve")) (needed (codes "shelf"
 abbrev pub serve_ports : App
 serve_ports = with_rule (with_rule (with_rule serve_front (demanded (codes "local"))) (demanded (codes "peers"))) (optional (codes "ports"))
 
+-- with the options on its slots too
+abbrev pub serve_slots : App
+serve_slots = with_rule (with_rule serve_ports (optional (codes "mtu"))) (optional (codes "cache"))
+
 -- with all its options
 abbrev pub serve_app : App
-serve_app = with_rule (with_rule (with_rule serve_ports (optional (codes "mtu"))) (optional (codes "frames"))) (optional (codes "idle"))
+serve_app = with_rule (with_rule serve_slots (optional (codes "frames"))) (optional (codes "idle"))
 
 -- replay, with nothing behind it
 abbrev pub replay_app : App

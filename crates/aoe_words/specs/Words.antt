@@ -62,13 +62,17 @@ slot_of = given (codes "slot") (λ text. number_of text 254)
 abbrev pub mtu_of : List Row → Option ℕ
 mtu_of = given_or (codes "mtu") (number_within 1500 9000) 1500
 
+-- how many sectors a slot buffers
+abbrev pub cache_of : List Row → Option ℕ
+cache_of = given_or (codes "cache") (number_within 0 65536) 0
+
 -- answer SHELF SLOT FILE KEEP
 abbrev pub answer_of : List Row → Option Answers
 answer_of rows =
     if not (length (files rows) == 2) then None else
-    option_and_then (λ major. option_and_then (λ minor. option_and_then (λ port. option_map (λ mtu.
-    record { id = record { major = major; minor = minor }; port = port; mtu = mtu })
-    (mtu_of rows)) (given_or (codes "port") port_of default_port rows)) (slot_of rows)) (shelf_of rows)
+    option_and_then (λ major. option_and_then (λ minor. option_and_then (λ port. option_and_then (λ mtu. option_map (λ cache.
+    record { id = record { major = major; minor = minor }; port = port; mtu = mtu; cache = cache })
+    (cache_of rows)) (mtu_of rows)) (given_or (codes "port") port_of default_port rows)) (slot_of rows)) (shelf_of rows)
 
 -- the ends of the link of serve
 abbrev pub link : List Row → Option PortWords
@@ -83,10 +87,10 @@ has_slots rows = length (files rows) % 2 == 0 && nat_le 2 (length (files rows)) 
 abbrev pub serve_of : List Row → Option Serves
 serve_of rows =
     if not (has_slots rows) then None else
-    option_and_then (λ link. option_and_then (λ shelf. option_and_then (λ ports. option_and_then (λ mtu. option_and_then (λ frames. option_map (λ idle.
-    record { shelf = shelf; slots = length (files rows) / 2; ports = record { items = ports }; mtu = mtu; frames = frames; idle = idle })
+    option_and_then (λ link. option_and_then (λ shelf. option_and_then (λ ports. option_and_then (λ mtu. option_and_then (λ cache. option_and_then (λ frames. option_map (λ idle.
+    record { shelf = shelf; slots = length (files rows) / 2; ports = record { items = ports }; mtu = mtu; cache = cache; frames = frames; idle = idle })
     (given_or (codes "idle") (number_within 1 1000000) 3000 rows)) (given_or (codes "frames") (number_within 1 4294967295) 4294967295 rows))
-    (mtu_of rows)) (given_or (codes "ports") ports_of (default_port ∷ []) rows)) (shelf_of rows)) (link rows)
+    (cache_of rows)) (mtu_of rows)) (given_or (codes "ports") ports_of (default_port ∷ []) rows)) (shelf_of rows)) (link rows)
 
 -- the command of this name
 abbrev pub command_of : Text → List Row → Option Command
@@ -137,6 +141,7 @@ pub record CanAnswer (answer : Answers) : Type 0 where
   pub slot : answer.id.minor ≤ 254
   pub port : is_individual answer.port ≡ true
   pub mtu : (1500 ≤ answer.mtu) × (answer.mtu ≤ 9000)
+  pub cache : answer.cache ≤ 65536
 
 -- what `serve` asks for is possible
 pub record CanServe (serve : Serves) : Type 0 where
@@ -144,6 +149,7 @@ pub record CanServe (serve : Serves) : Type 0 where
   pub slots : (1 ≤ serve.slots) × (serve.slots ≤ 16)
   pub ports : ArePorts serve.ports.items
   pub mtu : (1500 ≤ serve.mtu) × (serve.mtu ≤ 9000)
+  pub cache : serve.cache ≤ 65536
   pub frames : 1 ≤ serve.frames
   pub idle : (1 ≤ serve.idle) × (serve.idle ≤ 1000000)
 
@@ -171,7 +177,7 @@ is_plain word = nat_lt 0 (length word) && nat_le (length word) 4096 && not (slic
 
 -- what `answer` asks for where no option is given, and over which files
 abbrev pub plain_answer : TargetId → Command
-plain_answer id = Answer (record { id = id; port = default_port; mtu = 1500 })
+plain_answer id = Answer (record { id = id; port = default_port; mtu = 1500; cache = 0 })
 
 abbrev pub plain_files : Option TargetId → Text → Text → List Text
 plain_files None file keep = []

@@ -2,7 +2,7 @@
 ghost use Rattle.std.specs.Prelude.{◌≡◌, IfOk, map, string_bytes, false};
 ghost use Rattle.clap.specs.Words.{app_of, rule_of, with_rule, FailsBy, fault_of, HasMatchesOf};
 ghost use Rattle.clap.specs.declared.builder.command.Command.TheViews.{out-Command as fields_of};
-ghost use Rattle.aoe_words.specs.Apps.{needed, several, demanded, optional, bare, answer_front, answer_app, serve_front, serve_ports, serve_app, replay_app, file_commands, aoe_app};
+ghost use Rattle.aoe_words.specs.Apps.{needed, several, demanded, optional, bare, answer_front, answer_app, serve_front, serve_ports, serve_slots, serve_app, replay_app, file_commands, aoe_app};
 
 use clap::{Arg, ArgAction, ArgMatches, Command, Error};
 use std::alloc::{AllocError, Global};
@@ -78,7 +78,8 @@ fn answer<'a>(alloc: Global) -> Result<Command<'a>, AllocError>
     ensures local { IfOk result (λ r. (fields_of r).has_globals ≡ false) }
 {
     let command = with(answer_front(alloc)?, optional(alloc, "port"))?;
-    with(command, optional(alloc, "mtu"))
+    let command = with(command, optional(alloc, "mtu"))?;
+    with(command, optional(alloc, "cache"))
 }
 
 /// `serve SHELF FILES`, without its options.
@@ -100,13 +101,21 @@ fn serve_ports<'a>(alloc: Global) -> Result<Command<'a>, AllocError>
     with(command, optional(alloc, "ports"))
 }
 
+/// `serve` with the options on its addresses and its slots.
+fn serve_slots<'a>(alloc: Global) -> Result<Command<'a>, AllocError>
+    ensures app { IfOk result (λ r. app_of r ≡ serve_slots) }
+    ensures local { IfOk result (λ r. (fields_of r).has_globals ≡ false) }
+{
+    let command = with(serve_ports(alloc)?, optional(alloc, "mtu"))?;
+    with(command, optional(alloc, "cache"))
+}
+
 /// `serve` with all its options.
 fn serve<'a>(alloc: Global) -> Result<Command<'a>, AllocError>
     ensures app { IfOk result (λ r. app_of r ≡ serve_app) }
     ensures local { IfOk result (λ r. (fields_of r).has_globals ≡ false) }
 {
-    let command = with(serve_ports(alloc)?, optional(alloc, "mtu"))?;
-    let command = with(command, optional(alloc, "frames"))?;
+    let command = with(serve_slots(alloc)?, optional(alloc, "frames"))?;
     with(command, optional(alloc, "idle"))
 }
 

@@ -12,6 +12,9 @@ pub struct Answer {
 
     /// The greatest length of what an Ethernet frame carries.
     pub mtu: u32,
+
+    /// How many sectors are buffered before they are written to the file; 0 for none.
+    pub cache: u32,
 }
 
 /// What `serve SHELF FILES` asks for: to answer the frames of a link as a shelf of targets.
@@ -28,6 +31,9 @@ pub struct Serve {
 
     /// The greatest length of what an Ethernet frame carries.
     pub mtu: u32,
+
+    /// How many sectors each slot buffers before they are written to its file; 0 for none.
+    pub cache: u32,
 
     /// How many frames are taken before the run ends.
     pub frames: u32,

@@ -34,6 +34,13 @@ const MTU: NumberOption = NumberOption {
     default: 1500,
 };
 
+/// How many sectors a slot buffers: none, to 32 mebibytes.
+const CACHE: NumberOption = NumberOption {
+    least: 0,
+    most: 65536,
+    default: 0,
+};
+
 /// How many frames `serve` takes.
 const FRAMES: NumberOption = NumberOption {
     least: 1,
@@ -101,6 +108,7 @@ fn answer_of(found: &ArgMatches) -> Option<Answer>
         },
         port: port_or_default(found, "port")?,
         mtu: number_or(found, "mtu", &MTU)?,
+        cache: number_or(found, "cache", &CACHE)?,
     })
 }
 
@@ -128,6 +136,7 @@ fn serve_of(found: &ArgMatches) -> Option<Serve>
         slots: (files / 2) as u8,
         ports: ports_or_default(found, "ports")?,
         mtu: number_or(found, "mtu", &MTU)?,
+        cache: number_or(found, "cache", &CACHE)?,
         frames: number_or(found, "frames", &FRAMES)?,
         idle: number_or(found, "idle", &IDLE)?,
     })

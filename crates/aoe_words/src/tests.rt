@@ -44,25 +44,36 @@ fn ports(macs: &[Mac]) -> Ports {
     ports
 }
 
-/// What `answer` asks for.
+/// What `answer` asks for, without a buffer.
 fn answer(major: u16, minor: u8, port: Mac, mtu: u32) -> Command {
     Command::Answer(Answer {
         id: TargetId { major, minor },
         port,
         mtu,
+        cache: 0,
     })
 }
 
-/// What `serve` asks for.
+/// What `serve` asks for, without a buffer.
 fn serve(shelf: u16, slots: u8, macs: &[Mac], mtu: u32, frames: u32, idle: u32) -> Command {
     Command::Serve(Serve {
         shelf,
         slots,
         ports: ports(macs),
         mtu,
+        cache: 0,
         frames,
         idle,
     })
+}
+
+/// How many sectors the command of a line buffers, where it is one that has slots.
+fn cache_line(alloc: Global, line: &str) -> Result<Option<u32>, Fail> {
+    match read_line(alloc, line)? {
+        Some(Command::Answer(answer)) => Ok(Some(answer.cache)),
+        Some(Command::Serve(serve)) => Ok(Some(serve.cache)),
+        Some(Command::Replay) | None => Ok(None),
+    }
 }
 
 /// `serve 1 --local x --peers y`, and so many files.
@@ -131,6 +142,28 @@ fn reads_serve(rt: HostRuntime) -> Result<(), Fail> {
 }
 
 #[test]
+fn reads_the_buffer(rt: HostRuntime) -> Result<(), Fail> {
+    let cases = [
+        ("answer 1 0 d k", Some(0)),
+        ("answer 1 0 d k --cache 1", Some(1)),
+        ("answer --cache=65536 1 0 d k", Some(65536)),
+        ("answer 1 0 d k --cache 65537", None),
+        ("answer 1 0 d k --cache -1", None),
+        ("answer 1 0 d k --cache=", None),
+        ("serve 1 d k --local x --peers y", Some(0)),
+        ("serve 1 d k --local x --peers y --cache 0", Some(0)),
+        ("serve 1 --cache 65536 d k --local x --peers y", Some(65536)),
+        ("serve 1 d k --local x --peers y --cache 65537", None),
+        ("serve 1 d k --local x --peers y --cache 1 --cache 1", None),
+        ("replay --cache 0", None),
+    ];
+    for (line, cache) in cases {
+        assert_eq!(rt; cache_line(rt.alloc(), line)?, cache, "{line}");
+    }
+    Ok(())
+}
+
+#[test]
 fn reads_replay(rt: HostRuntime) -> Result<(), Fail> {
     let alloc = rt.alloc();
     assert_eq!(rt; read_line(alloc, "replay")?, Some(Command::Replay));
@@ -178,7 +211,6 @@ fn refuses_words(rt: HostRuntime) -> Result<(), Fail> {
         "answer --mtu=1500 1 0 d k --mtu 1500",
         "answer 1 0 d k --mt 1500",
         "answer 1 0 d k -m 1500",
-        "answer 1 0 d k --cache 0",
         "answer 1 0 d k --ports 02:00:00:00:00:01",
         "answer 1 0 d k --help",
         "answer 1 0 d k --version",
