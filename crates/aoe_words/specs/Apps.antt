@@ -51,6 +51,10 @@ serve_app = with_rule (with_rule serve_slots (optional (codes "frames"))) (optio
 abbrev pub replay_app : App
 replay_app = bare (codes "replay")
 
+-- soak SEED N
+abbrev pub soak_app : App
+soak_app = with_rule (with_rule (bare (codes "soak")) (needed (codes "seed"))) (needed (codes "count"))
+
 -- the commands over files: one command has to be named, and it is the first word
 abbrev pub file_commands : App
 file_commands = let a = bare (codes "aoe") in
@@ -58,4 +62,4 @@ file_commands = let a = bare (codes "aoe") in
 
 -- all commands
 unfoldable pub aoe_app : App
-aoe_app = with_subcommand file_commands replay_app.top
+aoe_app = with_subcommand (with_subcommand file_commands replay_app.top) soak_app.top

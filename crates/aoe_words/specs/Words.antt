@@ -14,9 +14,10 @@ use Rattle.aoe_words.specs.Apps.{aoe_app}
 use Rattle.aoe_words.specs.Values.{default_port, number_within, port_of, ports_of}
 use Rattle.aoe_words.specs.declared.command.Answer.{Answer as Answers}
 use Rattle.aoe_words.specs.declared.command.Serve.{Serve as Serves}
+use Rattle.aoe_words.specs.declared.command.Soak.{Soak as Soaks}
 use Rattle.aoe_words.specs.declared.command.PortWords.{PortWords}
 use Rattle.aoe_words.specs.declared.command.Command.{Command}
-use Rattle.aoe_words.specs.declared.command.Command.TheVariants.{Answer, Serve, Replay}
+use Rattle.aoe_words.specs.declared.command.Command.TheVariants.{Answer, Serve, Replay, Soak}
 
 -- ---- words
 
@@ -92,12 +93,19 @@ serve_of rows =
     (given_or (codes "idle") (number_within 1 1000000) 3000 rows)) (given_or (codes "frames") (number_within 1 4294967295) 4294967295 rows))
     (cache_of rows)) (mtu_of rows)) (given_or (codes "ports") ports_of (default_port ∷ []) rows)) (shelf_of rows)) (link rows)
 
+-- soak SEED N
+abbrev pub soak_of : List Row → Option Soaks
+soak_of rows =
+    option_and_then (λ seed. option_map (λ count. record { seed = seed; count = count })
+    (given (codes "count") (number_within 1 16000) rows)) (given (codes "seed") (λ text. number_of text 65535) rows)
+
 -- the command of this name
 abbrev pub command_of : Text → List Row → Option Command
 command_of name rows =
     if bytes_eq name (codes "answer") then option_map Answer (answer_of rows)
     else if bytes_eq name (codes "serve") then option_map Serve (serve_of rows)
     else if bytes_eq name (codes "replay") then Some Replay
+    else if bytes_eq name (codes "soak") then option_map Soak (soak_of rows)
     else None
 
 -- the command that the words spell with what clap found for it, or nothing
@@ -113,6 +121,7 @@ abbrev pub files_of : Command → List Row → List Text
 files_of (Answer answer) rows = files rows
 files_of (Serve serve) rows = files rows
 files_of Replay rows = []
+files_of (Soak soak) rows = []
 
 abbrev pub file_names : List Text → List Text
 file_names words = option_map_or (λ p. files_of p.0 p.1) (spelled words) []
@@ -122,6 +131,7 @@ abbrev pub links_of : Command → List Row → List PortWords
 links_of (Answer answer) rows = []
 links_of (Serve serve) rows = option_map_or (λ ends. ends ∷ []) (link rows) []
 links_of Replay rows = []
+links_of (Soak soak) rows = []
 
 abbrev pub port_words : List Text → List PortWords
 port_words words = option_map_or (λ p. links_of p.0 p.1) (spelled words) []
@@ -153,21 +163,29 @@ pub record CanServe (serve : Serves) : Type 0 where
   pub frames : 1 ≤ serve.frames
   pub idle : (1 ≤ serve.idle) × (serve.idle ≤ 1000000)
 
+-- what `soak` asks for is possible
+pub record CanSoak (soak : Soaks) : Type 0 where
+  pub seed : soak.seed ≤ 65535
+  pub count : (1 ≤ soak.count) × (soak.count ≤ 16000)
+
 abbrev pub IsInRange : Command → Type 0
 IsInRange (Answer answer) = CanAnswer answer
 IsInRange (Serve serve) = CanServe serve
 IsInRange Replay = Unit
+IsInRange (Soak soak) = CanSoak soak
 
 -- how many files and links a command has
 abbrev pub file_count : Command → ℕ
 file_count (Answer answer) = 2
 file_count (Serve serve) = 2 * serve.slots
 file_count Replay = 0
+file_count (Soak soak) = 0
 
 abbrev pub link_count : Command → ℕ
 link_count (Answer answer) = 0
 link_count (Serve serve) = 1
 link_count Replay = 0
+link_count (Soak soak) = 0
 
 -- ---- words without options
 

@@ -2,7 +2,7 @@
 ghost use Rattle.std.specs.Prelude.{◌≡◌, IfOk, map, string_bytes, false};
 ghost use Rattle.clap.specs.Words.{app_of, rule_of, with_rule, FailsBy, fault_of, HasMatchesOf};
 ghost use Rattle.clap.specs.declared.builder.command.Command.TheViews.{out-Command as fields_of};
-ghost use Rattle.aoe_words.specs.Apps.{needed, several, demanded, optional, bare, answer_front, answer_app, serve_front, serve_ports, serve_slots, serve_app, replay_app, file_commands, aoe_app};
+ghost use Rattle.aoe_words.specs.Apps.{needed, several, demanded, optional, bare, answer_front, answer_app, serve_front, serve_ports, serve_slots, serve_app, replay_app, soak_app, file_commands, aoe_app};
 
 use clap::{Arg, ArgAction, ArgMatches, Command, Error};
 use std::alloc::{AllocError, Global};
@@ -127,6 +127,15 @@ fn replay<'a>(alloc: Global) -> Command<'a>
     bare(alloc, "replay")
 }
 
+/// `soak SEED N`.
+fn soak<'a>(alloc: Global) -> Result<Command<'a>, AllocError>
+    ensures app { IfOk result (λ r. app_of r ≡ soak_app) }
+    ensures local { IfOk result (λ r. (fields_of r).has_globals ≡ false) }
+{
+    let command = with(bare(alloc, "soak"), needed(alloc, "seed"))?;
+    with(command, needed(alloc, "count"))
+}
+
 /// The commands over files.
 fn file_commands<'a>(alloc: Global) -> Result<Command<'a>, AllocError>
     ensures { IfOk result (λ r. app_of r ≡ file_commands) }
@@ -145,7 +154,9 @@ fn file_commands<'a>(alloc: Global) -> Result<Command<'a>, AllocError>
 fn commands<'a>(alloc: Global) -> Result<Command<'a>, AllocError>
     ensures { IfOk result (λ r. app_of r ≡ aoe_app) }
 {
-    file_commands(alloc)?.subcommand(replay(alloc))
+    file_commands(alloc)?
+        .subcommand(replay(alloc))?
+        .subcommand(soak(alloc)?)
 }
 
 /// What clap finds in the words after the program's name.

@@ -42,6 +42,17 @@ pub struct Serve {
     pub idle: u32,
 }
 
+/// What `soak SEED N` asks for: to run the script of so many commands that a number picks, and to
+/// print what was seen.
+#[derive(Clone, Copy, Debug, PartialEq, Eq)]
+pub struct Soak {
+    /// Where the sectors and the bytes of the commands begin.
+    pub seed: u16,
+
+    /// How many commands the script has.
+    pub count: u32,
+}
+
 /// What the words of a command line ask for.
 #[derive(Debug, Drop, PartialEq, Eq)]
 pub enum Command {
@@ -50,6 +61,8 @@ pub enum Command {
 
     /// What `replay` asks for: to run the script that the source spells, and to print its history.
     Replay,
+
+    Soak(Soak),
 }
 
 /// The texts that name the ends of a link, as they stand on the command line: its own address, and

@@ -13,7 +13,7 @@ mod read;
 mod values;
 mod word;
 
-pub use command::{Answer, Command, PortWords, Serve};
+pub use command::{Answer, Command, PortWords, Serve, Soak};
 pub use law::plain_words_law;
 pub use read::{files_of, ports_of, read_words};
 

@@ -2,14 +2,14 @@
 ghost use Rattle.std.specs.Prelude.{◌≡◌, ◌*◌, [], ◌∷◌, length, map, option_map, string_bytes, IfOk, IfSome, IsSome};
 ghost use Rattle.std.specs.List.{list_all};
 ghost use Rattle.clap.specs.Words.{found_of, rows_of};
-ghost use Rattle.aoe_words.specs.Words.{CanAnswer, CanServe, IsInRange, answer_of, command, command_of, file_count, file_names, files, files_of, is_word, link, link_count, links_of, parsed, port_words, serve_of, spelled};
+ghost use Rattle.aoe_words.specs.Words.{CanAnswer, CanServe, CanSoak, IsInRange, answer_of, command, command_of, file_count, file_names, files, files_of, is_word, link, link_count, links_of, parsed, port_words, serve_of, soak_of, spelled};
 
 use crate::app::matches;
 use crate::values::{
-    NumberOption, files, number, number_or, port_or_default, ports_or_default, text,
+    NumberOption, files, number, number_from, number_or, port_or_default, ports_or_default, text,
 };
 use crate::word::is_word;
-use crate::{Answer, Command, PortWords, Serve};
+use crate::{Answer, Command, PortWords, Serve, Soak};
 use aoe_base::{Blob, NoMemory, TargetId};
 use clap::ArgMatches;
 use clap::error::ErrorKind;
@@ -54,6 +54,12 @@ const IDLE: NumberOption = NumberOption {
     most: 1_000_000,
     default: 3000,
 };
+
+/// The greatest number that picks a script of `soak`.
+const LAST_SEED: u64 = 65535;
+
+/// The most commands of such a script.
+const MOST_COMMANDS: u32 = 16_000;
 
 /// A command that words spell, with what clap found for it.
 #[derive(Drop)]
@@ -142,6 +148,17 @@ fn serve_of(found: &ArgMatches) -> Option<Serve>
     })
 }
 
+/// What the words of `soak` ask for.
+fn soak_of(found: &ArgMatches) -> Option<Soak>
+    ensures value { result ≡ soak_of (rows_of (found_of found.now)) }
+    ensures range { IfSome result CanSoak }
+{
+    Some(Soak {
+        seed: number(found, "seed", LAST_SEED)? as u16,
+        count: number_from(found, "count", 1, MOST_COMMANDS)?,
+    })
+}
+
 /// What the words of the command of this name ask for.
 fn command_of(name: &str, found: &ArgMatches) -> Option<Command>
     ensures value { result ≡ command_of name.now (rows_of (found_of found.now)) }
@@ -155,6 +172,8 @@ fn command_of(name: &str, found: &ArgMatches) -> Option<Command>
         Some(Command::Serve(serve_of(found)?))
     } else if name == "replay" {
         Some(Command::Replay)
+    } else if name == "soak" {
+        Some(Command::Soak(soak_of(found)?))
     } else {
         None
     }
@@ -207,8 +226,8 @@ fn copies(alloc: Global, texts: &[&str]) -> Result<Vec<String>, NoMemory>
     Ok(names)
 }
 
-/// The names of the files that the command works on, in their order; none for `replay` and where the
-/// words spell no command.
+/// The names of the files that the command works on, in their order; none for `replay` and `soak`,
+/// and where the words spell no command.
 pub fn files_of(alloc: Global, words: &[String]) -> Result<Vec<String>, NoMemory>
     ensures { IfOk result (λ names. map string_bytes names.items ≡ file_names (map string_bytes words.now)) }
 {
@@ -220,7 +239,7 @@ pub fn files_of(alloc: Global, words: &[String]) -> Result<Vec<String>, NoMemory
             Some(texts) => copies(alloc, texts),
             None => Ok(Vec::new(alloc)),
         },
-        Command::Replay => Ok(Vec::new(alloc)),
+        Command::Replay | Command::Soak(_) => Ok(Vec::new(alloc)),
     }
 }
 
@@ -237,8 +256,8 @@ fn one_link(alloc: Global, local: &str, peers: &str) -> Result<Vec<PortWords>, N
     Ok(links)
 }
 
-/// The ends of the links that the command works on: one for `serve`, none for `answer` and `replay`
-/// and where the words spell no command.
+/// The ends of the links that the command works on: one for `serve`, none for the other commands and
+/// where the words spell no command.
 pub fn ports_of(alloc: Global, words: &[String]) -> Result<Vec<PortWords>, NoMemory>
     ensures { IfOk result (λ links. links.items ≡ port_words (map string_bytes words.now)) }
 {
@@ -246,7 +265,7 @@ pub fn ports_of(alloc: Global, words: &[String]) -> Result<Vec<PortWords>, NoMem
         return Ok(Vec::new(alloc));
     };
     match command {
-        Command::Answer(_) | Command::Replay => Ok(Vec::new(alloc)),
+        Command::Answer(_) | Command::Replay | Command::Soak(_) => Ok(Vec::new(alloc)),
         Command::Serve(_) => match link(&matches) {
             Some((local, peers)) => one_link(alloc, local, peers),
             None => Ok(Vec::new(alloc)),

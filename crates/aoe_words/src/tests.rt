@@ -1,4 +1,4 @@
-use crate::{Answer, Command, Serve, files_of, ports_of, read_words};
+use crate::{Answer, Command, Serve, Soak, files_of, ports_of, read_words};
 use aoe_base::{Mac, Ports, TargetId};
 use std::alloc::{AllocError, Global};
 use std::test::Fail;
@@ -72,7 +72,7 @@ fn cache_line(alloc: Global, line: &str) -> Result<Option<u32>, Fail> {
     match read_line(alloc, line)? {
         Some(Command::Answer(answer)) => Ok(Some(answer.cache)),
         Some(Command::Serve(serve)) => Ok(Some(serve.cache)),
-        Some(Command::Replay) | None => Ok(None),
+        _ => Ok(None),
     }
 }
 
@@ -169,6 +169,34 @@ fn reads_replay(rt: HostRuntime) -> Result<(), Fail> {
     assert_eq!(rt; read_line(alloc, "replay")?, Some(Command::Replay));
     assert_eq!(rt; files_line(alloc, "replay")?.as_str(), "");
     let words = words_of(alloc, "replay")?;
+    assert!(rt; ports_of(alloc, words.as_slice())?.is_empty());
+    Ok(())
+}
+
+#[test]
+fn reads_soak(rt: HostRuntime) -> Result<(), Fail> {
+    let alloc = rt.alloc();
+    let cases = [
+        ("soak 7 2000", Some((7, 2000))),
+        ("soak 0 1", Some((0, 1))),
+        ("soak 65535 16000", Some((65535, 16000))),
+        ("soak 65536 1", None),
+        ("soak 0 0", None),
+        ("soak 0 16001", None),
+        ("soak 7", None),
+        ("soak 7 2000 1", None),
+        ("soak 7 -1", None),
+        ("soak 7 2000 --turns 1", None),
+    ];
+    for (line, wanted) in cases {
+        let command = match wanted {
+            Some((seed, count)) => Some(Command::Soak(Soak { seed, count })),
+            None => None,
+        };
+        assert_eq!(rt; read_line(alloc, line)?, command, "{line}");
+    }
+    assert_eq!(rt; files_line(alloc, "soak 7 2000")?.as_str(), "");
+    let words = words_of(alloc, "soak 7 2000")?;
     assert!(rt; ports_of(alloc, words.as_slice())?.is_empty());
     Ok(())
 }

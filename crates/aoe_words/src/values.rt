@@ -42,17 +42,21 @@ pub(crate) fn number(found: &ArgMatches, id: &str, most: u64) -> Option<u64>
     read_number(text(found, id)?.as_bytes(), most)
 }
 
-/// The number that a text spells, where the option takes it.
-fn number_within(text: &[u8], option: &NumberOption) -> Option<u32>
-    ensures value { result ≡ number_within option.now.least option.now.most text.now }
-    ensures bounds { IfSome result (λ n. (option.now.least ≤ n) × (n ≤ option.now.most)) }
+/// The number from `least` to `most` that a text spells.
+fn number_within(text: &[u8], least: u32, most: u32) -> Option<u32>
+    ensures value { result ≡ number_within least most text.now }
+    ensures bounds { IfSome result (λ n. (least ≤ n) × (n ≤ most)) }
 {
-    let number = read_number(text, u64::from(option.most))? as u32;
-    if number < option.least {
-        None
-    } else {
-        Some(number)
-    }
+    let number = read_number(text, u64::from(most))? as u32;
+    if number < least { None } else { Some(number) }
+}
+
+/// The number from `least` to `most` that a word spells.
+pub(crate) fn number_from(found: &ArgMatches, id: &str, least: u32, most: u32) -> Option<u32>
+    ensures value { result ≡ given id.now (number_within least most) (rows_of (found_of found.now)) }
+    ensures bounds { IfSome result (λ n. (least ≤ n) × (n ≤ most)) }
+{
+    number_within(text(found, id)?.as_bytes(), least, most)
 }
 
 /// The number of an option.
@@ -63,7 +67,7 @@ pub(crate) fn number_or(found: &ArgMatches, id: &str, option: &NumberOption) -> 
     ensures bounds { IfSome result (λ n. (option.now.least ≤ n) × (n ≤ option.now.most)) }
 {
     match text(found, id) {
-        Some(text) => number_within(text.as_bytes(), option),
+        Some(text) => number_within(text.as_bytes(), option.least, option.most),
         None => Some(option.default),
     }
 }
