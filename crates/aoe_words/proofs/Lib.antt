@@ -1,6 +1,9 @@
 mod AppLemmas
+mod EachLemmas
+mod ListedLemmas
 mod ParsedLemmas
 mod PlaceLemmas
 mod PlainAnswer
 mod PlainLemmas
 mod PortLemmas
+mod RangeLemmas

@@ -19,6 +19,14 @@ demanded name = record (new_rule name) { long = Some name; required = true; acti
 abbrev pub optional : Text → Rule
 optional name = record (new_rule name) { long = Some name; action = Some Set }
 
+-- a word that may stand there
+abbrev pub allowed : Text → Rule
+allowed id = record (new_rule id) { action = Some Set }
+
+-- words that may stand there
+abbrev pub allowed_several : Text → Rule
+allowed_several id = record (new_rule id) { action = Some Append }
+
 -- a command with no argument yet, and with neither help nor version
 abbrev pub bare : Text → App
 bare name = let a = new_app name in record a { top = record a.top { disable_help_flag = true; disable_version_flag = true } }
@@ -35,9 +43,13 @@ answer_app = with_rule (with_rule (with_rule answer_front (optional (codes "port
 abbrev pub serve_front : App
 serve_front = with_rule (with_rule (bare (codes "serve")) (needed (codes "shelf"))) (several (codes "files"))
 
--- with the options on its addresses
+-- with the ends of a link
+abbrev pub with_link : App → App
+with_link app = with_rule (with_rule app (demanded (codes "local"))) (demanded (codes "peers"))
+
+-- serve with the options on its addresses
 abbrev pub serve_ports : App
-serve_ports = with_rule (with_rule (with_rule serve_front (demanded (codes "local"))) (demanded (codes "peers"))) (optional (codes "ports"))
+serve_ports = with_rule (with_link serve_front) (optional (codes "ports"))
 
 -- with the options on its slots too
 abbrev pub serve_slots : App
@@ -55,11 +67,38 @@ replay_app = bare (codes "replay")
 abbrev pub soak_app : App
 soak_app = with_rule (with_rule (bare (codes "soak")) (needed (codes "seed"))) (needed (codes "count"))
 
+-- with the options of a tool
+abbrev pub with_tool_options : App → App
+with_tool_options app = with_rule (with_rule (with_link app) (optional (codes "port"))) (optional (codes "turns"))
+
+-- discover and stat, with nothing but the options
+abbrev pub plain_tool : Text → App
+plain_tool name = with_tool_options (bare name)
+
+-- a tool that has DEV ACTION and one more
+abbrev pub list_tool : Text → Rule → App
+list_tool name rule = with_tool_options (with_rule (with_rule (with_rule (bare name) (needed (codes "dev"))) (needed (codes "action"))) rule)
+
 -- the commands over files: one command has to be named, and it is the first word
 abbrev pub file_commands : App
 file_commands = let a = bare (codes "aoe") in
     with_subcommand (with_subcommand (record a { top = record a.top { no_binary_name = true; disable_help_subcommand = true; subcommand_required = true } }) answer_app.top) serve_app.top
 
+-- with those over scripts
+abbrev pub script_commands : App
+script_commands = with_subcommand (with_subcommand file_commands replay_app.top) soak_app.top
+
+-- with the tools that list devices
+abbrev pub listing_commands : App
+listing_commands =
+    with_subcommand (with_subcommand script_commands (plain_tool (codes "discover")).top) (plain_tool (codes "stat")).top
+
+-- with those that ask for a device's lists
+abbrev pub list_commands : App
+list_commands =
+    with_subcommand (with_subcommand listing_commands (list_tool (codes "cfg") (allowed (codes "text"))).top)
+    (list_tool (codes "mask") (allowed_several (codes "dirs"))).top
+
 -- all commands
 unfoldable pub aoe_app : App
-aoe_app = with_subcommand (with_subcommand file_commands replay_app.top) soak_app.top
+aoe_app = with_subcommand list_commands (list_tool (codes "reserve") (allowed_several (codes "macs"))).top

@@ -1,3 +1,4 @@
 pub mod Apps
+pub mod Tools
 pub mod Values
 pub mod Words

@@ -5,19 +5,20 @@ use Rattle.std.specs.Option.{option_map_or}
 use Rattle.std.specs.Str.{bytes_eq}
 use Rattle.clap.specs.Lexer.{long_of}
 use Rattle.clap.specs.Walk.{is_empty}
-use Rattle.clap.specs.Words.{Row, Text, all_of, fault_of, first_of, subcommand_of}
+use Rattle.clap.specs.Words.{Row, Text, all_of, fault_of, subcommand_of}
 use Rattle.aoe_base.specs.Decimal.{number_of}
 use Rattle.aoe_base.specs.declared.address.Mac.{Mac}
 use Rattle.aoe_base.specs.declared.address.TargetId.{TargetId}
 use Rattle.aoe_base.specs.Addresses.{all_unique, is_individual}
 use Rattle.aoe_words.specs.Apps.{aoe_app}
-use Rattle.aoe_words.specs.Values.{default_port, number_within, port_of, ports_of}
+use Rattle.aoe_words.specs.Values.{default_port, given, given_or, link, number_within, port_of, ports_of}
+use Rattle.aoe_words.specs.Tools.{CanAsk, CanCfg, CanMask, CanReserve, asking_of, cfg_of, mask_of, reserve_of}
 use Rattle.aoe_words.specs.declared.command.Answer.{Answer as Answers}
 use Rattle.aoe_words.specs.declared.command.Serve.{Serve as Serves}
 use Rattle.aoe_words.specs.declared.command.Soak.{Soak as Soaks}
 use Rattle.aoe_words.specs.declared.command.PortWords.{PortWords}
 use Rattle.aoe_words.specs.declared.command.Command.{Command}
-use Rattle.aoe_words.specs.declared.command.Command.TheVariants.{Answer, Serve, Replay, Soak}
+use Rattle.aoe_words.specs.declared.command.Command.TheVariants.{Answer, Serve, Replay, Soak, Discover, Stat, Cfg, Mask, Reserve}
 
 -- ---- words
 
@@ -40,14 +41,6 @@ unfoldable pub parsed : List Text → Option (Text × List Row)
 parsed words = if list_all is_word words && is_empty (fault_of aoe_app words) then subcommand_of aoe_app words else None
 
 -- ---- commands
-
--- what a required word makes, or nothing
-abbrev pub given : {T : Type 0} → Text → (Text → Option T) → List Row → Option T
-given id read rows = option_and_then read (first_of id rows)
-
--- what an option makes, or nothing; its default where it isn't given
-abbrev pub given_or : {T : Type 0} → Text → (Text → Option T) → T → List Row → Option T
-given_or id read default rows = option_map_or read (first_of id rows) (Some default)
 
 -- the files
 abbrev pub files : List Row → List Text
@@ -75,11 +68,6 @@ answer_of rows =
     record { id = record { major = major; minor = minor }; port = port; mtu = mtu; cache = cache })
     (cache_of rows)) (mtu_of rows)) (given_or (codes "port") port_of default_port rows)) (slot_of rows)) (shelf_of rows)
 
--- the ends of the link of serve
-abbrev pub link : List Row → Option PortWords
-link rows = option_and_then (λ local. option_map (λ peers. record { local = local; peers = peers })
-    (first_of (codes "peers") rows)) (first_of (codes "local") rows)
-
 -- two files for each slot: 1 to 16 slots
 abbrev pub has_slots : List Row → Bool
 has_slots rows = length (files rows) % 2 == 0 && nat_le 2 (length (files rows)) && nat_le (length (files rows)) 32
@@ -99,6 +87,16 @@ soak_of rows =
     option_and_then (λ seed. option_map (λ count. record { seed = seed; count = count })
     (given (codes "count") (number_within 1 16000) rows)) (given (codes "seed") (λ text. number_of text 65535) rows)
 
+-- the tool of this name; it listens for 50 turns where nothing is said of it
+abbrev pub tool_of : Text → List Row → Option Command
+tool_of name rows =
+    if bytes_eq name (codes "discover") then option_map Discover (asking_of 50 rows)
+    else if bytes_eq name (codes "stat") then option_map Stat (asking_of 50 rows)
+    else if bytes_eq name (codes "cfg") then option_map Cfg (cfg_of rows)
+    else if bytes_eq name (codes "mask") then option_map Mask (mask_of rows)
+    else if bytes_eq name (codes "reserve") then option_map Reserve (reserve_of rows)
+    else None
+
 -- the command of this name
 abbrev pub command_of : Text → List Row → Option Command
 command_of name rows =
@@ -106,7 +104,7 @@ command_of name rows =
     else if bytes_eq name (codes "serve") then option_map Serve (serve_of rows)
     else if bytes_eq name (codes "replay") then Some Replay
     else if bytes_eq name (codes "soak") then option_map Soak (soak_of rows)
-    else None
+    else tool_of name rows
 
 -- the command that the words spell with what clap found for it, or nothing
 abbrev pub spelled : List Text → Option (Command × List Row)
@@ -120,8 +118,7 @@ command words = option_map (λ p. p.0) (spelled words)
 abbrev pub files_of : Command → List Row → List Text
 files_of (Answer answer) rows = files rows
 files_of (Serve serve) rows = files rows
-files_of Replay rows = []
-files_of (Soak soak) rows = []
+files_of _ rows = []
 
 abbrev pub file_names : List Text → List Text
 file_names words = option_map_or (λ p. files_of p.0 p.1) (spelled words) []
@@ -129,9 +126,9 @@ file_names words = option_map_or (λ p. files_of p.0 p.1) (spelled words) []
 -- the ends of its links
 abbrev pub links_of : Command → List Row → List PortWords
 links_of (Answer answer) rows = []
-links_of (Serve serve) rows = option_map_or (λ ends. ends ∷ []) (link rows) []
 links_of Replay rows = []
 links_of (Soak soak) rows = []
+links_of _ rows = option_map_or (λ ends. ends ∷ []) (link rows) []
 
 abbrev pub port_words : List Text → List PortWords
 port_words words = option_map_or (λ p. links_of p.0 p.1) (spelled words) []
@@ -173,19 +170,23 @@ IsInRange (Answer answer) = CanAnswer answer
 IsInRange (Serve serve) = CanServe serve
 IsInRange Replay = Unit
 IsInRange (Soak soak) = CanSoak soak
+IsInRange (Discover asking) = CanAsk asking
+IsInRange (Stat asking) = CanAsk asking
+IsInRange (Cfg cfg) = CanCfg cfg
+IsInRange (Mask mask) = CanMask mask
+IsInRange (Reserve reserve) = CanReserve reserve
 
 -- how many files and links a command has
 abbrev pub file_count : Command → ℕ
 file_count (Answer answer) = 2
 file_count (Serve serve) = 2 * serve.slots
-file_count Replay = 0
-file_count (Soak soak) = 0
+file_count _ = 0
 
 abbrev pub link_count : Command → ℕ
 link_count (Answer answer) = 0
-link_count (Serve serve) = 1
 link_count Replay = 0
 link_count (Soak soak) = 0
+link_count _ = 1
 
 -- ---- words without options
 

@@ -2,7 +2,7 @@
 ghost use Rattle.std.specs.Prelude.{◌≡◌, IfOk, map, string_bytes, false};
 ghost use Rattle.clap.specs.Words.{app_of, rule_of, with_rule, FailsBy, fault_of, HasMatchesOf};
 ghost use Rattle.clap.specs.declared.builder.command.Command.TheViews.{out-Command as fields_of};
-ghost use Rattle.aoe_words.specs.Apps.{needed, several, demanded, optional, bare, answer_front, answer_app, serve_front, serve_ports, serve_slots, serve_app, replay_app, soak_app, file_commands, aoe_app};
+ghost use Rattle.aoe_words.specs.Apps.{needed, several, allowed, allowed_several, demanded, optional, bare, answer_front, answer_app, serve_front, with_link, serve_ports, serve_slots, serve_app, replay_app, soak_app, with_tool_options, plain_tool, list_tool, file_commands, script_commands, listing_commands, list_commands, aoe_app};
 
 use clap::{Arg, ArgAction, ArgMatches, Command, Error};
 use std::alloc::{AllocError, Global};
@@ -31,6 +31,22 @@ fn several<'a>(alloc: Global, id: &'a str) -> Arg<'a>
     ensures local { result.global ≡ false }
 {
     Arg::new(alloc, id).required(true).action(ArgAction::Append)
+}
+
+/// A word that may stand there.
+fn allowed<'a>(alloc: Global, id: &'a str) -> Arg<'a>
+    ensures rule { rule_of result ≡ allowed id.entry.now }
+    ensures local { result.global ≡ false }
+{
+    Arg::new(alloc, id).action(ArgAction::Set)
+}
+
+/// Words that may stand there.
+fn allowed_several<'a>(alloc: Global, id: &'a str) -> Arg<'a>
+    ensures rule { rule_of result ≡ allowed_several id.entry.now }
+    ensures local { result.global ≡ false }
+{
+    Arg::new(alloc, id).action(ArgAction::Append)
 }
 
 /// An option that has to be given.
@@ -91,13 +107,22 @@ fn serve_front<'a>(alloc: Global) -> Result<Command<'a>, AllocError>
     with(command, several(alloc, "files"))
 }
 
+/// The command with the ends of a link.
+fn with_link<'a>(alloc: Global, command: Command<'a>) -> Result<Command<'a>, AllocError>
+    requires { (fields_of command).has_globals ≡ false }
+    ensures app { IfOk result (λ r. app_of r ≡ with_link (app_of command.entry)) }
+    ensures local { IfOk result (λ r. (fields_of r).has_globals ≡ false) }
+{
+    let command = with(command, demanded(alloc, "local"))?;
+    with(command, demanded(alloc, "peers"))
+}
+
 /// `serve` with the options on its addresses.
 fn serve_ports<'a>(alloc: Global) -> Result<Command<'a>, AllocError>
     ensures app { IfOk result (λ r. app_of r ≡ serve_ports) }
     ensures local { IfOk result (λ r. (fields_of r).has_globals ≡ false) }
 {
-    let command = with(serve_front(alloc)?, demanded(alloc, "local"))?;
-    let command = with(command, demanded(alloc, "peers"))?;
+    let command = with_link(alloc, serve_front(alloc)?)?;
     with(command, optional(alloc, "ports"))
 }
 
@@ -136,6 +161,36 @@ fn soak<'a>(alloc: Global) -> Result<Command<'a>, AllocError>
     with(command, needed(alloc, "count"))
 }
 
+/// The command with the options of a tool.
+fn with_tool_options<'a>(alloc: Global, command: Command<'a>) -> Result<Command<'a>, AllocError>
+    requires { (fields_of command).has_globals ≡ false }
+    ensures app { IfOk result (λ r. app_of r ≡ with_tool_options (app_of command.entry)) }
+    ensures local { IfOk result (λ r. (fields_of r).has_globals ≡ false) }
+{
+    let command = with_link(alloc, command)?;
+    let command = with(command, optional(alloc, "port"))?;
+    with(command, optional(alloc, "turns"))
+}
+
+/// A tool with nothing but its options.
+fn plain_tool<'a>(alloc: Global, name: &'a str) -> Result<Command<'a>, AllocError>
+    ensures app { IfOk result (λ r. app_of r ≡ plain_tool name.entry.now) }
+    ensures local { IfOk result (λ r. (fields_of r).has_globals ≡ false) }
+{
+    with_tool_options(alloc, bare(alloc, name))
+}
+
+/// A tool that has DEV ACTION and one more argument.
+fn list_tool<'a>(alloc: Global, name: &'a str, arg: Arg<'a>) -> Result<Command<'a>, AllocError>
+    requires { arg.global ≡ false }
+    ensures app { IfOk result (λ r. app_of r ≡ list_tool name.entry.now (rule_of arg.entry)) }
+    ensures local { IfOk result (λ r. (fields_of r).has_globals ≡ false) }
+{
+    let command = with(bare(alloc, name), needed(alloc, "dev"))?;
+    let command = with(command, needed(alloc, "action"))?;
+    with_tool_options(alloc, with(command, arg)?)
+}
+
 /// The commands over files.
 fn file_commands<'a>(alloc: Global) -> Result<Command<'a>, AllocError>
     ensures { IfOk result (λ r. app_of r ≡ file_commands) }
@@ -149,14 +204,40 @@ fn file_commands<'a>(alloc: Global) -> Result<Command<'a>, AllocError>
         .subcommand(serve(alloc)?)
 }
 
+/// The commands over files and those over scripts.
+fn script_commands<'a>(alloc: Global) -> Result<Command<'a>, AllocError>
+    ensures { IfOk result (λ r. app_of r ≡ script_commands) }
+{
+    file_commands(alloc)?
+        .subcommand(replay(alloc))?
+        .subcommand(soak(alloc)?)
+}
+
+/// These, and the tools that list devices.
+fn listing_commands<'a>(alloc: Global) -> Result<Command<'a>, AllocError>
+    ensures { IfOk result (λ r. app_of r ≡ listing_commands) }
+{
+    script_commands(alloc)?
+        .subcommand(plain_tool(alloc, "discover")?)?
+        .subcommand(plain_tool(alloc, "stat")?)
+}
+
+/// These, and tools that ask for a device's lists.
+fn list_commands<'a>(alloc: Global) -> Result<Command<'a>, AllocError>
+    ensures { IfOk result (λ r. app_of r ≡ list_commands) }
+{
+    let cfg = list_tool(alloc, "cfg", allowed(alloc, "text"))?;
+    let mask = list_tool(alloc, "mask", allowed_several(alloc, "dirs"))?;
+    listing_commands(alloc)?.subcommand(cfg)?.subcommand(mask)
+}
+
 /// All commands.
 #[tactic(auto, unfolding(crate::specs::Apps::aoe_app))]
 fn commands<'a>(alloc: Global) -> Result<Command<'a>, AllocError>
     ensures { IfOk result (λ r. app_of r ≡ aoe_app) }
 {
-    file_commands(alloc)?
-        .subcommand(replay(alloc))?
-        .subcommand(soak(alloc)?)
+    let reserve = list_tool(alloc, "reserve", allowed_several(alloc, "macs"))?;
+    list_commands(alloc)?.subcommand(reserve)
 }
 
 /// What clap finds in the words after the program's name.

@@ -1,5 +1,7 @@
 //! What words can spell.
 use aoe_base::{Blob, Mac, Ports, TargetId};
+use aoe_lists::{Dir, MAX_CONFIG, MAX_DIRS};
+use arrayvec::ArrayVec;
 
 /// What `answer SHELF SLOT FILE KEEP` asks for: to answer the frames of a stream as one target.
 #[derive(Clone, Copy, Debug, PartialEq, Eq)]
@@ -53,6 +55,58 @@ pub struct Soak {
     pub count: u32,
 }
 
+/// Who asks, and how long it listens: what every tool is told.
+#[derive(Clone, Copy, Debug, PartialEq, Eq)]
+pub struct Asking {
+    /// The address that the requests come from.
+    pub port: Mac,
+
+    /// The most turns that a tool listens for a response.
+    pub turns: u32,
+}
+
+/// What `cfg DEV ACTION TEXT` asks for: to read, test or set a device's config string.
+#[derive(Debug, Drop, PartialEq, Eq)]
+pub struct Cfg {
+    pub asking: Asking,
+
+    /// The device.
+    pub id: TargetId,
+
+    /// What is done with the string: the field CCmd of the request (AoEr11, "CCmd"), 0 to 4.
+    pub ccmd: u8,
+
+    /// The string of the request; empty for a read.
+    pub text: ArrayVec<u8, MAX_CONFIG>,
+}
+
+/// What `mask DEV ACTION DIRS` asks for: to read or edit a device's mask list.
+#[derive(Debug, Drop, PartialEq, Eq)]
+pub struct Mask {
+    pub asking: Asking,
+
+    /// The device.
+    pub id: TargetId,
+
+    /// The directives of an edit, 1 to 64; a read has none.
+    pub dirs: Option<ArrayVec<Dir, MAX_DIRS>>,
+}
+
+/// What `reserve DEV ACTION MACS` asks for: to read or set a device's reserve list.
+#[derive(Debug, Drop, PartialEq, Eq)]
+pub struct Reserve {
+    pub asking: Asking,
+
+    /// The device.
+    pub id: TargetId,
+
+    /// What is done with the list: the field RCmd of the request (AoEr11, "RCmd"), 0 to 2.
+    pub rcmd: u8,
+
+    /// The addresses of the request; empty for a read and a release.
+    pub list: ArrayVec<Mac, MAX_DIRS>,
+}
+
 /// What the words of a command line ask for.
 #[derive(Debug, Drop, PartialEq, Eq)]
 pub enum Command {
@@ -63,6 +117,16 @@ pub enum Command {
     Replay,
 
     Soak(Soak),
+
+    /// What `discover` asks for: to list the devices of the network.
+    Discover(Asking),
+
+    /// What `stat` asks for: to list the devices of the network, with their sizes and states.
+    Stat(Asking),
+
+    Cfg(Cfg),
+    Mask(Mask),
+    Reserve(Reserve),
 }
 
 /// The texts that name the ends of a link, as they stand on the command line: its own address, and

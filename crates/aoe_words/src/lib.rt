@@ -8,12 +8,14 @@
 mod app;
 mod command;
 mod law;
+mod lists;
 mod ports;
 mod read;
+mod tools;
 mod values;
 mod word;
 
-pub use command::{Answer, Command, PortWords, Serve, Soak};
+pub use command::{Answer, Asking, Cfg, Command, Mask, PortWords, Reserve, Serve, Soak};
 pub use law::plain_words_law;
 pub use read::{files_of, ports_of, read_words};
 

@@ -2,11 +2,14 @@
 ghost use Rattle.std.specs.Prelude.{◌≡◌, ◌*◌, [], ◌∷◌, length, map, option_map, string_bytes, IfOk, IfSome, IsSome};
 ghost use Rattle.std.specs.List.{list_all};
 ghost use Rattle.clap.specs.Words.{found_of, rows_of};
-ghost use Rattle.aoe_words.specs.Words.{CanAnswer, CanServe, CanSoak, IsInRange, answer_of, command, command_of, file_count, file_names, files, files_of, is_word, link, link_count, links_of, parsed, port_words, serve_of, soak_of, spelled};
+ghost use Rattle.aoe_words.specs.Words.{CanAnswer, CanServe, CanSoak, IsInRange, answer_of, command, command_of, file_count, file_names, files, files_of, is_word, link_count, links_of, parsed, port_words, serve_of, soak_of, spelled, tool_of};
+ghost use Rattle.aoe_words.specs.Values.{link};
 
 use crate::app::matches;
+use crate::tools::{cfg_of, mask_of, plain_of, reserve_of};
 use crate::values::{
-    NumberOption, files, number, number_from, number_or, port_or_default, ports_or_default, text,
+    DEFAULT_PORT, NumberOption, link, number, number_from, number_or, port_or_default,
+    ports_or_default, texts,
 };
 use crate::word::is_word;
 use crate::{Answer, Command, PortWords, Serve, Soak};
@@ -104,7 +107,7 @@ fn answer_of(found: &ArgMatches) -> Option<Answer>
     ensures range { IfSome result CanAnswer }
     ensures files { IfSome result (λ answer. length (files (rows_of (found_of found.now))) ≡ 2) }
 {
-    if files(found)?.len() != ANSWER_FILES {
+    if texts(found, "files")?.len() != ANSWER_FILES {
         return None;
     }
     Some(Answer {
@@ -112,17 +115,10 @@ fn answer_of(found: &ArgMatches) -> Option<Answer>
             major: number(found, "shelf", LAST_SHELF)? as u16,
             minor: number(found, "slot", LAST_SLOT)? as u8,
         },
-        port: port_or_default(found, "port")?,
+        port: port_or_default(found, "port", DEFAULT_PORT)?,
         mtu: number_or(found, "mtu", &MTU)?,
         cache: number_or(found, "cache", &CACHE)?,
     })
-}
-
-/// The texts of the ends of the link of `serve`: its own, and its peers.
-fn link<'a>(found: &ArgMatches<'a>) -> Option<(&'a str, &'a str)>
-    ensures { option_map (λ ends. record { local = ends.0.now; peers = ends.1.now }) result ≡ link (rows_of (found_of found.now)) }
-{
-    Some((text(found, "local")?, text(found, "peers")?))
 }
 
 /// What the words of `serve` ask for.
@@ -132,7 +128,7 @@ fn serve_of(found: &ArgMatches) -> Option<Serve>
     ensures files { IfSome result (λ serve. length (files (rows_of (found_of found.now))) ≡ 2 * serve.slots) }
     ensures links { IfSome result (λ serve. IsSome (link (rows_of (found_of found.now)))) }
 {
-    let files = files(found)?.len();
+    let files = texts(found, "files")?.len();
     if files % 2 != 0 || files < 2 || files > MOST_FILES {
         return None;
     }
@@ -159,6 +155,28 @@ fn soak_of(found: &ArgMatches) -> Option<Soak>
     })
 }
 
+/// What the words of the tool of this name ask for.
+fn tool_of(name: &str, found: &ArgMatches) -> Option<Command>
+    ensures value { result ≡ tool_of name.now (rows_of (found_of found.now)) }
+    ensures range { IfSome result IsInRange }
+    ensures files { IfSome result (λ c. length (files_of c (rows_of (found_of found.now))) ≡ file_count c) }
+    ensures links { IfSome result (λ c. length (links_of c (rows_of (found_of found.now))) ≡ link_count c) }
+{
+    if name == "discover" {
+        Some(Command::Discover(plain_of(found)?))
+    } else if name == "stat" {
+        Some(Command::Stat(plain_of(found)?))
+    } else if name == "cfg" {
+        Some(Command::Cfg(cfg_of(found)?))
+    } else if name == "mask" {
+        Some(Command::Mask(mask_of(found)?))
+    } else if name == "reserve" {
+        Some(Command::Reserve(reserve_of(found)?))
+    } else {
+        None
+    }
+}
+
 /// What the words of the command of this name ask for.
 fn command_of(name: &str, found: &ArgMatches) -> Option<Command>
     ensures value { result ≡ command_of name.now (rows_of (found_of found.now)) }
@@ -175,7 +193,7 @@ fn command_of(name: &str, found: &ArgMatches) -> Option<Command>
     } else if name == "soak" {
         Some(Command::Soak(soak_of(found)?))
     } else {
-        None
+        tool_of(name, found)
     }
 }
 
@@ -226,8 +244,8 @@ fn copies(alloc: Global, texts: &[&str]) -> Result<Vec<String>, NoMemory>
     Ok(names)
 }
 
-/// The names of the files that the command works on, in their order; none for `replay` and `soak`,
-/// and where the words spell no command.
+/// The names of the files that `answer` or `serve` works on, in their order; none for the other
+/// commands and where the words spell no command.
 pub fn files_of(alloc: Global, words: &[String]) -> Result<Vec<String>, NoMemory>
     ensures { IfOk result (λ names. map string_bytes names.items ≡ file_names (map string_bytes words.now)) }
 {
@@ -235,11 +253,17 @@ pub fn files_of(alloc: Global, words: &[String]) -> Result<Vec<String>, NoMemory
         return Ok(Vec::new(alloc));
     };
     match command {
-        Command::Answer(_) | Command::Serve(_) => match files(&matches) {
+        Command::Answer(_) | Command::Serve(_) => match texts(&matches, "files") {
             Some(texts) => copies(alloc, texts),
             None => Ok(Vec::new(alloc)),
         },
-        Command::Replay | Command::Soak(_) => Ok(Vec::new(alloc)),
+        Command::Replay
+        | Command::Soak(_)
+        | Command::Discover(_)
+        | Command::Stat(_)
+        | Command::Cfg(_)
+        | Command::Mask(_)
+        | Command::Reserve(_) => Ok(Vec::new(alloc)),
     }
 }
 
@@ -256,8 +280,8 @@ fn one_link(alloc: Global, local: &str, peers: &str) -> Result<Vec<PortWords>, N
     Ok(links)
 }
 
-/// The ends of the links that the command works on: one for `serve`, none for the other commands and
-/// where the words spell no command.
+/// The ends of the links that the command works on: one for `serve` and for each tool, none for the
+/// other commands and where the words spell no command.
 pub fn ports_of(alloc: Global, words: &[String]) -> Result<Vec<PortWords>, NoMemory>
     ensures { IfOk result (λ links. links.items ≡ port_words (map string_bytes words.now)) }
 {
@@ -266,7 +290,12 @@ pub fn ports_of(alloc: Global, words: &[String]) -> Result<Vec<PortWords>, NoMem
     };
     match command {
         Command::Answer(_) | Command::Replay | Command::Soak(_) => Ok(Vec::new(alloc)),
-        Command::Serve(_) => match link(&matches) {
+        Command::Serve(_)
+        | Command::Discover(_)
+        | Command::Stat(_)
+        | Command::Cfg(_)
+        | Command::Mask(_)
+        | Command::Reserve(_) => match link(&matches) {
             Some((local, peers)) => one_link(alloc, local, peers),
             None => Ok(Vec::new(alloc)),
         },

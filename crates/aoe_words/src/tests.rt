@@ -1,5 +1,9 @@
-use crate::{Answer, Command, Serve, Soak, files_of, ports_of, read_words};
+use crate::{
+    Answer, Asking, Cfg, Command, Mask, Reserve, Serve, Soak, files_of, ports_of, read_words,
+};
 use aoe_base::{Mac, Ports, TargetId};
+use aoe_lists::Dir;
+use arrayvec::ArrayVec;
 use std::alloc::{AllocError, Global};
 use std::test::Fail;
 
@@ -141,6 +145,80 @@ fn reads_serve(rt: HostRuntime) -> Result<(), Fail> {
     Ok(())
 }
 
+/// The ends of a link, as every tool is told them.
+const ENDS: &str = " --local 0.0.0.0:1 --peers 10.0.0.1:1";
+
+/// What the words of a tool spell, with the ends of a link behind them.
+fn read_tool(alloc: Global, line: &str) -> Result<Option<Command>, Fail> {
+    let mut whole = String::from_str(alloc, line)?;
+    whole.push_str(ENDS)?;
+    read_line(alloc, whole.as_str())
+}
+
+/// Who asks where nothing is said of it.
+fn asking() -> Asking {
+    Asking {
+        port: mac(10),
+        turns: 50,
+    }
+}
+
+/// The device that the tools ask.
+fn device() -> TargetId {
+    TargetId { major: 1, minor: 2 }
+}
+
+/// What `cfg` asks of the device.
+fn cfg(ccmd: u8, string: &[u8]) -> Command {
+    let mut text = ArrayVec::new();
+    let _ = text.try_extend_from_slice(string);
+    Command::Cfg(Cfg {
+        asking: asking(),
+        id: device(),
+        ccmd,
+        text,
+    })
+}
+
+/// What `mask` asks of the device.
+fn mask(edit: Option<&[Dir]>) -> Command {
+    let dirs = match edit {
+        Some(edit) => {
+            let mut dirs = ArrayVec::new();
+            let _ = dirs.try_extend_from_slice(edit);
+            Some(dirs)
+        }
+        None => None,
+    };
+    Command::Mask(Mask {
+        asking: asking(),
+        id: device(),
+        dirs,
+    })
+}
+
+/// What `reserve` asks of the device.
+fn reserve(rcmd: u8, macs: &[Mac]) -> Command {
+    let mut list = ArrayVec::new();
+    let _ = list.try_extend_from_slice(macs);
+    Command::Reserve(Reserve {
+        asking: asking(),
+        id: device(),
+        rcmd,
+        list,
+    })
+}
+
+/// A line, and a word so many times behind it.
+fn long_list(alloc: Global, line: &str, word: &str, count: usize) -> Result<String, AllocError> {
+    let mut whole = String::from_str(alloc, line)?;
+    for _ in 0..count {
+        whole.push(' ')?;
+        whole.push_str(word)?;
+    }
+    Ok(whole)
+}
+
 #[test]
 fn reads_the_buffer(rt: HostRuntime) -> Result<(), Fail> {
     let cases = [
@@ -198,6 +276,165 @@ fn reads_soak(rt: HostRuntime) -> Result<(), Fail> {
     assert_eq!(rt; files_line(alloc, "soak 7 2000")?.as_str(), "");
     let words = words_of(alloc, "soak 7 2000")?;
     assert!(rt; ports_of(alloc, words.as_slice())?.is_empty());
+    Ok(())
+}
+
+#[test]
+fn reads_discover_and_stat(rt: HostRuntime) -> Result<(), Fail> {
+    let alloc = rt.alloc();
+    let other = Asking {
+        port: mac(0xff),
+        turns: 1_000_000,
+    };
+    let cases = [
+        ("discover", Some(Command::Discover(asking()))),
+        ("stat", Some(Command::Stat(asking()))),
+        (
+            "discover --port=02:00:00:00:00:ff --turns 1000000",
+            Some(Command::Discover(other)),
+        ),
+        (
+            "stat --turns=1000000 --port 02:00:00:00:00:ff",
+            Some(Command::Stat(other)),
+        ),
+        ("discover e1.2", None),
+        ("stat --turns 0", None),
+        ("stat --turns 1000001", None),
+        ("stat --port 03:00:00:00:00:01", None),
+        ("stat --mtu 1500", None),
+        ("stat --local y", None),
+    ];
+    for (line, command) in cases {
+        assert_eq!(rt; read_tool(alloc, line)?, command, "{line}");
+    }
+    for line in ["discover", "discover --local x", "stat --peers y"] {
+        assert_eq!(rt; read_line(alloc, line)?, None, "{line}");
+    }
+    Ok(())
+}
+
+#[test]
+fn reads_cfg(rt: HostRuntime) -> Result<(), Fail> {
+    let cases = [
+        ("cfg e1.2 read", Some(cfg(0, b""))),
+        ("cfg e1.2 test abc", Some(cfg(1, b"abc"))),
+        ("cfg e1.2 prefix ab", Some(cfg(2, b"ab"))),
+        ("cfg e1.2 set a=b", Some(cfg(3, b"a=b"))),
+        ("cfg e01.2 force read", Some(cfg(4, b"read"))),
+        ("cfg e1.2 clear", Some(cfg(4, b""))),
+        ("cfg", None),
+        ("cfg e1.2", None),
+        ("cfg e1 read", None),
+        ("cfg e65535.0 read", None),
+        ("cfg e1.2 Read", None),
+        ("cfg e1.2 edit x", None),
+        ("cfg e1.2 read x", None),
+        ("cfg e1.2 clear x", None),
+        ("cfg e1.2 test", None),
+        ("cfg e1.2 prefix", None),
+        ("cfg e1.2 set", None),
+        ("cfg e1.2 force", None),
+        ("cfg e1.2 force x y", None),
+        ("cfg e1.2 set -x", None),
+    ];
+    for (line, command) in cases {
+        assert_eq!(rt; read_tool(rt.alloc(), line)?, command, "{line}");
+    }
+    Ok(())
+}
+
+#[test]
+fn reads_long_strings(rt: HostRuntime) -> Result<(), Fail> {
+    let alloc = rt.alloc();
+    let mut line = String::from_str(alloc, "cfg e1.2 set ")?;
+    for _ in 0..1024 {
+        line.push('s')?;
+    }
+    let command = read_tool(alloc, line.as_str())?;
+    assert_eq!(rt; command, Some(cfg(3, &[b's'; 1024])));
+    line.push('s')?;
+    assert_eq!(rt; read_tool(alloc, line.as_str())?, None);
+    Ok(())
+}
+
+#[test]
+fn reads_mask(rt: HostRuntime) -> Result<(), Fail> {
+    let add = Dir {
+        add: true,
+        mac: mac(0xfe),
+    };
+    let delete = Dir {
+        add: false,
+        mac: Mac([0xff; 6]),
+    };
+    let cases = [
+        ("mask e1.2 read", Some(mask(None))),
+        (
+            "mask e1.2 edit add=02:00:00:00:00:fe",
+            Some(mask(Some(&[add]))),
+        ),
+        (
+            "mask e1.2 edit add=02:00:00:00:00:fe del=ff:ff:ff:ff:ff:ff add=02:00:00:00:00:fe",
+            Some(mask(Some(&[add, delete, add]))),
+        ),
+        ("mask e1.2 edit", None),
+        ("mask e1.2 read add=02:00:00:00:00:fe", None),
+        ("mask e1.2 set add=02:00:00:00:00:fe", None),
+        ("mask e1.2 edit 02:00:00:00:00:fe", None),
+        ("mask e1.2 edit add=02:00:00:00:00:FE", None),
+        ("mask e1.2 edit Add=02:00:00:00:00:fe", None),
+        ("mask e1.2 edit add", None),
+        ("mask e1.2 edit add=02:00:00:00:00:fe del", None),
+    ];
+    for (line, command) in cases {
+        assert_eq!(rt; read_tool(rt.alloc(), line)?, command, "{line}");
+    }
+    Ok(())
+}
+
+#[test]
+fn reads_reserve(rt: HostRuntime) -> Result<(), Fail> {
+    let cases = [
+        ("reserve e1.2 read", Some(reserve(0, &[]))),
+        ("reserve e1.2 release", Some(reserve(1, &[]))),
+        (
+            "reserve e1.2 set 02:00:00:00:00:01",
+            Some(reserve(1, &[mac(1)])),
+        ),
+        (
+            "reserve e1.2 force 02:00:00:00:00:01 02:00:00:00:00:01",
+            Some(reserve(2, &[mac(1), mac(1)])),
+        ),
+        ("reserve e1.2 set", None),
+        ("reserve e1.2 force", None),
+        ("reserve e1.2 read 02:00:00:00:00:01", None),
+        ("reserve e1.2 release 02:00:00:00:00:01", None),
+        ("reserve e1.2 clear", None),
+        ("reserve e1.2 set 02:00:00:00:00:01,02:00:00:00:00:02", None),
+    ];
+    for (line, command) in cases {
+        assert_eq!(rt; read_tool(rt.alloc(), line)?, command, "{line}");
+    }
+    Ok(())
+}
+
+#[test]
+fn reads_long_lists(rt: HostRuntime) -> Result<(), Fail> {
+    let alloc = rt.alloc();
+    let add = Dir {
+        add: true,
+        mac: mac(1),
+    };
+    let edit = long_list(alloc, "mask e1.2 edit", "add=02:00:00:00:00:01", 64)?;
+    let command = mask(Some(&[add; 64]));
+    assert_eq!(rt; read_tool(alloc, edit.as_str())?, Some(command));
+    let edit = long_list(alloc, "mask e1.2 edit", "add=02:00:00:00:00:01", 65)?;
+    assert_eq!(rt; read_tool(alloc, edit.as_str())?, None);
+    let set = long_list(alloc, "reserve e1.2 set", "02:00:00:00:00:01", 64)?;
+    let command = reserve(1, &[mac(1); 64]);
+    assert_eq!(rt; read_tool(alloc, set.as_str())?, Some(command));
+    let set = long_list(alloc, "reserve e1.2 set", "02:00:00:00:00:01", 65)?;
+    assert_eq!(rt; read_tool(alloc, set.as_str())?, None);
     Ok(())
 }
 
@@ -305,19 +542,41 @@ fn reads_long_words(rt: HostRuntime) -> Result<(), Fail> {
 #[test]
 fn names_files_and_links(rt: HostRuntime) -> Result<(), Fail> {
     let alloc = rt.alloc();
-    let answer = "answer 1 --mtu 1500 0 disk keep";
-    assert_eq!(rt; files_line(alloc, answer)?.as_str(), "disk keep");
-    let words = words_of(alloc, answer)?;
-    assert!(rt; ports_of(alloc, words.as_slice())?.is_empty());
-
-    let serve = "serve 1 d0 k0 --local 0.0.0.0:1 d1 --peers 10.0.0.1:1,10.0.0.2:1 k1";
-    assert_eq!(rt; files_line(alloc, serve)?.as_str(), "d0 k0 d1 k1");
-    let words = words_of(alloc, serve)?;
-    let links = ports_of(alloc, words.as_slice())?;
-    assert_eq!(rt; links.len(), 1);
-    for link in &links {
-        assert_eq!(rt; link.local.bytes(), b"0.0.0.0:1".as_slice());
-        assert_eq!(rt; link.peers.bytes(), b"10.0.0.1:1,10.0.0.2:1".as_slice());
+    let ends = Some((b"0.0.0.0:1".as_slice(), b"10.0.0.1:1".as_slice()));
+    let cases = [
+        ("answer 1 --mtu 1500 0 disk keep", "disk keep", None),
+        (
+            "serve 1 d0 k0 --local 0.0.0.0:1 d1 --peers 10.0.0.1:1 k1",
+            "d0 k0 d1 k1",
+            ends,
+        ),
+        ("discover --local 0.0.0.0:1 --peers 10.0.0.1:1", "", ends),
+        ("stat --peers=10.0.0.1:1 --local=0.0.0.0:1", "", ends),
+        (
+            "cfg e1.2 set x --local 0.0.0.0:1 --peers 10.0.0.1:1",
+            "",
+            ends,
+        ),
+        (
+            "mask e1.2 read --local 0.0.0.0:1 --peers 10.0.0.1:1",
+            "",
+            ends,
+        ),
+        (
+            "reserve --local 0.0.0.0:1 e1.2 --peers 10.0.0.1:1 release",
+            "",
+            ends,
+        ),
+    ];
+    for (line, files, ends) in cases {
+        assert_eq!(rt; files_line(alloc, line)?.as_str(), files, "{line}");
+        let words = words_of(alloc, line)?;
+        let links = ports_of(alloc, words.as_slice())?;
+        let found = match links.as_slice() {
+            [link] => Some((link.local.bytes(), link.peers.bytes())),
+            _ => None,
+        };
+        assert_eq!(rt; found, ends, "{line}");
     }
     Ok(())
 }

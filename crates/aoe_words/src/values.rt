@@ -1,19 +1,23 @@
 //! The values of words and options, as clap found them.
-ghost use Rattle.std.specs.Prelude.{◌≡◌, ◌≤◌, [], ◌∷◌, codes, map, option_map, true, IfSome};
+ghost use Rattle.std.specs.Prelude.{◌≡◌, ◌≤◌, [], ◌∷◌, map, option_map, true, IfSome};
 ghost use Rattle.clap.specs.Words.{all_of, first_of, found_of, rows_of};
 ghost use Rattle.aoe_base.specs.Decimal.{number_of};
 ghost use Rattle.aoe_base.specs.Addresses.{is_individual};
-ghost use Rattle.aoe_words.specs.Values.{default_port, number_within, port_of, ports_of};
-ghost use Rattle.aoe_words.specs.Words.{ArePorts, given, given_or};
+ghost use Rattle.aoe_words.specs.Values.{default_port, given, given_or, link, number_within, port_of, ports_of};
+ghost use Rattle.aoe_words.specs.Words.{ArePorts};
 
 use crate::ports::{read_port, read_ports};
 use aoe_base::{Mac, Ports, read_number};
 use clap::ArgMatches;
 
-/// The address of a port where none is given.
+/// The address of a target's port where none is given.
 pub(crate) const DEFAULT_PORT: Mac = Mac([2, 0, 0, 0, 0, 1]);
 
+/// The address of a tool's port where none is given.
+pub(crate) const TOOL_PORT: Mac = Mac([2, 0, 0, 0, 0, 10]);
+
 /// The numbers that an option takes, and the one that stands where it isn't given.
+#[derive(Clone, Copy)]
 pub(crate) struct NumberOption {
     pub(crate) least: u32,
     pub(crate) most: u32,
@@ -27,11 +31,18 @@ pub(crate) fn text<'a>(found: &ArgMatches<'a>, id: &str) -> Option<&'a str>
     found.get_str(id)
 }
 
-/// The texts of the files, where there is one.
-pub(crate) fn files<'b, 'a>(found: &'b ArgMatches<'a>) -> Option<&'b [&'a str]>
-    ensures { option_map (λ texts. map (λ text. text.now) texts.now) result ≡ all_of (codes "files") (rows_of (found_of found.now)) }
+/// The texts of words that go to one argument, where there is one.
+pub(crate) fn texts<'b, 'a>(found: &'b ArgMatches<'a>, id: &str) -> Option<&'b [&'a str]>
+    ensures { option_map (λ texts. map (λ text. text.now) texts.now) result ≡ all_of id.now (rows_of (found_of found.now)) }
 {
-    found.get_strs("files")
+    found.get_strs(id)
+}
+
+/// The texts of the ends of a link: its own, and its peers.
+pub(crate) fn link<'a>(found: &ArgMatches<'a>) -> Option<(&'a str, &'a str)>
+    ensures { option_map (λ ends. record { local = ends.0.now; peers = ends.1.now }) result ≡ link (rows_of (found_of found.now)) }
+{
+    Some((text(found, "local")?, text(found, "peers")?))
 }
 
 /// The number up to `most` that a word spells.
@@ -73,13 +84,14 @@ pub(crate) fn number_or(found: &ArgMatches, id: &str, option: &NumberOption) -> 
 }
 
 /// The address of a port.
-pub(crate) fn port_or_default(found: &ArgMatches, id: &str) -> Option<Mac>
-    ensures value { result ≡ given_or id.now port_of default_port (rows_of (found_of found.now)) }
+pub(crate) fn port_or_default(found: &ArgMatches, id: &str, default: Mac) -> Option<Mac>
+    requires { is_individual default ≡ true }
+    ensures value { result ≡ given_or id.now port_of default (rows_of (found_of found.now)) }
     ensures individual { IfSome result (λ port. is_individual port ≡ true) }
 {
     match text(found, id) {
         Some(text) => read_port(text.as_bytes()),
-        None => Some(DEFAULT_PORT),
+        None => Some(default),
     }
 }
 

@@ -3,15 +3,16 @@ use Rattle.std.proofs.Common.{◌==◌, ap, rules}
 use Rattle.std.proofs.lemmas.Iterator.Consumers.{YieldsList-turn, YieldsList-end}
 use Rattle.std.proofs.lemmas.Iterator.Splits.{YieldsList-from_slice_split}
 use Rattle.std.proofs.lemmas.List.{length_push}
-use Rattle.aoe_words.proofs.PortLemmas.{none_at, one_more, fifth, all_read}
-use Rattle.aoe_words.specs.Values.{up_to_four}
+use Rattle.aoe_words.proofs.EachLemmas.{none_at, one_more}
+use Rattle.aoe_words.proofs.PortLemmas.{fifth, all_read}
+use Rattle.aoe_words.specs.Values.{port_of, up_to_four}
 use Rattle.aoe_words.proofs.ports.each_port.Goals as goal
 
 pub returns-in_err-port : goal.returns-in_err-port
 returns-in_err-port c =
     let road = YieldsList-from_slice_split _ (λ c. c == 44) c.args.text.now (search rules) (search rules) (search rules) (λ x b q k. search rules) in
     let t = YieldsList-turn road c.parts.yielded _ c.parts.yielded_by _ _ c.in-Some.part c.in-Some.is c.next.ensures.steps in
-    let none = none_at _ _ _ c.parts.invariant.so_far _ t c.in_err-port.ensures.value in
+    let none = none_at port_of _ _ _ c.parts.invariant.so_far _ t c.in_err-port.ensures.value in
     let over = ap up_to_four none in
     search rules
 
@@ -31,7 +32,7 @@ parts-preserved c =
       few = search rules;
       so_far =
           rw (length_push c.parts.yielded c.in-Some.part, c.push.ensures.items)
-          (one_more _ _ _ c.parts.invariant.so_far _ t c.in_ok-port.port c.in_ok-port.ensures.value);
+          (one_more port_of _ _ _ c.parts.invariant.so_far _ t c.in_ok-port.port c.in_ok-port.ensures.value);
     }
 
 pub returns : goal.returns

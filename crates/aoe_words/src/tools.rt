@@ -1,0 +1,177 @@
+//! What the words of the tools spell.
+ghost use Rattle.std.specs.Prelude.{◌≡◌, ◌≤◌, option_map, IfSome, IsSome};
+ghost use Rattle.clap.specs.Words.{found_of, rows_of};
+ghost use Rattle.aoe_base.specs.Names.{device_of};
+ghost use Rattle.aoe_words.specs.Tools.{CanAsk, CanCfg, CanMask, CanReserve, IsDevice, asking_of, ccmd_alone, ccmd_with_text, cfg_of, device, mask_of, rcmd_alone, rcmd_with_list, reserve_of};
+ghost use Rattle.aoe_words.specs.Values.{link};
+
+use crate::lists::{read_dirs, read_macs, read_text};
+use crate::values::{NumberOption, TOOL_PORT, link, number_or, port_or_default, text, texts};
+use crate::{Asking, Cfg, Mask, Reserve};
+use aoe_base::{TargetId, device_law, read_device};
+use arrayvec::ArrayVec;
+use clap::ArgMatches;
+
+/// How many turns a tool listens where nothing is said of it.
+const TOOL_TURNS: u32 = 50;
+
+/// Who asks, where the ends of the link are named; `turns` is how long where nothing is said of it.
+fn asking_of(found: &ArgMatches, turns: u32) -> Option<Asking>
+    requires { (1 ≤ turns) × (turns ≤ 1000000) }
+    ensures value { result ≡ asking_of turns (rows_of (found_of found.now)) }
+    ensures range { IfSome result CanAsk }
+    ensures link { IfSome result (λ asking. IsSome (link (rows_of (found_of found.now)))) }
+{
+    let _ends = link(found)?;
+    let option = NumberOption {
+        least: 1,
+        most: 1_000_000,
+        default: turns,
+    };
+    Some(Asking {
+        port: port_or_default(found, "port", TOOL_PORT)?,
+        turns: number_or(found, "turns", &option)?,
+    })
+}
+
+/// The device that is asked.
+fn device_of(found: &ArgMatches) -> Option<TargetId>
+    ensures value { result ≡ device (rows_of (found_of found.now)) }
+    ensures range { IfSome result IsDevice }
+{
+    device_law();
+    read_device(text(found, "dev")?.as_bytes())
+}
+
+/// What a tool without words asks for.
+pub(crate) fn plain_of(found: &ArgMatches) -> Option<Asking>
+    ensures value { result ≡ asking_of 50 (rows_of (found_of found.now)) }
+    ensures range { IfSome result CanAsk }
+    ensures link { IfSome result (λ asking. IsSome (link (rows_of (found_of found.now)))) }
+{
+    asking_of(found, TOOL_TURNS)
+}
+
+/// The field CCmd of an action of `cfg` that has no text.
+fn ccmd_alone(action: &str) -> Option<u8>
+    ensures value { result ≡ ccmd_alone action.now }
+    ensures range { IfSome result (λ ccmd. ccmd ≤ 4) }
+{
+    match action {
+        "read" => Some(0),
+        "clear" => Some(4),
+        _ => None,
+    }
+}
+
+/// The field CCmd of an action of `cfg` that has a text.
+fn ccmd_with_text(action: &str) -> Option<u8>
+    ensures value { result ≡ ccmd_with_text action.now }
+    ensures range { IfSome result (λ ccmd. ccmd ≤ 4) }
+{
+    match action {
+        "test" => Some(1),
+        "prefix" => Some(2),
+        "set" => Some(3),
+        "force" => Some(4),
+        _ => None,
+    }
+}
+
+/// What the words of `cfg` ask for.
+pub(crate) fn cfg_of(found: &ArgMatches) -> Option<Cfg>
+    ensures value { result ≡ cfg_of (rows_of (found_of found.now)) }
+    ensures range { IfSome result CanCfg }
+    ensures link { IfSome result (λ cfg. IsSome (link (rows_of (found_of found.now)))) }
+{
+    let asking = asking_of(found, TOOL_TURNS)?;
+    let id = device_of(found)?;
+    let action = text(found, "action")?;
+    match text(found, "text") {
+        None => Some(Cfg {
+            asking,
+            id,
+            ccmd: ccmd_alone(action)?,
+            text: ArrayVec::new(),
+        }),
+        Some(string) => Some(Cfg {
+            asking,
+            id,
+            ccmd: ccmd_with_text(action)?,
+            text: read_text(string.as_bytes())?,
+        }),
+    }
+}
+
+/// What the words of `mask` ask for.
+pub(crate) fn mask_of(found: &ArgMatches) -> Option<Mask>
+    ensures value { result ≡ mask_of (rows_of (found_of found.now)) }
+    ensures range { IfSome result CanMask }
+    ensures link { IfSome result (λ mask. IsSome (link (rows_of (found_of found.now)))) }
+{
+    let asking = asking_of(found, TOOL_TURNS)?;
+    let id = device_of(found)?;
+    let action = text(found, "action")?;
+    match texts(found, "dirs") {
+        None if action == "read" => Some(Mask {
+            asking,
+            id,
+            dirs: None,
+        }),
+        Some(words) if action == "edit" => Some(Mask {
+            asking,
+            id,
+            dirs: Some(read_dirs(words)?),
+        }),
+        _ => None,
+    }
+}
+
+/// The field RCmd of an action of `reserve` that has no addresses.
+fn rcmd_alone(action: &str) -> Option<u8>
+    ensures value { result ≡ rcmd_alone action.now }
+    ensures range { IfSome result (λ rcmd. rcmd ≤ 2) }
+{
+    match action {
+        "read" => Some(0),
+        "release" => Some(1),
+        _ => None,
+    }
+}
+
+/// The field RCmd of an action of `reserve` that has addresses.
+fn rcmd_with_list(action: &str) -> Option<u8>
+    ensures value { result ≡ rcmd_with_list action.now }
+    ensures range { IfSome result (λ rcmd. rcmd ≤ 2) }
+{
+    match action {
+        "set" => Some(1),
+        "force" => Some(2),
+        _ => None,
+    }
+}
+
+/// What the words of `reserve` ask for.
+pub(crate) fn reserve_of(found: &ArgMatches) -> Option<Reserve>
+    ensures value { result ≡ reserve_of (rows_of (found_of found.now)) }
+    ensures range { IfSome result CanReserve }
+    ensures link { IfSome result (λ reserve. IsSome (link (rows_of (found_of found.now)))) }
+{
+    let asking = asking_of(found, TOOL_TURNS)?;
+    let id = device_of(found)?;
+    let action = text(found, "action")?;
+    match texts(found, "macs") {
+        None => Some(Reserve {
+            asking,
+            id,
+            rcmd: rcmd_alone(action)?,
+            list: ArrayVec::new(),
+        }),
+        Some(words) => Some(Reserve {
+            asking,
+            id,
+            rcmd: rcmd_with_list(action)?,
+            list: read_macs(words)?,
+        }),
+    }
+}
