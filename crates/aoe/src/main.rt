@@ -3,11 +3,13 @@
 
 ghost use Rattle.std.specs.Prelude.{◌≡◌, All, IfOk, IsSome, length};
 
+mod clock;
 mod files;
 mod streams;
 
 use aoe_top::{PortWords, Status, aoe, files_of, ports_of};
 use aoe_udp::{OpenRefusal, UdpLink};
+use clock::SystemClock;
 use files::{FileDisk, FileRefusal};
 use std::fs::File;
 use std::io::{BufReader, ErrorKind};
@@ -142,8 +144,16 @@ fn run_words(rt: &HostRuntime, words: &[String]) -> u8 {
     };
     let mut source = Input::new(reader);
     let mut sink = Output::new(rt.stdout());
-    let (disks, links) = (disks.as_mut_slice(), links.as_mut_slice());
-    let status = aoe(rt.alloc(), words, &mut source, &mut sink, disks, links);
+    let mut clock = SystemClock::new(rt);
+    let status = aoe(
+        rt.alloc(),
+        words,
+        &mut source,
+        &mut sink,
+        disks.as_mut_slice(),
+        links.as_mut_slice(),
+        &mut clock,
+    );
     tell(rt, status)
 }
 

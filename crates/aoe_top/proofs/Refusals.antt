@@ -26,6 +26,7 @@ use Rattle.aoe_words.specs.declared.command.Command.TheVariants as command
 use Rattle.aoe_world.specs.Replay.{IsFaultless}
 use Rattle.aoe_top.specs.Ending.{after_syncs, ended_by, file_at, keep_at, refused_as, refused_slot, replayed_as, slot_of_keep}
 use Rattle.aoe_top.specs.Run.{HasLists, IsBad, IsSmall, NothingLoose, OnSlot, Ran, RanFiles, Refused, refused_before}
+use Rattle.aoe_top.specs.Tools.{is_tool_status}
 use Rattle.aoe_top.specs.declared.status.Status.{Status}
 use Rattle.aoe_top.specs.declared.status.Status.TheVariants as status
 use Rattle.aoe_top.proofs.Exits.{Stands, all-settled, stands, unsynced-rose, unsynced-within}
@@ -290,6 +291,8 @@ memory-wanting (status.DiskFault disk) e = absurd cc
 memory-wanting (status.LinkFault link) e = absurd cc
 memory-wanting (status.KeepSmall disk sectors) e = absurd cc
 memory-wanting (status.KeepBad disk slot) e = absurd cc
+memory-wanting (status.Unanswered turns) e = absurd cc
+memory-wanting (status.Refused r) e = absurd cc
 memory-wanting (status.Stream offset) e = absurd cc
 memory-wanting (status.Limit excess) e = absurd cc
 memory-wanting (status.Script line cause) e = absurd cc
@@ -315,6 +318,8 @@ runs-of : {D S K L : Type 0} (state : D → DiskState) (command : Command) (t : 
 runs-of state (command.Answer answer) t s a b disks disks' count run = over_files _ _ run
 runs-of state (command.Serve serve) t s a b disks disks' count run = over_files _ _ run
 runs-of state command.Replay t s a b disks disks' count run = over_none count (λ disk e. no-disk run.0.end disk (sym run.0.ends ∙ e))
+runs-of state (command.Soak asked) t s a b disks disks' count run = over_none count (λ disk e. let f = sym (ap is_tool_status e) ∙ run.0 in absurd cc)
+runs-of state (command.Ask tool) t s a b disks disks' count run = over_none count (λ disk e. let f = sym (ap is_tool_status e) ∙ run.0 in absurd cc)
 
 module _ {D S K L : Type 0} (state : D → DiskState) (command : Command) (t : Tells S K L) (s : Status) (a b : Outside S K L) (disks disks' : List (Option D))
     (run : refused_slot s ≡ None → s ≢ status.NoMemory → Ran state command t s a b disks disks')
@@ -411,9 +416,10 @@ pub ran-of : {D S K L : Type 0} (state : D → DiskState) (t : Tells S K L) (s :
 ran-of state t s a b disks disks' o o' command is same run =
     subst (λ (x : Option Command). IfSome x (λ asked. refused_slot s ≡ None → s ≢ status.NoMemory → Ran state asked t s a b disks disks')) (sym is ∙ same) run
 
+pub same-command : (o o' : Option Command) (command asked : Command) → o ≡ Some command → o ≡ o' → o' ≡ Some asked → command ≡ asked
+same-command o o' command asked is same spelled = let both : (let x : Option Command = Some command in x) ≡ Some asked = sym is ∙ same ∙ spelled in cc
+
 pub ran-as : {D S K L : Type 0} (state : D → DiskState) (t : Tells S K L) (s : Status) (a b : Outside S K L) (disks disks' : List (Option D)) (o o' : Option Command) (command asked : Command) → o ≡ Some command → o ≡ o' → o' ≡ Some asked
     → Ran state command t s a b disks disks' → Ran state asked t s a b disks disks'
 ran-as state t s a b disks disks' o o' command asked is same spelled run =
-    let both : (let x : Option Command = Some command in x) ≡ Some asked = sym is ∙ same ∙ spelled in
-    let one : command ≡ asked = cc in
-    subst (λ (x : Command). Ran state x t s a b disks disks') one run
+    subst (λ (x : Command). Ran state x t s a b disks disks') (same-command o o' command asked is same spelled) run

@@ -1,5 +1,5 @@
 -- What each command exports, and how its frames come.
-use Rattle.std.specs.Prelude.{ℕ, ◌+◌, ◌/◌, ◌%◌, ◌<◌, ◌≤◌, ◌≡◌, true, [], ◌∷◌, length, Option, Some, None}
+use Rattle.std.specs.Prelude.{ℕ, ◌+◌, ◌/◌, ◌%◌, ◌<◌, ◌≤◌, ◌≡◌, Bool, true, false, [], ◌∷◌, length, Option, Some}
 use Rattle.aoe_target.specs.declared.station.Station.{Station}
 use Rattle.aoe_serve.specs.Exporting.{is_served}
 use Rattle.aoe_serve.specs.Files.{named}
@@ -7,15 +7,22 @@ use Rattle.aoe_serve.specs.declared.over_files.Rack.{Rack}
 use Rattle.aoe_serve.specs.declared.plan.Plan.{Plan}
 use Rattle.aoe_serve.specs.declared.plan.Plan.TheVariants as plan
 use Rattle.aoe_words.specs.declared.command.Command.{Command}
-use Rattle.aoe_words.specs.declared.command.Command.TheVariants.{Answer, Serve, Replay}
+use Rattle.aoe_words.specs.declared.command.Command.TheVariants.{Ask}
+use Rattle.aoe_words.specs.declared.command.Answer.{Answer as Answers}
+use Rattle.aoe_words.specs.declared.command.Serve.{Serve as Serves}
 
--- What its slots have in common, and what is done with them: one slot of a name for `answer`, which answers a stream of frames, and the
--- slots from 0 on for `serve`, which serves a link. `replay` exports nothing.
-abbrev pub plan_of : Command → Option (Rack × Plan)
-plan_of (Answer answer) = Some (record { first = answer.id; ports = record { items = answer.port ∷ [] }; mtu = answer.mtu }, plan.Answer)
-plan_of (Serve serve) =
-    Some (record { first = record { major = serve.shelf; minor = 0 }; ports = serve.ports; mtu = serve.mtu }, plan.Serve serve.frames serve.idle)
-plan_of Replay = None
+-- What the slot of `answer` has, and what is done with it: its frames come and go as streams.
+abbrev pub answer_plan : Answers → Rack × Plan
+answer_plan answer = (record { first = answer.id; ports = record { items = answer.port ∷ [] }; mtu = answer.mtu }, plan.Answer)
+
+-- What the slots of `serve` have in common, which are numbered from 0 on, and what is done with them: their frames come and go by a link.
+abbrev pub serve_plan : Serves → Rack × Plan
+serve_plan serve = (record { first = record { major = serve.shelf; minor = 0 }; ports = serve.ports; mtu = serve.mtu }, plan.Serve serve.frames serve.idle)
+
+-- it asks by the first link
+abbrev pub is_tool : Option Command → Bool
+is_tool (Some (Ask tool)) = true
+is_tool command = false
 
 -- the target with this minor, over a disk of so many sectors
 abbrev pub target_of : Rack → ℕ → ℕ → Station

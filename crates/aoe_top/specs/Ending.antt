@@ -14,6 +14,8 @@ use Rattle.aoe_world.specs.declared.end.ReplayLimit.{ReplayLimit}
 use Rattle.aoe_world.specs.declared.end.ReplayLimit.TheVariants as limit
 use Rattle.aoe_script.specs.declared.refusal.Why.{Why}
 use Rattle.aoe_script.specs.declared.refusal.Why.TheVariants as why
+use Rattle.aoe_tools.specs.Ending.{text_of as tool_text}
+use Rattle.aoe_tools.specs.declared.end.ToolRefusal.TheVariants as tool
 use Rattle.aoe_top.specs.declared.status.What.{What}
 use Rattle.aoe_top.specs.declared.status.What.TheVariants as what
 use Rattle.aoe_top.specs.declared.status.Status.{Status}
@@ -30,6 +32,8 @@ code_of (status.LinkFault link) = 6
 code_of status.NoMemory = 7
 code_of (status.KeepSmall disk sectors) = 8
 code_of (status.KeepBad disk slot) = 8
+code_of (status.Unanswered turns) = 9
+code_of (status.Refused r) = 10
 code_of (status.Stream offset) = 11
 code_of (status.Limit excess) = 12
 
@@ -61,6 +65,8 @@ text_of (status.LinkFault link) = codes "aoe: link fault on port " ++ decimal li
 text_of status.NoMemory = codes "aoe: no memory"
 text_of (status.KeepSmall disk sectors) = codes "aoe: keep " ++ (decimal disk ++ (codes ": " ++ (decimal sectors ++ codes " sectors, 16 needed")))
 text_of (status.KeepBad disk slot) = codes "aoe: keep " ++ (decimal disk ++ (codes ": slot " ++ (decimal slot ++ codes " holds no lists")))
+text_of (status.Unanswered turns) = tool_text (tool.Unanswered turns)
+text_of (status.Refused r) = tool_text (tool.Refused r)
 text_of (status.Stream offset) = codes "aoe: bad stream at byte " ++ decimal offset
 text_of (status.Limit excess) = limit_text excess
 

@@ -1,11 +1,11 @@
 -- What a run takes, gives and leaves, by its status.
-use Rattle.std.specs.Prelude.{ℕ, ◌<◌, ◌≤◌, ◌≡◌, ◌≢◌, ◌⊎◌, Bool, false, List, Option, Some, None, Ok, Err, nat_lt, slice_get}
+use Rattle.std.specs.Prelude.{ℕ, ◌<◌, ◌≤◌, ◌≡◌, ◌≢◌, ◌⊎◌, Bool, true, false, List, Option, Some, None, Ok, Err, nat_lt, slice_get}
 use Rattle.std.specs.Option.{option_map_or}
 use Rattle.aoe_disk.specs.State.{Contents, DiskState, is_loose}
 use Rattle.aoe_keep.specs.Found.{found}
 use Rattle.aoe_keep.specs.declared.refusal.MountRefusal.{MountRefusal}
 use Rattle.aoe_lists.specs.Settings.{Settings}
-use Rattle.aoe_serve.specs.Exporting.{IsExported, Outside, Tells}
+use Rattle.aoe_serve.specs.Exporting.{AtFirst, IsExported, Outside, Tells}
 use Rattle.aoe_serve.specs.Files.{GivesBack}
 use Rattle.aoe_serve.specs.declared.plan.Exported.{Exported}
 use Rattle.aoe_serve.specs.declared.over_files.Rack.{Rack}
@@ -14,8 +14,12 @@ use Rattle.aoe_world.specs.Replay.{HasRun, LeavesSink, Replayed}
 use Rattle.aoe_script.specs.Lines.{ScriptLines}
 use Rattle.aoe_world.specs.declared.end.ReplayEnd.{ReplayEnd}
 use Rattle.aoe_words.specs.declared.command.Command.{Command}
-use Rattle.aoe_top.specs.Commands.{plan_of, target_of}
+use Rattle.aoe_words.specs.declared.command.Command.TheVariants as command
+use Rattle.aoe_words.specs.declared.command.Tool.{Tool}
+use Rattle.aoe_tools.specs.Runs.{Told}
+use Rattle.aoe_top.specs.Commands.{answer_plan, serve_plan, target_of}
 use Rattle.aoe_top.specs.Ending.{file_at, keep_at, refused_as, refused_slot, replayed_as, status_of}
+use Rattle.aoe_top.specs.Tools.{RunsTool, is_tool_status}
 use Rattle.aoe_top.specs.declared.status.Status.{Status}
 use Rattle.aoe_top.specs.declared.status.Status.TheVariants as status
 
@@ -33,13 +37,18 @@ pub record RanScript {S K : Type 0} (left : S → Option (List ℕ)) (held : K �
   pub leaves : LeavesSink end sink sink'
   pub ends : s ≡ replayed_as end
 
--- a run of a command: over files where it exports some, and else of a script
-abbrev pub RanAs : {D S K L : Type 0} → (D → DiskState) → Option (Rack × Plan) → Tells S K L → Status → Outside S K L → Outside S K L → List (Option D) → List (Option D) → Type 0
-RanAs state (Some p) t s a b disks disks' = RanFiles state p.0 p.1 t s a b disks disks'
-RanAs state None t s a b disks disks' = RanScript t.left t.held s a.source b.source a.sink b.sink × (b.links ≡ a.links) × (disks' ≡ disks)
-
+-- a run of a command: over files, of the script that the source gives, of the script of `soak`, or of a tool
 abbrev pub Ran : {D S K L : Type 0} → (D → DiskState) → Command → Tells S K L → Status → Outside S K L → Outside S K L → List (Option D) → List (Option D) → Type 0
-Ran state command t s a b disks disks' = RanAs state (plan_of command) t s a b disks disks'
+Ran state (command.Answer answer) t s a b disks disks' = RanFiles state (answer_plan answer).0 (answer_plan answer).1 t s a b disks disks'
+Ran state (command.Serve serve) t s a b disks disks' = RanFiles state (serve_plan serve).0 (serve_plan serve).1 t s a b disks disks'
+Ran state command.Replay t s a b disks disks' = RanScript t.left t.held s a.source b.source a.sink b.sink × (b.links ≡ a.links) × (disks' ≡ disks)
+Ran state (command.Soak asked) t s a b disks disks' = (is_tool_status s ≡ true) × (b.source ≡ a.source) × (b.links ≡ a.links) × (disks' ≡ disks)
+Ran state (command.Ask tool) t s a b disks disks' = (is_tool_status s ≡ true) × (b.source ≡ a.source) × (disks' ≡ disks)
+
+-- A tool ran over the first link and a clock, and a sink took what it says; or there was no memory to read its command, and the link is as
+-- it was.
+abbrev pub Asked : {K L : Type 0} → (K → Option (List ℕ)) → (L → L → Told) → Tool → Status → K → K → List L → List L → Type 0
+Asked held told tool s sink sink' links links' = AtFirst (λ a b. RunsTool tool s (held sink) (held sink') (told a b)) links links'
 
 -- the script was run to its end, or until there was no memory or no room for a frame that it calls for
 pub record HasReplayed (script : ScriptLines) (s : Status) : Type 0 where

@@ -3,6 +3,7 @@
 
 mod plan;
 mod status;
+mod tools;
 mod top;
 
 pub use aoe_words::{PortWords, files_of, ports_of};

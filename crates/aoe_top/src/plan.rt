@@ -8,7 +8,7 @@ use crate::{Status, What};
 use aoe_base::{Mac, Ports, TargetId};
 use aoe_keep::MountRefusal;
 use aoe_serve::{AnswerEnd, Exported, Plan, Rack, RunEnd, ServeEnd};
-use aoe_words::Command;
+use aoe_words::{Answer, Serve};
 use aoe_world::{ReplayEnd, ReplayLimit};
 
 /// A list of one port.
@@ -20,38 +20,39 @@ fn one_port(port: Mac) -> Ports
     ports
 }
 
-/// The slots of a command, and what is done with them, where it has slots.
-pub(crate) fn plan(command: Command) -> Option<(Rack, Plan)>
-    requires { IsInRange command }
-    ensures plan { result ≡ plan_of command }
-    ensures possible { IfSome result (λ p. CanExport p.0 p.1 (file_count command) (link_count command)) }
+/// The slot of `answer`, and what is done with it.
+pub(crate) fn answer_plan(answer: Answer) -> (Rack, Plan)
+    requires { CanAnswer answer }
+    ensures plan { result ≡ answer_plan answer }
+    ensures possible { CanExport result.0 result.1 2 0 }
 {
-    match command {
-        Command::Answer(answer) => {
-            let rack = Rack {
-                first: answer.id,
-                ports: one_port(answer.port),
-                mtu: answer.mtu,
-            };
-            Some((rack, Plan::Answer))
-        }
-        Command::Serve(serve) => {
-            let rack = Rack {
-                first: TargetId {
-                    major: serve.shelf,
-                    minor: 0,
-                },
-                ports: serve.ports,
-                mtu: serve.mtu,
-            };
-            let plan = Plan::Serve {
-                frames: serve.frames,
-                idle: serve.idle,
-            };
-            Some((rack, plan))
-        }
-        Command::Replay => None,
-    }
+    let rack = Rack {
+        first: answer.id,
+        ports: one_port(answer.port),
+        mtu: answer.mtu,
+    };
+    (rack, Plan::Answer)
+}
+
+/// The slots of `serve`, and what is done with them.
+pub(crate) fn serve_plan(serve: Serve) -> (Rack, Plan)
+    requires { CanServe serve }
+    ensures plan { result ≡ serve_plan serve }
+    ensures possible { CanExport result.0 result.1 (2 * serve.slots) 1 }
+{
+    let rack = Rack {
+        first: TargetId {
+            major: serve.shelf,
+            minor: 0,
+        },
+        ports: serve.ports,
+        mtu: serve.mtu,
+    };
+    let plan = Plan::Serve {
+        frames: serve.frames,
+        idle: serve.idle,
+    };
+    (rack, plan)
 }
 
 /// The status of a run whose slot's keep was refused.

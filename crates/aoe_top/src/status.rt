@@ -4,6 +4,7 @@ ghost use Rattle.aoe_top.specs.Ending.{code_of, limit_text, text_of, word_of};
 
 use aoe_base::{Blob, NoMemory};
 use aoe_script::Why;
+use aoe_tools::{Refusal, ToolRefusal};
 use std::alloc::Global;
 
 /// How a run ended.
@@ -31,6 +32,10 @@ pub enum Status {
     /// The keep on the disk with that number holds no lists: the gate of that slot is open before
     /// something else, or both gates are open before lists of one turn, which is the fault of slot 1.
     KeepBad { disk: u32, slot: u8 },
+    /// Nobody answered a tool in so many turns.
+    Unanswered { turns: u32 },
+    /// The device refused what a tool asked for.
+    Refused(Refusal),
     /// The frame of the input at this byte offset is truncated, or its length isn't 14 to 9018.
     Stream { offset: u64 },
     /// A limit of the program was reached.
@@ -65,6 +70,8 @@ impl Status {
             Status::LinkFault { .. } => 6,
             Status::NoMemory => 7,
             Status::KeepSmall { .. } | Status::KeepBad { .. } => 8,
+            Status::Unanswered { .. } => 9,
+            Status::Refused(_) => 10,
             Status::Stream { .. } => 11,
             Status::Limit(_) => 12,
         }
@@ -85,6 +92,8 @@ impl Status {
             Status::NoMemory => Blob::of(alloc, b"aoe: no memory"),
             Status::KeepSmall { disk, sectors } => small_text(alloc, disk, sectors),
             Status::KeepBad { disk, slot } => bad_text(alloc, disk, slot),
+            Status::Unanswered { turns } => ToolRefusal::Unanswered { turns }.text(alloc),
+            Status::Refused(refusal) => ToolRefusal::Refused(refusal).text(alloc),
             Status::Stream { offset } => stream_text(alloc, offset),
             Status::Limit(what) => limit_text(alloc, what),
         }

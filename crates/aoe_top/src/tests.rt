@@ -1,10 +1,12 @@
 ghost use Rattle.std.specs.Prelude.{All, IfOk, IsSome};
 
+mod tools;
+
 use crate::{Status, What, aoe, files_of, ports_of};
 use aoe_base::Blob;
 use aoe_disk::{Loss, MemDisk};
 use aoe_frame::Frame;
-use aoe_io::{Got, Link, MemLink, MemSink, MemSource};
+use aoe_io::{Got, Link, MemLink, MemSink, MemSource, SetClock};
 use std::alloc::{AllocError, Global};
 use std::test::Fail;
 
@@ -48,7 +50,8 @@ fn run_over(
     {
         return Err(Fail::from("other files or links"));
     }
-    Ok(aoe(alloc, words, source, sink, disks, links))
+    let mut clock = SetClock::new(0, 10);
+    Ok(aoe(alloc, words, source, sink, disks, links, &mut clock))
 }
 
 /// A file and a keep of 16 zero sectors each.

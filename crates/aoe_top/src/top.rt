@@ -1,5 +1,5 @@
 //! The call that the program makes.
-ghost use Rattle.std.specs.Prelude.{◌≡◌, ◌≢◌, ◌≤◌, ◌<◌, ◌+◌, ◌↔◌, List, ℕ, All, length, map, string_bytes, IfSome, IsSome, None, Some};
+ghost use Rattle.std.specs.Prelude.{◌≡◌, ◌≢◌, ◌≤◌, ◌<◌, ◌+◌, ◌↔◌, ◌⊎◌, List, ℕ, All, length, map, string_bytes, IfSome, IsSome, None, Some};
 ghost use Rattle.aoe_base.specs.Faults.{Rose};
 ghost use Rattle.aoe_io.specs.Stream.{stream, IsFrame};
 ghost use Rattle.aoe_lists.specs.Settings.{Settings};
@@ -9,15 +9,17 @@ ghost use Rattle.aoe_script.specs.Lines.{refusal, script_of};
 ghost use Rattle.aoe_words.specs.Words.{IsInRange, command, file_count, file_names, link_count, port_words};
 ghost use Rattle.aoe_words.specs.declared.command.Answer.{Answer as Answers};
 ghost use Rattle.aoe_words.specs.declared.command.Serve.{Serve as Serves};
-ghost use Rattle.aoe_top.specs.Commands.{CanExport};
+ghost use Rattle.aoe_words.specs.declared.command.Tool.{Tool};
+ghost use Rattle.aoe_top.specs.Commands.{CanExport, is_tool};
 ghost use Rattle.aoe_top.specs.Ending.{file_at, keep_at, refused_slot};
-ghost use Rattle.aoe_top.specs.Run.{HasLists, HasReplayed, IsBad, IsSmall, NothingLoose, OnSlot, Ran, RanFiles, RanScript, Refused};
+ghost use Rattle.aoe_top.specs.Run.{Asked, HasLists, HasReplayed, IsBad, IsSmall, NothingLoose, OnSlot, Ran, RanFiles, RanScript, Refused};
 
-use crate::plan::{plan, refused_as, replayed_as, status_of};
+use crate::plan::{answer_plan, refused_as, replayed_as, serve_plan, status_of};
 use crate::status::Status;
+use crate::tools::run_tool;
 use aoe_base::NoMemory;
 use aoe_disk::Disk;
-use aoe_io::{Link, Sink, Source};
+use aoe_io::{Clock, Link, Sink, Source};
 use aoe_serve::{ExportRefusal, Plan, Rack, export};
 use aoe_words::{Command, read_words};
 use aoe_world::replay;
@@ -82,13 +84,14 @@ fn run_script<S: Source, K: Sink>(alloc: Global, source: &mut S, sink: &mut K) -
 }
 
 /// Runs a command: over its files and links, or the script that the source gives.
-fn run_command<S: Source, K: Sink, D: Disk + Drop, L: Link>(
+fn run_command<S: Source, K: Sink, D: Disk + Drop, L: Link, C: Clock>(
     alloc: Global,
     command: Command,
     source: &mut S,
     sink: &mut K,
     disks: &mut [Option<D>],
     links: &mut [L],
+    clock: &mut C,
 ) -> Status
     requires range { IsInRange command }
     requires count { length disks.old ≡ file_count command }
@@ -100,7 +103,19 @@ fn run_command<S: Source, K: Sink, D: Disk + Drop, L: Link>(
         disks.old disks.new }
     ensures refused { (slot : ℕ) → refused_slot result ≡ Some slot → Refused D.state result slot disks.old disks.new }
     ensures unread { IsSome (refused_slot result) → (source.new ≡ source.old) × (sink.new ≡ sink.old) × (links.new ≡ links.old) }
-    ensures memory { result ≡ Status.NoMemory → (command ≢ Command.Replay → source.new ≡ source.old) × (sink.new ≡ sink.old) × (disks.new ≡ disks.old) × (links.new ≡ links.old) }
+    ensures memory { result ≡ Status.NoMemory → (command ≢ Command.Replay → source.new ≡ source.old) × (sink.new ≡ sink.old) × (disks.new ≡ disks.old) × (is_tool (Some command) ≡ false → links.new ≡ links.old) }
+    ensures asks { (tool : Tool) → command ≡ Command.Ask tool → Asked K.held (λ a b. record {
+      least = C.least clock.old;
+      answers = C.answers clock.old;
+      answers' = C.answers clock.new;
+      turns = L.turns a;
+      turns' = L.turns b;
+      given = L.given a;
+      given' = L.given b;
+      taken = L.taken a;
+      taken' = L.taken b;
+    }) tool result sink.old sink.new links.old links.new }
+    ensures clock { is_tool (Some command) ≡ false → clock.new ≡ clock.old }
     ensures usage { result ≢ Status.Usage }
     ensures there { All IsSome disks.new }
     ensures source_fault { result ≡ Status.SourceFault → Rose (S.faults source.old) (S.faults source.new) }
@@ -115,9 +130,18 @@ fn run_command<S: Source, K: Sink, D: Disk + Drop, L: Link>(
     ensures replays { (text : List ℕ) → command ≡ Command.Replay → S.left source.old ≡ Some text → refusal text ≡ None
         → IsFaultless (S.faults source.old) (S.faults source.new) → IsFaultless (K.faults sink.old) (K.faults sink.new) → HasReplayed (script_of text) result }
 {
-    match plan(command) {
-        Some((rack, plan)) => run_files(alloc, rack, plan, source, sink, disks, links),
-        None => run_script(alloc, source, sink),
+    match command {
+        Command::Answer(answer) => {
+            let (rack, plan) = answer_plan(answer);
+            run_files(alloc, rack, plan, source, sink, disks, links)
+        }
+        Command::Serve(serve) => {
+            let (rack, plan) = serve_plan(serve);
+            run_files(alloc, rack, plan, source, sink, disks, links)
+        }
+        Command::Replay => run_script(alloc, source, sink),
+        Command::Soak(_) => Status::NoMemory,
+        Command::Ask(tool) => run_tool(alloc, &tool, sink, &mut links[0], clock),
     }
 }
 
@@ -130,6 +154,10 @@ fn run_command<S: Source, K: Sink, D: Disk + Drop, L: Link>(
 /// names, until `--frames` frames came or `--idle` consecutive turns brought none. A frame carries as
 /// much as `--mtu` says.
 ///
+/// The tools ask over the first link and the clock: `discover` and `stat` which targets there are, with
+/// their sizes and states, `cfg`, `mask` and `reserve` one target for a list or a change of it; what they
+/// are told goes to the sink as text. `--port` is who asks, and `--turns` how long each listens.
+///
 /// `replay` reads the source to its end as a script, runs the events of the script through shelves
 /// and hosts in memory, and puts the text of what happened on the sink. Whatever a schedule loses,
 /// repeats, delays within the frame lifetime, injects, fails or crashes, in the printed history a
@@ -137,7 +165,8 @@ fn run_command<S: Source, K: Sink, D: Disk + Drop, L: Link>(
 /// nonempty reserve list get error 6 and change nothing, other requests get the written answer, and a
 /// host alone in its range reads only what its writes, their acknowledgements, flushes, faults and
 /// crashes allow. Nothing is written before the last event is done, and where the run doesn't come to
-/// it, nothing is.
+/// it, nothing is. `soak SEED N` does so with a script that it makes, and puts the last line of the text
+/// on the sink.
 ///
 /// The second disk of each pair is the keep of the target's lists. All keeps are mounted first, and
 /// where one is refused nothing is read, written or sent. At the end each store is synced, however
@@ -145,13 +174,14 @@ fn run_command<S: Source, K: Sink, D: Disk + Drop, L: Link>(
 ///
 /// Memory is taken while the words are read, and for the shelf before the first keep is mounted; then
 /// no more. A replay takes memory until its text is written.
-pub fn aoe<S: Source, K: Sink, D: Disk + Drop, L: Link>(
+pub fn aoe<S: Source, K: Sink, D: Disk + Drop, L: Link, C: Clock>(
     alloc: Global,
     words: &[String],
     source: &mut S,
     sink: &mut K,
     disks: &mut [Option<D>],
     links: &mut [L],
+    clock: &mut C,
 ) -> Status
     requires count { length disks.old ≡ length (file_names (map string_bytes words.now)) }
     requires there { All IsSome disks.old }
@@ -187,7 +217,22 @@ pub fn aoe<S: Source, K: Sink, D: Disk + Drop, L: Link>(
     ensures keep_bad { (slot bad : ℕ) → OnSlot (λ _ _ keep _. IfSome (D.state keep).contents (λ c.
         (result ≡ Status.KeepBad (keep_at slot) bad) ↔ IsBad (D.state keep) c result slot bad)) slot disks.old disks.new }
     ensures memory { result ≡ Status.NoMemory → (command (map string_bytes words.now) ≢ Some Command.Replay → source.new ≡ source.old)
-        × (sink.new ≡ sink.old) × (disks.new ≡ disks.old) × (links.new ≡ links.old) }
+        × (sink.new ≡ sink.old) × (disks.new ≡ disks.old) × (is_tool (command (map string_bytes words.now)) ≡ false → links.new ≡ links.old) }
+
+    // What a tool asks, when it ends and what it says; or there was no memory to read its command.
+    ensures asks { (tool : Tool) → command (map string_bytes words.now) ≡ Some (Command.Ask tool) → (result ≡ Status.NoMemory) × (links.new ≡ links.old)
+        ⊎ Asked K.held (λ a b. record {
+          least = C.least clock.old;
+          answers = C.answers clock.old;
+          answers' = C.answers clock.new;
+          turns = L.turns a;
+          turns' = L.turns b;
+          given = L.given a;
+          given' = L.given b;
+          taken = L.taken a;
+          taken' = L.taken b;
+        }) tool result sink.old sink.new links.old links.new }
+    ensures clock { is_tool (command (map string_bytes words.now)) ≡ false → clock.new ≡ clock.old }
 
     // With no fault keeps that hold lists are mounted, and then a stream of frames is answered to its end, and a link is served;
     // and a script with no bad line is run.
@@ -206,7 +251,7 @@ pub fn aoe<S: Source, K: Sink, D: Disk + Drop, L: Link>(
         → IsFaultless (S.faults source.old) (S.faults source.new) → IsFaultless (K.faults sink.old) (K.faults sink.new) → HasReplayed (script_of text) result }
 {
     match read_words(alloc, words) {
-        Ok(Some(command)) => run_command(alloc, command, source, sink, disks, links),
+        Ok(Some(command)) => { run_command(alloc, command, source, sink, disks, links, clock) }
         Ok(None) => Status::Usage,
         Err(NoMemory) => Status::NoMemory,
     }

@@ -18,7 +18,9 @@ use Rattle.aoe_words.specs.declared.command.Serve.{Serve as Serves}
 use Rattle.aoe_words.specs.declared.command.Soak.{Soak as Soaks}
 use Rattle.aoe_words.specs.declared.command.PortWords.{PortWords}
 use Rattle.aoe_words.specs.declared.command.Command.{Command}
-use Rattle.aoe_words.specs.declared.command.Command.TheVariants.{Answer, Serve, Replay, Soak, Discover, Stat, Cfg, Mask, Reserve}
+use Rattle.aoe_words.specs.declared.command.Command.TheVariants.{Answer, Serve, Replay, Soak, Ask}
+use Rattle.aoe_words.specs.declared.command.Tool.{Tool}
+use Rattle.aoe_words.specs.declared.command.Tool.TheVariants.{Discover, Stat, Cfg, Mask, Reserve}
 
 -- ---- words
 
@@ -88,7 +90,7 @@ soak_of rows =
     (given (codes "count") (number_within 1 16000) rows)) (given (codes "seed") (λ text. number_of text 65535) rows)
 
 -- the tool of this name; it listens for 50 turns where nothing is said of it
-abbrev pub tool_of : Text → List Row → Option Command
+abbrev pub tool_of : Text → List Row → Option Tool
 tool_of name rows =
     if bytes_eq name (codes "discover") then option_map Discover (asking_of 50 rows)
     else if bytes_eq name (codes "stat") then option_map Stat (asking_of 50 rows)
@@ -104,7 +106,7 @@ command_of name rows =
     else if bytes_eq name (codes "serve") then option_map Serve (serve_of rows)
     else if bytes_eq name (codes "replay") then Some Replay
     else if bytes_eq name (codes "soak") then option_map Soak (soak_of rows)
-    else tool_of name rows
+    else option_map Ask (tool_of name rows)
 
 -- the command that the words spell with what clap found for it, or nothing
 abbrev pub spelled : List Text → Option (Command × List Row)
@@ -165,16 +167,20 @@ pub record CanSoak (soak : Soaks) : Type 0 where
   pub seed : soak.seed ≤ 65535
   pub count : (1 ≤ soak.count) × (soak.count ≤ 16000)
 
+-- what a tool asks for is possible
+abbrev pub CanRun : Tool → Type 0
+CanRun (Discover asking) = CanAsk asking
+CanRun (Stat asking) = CanAsk asking
+CanRun (Cfg cfg) = CanCfg cfg
+CanRun (Mask mask) = CanMask mask
+CanRun (Reserve reserve) = CanReserve reserve
+
 abbrev pub IsInRange : Command → Type 0
 IsInRange (Answer answer) = CanAnswer answer
 IsInRange (Serve serve) = CanServe serve
 IsInRange Replay = Unit
 IsInRange (Soak soak) = CanSoak soak
-IsInRange (Discover asking) = CanAsk asking
-IsInRange (Stat asking) = CanAsk asking
-IsInRange (Cfg cfg) = CanCfg cfg
-IsInRange (Mask mask) = CanMask mask
-IsInRange (Reserve reserve) = CanReserve reserve
+IsInRange (Ask tool) = CanRun tool
 
 -- how many files and links a command has
 abbrev pub file_count : Command → ℕ

@@ -107,6 +107,20 @@ pub struct Reserve {
     pub list: ArrayVec<Mac, MAX_DIRS>,
 }
 
+/// What a tool asks the targets of a network for.
+#[derive(Debug, Drop, PartialEq, Eq)]
+pub enum Tool {
+    /// What `discover` asks for: to list the devices of the network.
+    Discover(Asking),
+
+    /// What `stat` asks for: to list the devices of the network, with their sizes and states.
+    Stat(Asking),
+
+    Cfg(Cfg),
+    Mask(Mask),
+    Reserve(Reserve),
+}
+
 /// What the words of a command line ask for.
 #[derive(Debug, Drop, PartialEq, Eq)]
 pub enum Command {
@@ -117,16 +131,7 @@ pub enum Command {
     Replay,
 
     Soak(Soak),
-
-    /// What `discover` asks for: to list the devices of the network.
-    Discover(Asking),
-
-    /// What `stat` asks for: to list the devices of the network, with their sizes and states.
-    Stat(Asking),
-
-    Cfg(Cfg),
-    Mask(Mask),
-    Reserve(Reserve),
+    Ask(Tool),
 }
 
 /// The texts that name the ends of a link, as they stand on the command line: its own address, and

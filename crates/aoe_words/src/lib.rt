@@ -15,7 +15,7 @@ mod tools;
 mod values;
 mod word;
 
-pub use command::{Answer, Asking, Cfg, Command, Mask, PortWords, Reserve, Serve, Soak};
+pub use command::{Answer, Asking, Cfg, Command, Mask, PortWords, Reserve, Serve, Soak, Tool};
 pub use law::plain_words_law;
 pub use read::{files_of, ports_of, read_words};
 

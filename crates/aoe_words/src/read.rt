@@ -2,7 +2,7 @@
 ghost use Rattle.std.specs.Prelude.{◌≡◌, ◌*◌, [], ◌∷◌, length, map, option_map, string_bytes, IfOk, IfSome, IsSome};
 ghost use Rattle.std.specs.List.{list_all};
 ghost use Rattle.clap.specs.Words.{found_of, rows_of};
-ghost use Rattle.aoe_words.specs.Words.{CanAnswer, CanServe, CanSoak, IsInRange, answer_of, command, command_of, file_count, file_names, files, files_of, is_word, link_count, links_of, parsed, port_words, serve_of, soak_of, spelled, tool_of};
+ghost use Rattle.aoe_words.specs.Words.{CanAnswer, CanRun, CanServe, CanSoak, IsInRange, answer_of, command, command_of, file_count, file_names, files, files_of, is_word, link_count, links_of, parsed, port_words, serve_of, soak_of, spelled, tool_of};
 ghost use Rattle.aoe_words.specs.Values.{link};
 
 use crate::app::matches;
@@ -12,7 +12,7 @@ use crate::values::{
     ports_or_default, texts,
 };
 use crate::word::is_word;
-use crate::{Answer, Command, PortWords, Serve, Soak};
+use crate::{Answer, Command, PortWords, Serve, Soak, Tool};
 use aoe_base::{Blob, NoMemory, TargetId};
 use clap::ArgMatches;
 use clap::error::ErrorKind;
@@ -156,22 +156,21 @@ fn soak_of(found: &ArgMatches) -> Option<Soak>
 }
 
 /// What the words of the tool of this name ask for.
-fn tool_of(name: &str, found: &ArgMatches) -> Option<Command>
+fn tool_of(name: &str, found: &ArgMatches) -> Option<Tool>
     ensures value { result ≡ tool_of name.now (rows_of (found_of found.now)) }
-    ensures range { IfSome result IsInRange }
-    ensures files { IfSome result (λ c. length (files_of c (rows_of (found_of found.now))) ≡ file_count c) }
-    ensures links { IfSome result (λ c. length (links_of c (rows_of (found_of found.now))) ≡ link_count c) }
+    ensures range { IfSome result CanRun }
+    ensures links { IfSome result (λ tool. length (links_of (Command.Ask tool) (rows_of (found_of found.now))) ≡ 1) }
 {
     if name == "discover" {
-        Some(Command::Discover(plain_of(found)?))
+        Some(Tool::Discover(plain_of(found)?))
     } else if name == "stat" {
-        Some(Command::Stat(plain_of(found)?))
+        Some(Tool::Stat(plain_of(found)?))
     } else if name == "cfg" {
-        Some(Command::Cfg(cfg_of(found)?))
+        Some(Tool::Cfg(cfg_of(found)?))
     } else if name == "mask" {
-        Some(Command::Mask(mask_of(found)?))
+        Some(Tool::Mask(mask_of(found)?))
     } else if name == "reserve" {
-        Some(Command::Reserve(reserve_of(found)?))
+        Some(Tool::Reserve(reserve_of(found)?))
     } else {
         None
     }
@@ -193,7 +192,7 @@ fn command_of(name: &str, found: &ArgMatches) -> Option<Command>
     } else if name == "soak" {
         Some(Command::Soak(soak_of(found)?))
     } else {
-        tool_of(name, found)
+        Some(Command::Ask(tool_of(name, found)?))
     }
 }
 
@@ -257,13 +256,7 @@ pub fn files_of(alloc: Global, words: &[String]) -> Result<Vec<String>, NoMemory
             Some(texts) => copies(alloc, texts),
             None => Ok(Vec::new(alloc)),
         },
-        Command::Replay
-        | Command::Soak(_)
-        | Command::Discover(_)
-        | Command::Stat(_)
-        | Command::Cfg(_)
-        | Command::Mask(_)
-        | Command::Reserve(_) => Ok(Vec::new(alloc)),
+        Command::Replay | Command::Soak(_) | Command::Ask(_) => Ok(Vec::new(alloc)),
     }
 }
 
@@ -290,12 +283,7 @@ pub fn ports_of(alloc: Global, words: &[String]) -> Result<Vec<PortWords>, NoMem
     };
     match command {
         Command::Answer(_) | Command::Replay | Command::Soak(_) => Ok(Vec::new(alloc)),
-        Command::Serve(_)
-        | Command::Discover(_)
-        | Command::Stat(_)
-        | Command::Cfg(_)
-        | Command::Mask(_)
-        | Command::Reserve(_) => match link(&matches) {
+        Command::Serve(_) | Command::Ask(_) => match link(&matches) {
             Some((local, peers)) => one_link(alloc, local, peers),
             None => Ok(Vec::new(alloc)),
         },

@@ -1,5 +1,5 @@
 use crate::{
-    Answer, Asking, Cfg, Command, Mask, Reserve, Serve, Soak, files_of, ports_of, read_words,
+    Answer, Asking, Cfg, Command, Mask, Reserve, Serve, Soak, Tool, files_of, ports_of, read_words,
 };
 use aoe_base::{Mac, Ports, TargetId};
 use aoe_lists::Dir;
@@ -149,10 +149,13 @@ fn reads_serve(rt: HostRuntime) -> Result<(), Fail> {
 const ENDS: &str = " --local 0.0.0.0:1 --peers 10.0.0.1:1";
 
 /// What the words of a tool spell, with the ends of a link behind them.
-fn read_tool(alloc: Global, line: &str) -> Result<Option<Command>, Fail> {
+fn read_tool(alloc: Global, line: &str) -> Result<Option<Tool>, Fail> {
     let mut whole = String::from_str(alloc, line)?;
     whole.push_str(ENDS)?;
-    read_line(alloc, whole.as_str())
+    match read_line(alloc, whole.as_str())? {
+        Some(Command::Ask(tool)) => Ok(Some(tool)),
+        _ => Ok(None),
+    }
 }
 
 /// Who asks where nothing is said of it.
@@ -169,10 +172,10 @@ fn device() -> TargetId {
 }
 
 /// What `cfg` asks of the device.
-fn cfg(ccmd: u8, string: &[u8]) -> Command {
+fn cfg(ccmd: u8, string: &[u8]) -> Tool {
     let mut text = ArrayVec::new();
     let _ = text.try_extend_from_slice(string);
-    Command::Cfg(Cfg {
+    Tool::Cfg(Cfg {
         asking: asking(),
         id: device(),
         ccmd,
@@ -181,7 +184,7 @@ fn cfg(ccmd: u8, string: &[u8]) -> Command {
 }
 
 /// What `mask` asks of the device.
-fn mask(edit: Option<&[Dir]>) -> Command {
+fn mask(edit: Option<&[Dir]>) -> Tool {
     let dirs = match edit {
         Some(edit) => {
             let mut dirs = ArrayVec::new();
@@ -190,7 +193,7 @@ fn mask(edit: Option<&[Dir]>) -> Command {
         }
         None => None,
     };
-    Command::Mask(Mask {
+    Tool::Mask(Mask {
         asking: asking(),
         id: device(),
         dirs,
@@ -198,10 +201,10 @@ fn mask(edit: Option<&[Dir]>) -> Command {
 }
 
 /// What `reserve` asks of the device.
-fn reserve(rcmd: u8, macs: &[Mac]) -> Command {
+fn reserve(rcmd: u8, macs: &[Mac]) -> Tool {
     let mut list = ArrayVec::new();
     let _ = list.try_extend_from_slice(macs);
-    Command::Reserve(Reserve {
+    Tool::Reserve(Reserve {
         asking: asking(),
         id: device(),
         rcmd,
@@ -287,15 +290,15 @@ fn reads_discover_and_stat(rt: HostRuntime) -> Result<(), Fail> {
         turns: 1_000_000,
     };
     let cases = [
-        ("discover", Some(Command::Discover(asking()))),
-        ("stat", Some(Command::Stat(asking()))),
+        ("discover", Some(Tool::Discover(asking()))),
+        ("stat", Some(Tool::Stat(asking()))),
         (
             "discover --port=02:00:00:00:00:ff --turns 1000000",
-            Some(Command::Discover(other)),
+            Some(Tool::Discover(other)),
         ),
         (
             "stat --turns=1000000 --port 02:00:00:00:00:ff",
-            Some(Command::Stat(other)),
+            Some(Tool::Stat(other)),
         ),
         ("discover e1.2", None),
         ("stat --turns 0", None),

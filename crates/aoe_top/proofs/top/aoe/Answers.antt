@@ -7,7 +7,7 @@ use Rattle.aoe_words.specs.declared.command.Command.TheVariants.{Serve}
 use Rattle.aoe_words.specs.declared.command.Serve.{Serve as Serves}
 use Rattle.aoe_top.proofs.Complete.{answers, link-fine, no-fault, serves}
 use Rattle.aoe_top.proofs.OnSlots.{on-none}
-use Rattle.aoe_top.proofs.Refusals.{disk-within, file-fault, keep-bad, keep-fault, keep-small, mounted, ran-as, ran-of, settled}
+use Rattle.aoe_top.proofs.Refusals.{disk-within, file-fault, keep-bad, keep-fault, keep-small, mounted, ran-as, ran-of, same-command, settled}
 use Rattle.aoe_top.proofs.top.aoe.Goals as goal
 
 -- serve has one link
@@ -64,3 +64,7 @@ pub returns-in-Ok-None-clause-keep_bad : goal.returns-in-Ok-None-clause-keep_bad
 returns-in-Ok-None-clause-keep_bad g c slot bad =
     let empty = no-files files_of (spelled (map string_bytes c.args.words.now)) (sym c.in-Ok-None.ensures.command ∙ c.in-Ok-None.field-0-is) in
     on-none _ slot c.args.disks.now c.args.disks.now (omega (arith, c.requires.count, empty))
+
+pub returns-in-Ok-Some-clause-asks : goal.returns-in-Ok-Some-clause-asks
+returns-in-Ok-Some-clause-asks g c tool is =
+    inr (c.run_command.ensures.asks tool (same-command _ _ _ _ c.in-Ok-Some.field-0-is c.in-Ok-Some.ensures.command is))

@@ -1,0 +1,120 @@
+-- What the tools ask and say, and how they end.
+use Rattle.std.specs.Prelude.{ℕ, ◌≡◌, ◌≤◌, Bool, true, false, List, Option, Some, None, Result, Ok, Err, option_map}
+use Rattle.arrayvec.specs.ArrayVec.{ArrayVec}
+use Rattle.aoe_base.specs.declared.address.TargetId.{TargetId}
+use Rattle.aoe_base.specs.declared.failure.NoMemory.{NoMemory}
+use Rattle.aoe_initiator.specs.declared.op.Op.{Op}
+use Rattle.aoe_initiator.specs.declared.op.Op.TheVariants as op
+use Rattle.aoe_io.specs.Bytes.{Took, TookSome}
+use Rattle.aoe_lists.specs.declared.dir.Dir.{Dir}
+use Rattle.aoe_tools.specs.One.{edits_by}
+use Rattle.aoe_tools.specs.Runs.{RunsDiscovery, RunsOne, Told}
+use Rattle.aoe_tools.specs.Text.{config_text, found_text, masks_text, reserves_text}
+use Rattle.aoe_tools.specs.declared.end.ToolRefusal.{ToolRefusal}
+use Rattle.aoe_tools.specs.declared.end.ToolRefusal.TheVariants as refusal
+use Rattle.aoe_tools.specs.declared.found.Seen.{Seen}
+use Rattle.aoe_tools.specs.declared.question.Ask.{Ask}
+use Rattle.aoe_tools.specs.declared.question.Subject.{Subject}
+use Rattle.aoe_tools.specs.declared.question.Subject.TheVariants as subject
+use Rattle.aoe_words.specs.declared.command.Asking.{Asking}
+use Rattle.aoe_words.specs.declared.command.Cfg.{Cfg}
+use Rattle.aoe_words.specs.declared.command.Mask.{Mask}
+use Rattle.aoe_words.specs.declared.command.Reserve.{Reserve}
+use Rattle.aoe_words.specs.declared.command.Tool.{Tool}
+use Rattle.aoe_words.specs.declared.command.Tool.TheVariants as tool
+use Rattle.aoe_top.specs.declared.status.Status.{Status}
+use Rattle.aoe_top.specs.declared.status.Status.TheVariants as status
+
+-- who asks, and how long it listens
+abbrev pub ask_of : Asking → Ask
+ask_of asking = record { port = asking.port; turns = asking.turns }
+
+-- the directives of an edit
+abbrev pub dirs_of : Mask → Option (List Dir)
+dirs_of asked = option_map (λ dirs. dirs.items) asked.dirs
+
+-- what the tools that ask a device for a list send: query config, a mask list request, a reserve request (AoEr11, "Query Config
+-- Information", "MAC Mask List", "Reserve / Release")
+abbrev pub config_op : Cfg → Op
+config_op asked = op.Config asked.ccmd asked.text.items
+
+abbrev pub masks_op : Mask → Op
+masks_op asked = op.Masks (edits_by (dirs_of asked)).0 (record { items = (edits_by (dirs_of asked)).1 })
+
+abbrev pub reserves_op : Reserve → Op
+reserves_op asked = op.Reserve asked.rcmd (record { items = asked.list.items })
+
+-- a text, or that there is no memory for it
+abbrev pub said : Result (List ℕ) NoMemory → Result (List ℕ) ToolRefusal
+said (Ok text) = Ok text
+said (Err none) = Err refusal.NoMemory
+
+-- what is said of what a tool gave: its text, unless there is no memory for it; or the refusal
+abbrev pub IsSaid : {T : Type 0} → (T → List ℕ) → Result T ToolRefusal → Result (List ℕ) ToolRefusal → Type 0
+IsSaid text (Ok given) (Ok said) = said ≡ text given
+IsSaid text (Ok given) (Err r) = r ≡ refusal.NoMemory
+IsSaid text (Err r) said = said ≡ Err r
+
+-- `discover` ran, and says this of the devices
+abbrev pub SaysFound : Asking → Result (List ℕ) ToolRefusal → Told → Type 0
+SaysFound asking said t = (given : Result (List Seen) ToolRefusal) × RunsDiscovery given (ask_of asking) t × IsSaid found_text given said
+
+-- a tool asked one device for a list, and says this of the arguments of the response
+abbrev pub SaysOne : (List ℕ → List ℕ) → Subject → Op → TargetId → Asking → Result (List ℕ) ToolRefusal → Told → Type 0
+SaysOne text s o id asking said t =
+    (given : Result (ArrayVec ℕ) ToolRefusal) × RunsOne given s o id (ask_of asking) t × IsSaid (λ args. text args.items) given said
+
+abbrev pub SaysConfig : Cfg → Result (List ℕ) ToolRefusal → Told → Type 0
+SaysConfig asked said t = SaysOne config_text subject.Config (config_op asked) asked.id asked.asking said t
+
+abbrev pub SaysMasks : Mask → Result (List ℕ) ToolRefusal → Told → Type 0
+SaysMasks asked said t = SaysOne masks_text subject.Masks (masks_op asked) asked.id asked.asking said t
+
+abbrev pub SaysReserves : Reserve → Result (List ℕ) ToolRefusal → Told → Type 0
+SaysReserves asked said t = SaysOne reserves_text subject.Reserve (reserves_op asked) asked.id asked.asking said t
+
+-- a tool ran, and says this
+abbrev pub Says : Tool → Result (List ℕ) ToolRefusal → Told → Type 0
+Says (tool.Discover asking) said t = SaysFound asking said t
+Says (tool.Stat asking) said t = SaysFound asking said t
+Says (tool.Cfg asked) said t = SaysConfig asked said t
+Says (tool.Mask asked) said t = SaysMasks asked said t
+Says (tool.Reserve asked) said t = SaysReserves asked said t
+
+-- what a tool has to be given
+abbrev pub CanAsk : Tool → Type 0
+CanAsk (tool.Discover asking) = Unit {0}
+CanAsk (tool.Stat asking) = Unit {0}
+CanAsk (tool.Cfg asked) = asked.ccmd ≤ 4
+CanAsk (tool.Mask asked) = Unit {0}
+CanAsk (tool.Reserve asked) = asked.rcmd ≤ 2
+
+-- the status of a tool that ended without its answer
+abbrev pub tool_status : ToolRefusal → Status
+tool_status refusal.LinkFault = status.LinkFault 0
+tool_status refusal.NoMemory = status.NoMemory
+tool_status (refusal.Unanswered turns) = status.Unanswered turns
+tool_status (refusal.Refused r) = status.Refused r
+
+-- the statuses that a tool can end with
+abbrev pub is_tool_status : Status → Bool
+is_tool_status status.Ok = true
+is_tool_status status.SinkFault = true
+is_tool_status (status.LinkFault link) = true
+is_tool_status status.NoMemory = true
+is_tool_status (status.Unanswered turns) = true
+is_tool_status (status.Refused r) = true
+is_tool_status s = false
+
+-- what becomes of what is said: a text is written, whole or where the sink fails a front of it; a refusal is the status
+abbrev pub Writes : Status → Result (List ℕ) ToolRefusal → Option (List ℕ) → Option (List ℕ) → Type 0
+Writes status.Ok (Ok text) held held' = Took held held' text
+Writes status.SinkFault (Ok text) held held' = TookSome held held' text
+Writes s (Ok text) held held' = ⊥
+Writes s (Err r) held held' = (s ≡ tool_status r) × (held' ≡ held)
+
+-- a run of a tool over a link and a clock: it ended so, and a sink took what it says
+pub record RunsTool (tool : Tool) (s : Status) (held held' : Option (List ℕ)) (t : Told) : Type 0 where
+  pub said : Result (List ℕ) ToolRefusal
+  pub says : Says tool said t
+  pub writes : Writes s said held held'

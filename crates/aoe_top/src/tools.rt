@@ -1,0 +1,259 @@
+//! The tools: what each says over a link and a clock, and what becomes of it.
+ghost use Rattle.std.specs.Prelude.{◌≡◌, ◌≢◌, ◌≤◌, ◌+◌, ℕ, Err, true, option_copied};
+ghost use Rattle.aoe_base.specs.Faults.{Rose};
+ghost use Rattle.aoe_top.specs.Tools.{CanAsk, RunsTool, Says, SaysConfig, SaysFound, SaysMasks, SaysReserves, ask_of, dirs_of, is_tool_status, said, tool_status};
+
+use crate::Status;
+use aoe_base::{Blob, Failed, NoMemory};
+use aoe_io::{Clock, Link, Sink, give_all};
+use aoe_lists::Dir;
+use aoe_tools::{
+    Ask, ToolRefusal, cfg, discover, mask, print_config, print_found, print_masks, print_reserves,
+    reserve,
+};
+use aoe_words::{Asking, Cfg, Mask, Reserve, Tool};
+use std::alloc::Global;
+
+/// Who asks, and how long it listens.
+fn ask_of(asking: Asking) -> Ask
+    ensures { result ≡ ask_of asking }
+{
+    Ask {
+        port: asking.port,
+        turns: asking.turns,
+    }
+}
+
+/// A text, or that there is no memory for it.
+fn said(text: Result<Blob, NoMemory>) -> Result<Blob, ToolRefusal>
+    ensures { result ≡ said text }
+{
+    match text {
+        Ok(text) => Ok(text),
+        Err(NoMemory) => Err(ToolRefusal::NoMemory),
+    }
+}
+
+/// The directives of an edit.
+fn dirs_of(asked: &Mask) -> Option<&[Dir]>
+    ensures { option_copied result ≡ dirs_of asked.now }
+{
+    match &asked.dirs {
+        Some(dirs) => Some(dirs.as_slice()),
+        None => None,
+    }
+}
+
+/// What `discover` says.
+fn say_found<L: Link, C: Clock>(
+    alloc: Global,
+    asking: Asking,
+    link: &mut L,
+    clock: &mut C,
+) -> Result<Blob, ToolRefusal>
+    ensures run { SaysFound asking result
+        record {
+          least = C.least clock.old;
+          answers = C.answers clock.old;
+          answers' = C.answers clock.new;
+          turns = L.turns link.old;
+          turns' = L.turns link.new;
+          given = L.given link.old;
+          given' = L.given link.new;
+          taken = L.taken link.old;
+          taken' = L.taken link.new;
+        } }
+    ensures count { L.faults link.old ≤ L.faults link.new }
+    ensures cause { result ≡ Err ToolRefusal.LinkFault → Rose (L.faults link.old) (L.faults link.new) }
+    ensures no_fault { result ≢ Err ToolRefusal.LinkFault → L.faults link.new ≡ L.faults link.old }
+    ensures one_fault { L.faults link.new ≤ L.faults link.old + 1 }
+{
+    let given = discover(alloc, &ask_of(asking), link, clock)?;
+    said(print_found(alloc, &given))
+}
+
+/// What `cfg` says.
+fn say_config<L: Link, C: Clock>(
+    alloc: Global,
+    asked: &Cfg,
+    link: &mut L,
+    clock: &mut C,
+) -> Result<Blob, ToolRefusal>
+    requires { asked.now.ccmd ≤ 4 }
+    ensures run { SaysConfig asked.now result
+        record {
+          least = C.least clock.old;
+          answers = C.answers clock.old;
+          answers' = C.answers clock.new;
+          turns = L.turns link.old;
+          turns' = L.turns link.new;
+          given = L.given link.old;
+          given' = L.given link.new;
+          taken = L.taken link.old;
+          taken' = L.taken link.new;
+        } }
+    ensures count { L.faults link.old ≤ L.faults link.new }
+    ensures cause { result ≡ Err ToolRefusal.LinkFault → Rose (L.faults link.old) (L.faults link.new) }
+    ensures no_fault { result ≢ Err ToolRefusal.LinkFault → L.faults link.new ≡ L.faults link.old }
+    ensures one_fault { L.faults link.new ≤ L.faults link.old + 1 }
+{
+    let given = cfg(
+        &ask_of(asked.asking),
+        asked.id,
+        asked.ccmd,
+        asked.text.as_slice(),
+        link,
+        clock,
+    )?;
+    said(print_config(alloc, &given))
+}
+
+/// What `mask` says.
+fn say_masks<L: Link, C: Clock>(
+    alloc: Global,
+    asked: &Mask,
+    link: &mut L,
+    clock: &mut C,
+) -> Result<Blob, ToolRefusal>
+    ensures run { SaysMasks asked.now result
+        record {
+          least = C.least clock.old;
+          answers = C.answers clock.old;
+          answers' = C.answers clock.new;
+          turns = L.turns link.old;
+          turns' = L.turns link.new;
+          given = L.given link.old;
+          given' = L.given link.new;
+          taken = L.taken link.old;
+          taken' = L.taken link.new;
+        } }
+    ensures count { L.faults link.old ≤ L.faults link.new }
+    ensures cause { result ≡ Err ToolRefusal.LinkFault → Rose (L.faults link.old) (L.faults link.new) }
+    ensures no_fault { result ≢ Err ToolRefusal.LinkFault → L.faults link.new ≡ L.faults link.old }
+    ensures one_fault { L.faults link.new ≤ L.faults link.old + 1 }
+{
+    let given = mask(&ask_of(asked.asking), asked.id, dirs_of(asked), link, clock)?;
+    said(print_masks(alloc, &given))
+}
+
+/// What `reserve` says.
+fn say_reserves<L: Link, C: Clock>(
+    alloc: Global,
+    asked: &Reserve,
+    link: &mut L,
+    clock: &mut C,
+) -> Result<Blob, ToolRefusal>
+    requires { asked.now.rcmd ≤ 2 }
+    ensures run { SaysReserves asked.now result
+        record {
+          least = C.least clock.old;
+          answers = C.answers clock.old;
+          answers' = C.answers clock.new;
+          turns = L.turns link.old;
+          turns' = L.turns link.new;
+          given = L.given link.old;
+          given' = L.given link.new;
+          taken = L.taken link.old;
+          taken' = L.taken link.new;
+        } }
+    ensures count { L.faults link.old ≤ L.faults link.new }
+    ensures cause { result ≡ Err ToolRefusal.LinkFault → Rose (L.faults link.old) (L.faults link.new) }
+    ensures no_fault { result ≢ Err ToolRefusal.LinkFault → L.faults link.new ≡ L.faults link.old }
+    ensures one_fault { L.faults link.new ≤ L.faults link.old + 1 }
+{
+    let given = reserve(
+        &ask_of(asked.asking),
+        asked.id,
+        asked.rcmd,
+        asked.list.as_slice(),
+        link,
+        clock,
+    )?;
+    said(print_reserves(alloc, &given))
+}
+
+/// What a tool says.
+fn say<L: Link, C: Clock>(
+    alloc: Global,
+    tool: &Tool,
+    link: &mut L,
+    clock: &mut C,
+) -> Result<Blob, ToolRefusal>
+    requires { CanAsk tool.now }
+    ensures run { Says tool.now result
+        record {
+          least = C.least clock.old;
+          answers = C.answers clock.old;
+          answers' = C.answers clock.new;
+          turns = L.turns link.old;
+          turns' = L.turns link.new;
+          given = L.given link.old;
+          given' = L.given link.new;
+          taken = L.taken link.old;
+          taken' = L.taken link.new;
+        } }
+    ensures count { L.faults link.old ≤ L.faults link.new }
+    ensures cause { result ≡ Err ToolRefusal.LinkFault → Rose (L.faults link.old) (L.faults link.new) }
+    ensures no_fault { result ≢ Err ToolRefusal.LinkFault → L.faults link.new ≡ L.faults link.old }
+    ensures one_fault { L.faults link.new ≤ L.faults link.old + 1 }
+{
+    match tool {
+        Tool::Discover(asking) => say_found(alloc, *asking, link, clock),
+        Tool::Stat(asking) => say_found(alloc, *asking, link, clock),
+        Tool::Cfg(asked) => say_config(alloc, asked, link, clock),
+        Tool::Mask(asked) => say_masks(alloc, asked, link, clock),
+        Tool::Reserve(asked) => say_reserves(alloc, asked, link, clock),
+    }
+}
+
+/// The status of a tool that ended without its answer.
+fn tool_status(refusal: ToolRefusal) -> Status
+    ensures { result ≡ tool_status refusal }
+{
+    match refusal {
+        ToolRefusal::LinkFault => Status::LinkFault { link: 0 },
+        ToolRefusal::NoMemory => Status::NoMemory,
+        ToolRefusal::Unanswered { turns } => Status::Unanswered { turns },
+        ToolRefusal::Refused(refusal) => Status::Refused(refusal),
+    }
+}
+
+/// Runs a tool over a link, and writes what it says.
+pub(crate) fn run_tool<K: Sink, L: Link, C: Clock>(
+    alloc: Global,
+    tool: &Tool,
+    sink: &mut K,
+    link: &mut L,
+    clock: &mut C,
+) -> Status
+    requires { CanAsk tool.now }
+    ensures run { RunsTool tool.now result (K.held sink.old) (K.held sink.new)
+        record {
+          least = C.least clock.old;
+          answers = C.answers clock.old;
+          answers' = C.answers clock.new;
+          turns = L.turns link.old;
+          turns' = L.turns link.new;
+          given = L.given link.old;
+          given' = L.given link.new;
+          taken = L.taken link.old;
+          taken' = L.taken link.new;
+        } }
+    ensures leaves { result ≢ Status.Ok → result ≢ Status.SinkFault → sink.new ≡ sink.old }
+    ensures status { is_tool_status result ≡ true }
+    ensures sink_fault { result ≡ Status.SinkFault → Rose (K.faults sink.old) (K.faults sink.new) }
+    ensures link_fault { (port : ℕ) → result ≡ Status.LinkFault port → (port ≡ 0) × Rose (L.faults link.old) (L.faults link.new) }
+    ensures sink_no_fault { result ≢ Status.SinkFault → K.faults sink.new ≡ K.faults sink.old }
+    ensures link_no_fault { result ≢ Status.LinkFault 0 → L.faults link.new ≡ L.faults link.old }
+    ensures sink_one_fault { K.faults sink.new ≤ K.faults sink.old + 1 }
+    ensures link_one_fault { L.faults link.new ≤ L.faults link.old + 1 }
+{
+    let text = match say(alloc, tool, link, clock) {
+        Ok(text) => text,
+        Err(refusal) => return tool_status(refusal),
+    };
+    match give_all(sink, text.bytes()) {
+        Ok(()) => Status::Ok,
+        Err(Failed) => Status::SinkFault,
+    }
+}
