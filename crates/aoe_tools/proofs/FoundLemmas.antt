@@ -1,10 +1,10 @@
 -- The list of devices, as the map keeps it.
-use Rattle.std.proofs.Common.{◌≡◌, Bool, true, false, List, [], ◌∷◌, map, Option, Some, None, refl, sym, ap, subst, ◌∙◌}
+use Rattle.std.proofs.Common.{ℕ, zero, suc, ◌≡◌, Bool, true, false, List, [], ◌∷◌, map, Option, Some, None, refl, sym, ap, subst, ◌∙◌}
 use Rattle.std.proofs.lemmas.Bool.{and_parts, eqb-true}
-use Rattle.std.specs.Prelude.{nat_eq, cond}
+use Rattle.std.specs.Prelude.{nat_eq, cond, slice_get, slice_set}
 use Rattle.std.specs.Map.{lookup}
 use Rattle.arrayvec.specs.ArrayVec.{ArrayVec}
-use Rattle.indexmap.specs.IndexMap.{insert_entry}
+use Rattle.indexmap.specs.IndexMap.{insert_entry, set_value_at}
 use Rattle.aoe_base.specs.declared.address.Mac.{Mac}
 use Rattle.aoe_base.specs.declared.address.TargetId.{TargetId}
 use Rattle.aoe_initiator.specs.HostLaw.{same_id}
@@ -69,3 +69,16 @@ pub noted-is : (entries entries' : List Entry) (list : List Seen) (id : TargetId
 noted-is entries entries' list id port before ports named view are is inserts =
     let places : ports.items ≡ with_port (ports_in list id) port = is ∙ ap (λ l. with_port l port) are in
     ap (map (λ (x : Entry). x.1)) inserts ∙ inserted entries (seen id ports.items) named ∙ ap (λ l. placed l (seen id ports.items)) view ∙ ap (λ l. placed list (seen id l)) places
+
+-- a value is written at its place
+pub value-set : (entries : List Entry) (i : ℕ) (d : Seen) → map (λ (x : Entry). x.1) (set_value_at entries i d) ≡ slice_set (map (λ (x : Entry). x.1) entries) i d
+value-set [] i d = refl
+value-set (e ∷ entries) zero d = refl
+value-set (e ∷ entries) (suc i) d = ap (λ l. e.1 ∷ l) (value-set entries i d)
+
+pub named-after : (entries : List Entry) (i : ℕ) (s d : Seen) → slice_get (map (λ (x : Entry). x.1) entries) i ≡ Some s → d.id ≡ s.id → AreNamed entries → AreNamed (set_value_at entries i d)
+named-after [] i s d at same named = tt
+named-after (e ∷ entries) zero s d at same named =
+    let is : e.1 ≡ s = cc in
+    (named.0 ∙ ap (λ (x : Seen). x.id) is ∙ sym same, named.1)
+named-after (e ∷ entries) (suc i) s d at same named = (named.0, named-after entries i s d at same named.1)

@@ -4,3 +4,5 @@ mod JoinLemmas
 mod ListenLemmas
 mod OneLemmas
 mod QuestionLemmas
+mod StatLemmas
+mod VisitLemmas

@@ -23,7 +23,7 @@ less-not-equal a b less = at (nat_eq a b) refl
     at false e = e
 
 -- no response came, and there are more turns
-waits-on : (q : Question) (limit : ℕ) (turns : List Turn) → responses q turns ≡ [] → length turns < limit → is_done q limit turns ≡ false
+pub waits-on : (q : Question) (limit : ℕ) (turns : List Turn) → responses q turns ≡ [] → length turns < limit → is_done q limit turns ≡ false
 waits-on q limit turns silent below =
     ap (λ l. nat_lt 0 (length l) || nat_eq (length turns) limit) silent ∙ less-not-equal (length turns) limit below
 
@@ -31,7 +31,7 @@ silent-before : (o : Option Response) (rs : List Response) → with_response o r
 silent-before None rs e = e
 silent-before (Some r) rs e = absurd cc
 
-went-on : (q : Question) (limit : ℕ) (turns : List Turn) → responses q turns ≡ [] → length turns ≤ limit → GoesOn q limit turns
+pub went-on : (q : Question) (limit : ℕ) (turns : List Turn) → responses q turns ≡ [] → length turns ≤ limit → GoesOn q limit turns
 went-on q limit [] silent within = tt
 went-on q limit (t ∷ turns) silent within =
     let before = silent-before (brought q t) (responses q turns) silent in

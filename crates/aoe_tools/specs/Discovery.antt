@@ -1,12 +1,24 @@
 -- The tool that asks which devices there are.
-use Rattle.std.specs.Prelude.{ℕ, ◌≡◌, ◌≤◌, ◌<◌, List, [], ◌∷◌, length, Option, Result, Ok, Err}
+use Rattle.std.specs.Prelude.{ℕ, ◌≡◌, ◌≤◌, ◌<◌, List, [], ◌∷◌, length, Option, None, Result, Ok, Err}
+use Rattle.aoe_base.specs.Addresses.{broadcast}
+use Rattle.aoe_base.specs.declared.address.Mac.{Mac}
+use Rattle.aoe_initiator.specs.Request.{request}
+use Rattle.aoe_initiator.specs.declared.op.Op.TheVariants as op
 use Rattle.aoe_io.specs.Link.{Added, Turn, Turned}
-use Rattle.aoe_tools.specs.Asking.{Response, TookSome, asked, responses}
+use Rattle.aoe_tools.specs.Asking.{Response, TookSome, asked, everyone, responses, tag_of}
 use Rattle.aoe_tools.specs.Found.{found_in}
 use Rattle.aoe_tools.specs.declared.end.ToolRefusal.{ToolRefusal}
 use Rattle.aoe_tools.specs.declared.end.ToolRefusal.TheVariants as tool
 use Rattle.aoe_tools.specs.declared.found.Seen.{Seen}
 use Rattle.aoe_tools.specs.declared.question.Question.{Question}
+use Rattle.aoe_tools.specs.declared.question.Subject.TheVariants as subject
+
+-- the question of request 0, of a tool whose clock answered first so: who is there?
+abbrev pub finding_question : ℕ → Mac → Question
+finding_question first port = record { subject = subject.Config; id = None; port = port; tag = tag_of first 0 }
+
+abbrev pub finding_request : ℕ → Mac → List ℕ
+finding_request first port = request (op.Config 0 []) everyone broadcast port (tag_of first 0)
 
 -- the devices that were found, or that nobody answered
 abbrev pub unless_none : ℕ → List Seen → Result (List Seen) ToolRefusal

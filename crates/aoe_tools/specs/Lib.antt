@@ -4,5 +4,8 @@ pub mod Ending
 pub mod Found
 pub mod Listening
 pub mod One
+pub mod Page
 pub mod Runs
+pub mod Stat
 pub mod Text
+pub mod Visits

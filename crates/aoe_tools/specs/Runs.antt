@@ -1,15 +1,18 @@
 -- What a run of each tool is, over a link and a clock that tell what they gave.
-use Rattle.std.specs.Prelude.{ℕ, List, [], Option, Some, None, Result}
+use Rattle.std.specs.Prelude.{ℕ, List, Option, Some, Result}
 use Rattle.arrayvec.specs.ArrayVec.{ArrayVec}
 use Rattle.aoe_base.specs.Addresses.{broadcast}
+use Rattle.aoe_base.specs.declared.address.Mac.{Mac}
 use Rattle.aoe_base.specs.declared.address.TargetId.{TargetId}
 use Rattle.aoe_initiator.specs.Request.{request}
 use Rattle.aoe_initiator.specs.declared.op.Op.{Op}
 use Rattle.aoe_initiator.specs.declared.op.Op.TheVariants as op
 use Rattle.aoe_io.specs.Link.{Turn}
-use Rattle.aoe_tools.specs.Asking.{Answers, everyone, tag_of}
-use Rattle.aoe_tools.specs.Discovery.{Discovers}
-use Rattle.aoe_tools.specs.One.{AsksOne}
+use Rattle.aoe_lists.specs.declared.dir.Dir.{Dir}
+use Rattle.aoe_tools.specs.Asking.{Answers, tag_of}
+use Rattle.aoe_tools.specs.Discovery.{Discovers, finding_question, finding_request}
+use Rattle.aoe_tools.specs.One.{AsksOne, edits_by}
+use Rattle.aoe_tools.specs.Stat.{Stats}
 use Rattle.aoe_tools.specs.declared.end.ToolRefusal.{ToolRefusal}
 use Rattle.aoe_tools.specs.declared.found.Seen.{Seen}
 use Rattle.aoe_tools.specs.declared.question.Ask.{Ask}
@@ -30,17 +33,33 @@ pub record Told : Type 0 where
   pub taken : Option (List (List ℕ))
   pub taken' : Option (List (List ℕ))
 
--- the first question of a tool, to one device or to all, by the clock's first answer
-abbrev pub question : Subject → Option TargetId → Ask → ℕ → Question
-question s id ask first = record { subject = s; id = id; port = ask.port; tag = tag_of first 0 }
+-- the first question of a tool to a device, by the clock's first answer
+abbrev pub question : Subject → TargetId → Ask → ℕ → Question
+question s id ask first = record { subject = s; id = Some id; port = ask.port; tag = tag_of first 0 }
 
 -- the operation was asked of the device, from all stations, with the clock's first answer in its tag
 abbrev pub RunsOne : Result (ArrayVec ℕ) ToolRefusal → Subject → Op → TargetId → Ask → Told → Type 0
 RunsOne result s o id ask t = (first : ℕ) × Answers first t.least t.answers t.answers'
-    × AsksOne result (question s (Some id) ask first) (request o id broadcast ask.port (tag_of first 0)) ask.turns t.turns t.turns' t.given t.given' t.taken t.taken'
+    × AsksOne result (question s id ask first) (request o id broadcast ask.port (tag_of first 0)) ask.turns t.turns t.turns' t.given t.given' t.taken t.taken'
+
+-- its config string was asked for, with this command and string
+abbrev pub RunsConfig : Result (ArrayVec ℕ) ToolRefusal → ℕ → List ℕ → TargetId → Ask → Told → Type 0
+RunsConfig result ccmd text id ask t = RunsOne result subject.Config (op.Config ccmd text) id ask t
+
+-- its mask list was asked for, edited by these directives where there are any
+abbrev pub RunsMasks : Result (ArrayVec ℕ) ToolRefusal → Option (List Dir) → TargetId → Ask → Told → Type 0
+RunsMasks result dirs id ask t = RunsOne result subject.Masks (op.Masks (edits_by dirs).0 (record { items = (edits_by dirs).1 })) id ask t
+
+-- its reserve list was asked for, with this command and list
+abbrev pub RunsReserves : Result (ArrayVec ℕ) ToolRefusal → ℕ → List Mac → TargetId → Ask → Told → Type 0
+RunsReserves result rcmd list id ask t = RunsOne result subject.Reserve (op.Reserve rcmd (record { items = list })) id ask t
 
 -- every device was asked for its config string
 abbrev pub RunsDiscovery : Result (List Seen) ToolRefusal → Ask → Told → Type 0
 RunsDiscovery result ask t = (first : ℕ) × Answers first t.least t.answers t.answers'
-    × Discovers result (question subject.Config None ask first) (request (op.Config 0 []) everyone broadcast ask.port (tag_of first 0)) ask.turns
-    t.turns t.turns' t.given t.given' t.taken t.taken'
+    × Discovers result (finding_question first ask.port) (finding_request first ask.port) ask.turns t.turns t.turns' t.given t.given' t.taken t.taken'
+
+-- the devices were found so, and then asked for their pages
+abbrev pub RunsStat : Result (List Seen) ToolRefusal → Ask → Told → Type 0
+RunsStat result ask t = (first : ℕ) × Answers first t.least t.answers t.answers'
+    × Stats result first ask.port ask.turns t.turns t.turns' t.given t.given' t.taken t.taken'

@@ -1,10 +1,13 @@
 -- What the tools print.
-use Rattle.std.specs.Prelude.{ℕ, ◌/◌, ◌==◌, List, [], ◌∷◌, ◌++◌, map, drop, length, if◌then◌else◌}
+use Rattle.std.specs.Prelude.{ℕ, ◌*◌, ◌/◌, ◌%◌, ◌^◌, ◌==◌, List, [], ◌∷◌, ◌++◌, map, drop, length, Option, Some, None, codes, decimal, if◌then◌else◌}
+use Rattle.std.specs.Char.{digit_char}
 use Rattle.std.specs.List.{flat_map, join_with_byte}
 use Rattle.std.specs.Simd.{first_chunks}
 use Rattle.aoe_base.specs.Names.{device_text, mac_text}
 use Rattle.aoe_base.specs.declared.address.Mac.{Mac}
 use Rattle.aoe_tools.specs.declared.found.Seen.{Seen}
+use Rattle.aoe_tools.specs.declared.found.State.{State}
+use Rattle.aoe_tools.specs.declared.found.State.TheVariants as state
 
 -- what stands before the part at a place: nothing before the first
 abbrev pub between : ℕ → ℕ → List ℕ
@@ -21,6 +24,41 @@ device_line s = device_text s.id ++ 32 ∷ (macs_text s.ports.items ++ 10 ∷ []
 -- the devices that were found, one a line
 abbrev pub found_text : List Seen → List ℕ
 found_text found = flat_map device_line found
+
+-- one decimal digit of a number: that of 1, of 10 or of 100
+abbrev pub digit_of : ℕ → ℕ → ℕ
+digit_of n unit = digit_char (n / unit % 10)
+
+-- a number of thousandths, with its three decimals
+abbrev pub thousandths_text : ℕ → List ℕ
+thousandths_text n = decimal (n / 1000) ++ 46 ∷ digit_of n 100 ∷ digit_of n 10 ∷ digit_of n 1 ∷ []
+
+-- sectors of 512 bytes in units of 10^9 bytes, the further decimals cut off; a hyphen where there is no number
+abbrev pub size_text : Option ℕ → List ℕ
+size_text (Some total) = thousandths_text (total * 512 / 10 ^ 6) ++ codes "GB"
+size_text None = codes "-"
+
+abbrev pub state_text : State → List ℕ
+state_text state.Found = codes "found"
+state_text state.Up = codes "up"
+state_text state.Reserved = codes "reserved"
+state_text state.Silent = codes "silent"
+state_text state.Error = codes "error"
+
+-- a device that was asked: its name and its size
+abbrev pub stat_head : Seen → List ℕ
+stat_head s = device_text s.id ++ 32 ∷ size_text s.total
+
+-- its ports and its state
+abbrev pub stat_tail : Seen → List ℕ
+stat_tail s = 32 ∷ (macs_text s.ports.items ++ 32 ∷ (state_text s.state ++ 10 ∷ []))
+
+abbrev pub stat_line : Seen → List ℕ
+stat_line s = stat_head s ++ stat_tail s
+
+-- the devices that were asked, one a line
+abbrev pub stat_text : List Seen → List ℕ
+stat_text found = flat_map stat_line found
 
 -- the arguments behind the fixed ones, in pieces of n bytes each
 abbrev pub pieces : ℕ → ℕ → List ℕ → List (List ℕ)

@@ -1,7 +1,7 @@
 //! The tool that asks which devices there are.
-ghost use Rattle.std.specs.Prelude.{◌≡◌, ◌≢◌, ◌≤◌, ◌+◌, Err};
+ghost use Rattle.std.specs.Prelude.{◌≡◌, ◌≢◌, ◌≤◌, ◌+◌, Err, Ok};
 ghost use Rattle.aoe_base.specs.Faults.{Rose};
-ghost use Rattle.aoe_tools.specs.Discovery.{Discovers, unless_none};
+ghost use Rattle.aoe_tools.specs.Discovery.{Discovers, finding_question, finding_request, unless_none};
 ghost use Rattle.aoe_tools.specs.Runs.{RunsDiscovery};
 
 use crate::asking::listen;
@@ -61,6 +61,32 @@ fn find_all<L: Link>(
     unless_none(found, turns)
 }
 
+/// Asks every device for its config string, in all of the turns, and notes who answers. `first` is
+/// the clock's first answer.
+pub(crate) fn find<L: Link>(
+    alloc: Global,
+    first: u64,
+    ask: &Ask,
+    link: &mut L,
+) -> Result<Found, ToolRefusal>
+    ensures run { Discovers result (finding_question first ask.now.port) (finding_request first ask.now.port) ask.now.turns (L.turns link.old) (L.turns link.new) (L.given link.old) (L.given link.new) (L.taken link.old) (L.taken link.new) }
+    ensures count { L.faults link.old ≤ L.faults link.new }
+    ensures cause { result ≡ Err ToolRefusal.LinkFault → Rose (L.faults link.old) (L.faults link.new) }
+    ensures no_fault { result ≢ Err ToolRefusal.LinkFault → L.faults link.new ≡ L.faults link.old }
+    ensures one_fault { L.faults link.new ≤ L.faults link.old + 1 }
+{
+    let tag = tag_of(first, 0);
+    let question = Question {
+        subject: Subject::Config,
+        id: None,
+        port: ask.port,
+        tag,
+    };
+    let mut request = Frame::new();
+    config_request(0, b"", EVERYONE, ask.port, tag, &mut request);
+    find_all(alloc, &question, &request, ask.turns, link)
+}
+
 /// Asks every device for its config string, in all of the turns, and gives those that answer.
 pub fn discover<L: Link, C: Clock>(
     alloc: Global,
@@ -85,14 +111,5 @@ pub fn discover<L: Link, C: Clock>(
     ensures no_fault { result ≢ Err ToolRefusal.LinkFault → L.faults link.new ≡ L.faults link.old }
     ensures one_fault { L.faults link.new ≤ L.faults link.old + 1 }
 {
-    let tag = tag_of(clock.now(), 0);
-    let question = Question {
-        subject: Subject::Config,
-        id: None,
-        port: ask.port,
-        tag,
-    };
-    let mut request = Frame::new();
-    config_request(0, b"", EVERYONE, ask.port, tag, &mut request);
-    find_all(alloc, &question, &request, ask.turns, link)
+    find(alloc, clock.now(), ask, link)
 }

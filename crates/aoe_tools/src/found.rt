@@ -1,6 +1,7 @@
 //! The devices that a tool found.
-ghost use Rattle.std.specs.Prelude.{◌≡◌, ◌<◌, [], OnOk, OnErr, Some, slice_get, length};
+ghost use Rattle.std.specs.Prelude.{◌≡◌, ◌<◌, [], OnOk, OnErr, Some, slice_get, slice_set, length};
 ghost use Rattle.aoe_tools.specs.Found.{noted, ports_in, with_port};
+ghost use Rattle.aoe_tools.specs.Page.{with_known};
 
 use aoe_base::{Mac, NoMemory, Ports, TargetId};
 use indexmap::IndexMap;
@@ -24,6 +25,13 @@ pub enum State {
 
     /// It answered otherwise.
     Error,
+}
+
+/// What a device said of itself when it was asked for its page.
+#[derive(Clone, Copy, Debug, PartialEq, Eq)]
+pub(crate) struct Known {
+    pub(crate) total: Option<u64>,
+    pub(crate) state: State,
 }
 
 /// A device that was found.
@@ -113,6 +121,20 @@ impl Found {
         match self.devices.insert(id, seen) {
             Ok(_) => Ok(()),
             Err(_) => Err(NoMemory),
+        }
+    }
+
+    /// Notes what a device said.
+    pub(crate) fn learn(&mut self, i: usize, known: Known)
+        requires { i < length self.old }
+        ensures { (s : Seen) × (slice_get self.old i ≡ Some s) × (self.new ≡ slice_set self.old i (with_known s known)) }
+    {
+        match self.devices.get_index_mut(i) {
+            Some(seen) => {
+                seen.total = known.total;
+                seen.state = known.state;
+            }
+            None => unreachable!(),
         }
     }
 

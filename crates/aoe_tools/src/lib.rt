@@ -1,7 +1,7 @@
-//! Tools that ask the devices of a network, over a link and a clock: which there are, and their
-//! config strings, mask lists and reserve lists.
+//! Tools that ask the devices of a network, over a link and a clock: which there are, how many
+//! sectors they have, and their config strings, mask lists and reserve lists.
 //!
-//! Each tool sends a request before its turns 1, 11, 21 and so on, and listens once in each turn.
+//! A request is sent before its turns 1, 11, 21 and so on, and each turn listens once.
 #![tactic(auto)]
 
 mod asking;
@@ -12,13 +12,15 @@ mod lists;
 mod question;
 mod request;
 mod text;
+mod visiting;
 
 pub use end::{Refusal, ToolRefusal};
 pub use finding::discover;
 pub use found::{Found, Seen, State};
 pub use lists::{cfg, mask, reserve};
 pub use question::Ask;
-pub use text::{print_config, print_found, print_masks, print_reserves};
+pub use text::{print_config, print_found, print_masks, print_reserves, print_stat};
+pub use visiting::stat;
 
 #[cfg(test)]
 mod tests;

@@ -2,9 +2,8 @@
 ghost use Rattle.std.specs.Prelude.{◌≡◌, ◌≢◌, ◌≤◌, ◌+◌, Err, length, option_copied};
 ghost use Rattle.aoe_base.specs.Faults.{Rose};
 ghost use Rattle.aoe_initiator.specs.Response.{CanFill};
-ghost use Rattle.aoe_initiator.specs.declared.op.Op.TheVariants as op;
 ghost use Rattle.aoe_tools.specs.One.{AsksOne, args_of, edits_by, mask_refusal, refusal_of, told_len, unless_refused};
-ghost use Rattle.aoe_tools.specs.Runs.{RunsOne};
+ghost use Rattle.aoe_tools.specs.Runs.{RunsConfig, RunsMasks, RunsReserves};
 
 use crate::asking::listen;
 use crate::end::{Refusal, ToolRefusal};
@@ -102,7 +101,7 @@ pub fn cfg<L: Link, C: Clock>(
 ) -> Result<Args, ToolRefusal>
     requires command { ccmd ≤ 4 }
     requires text { length text.now ≤ 1024 }
-    ensures run { RunsOne result Subject.Config (op.Config ccmd text.now) id ask.now
+    ensures run { RunsConfig result ccmd text.now id ask.now
         record {
           least = C.least clock.old;
           answers = C.answers clock.old;
@@ -140,7 +139,7 @@ pub fn mask<L: Link, C: Clock>(
     clock: &mut C,
 ) -> Result<Args, ToolRefusal>
     requires { length (edits_by (option_copied dirs)).1 ≤ 64 }
-    ensures run { RunsOne result Subject.Masks (op.Masks (edits_by (option_copied dirs.entry)).0 (record { items = (edits_by (option_copied dirs.entry)).1 })) id ask.now
+    ensures run { RunsMasks result (option_copied dirs.entry) id ask.now
         record {
           least = C.least clock.old;
           answers = C.answers clock.old;
@@ -183,7 +182,7 @@ pub fn reserve<L: Link, C: Clock>(
 ) -> Result<Args, ToolRefusal>
     requires command { rcmd ≤ 2 }
     requires few { length list.now ≤ 64 }
-    ensures run { RunsOne result Subject.Reserve (op.Reserve rcmd (record { items = list.now })) id ask.now
+    ensures run { RunsReserves result rcmd list.now id ask.now
         record {
           least = C.least clock.old;
           answers = C.answers clock.old;

@@ -70,7 +70,7 @@ pub(crate) struct Reply {
 
 /// The tag of a tool's request number `i`, from 0, by the clock's first answer. It is beyond the
 /// tags of an initiator.
-pub(crate) fn tag_of(first: u64, i: u32) -> u32
+pub(crate) fn tag_of(first: u64, i: u64) -> u32
     ensures { result ≡ tag_of first i }
 {
     let low = (u128::from(first) + u128::from(i)) % 0x8000_0000;

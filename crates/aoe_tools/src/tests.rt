@@ -1,9 +1,10 @@
 //! The tools over links in memory.
-ghost use Rattle.std.specs.Prelude.{◌≤◌, IfOk, length};
+ghost use Rattle.std.specs.Prelude.{◌≤◌, All, IfOk, length};
+ghost use Rattle.aoe_io.specs.LinkMemory.{IsShort};
 
 use crate::{
     Ask, Refusal, ToolRefusal, cfg, discover, mask, print_config, print_found, print_masks,
-    print_reserves, reserve,
+    print_reserves, print_stat, reserve, stat,
 };
 use aoe_base::{Blob, Mac, NoMemory, TargetId};
 use aoe_frame::Frame;
@@ -38,13 +39,24 @@ fn link_of(alloc: Global, command: u8, error: u8, args: &[u8]) -> Result<MemLink
     Ok(MemLink::of(alloc, coming, 10)?)
 }
 
+/// Turns that bring no frame.
+fn quiet(alloc: Global, turns: u32) -> Result<Vec<Option<Blob>>, Fail>
+    ensures { IfOk result (λ coming. All IsShort coming.items) }
+{
+    let mut coming = Vec::new(alloc);
+    'turns: for _ in 0..turns {
+        coming.push(None)?;
+    }
+    Ok(coming)
+}
+
 #[test]
 fn nobody_answers(rt: HostRuntime) -> Result<(), Fail> {
     let alloc = rt.alloc();
-    let mut link = MemLink::of(alloc, Vec::new(alloc), 10)?;
+    let mut link = MemLink::of(alloc, quiet(alloc, 50)?, 10)?;
     let mut clock = SetClock::new(5, 10);
     let ask = Ask { port: A, turns: 50 };
-    let Err(refusal) = discover(alloc, &ask, &mut link, &mut clock) else {
+    let Err(refusal) = stat(alloc, &ask, &mut link, &mut clock) else {
         return Err(Fail::from("a device was found"));
     };
     assert_eq!(rt; refusal.code(), 9);
@@ -88,6 +100,42 @@ fn finds_devices(rt: HostRuntime) -> Result<(), Fail> {
     }
     let text = b"e1.0 02:00:00:00:00:03,02:00:00:00:00:01\ne1.7 02:00:00:00:00:02\n";
     assert_eq!(rt; print_found(alloc, &found)?.bytes(), text.as_slice());
+    Ok(())
+}
+
+#[test]
+fn asks_for_pages(rt: HostRuntime) -> Result<(), Fail> {
+    let alloc = rt.alloc();
+    let args = [0, 16, 0, 1, 2, 0x10, 0, 0];
+    let mut page = [0; 524];
+    page[3] = 0x40;
+    page[179] = 0x74;
+    page[213] = 0x09;
+    page[214] = 0x3d;
+    let mut coming = Vec::new(alloc);
+    coming.push(Some(response(alloc, [1, 0, 1, 0, 0], &args)?))?;
+    coming.push(Some(response(alloc, [2, 1, 1, 0, 0], &args)?))?;
+    coming.push(Some(response(alloc, [3, 2, 1, 0, 0], &args)?))?;
+    coming.push(None)?;
+    coming.push(Some(response(alloc, [1, 0, 0, 0, 1], &page)?))?;
+    coming.push(Some(response(alloc, [2, 1, 0, 0, 1], &page)?))?;
+    coming.push(Some(response(alloc, [2, 1, 0, 6, 2], &[])?))?;
+    let mut link = MemLink::of(alloc, coming, 10)?;
+    let ask = Ask { port: A, turns: 4 };
+    let Ok(found) = stat(alloc, &ask, &mut link, &mut SetClock::new(0, 10)) else {
+        return Err(Fail::from("no device was found"));
+    };
+    let text =
+        b"e1.0 2.048GB 02:00:00:00:00:01 up\ne1.1 - 02:00:00:00:00:02 reserved\ne1.2 - 02:00:00:00:00:03 silent\n";
+    assert_eq!(rt; print_stat(alloc, &found)?.bytes(), text.as_slice());
+    assert_eq!(rt; link.count(), 4);
+    if link.count() == 4 {
+        let begin = [
+            2, 0, 0, 0, 0, 3, 2, 0, 0, 0, 0, 0x0a, 0x88, 0xa2, 0x10, 0, 0, 1, 2, 0, 0x80, 0, 0, 3,
+            0, 0, 1, 0xec,
+        ];
+        assert_eq!(rt; link.frame(3).get(..28), Some(begin.as_slice()));
+    }
     Ok(())
 }
 

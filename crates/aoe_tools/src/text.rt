@@ -2,10 +2,10 @@
 ghost use Rattle.std.specs.Prelude.{◌≡◌, ◌<◌, ◌++◌, IfOk, OnOk, drop, map};
 ghost use Rattle.std.specs.List.{join_with_byte};
 ghost use Rattle.aoe_base.specs.Names.{device_text, mac_text, pair_text};
-ghost use Rattle.aoe_tools.specs.Text.{between, config_text, device_line, found_text, mac_line, macs_text, masks_text, pieces, reserves_text};
+ghost use Rattle.aoe_tools.specs.Text.{between, config_text, device_line, digit_of, found_text, mac_line, macs_text, masks_text, pieces, reserves_text, size_text, stat_head, stat_line, stat_tail, stat_text, state_text, thousandths_text};
 
 use crate::end::pair;
-use crate::found::{Found, Seen};
+use crate::found::{Found, Seen, State};
 use aoe_base::{Blob, Mac, NoMemory, TargetId};
 use aoe_lists::Args;
 use std::alloc::Global;
@@ -91,6 +91,90 @@ pub fn print_found(alloc: Global, found: &Found) -> Result<Blob, NoMemory>
     let mut out = Vec::new(alloc);
     'devices: for i in 0..found.count() {
         put_line(alloc, &mut out, found.device(i))?;
+    }
+    Ok(Blob::from_vec(out))
+}
+
+/// A decimal digit of a number: that of 1, of 10 or of 100.
+fn digit_of(n: u64, unit: u64) -> u8
+    requires { 0 < unit }
+    ensures { result ≡ digit_of n unit }
+{
+    b'0' + (n / unit % 10) as u8
+}
+
+/// Adds a number of thousandths with its three decimals.
+fn put_thousandths(alloc: Global, out: &mut Vec<u8>, n: u64) -> Result<(), NoMemory>
+    ensures { OnOk result (out.new.items ≡ out.old.items ++ thousandths_text n) }
+{
+    let whole = n / 1000;
+    match format!(in alloc; "{whole}.") {
+        Ok(text) => put(out, text.as_bytes())?,
+        Err(_) => return Err(NoMemory),
+    }
+    put(out, &[digit_of(n, 100), digit_of(n, 10), digit_of(n, 1)])
+}
+
+/// Adds the size of a device.
+fn put_size(alloc: Global, out: &mut Vec<u8>, total: Option<u64>) -> Result<(), NoMemory>
+    ensures { OnOk result (out.new.items ≡ out.old.items ++ size_text total) }
+{
+    let Some(total) = total else {
+        return put(out, b"-");
+    };
+    let megabytes = u128::from(total) * 512 / 1_000_000;
+    put_thousandths(alloc, out, megabytes as u64)?;
+    put(out, b"GB")
+}
+
+/// Adds what is known of a device.
+fn put_state(out: &mut Vec<u8>, state: State) -> Result<(), NoMemory>
+    ensures { OnOk result (out.new.items ≡ out.old.items ++ state_text state) }
+{
+    match state {
+        State::Found => put(out, b"found"),
+        State::Up => put(out, b"up"),
+        State::Reserved => put(out, b"reserved"),
+        State::Silent => put(out, b"silent"),
+        State::Error => put(out, b"error"),
+    }
+}
+
+/// Adds the name and the size of a device that was asked.
+fn put_stat_head(alloc: Global, out: &mut Vec<u8>, seen: &Seen) -> Result<(), NoMemory>
+    ensures { OnOk result (out.new.items ≡ out.old.items ++ stat_head seen.now) }
+{
+    put_device(alloc, out, seen.id)?;
+    put(out, b" ")?;
+    put_size(alloc, out, seen.total)
+}
+
+/// Adds its ports and its state.
+fn put_stat_tail(out: &mut Vec<u8>, seen: &Seen) -> Result<(), NoMemory>
+    ensures { OnOk result (out.new.items ≡ out.old.items ++ stat_tail seen.now) }
+{
+    put(out, b" ")?;
+    put_macs(out, seen.ports.as_slice())?;
+    put(out, b" ")?;
+    put_state(out, seen.state)?;
+    put(out, b"\n")
+}
+
+/// Adds the line of a device that was asked.
+fn put_stat_line(alloc: Global, out: &mut Vec<u8>, seen: &Seen) -> Result<(), NoMemory>
+    ensures { OnOk result (out.new.items ≡ out.old.items ++ stat_line seen.now) }
+{
+    put_stat_head(alloc, out, seen)?;
+    put_stat_tail(out, seen)
+}
+
+/// What `stat` prints: the devices with their sizes, ports and states, one a line.
+pub fn print_stat(alloc: Global, found: &Found) -> Result<Blob, NoMemory>
+    ensures { IfOk result (λ text. text ≡ stat_text found.now) }
+{
+    let mut out = Vec::new(alloc);
+    'devices: for i in 0..found.count() {
+        put_stat_line(alloc, &mut out, found.device(i))?;
     }
     Ok(Blob::from_vec(out))
 }

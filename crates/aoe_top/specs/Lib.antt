@@ -1,3 +1,4 @@
 pub mod Commands
 pub mod Ending
 pub mod Run
+pub mod Tools

@@ -1,21 +1,15 @@
 -- What the tools ask and say, and how they end.
 use Rattle.std.specs.Prelude.{ℕ, ◌≡◌, ◌≤◌, Bool, true, false, List, Option, Some, None, Result, Ok, Err, option_map}
 use Rattle.arrayvec.specs.ArrayVec.{ArrayVec}
-use Rattle.aoe_base.specs.declared.address.TargetId.{TargetId}
 use Rattle.aoe_base.specs.declared.failure.NoMemory.{NoMemory}
-use Rattle.aoe_initiator.specs.declared.op.Op.{Op}
-use Rattle.aoe_initiator.specs.declared.op.Op.TheVariants as op
 use Rattle.aoe_io.specs.Bytes.{Took, TookSome}
 use Rattle.aoe_lists.specs.declared.dir.Dir.{Dir}
-use Rattle.aoe_tools.specs.One.{edits_by}
-use Rattle.aoe_tools.specs.Runs.{RunsDiscovery, RunsOne, Told}
-use Rattle.aoe_tools.specs.Text.{config_text, found_text, masks_text, reserves_text}
+use Rattle.aoe_tools.specs.Runs.{RunsConfig, RunsDiscovery, RunsMasks, RunsReserves, RunsStat, Told}
+use Rattle.aoe_tools.specs.Text.{config_text, found_text, masks_text, reserves_text, stat_text}
 use Rattle.aoe_tools.specs.declared.end.ToolRefusal.{ToolRefusal}
 use Rattle.aoe_tools.specs.declared.end.ToolRefusal.TheVariants as refusal
 use Rattle.aoe_tools.specs.declared.found.Seen.{Seen}
 use Rattle.aoe_tools.specs.declared.question.Ask.{Ask}
-use Rattle.aoe_tools.specs.declared.question.Subject.{Subject}
-use Rattle.aoe_tools.specs.declared.question.Subject.TheVariants as subject
 use Rattle.aoe_words.specs.declared.command.Asking.{Asking}
 use Rattle.aoe_words.specs.declared.command.Cfg.{Cfg}
 use Rattle.aoe_words.specs.declared.command.Mask.{Mask}
@@ -33,17 +27,6 @@ ask_of asking = record { port = asking.port; turns = asking.turns }
 abbrev pub dirs_of : Mask → Option (List Dir)
 dirs_of asked = option_map (λ dirs. dirs.items) asked.dirs
 
--- what the tools that ask a device for a list send: query config, a mask list request, a reserve request (AoEr11, "Query Config
--- Information", "MAC Mask List", "Reserve / Release")
-abbrev pub config_op : Cfg → Op
-config_op asked = op.Config asked.ccmd asked.text.items
-
-abbrev pub masks_op : Mask → Op
-masks_op asked = op.Masks (edits_by (dirs_of asked)).0 (record { items = (edits_by (dirs_of asked)).1 })
-
-abbrev pub reserves_op : Reserve → Op
-reserves_op asked = op.Reserve asked.rcmd (record { items = asked.list.items })
-
 -- a text, or that there is no memory for it
 abbrev pub said : Result (List ℕ) NoMemory → Result (List ℕ) ToolRefusal
 said (Ok text) = Ok text
@@ -59,24 +42,29 @@ IsSaid text (Err r) said = said ≡ Err r
 abbrev pub SaysFound : Asking → Result (List ℕ) ToolRefusal → Told → Type 0
 SaysFound asking said t = (given : Result (List Seen) ToolRefusal) × RunsDiscovery given (ask_of asking) t × IsSaid found_text given said
 
--- a tool asked one device for a list, and says this of the arguments of the response
-abbrev pub SaysOne : (List ℕ → List ℕ) → Subject → Op → TargetId → Asking → Result (List ℕ) ToolRefusal → Told → Type 0
-SaysOne text s o id asking said t =
-    (given : Result (ArrayVec ℕ) ToolRefusal) × RunsOne given s o id (ask_of asking) t × IsSaid (λ args. text args.items) given said
+-- `stat` ran, and says this of them
+abbrev pub SaysStat : Asking → Result (List ℕ) ToolRefusal → Told → Type 0
+SaysStat asking said t = (given : Result (List Seen) ToolRefusal) × RunsStat given (ask_of asking) t × IsSaid stat_text given said
 
+-- `cfg` ran, and says this of the string
 abbrev pub SaysConfig : Cfg → Result (List ℕ) ToolRefusal → Told → Type 0
-SaysConfig asked said t = SaysOne config_text subject.Config (config_op asked) asked.id asked.asking said t
+SaysConfig asked said t = (given : Result (ArrayVec ℕ) ToolRefusal)
+    × RunsConfig given asked.ccmd asked.text.items asked.id (ask_of asked.asking) t × IsSaid (λ args. config_text args.items) given said
 
+-- `mask` ran, and says this of the mask list
 abbrev pub SaysMasks : Mask → Result (List ℕ) ToolRefusal → Told → Type 0
-SaysMasks asked said t = SaysOne masks_text subject.Masks (masks_op asked) asked.id asked.asking said t
+SaysMasks asked said t =
+    (given : Result (ArrayVec ℕ) ToolRefusal) × RunsMasks given (dirs_of asked) asked.id (ask_of asked.asking) t × IsSaid (λ args. masks_text args.items) given said
 
+-- `reserve` ran, and says this of the reserve list
 abbrev pub SaysReserves : Reserve → Result (List ℕ) ToolRefusal → Told → Type 0
-SaysReserves asked said t = SaysOne reserves_text subject.Reserve (reserves_op asked) asked.id asked.asking said t
+SaysReserves asked said t = (given : Result (ArrayVec ℕ) ToolRefusal)
+    × RunsReserves given asked.rcmd asked.list.items asked.id (ask_of asked.asking) t × IsSaid (λ args. reserves_text args.items) given said
 
 -- a tool ran, and says this
 abbrev pub Says : Tool → Result (List ℕ) ToolRefusal → Told → Type 0
 Says (tool.Discover asking) said t = SaysFound asking said t
-Says (tool.Stat asking) said t = SaysFound asking said t
+Says (tool.Stat asking) said t = SaysStat asking said t
 Says (tool.Cfg asked) said t = SaysConfig asked said t
 Says (tool.Mask asked) said t = SaysMasks asked said t
 Says (tool.Reserve asked) said t = SaysReserves asked said t

@@ -1,7 +1,7 @@
 //! What each command exports, and the status of a run that ended.
-ghost use Rattle.std.specs.Prelude.{◌≡◌, ◌≤◌, [], ◌∷◌, IfSome};
-ghost use Rattle.aoe_words.specs.Words.{IsInRange, file_count, link_count};
-ghost use Rattle.aoe_top.specs.Commands.{CanExport, plan_of};
+ghost use Rattle.std.specs.Prelude.{◌≡◌, ◌≤◌, ◌*◌, [], ◌∷◌, IfSome};
+ghost use Rattle.aoe_words.specs.Words.{CanAnswer, CanServe};
+ghost use Rattle.aoe_top.specs.Commands.{CanExport, answer_plan, serve_plan};
 ghost use Rattle.aoe_top.specs.Ending.{after_syncs, ended_by, excess_of, refused_as, replayed_as, status_of};
 
 use crate::{Status, What};

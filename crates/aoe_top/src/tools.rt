@@ -1,7 +1,8 @@
 //! The tools: what each says over a link and a clock, and what becomes of it.
-ghost use Rattle.std.specs.Prelude.{◌≡◌, ◌≢◌, ◌≤◌, ◌+◌, ℕ, Err, true, option_copied};
+ghost use Rattle.std.specs.Prelude.{◌≡◌, ◌≢◌, ◌≤◌, ◌+◌, ℕ, Err, true, length, option_copied};
 ghost use Rattle.aoe_base.specs.Faults.{Rose};
-ghost use Rattle.aoe_top.specs.Tools.{CanAsk, RunsTool, Says, SaysConfig, SaysFound, SaysMasks, SaysReserves, ask_of, dirs_of, is_tool_status, said, tool_status};
+ghost use Rattle.aoe_tools.specs.One.{edits_by};
+ghost use Rattle.aoe_top.specs.Tools.{CanAsk, RunsTool, Says, SaysConfig, SaysFound, SaysMasks, SaysReserves, SaysStat, ask_of, dirs_of, is_tool_status, said, tool_status};
 
 use crate::Status;
 use aoe_base::{Blob, Failed, NoMemory};
@@ -9,7 +10,7 @@ use aoe_io::{Clock, Link, Sink, give_all};
 use aoe_lists::Dir;
 use aoe_tools::{
     Ask, ToolRefusal, cfg, discover, mask, print_config, print_found, print_masks, print_reserves,
-    reserve,
+    print_stat, reserve, stat,
 };
 use aoe_words::{Asking, Cfg, Mask, Reserve, Tool};
 use std::alloc::Global;
@@ -36,7 +37,8 @@ fn said(text: Result<Blob, NoMemory>) -> Result<Blob, ToolRefusal>
 
 /// The directives of an edit.
 fn dirs_of(asked: &Mask) -> Option<&[Dir]>
-    ensures { option_copied result ≡ dirs_of asked.now }
+    ensures dirs { option_copied result ≡ dirs_of asked.now }
+    ensures few { length (edits_by (option_copied result)).1 ≤ 64 }
 {
     match &asked.dirs {
         Some(dirs) => Some(dirs.as_slice()),
@@ -70,6 +72,34 @@ fn say_found<L: Link, C: Clock>(
 {
     let given = discover(alloc, &ask_of(asking), link, clock)?;
     said(print_found(alloc, &given))
+}
+
+/// What `stat` says.
+fn say_stat<L: Link, C: Clock>(
+    alloc: Global,
+    asking: Asking,
+    link: &mut L,
+    clock: &mut C,
+) -> Result<Blob, ToolRefusal>
+    ensures run { SaysStat asking result
+        record {
+          least = C.least clock.old;
+          answers = C.answers clock.old;
+          answers' = C.answers clock.new;
+          turns = L.turns link.old;
+          turns' = L.turns link.new;
+          given = L.given link.old;
+          given' = L.given link.new;
+          taken = L.taken link.old;
+          taken' = L.taken link.new;
+        } }
+    ensures count { L.faults link.old ≤ L.faults link.new }
+    ensures cause { result ≡ Err ToolRefusal.LinkFault → Rose (L.faults link.old) (L.faults link.new) }
+    ensures no_fault { result ≢ Err ToolRefusal.LinkFault → L.faults link.new ≡ L.faults link.old }
+    ensures one_fault { L.faults link.new ≤ L.faults link.old + 1 }
+{
+    let given = stat(alloc, &ask_of(asking), link, clock)?;
+    said(print_stat(alloc, &given))
 }
 
 /// What `cfg` says.
@@ -199,7 +229,7 @@ fn say<L: Link, C: Clock>(
 {
     match tool {
         Tool::Discover(asking) => say_found(alloc, *asking, link, clock),
-        Tool::Stat(asking) => say_found(alloc, *asking, link, clock),
+        Tool::Stat(asking) => say_stat(alloc, *asking, link, clock),
         Tool::Cfg(asked) => say_config(alloc, asked, link, clock),
         Tool::Mask(asked) => say_masks(alloc, asked, link, clock),
         Tool::Reserve(asked) => say_reserves(alloc, asked, link, clock),

@@ -1,4 +1,4 @@
-use Rattle.std.proofs.Common.{◌≡◌, ◌∙◌, ℕ, List, [], length, Option, None, Some, arith, refl, sym, subst}
+use Rattle.std.proofs.Common.{◌≡◌, ◌∙◌, ℕ, List, [], length, Option, None, Some, arith, inr, refl, sym, subst}
 use Rattle.std.specs.Prelude.{IfSome, map, option_map, string_bytes}
 use Rattle.std.specs.Option.{option_map_or}
 use Rattle.aoe_words.specs.Words.{file_count, files_of, link_count, spelled}
@@ -8,6 +8,7 @@ use Rattle.aoe_words.specs.declared.command.Serve.{Serve as Serves}
 use Rattle.aoe_top.proofs.Complete.{answers, link-fine, no-fault, serves}
 use Rattle.aoe_top.proofs.OnSlots.{on-none}
 use Rattle.aoe_top.proofs.Refusals.{disk-within, file-fault, keep-bad, keep-fault, keep-small, mounted, ran-as, ran-of, same-command, settled}
+use Rattle.aoe_world.specs.declared.end.ReplayEnd.TheVariants as replay
 use Rattle.aoe_top.proofs.top.aoe.Goals as goal
 
 -- serve has one link
@@ -68,3 +69,6 @@ returns-in-Ok-None-clause-keep_bad g c slot bad =
 pub returns-in-Ok-Some-clause-asks : goal.returns-in-Ok-Some-clause-asks
 returns-in-Ok-Some-clause-asks g c tool is =
     inr (c.run_command.ensures.asks tool (same-command _ _ _ _ c.in-Ok-Some.field-0-is c.in-Ok-Some.ensures.command is))
+
+pub returns-in-Err-clause-replays : goal.returns-in-Err-clause-replays
+returns-in-Err-clause-replays g c text is left_is fine source sink = record { end = replay.NoMemory; run = inr tt; ends = refl }
