@@ -5,6 +5,7 @@ use Rattle.std.specs.Prelude.{IfSome, Result, Ok, Err, slice_get}
 use Rattle.std.specs.Option.{option_map}
 use Rattle.aoe_base.specs.declared.failure.Failed.{Failed}
 use Rattle.aoe_disk.specs.State.{Contents, DiskState, BothTell, sector}
+use Rattle.aoe_cache.specs.Free.{KeepsSettled}
 use Rattle.aoe_disk.specs.Calls.{SyncsTo, Settles, MaySettle}
 use Rattle.aoe_keep.specs.Found.{AlwaysFinds, Finds}
 use Rattle.aoe_serve.specs.Arrivals.{Arrived, AreServed, at_slot}
@@ -90,6 +91,21 @@ both_leave (Some c) (Some k) told = leaves_known c k told
 outlived : (d : Device) (k : State) → Holds d k → Outlives d k
 outlived d k h = record { file = both_leave d.store.contents k.sectors h.sectors; keep = h.crash }
 
+-- on a disk in the store's place an unmarked sector isn't loose either, and is as it is known
+leaves_under : (c d : Contents) (k : Sectors) → Agrees (sectors_of c) k → KeepsSettled c d → LeavesKnown k d
+leaves_under c d k agree settled = λ image left s unmarked.
+    let both = settled.kept s (agree.marks s unmarked) in
+    known_left (Some (sector c.bytes s)) (k.known s) (sector c.bytes s) (agree.known s) refl (sector image s) (left.kept s both.0 ∙ both.1)
+
+both_under : (x y : Option Contents) (z : Option Sectors) → BothTell Agrees (option_map sectors_of x) z → BothTell KeepsSettled x y → IfSome y (λ c. IfSome z (λ sectors. LeavesKnown sectors c))
+both_under x None z told kept = tt
+both_under None (Some d) z told kept = absurd kept
+both_under (Some c) (Some d) None told kept = tt
+both_under (Some c) (Some d) (Some k) told kept = leaves_under c d k told kept
+
+outlived_under : (d : Device) (k : State) (disk : DiskState) → Holds d k → BothTell KeepsSettled d.store.contents disk.contents → Outlives (record d { store = disk }) k
+outlived_under d k disk h kept = record { file = both_under d.store.contents disk.contents k.sectors h.sectors kept; keep = h.crash }
+
 -- frames came to a slot, whose lists every crash found before, and then its store was synced
 ends_after : (a m b : Slot) (h : List Met) (synced : Result (Unit {0}) Failed) → AlwaysFinds a.device.keep a.device.lists → IsServed a m h → SyncsSlot synced m b → EndsAfter h synced a b
 ends_after a m b h synced finds served sync =
@@ -97,6 +113,7 @@ ends_after a m b h synced finds served sync =
     record {
       holds = at_end;
       outlives = outlived b.device (after_last synced (left_by a.station (state_of a.device) h)) (at_end (state_of a.device) (first_state a.device finds));
+      disk_outlives = λ disk kept. outlived_under b.device (after_last synced (left_by a.station (state_of a.device) h)) disk (at_end (state_of a.device) (first_state a.device finds)) kept;
     }
 
 -- the slot that stands at a place
@@ -137,19 +154,19 @@ finds_first : (s x : Slot) → AlwaysFinds s.device.keep s.device.lists → (let
 finds_first s x finds e = let same : s ≡ x = cc in subst (λ (y : Slot). AlwaysFinds y.device.keep y.device.lists) same finds
 
 -- every crash finds the lists of a slot over a keep that was mounted
-pub over_finds : {D : Type 0} (state : D → DiskState) (name : ℕ → ℕ → Station) (minor : ℕ) (disks disks' : List (Option D)) (first last : List Slot) → OverFiles state name minor disks disks' first last → FindsAll first
-over_finds state name minor (Some f ∷ Some k ∷ disks) (Some f' ∷ Some k' ∷ disks') (a ∷ first) (b ∷ last) over zero s e = finds_first a s over.0.mounted.finds e
-over_finds state name minor (Some f ∷ Some k ∷ disks) (Some f' ∷ Some k' ∷ disks') (a ∷ first) (b ∷ last) over (suc i) s e = over_finds state name (minor + 1) disks disks' first last over.1 i s e
-over_finds state name minor (Some f ∷ Some k ∷ disks) (Some f' ∷ Some k' ∷ disks') (a ∷ first) [] over i s e = absurd over
-over_finds state name minor (Some f ∷ Some k ∷ disks) (Some f' ∷ Some k' ∷ disks') [] last over i s e = absurd over
-over_finds state name minor (Some f ∷ Some k ∷ disks) (Some f' ∷ None ∷ disks') first last over i s e = absurd over
-over_finds state name minor (Some f ∷ Some k ∷ disks) (Some f' ∷ []) first last over i s e = absurd over
-over_finds state name minor (Some f ∷ Some k ∷ disks) (None ∷ disks') first last over i s e = absurd over
-over_finds state name minor (Some f ∷ Some k ∷ disks) [] first last over i s e = absurd over
-over_finds state name minor (Some f ∷ None ∷ disks) disks' first last over i s e = absurd over
-over_finds state name minor (Some f ∷ []) disks' first last over i s e = absurd over
-over_finds state name minor (None ∷ disks) disks' first last over i s e = absurd over
-over_finds state name minor [] [] [] [] over i s e = absurd cc
-over_finds state name minor [] [] [] (b ∷ last) over i s e = absurd over
-over_finds state name minor [] [] (a ∷ first) last over i s e = absurd over
-over_finds state name minor [] (d ∷ disks') first last over i s e = absurd over
+pub over_finds : {D : Type 0} (state : D → DiskState) (most : ℕ) (name : ℕ → ℕ → Station) (minor : ℕ) (disks disks' : List (Option D)) (first last : List Slot) → OverFiles state most name minor disks disks' first last → FindsAll first
+over_finds state most name minor (Some f ∷ Some k ∷ disks) (Some f' ∷ Some k' ∷ disks') (a ∷ first) (b ∷ last) over zero s e = finds_first a s over.0.mounted.finds e
+over_finds state most name minor (Some f ∷ Some k ∷ disks) (Some f' ∷ Some k' ∷ disks') (a ∷ first) (b ∷ last) over (suc i) s e = over_finds state most name (minor + 1) disks disks' first last over.1 i s e
+over_finds state most name minor (Some f ∷ Some k ∷ disks) (Some f' ∷ Some k' ∷ disks') (a ∷ first) [] over i s e = absurd over
+over_finds state most name minor (Some f ∷ Some k ∷ disks) (Some f' ∷ Some k' ∷ disks') [] last over i s e = absurd over
+over_finds state most name minor (Some f ∷ Some k ∷ disks) (Some f' ∷ None ∷ disks') first last over i s e = absurd over
+over_finds state most name minor (Some f ∷ Some k ∷ disks) (Some f' ∷ []) first last over i s e = absurd over
+over_finds state most name minor (Some f ∷ Some k ∷ disks) (None ∷ disks') first last over i s e = absurd over
+over_finds state most name minor (Some f ∷ Some k ∷ disks) [] first last over i s e = absurd over
+over_finds state most name minor (Some f ∷ None ∷ disks) disks' first last over i s e = absurd over
+over_finds state most name minor (Some f ∷ []) disks' first last over i s e = absurd over
+over_finds state most name minor (None ∷ disks) disks' first last over i s e = absurd over
+over_finds state most name minor [] [] [] [] over i s e = absurd cc
+over_finds state most name minor [] [] [] (b ∷ last) over i s e = absurd over
+over_finds state most name minor [] [] (a ∷ first) last over i s e = absurd over
+over_finds state most name minor [] (d ∷ disks') first last over i s e = absurd over

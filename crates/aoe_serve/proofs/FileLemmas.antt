@@ -1,190 +1,248 @@
--- A file and its keep become a slot behind the others, and leave it.
+-- Files and their keeps become slots, and leave them.
 use Rattle.std.proofs.Common.{◌≡◌, ◌≤◌, ◌<◌, ◌+◌, ℕ, zero, suc, List, [], ◌∷◌, ◌++◌, length, length-append, append-nil, append_assoc, ◌/◌, ◌*◌, Option, Some, None, Bool, false, refl, sym, ap, subst, ◌∙◌, arith}
 use Rattle.std.proofs.lemmas.Bool.{ne_eqb}
-use Rattle.std.proofs.lemmas.List.Folds.{list_any-append}
 use Rattle.std.specs.Prelude.{◌==◌, ◌||◌, All, IsSome}
+use Rattle.aoe_base.specs.declared.address.Mac.{Mac}
+use Rattle.aoe_cache.specs.Any.{any_disk, any_state}
+use Rattle.aoe_cache.specs.declared.any.AnyStore.{AnyStore}
 use Rattle.aoe_disk.specs.State.{DiskState}
 use Rattle.aoe_keep.specs.Keep.{IsRefused}
 use Rattle.aoe_keep.specs.declared.refusal.MountRefusal.{MountRefusal}
+use Rattle.aoe_serve.specs.Backing.{over}
 use Rattle.aoe_serve.specs.Slots.{slot_of, slots_of}
 use Rattle.aoe_shelf.specs.Shelf.{has_minor, refusal_of}
 use Rattle.aoe_target.specs.Mounted.{Mounted}
 use Rattle.aoe_target.specs.declared.station.Station.{Station}
-use Rattle.aoe_serve.specs.Exporting.{HasRun, IsExported, HasRunAndSynced, Outside, Tells}
-use Rattle.aoe_serve.specs.Files.{AreBack, AreSeated, GivesBack, HasMounted, IsSeated, Leaves, OverFiles}
+use Rattle.aoe_serve.specs.Exporting.{AtFirst, HasRun, IsExported, HasRunAndSynced, Outside, Tells}
+use Rattle.aoe_serve.specs.Files.{AreBack, AreGivenBack, AreSeated, GivesBack, HasMounted, IsLeft, IsSeated, IsSeatedOn, Leaves, OverFiles, named}
+use Rattle.aoe_serve.proofs.BackingLemmas.{over-disk, over-sectors, over-state}
 use Rattle.aoe_serve.proofs.EndLemmas.{over_finds, run_ends, served_in}
 use Rattle.std.proofs.lemmas.List.{length-map}
 use Rattle.aoe_serve.specs.declared.plan.RunEnd.{RunEnd}
+use Rattle.aoe_serve.specs.declared.plan.ExportRefusal.{ExportRefusal}
+use Rattle.aoe_serve.specs.declared.plan.ExportRefusal.TheVariants as why
 use Rattle.aoe_serve.specs.declared.plan.Exported.{Exported}
 use Rattle.aoe_serve.specs.declared.plan.Plan.{Plan}
 
--- Lists with one more at the end.
+-- a slot's disks at the end of a list
+abbrev ends_with : {D : Type 0} → List (Option D) → D → D → List (Option D)
+ends_with disks file keep = disks ++ Some file ∷ Some keep ∷ []
 
-pub same-front : {X : Type 0} (xs ys : List X) (x y : X) → xs ++ x ∷ [] ≡ ys ++ y ∷ [] → xs ≡ ys
-same-front [] [] x y e = refl
-same-front [] (z ∷ ys) x y e = absurd (omega (arith, ap length e, length-append ys (y ∷ [])))
-same-front (z ∷ xs) [] x y e = absurd (omega (arith, ap length e, length-append xs (x ∷ [])))
-same-front (z ∷ xs) (w ∷ ys) x y e =
-    let heads : z ≡ w = cc in
-    let tails : xs ++ x ∷ [] ≡ ys ++ y ∷ [] = cc in
-    ap (λ (h : _). h ∷ xs) heads ∙ ap (λ (t : List _). w ∷ t) (same-front xs ys x y tails)
+-- One slot more.
 
-pub same-last : {X : Type 0} (xs ys : List X) (x y : X) → xs ++ x ∷ [] ≡ ys ++ y ∷ [] → x ≡ y
-same-last [] [] x y e = cc
-same-last [] (z ∷ ys) x y e = absurd (omega (arith, ap length e, length-append ys (y ∷ [])))
-same-last (z ∷ xs) [] x y e = absurd (omega (arith, ap length e, length-append xs (x ∷ [])))
-same-last (z ∷ xs) (w ∷ ys) x y e =
-    let tails : xs ++ x ∷ [] ≡ ys ++ y ∷ [] = cc in
-    same-last xs ys x y tails
+module _ {D : Type 0} (state : D → DiskState) (most : ℕ) where
+  seated-more : (name : ℕ → ℕ → Station) (minor : ℕ) (disks : List (Option D)) (targets : List (Mounted (AnyStore D) D)) (file keep : D) (t : Mounted (AnyStore D) D) → AreSeated state most name minor disks targets
+      → IsSeatedOn state (name (minor + length targets)) (over most file) keep t → AreSeated state most name minor (ends_with disks file keep) (targets ++ t ∷ [])
+  seated-more name minor disks [] file keep t none on = (
+    file,
+    keep,
+    [],
+    ap (λ (xs : List (Option D)). ends_with xs file keep) none,
+    subst (λ (n : ℕ). IsSeatedOn state (name n) (over most file) keep t) (let same : minor + 0 ≡ minor = omega arith in same) on,
+    refl,
+  )
+  seated-more name minor disks (u ∷ targets) file keep t (f, k, others, is, s, rest) on = (
+    f,
+    k,
+    ends_with others file keep,
+    ap (λ (xs : List (Option D)). ends_with xs file keep) is,
+    s,
+    seated-more name (minor + 1) others targets file keep t rest
+        (subst (λ (n : ℕ). IsSeatedOn state (name n) (over most file) keep t) (let same : minor + suc (length targets) ≡ minor + 1 + length targets = omega arith in same) on),
+  )
 
--- Minors.
+  back-more : (disks : List (Option D)) (targets : List (Mounted (AnyStore D) D)) (file keep : D) (t : Mounted (AnyStore D) D) → AreBack state most disks targets → IsLeft state most file keep t
+      → AreBack state most (ends_with disks file keep) (targets ++ t ∷ [])
+  back-more disks [] file keep t none left = (file, keep, [], ap (λ (xs : List (Option D)). ends_with xs file keep) none, left, refl)
+  back-more disks (u ∷ targets) file keep t (f, k, others, is, l, rest) left =
+      (f, k, ends_with others file keep, ap (λ (xs : List (Option D)). ends_with xs file keep) is, l, back-more others targets file keep t rest left)
 
--- a minor above all others is free
-pub free : {S D : Type 0} (targets : List (Mounted S D)) (minor pairs : ℕ) → length targets + pairs ≤ 16 → 0 < pairs → has_minor targets minor ≡ false → refusal_of targets minor ≡ None
-free targets minor pairs room some unused =
-    let few : (length targets == 16) ≡ false = ne_eqb (length targets) 16 (λ e. omega (arith, e, room, some)) in
-    rw few (rw unused refl)
+  -- the keep behind slots that were added and left again is refused
+  refused-last : (name : ℕ → ℕ → Station) (minor : ℕ) (disks disks' : List (Option D)) (targets : List (Mounted (AnyStore D) D)) (refusal : MountRefusal) (file file' keep keep' : D)
+      → AreSeated state most name minor disks targets → AreBack state most disks' targets → file' ≡ file → IsRefused state keep refusal keep'
+      → GivesBack state (length targets) refusal (ends_with disks file keep) (ends_with disks' file' keep')
+  refused-last name minor disks disks' [] refusal file file' keep keep' none none' same why =
+      let P : List (Option D) → Type 0 = λ xs. GivesBack state 0 refusal (ends_with xs file keep) (ends_with disks' file' keep') in
+      let Q : List (Option D) → Type 0 = λ ys. GivesBack state 0 refusal (ends_with [] file keep) (ends_with ys file' keep') in
+      subst P (sym none) (subst Q (sym none') (record { file_same = same; why = why }, refl))
+  refused-last name minor disks disks' (t ∷ targets) refusal file file' keep keep' (f, k, others, is, s, rest) (f', k', others', is', l, rest') same why =
+      let P : List (Option D) → Type 0 = λ xs. GivesBack state (suc (length targets)) refusal (ends_with xs file keep) (ends_with disks' file' keep') in
+      let Q : List (Option D) → Type 0 = λ ys. GivesBack state (suc (length targets)) refusal (ends_with (Some f ∷ Some k ∷ others) file keep) (ends_with ys file' keep') in
+      let M : D → Type 0 = λ d. HasMounted (state k) (state d) t.keep.lists in
+      subst P (sym is) (subst Q (sym is') (
+        record {
+          file_same = l.store ∙ ap (λ (x : AnyStore D). any_disk x) s.store_is ∙ over-disk most f;
+          lists = t.keep.lists;
+          mounted = subst M (sym l.disk) s.mounted;
+        },
+        refused-last name (minor + 1) others others' targets refusal file file' keep keep' rest rest' same why,
+      ))
 
-pub free-then : {S D : Type 0} (targets : List (Mounted S D)) (t : Mounted S D) (m : ℕ) → t.station.id.minor < m → has_minor targets m ≡ false → has_minor (targets ++ t ∷ []) m ≡ false
-free-then targets t m below unused =
-    let other : (t.station.id.minor == m) ≡ false = ne_eqb t.station.id.minor m (λ e. omega (arith, e, below)) in
-    list_any-append _ targets (t ∷ []) ∙ ap (λ (b : Bool). b || ((t.station.id.minor == m) || false)) unused ∙ ap (λ (b : Bool). b || false) other
+-- a keep in front of these disks was refused
+refused-front : {D : Type 0} (state : D → DiskState) (n : ℕ) (refusal : MountRefusal) (disks disks' behind : List (Option D)) → GivesBack state n refusal disks disks' → GivesBack state n refusal (disks ++ behind) (disks' ++ behind)
+refused-front state zero refusal (Some f ∷ Some k ∷ disks) (Some f' ∷ Some k' ∷ disks') behind back = (back.0, ap (λ (xs : List (Option _)). xs ++ behind) back.1)
+refused-front state (suc n) refusal (Some f ∷ Some k ∷ disks) (Some f' ∷ Some k' ∷ disks') behind back = (back.0, refused-front state n refusal disks disks' behind back.1)
+refused-front state zero refusal (Some f ∷ Some k ∷ disks) (Some f' ∷ None ∷ disks') behind back = absurd back
+refused-front state zero refusal (Some f ∷ Some k ∷ disks) (Some f' ∷ []) behind back = absurd back
+refused-front state zero refusal (Some f ∷ Some k ∷ disks) (None ∷ disks') behind back = absurd back
+refused-front state zero refusal (Some f ∷ Some k ∷ disks) [] behind back = absurd back
+refused-front state zero refusal (Some f ∷ None ∷ disks) disks' behind back = absurd back
+refused-front state zero refusal (Some f ∷ []) disks' behind back = absurd back
+refused-front state zero refusal (None ∷ disks) disks' behind back = absurd back
+refused-front state zero refusal [] disks' behind back = absurd back
+refused-front state (suc n) refusal (Some f ∷ Some k ∷ disks) (Some f' ∷ None ∷ disks') behind back = absurd back
+refused-front state (suc n) refusal (Some f ∷ Some k ∷ disks) (Some f' ∷ []) behind back = absurd back
+refused-front state (suc n) refusal (Some f ∷ Some k ∷ disks) (None ∷ disks') behind back = absurd back
+refused-front state (suc n) refusal (Some f ∷ Some k ∷ disks) [] behind back = absurd back
+refused-front state (suc n) refusal (Some f ∷ None ∷ disks) disks' behind back = absurd back
+refused-front state (suc n) refusal (Some f ∷ []) disks' behind back = absurd back
+refused-front state (suc n) refusal (None ∷ disks) disks' behind back = absurd back
+refused-front state (suc n) refusal [] disks' behind back = absurd back
 
--- A slot more.
+given-front : {D : Type 0} (state : D → DiskState) (e : ExportRefusal) (disks disks' behind : List (Option D)) → AreGivenBack state e disks disks' → AreGivenBack state e (disks ++ behind) (disks' ++ behind)
+given-front state why.NoMemory disks disks' behind back = ap (λ (xs : List (Option _)). xs ++ behind) back
+given-front state (why.Keep slot refusal) disks disks' behind back = refused-front state slot refusal disks disks' behind back
 
-module _ {D : Type 0} (state : D → DiskState) (file keep file' keep' : D) (disks disks' : List (Option D)) (old seated inner new : List (Mounted D D)) where
-  -- nothing was run: the slot leaves as it was
-  same-target : (name : ℕ → Station) (s : IsSeated state name file keep old seated) (l : Leaves file' keep' inner new) → inner ≡ seated → l.target ≡ s.target
-  same-target name s l same = same-last new old l.target s.target (sym l.last ∙ same ∙ s.added)
+-- The minor of the next slot.
 
-  pub stays-then : (name : ℕ → Station) → IsSeated state name file keep old seated → inner ≡ seated → Leaves file' keep' inner new → new ≡ old
-  stays-then name s same l = same-front new old l.target s.target (sym l.last ∙ same ∙ s.added)
+unused : {D : Type 0} (state : D → DiskState) (most major : ℕ) (ports : List Mac) (mtu minor m : ℕ) (disks : List (Option D)) (targets : List (Mounted (AnyStore D) D))
+    → AreSeated state most (named major ports mtu) minor disks targets → minor + length targets ≤ m → has_minor targets m ≡ false
+unused state most major ports mtu minor m disks [] seated above = refl
+unused state most major ports mtu minor m disks (t ∷ targets) (f, k, others, is, s, rest) above =
+    let at : t.station.id.minor ≡ minor = ap (λ (x : Station). x.id.minor) s.station in
+    let other : (t.station.id.minor == m) ≡ false = ne_eqb t.station.id.minor m (λ e. omega (arith, e, at, above)) in
+    rw other (unused state most major ports mtu (minor + 1) m others targets rest (omega (arith, above)))
 
-  pub refused-then : (name : ℕ → Station) (n : ℕ) (refusal : MountRefusal) → IsSeated state name file keep old seated → inner ≡ seated → Leaves file' keep' inner new
-      → GivesBack state n refusal disks disks' → GivesBack state (suc n) refusal (Some file ∷ Some keep ∷ disks) (Some file' ∷ Some keep' ∷ disks')
-  refused-then name n refusal s same l back =
-      let target = same-target name s l same in
-      let at : s.target.keep.disk ≡ keep' = sym (l.disk ∙ ap (λ (t : Mounted D D). t.keep.disk) target) in
-      let P : D → Type 0 = λ d. HasMounted (state keep) (state d) s.target.keep.lists in (
-        record { file_same = l.store ∙ ap (λ (t : Mounted D D). t.store) target ∙ s.seated.store; lists = s.target.keep.lists; mounted = subst P at s.seated.mounted },
-        back,
-      )
+pub free : {D : Type 0} (state : D → DiskState) (most major : ℕ) (ports : List Mac) (mtu minor slot : ℕ) (disks : List (Option D)) (targets : List (Mounted (AnyStore D) D))
+    → AreSeated state most (named major ports mtu) minor disks targets → length targets ≡ slot → slot < 16 → refusal_of targets (minor + slot) ≡ None
+free state most major ports mtu minor slot disks targets seated at room =
+    let few : (length targets == 16) ≡ false = ne_eqb (length targets) 16 (λ e. omega (arith, e, at, room)) in
+    let none : has_minor targets (minor + slot) ≡ false = unused state most major ports mtu minor (minor + slot) disks targets seated (omega (arith, at)) in
+    rw few (rw none refl)
 
--- The disks of a slot, and those behind it.
+-- The disks of the last slot, behind those of the others.
 
-module _ {D : Type 0} (all pair pair' others : List (Option D)) (file keep file' keep' : D)
-    (parts : all ≡ pair ++ others) (pair_is : pair ≡ Some file ∷ Some keep ∷ []) (back_is : pair' ≡ Some file' ∷ Some keep' ∷ []) where
-  -- all disks, before and after
-  joined : all ≡ Some file ∷ Some keep ∷ others
-  joined = parts ∙ ap (λ (xs : List (Option D)). xs ++ others) pair_is
+module _ {D : Type 0} (state : D → DiskState) (most : ℕ) (all others pair : List (Option D)) (file keep : D) (parts : all ≡ others ++ pair) (pair_is : pair ≡ Some file ∷ Some keep ∷ []) where
+  joined : all ≡ ends_with others file keep
+  joined = parts ∙ ap (λ (xs : List (Option D)). others ++ xs) pair_is
 
-  returned : (others' : List (Option D)) → pair' ++ others' ≡ Some file' ∷ Some keep' ∷ others'
-  returned others' = ap (λ (xs : List (Option D)). xs ++ others') back_is
+  -- the disk of a store that was over the file
+  unused-disk : (store : AnyStore D) (file' : D) → store ≡ over most file → file' ≡ any_disk store → file' ≡ file
+  unused-disk store file' is closed = closed ∙ ap (λ (x : AnyStore D). any_disk x) is ∙ over-disk most file
 
-  some-there : (others' : List (Option D)) → All IsSome others' → All IsSome (Some file' ∷ Some keep' ∷ others')
-  some-there others' there zero d below = refl
-  some-there others' there (suc zero) d below = refl
-  some-there others' there (suc (suc k)) d below = there k d (omega (arith, below))
+  -- the slot is added behind the others
+  pub seated-then : (name name' : ℕ → ℕ → Station) (minor slot : ℕ) (store : AnyStore D) (middle new : List (Mounted (AnyStore D) D)) → store ≡ over most file → length middle ≡ slot → name' ≡ name
+      → AreSeated state most name minor others middle → IsSeated state (name' (minor + slot)) store keep middle new → AreSeated state most name minor all new
+  seated-then name name' minor slot store middle new is at same seated s =
+      let P : List (Option D) → Type 0 = λ xs. AreSeated state most name minor xs new in
+      let Q : List (Mounted (AnyStore D) D) → Type 0 = λ ts. AreSeated state most name minor (ends_with others file keep) ts in
+      let on : IsSeatedOn state (name' (minor + slot)) (over most file) keep s.target = subst (λ (x : AnyStore D). IsSeatedOn state (name' (minor + slot)) x keep s.target) is s.seated in
+      let here : IsSeatedOn state (name' (minor + length middle)) (over most file) keep s.target = subst (λ (n : ℕ). IsSeatedOn state (name' (minor + n)) (over most file) keep s.target) (sym at) on in
+      let there : IsSeatedOn state (name (minor + length middle)) (over most file) keep s.target = subst (λ (n : ℕ → ℕ → Station). IsSeatedOn state (n (minor + length middle)) (over most file) keep s.target) same here in
+      subst P (sym joined) (subst Q (sym s.added) (seated-more state most name minor others middle file keep s.target seated there))
 
-  pub all-there : (others' : List (Option D)) → All IsSome others' → All IsSome (pair' ++ others')
-  all-there others' there = subst (λ (xs : List (Option D)). All IsSome xs) (sym (returned others')) (some-there others' there)
+  -- there is no memory for its store
+  pub no-memory : (pair' : List (Option D)) (file' : D) → file' ≡ file → pair' ≡ Some file' ∷ Some keep ∷ [] → others ++ pair' ≡ all
+  no-memory pair' file' same is = ap (λ (xs : List (Option D)). others ++ xs) is ∙ ap (λ (f : D). ends_with others f keep) same ∙ sym joined
 
-  pub others-there : All IsSome all → All IsSome others
-  others-there there k d below = subst (λ (xs : List (Option D)). All IsSome xs) joined there (suc (suc k)) d (omega (arith, below))
+  -- nothing is run for another cause
+  pub given-then : (e : ExportRefusal) (others' pair' : List (Option D)) (store : AnyStore D) (file' : D) → store ≡ over most file → file' ≡ any_disk store → pair' ≡ Some file' ∷ Some keep ∷ []
+      → AreGivenBack state e others others' → AreGivenBack state e all (others' ++ pair')
+  given-then e others' pair' store file' is closed pair_is' back =
+      let here : ends_with others' file keep ≡ others' ++ pair' = ap (λ (f : D). ends_with others' f keep) (sym (unused-disk store file' is closed)) ∙ ap (λ (xs : List (Option D)). others' ++ xs) (sym pair_is') in
+      let P : List (Option D) → Type 0 = λ xs. AreGivenBack state e xs (others' ++ pair') in
+      let Q : List (Option D) → Type 0 = λ ys. AreGivenBack state e (ends_with others file keep) ys in
+      subst P (sym joined) (subst Q here (given-front state e others others' (Some file ∷ Some keep ∷ []) back))
 
-  -- the keep of the first slot is refused
-  pub refused-here : (state : D → DiskState) (refusal : MountRefusal) → file' ≡ file → IsRefused state keep refusal keep' → GivesBack state 0 refusal all (pair' ++ others)
-  refused-here state refusal same why =
-      let P : List (Option D) → Type 0 = λ xs. GivesBack state 0 refusal xs (pair' ++ others) in
-      let Q : List (Option D) → Type 0 = λ ys. GivesBack state 0 refusal (Some file ∷ Some keep ∷ others) ys in
-      subst P (sym joined) (subst Q (sym (returned others)) (record { file_same = same; why = why }, refl))
+  -- its keep is refused
+  pub refused-then : (name : ℕ → ℕ → Station) (minor slot : ℕ) (refusal : MountRefusal) (others' pair' : List (Option D)) (targets : List (Mounted (AnyStore D) D)) (store store' : AnyStore D) (file' keep' : D)
+      → AreSeated state most name minor others targets → AreBack state most others' targets → length targets ≡ slot → store ≡ over most file → store' ≡ store → file' ≡ any_disk store' → pair' ≡ Some file' ∷ Some keep' ∷ []
+      → IsRefused state keep refusal keep' → GivesBack state slot refusal all (others' ++ pair')
+  refused-then name minor slot refusal others' pair' targets store store' file' keep' seated back at is same closed pair_is' why =
+      let R : ℕ → Type 0 = λ n. GivesBack state n refusal all (others' ++ pair') in
+      let P : List (Option D) → Type 0 = λ xs. GivesBack state (length targets) refusal xs (others' ++ pair') in
+      let Q : List (Option D) → Type 0 = λ ys. GivesBack state (length targets) refusal (ends_with others file keep) (others' ++ ys) in
+      let file_same : file' ≡ file = unused-disk store' file' (same ∙ is) closed in
+      subst R at (subst P (sym joined) (subst Q (sym pair_is') (refused-last state most name minor others others' targets refusal file file' keep keep' seated back file_same why)))
 
-  module _ (state : D → DiskState) (others' : List (Option D)) (old seated : List (Mounted D D)) where
-    -- the keep of a slot behind the first is refused
-    pub refused-behind : (inner new : List (Mounted D D)) (name : ℕ → Station) (e : ℕ × MountRefusal) → IsSeated state name file keep old seated → inner ≡ seated → Leaves file' keep' inner new
-        → ((n : ℕ) × (e.0 ≡ length seated + n) × GivesBack state n e.1 others others') → (n : ℕ) × (e.0 ≡ length old + n) × GivesBack state n e.1 all (pair' ++ others')
-    refused-behind inner new name e s same l x =
-        let P : List (Option D) → Type 0 = λ xs. GivesBack state (suc x.0) e.1 xs (pair' ++ others') in
-        let Q : List (Option D) → Type 0 = λ ys. GivesBack state (suc x.0) e.1 (Some file ∷ Some keep ∷ others) ys in (
-          suc x.0,
-          omega (arith, x.1, ap length s.added, length-append old (s.target ∷ [])),
-          subst P (sym joined) (subst Q (sym (returned others')) (refused-then state file keep file' keep' others others' old seated inner new name x.0 e.1 s same l x.2)),
-        )
+pub back-then : {D : Type 0} (state : D → DiskState) (most : ℕ) (others' pair' : List (Option D)) (file' keep' : D) (old new : List (Mounted (AnyStore D) D)) → pair' ≡ Some file' ∷ Some keep' ∷ []
+    → Leaves state most file' keep' old new → AreBack state most others' new → AreBack state most (others' ++ pair') old
+back-then {D} state most others' pair' file' keep' old new is l back =
+    let P : List (Option D) → Type 0 = λ xs. AreBack state most (others' ++ xs) old in
+    let Q : List (Mounted (AnyStore D) D) → Type 0 = λ ts. AreBack state most (ends_with others' file' keep') ts in
+    subst P (sym is) (subst Q (sym l.last) (back-more state most others' new file' keep' l.target back l.left))
 
-    -- the slots behind the first are added
-    pub seated-then : (new added : List (Mounted D D)) (name name' : ℕ → ℕ → Station) (minor : ℕ) → name' ≡ name → IsSeated state (name minor) file keep old seated → new ≡ seated ++ added
-        → AreSeated state name' (minor + 1) others added → (all-added : List (Mounted D D)) × (new ≡ old ++ all-added) × AreSeated state name minor all all-added
-    seated-then new added name name' minor same s is rest = (
-      s.target ∷ added,
-      is ∙ ap (λ (l : List (Mounted D D)). l ++ added) s.added ∙ append_assoc old (s.target ∷ []) added,
-      (file, keep, others, joined, s.seated, subst (λ (n : ℕ → ℕ → Station). AreSeated state n (minor + 1) others added) same rest),
-    )
+pub none-seated : {D : Type 0} (state : D → DiskState) (most : ℕ) (name : ℕ → ℕ → Station) (minor : ℕ) (disks : List (Option D)) (targets : List (Mounted (AnyStore D) D)) → length disks ≡ 0 → targets ≡ []
+    → AreSeated state most name minor disks targets
+none-seated state most name minor [] [] none_there empty = refl
+none-seated state most name minor (d ∷ disks) targets none_there empty = absurd (omega (arith, none_there))
+none-seated state most name minor disks (t ∷ targets) none_there empty = absurd (omega (arith, ap length empty))
 
-    -- the slots behind the first left, and then the first
-    pub back-then : (new left : List (Mounted D D)) (l : Leaves file' keep' seated new) → old ≡ seated ++ left → AreBack others' left
-        → (all-left : List (Mounted D D)) × (old ≡ new ++ all-left) × AreBack (pair' ++ others') all-left
-    back-then new left l is back = (
-      l.target ∷ left,
-      is ∙ ap (λ (t : List (Mounted D D)). t ++ left) l.last ∙ append_assoc new (l.target ∷ []) left,
-      (others', returned others' ∙ ap (λ (d : D). Some d ∷ Some keep' ∷ others') l.store ∙ ap (λ (d : D). Some l.target.store ∷ Some d ∷ others') l.disk, back),
-    )
+pub none-back : {D : Type 0} (state : D → DiskState) (most : ℕ) (disks : List (Option D)) (targets : List (Mounted (AnyStore D) D)) → length disks ≡ 0 → length targets ≡ 0 → AreBack state most disks targets
+none-back state most [] [] none_there empty = refl
+none-back state most (d ∷ disks) targets none_there empty = absurd (omega (arith, none_there))
+none-back state most disks (t ∷ targets) none_there empty = absurd (omega (arith, empty))
 
-pub none-seated : {D : Type 0} (state : D → DiskState) (name : ℕ → ℕ → Station) (minor : ℕ) (disks : List (Option D)) (old : List (Mounted D D)) → length disks ≡ 0
-    → (added : List (Mounted D D)) × (old ≡ old ++ added) × AreSeated state name minor disks added
-none-seated state name minor [] old none_there = ([], sym (append-nil old), refl)
-none-seated state name minor (d ∷ disks) old none_there = absurd (omega (arith, none_there))
+pub all-there : {D : Type 0} (others' pair' : List (Option D)) (file' keep' : D) → pair' ≡ Some file' ∷ Some keep' ∷ [] → All IsSome others' → All IsSome (others' ++ pair')
+all-there others' pair' file' keep' is there = subst (λ (xs : List (Option _)). All IsSome (others' ++ xs)) (sym is) (behind others' there)
+  where
+    behind : (xs : List (Option _)) → All IsSome xs → All IsSome (ends_with xs file' keep')
+    behind [] there zero d below = refl
+    behind [] there (suc zero) d below = refl
+    behind [] there (suc (suc k)) d below = absurd (omega (arith, below))
+    behind (x ∷ xs) there zero d below = there zero d (omega arith)
+    behind (x ∷ xs) there (suc k) d below = behind xs (λ j e less. there (suc j) e (omega (arith, less))) k d (omega (arith, below))
 
-pub none-back : {D : Type 0} (disks : List (Option D)) (old : List (Mounted D D)) → length disks ≡ 0 → (left : List (Mounted D D)) × (old ≡ old ++ left) × AreBack disks left
-none-back [] old none_there = ([], sym (append-nil old), refl)
-none-back (d ∷ disks) old none_there = absurd (omega (arith, none_there))
+-- R of the first before and after, where nothing changed
+pub same-first : {X : Type 0} (R : X → X → Type 0) → ((x : X) → R x x) → (xs : List X) → AtFirst R xs xs
+same-first R same [] = tt
+same-first R same (x ∷ xs) = (same x, refl)
 
 -- From the mounting to the giving back.
 
-over-files : {D : Type 0} (state : D → DiskState) (name : ℕ → ℕ → Station) (minor : ℕ) (disks disks' : List (Option D)) (first last : List (Mounted D D)) → length last ≡ length first
-    → AreSeated state name minor disks first → AreBack disks' last → OverFiles state name minor disks disks' (slots_of state state first) (slots_of state state last)
-over-files {D} state name minor disks disks' [] [] count seated back =
-    let P : List (Option D) → Type 0 = λ xs. OverFiles state name minor xs disks' [] [] in
-    let Q : List (Option D) → Type 0 = λ xs. OverFiles state name minor [] xs [] [] in
+over-files : {D : Type 0} (state : D → DiskState) (most : ℕ) (name : ℕ → ℕ → Station) (minor : ℕ) (disks disks' : List (Option D)) (first last : List (Mounted (AnyStore D) D)) → length last ≡ length first
+    → AreSeated state most name minor disks first → AreBack state most disks' last → OverFiles state most name minor disks disks' (slots_of (any_state state) state first) (slots_of (any_state state) state last)
+over-files {D} state most name minor disks disks' [] [] count seated back =
+    let P : List (Option D) → Type 0 = λ xs. OverFiles state most name minor xs disks' [] [] in
+    let Q : List (Option D) → Type 0 = λ xs. OverFiles state most name minor [] xs [] [] in
     subst P (sym seated) (subst Q (sym back) tt)
-over-files state name minor disks disks' [] (b ∷ last) count seated back = absurd (omega (arith, count))
-over-files state name minor disks disks' (a ∷ first) [] count seated back = absurd (omega (arith, count))
-over-files {D} state name minor disks disks' (a ∷ first) (b ∷ last) count (file, keep, others, is, s, seated) (others', is', back) =
-    let P : List (Option D) → Type 0 = λ xs. OverFiles state name minor xs disks' (slots_of state state (a ∷ first)) (slots_of state state (b ∷ last)) in
-    let Q : List (Option D) → Type 0 = λ xs. OverFiles state name minor (Some file ∷ Some keep ∷ others) xs (slots_of state state (a ∷ first)) (slots_of state state (b ∷ last)) in
+over-files state most name minor disks disks' [] (b ∷ last) count seated back = absurd (omega (arith, count))
+over-files state most name minor disks disks' (a ∷ first) [] count seated back = absurd (omega (arith, count))
+over-files {D} state most name minor disks disks' (a ∷ first) (b ∷ last) count (file, keep, others, is, s, seated) (file', keep', others', is', l, back) =
+    let P : List (Option D) → Type 0 = λ xs. OverFiles state most name minor xs disks' (slots_of (any_state state) state (a ∷ first)) (slots_of (any_state state) state (b ∷ last)) in
+    let Q : List (Option D) → Type 0 = λ xs. OverFiles state most name minor (Some file ∷ Some keep ∷ others) xs (slots_of (any_state state) state (a ∷ first)) (slots_of (any_state state) state (b ∷ last)) in
     subst P (sym is) (subst Q (sym is') (
-      record { station = s.station; store = ap state s.store; mounted = s.mounted; file_back = refl; keep_back = refl },
-      over-files state name (minor + 1) others others' first last (omega (arith, count)) seated back,
+      record {
+        station = s.station ∙ ap (name minor) (over-sectors state most file);
+        store = ap (any_state state) s.store_is ∙ over-state state most file;
+        mounted = s.mounted;
+        file_back = l.under;
+        keep_back = ap state l.disk;
+      },
+      over-files state most name (minor + 1) others others' first last (omega (arith, count)) seated back,
     ))
 
-seated-count : {D : Type 0} (state : D → DiskState) (name : ℕ → ℕ → Station) (minor : ℕ) (disks : List (Option D)) (added : List (Mounted D D)) → AreSeated state name minor disks added
-    → length disks ≡ 2 * length added
-seated-count state name minor disks [] is = ap length is
-seated-count state name minor disks (t ∷ added) (file, keep, others, is, s, seated) = omega (arith, ap length is, seated-count state name (minor + 1) others added seated)
-
 -- a run adds no slot and takes none
-pub run-count : {D S K L : Type 0} (t : Tells S K L) (p : Plan) (e : RunEnd) (a b : Outside S K L) (state : D → DiskState) (old new : List (Mounted D D))
-    → HasRun t p e a b (slots_of state state old) (slots_of state state new) → length new ≡ length old
+pub run-count : {D S K L : Type 0} (t : Tells S K L) (p : Plan) (e : RunEnd) (a b : Outside S K L) (state : D → DiskState) (old new : List (Mounted (AnyStore D) D))
+    → HasRun t p e a b (slots_of (any_state state) state old) (slots_of (any_state state) state new) → length new ≡ length old
 run-count t p e a b state old new ran =
-    sym (length-map new (slot_of state state)) ∙ (served_in t p e a b (slots_of state state old) (slots_of state state new) ran).slots.count ∙ length-map old (slot_of state state)
+    let f = slot_of (any_state state) state in
+    sym (length-map new f) ∙ (served_in t p e a b (slots_of (any_state state) state old) (slots_of (any_state state) state new) ran).slots.count ∙ length-map old f
 
--- an empty shelf was given these slots, ran, and gave them back
-pub exported : {D S K L : Type 0} (state : D → DiskState) (name name' : ℕ → ℕ → Station) (minor : ℕ) (t : Tells S K L) (p : Plan) (e : Exported) (a b : Outside S K L)
-    (disks disks' : List (Option D)) (none first last left : List (Mounted D D)) → name' ≡ name → none ≡ [] → length last ≡ length first → length last ≡ length left + length disks / 2
-    → ((added : List (Mounted D D)) × (first ≡ none ++ added) × AreSeated state name' minor disks added) → ((back : List (Mounted D D)) × (last ≡ left ++ back) × AreBack disks' back)
-    → HasRunAndSynced t p e a b (slots_of state state first) (slots_of state state last) → IsExported state name minor t p e a b disks disks'
-exported state name name' minor t p e a b disks disks' (u ∷ none) first last left same empty count rest seated back run = absurd (omega (arith, ap length empty))
-exported state name name' minor t p e a b disks disks' [] first last (u ∷ left) same empty count rest (added, first_is, seated) (back, last_is, returned) run =
-    absurd (omega (arith, rest, count, ap length first_is, seated-count state name' minor disks added seated))
-exported {D} state name name' minor t p e a b disks disks' [] first last [] same empty count rest (added, first_is, seated) (back, last_is, returned) run =
-    let P : List (Mounted D D) → Type 0 = λ xs. OverFiles state name' minor disks disks' (slots_of state state xs) (slots_of state state last) in
-    let Q : List (Mounted D D) → Type 0 = λ ys. OverFiles state name' minor disks disks' (slots_of state state added) (slots_of state state ys) in
-    let over : OverFiles state name' minor disks disks' (slots_of state state first) (slots_of state state last) =
-    subst P (sym first_is) (subst Q (sym last_is) (over-files state name' minor disks disks' added back (omega (arith, count, ap length first_is, ap length last_is)) seated returned)) in
-    subst (λ (n : ℕ → ℕ → Station). IsExported state n minor t p e a b disks disks') same (record {
-      first = slots_of state state first;
-      last = slots_of state state last;
+-- a shelf was given these slots, ran, and gave them back
+pub exported : {D S K L : Type 0} (state : D → DiskState) (most most' : ℕ) (name name' : ℕ → ℕ → Station) (minor : ℕ) (t : Tells S K L) (p : Plan) (e : Exported) (a b : Outside S K L)
+    (disks disks' : List (Option D)) (first last : List (Mounted (AnyStore D) D)) → most' ≡ most → name' ≡ name → length last ≡ length first
+    → AreSeated state most' name' minor disks first → AreBack state most' disks' last
+    → HasRunAndSynced t p e a b (slots_of (any_state state) state first) (slots_of (any_state state) state last) → IsExported state most name minor t p e a b disks disks'
+exported {D} state most most' name name' minor t p e a b disks disks' first last room same count seated back run =
+    let over = over-files state most' name' minor disks disks' first last count seated back in
+    let first_slots = slots_of (any_state state) state first in
+    let last_slots = slots_of (any_state state) state last in
+    subst (λ (m : ℕ). IsExported state m name minor t p e a b disks disks') room (subst (λ (n : ℕ → ℕ → Station). IsExported state most' n minor t p e a b disks disks') same (record {
+      first = first_slots;
+      last = last_slots;
       over = over;
       run = run;
-      ends = run_ends t p e.end a b (slots_of state state first) run.middle (slots_of state state last) run.results run.ran
-          (over_finds state name' minor disks disks' (slots_of state state first) (slots_of state state last) over) run.synced;
-    })
+      ends = run_ends t p e.end a b first_slots run.middle last_slots run.results run.ran
+          (over_finds state most' name' minor disks disks' first_slots last_slots over) run.synced;
+    }))

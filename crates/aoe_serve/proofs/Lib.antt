@@ -4,5 +4,6 @@ mod TurnLemmas
 mod LinkLemmas
 mod ShelfLinkLemmas
 mod SyncLemmas
+pub mod BackingLemmas
 pub mod EndLemmas
 mod FileLemmas

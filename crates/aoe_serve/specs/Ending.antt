@@ -2,7 +2,8 @@
 use Rattle.std.specs.Prelude.{ℕ, ◌≡◌, false, List, IfSome, Result, Ok, Err}
 use Rattle.std.specs.Option.{option_map}
 use Rattle.aoe_base.specs.declared.failure.Failed.{Failed}
-use Rattle.aoe_disk.specs.State.{Contents, CanLeave, sector}
+use Rattle.aoe_cache.specs.Free.{KeepsSettled}
+use Rattle.aoe_disk.specs.State.{BothTell, Contents, DiskState, CanLeave, sector}
 use Rattle.aoe_keep.specs.Found.{Finds}
 use Rattle.aoe_serve.specs.Slots.{Slot}
 use Rattle.aoe_target.specs.Device.{Device, State, Holds, MayStand, state_of}
@@ -23,7 +24,10 @@ pub record Outlives (d : Device) (k : State) : Type 0 where
   pub file : IfSome d.store.contents (λ c. IfSome k.sectors (λ sectors. LeavesKnown sectors c))
   pub keep : IfSome d.keep.contents (Finds (MayStand k))
 
--- these frames came to a slot, and then its store was synced: its disks hold what is known after them, and outlive a loss of power
+-- these frames came to a slot, and then its store was synced: it holds what is known after them, and outlives a loss of power, as it does
+-- with a disk in the store's place that has what isn't loose in the store
 pub record EndsAfter (h : List Met) (synced : Result (Unit {0}) Failed) (a b : Slot) : Type 0 where
   pub holds : (k : State) → Holds a.device k → Holds b.device (after_last synced (left_by a.station k h))
   pub outlives : Outlives b.device (after_last synced (left_by a.station (state_of a.device) h))
+  pub disk_outlives : (disk : DiskState) → BothTell KeepsSettled b.device.store.contents disk.contents
+      → Outlives (record b.device { store = disk }) (after_last synced (left_by a.station (state_of a.device) h))

@@ -102,12 +102,13 @@ pub record HasRunAndSynced {S K L : Type 0} (t : Tells S K L) (p : Plan) (e : Ex
   pub synced : SyncsEach results middle new
   pub unsynced : e.unsynced ≡ first_failed results
 
--- A run over files and their keeps: each pair was a slot, the plan was run over the slots, and then each was synced. At the end the disks
--- of each slot hold what is known after the frames that came to it and the sync, and outlive a loss of power.
-pub record IsExported {D S K L : Type 0} (state : D → DiskState) (name : ℕ → ℕ → Station) (minor : ℕ) (t : Tells S K L) (p : Plan) (e : Exported)
+-- A run over files and their keeps: each pair was a slot, whose store holds back up to so many sectors, the plan was run over the slots, and
+-- then each was synced. At the end each slot holds what is known after the frames that came to it and the sync, and its disks outlive a
+-- loss of power.
+pub record IsExported {D S K L : Type 0} (state : D → DiskState) (most : ℕ) (name : ℕ → ℕ → Station) (minor : ℕ) (t : Tells S K L) (p : Plan) (e : Exported)
     (a b : Outside S K L) (disks disks' : List (Option D)) : Type 0 where
   pub first : List Slot
   pub last : List Slot
-  pub over : OverFiles state name minor disks disks' first last
+  pub over : OverFiles state most name minor disks disks' first last
   pub run : HasRunAndSynced t p e a b first last
   pub ends : EachSlot (λ i x y. EndsAfter (at_slot i (arrivals_in t p e.end a b first run.middle run.ran)) (get_or run.results i (Ok tt)) x y) first last

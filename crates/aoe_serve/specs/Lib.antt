@@ -5,6 +5,7 @@ pub mod Serving
 pub mod ShelfLink
 pub mod Rounds
 pub mod OutletLaws
+pub mod Backing
 pub mod Files
 pub mod Ending
 pub mod Exporting

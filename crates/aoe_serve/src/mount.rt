@@ -1,14 +1,15 @@
 //! Files and their keeps become the slots of a shelf, and leave it again.
-ghost use Rattle.std.specs.Prelude.{◌≡◌, ◌<◌, ◌≤◌, ◌+◌, ◌/◌, ◌%◌, ◌++◌, [], ◌∷◌, ℕ, List, All, IsSome, None, Some, false, length, IfErr, OnErr, OnOk};
+ghost use Rattle.std.specs.Prelude.{◌≡◌, ◌<◌, ◌≤◌, ◌+◌, ◌*◌, ◌/◌, ◌%◌, ◌++◌, [], ◌∷◌, ℕ, List, All, IsSome, None, Some, length, IfErr, OnErr, OnOk};
 ghost use Rattle.aoe_keep.specs.Keep.{IsRefused};
-ghost use Rattle.aoe_serve.specs.Files.{AreBack, AreSeated, GivesBack, IsSeated, Leaves, named};
-ghost use Rattle.aoe_shelf.specs.Shelf.{has_minor, refusal_of};
-ghost use Rattle.aoe_target.specs.Mounted.{Mounted};
+ghost use Rattle.aoe_serve.specs.Files.{AreBack, AreGivenBack, AreSeated, IsSeated, Leaves, named};
+ghost use Rattle.aoe_shelf.specs.Shelf.{refusal_of};
 
+use crate::ExportRefusal;
+use crate::backing::{Backing, Most};
 use aoe_disk::Disk;
 use aoe_keep::{Keep, MountRefusal};
 use aoe_shelf::Shelf;
-use aoe_store::Direct;
+use std::alloc::Global;
 
 /// Takes the file and the keep of a slot out of the disks.
 fn take_pair<D: Disk + Drop>(pair: &mut [Option<D>]) -> (D, D)
@@ -31,36 +32,36 @@ fn put_pair<D: Disk + Drop>(pair: &mut [Option<D>], file: D, keep: D)
     pair[1] = Some(keep);
 }
 
-/// Mounts the keep, and adds a target over the file and it. Where the keep is refused both are given
+/// Mounts the keep, and adds a target over the store and it. Where the keep is refused both are given
 /// back.
-fn seat<D: Disk + Drop>(
-    shelf: &mut Shelf<Direct<D>, D>,
+fn seat<D: Disk + Drop, M: Most>(
+    shelf: &mut Shelf<Backing<D, M>, D>,
     minor: u8,
-    file: D,
+    store: Backing<D, M>,
     keep: D,
-) -> Result<(), (MountRefusal, D, D)>
+) -> Result<(), (MountRefusal, Backing<D, M>, D)>
     requires minor { minor < 255 }
     requires free { refusal_of shelf.old.targets minor ≡ None }
-    ensures seated { OnOk result (IsSeated D.state (named shelf.old.major shelf.old.ports shelf.old.mtu minor) file keep shelf.old.targets shelf.new.targets) }
+    ensures seated { OnOk result (IsSeated D.state (named shelf.old.major shelf.old.ports shelf.old.mtu minor) store keep shelf.old.targets shelf.new.targets) }
     ensures refused { IfErr result (λ e. IsRefused D.state keep e.0 e.2) }
-    ensures file { IfErr result (λ e. e.1 ≡ file) }
+    ensures store { IfErr result (λ e. e.1 ≡ store) }
     ensures same { OnErr result (shelf.new ≡ shelf.old) }
     ensures rest { shelf.new ≡ record shelf.old { targets = shelf.new.targets } }
 {
     let keep = match Keep::mount(keep) {
         Ok(keep) => keep,
-        Err((refusal, keep)) => return Err((refusal, file, keep)),
+        Err((refusal, keep)) => return Err((refusal, store, keep)),
     };
-    match shelf.add(minor, Direct::new(file), keep) {
+    match shelf.add(minor, store, keep) {
         Ok(()) => Ok(()),
         Err(_) => unreachable!(),
     }
 }
 
 /// Takes the slot that was added last, and gives its file and its keep.
-fn leave<D: Disk + Drop>(shelf: &mut Shelf<Direct<D>, D>) -> (D, D)
+fn leave<D: Disk + Drop, M: Most>(shelf: &mut Shelf<Backing<D, M>, D>) -> (D, D)
     requires { 0 < length shelf.old.targets }
-    ensures leaves { Leaves result.0 result.1 shelf.old.targets shelf.new.targets }
+    ensures leaves { Leaves D.state M.most result.0 result.1 shelf.old.targets shelf.new.targets }
     ensures rest { shelf.new ≡ record shelf.old { targets = shelf.new.targets } }
 {
     let Some((store, keep)) = shelf.take_last() else {
@@ -69,63 +70,77 @@ fn leave<D: Disk + Drop>(shelf: &mut Shelf<Direct<D>, D>) -> (D, D)
     (store.close(), keep.close())
 }
 
-/// Adds a slot for each pair of the disks, a file and its keep, which is mounted. Where a keep is
-/// refused, gives its slot, and the slots that were added leave again.
-pub(crate) fn mount<D: Disk + Drop>(
-    shelf: &mut Shelf<Direct<D>, D>,
+/// Adds a slot for each pair of the disks, a file and its keep, which is mounted. The memory of all
+/// stores is taken from the last to the first, and then the keeps are mounted from the first to the
+/// last. Where there is no memory, or a keep is refused, the slots that were added leave again.
+pub(crate) fn mount<D: Disk + Drop, M: Most>(
+    alloc: Global,
+    shelf: &mut Shelf<Backing<D, M>, D>,
     minor: u8,
+    most: u32,
     disks: &mut [Option<D>],
-) -> Result<(), (u32, MountRefusal)>
+) -> Result<(), ExportRefusal>
+    requires most { most ≡ M.most }
+    requires limit { most ≤ 65536 }
     requires pairs { length disks.old % 2 ≡ 0 }
     requires there { All IsSome disks.old }
-    requires room { length shelf.old.targets + length disks.old / 2 ≤ 16 }
+    requires empty { shelf.old.targets ≡ [] }
+    requires room { length disks.old ≤ 32 }
     requires minors { minor + length disks.old / 2 ≤ 255 }
-    requires free { (m : ℕ) → minor ≤ m → has_minor shelf.old.targets m ≡ false }
-    ensures seated { OnOk result ((added : List (Mounted D D)) × (shelf.new.targets ≡ shelf.old.targets ++ added)
-        × AreSeated D.state (named shelf.old.major shelf.old.ports shelf.old.mtu) minor disks.old added) }
-    ensures refused { IfErr result (λ e. (n : ℕ) × (e.0 ≡ length shelf.old.targets + n) × GivesBack D.state n e.1 disks.old disks.new) }
-    ensures same { OnErr result (shelf.new.targets ≡ shelf.old.targets) }
+    ensures seated { OnOk result (AreSeated D.state M.most (named shelf.old.major shelf.old.ports shelf.old.mtu) minor disks.old shelf.new.targets) }
+    ensures refused { IfErr result (λ e. AreGivenBack D.state e disks.old disks.new) }
+    ensures same { OnErr result (shelf.new.targets ≡ []) }
     ensures there { OnErr result (All IsSome disks.new) }
-    ensures count { OnOk result (length shelf.new.targets ≡ length shelf.old.targets + length disks.old / 2) }
+    ensures count { OnOk result (length disks.old ≡ 2 * length shelf.new.targets) }
     ensures rest { shelf.new ≡ record shelf.old { targets = shelf.new.targets } }
 {
-    if disks.is_empty() {
+    let Some(last) = disks.len().checked_sub(2) else {
         return Ok(());
-    }
-    let slot = shelf.count() as u32;
-    let (pair, others) = disks.split_at_mut(2);
+    };
+    let (others, pair) = disks.split_at_mut(last);
     let (file, keep) = take_pair(pair);
-    match seat(shelf, minor, file, keep) {
-        Ok(()) => {}
-        Err((refusal, file, keep)) => {
+    let store = match Backing::<D, M>::new(alloc, file, most) {
+        Ok(store) => store,
+        Err(file) => {
             put_pair(pair, file, keep);
-            return Err((slot, refusal));
+            return Err(ExportRefusal::NoMemory);
+        }
+    };
+    match mount(alloc, shelf, minor, most, others) {
+        Ok(()) => {}
+        Err(refusal) => {
+            put_pair(pair, store.close(), keep);
+            return Err(refusal);
         }
     }
-    match mount(shelf, minor + 1, others) {
+    let slot = shelf.count();
+    match seat(shelf, minor + slot as u8, store, keep) {
         Ok(()) => Ok(()),
-        Err(refused) => {
-            let (file, keep) = leave(shelf);
-            put_pair(pair, file, keep);
-            Err(refused)
+        Err((refusal, store, keep)) => {
+            put_pair(pair, store.close(), keep);
+            unmount(shelf, others);
+            let slot = slot as u32;
+            Err(ExportRefusal::Keep { slot, refusal })
         }
     }
 }
 
-/// Takes the slots that were added last, one for each pair of the disks, and puts their files and
-/// keeps back.
-pub(crate) fn unmount<D: Disk + Drop>(shelf: &mut Shelf<Direct<D>, D>, disks: &mut [Option<D>])
-    requires pairs { length disks.old % 2 ≡ 0 }
-    requires slots { length disks.old / 2 ≤ length shelf.old.targets }
-    ensures back { (left : List (Mounted D D)) × (shelf.old.targets ≡ shelf.new.targets ++ left) × AreBack disks.new left }
+/// Takes the slots, one for each pair of the disks, and puts their files and keeps back.
+pub(crate) fn unmount<D: Disk + Drop, M: Most>(
+    shelf: &mut Shelf<Backing<D, M>, D>,
+    disks: &mut [Option<D>],
+)
+    requires { length disks.old ≡ 2 * length shelf.old.targets }
+    ensures back { AreBack D.state M.most disks.new shelf.old.targets }
+    ensures left { shelf.new.targets ≡ [] }
     ensures there { All IsSome disks.new }
-    ensures count { length shelf.old.targets ≡ length shelf.new.targets + length disks.old / 2 }
+    ensures rest { shelf.new ≡ record shelf.old { targets = shelf.new.targets } }
 {
-    if disks.is_empty() {
+    let Some(last) = disks.len().checked_sub(2) else {
         return;
-    }
-    let (pair, others) = disks.split_at_mut(2);
-    unmount(shelf, others);
+    };
+    let (others, pair) = disks.split_at_mut(last);
     let (file, keep) = leave(shelf);
     put_pair(pair, file, keep);
+    unmount(shelf, others);
 }

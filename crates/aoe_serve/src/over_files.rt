@@ -5,6 +5,7 @@ ghost use Rattle.aoe_serve.specs.Exporting.{AtFirst, IsExported, is_served};
 ghost use Rattle.aoe_serve.specs.Files.{GivesBack, named};
 ghost use Rattle.aoe_keep.specs.declared.refusal.MountRefusal.{MountRefusal};
 
+use crate::backing::{Backing, Most};
 use crate::mount::{mount, unmount};
 use crate::run::{run, sync_each};
 use crate::{AnswerEnd, ExportRefusal, Exported, Plan, RunEnd, ServeEnd};
@@ -14,6 +15,7 @@ use aoe_io::{Link, Sink, Source};
 use aoe_keep::MountRefusal;
 use aoe_shelf::Shelf;
 use std::alloc::Global;
+use std::marker::Brand;
 
 /// What the slots have in common.
 pub struct Rack {
@@ -23,13 +25,21 @@ pub struct Rack {
 
     /// How many bytes an Ethernet frame carries.
     pub mtu: u32,
+
+    /// How many sectors that were written a store holds back at most, until a flush or the last sync;
+    /// 0 where each write goes to its file at once.
+    pub cache: u32,
 }
 
 /// Exports each pair of the disks, a file and its keep, as a slot of a shelf, for one run.
 ///
-/// All keeps are mounted first, in order. Where one is refused nothing is read or sent. Else the plan
-/// is run over the slots, and at the end the stores are synced in order, however the run ended. Each
-/// disk is given back, also where nothing was run.
+/// The memory of all stores is taken first, and then all keeps are mounted, in order. Where there is
+/// no memory or a keep is refused, nothing is read or sent. Else the plan is run over the slots, and at
+/// the end the stores are synced in order, however the run ended. Each disk is given back, also where
+/// nothing was run.
+///
+/// With a cache a loss of power takes the writes since the last flush, of as many sectors as the cache
+/// holds back at most. A host that flushes what it must not lose is as safe as without.
 pub fn export<D: Disk + Drop, S: Source, K: Sink, L: Link>(
     alloc: Global,
     rack: Rack,
@@ -46,9 +56,10 @@ pub fn export<D: Disk + Drop, S: Source, K: Sink, L: Link>(
     requires pairs { length disks.old % 2 ≡ 0 }
     requires room { length disks.old ≤ 32 }
     requires there { All IsSome disks.old }
+    requires cache { rack.cache ≤ 65536 }
     requires minors { rack.first.minor + length disks.old / 2 ≤ 255 }
     requires link { is_served plan ≡ true → 0 < length links.old }
-    ensures ran { IfOk result (λ e. IsExported D.state (named rack.first.major rack.ports.items rack.mtu) rack.first.minor
+    ensures ran { IfOk result (λ e. IsExported D.state rack.cache (named rack.first.major rack.ports.items rack.mtu) rack.first.minor
         record { left = S.left; held = K.held; turns = L.turns; given = L.given; taken = L.taken } plan e
         record { source = source.old; sink = sink.old; links = links.old } record { source = source.new; sink = sink.new; links = links.new }
         disks.old disks.new) }
@@ -74,14 +85,68 @@ pub fn export<D: Disk + Drop, S: Source, K: Sink, L: Link>(
     ensures sink_one_fault { K.faults sink.new ≤ K.faults sink.old + 1 }
     ensures link_one_fault { AtFirst (λ a b. L.faults b ≤ L.faults a + 1) links.old links.new }
 {
-    let Rack { first, ports, mtu } = rack;
-    let mut shelf = match Shelf::new(alloc, first.major, ports, mtu) {
+    export_at::<Brand, D, S, K, L>(alloc, rack, plan, source, sink, disks, links)
+}
+
+/// The same, where `M` says how many sectors a store holds back at most.
+fn export_at<M: Most, D: Disk + Drop, S: Source, K: Sink, L: Link>(
+    alloc: Global,
+    rack: Rack,
+    plan: Plan,
+    source: &mut S,
+    sink: &mut K,
+    disks: &mut [Option<D>],
+    links: &mut [L],
+) -> Result<Exported, ExportRefusal>
+    requires most { rack.cache ≡ M.most }
+    requires major { rack.first.major < 65535 }
+    requires ports { 1 ≤ length rack.ports.items }
+    requires shortest { 1500 ≤ rack.mtu }
+    requires longest { rack.mtu ≤ 9000 }
+    requires pairs { length disks.old % 2 ≡ 0 }
+    requires room { length disks.old ≤ 32 }
+    requires there { All IsSome disks.old }
+    requires cache { rack.cache ≤ 65536 }
+    requires minors { rack.first.minor + length disks.old / 2 ≤ 255 }
+    requires link { is_served plan ≡ true → 0 < length links.old }
+    ensures ran { IfOk result (λ e. IsExported D.state rack.cache (named rack.first.major rack.ports.items rack.mtu) rack.first.minor
+        record { left = S.left; held = K.held; turns = L.turns; given = L.given; taken = L.taken } plan e
+        record { source = source.old; sink = sink.old; links = links.old } record { source = source.new; sink = sink.new; links = links.new }
+        disks.old disks.new) }
+
+    ensures refused { (slot : ℕ) (refusal : MountRefusal) → result ≡ Err (ExportRefusal.Keep slot refusal) → GivesBack D.state slot refusal disks.old disks.new }
+    ensures memory { result ≡ Err ExportRefusal.NoMemory → disks.new ≡ disks.old }
+    ensures source { OnErr result (source.new ≡ source.old) }
+    ensures sink { OnErr result (sink.new ≡ sink.old) }
+    ensures links { OnErr result (links.new ≡ links.old) }
+
+    ensures there { All IsSome disks.new }
+    ensures source_count { S.faults source.old ≤ S.faults source.new }
+    ensures sink_count { K.faults sink.old ≤ K.faults sink.new }
+    ensures link_count { AtFirst (λ a b. L.faults a ≤ L.faults b) links.old links.new }
+    ensures source_fault { IfOk result (λ e. e.end ≡ RunEnd.Answered AnswerEnd.SourceFault → Rose (S.faults source.old) (S.faults source.new)) }
+    ensures sink_fault { IfOk result (λ e. e.end ≡ RunEnd.Answered AnswerEnd.SinkFault → Rose (K.faults sink.old) (K.faults sink.new)) }
+    ensures link_fault { IfOk result (λ e. e.end ≡ RunEnd.Served ServeEnd.LinkFault → AtFirst (λ a b. Rose (L.faults a) (L.faults b)) links.old links.new) }
+    ensures source_no_fault { IfOk result (λ e. e.end ≢ RunEnd.Answered AnswerEnd.SourceFault → S.faults source.new ≡ S.faults source.old) }
+    ensures sink_no_fault { IfOk result (λ e. e.end ≢ RunEnd.Answered AnswerEnd.SinkFault → K.faults sink.new ≡ K.faults sink.old) }
+    ensures link_no_fault { IfOk result (λ e. e.end ≢ RunEnd.Served ServeEnd.LinkFault → AtFirst (λ a b. L.faults b ≡ L.faults a) links.old links.new) }
+    ensures source_one_fault { S.faults source.new ≤ S.faults source.old + 1 }
+    ensures sink_one_fault { K.faults sink.new ≤ K.faults sink.old + 1 }
+    ensures link_one_fault { AtFirst (λ a b. L.faults b ≤ L.faults a + 1) links.old links.new }
+{
+    let Rack {
+        first,
+        ports,
+        mtu,
+        cache,
+    } = rack;
+    let mut shelf: Shelf<Backing<D, M>, D> = match Shelf::new(alloc, first.major, ports, mtu) {
         Ok(shelf) => shelf,
         Err(NoMemory) => return Err(ExportRefusal::NoMemory),
     };
-    match mount(&mut shelf, first.minor, disks) {
+    match mount(alloc, &mut shelf, first.minor, cache, disks) {
         Ok(()) => {}
-        Err((slot, refusal)) => return Err(ExportRefusal::Keep { slot, refusal }),
+        Err(refusal) => return Err(refusal),
     }
     let end = run(&mut shelf, plan, source, sink, links);
     let unsynced = sync_each(&mut shelf);

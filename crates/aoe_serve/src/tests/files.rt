@@ -24,11 +24,12 @@ const ENDED: Exported = Exported {
 };
 
 /// The slots 1.3 and 1.4.
-fn rack() -> Rack
+fn rack(cache: u32) -> Rack
     ensures major { result.first.major ≡ 1 }
     ensures minor { result.first.minor ≡ 3 }
     ensures ports { length result.ports.items ≡ 1 }
     ensures mtu { result.mtu ≡ 1500 }
+    ensures cache { result.cache ≡ cache }
 {
     let mut ports = Ports::new();
     ports.push(PORT);
@@ -36,6 +37,7 @@ fn rack() -> Rack
         first: TargetId { major: 1, minor: 3 },
         ports,
         mtu: 1500,
+        cache,
     }
 }
 
@@ -90,7 +92,7 @@ fn serves_all_slots(rt: HostRuntime) -> Result<(), Fail> {
     let plan = Plan::Serve { frames: 1, idle: 1 };
     let run = export(
         rt.alloc(),
-        rack(),
+        rack(0),
         plan,
         &mut source,
         &mut sink,
@@ -118,7 +120,7 @@ fn a_small_keep(rt: HostRuntime) -> Result<(), Fail> {
     let plan = Plan::Serve { frames: 1, idle: 1 };
     let run = export(
         rt.alloc(),
-        rack(),
+        rack(0),
         plan,
         &mut source,
         &mut sink,
@@ -185,7 +187,7 @@ fn answers(
     let links: &mut [MemLink; 0] = &mut [];
     let run = export(
         alloc,
-        rack(),
+        rack(0),
         Plan::Answer,
         &mut source,
         &mut sink,
@@ -224,7 +226,7 @@ fn a_sync_that_fails(rt: HostRuntime) -> Result<(), Fail> {
     let links: &mut [MemLink; 0] = &mut [];
     let run = export(
         rt.alloc(),
-        rack(),
+        rack(0),
         Plan::Answer,
         &mut source,
         &mut sink,
@@ -233,5 +235,45 @@ fn a_sync_that_fails(rt: HostRuntime) -> Result<(), Fail> {
     );
     let unsynced = Some(1);
     assert_eq!(rt; run, Ok(Exported { unsynced, ..ENDED }));
+    Ok(())
+}
+
+/// A write of one sector at all targets, as it stands on the stream.
+fn write_of(sector: u8) -> Frame {
+    let header = b"\x88\xa2\x10\0\xff\xff\xff\0\0\0\0\x07";
+    let args = [0x41, 0, 1, 0x34, sector, 0, 0, 0, 0, 0, 0, 0];
+    joined(&[
+        &[2, 0x24],
+        &BROADCAST.0,
+        &STATION.0,
+        header,
+        &args,
+        &[1; 512],
+    ])
+}
+
+#[test]
+fn holds_writes_back(rt: HostRuntime) -> Result<(), Fail> {
+    let input = joined(&[write_of(3).as_slice(), write_of(4).as_slice()]);
+    for (cache, calls) in [(0, 3), (4, 2)] {
+        let mut disks = [
+            Some(MemDisk::new(rt.alloc(), 16)?),
+            Some(MemDisk::new(rt.alloc(), 16)?),
+        ];
+        let mut source = MemSource::of(rt.alloc(), input.as_slice())?;
+        let mut sink = MemSink::new(rt.alloc(), 1000)?;
+        let links: &mut [MemLink; 0] = &mut [];
+        let run = export(
+            rt.alloc(),
+            rack(cache),
+            Plan::Answer,
+            &mut source,
+            &mut sink,
+            &mut disks,
+            links,
+        );
+        assert_eq!(rt; run, Ok(ENDED));
+        assert_eq!(rt; disks[0].as_ref().map_or(9, MemDisk::calls), calls);
+    }
     Ok(())
 }

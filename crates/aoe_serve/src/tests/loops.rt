@@ -2,6 +2,7 @@ ghost use Rattle.std.specs.Prelude.{◌<◌};
 
 use crate::{AnswerEnd, ServeEnd, ShelfLink, answer, serve};
 use aoe_base::{Blob, Mac, Ports};
+use aoe_cache::{AnyStore, Cached};
 use aoe_disk::MemDisk;
 use aoe_frame::Frame;
 use aoe_io::{Got, Link, MemLink, MemSink, MemSource, Source};
@@ -11,7 +12,7 @@ use aoe_store::Direct;
 use std::alloc::Global;
 use std::test::Fail;
 
-type MemShelf = Shelf<Direct<MemDisk>, MemDisk>;
+type MemShelf = Shelf<AnyStore<MemDisk>, MemDisk>;
 
 /// A query config read from all shelves and slots, by 02:00:00:00:00:0a, as it stands on the stream.
 const QUERY: [u8; 34] = [
@@ -48,10 +49,9 @@ fn replies() -> [u8; 124] {
 }
 
 /// Adds a target of 16 zero sectors without lists.
-fn add(alloc: Global, shelf: &mut MemShelf, minor: u8) -> Result<(), Fail>
+fn add(alloc: Global, shelf: &mut MemShelf, minor: u8, store: AnyStore<MemDisk>) -> Result<(), Fail>
     requires { minor < 255 }
 {
-    let store = Direct::new(MemDisk::new(alloc, 16)?);
     let Ok(keep) = Keep::mount(MemDisk::new(alloc, 16)?) else {
         return Err(Fail::from("no keep"));
     };
@@ -61,13 +61,17 @@ fn add(alloc: Global, shelf: &mut MemShelf, minor: u8) -> Result<(), Fail>
     Ok(())
 }
 
-/// The shelf 1 with the targets 1.0 and 1.1.
+/// The shelf 1 with the targets 1.0 and 1.1, of which the second writes to its disk later.
 fn shelf_of_two(alloc: Global) -> Result<MemShelf, Fail> {
     let mut ports = Ports::new();
     ports.push(Mac([2, 0, 0, 0, 0, 1]));
     let mut shelf = Shelf::new(alloc, 1, ports, 1500)?;
-    add(alloc, &mut shelf, 0)?;
-    add(alloc, &mut shelf, 1)?;
+    let Ok(cached) = Cached::mount(alloc, MemDisk::new(alloc, 16)?, 4) else {
+        return Err(Fail::from("no memory"));
+    };
+    let direct = Direct::new(MemDisk::new(alloc, 16)?);
+    add(alloc, &mut shelf, 0, AnyStore::Direct(direct))?;
+    add(alloc, &mut shelf, 1, AnyStore::Cached(cached))?;
     Ok(shelf)
 }
 

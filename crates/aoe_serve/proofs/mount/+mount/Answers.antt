@@ -1,29 +1,33 @@
-use Rattle.std.proofs.Common.{◌≡◌, arith, length, rules}
-use Rattle.aoe_serve.proofs.FileLemmas.{all-there, none-seated, others-there, refused-behind, refused-here}
+use Rattle.std.proofs.Common.{◌≡◌, ap, arith, length, length-append, subst, sym}
+use Rattle.aoe_cache.specs.declared.any.AnyStore.{AnyStore}
+use Rattle.aoe_shelf.specs.Shelf.{Rack}
+use Rattle.aoe_serve.specs.Files.{AreBack, named}
+use Rattle.aoe_serve.proofs.FileLemmas.{all-there, free, given-then, refused-then, seated-then}
 use Rattle.aoe_serve.proofs.mount.+mount.Goals as goal
-
-pub returns-then-is_empty-clause-seated : goal.returns-then-is_empty-clause-seated
-returns-then-is_empty-clause-seated g t c =
-    let empty : length c.args.disks.now ≡ 0 = search rules in
-    none-seated _ _ _ _ _ empty
-
-pub returns-in-Err-clause-refused : goal.returns-in-Err-clause-refused
-returns-in-Err-clause-refused g t c = (
-  0,
-  omega (arith, c.count-slot.ensures.count),
-  refused-here _ _ _ _ _ _ _ _ c.split_at_mut-pair.ensures.value c.take_pair-file.ensures c.put_pair.ensures _ _ c.in-Err.ensures.file c.in-Err.ensures.refused,
-)
-
-pub returns-in-Err-clause-there : goal.returns-in-Err-clause-there
-returns-in-Err-clause-there g t c =
-    all-there _ _ _ _ _ _ _ _ c.split_at_mut-pair.ensures.value c.take_pair-file.ensures c.put_pair.ensures _
-    (others-there _ _ _ _ _ _ _ _ c.split_at_mut-pair.ensures.value c.take_pair-file.ensures c.put_pair.ensures c.requires.there)
 
 pub returns-in-Err-mount-clause-refused : goal.returns-in-Err-mount-clause-refused
 returns-in-Err-mount-clause-refused g t c =
-    refused-behind _ _ _ _ _ _ _ _ c.split_at_mut-pair.ensures.value c.take_pair-file.ensures c.put_pair-in-Err-mount.ensures g.D.Disk.state _ c.args.shelf.now.targets c.seat.new.shelf.targets
-    c.mount.new.shelf.targets c.leave-file.new.shelf.targets _ c.in-Err-mount.refused c.in-Ok.ensures.seated c.in-Err-mount.ensures.same c.leave-file.ensures.leaves c.in-Err-mount.ensures.refused
+    given-then _ _ _ _ _ _ _ c.split_at_mut-others.ensures.value c.take_pair-file.ensures _ _ _ _ _ c.in-Ok.ensures.store c.close.ensures.file c.put_pair-in-Err-mount.ensures c.in-Err-mount.ensures.refused
 
-pub returns-in-Err-mount-clause-there : goal.returns-in-Err-mount-clause-there
-returns-in-Err-mount-clause-there g t c =
-    all-there _ _ _ _ _ _ _ _ c.split_at_mut-pair.ensures.value c.take_pair-file.ensures c.put_pair-in-Err-mount.ensures _ c.in-Err-mount.ensures.there
+pub seat-requires-clause-free : goal.seat-requires-clause-free
+seat-requires-clause-free g t c =
+    let parts = c.split_at_mut-others.ensures.value in
+    let both = length-append c.split_at_mut-others.result.0.now c.split_at_mut-others.result.1.now in
+    free _ _ _ _ _ _ _ _ _ c.in-Ok-mount.ensures.seated (sym c.count-slot.ensures.count)
+    (omega (arith, ap length parts, both, ap length c.take_pair-file.ensures, c.in-Ok-mount.ensures.count, c.requires.room, c.count-slot.ensures.count))
+
+pub returns-in-Ok-seat-clause-seated : goal.returns-in-Ok-seat-clause-seated
+returns-in-Ok-seat-clause-seated g t c =
+    let D = g.row.D.Denot in
+    seated-then _ _ _ _ _ _ _ c.split_at_mut-others.ensures.value c.take_pair-file.ensures _ _ _ _ _ _ _ c.in-Ok.ensures.store (sym c.count-slot.ensures.count)
+    (ap (λ (r : Rack (AnyStore D) D). named r.major r.ports r.mtu) c.in-Ok-mount.ensures.rest) c.in-Ok-mount.ensures.seated c.in-Ok-seat.ensures.seated
+
+pub returns-in-Err-seat-clause-refused : goal.returns-in-Err-seat-clause-refused
+returns-in-Err-seat-clause-refused g t c =
+    let D = g.row.D.Denot in
+    let back = subst (λ (r : Rack (AnyStore D) D). AreBack g.D.Disk.state g.M.Most.most c.unmount.new.disks r.targets) c.in-Err-seat.ensures.same c.unmount.ensures.back in
+    refused-then _ _ _ _ _ _ _ c.split_at_mut-others.ensures.value c.take_pair-file.ensures _ _ _ _ _ _ _ _ _ _ _ c.in-Ok-mount.ensures.seated back (sym c.count-slot.ensures.count)
+    c.in-Ok.ensures.store c.in-Err-seat.ensures.store c.close-in-Err-seat.ensures.file c.put_pair-in-Err-seat.ensures c.in-Err-seat.ensures.refused
+
+pub returns-in-Err-seat-clause-there : goal.returns-in-Err-seat-clause-there
+returns-in-Err-seat-clause-there g t c = all-there _ _ _ _ c.put_pair-in-Err-seat.ensures c.unmount.ensures.there

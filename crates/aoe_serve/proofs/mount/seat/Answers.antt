@@ -1,4 +1,6 @@
-use Rattle.std.proofs.Common.{ap}
+use Rattle.std.proofs.Common.{ap, refl}
+use Rattle.aoe_cache.specs.Any.{any_state}
+use Rattle.aoe_cache.specs.declared.any.AnyStore.{AnyStore}
 use Rattle.aoe_shelf.specs.Shelf.{Rack}
 use Rattle.aoe_serve.specs.Files.{named}
 use Rattle.aoe_serve.proofs.mount.seat.Goals as goal
@@ -8,11 +10,11 @@ returns-clause-seated g c =
     let D = g.row.D.Denot in
     let shelf = c.args.shelf.now in
     record {
-      target = record { station = named shelf.major shelf.ports shelf.mtu c.args.minor (g.D.Disk.state c.new.result).sectors; keep = c.in-Ok.keep; store = c.new.result };
-      added = ap (λ (r : Rack D D). r.targets) c.in-Ok-add.ensures.added;
+      target = record { station = named shelf.major shelf.ports shelf.mtu c.args.minor (any_state g.D.Disk.state c.args.store).sectors; keep = c.in-Ok.keep; store = c.args.store };
+      added = ap (λ (r : Rack (AnyStore D) D). r.targets) c.in-Ok-add.ensures.added;
       seated = record {
-        station = ap (λ (d : D). named shelf.major shelf.ports shelf.mtu c.args.minor (g.D.Disk.state d).sectors) c.new.ensures;
-        store = c.new.ensures;
+        station = refl;
+        store_is = refl;
         mounted = record { mounts = c.in-Ok.ensures.lists; finds = c.in-Ok.ensures.finds };
       };
     }

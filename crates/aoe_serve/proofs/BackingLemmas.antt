@@ -1,0 +1,125 @@
+-- A store over a file holds back no more than its room.
+use Rattle.std.proofs.Common.{◌≡◌, ◌≤◌, ◌<◌, ◌/◌, ℕ, zero, suc, List, [], length, drop, Option, Some, None, refl, sym, ap, subst, ◌∙◌, arith, inl, inr}
+use Rattle.std.proofs.lemmas.Bool.{cases_lt}
+use Rattle.std.proofs.lemmas.List.{length-drop}
+use Rattle.std.specs.Prelude.{Result}
+use Rattle.aoe_disk.specs.State.{BothTell, Contents, DiskState}
+use Rattle.aoe_cache.specs.Any.{StaysWith, any_disk, any_state}
+use Rattle.aoe_cache.specs.Cache.{Cache, CacheReads, CacheSyncs, CacheWrites, PutsAfter, state_of}
+use Rattle.aoe_cache.specs.Down.{StopsShort, WritesRuns}
+use Rattle.aoe_cache.specs.Free.{KeepsSettled}
+use Rattle.aoe_cache.specs.Held.{with_written}
+use Rattle.aoe_cache.specs.declared.any.AnyStore.{AnyStore}
+use Rattle.aoe_cache.specs.declared.any.AnyStore.TheVariants.{Direct, Cached}
+use Rattle.aoe_cache.specs.declared.place.HeldSector.{HeldSector}
+use Rattle.aoe_cache.proofs.Ascending.{length-with_written}
+use Rattle.aoe_serve.specs.Backing.{HoldsBack, over}
+use Rattle.aoe_serve.specs.Files.{IsUnder, shown}
+
+-- Over a file.
+
+pub over-disk : {D : Type 0} (most : ℕ) (disk : D) → any_disk (over most disk) ≡ disk
+over-disk zero disk = refl
+over-disk (suc most) disk = refl
+
+pub over-state : {D : Type 0} (state : D → DiskState) (most : ℕ) (disk : D) → any_state state (over most disk) ≡ shown most [] (state disk)
+over-state state zero disk = refl
+over-state state (suc most) disk = refl
+
+pub over-sectors : {D : Type 0} (state : D → DiskState) (most : ℕ) (disk : D) → (any_state state (over most disk)).sectors ≡ (state disk).sectors
+over-sectors state zero disk = refl
+over-sectors state (suc most) disk = refl
+
+pub shown-faults : (most : ℕ) (held : List HeldSector) (disk : DiskState) → (shown most held disk).faults ≡ disk.faults
+shown-faults zero held disk = refl
+shown-faults (suc most) held disk = refl
+
+pub over-none : {D : Type 0} (most : ℕ) (disk : D) → most ≡ 0 → (Direct disk ≡ over most disk) × HoldsBack most (Direct disk)
+over-none zero disk e = (refl, tt)
+over-none (suc most) disk e = absurd (omega (arith, e))
+
+pub over-some : {D : Type 0} (most room : ℕ) (cache : Cache D) (disk : D) → (room ≡ 0 → ⊥) → room ≡ most → cache ≡ record { disk = disk; held = []; room = room } → (Cached cache ≡ over most disk) × HoldsBack most (Cached cache)
+over-some zero room cache disk some same is = absurd (some same)
+over-some {D} (suc most) room cache disk some same is =
+    let made : cache ≡ record { disk = disk; held = []; room = suc most } = is ∙ ap (λ (n : ℕ). let c : Cache D = record { disk = disk; held = []; room = n } in c) same in
+    (ap Cached made, (ap (λ (c : Cache D). c.room) made, omega (arith, ap (λ (c : Cache D). length c.held) made)))
+
+-- What the disk has.
+
+keeps-same : (c : Option Contents) → BothTell KeepsSettled c c
+keeps-same None = tt
+keeps-same (Some c) = record { kept = λ s settled. (settled, refl) }
+
+pub under-direct : {D : Type 0} (state : D → DiskState) (most : ℕ) (disk : D) → HoldsBack most (Direct disk) → IsUnder most (state disk) (state disk)
+under-direct state zero disk holds = record { held = []; few = omega arith; is = refl; kept = keeps-same (state disk).contents }
+under-direct state (suc most) disk holds = absurd holds
+
+pub under-cached : {D : Type 0} (state : D → DiskState) (most : ℕ) (cache : Cache D) → HoldsBack most (Cached cache) → BothTell KeepsSettled (state_of state cache).contents (state cache.disk).contents
+    → IsUnder most (state cache.disk) (state_of state cache)
+under-cached state zero cache holds kept = absurd holds
+under-cached state (suc most) cache holds kept = record { held = cache.held; few = holds.1; is = refl; kept = kept }
+
+-- What the calls leave in the buffer.
+
+runs-fewer : (calls : ℕ) (held rest : List HeldSector) (old new : DiskState) → WritesRuns calls held rest old new → length rest ≤ length held
+runs-fewer zero held rest old new runs = omega (arith, ap length runs.0)
+runs-fewer (suc calls) held rest old new (n, next, run, more) = omega (arith, runs-fewer calls (drop n held) rest next new more, length-drop n held)
+
+stops-fewer : {T E : Type 0} (result : Result T E) (held rest : List HeldSector) (old new : DiskState) → StopsShort result held rest old new → length rest ≤ length held
+stops-fewer result held rest old new stops = runs-fewer stops.calls held rest old stops.between stops.runs
+
+puts-few : {T E : Type 0} (at n : ℕ) (piece : List ℕ) (result : Result T E) (most : ℕ) (held : List HeldSector) (between new : DiskState) → PutsAfter at n piece result most held between new → length held ≤ most
+puts-few at n piece result most held between new puts =
+    elim (cases_lt most n) [
+      | inl more ↦ omega (arith, ap length (puts.disk more).0)
+      | inr few ↦ omega (arith, few, ap length (puts.buffer (omega (arith, few))).2, length-with_written at n piece [])
+    ]
+
+-- a relation between a cached store before and after that keeps its room, and what it holds within it
+record KeepsRoom {D : Type 0} (old new : Cache D) : Type 0 where
+  room : new.room ≡ old.room
+  few : length old.held ≤ old.room → length new.held ≤ old.room
+
+holds-then : {D : Type 0} (R : Cache D → Cache D → Type 0) (most : ℕ) (old new : AnyStore D) → ((a b : Cache D) → R a b → KeepsRoom a b) → StaysWith R old new → HoldsBack most old → HoldsBack most new
+holds-then R zero (Direct a) (Direct b) keeps stays holds = tt
+holds-then R zero (Direct a) (Cached b) keeps stays holds = absurd stays
+holds-then R zero (Cached a) new keeps stays holds = absurd holds
+holds-then R (suc most) (Direct a) new keeps stays holds = absurd holds
+holds-then R (suc most) (Cached a) (Direct b) keeps stays holds = absurd stays
+holds-then R (suc most) (Cached a) (Cached b) keeps stays holds =
+    let k = keeps a b stays in
+    (k.room ∙ holds.0, omega (arith, holds.0, k.few (omega (arith, holds.0, holds.1))))
+
+module _ {D T E : Type 0} (state : D → DiskState) (most : ℕ) (result : Result T E) (old new : AnyStore D) where
+  pub holds-read : (at n : ℕ) → StaysWith (CacheReads state at n result) old new → HoldsBack most old → HoldsBack most new
+  holds-read at n = holds-then (CacheReads state at n result) most old new keeps
+    where
+      keeps : (a b : Cache D) → CacheReads state at n result a b → KeepsRoom a b
+      keeps a b r = record { room = r.room; few = λ few. omega (arith, few, ap length r.held) }
+
+  pub holds-write : (at : ℕ) (piece : List ℕ) → StaysWith (CacheWrites state at piece result) old new → HoldsBack most old → HoldsBack most new
+  holds-write at piece = holds-then (CacheWrites state at piece result) most old new keeps
+    where
+      keeps : (a b : Cache D) → CacheWrites state at piece result a b → KeepsRoom a b
+      keeps a b w = record {
+        room = w.room;
+        few = λ few. elim (cases_lt a.room (length (with_written at (length piece / 512) piece a.held))) [
+          | inl more ↦ elim (w.beyond more) [
+            | inl stops ↦ omega (arith, few, stops-fewer result a.held b.held (state a.disk) (state b.disk) stops)
+            | inr after ↦ puts-few at (length piece / 512) piece result a.room b.held after.between (state b.disk) after.puts
+          ]
+          | inr within ↦ let within_room : length (with_written at (length piece / 512) piece a.held) ≤ a.room = omega (arith, within) in omega (arith, within_room, ap length (w.within within_room).held)
+        ];
+      }
+
+  pub holds-sync : StaysWith (CacheSyncs state result) old new → HoldsBack most old → HoldsBack most new
+  holds-sync = holds-then (CacheSyncs state result) most old new keeps
+    where
+      keeps : (a b : Cache D) → CacheSyncs state result a b → KeepsRoom a b
+      keeps a b s = record {
+        room = s.room;
+        few = λ few. elim s.down [
+          | inl stops ↦ omega (arith, few, stops-fewer result a.held b.held (state a.disk) (state b.disk) stops)
+          | inr after ↦ omega (arith, ap length after.down.empty)
+        ];
+      }

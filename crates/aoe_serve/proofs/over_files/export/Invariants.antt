@@ -1,0 +1,4 @@
+use Rattle.aoe_serve.proofs.over_files.export.Given as goal
+
+abbrev pub ghosts-export_at : goal.ghosts-export_at
+ghosts-export_at g a = record { most = a.rack.cache }
