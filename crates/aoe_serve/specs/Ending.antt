@@ -24,8 +24,8 @@ pub record Outlives (d : Device) (k : State) : Type 0 where
   pub file : IfSome d.store.contents (λ c. IfSome k.sectors (λ sectors. LeavesKnown sectors c))
   pub keep : IfSome d.keep.contents (Finds (MayStand k))
 
--- these frames came to a slot, and then its store was synced: it holds what is known after them, and outlives a loss of power, as it does
--- with a disk in the store's place that has what isn't loose in the store
+-- these frames came to a slot, and then its store was synced: it holds what is known after them, and outlives a loss of power. So does it
+-- over a disk that has what isn't loose in the store
 pub record EndsAfter (h : List Met) (synced : Result (Unit {0}) Failed) (a b : Slot) : Type 0 where
   pub holds : (k : State) → Holds a.device k → Holds b.device (after_last synced (left_by a.station k h))
   pub outlives : Outlives b.device (after_last synced (left_by a.station (state_of a.device) h))

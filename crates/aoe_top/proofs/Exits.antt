@@ -1,11 +1,12 @@
 -- What a run leaves at its end, slot by slot.
-use Rattle.std.proofs.Common.{◌≡◌, ◌≤◌, ◌<◌, ◌+◌, ◌-◌, ◌*◌, ◌^◌, ℕ, zero, suc, min, List, [], ◌∷◌, length, true, false, Option, Some, None, refl, sym, subst, ◌∙◌, arith, get_or, inl, inr}
+use Rattle.std.proofs.Common.{◌≡◌, ◌≤◌, ◌<◌, ◌+◌, ◌-◌, ◌*◌, ◌^◌, ℕ, zero, suc, min, List, [], ◌∷◌, length, true, false, Option, Some, None, refl, sym, ap, subst, ◌∙◌, arith, get_or, inl, inr}
 use Rattle.std.proofs.lemmas.Bool.{cases_lt}
 use Rattle.std.proofs.lemmas.Option.{slice_get_within}
 use Rattle.std.specs.Option.{option_map}
 use Rattle.std.specs.Prelude.{IfSome, Result, Ok, Err, is_err, slice_get}
 use Rattle.aoe_base.specs.Faults.{Rose}
 use Rattle.aoe_base.specs.declared.failure.Failed.{Failed}
+use Rattle.aoe_cache.specs.Free.{KeepsSettled}
 use Rattle.aoe_disk.specs.State.{Contents, DiskState, BothTell}
 use Rattle.aoe_disk.specs.Calls.{SyncsTo, Settles}
 use Rattle.aoe_disk.proofs.Touching.{settles_kept}
@@ -17,6 +18,7 @@ use Rattle.aoe_serve.specs.Exporting.{IsExported, Outside, Tells, arrivals_in, f
 use Rattle.aoe_serve.specs.Files.{HasMounted, IsOver, OverFiles}
 use Rattle.aoe_serve.specs.declared.plan.Exported.{Exported}
 use Rattle.aoe_serve.specs.declared.plan.Plan.{Plan}
+use Rattle.aoe_serve.proofs.BackingLemmas.{shown-faults}
 use Rattle.aoe_serve.proofs.EndLemmas.{served_in, there}
 use Rattle.aoe_world.specs.Replay.{IsFaultless}
 use Rattle.aoe_top.specs.Ending.{file_at}
@@ -29,17 +31,27 @@ pub record Stands {D : Type 0} (state : D → DiskState) (first last : List Slot
   pub b : Slot
   pub at_first : slice_get first slot ≡ Some a
   pub at_last : slice_get last slot ≡ Some b
-  pub store : a.device.store ≡ state file
-  pub back : state file' ≡ b.device.store
+  pub faults : a.device.store.faults ≡ (state file).faults
+  pub faults_back : b.device.store.faults ≡ (state file').faults
+  pub kept : BothTell KeepsSettled b.device.store.contents (state file').contents
   pub mounted : HasMounted (state keep) a.device.keep a.device.lists
 
-stands-first : {D : Type 0} (state : D → DiskState) (name : ℕ → Station) (a b : Slot) (first last : List Slot) (file file' keep keep' : D) → IsOver state name file file' keep keep' a b
+stands-first : {D : Type 0} (state : D → DiskState) (most : ℕ) (name : ℕ → Station) (a b : Slot) (first last : List Slot) (file file' keep keep' : D) → IsOver state most name file file' keep keep' a b
     → Stands state (a ∷ first) (b ∷ last) 0 file file' keep keep'
-stands-first state name a b first last file file' keep keep' over = record { a = a; b = b; at_first = refl; at_last = refl; store = over.store; back = over.file_back; mounted = over.mounted }
+stands-first state most name a b first last file file' keep keep' over = record {
+  a = a;
+  b = b;
+  at_first = refl;
+  at_last = refl;
+  faults = ap (λ (d : DiskState). d.faults) over.store ∙ shown-faults most [] (state file);
+  faults_back = sym (ap (λ (d : DiskState). d.faults) over.file_back.is) ∙ shown-faults most over.file_back.held (state file');
+  kept = over.file_back.kept;
+  mounted = over.mounted;
+}
 
 stands-then : {D : Type 0} (state : D → DiskState) (x y : Slot) (first last : List Slot) (slot : ℕ) (file file' keep keep' : D) → Stands state first last slot file file' keep keep'
     → Stands state (x ∷ first) (y ∷ last) (suc slot) file file' keep keep'
-stands-then state x y first last slot file file' keep keep' s = record { a = s.a; b = s.b; at_first = s.at_first; at_last = s.at_last; store = s.store; back = s.back; mounted = s.mounted }
+stands-then state x y first last slot file file' keep keep' s = record { a = s.a; b = s.b; at_first = s.at_first; at_last = s.at_last; faults = s.faults; faults_back = s.faults_back; kept = s.kept; mounted = s.mounted }
 
 -- what stands over files and keeps
 record Over {D : Type 0} (state : D → DiskState) (disks disks' : List (Option D)) (first last : List Slot) : Type 0 where
@@ -47,12 +59,12 @@ record Over {D : Type 0} (state : D → DiskState) (disks disks' : List (Option 
   stands : (slot : ℕ) → OnSlot (Stands state first last slot) slot disks disks'
   has : (slot : ℕ) → slot < length first → Disks slot disks disks'
 
-over-then : {D : Type 0} (state : D → DiskState) (name : ℕ → Station) (a b : Slot) (first last : List Slot) (file file' keep keep' : D) (disks disks' : List (Option D))
-    → IsOver state name file file' keep keep' a b → Over state disks disks' first last → Over state (Some file ∷ Some keep ∷ disks) (Some file' ∷ Some keep' ∷ disks') (a ∷ first) (b ∷ last)
-over-then state name a b first last file file' keep keep' disks disks' over rest = record { count = omega (arith, rest.count); stands = stand; has = disk }
+over-then : {D : Type 0} (state : D → DiskState) (most : ℕ) (name : ℕ → Station) (a b : Slot) (first last : List Slot) (file file' keep keep' : D) (disks disks' : List (Option D))
+    → IsOver state most name file file' keep keep' a b → Over state disks disks' first last → Over state (Some file ∷ Some keep ∷ disks) (Some file' ∷ Some keep' ∷ disks') (a ∷ first) (b ∷ last)
+over-then state most name a b first last file file' keep keep' disks disks' over rest = record { count = omega (arith, rest.count); stands = stand; has = disk }
   where
     stand : (slot : ℕ) → OnSlot (Stands state (a ∷ first) (b ∷ last) slot) slot (Some file ∷ Some keep ∷ disks) (Some file' ∷ Some keep' ∷ disks')
-    stand zero = on-first (Stands state (a ∷ first) (b ∷ last) 0) file file' keep keep' disks disks' (stands-first state name a b first last file file' keep keep' over)
+    stand zero = on-first (Stands state (a ∷ first) (b ∷ last) 0) file file' keep keep' disks disks' (stands-first state most name a b first last file file' keep keep' over)
     stand (suc slot) = on-then (Stands state (a ∷ first) (b ∷ last) (suc slot)) slot (Some file) (Some keep) (Some file') (Some keep') disks disks'
         (on-map (Stands state first last slot) (Stands state (a ∷ first) (b ∷ last) (suc slot)) slot disks disks' (stands-then state a b first last slot) (rest.stands slot))
 
@@ -60,21 +72,21 @@ over-then state name a b first last file file' keep keep' disks disks' over rest
     disk zero below = disks-first file file' keep keep' disks disks'
     disk (suc slot) below = disks-then slot (Some file) (Some keep) (Some file') (Some keep') disks disks' (rest.has slot (omega (arith, below)))
 
-over : {D : Type 0} (state : D → DiskState) (name : ℕ → ℕ → Station) (minor : ℕ) (disks disks' : List (Option D)) (first last : List Slot) → OverFiles state name minor disks disks' first last → Over state disks disks' first last
-over state name minor (Some f ∷ Some k ∷ disks) (Some f' ∷ Some k' ∷ disks') (a ∷ first) (b ∷ last) x = over-then state (name minor) a b first last f f' k k' disks disks' x.0 (over state name (minor + 1) disks disks' first last x.1)
-over state name minor (Some f ∷ Some k ∷ disks) (Some f' ∷ Some k' ∷ disks') (a ∷ first) [] x = absurd x
-over state name minor (Some f ∷ Some k ∷ disks) (Some f' ∷ Some k' ∷ disks') [] last x = absurd x
-over state name minor (Some f ∷ Some k ∷ disks) (Some f' ∷ None ∷ disks') first last x = absurd x
-over state name minor (Some f ∷ Some k ∷ disks) (Some f' ∷ []) first last x = absurd x
-over state name minor (Some f ∷ Some k ∷ disks) (None ∷ disks') first last x = absurd x
-over state name minor (Some f ∷ Some k ∷ disks) [] first last x = absurd x
-over state name minor (Some f ∷ None ∷ disks) disks' first last x = absurd x
-over state name minor (Some f ∷ []) disks' first last x = absurd x
-over state name minor (None ∷ disks) disks' first last x = absurd x
-over state name minor [] [] [] [] x = record { count = refl; stands = λ slot f f' k k' ef. absurd cc; has = λ slot below. absurd (omega (arith, below)) }
-over state name minor [] [] [] (b ∷ last) x = absurd x
-over state name minor [] [] (a ∷ first) last x = absurd x
-over state name minor [] (d ∷ disks') first last x = absurd x
+over : {D : Type 0} (state : D → DiskState) (most : ℕ) (name : ℕ → ℕ → Station) (minor : ℕ) (disks disks' : List (Option D)) (first last : List Slot) → OverFiles state most name minor disks disks' first last → Over state disks disks' first last
+over state most name minor (Some f ∷ Some k ∷ disks) (Some f' ∷ Some k' ∷ disks') (a ∷ first) (b ∷ last) x = over-then state most (name minor) a b first last f f' k k' disks disks' x.0 (over state most name (minor + 1) disks disks' first last x.1)
+over state most name minor (Some f ∷ Some k ∷ disks) (Some f' ∷ Some k' ∷ disks') (a ∷ first) [] x = absurd x
+over state most name minor (Some f ∷ Some k ∷ disks) (Some f' ∷ Some k' ∷ disks') [] last x = absurd x
+over state most name minor (Some f ∷ Some k ∷ disks) (Some f' ∷ None ∷ disks') first last x = absurd x
+over state most name minor (Some f ∷ Some k ∷ disks) (Some f' ∷ []) first last x = absurd x
+over state most name minor (Some f ∷ Some k ∷ disks) (None ∷ disks') first last x = absurd x
+over state most name minor (Some f ∷ Some k ∷ disks) [] first last x = absurd x
+over state most name minor (Some f ∷ None ∷ disks) disks' first last x = absurd x
+over state most name minor (Some f ∷ []) disks' first last x = absurd x
+over state most name minor (None ∷ disks) disks' first last x = absurd x
+over state most name minor [] [] [] [] x = record { count = refl; stands = λ slot f f' k k' ef. absurd cc; has = λ slot below. absurd (omega (arith, below)) }
+over state most name minor [] [] [] (b ∷ last) x = absurd x
+over state most name minor [] [] (a ∷ first) last x = absurd x
+over state most name minor [] (d ∷ disks') first last x = absurd x
 
 -- Which sync failed.
 
@@ -118,6 +130,12 @@ sync-done : (r : Result (Unit {0}) Failed) (old new : DiskState) → is_err r �
 sync-done (Ok done) old new e sync = not_loose old.contents new.contents sync.contents
 sync-done (Err failed) old new e sync = absurd cc
 
+kept-settled : (store disk : Option Contents) → BothTell KeepsSettled store disk → IfSome store NothingLoose → IfSome disk NothingLoose
+kept-settled None None kept settled = tt
+kept-settled None (Some y) kept settled = absurd kept
+kept-settled (Some x) None kept settled = absurd kept
+kept-settled (Some x) (Some y) kept settled = λ s. (kept.kept s (settled s)).0
+
 -- a sync that failed after faults that were counted
 rose_then : (a n b c : ℕ) → min (a + n) (2 ^ 64 - 1) ≤ b → b ≤ c → Rose b c → Rose a c
 rose_then a n b c before later rose few =
@@ -130,10 +148,10 @@ sync-failed : (r : Result (Unit {0}) Failed) (old new : DiskState) → is_err r 
 sync-failed (Ok done) old new e sync = absurd cc
 sync-failed (Err failed) old new e sync = sync.call.cause
 
-module _ {D S K L : Type 0} (state : D → DiskState) (name : ℕ → ℕ → Station) (minor : ℕ) (t : Tells S K L) (p : Plan) (e : Exported) (a b : Outside S K L) (disks disks' : List (Option D))
-    (x : IsExported state name minor t p e a b disks disks') where
+module _ {D S K L : Type 0} (state : D → DiskState) (most : ℕ) (name : ℕ → ℕ → Station) (minor : ℕ) (t : Tells S K L) (p : Plan) (e : Exported) (a b : Outside S K L) (disks disks' : List (Option D))
+    (x : IsExported state most name minor t p e a b disks disks') where
   all-over : Over state disks disks' x.first x.last
-  all-over = over state name minor disks disks' x.first x.last x.over
+  all-over = over state most name minor disks disks' x.first x.last x.over
 
   abbrev arrivals : List Arrived
   arrivals = arrivals_in t p e.end a b x.first x.run.middle x.run.ran
@@ -149,7 +167,8 @@ module _ {D S K L : Type 0} (state : D → DiskState) (name : ℕ → ℕ → St
     before : DiskState
     after : DiskState
     sync : SyncsTo (get_or x.run.results slot (Ok tt)) before after
-    back : after ≡ state file'
+    back : after.faults ≡ (state file').faults
+    kept : BothTell KeepsSettled after.contents (state file').contents
     count : ℕ
     counted : min ((state file).faults + count) (2 ^ 64 - 1) ≤ before.faults
 
@@ -157,20 +176,20 @@ module _ {D S K L : Type 0} (state : D → DiskState) (name : ℕ → ℕ → St
   last-sync slot file file' keep keep' s =
       let m = there x.run.middle slot (omega (arith, slice_get_within x.last slot s.b s.at_last, x.run.synced.slots.count)) in
       let is : IsServed s.a m.slot (at_slot slot arrivals) = served.slots.each slot s.a m.slot s.at_first m.is in
-      let P : DiskState → Type 0 = λ d. min (d.faults + count_failed store_failed (at_slot slot arrivals)) (2 ^ 64 - 1) ≤ m.slot.device.store.faults in
+      let P : ℕ → Type 0 = λ n. min (n + count_failed store_failed (at_slot slot arrivals)) (2 ^ 64 - 1) ≤ m.slot.device.store.faults in
       record {
         before = m.slot.device.store;
         after = s.b.device.store;
         sync = (x.run.synced.slots.each slot m.slot s.b m.is s.at_last).syncs;
-        back = sym s.back;
+        back = s.faults_back;
+        kept = s.kept;
         count = count_failed store_failed (at_slot slot arrivals);
-        counted = subst P s.store is.store_faults;
+        counted = subst P s.faults is.store_faults;
       }
 
   rose-in : (slot : ℕ) (file file' : D) → is_err (get_or x.run.results slot (Ok tt)) ≡ true → LastSync slot file file' → Rose (state file).faults (state file').faults
   rose-in slot file file' failed l =
-      let P : DiskState → Type 0 = λ d. Rose (state file).faults d.faults in
-      subst P l.back (rose_then (state file).faults l.count l.before.faults l.after.faults l.counted l.sync.call.later (sync-failed (get_or x.run.results slot (Ok tt)) l.before l.after failed l.sync))
+      subst (λ (n : ℕ). Rose (state file).faults n) l.back (rose_then (state file).faults l.count l.before.faults l.after.faults l.counted l.sync.call.later (sync-failed (get_or x.run.results slot (Ok tt)) l.before l.after failed l.sync))
 
   -- the disk of a slot that wasn't synced counted it
   pub unsynced-rose : (slot : ℕ) → e.unsynced ≡ Some slot → OnSlot (λ file file' _ _. Rose (state file).faults (state file').faults) slot disks disks'
@@ -189,9 +208,8 @@ module _ {D S K L : Type 0} (state : D → DiskState) (name : ℕ → ℕ → St
   pub all-settled : (slot : ℕ) → e.unsynced ≡ None → OnSlot (λ _ file' _ _. IfSome (state file').contents NothingLoose) slot disks disks'
   all-settled slot is =
       let ok = none-failed x.run.results (sym x.run.unsynced ∙ is) slot in
-      let P : DiskState → Type 0 = λ d. IfSome d.contents NothingLoose in
       on-map (Stands state x.first x.last slot) (λ _ file' _ _. IfSome (state file').contents NothingLoose) slot disks disks'
-      (λ file file' keep keep' s. let l = last-sync slot file file' keep keep' s in subst P l.back (sync-done (get_or x.run.results slot (Ok tt)) l.before l.after ok l.sync)) (stands slot)
+      (λ file file' keep keep' s. let l = last-sync slot file file' keep keep' s in kept-settled l.after.contents (state file').contents l.kept (sync-done (get_or x.run.results slot (Ok tt)) l.before l.after ok l.sync)) (stands slot)
 
   -- where no file failed each slot was synced
   pub all-synced : ((slot : ℕ) → OnSlot (λ file file' _ _. IsFaultless (state file).faults (state file').faults) slot disks disks') → e.unsynced ≡ None

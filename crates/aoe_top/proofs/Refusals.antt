@@ -341,7 +341,7 @@ module _ {D S K L : Type 0} (state : D → DiskState) (command : Command) (t : T
               let x = r.run in
               on-map (Stands state x.first x.last slot) (λ _ _ keep keep'. KeepIs state s slot keep keep') slot disks disks'
               (λ file file' keep keep' stand. is_mounted stand.a.device.keep stand.a.device.lists stand.mounted (λ k e. absurd (let f : (let y : Option ℕ = None in y) ≡ Some k = sym none ∙ is ∙ e in cc)))
-              (stands state _ _ t _ r.exported a b disks disks' x slot)
+              (stands state _ _ _ t _ r.exported a b disks disks' x slot)
 
       by : (o : Option ℕ) → refused_slot s ≡ o → OnSlot (λ _ _ keep keep'. KeepIs state s slot keep keep') slot disks disks'
       by None is = memory (is_no_memory s) refl
@@ -388,7 +388,7 @@ module _ {D S K L : Type 0} (state : D → DiskState) (command : Command) (t : T
       over (over_none empty fine) = absurd (fine disk e)
       over (over_files rack p r) =
           let u = unsynced-disk r.exported.end r.exported.unsynced disk (sym e ∙ r.ends) in
-          omega (arith, u.2, unsynced-within state _ _ t _ r.exported a b disks disks' r.run u.0 u.1)
+          omega (arith, u.2, unsynced-within state _ _ _ t _ r.exported a b disks disks' r.run u.0 u.1)
 
       by : (o : Option ℕ) → refused_slot s ≡ o → disk < length disks
       by None is = over (runs is (λ f. cc))
@@ -399,14 +399,14 @@ module _ {D S K L : Type 0} (state : D → DiskState) (command : Command) (t : T
     where
       over : Runs state t s a b disks disks' → OnSlot (λ file file' _ _. Rose (state file).faults (state file').faults) slot disks disks'
       over (over_none empty fine) = absurd (fine (file_at slot) e)
-      over (over_files rack p r) = unsynced-rose state _ _ t _ r.exported a b disks disks' r.run slot (unsynced-at r.exported.end r.exported.unsynced slot (sym e ∙ r.ends))
+      over (over_files rack p r) = unsynced-rose state _ _ _ t _ r.exported a b disks disks' r.run slot (unsynced-at r.exported.end r.exported.unsynced slot (sym e ∙ r.ends))
 
   pub settled : (slot : ℕ) → s ≡ status.Ok → OnSlot (λ _ file' _ _. IfSome (state file').contents NothingLoose) slot disks disks'
   settled slot e = over (runs (ap refused_slot e) (λ f. cc))
     where
       over : Runs state t s a b disks disks' → OnSlot (λ _ file' _ _. IfSome (state file').contents NothingLoose) slot disks disks'
       over (over_none empty fine) = on-none (λ _ file' _ _. IfSome (state file').contents NothingLoose) slot disks disks' empty
-      over (over_files rack p r) = all-settled state _ _ t _ r.exported a b disks disks' r.run slot (synced-at r.exported.end r.exported.unsynced (sym e ∙ r.ends))
+      over (over_files rack p r) = all-settled state _ _ _ t _ r.exported a b disks disks' r.run slot (synced-at r.exported.end r.exported.unsynced (sym e ∙ r.ends))
 
 -- Which command it was.
 

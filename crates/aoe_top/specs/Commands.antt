@@ -13,11 +13,11 @@ use Rattle.aoe_words.specs.declared.command.Serve.{Serve as Serves}
 
 -- What the slot of `answer` has, and what is done with it: its frames come and go as streams.
 abbrev pub answer_plan : Answers → Rack × Plan
-answer_plan answer = (record { first = answer.id; ports = record { items = answer.port ∷ [] }; mtu = answer.mtu }, plan.Answer)
+answer_plan answer = (record { first = answer.id; ports = record { items = answer.port ∷ [] }; mtu = answer.mtu; cache = answer.cache }, plan.Answer)
 
 -- What the slots of `serve` have in common, which are numbered from 0 on, and what is done with them: their frames come and go by a link.
 abbrev pub serve_plan : Serves → Rack × Plan
-serve_plan serve = (record { first = record { major = serve.shelf; minor = 0 }; ports = serve.ports; mtu = serve.mtu }, plan.Serve serve.frames serve.idle)
+serve_plan serve = (record { first = record { major = serve.shelf; minor = 0 }; ports = serve.ports; mtu = serve.mtu; cache = serve.cache }, plan.Serve serve.frames serve.idle)
 
 -- it asks by the first link
 abbrev pub is_tool : Option Command → Bool
@@ -33,6 +33,7 @@ pub record CanExport (rack : Rack) (p : Plan) (files links : ℕ) : Type 0 where
   pub major : rack.first.major < 65535
   pub ports : 1 ≤ length rack.ports.items
   pub mtu : (1500 ≤ rack.mtu) × (rack.mtu ≤ 9000)
+  pub cache : rack.cache ≤ 65536
   pub pairs : files % 2 ≡ 0
   pub room : files ≤ 32
   pub minors : rack.first.minor + files / 2 ≤ 255

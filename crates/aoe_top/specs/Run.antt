@@ -26,7 +26,7 @@ use Rattle.aoe_top.specs.declared.status.Status.TheVariants as status
 -- A run over files and their keeps, which were all mounted: it ended so, and the status says how.
 pub record RanFiles {D S K L : Type 0} (state : D → DiskState) (rack : Rack) (p : Plan) (t : Tells S K L) (s : Status) (a b : Outside S K L) (disks disks' : List (Option D)) : Type 0 where
   pub exported : Exported
-  pub run : IsExported state (target_of rack) rack.first.minor t p exported a b disks disks'
+  pub run : IsExported state rack.cache (target_of rack) rack.first.minor t p exported a b disks disks'
   pub ends : s ≡ status_of exported
 
 -- A run of the script that a source gave to its end, with its text on the sink: it ended so, and the status says how. But for a whole run

@@ -30,6 +30,7 @@ pub(crate) fn answer_plan(answer: Answer) -> (Rack, Plan)
         first: answer.id,
         ports: one_port(answer.port),
         mtu: answer.mtu,
+        cache: answer.cache,
     };
     (rack, Plan::Answer)
 }
@@ -47,6 +48,7 @@ pub(crate) fn serve_plan(serve: Serve) -> (Rack, Plan)
         },
         ports: serve.ports,
         mtu: serve.mtu,
+        cache: serve.cache,
     };
     let plan = Plan::Serve {
         frames: serve.frames,

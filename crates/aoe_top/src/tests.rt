@@ -181,6 +181,43 @@ fn reads_as_much_as_a_frame_carries(rt: HostRuntime) -> Result<(), Fail> {
     Ok(())
 }
 
+/// A WRITE SECTORS EXT of one sector at the target 1.0, by 02:00:00:00:00:0a, without the sector.
+const WRITE: [u8; 38] = [
+    2, 36, 2, 0, 0, 0, 0, 1, 2, 0, 0, 0, 0, 10, 0x88, 0xa2, 0x10, 0, 0, 1, 0, 0, 0, 0, 0, 7, 0x41,
+    0, 1, 0x34, 0, 0, 0, 0, 0, 0, 0, 0,
+];
+
+#[test]
+fn holds_writes_back(rt: HostRuntime) -> Result<(), Fail> {
+    // One write of sector 3 and one of sector 4.
+    let mut input = [1u8; 1100];
+    input[..38].copy_from_slice(&WRITE);
+    input[550..588].copy_from_slice(&WRITE);
+    input[30] = 3;
+    input[580] = 4;
+    let cases = [
+        ("answer 1 0 disk keep", 3),
+        ("answer 1 0 disk keep --cache 0", 3),
+        ("answer 1 0 disk keep --cache 4", 2),
+    ];
+    for (line, calls) in cases {
+        let mut disks = zero_disks(rt.alloc())?;
+        let mut source = MemSource::of(rt.alloc(), &input)?;
+        let mut sink = MemSink::new(rt.alloc(), 1000)?;
+        let status = run_over(
+            rt.alloc(),
+            line,
+            &mut source,
+            &mut sink,
+            &mut disks,
+            &mut [],
+        )?;
+        assert_eq!(rt; status, Status::Ok);
+        assert_eq!(rt; disks[0].as_ref().map_or(9, MemDisk::calls), calls, "{line}");
+    }
+    Ok(())
+}
+
 #[test]
 fn answers_from_the_port(rt: HostRuntime) -> Result<(), Fail> {
     let mut source = MemSource::of(rt.alloc(), &QUERY)?;

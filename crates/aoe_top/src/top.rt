@@ -152,7 +152,8 @@ fn run_command<S: Source, K: Sink, D: Disk + Drop, L: Link, C: Clock>(
 /// the sink's stream. `serve SHELF FILE KEEP ..` answers each frame that the first link brings, as
 /// the targets SHELF.0, SHELF.1 and so on over the pairs of disks and behind the ports that `--ports`
 /// names, until `--frames` frames came or `--idle` consecutive turns brought none. A frame carries as
-/// much as `--mtu` says.
+/// much as `--mtu` says. Each target holds back as many sectors that were written as `--cache` says,
+/// until it has no room or its store is synced.
 ///
 /// The tools ask over the first link and the clock: `discover` and `stat` which targets there are, with
 /// their sizes and states, `cfg`, `mask` and `reserve` one target for a list or a change of it; what they
@@ -172,8 +173,8 @@ fn run_command<S: Source, K: Sink, D: Disk + Drop, L: Link, C: Clock>(
 /// where one is refused nothing is read, written or sent. At the end each store is synced, however
 /// the run ended. There are as many disks as `files_of` names, and as many links as `ports_of`.
 ///
-/// Memory is taken while the words are read, and for the shelf before the first keep is mounted; then
-/// no more. A replay takes memory until its text is written.
+/// Memory is taken while the words are read, and for the shelf and its stores before the first keep is
+/// mounted; then no more. A replay takes memory until its text is written, and so does a tool.
 pub fn aoe<S: Source, K: Sink, D: Disk + Drop, L: Link, C: Clock>(
     alloc: Global,
     words: &[String],

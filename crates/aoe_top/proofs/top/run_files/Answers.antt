@@ -12,7 +12,7 @@ few-slots (Some slot) n within few = omega (arith, within slot refl, few)
 
 pub status_of-requires : goal.status_of-requires
 status_of-requires g c =
-    few-slots c.in-Ok.exported.unsynced _ (λ slot is. unsynced-within _ _ _ _ _ _ _ _ _ _ c.in-Ok.ensures.ran slot is) c.requires.possible.room
+    few-slots c.in-Ok.exported.unsynced _ (λ slot is. unsynced-within _ _ _ _ _ _ _ _ _ _ _ c.in-Ok.ensures.ran slot is) c.requires.possible.room
 
 pub refused_as-requires : goal.refused_as-requires
 refused_as-requires g c =
