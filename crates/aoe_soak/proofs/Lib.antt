@@ -1,0 +1,4 @@
+mod AddLemmas
+mod GoodLemmas
+mod LoopLemmas
+mod SetupLemmas

@@ -1,0 +1,35 @@
+//! Events at the end of a script that takes them.
+ghost use Rattle.std.specs.Prelude.{◌≡◌, ◌+◌, ◌<◌, ◌≤◌, ◌++◌, ◌∷◌, [], All, None, OnOk, length};
+ghost use Rattle.aoe_script.specs.Rules.{event_why};
+ghost use Rattle.aoe_soak.specs.Adds.{Takes, with_events};
+
+use crate::memory::memory_alone;
+use aoe_base::NoMemory;
+use aoe_script::{Event, Script};
+
+/// Adds an event with which nothing is wrong.
+pub(crate) fn add(script: &mut Script, event: Event) -> Result<(), NoMemory>
+    requires good { event_why script.old.setups event ≡ None }
+    requires room { length script.old.events < 50000 }
+    ensures { OnOk result (script.new ≡ with_events script.old (event ∷ [])) }
+{
+    match script.push(event) {
+        Ok(()) => Ok(()),
+        Err(refusal) => Err(memory_alone(refusal)),
+    }
+}
+
+/// Adds events with which nothing is wrong.
+pub(crate) fn add_all<const N: usize>(
+    script: &mut Script,
+    events: [Event; N],
+) -> Result<(), NoMemory>
+    requires good { All (Takes script.old) events }
+    requires room { length script.old.events + N ≤ 50000 }
+    ensures { OnOk result (script.new ≡ with_events script.old events.entry) }
+{
+    'events: for event in events {
+        add(script, event)?;
+    }
+    Ok(())
+}

@@ -1,0 +1,17 @@
+//! A large run from a number: [`soak`] gives the script of a seed and a count of commands.
+//!
+//! Two hosts write and read sectors of one device over two paths each. Of each ten commands one
+//! loses its answer and one request comes twice, and half way both hosts flush and the shelf loses
+//! power.
+#![tactic(auto)]
+
+mod add;
+mod command;
+mod memory;
+mod setup;
+mod whole;
+
+pub use whole::soak;
+
+#[cfg(test)]
+mod tests;
