@@ -7,13 +7,13 @@ use Rattle.aoe_history.specs.declared.entry.Entry.{Entry}
 use Rattle.aoe_sim_setup.specs.Layout.{setup_of}
 use Rattle.aoe_script.specs.declared.refusal.ScriptRefusal.{ScriptRefusal}
 use Rattle.aoe_script.specs.declared.setup.Setup.{Setup as Line}
-use Rattle.aoe_transcript.specs.Counts.{run_text}
 use Rattle.aoe_world.specs.World.{Stepped}
 use Rattle.aoe_script.specs.Lines.{ScriptLines, refusal, script_of}
+use Rattle.aoe_world.specs.declared.part.Part.{Part}
 use Rattle.aoe_world.specs.declared.end.ReplayEnd.{ReplayEnd}
 use Rattle.aoe_world.specs.declared.end.ReplayEnd.TheVariants.{Ended, SourceFault, SinkFault, NoMemory, Script, Limit}
 use Rattle.aoe_world.specs.declared.end.ReplayLimit.TheVariants.{ScriptBytes, Events, Frames, FrameBytes}
-use Rattle.aoe_world.specs.Replay.{GaveAll, IsFaultless, IsRead, IsRefusedAs, IsSound, HasRun, LeavesSink, Played, Plays, Refuses, Replayed, Runs, Spells, Stops, Unread, Writes, text_of}
+use Rattle.aoe_world.specs.Replay.{GaveAll, IsFaultless, IsRead, IsRefusedAs, IsSound, HasRun, LeavesSink, Played, Plays, Refuses, Replayed, Runs, RunsTo, Spells, Stops, Unread, Writes, part_text, text_of}
 use Rattle.aoe_world.proofs.TextLemmas.{short_none}
 
 pub left_alone : {T : Type 0} (end : ReplayEnd) (a : T) → LeavesSink end a a
@@ -26,40 +26,41 @@ left_alone NoMemory a = refl
 
 -- ---- the run of a script
 
-pub finished : (end : ReplayEnd) (script : ScriptLines) (held held' : Option (List ℕ)) (run : Played script) → Writes end held held' (text_of script run) → Runs end script held held'
-finished Ended script held held' run writes = (run, writes)
-finished SinkFault script held held' run writes = (run, writes)
-finished NoMemory script held held' run writes = writes
-finished (Limit limit) script held held' run writes = absurd writes
-finished (Script line why) script held held' run writes = absurd writes
-finished SourceFault script held held' run writes = absurd writes
+pub finished : (part : Part) (end : ReplayEnd) (script : ScriptLines) (held held' : Option (List ℕ)) (run : Played script) → Writes end held held' (text_of part script run)
+    → RunsTo part end script held held'
+finished part Ended script held held' run writes = (run, writes)
+finished part SinkFault script held held' run writes = (run, writes)
+finished part NoMemory script held held' run writes = writes
+finished part (Limit limit) script held held' run writes = absurd writes
+finished part (Script line why) script held held' run writes = absurd writes
+finished part SourceFault script held held' run writes = absurd writes
 
--- all events of a script came in a world, and the text of its history was written
-pub finished_in : (end : ReplayEnd) (script : ScriptLines) (held held' : Option (List ℕ)) (world : Stepped) (count : ℕ) (entries : List Entry)
+-- all events of a script came in a world, and this part of the text of its history was written
+pub finished_in : (part : Part) (end : ReplayEnd) (script : ScriptLines) (held held' : Option (List ℕ)) (world : Stepped) (count : ℕ) (entries : List Entry)
     → world.lines ≡ script.setups → Plays (setup_of script.setups) script.setups script.events 1 [] world.cursor world.entries
     → IsSound (setup_of world.lines) world.entries
-    → count ≡ length script.events → entries ≡ world.entries → Writes end held held' (run_text count entries) → Runs end script held held'
-finished_in end script held held' world count entries lines plays sound counted same writes =
+    → count ≡ length script.events → entries ≡ world.entries → Writes end held held' (part_text part count entries) → RunsTo part end script held held'
+finished_in part end script held held' world count entries lines plays sound counted same writes =
     let P : List Line → Type 0 = λ l. IsSound (setup_of l) world.entries in
-    let R : ℕ → Type 0 = λ k. Writes end held held' (run_text k world.entries) in
-    let S : List Entry → Type 0 = λ l. Writes end held held' (run_text count l) in
-    finished end script held held' record {
+    let R : ℕ → Type 0 = λ k. Writes end held held' (part_text part k world.entries) in
+    let S : List Entry → Type 0 = λ l. Writes end held held' (part_text part count l) in
+    finished part end script held held' record {
       entries = world.entries;
       cursor = world.cursor;
       plays = plays;
       sound = subst P lines sound;
     } (subst R counted (subst S same writes))
 
-pub stopped : (end : ReplayEnd) (script : ScriptLines) (held : Option (List ℕ)) → Stops end script → Runs end script held held
-stopped NoMemory script held stops = refl
-stopped (Limit Frames) script held stops = (stops, refl)
-stopped (Limit FrameBytes) script held stops = (stops, refl)
-stopped (Limit ScriptBytes) script held stops = stops
-stopped (Limit Events) script held stops = stops
-stopped (Script line why) script held stops = stops
-stopped Ended script held stops = absurd stops
-stopped SourceFault script held stops = stops
-stopped SinkFault script held stops = absurd stops
+pub stopped : (part : Part) (end : ReplayEnd) (script : ScriptLines) (held : Option (List ℕ)) → Stops end script → RunsTo part end script held held
+stopped part NoMemory script held stops = refl
+stopped part (Limit Frames) script held stops = (stops, refl)
+stopped part (Limit FrameBytes) script held stops = (stops, refl)
+stopped part (Limit ScriptBytes) script held stops = stops
+stopped part (Limit Events) script held stops = stops
+stopped part (Script line why) script held stops = stops
+stopped part Ended script held stops = absurd stops
+stopped part SourceFault script held stops = stops
+stopped part SinkFault script held stops = absurd stops
 
 pub stops_no_sink : (end : ReplayEnd) (script : ScriptLines) → Stops end script → end ≡ SinkFault → ⊥
 stops_no_sink end script stops e = let P : ReplayEnd → Type 0 = λ x. Stops x script in subst P e stops
@@ -120,6 +121,24 @@ refused_no_sink end text r e = let P : ReplayEnd → Type 0 = λ x. IsRefusedAs 
 pub runs_no_source : (end : ReplayEnd) (script : ScriptLines) (held held' : Option (List ℕ)) → Runs end script held held' → end ≡ SourceFault → ⊥
 runs_no_source end script held held' r e = let P : ReplayEnd → Type 0 = λ x. Runs x script held held' in subst P e r
 
+-- ---- a script of no text
+
+no_fault : (before after : ℕ) → IsFaultless before after → Rose before after → ⊥
+no_fault before after f rose = let more : before < after = rose f.room in omega (arith, f.same, more)
+
+-- where the sink doesn't fail its run comes to its end, or stops
+pub comes_through : (part : Part) (end : ReplayEnd) (script : ScriptLines) (held held' : Option (List ℕ)) (sinks sinks' : ℕ) → RunsTo part end script held held'
+    → IsFaultless sinks sinks' → (end ≡ SinkFault → Rose sinks sinks') → HasRun end script
+comes_through part Ended script held held' sinks sinks' runs sink rose = inl refl
+comes_through part NoMemory script held held' sinks sinks' runs sink rose = inr tt
+comes_through part (Limit Frames) script held held' sinks sinks' runs sink rose = inr runs.0
+comes_through part (Limit FrameBytes) script held held' sinks sinks' runs sink rose = inr runs.0
+comes_through part (Limit ScriptBytes) script held held' sinks sinks' runs sink rose = absurd runs
+comes_through part (Limit Events) script held held' sinks sinks' runs sink rose = absurd runs
+comes_through part (Script line why) script held held' sinks sinks' runs sink rose = absurd runs
+comes_through part SourceFault script held held' sinks sinks' runs sink rose = absurd runs
+comes_through part SinkFault script held held' sinks sinks' runs sink rose = absurd (no_fault sinks sinks' sink (rose refl))
+
 -- ---- what is refused is refused for its text alone
 
 -- a source that tells its bytes gave a front of them
@@ -139,9 +158,6 @@ no_refusal left left' bytes cause is good r =
     let same : refusal bytes ≡ refusal r.0 = ap refusal (all_of left left' bytes r.0 is r.1) in
     let both : None ≡ Some cause = sym good ∙ same ∙ r.2 in
     cc
-
-no_fault : (before after : ℕ) → IsFaultless before after → Rose before after → ⊥
-no_fault before after f rose = let more : before < after = rose f.room in omega (arith, f.same, more)
 
 module _ (left left' held held' : Option (List ℕ)) (bytes : List ℕ) (sources sources' sinks sinks' : ℕ) (is : left ≡ Some bytes) (good : refusal bytes ≡ None)
     (source : IsFaultless sources sources') (sink : IsFaultless sinks sinks') where

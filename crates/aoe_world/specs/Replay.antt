@@ -13,7 +13,10 @@ use Rattle.aoe_script.specs.declared.refusal.ScriptRefusal.{ScriptRefusal}
 use Rattle.aoe_script.specs.declared.refusal.ScriptRefusal.TheVariants.{BadLine, TooMany}
 use Rattle.aoe_script.specs.declared.setup.Setup.{Setup as Line}
 use Rattle.aoe_script.specs.Lines.{ScriptLines, refusal, script_of}
-use Rattle.aoe_transcript.specs.Counts.{run_text}
+use Rattle.aoe_transcript.specs.Counts.{run_text, summary_of}
+use Rattle.aoe_transcript.specs.Summary.{summary_text}
+use Rattle.aoe_world.specs.declared.part.Part.{Part}
+use Rattle.aoe_world.specs.declared.part.Part.TheVariants.{Whole, Summary}
 use Rattle.aoe_world.specs.declared.refusal.WorldRefusal.{WorldRefusal}
 use Rattle.aoe_world.specs.declared.refusal.WorldRefusal.TheVariants as refused
 use Rattle.aoe_world.specs.Schedule.{Comes, ComesSome}
@@ -69,21 +72,31 @@ Stops SinkFault script = ⊥
 
 -- ---- the run of a script
 
--- the text of a run
-abbrev pub text_of : (script : ScriptLines) → Played script → List ℕ
-text_of script run = run_text (length script.events) run.entries
+-- of the text of a run: all of it, or the line behind those of its history, which says how much happened
+abbrev pub part_text : Part → ℕ → List Entry → List ℕ
+part_text Whole events h = run_text events h
+part_text Summary events h = summary_text (summary_of events h)
 
--- what became of a script, and what the sink took: the whole text at the end, a front of it where the sink failed, and else nothing
+abbrev pub text_of : Part → (script : ScriptLines) → Played script → List ℕ
+text_of part script run = part_text part (length script.events) run.entries
+
+-- what became of a script, and what the sink took: that part of the text at the end, a front of it where the sink failed, and else nothing
+abbrev pub RunsTo : Part → ReplayEnd → ScriptLines → Option (List ℕ) → Option (List ℕ) → Type 0
+RunsTo part Ended script held held' = (run : Played script) × Took held held' (text_of part script run)
+RunsTo part SinkFault script held held' = (run : Played script) × TookSome held held' (text_of part script run)
+RunsTo part NoMemory script held held' = held' ≡ held
+RunsTo part (Limit Frames) script held held' = Stops (Limit Frames) script × (held' ≡ held)
+RunsTo part (Limit FrameBytes) script held held' = Stops (Limit FrameBytes) script × (held' ≡ held)
+RunsTo part (Limit ScriptBytes) script held held' = ⊥
+RunsTo part (Limit Events) script held held' = ⊥
+RunsTo part (Script line why) script held held' = ⊥
+RunsTo part SourceFault script held held' = ⊥
+
 abbrev pub Runs : ReplayEnd → ScriptLines → Option (List ℕ) → Option (List ℕ) → Type 0
-Runs Ended script held held' = (run : Played script) × Took held held' (text_of script run)
-Runs SinkFault script held held' = (run : Played script) × TookSome held held' (text_of script run)
-Runs NoMemory script held held' = held' ≡ held
-Runs (Limit Frames) script held held' = Stops (Limit Frames) script × (held' ≡ held)
-Runs (Limit FrameBytes) script held held' = Stops (Limit FrameBytes) script × (held' ≡ held)
-Runs (Limit ScriptBytes) script held held' = ⊥
-Runs (Limit Events) script held held' = ⊥
-Runs (Script line why) script held held' = ⊥
-Runs SourceFault script held held' = ⊥
+Runs = RunsTo Whole
+
+abbrev pub Sums : ReplayEnd → ScriptLines → Option (List ℕ) → Option (List ℕ) → Type 0
+Sums = RunsTo Summary
 
 -- ---- the text of a script
 

@@ -7,6 +7,7 @@ mod paths;
 mod refusals;
 mod repeats;
 mod replays;
+mod soaks;
 
 use super::*;
 use aoe_base::Blob;

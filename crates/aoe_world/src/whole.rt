@@ -1,38 +1,40 @@
-//! A whole replay: the text of a script, its run, and the text of the run.
+//! Whole runs: the text of a script or a number comes in, and the text of the run goes out, or its
+//! last line.
 ghost use Rattle.std.specs.Prelude.{ℕ, ◌≡◌, ◌≢◌, ◌≤◌, ◌+◌, All, List, None, Some};
 ghost use Rattle.aoe_base.specs.Faults.{Rose};
-ghost use Rattle.aoe_world.specs.Replay.{HasRun, IsFaultless, LeavesSink, Replayed, Runs, Writes};
+ghost use Rattle.aoe_world.specs.Replay.{HasRun, IsFaultless, LeavesSink, Replayed, RunsTo, Sums, Writes, part_text};
 ghost use Rattle.aoe_script.specs.Lines.{refusal, script_of};
-ghost use Rattle.aoe_transcript.specs.Counts.{run_text};
+ghost use Rattle.aoe_soak.specs.Soak.{soaked};
 ghost use Rattle.aoe_transcript.specs.Print.{CanPrint};
 
 use crate::end::ReplayEnd;
 use crate::events::run_events;
+use crate::part::{Part, print_part};
 use crate::text::{read_text, script_in};
 use crate::world::World;
 use aoe_base::{Failed, NoMemory};
 use aoe_history::History;
 use aoe_io::{Sink, Source, give_all};
 use aoe_script::Script;
-use aoe_transcript::print_run;
 use std::alloc::Global;
 
-/// Writes the text of the run of a script of `script_events` events.
+/// Writes this part of the text of the run of a script of `script_events` events.
 fn write_run<K: Sink>(
     alloc: Global,
+    part: Part,
     script_events: u64,
     history: &History,
     sink: &mut K,
 ) -> ReplayEnd
     requires { All CanPrint history.now }
-    ensures writes { Writes result (K.held sink.old) (K.held sink.new) (run_text script_events history.now) }
+    ensures writes { Writes result (K.held sink.old) (K.held sink.new) (part_text part script_events history.now) }
     ensures leaves { LeavesSink result sink.old sink.new }
     ensures count { K.faults sink.old ≤ K.faults sink.new }
     ensures sink_fault { result ≡ ReplayEnd.SinkFault → Rose (K.faults sink.old) (K.faults sink.new) }
     ensures sink_no_fault { result ≢ ReplayEnd.SinkFault → K.faults sink.new ≡ K.faults sink.old }
     ensures sink_one_fault { K.faults sink.new ≤ K.faults sink.old + 1 }
 {
-    let text = match print_run(alloc, script_events, history) {
+    let text = match print_part(alloc, part, script_events, history) {
         Ok(text) => text,
         Err(NoMemory) => return ReplayEnd::NoMemory,
     };
@@ -42,9 +44,9 @@ fn write_run<K: Sink>(
     }
 }
 
-/// Runs a script, and writes the text of the run.
-fn run_script<K: Sink>(alloc: Global, script: &Script, sink: &mut K) -> ReplayEnd
-    ensures runs { Runs result script.now (K.held sink.old) (K.held sink.new) }
+/// Runs a script, and writes this part of the text of the run.
+fn run_script<K: Sink>(alloc: Global, part: Part, script: &Script, sink: &mut K) -> ReplayEnd
+    ensures runs { RunsTo part result script.now (K.held sink.old) (K.held sink.new) }
     ensures leaves { LeavesSink result sink.old sink.new }
     ensures count { K.faults sink.old ≤ K.faults sink.new }
     ensures sink_fault { result ≡ ReplayEnd.SinkFault → Rose (K.faults sink.old) (K.faults sink.new) }
@@ -56,7 +58,7 @@ fn run_script<K: Sink>(alloc: Global, script: &Script, sink: &mut K) -> ReplayEn
         Err(NoMemory) => return ReplayEnd::NoMemory,
     };
     match run_events(&mut world, script) {
-        Ok(()) => write_run(alloc, script.count() as u64, world.history(), sink),
+        Ok(()) => write_run(alloc, part, script.count() as u64, world.history(), sink),
         Err(end) => end,
     }
 }
@@ -79,7 +81,7 @@ fn replay_script<S: Source, K: Sink>(alloc: Global, source: &mut S, sink: &mut K
         Err(end) => return end,
     };
     match script_in(alloc, text.as_slice()) {
-        Ok(script) => run_script(alloc, &script, sink),
+        Ok(script) => run_script(alloc, Part::Whole, &script, sink),
         Err(refusal) => refusal,
     }
 }
@@ -100,4 +102,23 @@ pub fn replay<S: Source, K: Sink>(alloc: Global, source: &mut S, sink: &mut K) -
     ensures replays { (text : List ℕ) → S.left source.old ≡ Some text → refusal text ≡ None → IsFaultless (S.faults source.old) (S.faults source.new) → IsFaultless (K.faults sink.old) (K.faults sink.new) → HasRun result (script_of text) }
 {
     replay_script(alloc, source, sink)
+}
+
+/// Runs the script of a seed and a count of commands, and writes the last line of the text of the run
+/// to the sink when the last event is done. The same seed and count have the same script each time.
+pub fn soak<K: Sink>(alloc: Global, seed: u16, count: u32, sink: &mut K) -> ReplayEnd
+    requires some { 1 ≤ count }
+    requires most { count ≤ 16000 }
+    ensures sums { Sums result (soaked seed count) (K.held sink.old) (K.held sink.new) }
+    ensures unwritten { LeavesSink result sink.old sink.new }
+    ensures sink_count { K.faults sink.old ≤ K.faults sink.new }
+    ensures sink_fault { result ≡ ReplayEnd.SinkFault → Rose (K.faults sink.old) (K.faults sink.new) }
+    ensures sink_no_fault { result ≢ ReplayEnd.SinkFault → K.faults sink.new ≡ K.faults sink.old }
+    ensures sink_one_fault { K.faults sink.new ≤ K.faults sink.old + 1 }
+    ensures runs { IsFaultless (K.faults sink.old) (K.faults sink.new) → HasRun result (soaked seed count) }
+{
+    match aoe_soak::soak(alloc, seed, count) {
+        Ok(script) => run_script(alloc, Part::Summary, &script, sink),
+        Err(NoMemory) => ReplayEnd::NoMemory,
+    }
 }
