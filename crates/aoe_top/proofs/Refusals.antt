@@ -318,7 +318,7 @@ runs-of : {D S K L : Type 0} (state : D → DiskState) (command : Command) (t : 
 runs-of state (command.Answer answer) t s a b disks disks' count run = over_files _ _ run
 runs-of state (command.Serve serve) t s a b disks disks' count run = over_files _ _ run
 runs-of state command.Replay t s a b disks disks' count run = over_none count (λ disk e. no-disk run.0.end disk (sym run.0.ends ∙ e))
-runs-of state (command.Soak asked) t s a b disks disks' count run = over_none count (λ disk e. let f = sym (ap is_tool_status e) ∙ run.0 in absurd cc)
+runs-of state (command.Soak asked) t s a b disks disks' count run = over_none count (λ disk e. no-disk run.0.end disk (sym run.0.ends ∙ e))
 runs-of state (command.Ask tool) t s a b disks disks' count run = over_none count (λ disk e. let f = sym (ap is_tool_status e) ∙ run.0 in absurd cc)
 
 module _ {D S K L : Type 0} (state : D → DiskState) (command : Command) (t : Tells S K L) (s : Status) (a b : Outside S K L) (disks disks' : List (Option D))

@@ -10,11 +10,13 @@ use Rattle.aoe_serve.specs.Files.{GivesBack}
 use Rattle.aoe_serve.specs.declared.plan.Exported.{Exported}
 use Rattle.aoe_serve.specs.declared.over_files.Rack.{Rack}
 use Rattle.aoe_serve.specs.declared.plan.Plan.{Plan}
-use Rattle.aoe_world.specs.Replay.{HasRun, LeavesSink, Replayed}
+use Rattle.aoe_world.specs.Replay.{HasRun, LeavesSink, Replayed, Sums}
 use Rattle.aoe_script.specs.Lines.{ScriptLines}
+use Rattle.aoe_soak.specs.Soak.{soaked}
 use Rattle.aoe_world.specs.declared.end.ReplayEnd.{ReplayEnd}
 use Rattle.aoe_words.specs.declared.command.Command.{Command}
 use Rattle.aoe_words.specs.declared.command.Command.TheVariants as command
+use Rattle.aoe_words.specs.declared.command.Soak.{Soak}
 use Rattle.aoe_words.specs.declared.command.Tool.{Tool}
 use Rattle.aoe_tools.specs.Runs.{Told}
 use Rattle.aoe_top.specs.Commands.{answer_plan, serve_plan, target_of}
@@ -37,12 +39,19 @@ pub record RanScript {S K : Type 0} (left : S → Option (List ℕ)) (held : K �
   pub leaves : LeavesSink end sink sink'
   pub ends : s ≡ replayed_as end
 
+-- A run of the script of `soak`, with the last line of its text on the sink: it ended so, and the status says how.
+pub record RanSoak {K : Type 0} (held : K → Option (List ℕ)) (asked : Soak) (s : Status) (sink sink' : K) : Type 0 where
+  pub end : ReplayEnd
+  pub run : Sums end (soaked asked.seed asked.count) (held sink) (held sink')
+  pub leaves : LeavesSink end sink sink'
+  pub ends : s ≡ replayed_as end
+
 -- a run of a command: over files, of the script that the source gives, of the script of `soak`, or of a tool
 abbrev pub Ran : {D S K L : Type 0} → (D → DiskState) → Command → Tells S K L → Status → Outside S K L → Outside S K L → List (Option D) → List (Option D) → Type 0
 Ran state (command.Answer answer) t s a b disks disks' = RanFiles state (answer_plan answer).0 (answer_plan answer).1 t s a b disks disks'
 Ran state (command.Serve serve) t s a b disks disks' = RanFiles state (serve_plan serve).0 (serve_plan serve).1 t s a b disks disks'
 Ran state command.Replay t s a b disks disks' = RanScript t.left t.held s a.source b.source a.sink b.sink × (b.links ≡ a.links) × (disks' ≡ disks)
-Ran state (command.Soak asked) t s a b disks disks' = (is_tool_status s ≡ true) × (b.source ≡ a.source) × (b.links ≡ a.links) × (disks' ≡ disks)
+Ran state (command.Soak asked) t s a b disks disks' = RanSoak t.held asked s a.sink b.sink × (b.source ≡ a.source) × (b.links ≡ a.links) × (disks' ≡ disks)
 Ran state (command.Ask tool) t s a b disks disks' = (is_tool_status s ≡ true) × (b.source ≡ a.source) × (disks' ≡ disks)
 
 -- A tool ran over the first link and a clock, and a sink took what it says; or there was no memory to read its command, and the link is as

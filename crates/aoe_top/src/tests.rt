@@ -213,7 +213,11 @@ fn holds_writes_back(rt: HostRuntime) -> Result<(), Fail> {
             &mut [],
         )?;
         assert_eq!(rt; status, Status::Ok);
-        assert_eq!(rt; disks[0].as_ref().map_or(9, MemDisk::calls), calls, "{line}");
+        assert_eq!(rt;
+            disks[0].as_ref().map_or(9, MemDisk::calls),
+            calls,
+            "{line}"
+        );
     }
     Ok(())
 }
@@ -649,5 +653,23 @@ fn stops_at_a_fault_of_a_replay(rt: HostRuntime) -> Result<(), Fail> {
         assert_eq!(rt; status.code(), code);
         assert!(rt; sink.bytes().is_empty());
     }
+    Ok(())
+}
+
+#[test]
+fn soaks(rt: HostRuntime) -> Result<(), Fail> {
+    let alloc = rt.alloc();
+    let mut source = MemSource::of(alloc, b"")?;
+    let mut sink = MemSink::new(alloc, 1000)?;
+    let status = run_over(alloc, "soak 0 10", &mut source, &mut sink, &mut [], &mut [])?;
+    assert_eq!(rt; status, Status::Ok);
+    assert_eq!(rt;
+        sink.bytes(),
+        b"summary events 31 frames 27 sent 13 again 1 arrived 14 done 12 lost 1 crashed 1\n".as_slice()
+    );
+    let mut sink = MemSink::new(alloc, 5)?;
+    let status = run_over(alloc, "soak 0 10", &mut source, &mut sink, &mut [], &mut [])?;
+    assert_eq!(rt; status, Status::SinkFault);
+    assert_eq!(rt; sink.bytes(), b"summa".as_slice());
     Ok(())
 }

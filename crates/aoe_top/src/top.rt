@@ -6,13 +6,15 @@ ghost use Rattle.aoe_lists.specs.Settings.{Settings};
 ghost use Rattle.aoe_serve.specs.Exporting.{AtFirst};
 ghost use Rattle.aoe_world.specs.Replay.{IsFaultless};
 ghost use Rattle.aoe_script.specs.Lines.{refusal, script_of};
-ghost use Rattle.aoe_words.specs.Words.{IsInRange, command, file_count, file_names, link_count, port_words};
+ghost use Rattle.aoe_soak.specs.Soak.{soaked};
+ghost use Rattle.aoe_words.specs.Words.{CanSoak, IsInRange, command, file_count, file_names, link_count, port_words};
 ghost use Rattle.aoe_words.specs.declared.command.Answer.{Answer as Answers};
 ghost use Rattle.aoe_words.specs.declared.command.Serve.{Serve as Serves};
+ghost use Rattle.aoe_words.specs.declared.command.Soak.{Soak as Soaks};
 ghost use Rattle.aoe_words.specs.declared.command.Tool.{Tool};
 ghost use Rattle.aoe_top.specs.Commands.{CanExport, is_tool};
 ghost use Rattle.aoe_top.specs.Ending.{file_at, keep_at, refused_slot};
-ghost use Rattle.aoe_top.specs.Run.{Asked, HasLists, HasReplayed, IsBad, IsSmall, NothingLoose, OnSlot, Ran, RanFiles, RanScript, Refused};
+ghost use Rattle.aoe_top.specs.Run.{Asked, HasLists, HasReplayed, IsBad, IsSmall, NothingLoose, OnSlot, Ran, RanFiles, RanScript, RanSoak, Refused};
 
 use crate::plan::{answer_plan, refused_as, replayed_as, serve_plan, status_of};
 use crate::status::Status;
@@ -21,8 +23,8 @@ use aoe_base::NoMemory;
 use aoe_disk::Disk;
 use aoe_io::{Clock, Link, Sink, Source};
 use aoe_serve::{ExportRefusal, Plan, Rack, export};
-use aoe_words::{Command, read_words};
-use aoe_world::replay;
+use aoe_words::{Command, Soak, read_words};
+use aoe_world::{replay, soak};
 use std::alloc::Global;
 
 /// Runs a plan over files and links.
@@ -83,6 +85,24 @@ fn run_script<S: Source, K: Sink>(alloc: Global, source: &mut S, sink: &mut K) -
     replayed_as(replay(alloc, source, sink))
 }
 
+/// Runs the script that a number makes.
+fn run_soak<K: Sink>(alloc: Global, asked: Soak, sink: &mut K) -> Status
+    requires { CanSoak asked }
+    ensures run { RanSoak K.held asked result sink.old sink.new }
+    ensures unrefused { refused_slot result ≡ None }
+    ensures disks { (disk : ℕ) → result ≢ Status.DiskFault disk }
+    ensures links { (link : ℕ) → result ≢ Status.LinkFault link }
+    ensures usage { result ≢ Status.Usage }
+    ensures source { result ≢ Status.SourceFault }
+    ensures memory { result ≡ Status.NoMemory → sink.new ≡ sink.old }
+    ensures sink_fault { result ≡ Status.SinkFault → Rose (K.faults sink.old) (K.faults sink.new) }
+    ensures sink_no_fault { result ≢ Status.SinkFault → K.faults sink.new ≡ K.faults sink.old }
+    ensures sink_one_fault { K.faults sink.new ≤ K.faults sink.old + 1 }
+    ensures soaks { IsFaultless (K.faults sink.old) (K.faults sink.new) → HasReplayed (soaked asked.seed asked.count) result }
+{
+    replayed_as(soak(alloc, asked.seed, asked.count, sink))
+}
+
 /// Runs a command: over its files and links, or the script that the source gives.
 fn run_command<S: Source, K: Sink, D: Disk + Drop, L: Link, C: Clock>(
     alloc: Global,
@@ -127,6 +147,7 @@ fn run_command<S: Source, K: Sink, D: Disk + Drop, L: Link, C: Clock>(
     ensures source_one_fault { S.faults source.new ≤ S.faults source.old + 1 }
     ensures sink_one_fault { K.faults sink.new ≤ K.faults sink.old + 1 }
     ensures link_one_fault { AtFirst (λ a b. L.faults b ≤ L.faults a + 1) links.old links.new }
+    ensures soaks { (asked : Soaks) → command ≡ Command.Soak asked → IsFaultless (K.faults sink.old) (K.faults sink.new) → HasReplayed (soaked asked.seed asked.count) result }
     ensures replays { (text : List ℕ) → command ≡ Command.Replay → S.left source.old ≡ Some text → refusal text ≡ None
         → IsFaultless (S.faults source.old) (S.faults source.new) → IsFaultless (K.faults sink.old) (K.faults sink.new) → HasReplayed (script_of text) result }
 {
@@ -140,7 +161,7 @@ fn run_command<S: Source, K: Sink, D: Disk + Drop, L: Link, C: Clock>(
             run_files(alloc, rack, plan, source, sink, disks, links)
         }
         Command::Replay => run_script(alloc, source, sink),
-        Command::Soak(_) => Status::NoMemory,
+        Command::Soak(asked) => run_soak(alloc, asked, sink),
         Command::Ask(tool) => run_tool(alloc, &tool, sink, &mut links[0], clock),
     }
 }
@@ -248,6 +269,8 @@ pub fn aoe<S: Source, K: Sink, D: Disk + Drop, L: Link, C: Clock>(
         → AtFirst (λ a b. IsFaultless (L.faults a) (L.faults b)) links.old links.new
         → ((slot : ℕ) → OnSlot (λ file file' _ _. IsFaultless (D.state file).faults (D.state file').faults) slot disks.old disks.new)
         → result ≡ Status.Ok }
+    ensures soaks { (asked : Soaks) → command (map string_bytes words.now) ≡ Some (Command.Soak asked)
+        → IsFaultless (K.faults sink.old) (K.faults sink.new) → HasReplayed (soaked asked.seed asked.count) result }
     ensures replays { (text : List ℕ) → command (map string_bytes words.now) ≡ Some Command.Replay → S.left source.old ≡ Some text → refusal text ≡ None
         → IsFaultless (S.faults source.old) (S.faults source.new) → IsFaultless (K.faults sink.old) (K.faults sink.new) → HasReplayed (script_of text) result }
 {

@@ -72,3 +72,10 @@ returns-in-Ok-Some-clause-asks g c tool is =
 
 pub returns-in-Err-clause-replays : goal.returns-in-Err-clause-replays
 returns-in-Err-clause-replays g c text is left_is fine source sink = record { end = replay.NoMemory; run = inr tt; ends = refl }
+
+pub returns-in-Ok-Some-clause-soaks : goal.returns-in-Ok-Some-clause-soaks
+returns-in-Ok-Some-clause-soaks g c asked is fine =
+    c.run_command.ensures.soaks asked (same-command _ _ _ _ c.in-Ok-Some.field-0-is c.in-Ok-Some.ensures.command is) fine
+
+pub returns-in-Err-clause-soaks : goal.returns-in-Err-clause-soaks
+returns-in-Err-clause-soaks g c asked is fine = record { end = replay.NoMemory; run = inr tt; ends = refl }
