@@ -79,6 +79,16 @@ plain_tool name = with_tool_options (bare name)
 abbrev pub list_tool : Text → Rule → App
 list_tool name rule = with_tool_options (with_rule (with_rule (with_rule (bare name) (needed (codes "dev"))) (needed (codes "action"))) rule)
 
+-- get DEV AT COUNT and put DEV AT
+abbrev pub sector_tool : Text → App
+sector_tool name = with_rule (with_rule (bare name) (needed (codes "dev"))) (needed (codes "at"))
+
+abbrev pub get_app : App
+get_app = with_tool_options (with_rule (sector_tool (codes "get")) (needed (codes "count")))
+
+abbrev pub put_app : App
+put_app = with_tool_options (sector_tool (codes "put"))
+
 -- the commands over files: one command has to be named, and it is the first word
 abbrev pub file_commands : App
 file_commands = let a = bare (codes "aoe") in
@@ -93,12 +103,16 @@ abbrev pub listing_commands : App
 listing_commands =
     with_subcommand (with_subcommand script_commands (plain_tool (codes "discover")).top) (plain_tool (codes "stat")).top
 
--- with those that ask for a device's lists
-abbrev pub list_commands : App
-list_commands =
+-- with cfg and mask
+abbrev pub mask_commands : App
+mask_commands =
     with_subcommand (with_subcommand listing_commands (list_tool (codes "cfg") (allowed (codes "text"))).top)
     (list_tool (codes "mask") (allowed_several (codes "dirs"))).top
 
+-- with reserve
+abbrev pub list_commands : App
+list_commands = with_subcommand mask_commands (list_tool (codes "reserve") (allowed_several (codes "macs"))).top
+
 -- all commands
 unfoldable pub aoe_app : App
-aoe_app = with_subcommand list_commands (list_tool (codes "reserve") (allowed_several (codes "macs"))).top
+aoe_app = with_subcommand (with_subcommand list_commands get_app.top) put_app.top

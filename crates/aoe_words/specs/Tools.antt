@@ -1,7 +1,8 @@
 -- What the words of the tools spell.
-use Rattle.std.specs.Prelude.{ℕ, ◌≡◌, ◌≤◌, Bool, ◌&&◌, true, false, List, [], length, take, drop, nat_le, Option, Some, None, if◌then◌else◌, option_and_then, option_map, codes, IfSome}
+use Rattle.std.specs.Prelude.{ℕ, ◌≡◌, ◌≤◌, ◌<◌, ◌^◌, ◌-◌, Bool, ◌&&◌, true, false, List, [], length, take, drop, nat_le, Option, Some, None, if◌then◌else◌, option_and_then, option_map, codes, IfSome}
 use Rattle.std.specs.Str.{bytes_eq}
 use Rattle.clap.specs.Words.{Row, Text, all_of, first_of}
+use Rattle.aoe_base.specs.Decimal.{number_of}
 use Rattle.aoe_base.specs.declared.address.Mac.{Mac}
 use Rattle.aoe_base.specs.declared.address.TargetId.{TargetId}
 use Rattle.aoe_base.specs.Addresses.{is_individual}
@@ -11,6 +12,8 @@ use Rattle.aoe_lists.specs.declared.dir.Dir.{Dir}
 use Rattle.aoe_words.specs.Values.{each, given, given_or, link, number_within, port_of, tool_port}
 use Rattle.aoe_words.specs.declared.command.Asking.{Asking}
 use Rattle.aoe_words.specs.declared.command.Cfg.{Cfg as Cfgs}
+use Rattle.aoe_words.specs.declared.command.Get.{Get as Gets}
+use Rattle.aoe_words.specs.declared.command.Put.{Put as Puts}
 use Rattle.aoe_words.specs.declared.command.Mask.{Mask as Masks}
 use Rattle.aoe_words.specs.declared.command.Reserve.{Reserve as Reserves}
 
@@ -111,6 +114,24 @@ reserve_of rows =
     record { asking = asking; id = id; rcmd = reservation.0; list = record { items = reservation.1 } })
     (given (codes "action") (λ action. reservation_of action (all_of (codes "macs") rows)) rows)) (device rows)) (asking_of 50 rows)
 
+-- ---- get DEV AT COUNT and put DEV AT
+
+-- AT: a sector of 48 bits
+abbrev pub sector : List Row → Option ℕ
+sector = given (codes "at") (λ text. number_of text (2 ^ 48 - 1))
+
+-- they listen for 5000 turns where nothing is said of it
+abbrev pub get_of : List Row → Option Gets
+get_of rows =
+    option_and_then (λ asking. option_and_then (λ id. option_and_then (λ at. option_map (λ count.
+    record { asking = asking; id = id; at = at; count = count })
+    (given (codes "count") (number_within 1 32768) rows)) (sector rows)) (device rows)) (asking_of 5000 rows)
+
+abbrev pub put_of : List Row → Option Puts
+put_of rows =
+    option_and_then (λ asking. option_and_then (λ id. option_map (λ at. record { asking = asking; id = id; at = at })
+    (sector rows)) (device rows)) (asking_of 5000 rows)
+
 -- ---- what holds of them
 
 -- the address is a single station's, and it listens in a turn at least
@@ -139,3 +160,14 @@ pub record CanReserve (reserve : Reserves) : Type 0 where
   pub device : IsDevice reserve.id
   pub command : reserve.rcmd ≤ 2
   pub few : length reserve.list.items ≤ 64
+
+pub record CanGet (get : Gets) : Type 0 where
+  pub asking : CanAsk get.asking
+  pub device : IsDevice get.id
+  pub at : get.at < 2 ^ 48
+  pub count : (1 ≤ get.count) × (get.count ≤ 32768)
+
+pub record CanPut (put : Puts) : Type 0 where
+  pub asking : CanAsk put.asking
+  pub device : IsDevice put.id
+  pub at : put.at < 2 ^ 48

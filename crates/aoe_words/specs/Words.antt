@@ -12,7 +12,7 @@ use Rattle.aoe_base.specs.declared.address.TargetId.{TargetId}
 use Rattle.aoe_base.specs.Addresses.{all_unique, is_individual}
 use Rattle.aoe_words.specs.Apps.{aoe_app}
 use Rattle.aoe_words.specs.Values.{default_port, given, given_or, link, number_within, port_of, ports_of}
-use Rattle.aoe_words.specs.Tools.{CanAsk, CanCfg, CanMask, CanReserve, asking_of, cfg_of, mask_of, reserve_of}
+use Rattle.aoe_words.specs.Tools.{CanAsk, CanCfg, CanMask, CanReserve, CanGet, CanPut, asking_of, cfg_of, mask_of, reserve_of, get_of, put_of}
 use Rattle.aoe_words.specs.declared.command.Answer.{Answer as Answers}
 use Rattle.aoe_words.specs.declared.command.Serve.{Serve as Serves}
 use Rattle.aoe_words.specs.declared.command.Soak.{Soak as Soaks}
@@ -20,7 +20,7 @@ use Rattle.aoe_words.specs.declared.command.PortWords.{PortWords}
 use Rattle.aoe_words.specs.declared.command.Command.{Command}
 use Rattle.aoe_words.specs.declared.command.Command.TheVariants.{Answer, Serve, Replay, Soak, Ask}
 use Rattle.aoe_words.specs.declared.command.Tool.{Tool}
-use Rattle.aoe_words.specs.declared.command.Tool.TheVariants.{Discover, Stat, Cfg, Mask, Reserve}
+use Rattle.aoe_words.specs.declared.command.Tool.TheVariants.{Discover, Stat, Cfg, Mask, Reserve, Get, Put}
 
 -- ---- words
 
@@ -89,7 +89,7 @@ soak_of rows =
     option_and_then (λ seed. option_map (λ count. record { seed = seed; count = count })
     (given (codes "count") (number_within 1 16000) rows)) (given (codes "seed") (λ text. number_of text 65535) rows)
 
--- the tool of this name; it listens for 50 turns where nothing is said of it
+-- the tool of this name; discover and stat listen for 50 turns where nothing is said of it
 abbrev pub tool_of : Text → List Row → Option Tool
 tool_of name rows =
     if bytes_eq name (codes "discover") then option_map Discover (asking_of 50 rows)
@@ -97,6 +97,8 @@ tool_of name rows =
     else if bytes_eq name (codes "cfg") then option_map Cfg (cfg_of rows)
     else if bytes_eq name (codes "mask") then option_map Mask (mask_of rows)
     else if bytes_eq name (codes "reserve") then option_map Reserve (reserve_of rows)
+    else if bytes_eq name (codes "get") then option_map Get (get_of rows)
+    else if bytes_eq name (codes "put") then option_map Put (put_of rows)
     else None
 
 -- the command of this name
@@ -174,6 +176,8 @@ CanRun (Stat asking) = CanAsk asking
 CanRun (Cfg cfg) = CanCfg cfg
 CanRun (Mask mask) = CanMask mask
 CanRun (Reserve reserve) = CanReserve reserve
+CanRun (Get get) = CanGet get
+CanRun (Put put) = CanPut put
 
 abbrev pub IsInRange : Command → Type 0
 IsInRange (Answer answer) = CanAnswer answer

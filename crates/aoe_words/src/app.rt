@@ -2,7 +2,7 @@
 ghost use Rattle.std.specs.Prelude.{◌≡◌, IfOk, map, string_bytes, false};
 ghost use Rattle.clap.specs.Words.{app_of, rule_of, with_rule, FailsBy, fault_of, HasMatchesOf};
 ghost use Rattle.clap.specs.declared.builder.command.Command.TheViews.{out-Command as fields_of};
-ghost use Rattle.aoe_words.specs.Apps.{needed, several, allowed, allowed_several, demanded, optional, bare, answer_front, answer_app, serve_front, with_link, serve_ports, serve_slots, serve_app, replay_app, soak_app, with_tool_options, plain_tool, list_tool, file_commands, script_commands, listing_commands, list_commands, aoe_app};
+ghost use Rattle.aoe_words.specs.Apps.{needed, several, allowed, allowed_several, demanded, optional, bare, answer_front, answer_app, serve_front, with_link, serve_ports, serve_slots, serve_app, replay_app, soak_app, with_tool_options, plain_tool, list_tool, sector_tool, get_app, put_app, file_commands, script_commands, listing_commands, mask_commands, list_commands, aoe_app};
 
 use clap::{Arg, ArgAction, ArgMatches, Command, Error};
 use std::alloc::{AllocError, Global};
@@ -191,6 +191,32 @@ fn list_tool<'a>(alloc: Global, name: &'a str, arg: Arg<'a>) -> Result<Command<'
     with_tool_options(alloc, with(command, arg)?)
 }
 
+/// A tool that has DEV AT, without its options.
+fn sector_tool<'a>(alloc: Global, name: &'a str) -> Result<Command<'a>, AllocError>
+    ensures app { IfOk result (λ r. app_of r ≡ sector_tool name.entry.now) }
+    ensures local { IfOk result (λ r. (fields_of r).has_globals ≡ false) }
+{
+    let command = with(bare(alloc, name), needed(alloc, "dev"))?;
+    with(command, needed(alloc, "at"))
+}
+
+/// `get DEV AT COUNT`.
+fn get<'a>(alloc: Global) -> Result<Command<'a>, AllocError>
+    ensures app { IfOk result (λ r. app_of r ≡ get_app) }
+    ensures local { IfOk result (λ r. (fields_of r).has_globals ≡ false) }
+{
+    let command = with(sector_tool(alloc, "get")?, needed(alloc, "count"))?;
+    with_tool_options(alloc, command)
+}
+
+/// `put DEV AT`.
+fn put<'a>(alloc: Global) -> Result<Command<'a>, AllocError>
+    ensures app { IfOk result (λ r. app_of r ≡ put_app) }
+    ensures local { IfOk result (λ r. (fields_of r).has_globals ≡ false) }
+{
+    with_tool_options(alloc, sector_tool(alloc, "put")?)
+}
+
 /// The commands over files.
 fn file_commands<'a>(alloc: Global) -> Result<Command<'a>, AllocError>
     ensures { IfOk result (λ r. app_of r ≡ file_commands) }
@@ -204,7 +230,7 @@ fn file_commands<'a>(alloc: Global) -> Result<Command<'a>, AllocError>
         .subcommand(serve(alloc)?)
 }
 
-/// The commands over files and those over scripts.
+/// These, and the commands over scripts.
 fn script_commands<'a>(alloc: Global) -> Result<Command<'a>, AllocError>
     ensures { IfOk result (λ r. app_of r ≡ script_commands) }
 {
@@ -222,13 +248,21 @@ fn listing_commands<'a>(alloc: Global) -> Result<Command<'a>, AllocError>
         .subcommand(plain_tool(alloc, "stat")?)
 }
 
-/// These, and tools that ask for a device's lists.
-fn list_commands<'a>(alloc: Global) -> Result<Command<'a>, AllocError>
-    ensures { IfOk result (λ r. app_of r ≡ list_commands) }
+/// These, and the tools for config strings and mask lists.
+fn mask_commands<'a>(alloc: Global) -> Result<Command<'a>, AllocError>
+    ensures { IfOk result (λ r. app_of r ≡ mask_commands) }
 {
     let cfg = list_tool(alloc, "cfg", allowed(alloc, "text"))?;
     let mask = list_tool(alloc, "mask", allowed_several(alloc, "dirs"))?;
     listing_commands(alloc)?.subcommand(cfg)?.subcommand(mask)
+}
+
+/// These, and the tool for reserve lists.
+fn list_commands<'a>(alloc: Global) -> Result<Command<'a>, AllocError>
+    ensures { IfOk result (λ r. app_of r ≡ list_commands) }
+{
+    let reserve = list_tool(alloc, "reserve", allowed_several(alloc, "macs"))?;
+    mask_commands(alloc)?.subcommand(reserve)
 }
 
 /// All commands.
@@ -236,8 +270,9 @@ fn list_commands<'a>(alloc: Global) -> Result<Command<'a>, AllocError>
 fn commands<'a>(alloc: Global) -> Result<Command<'a>, AllocError>
     ensures { IfOk result (λ r. app_of r ≡ aoe_app) }
 {
-    let reserve = list_tool(alloc, "reserve", allowed_several(alloc, "macs"))?;
-    list_commands(alloc)?.subcommand(reserve)
+    list_commands(alloc)?
+        .subcommand(get(alloc)?)?
+        .subcommand(put(alloc)?)
 }
 
 /// What clap finds in the words after the program's name.

@@ -107,6 +107,33 @@ pub struct Reserve {
     pub list: ArrayVec<Mac, MAX_DIRS>,
 }
 
+/// What `get DEV AT COUNT` asks for: to read sectors of a device.
+#[derive(Clone, Copy, Debug, PartialEq, Eq)]
+pub struct Get {
+    pub asking: Asking,
+
+    /// The device.
+    pub id: TargetId,
+
+    /// The first sector.
+    pub at: u64,
+
+    /// How many sectors.
+    pub count: u32,
+}
+
+/// What `put DEV AT` asks for: to write the sectors of the source to a device.
+#[derive(Clone, Copy, Debug, PartialEq, Eq)]
+pub struct Put {
+    pub asking: Asking,
+
+    /// The device.
+    pub id: TargetId,
+
+    /// The first sector.
+    pub at: u64,
+}
+
 /// What a tool asks the targets of a network for.
 #[derive(Debug, Drop, PartialEq, Eq)]
 pub enum Tool {
@@ -119,6 +146,8 @@ pub enum Tool {
     Cfg(Cfg),
     Mask(Mask),
     Reserve(Reserve),
+    Get(Get),
+    Put(Put),
 }
 
 /// What the words of a command line ask for.

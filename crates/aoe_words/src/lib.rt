@@ -15,7 +15,9 @@ mod tools;
 mod values;
 mod word;
 
-pub use command::{Answer, Asking, Cfg, Command, Mask, PortWords, Reserve, Serve, Soak, Tool};
+pub use command::{
+    Answer, Asking, Cfg, Command, Get, Mask, PortWords, Put, Reserve, Serve, Soak, Tool,
+};
 pub use law::plain_words_law;
 pub use read::{files_of, ports_of, read_words};
 

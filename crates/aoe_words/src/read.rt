@@ -6,7 +6,7 @@ ghost use Rattle.aoe_words.specs.Words.{CanAnswer, CanRun, CanServe, CanSoak, Is
 ghost use Rattle.aoe_words.specs.Values.{link};
 
 use crate::app::matches;
-use crate::tools::{cfg_of, mask_of, plain_of, reserve_of};
+use crate::tools::{cfg_of, get_of, mask_of, plain_of, put_of, reserve_of};
 use crate::values::{
     DEFAULT_PORT, NumberOption, link, number, number_from, number_or, port_or_default,
     ports_or_default, texts,
@@ -171,6 +171,10 @@ fn tool_of(name: &str, found: &ArgMatches) -> Option<Tool>
         Some(Tool::Mask(mask_of(found)?))
     } else if name == "reserve" {
         Some(Tool::Reserve(reserve_of(found)?))
+    } else if name == "get" {
+        Some(Tool::Get(get_of(found)?))
+    } else if name == "put" {
+        Some(Tool::Put(put_of(found)?))
     } else {
         None
     }

@@ -1,5 +1,6 @@
 use crate::{
-    Answer, Asking, Cfg, Command, Mask, Reserve, Serve, Soak, Tool, files_of, ports_of, read_words,
+    Answer, Asking, Cfg, Command, Get, Mask, Put, Reserve, Serve, Soak, Tool, files_of, ports_of,
+    read_words,
 };
 use aoe_base::{Mac, Ports, TargetId};
 use aoe_lists::Dir;
@@ -209,6 +210,33 @@ fn reserve(rcmd: u8, macs: &[Mac]) -> Tool {
         id: device(),
         rcmd,
         list,
+    })
+}
+
+/// What `get` asks of the device.
+fn get(at: u64, count: u32, turns: u32) -> Tool {
+    let asking = Asking {
+        port: mac(10),
+        turns,
+    };
+    Tool::Get(Get {
+        asking,
+        id: device(),
+        at,
+        count,
+    })
+}
+
+/// What `put` asks of the device.
+fn put(at: u64, turns: u32) -> Tool {
+    let asking = Asking {
+        port: mac(10),
+        turns,
+    };
+    Tool::Put(Put {
+        asking,
+        id: device(),
+        at,
     })
 }
 
@@ -442,6 +470,36 @@ fn reads_long_lists(rt: HostRuntime) -> Result<(), Fail> {
 }
 
 #[test]
+fn reads_get_and_put(rt: HostRuntime) -> Result<(), Fail> {
+    let cases = [
+        ("get e1.2 0 1", Some(get(0, 1, 5000))),
+        (
+            "get e1.2 281474976710655 32768 --turns 1",
+            Some(get(281474976710655, 32768, 1)),
+        ),
+        ("put e1.2 7", Some(put(7, 5000))),
+        (
+            "put --turns=50 e1.2 281474976710655",
+            Some(put(281474976710655, 50)),
+        ),
+        ("get e1.2 281474976710656 1", None),
+        ("get e1.2 0 0", None),
+        ("get e1.2 0 32769", None),
+        ("get e1.2 0", None),
+        ("get e1.2 0 1 1", None),
+        ("get 1.2 0 1", None),
+        ("put e1.2", None),
+        ("put e1.2 281474976710656", None),
+        ("put e1.2 0 1", None),
+        ("put e1.2 0 --turns 0", None),
+    ];
+    for (line, command) in cases {
+        assert_eq!(rt; read_tool(rt.alloc(), line)?, command, "{line}");
+    }
+    Ok(())
+}
+
+#[test]
 fn refuses_words(rt: HostRuntime) -> Result<(), Fail> {
     let lines = [
         // No command, another, or a word before it.
@@ -570,6 +628,12 @@ fn names_files_and_links(rt: HostRuntime) -> Result<(), Fail> {
             "",
             ends,
         ),
+        (
+            "get e1.2 --local 0.0.0.0:1 --peers 10.0.0.1:1 0 1",
+            "",
+            ends,
+        ),
+        ("put --local 0.0.0.0:1 --peers 10.0.0.1:1 e1.2 0", "", ends),
     ];
     for (line, files, ends) in cases {
         assert_eq!(rt; files_line(alloc, line)?.as_str(), files, "{line}");

@@ -1,19 +1,29 @@
 //! What the words of the tools spell.
-ghost use Rattle.std.specs.Prelude.{◌≡◌, ◌≤◌, option_map, IfSome, IsSome};
+ghost use Rattle.std.specs.Prelude.{◌≡◌, ◌≤◌, ◌<◌, ◌^◌, IfSome, IsSome};
 ghost use Rattle.clap.specs.Words.{found_of, rows_of};
-ghost use Rattle.aoe_base.specs.Names.{device_of};
-ghost use Rattle.aoe_words.specs.Tools.{CanAsk, CanCfg, CanMask, CanReserve, IsDevice, asking_of, ccmd_alone, ccmd_with_text, cfg_of, device, mask_of, rcmd_alone, rcmd_with_list, reserve_of};
+ghost use Rattle.aoe_words.specs.Tools.{CanAsk, CanCfg, CanGet, CanMask, CanPut, CanReserve, IsDevice, asking_of, ccmd_alone, ccmd_with_text, cfg_of, device, get_of, mask_of, put_of, rcmd_alone, rcmd_with_list, reserve_of, sector};
 ghost use Rattle.aoe_words.specs.Values.{link};
 
 use crate::lists::{read_dirs, read_macs, read_text};
-use crate::values::{NumberOption, TOOL_PORT, link, number_or, port_or_default, text, texts};
-use crate::{Asking, Cfg, Mask, Reserve};
+use crate::values::{
+    NumberOption, TOOL_PORT, link, number, number_from, number_or, port_or_default, text, texts,
+};
+use crate::{Asking, Cfg, Get, Mask, Put, Reserve};
 use aoe_base::{TargetId, device_law, read_device};
 use arrayvec::ArrayVec;
 use clap::ArgMatches;
 
 /// How many turns a tool listens where nothing is said of it.
 const TOOL_TURNS: u32 = 50;
+
+/// How many turns `get` and `put` listen where nothing is said of it.
+const SECTOR_TURNS: u32 = 5000;
+
+/// The last sector that a command can name: it has 48 bits (AoEr11, "ATA command").
+const LAST_SECTOR: u64 = 0xffff_ffff_ffff;
+
+/// The most sectors that `get` reads.
+const MOST_SECTORS: u32 = 32768;
 
 /// Who asks, where the ends of the link are named; `turns` is how long where nothing is said of it.
 fn asking_of(found: &ArgMatches, turns: u32) -> Option<Asking>
@@ -174,4 +184,39 @@ pub(crate) fn reserve_of(found: &ArgMatches) -> Option<Reserve>
             list: read_macs(words)?,
         }),
     }
+}
+
+/// The first sector.
+fn sector(found: &ArgMatches) -> Option<u64>
+    ensures value { result ≡ sector (rows_of (found_of found.now)) }
+    ensures range { IfSome result (λ at. at < 2 ^ 48) }
+{
+    number(found, "at", LAST_SECTOR)
+}
+
+/// What the words of `get` ask for.
+pub(crate) fn get_of(found: &ArgMatches) -> Option<Get>
+    ensures value { result ≡ get_of (rows_of (found_of found.now)) }
+    ensures range { IfSome result CanGet }
+    ensures link { IfSome result (λ get. IsSome (link (rows_of (found_of found.now)))) }
+{
+    Some(Get {
+        asking: asking_of(found, SECTOR_TURNS)?,
+        id: device_of(found)?,
+        at: sector(found)?,
+        count: number_from(found, "count", 1, MOST_SECTORS)?,
+    })
+}
+
+/// What the words of `put` ask for.
+pub(crate) fn put_of(found: &ArgMatches) -> Option<Put>
+    ensures value { result ≡ put_of (rows_of (found_of found.now)) }
+    ensures range { IfSome result CanPut }
+    ensures link { IfSome result (λ put. IsSome (link (rows_of (found_of found.now)))) }
+{
+    Some(Put {
+        asking: asking_of(found, SECTOR_TURNS)?,
+        id: device_of(found)?,
+        at: sector(found)?,
+    })
 }
