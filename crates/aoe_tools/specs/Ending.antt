@@ -8,19 +8,28 @@ use Rattle.aoe_tools.specs.declared.end.ToolRefusal.{ToolRefusal}
 use Rattle.aoe_tools.specs.declared.end.ToolRefusal.TheVariants as tool
 
 abbrev pub code_of : ToolRefusal → ℕ
+code_of tool.SourceFault = 3
+code_of tool.SinkFault = 4
 code_of tool.LinkFault = 6
 code_of tool.NoMemory = 7
 code_of (tool.Unanswered turns) = 9
 code_of (tool.Refused r) = 10
+code_of (tool.Stream offset) = 11
+code_of tool.Limit = 12
 
 -- a refusal: the registers in two hexadecimal digits each, the other codes in decimal
 abbrev pub refusal_text : Refusal → List ℕ
 refusal_text (refusal.Aoe error) = codes "aoe: refused: AoE error " ++ decimal error
 refusal_text (refusal.Ata status error) = codes "aoe: refused: ATA status " ++ (pair_text status ++ (codes " error " ++ pair_text error))
 refusal_text (refusal.Mask error) = codes "aoe: refused: mask error " ++ decimal error
+refusal_text refusal.Range = codes "aoe: refused: range"
 
 abbrev pub text_of : ToolRefusal → List ℕ
 text_of tool.LinkFault = codes "aoe: link fault on port 0"
 text_of tool.NoMemory = codes "aoe: no memory"
 text_of (tool.Unanswered turns) = codes "aoe: no answer in " ++ (decimal turns ++ codes " turns")
 text_of (tool.Refused r) = refusal_text r
+text_of (tool.Stream offset) = codes "aoe: bad stream at byte " ++ decimal offset
+text_of tool.Limit = codes "aoe: limit: input bytes"
+text_of tool.SourceFault = codes "aoe: source fault"
+text_of tool.SinkFault = codes "aoe: sink fault"

@@ -8,4 +8,9 @@ pub mod Page
 pub mod Runs
 pub mod Stat
 pub mod Text
+pub mod TransferAsks
+pub mod TransferCourse
+pub mod TransferGets
+pub mod TransferRun
+pub mod TransferSteps
 pub mod Visits

@@ -22,6 +22,18 @@ pub enum ToolRefusal {
 
     /// The device refused.
     Refused(Refusal),
+
+    /// The input isn't whole sectors: after so many bytes less than a sector is left.
+    Stream { offset: u64 },
+
+    /// The input is longer than what is written at a time.
+    Limit,
+
+    /// The source failed.
+    SourceFault,
+
+    /// The sink failed.
+    SinkFault,
 }
 
 /// How a device refuses.
@@ -35,6 +47,9 @@ pub enum Refusal {
 
     /// By the field MError of a mask list response.
     Mask(u8),
+
+    /// The device doesn't have all of these sectors.
+    Range,
 }
 
 impl ToolRefusal {
@@ -43,10 +58,14 @@ impl ToolRefusal {
         ensures { result ≡ code_of self.now }
     {
         match self {
+            ToolRefusal::SourceFault => 3,
+            ToolRefusal::SinkFault => 4,
             ToolRefusal::LinkFault => 6,
             ToolRefusal::NoMemory => 7,
             ToolRefusal::Unanswered { .. } => 9,
             ToolRefusal::Refused(_) => 10,
+            ToolRefusal::Stream { .. } => 11,
+            ToolRefusal::Limit => 12,
         }
     }
 
@@ -59,6 +78,10 @@ impl ToolRefusal {
             ToolRefusal::NoMemory => Blob::of(alloc, b"aoe: no memory"),
             ToolRefusal::Unanswered { turns } => unanswered_text(alloc, turns),
             ToolRefusal::Refused(refusal) => refused_text(alloc, refusal),
+            ToolRefusal::Stream { offset } => stream_text(alloc, offset),
+            ToolRefusal::Limit => Blob::of(alloc, b"aoe: limit: input bytes"),
+            ToolRefusal::SourceFault => Blob::of(alloc, b"aoe: source fault"),
+            ToolRefusal::SinkFault => Blob::of(alloc, b"aoe: sink fault"),
         }
     }
 }
@@ -73,6 +96,16 @@ fn unanswered_text(alloc: Global, turns: u32) -> Result<Blob, NoMemory>
     }
 }
 
+/// The text for an input that isn't whole sectors.
+fn stream_text(alloc: Global, offset: u64) -> Result<Blob, NoMemory>
+    ensures { IfOk result (λ text. text ≡ text_of (ToolRefusal.Stream offset)) }
+{
+    match format!(in alloc; "aoe: bad stream at byte {offset}") {
+        Ok(text) => Blob::of(alloc, text.as_bytes()),
+        Err(_) => Err(NoMemory),
+    }
+}
+
 /// The text for a refusal.
 fn refused_text(alloc: Global, refusal: Refusal) -> Result<Blob, NoMemory>
     ensures { IfOk result (λ text. text ≡ refusal_text refusal) }
@@ -81,6 +114,7 @@ fn refused_text(alloc: Global, refusal: Refusal) -> Result<Blob, NoMemory>
         Refusal::Aoe(error) => aoe_text(alloc, error),
         Refusal::Ata { status, error } => ata_text(alloc, status, error),
         Refusal::Mask(error) => mask_text(alloc, error),
+        Refusal::Range => Blob::of(alloc, b"aoe: refused: range"),
     }
 }
 

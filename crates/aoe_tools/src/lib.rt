@@ -5,15 +5,20 @@
 #![tactic(auto)]
 
 mod asking;
+mod copy;
+mod course;
 mod end;
 mod finding;
 mod found;
 mod lists;
+mod lookup;
 mod question;
 mod request;
 mod text;
+mod transfer;
 mod visiting;
 
+pub use copy::get;
 pub use end::{Refusal, ToolRefusal};
 pub use finding::discover;
 pub use found::{Found, Seen, State};
@@ -22,5 +27,7 @@ pub use question::Ask;
 pub use text::{print_config, print_found, print_masks, print_reserves, print_stat};
 pub use visiting::stat;
 
+#[cfg(test)]
+mod copy_tests;
 #[cfg(test)]
 mod tests;

@@ -29,7 +29,7 @@ fn mask_refusal(subject: Subject, args: &[u8]) -> Option<Refusal>
 }
 
 /// How a response refuses.
-fn refusal_of(subject: Subject, answer: Answer, args: &[u8]) -> Option<Refusal>
+pub(crate) fn refusal_of(subject: Subject, answer: Answer, args: &[u8]) -> Option<Refusal>
     ensures { result ≡ refusal_of subject answer args.now }
 {
     match answer {

@@ -1,0 +1,124 @@
+-- The frames of a turn, one by one.
+use Rattle.std.proofs.Common.{ℕ, suc, ◌≡◌, ◌≤◌, ◌<◌, ◌+◌, List, [], ◌∷◌, ◌++◌, map, Option, Some, None, refl, sym, ap, subst, ◌∙◌, arith}
+use Rattle.std.specs.Prelude.{Result, Ok, Err, IfNone, IfSome, is_some, Bool, true, false}
+use Rattle.aoe_base.specs.declared.failure.Failed.{Failed}
+use Rattle.aoe_initiator.specs.declared.step.Sent.{Sent}
+use Rattle.aoe_initiator.specs.Host.{Host, IsSame, Matches}
+use Rattle.aoe_initiator.specs.HostLaw.{IsFrameOf, IsNext, IsOnNextPath, IsQuiet}
+use Rattle.aoe_initiator.specs.HostLog.{commands, Event}
+use Rattle.aoe_initiator.specs.HostLog.Event.{Sends}
+use Rattle.aoe_io.proofs.LinkLemmas.{Added-then}
+use Rattle.aoe_io.specs.Link.{Added}
+use Rattle.aoe_tools.proofs.ListenLemmas.{Frames, added-nothing}
+use Rattle.aoe_tools.proofs.TransferHost.{active, few-active, next-active, none-active, same-self, same-then}
+use Rattle.aoe_tools.specs.TransferRun.{after_frames, AreSent, IsAt, IsSilent, MaySend, Outgoing}
+use Rattle.aoe_tools.specs.TransferSteps.{IsHeld, SendsSome, SilentIf}
+
+-- so many frames were sent, and the link took them
+pub record Sending (n : ℕ) (host host' : Host) (before after : Option Frames) : Type 0 where
+  pub sent : List Outgoing
+  pub took : Added before after (map (λ o. o.frame) sent)
+  pub sends : (base : Host) (log : List Event) → IsSame base host → Matches log host → AreSent base log sent × Matches (after_frames sent log) host' × (active (after_frames sent log) + n ≤ active log)
+  pub held : IsHeld host host'
+  pub waiting : host'.waiting ≡ host.waiting
+
+pub sends-none : (host : Host) (taken : Option Frames) → Sending 0 host host taken taken
+sends-none host taken = record {
+  sent = [];
+  took = added-nothing taken;
+  sends = λ base log same m. (tt, m, omega arith);
+  held = record { same = same-self host; last = refl };
+  waiting = refl;
+}
+
+-- what the next frame does to the host
+pub record Pulls (host host' : Host) (sent : Sent) (frame : List ℕ) : Type 0 where
+  pub next : (log : List Event) → Matches log host → IsNext host (commands log) sent
+  pub frame_is : (log : List Event) → Matches log host → IsFrameOf host (commands log) sent frame
+  pub path : (log : List Event) → Matches log host → IsOnNextPath host log sent
+  pub sends : (log : List Event) → Matches log host → Matches (Sends sent.ticket sent.tag sent.path ∷ log) host'
+  pub held : IsHeld host host'
+  pub waiting : host'.waiting ≡ host.waiting
+
+pub when-none : {A : Type 0} (Q : Type 0) (o : Option A) → is_some o ≡ false → IfNone o Q → Q
+when-none Q None e q = q
+when-none Q (Some x) e q = absurd cc
+
+pub pulls : (host host' : Host) (o : Option Sent) (frame : List ℕ) → is_some o ≡ true
+    → IfSome o (λ sent. (log : List Event) → Matches log host → IsNext host (commands log) sent)
+    → IfSome o (λ sent. (log : List Event) → Matches log host → IsFrameOf host (commands log) sent frame)
+    → IfSome o (λ sent. (log : List Event) → Matches log host → IsOnNextPath host log sent)
+    → IfSome o (λ sent. (log : List Event) → Matches log host → Matches (Sends sent.ticket sent.tag sent.path ∷ log) host')
+    → IsHeld host host' → host'.waiting ≡ host.waiting → (sent : Sent) × Pulls host host' sent frame
+pulls host host' None frame e next frame_is path sends held waiting = absurd cc
+pulls host host' (Some sent) frame e next frame_is path sends held waiting =
+    (sent, record { next = next; frame_is = frame_is; path = path; sends = sends; held = held; waiting = waiting })
+
+module _ (n : ℕ) (start host host' : Host) (before mid : Option Frames) (s : Sending n start host before mid) where
+  next-held : IsHeld host host' → IsHeld start host'
+  next-held held = record { same = same-then start host host' s.held.same held.same; last = held.last ∙ s.held.last }
+
+  module _ (sent : Sent) (frame : List ℕ) (p : Pulls host host' sent frame) where
+    abbrev out : Outgoing
+    out = record { sent = sent; frame = frame }
+
+    next-law : (base : Host) (log : List Event) → IsSame base start → Matches log start → AreSent base log (out ∷ s.sent) × Matches (after_frames (out ∷ s.sent) log) host' × (active (after_frames (out ∷ s.sent) log) + (n + 1) ≤ active log)
+    next-law base log same m =
+        let so_far = s.sends base log same m in
+        let log' = after_frames s.sent log in
+        let may : MaySend base log' out = record {
+          host = host;
+          at = record { same = same-then base start host same s.held.same; time = so_far.1.time };
+          next = p.next log' so_far.1;
+          frame = p.frame_is log' so_far.1;
+          path = p.path log' so_far.1;
+        } in
+        ((so_far.0, may), p.sends log' so_far.1, omega (arith, so_far.2, next-active host log' sent so_far.1 (p.next log' so_far.1)))
+
+    -- the link takes it
+    pub sends-more : (after : Option Frames) → Added mid after (frame ∷ []) → Sending (n + 1) start host' before after
+    sends-more after took = record {
+      sent = out ∷ s.sent;
+      took = Added-then before mid after (map (λ (o : Outgoing). o.frame) s.sent) (frame ∷ []) s.took took;
+      sends = next-law;
+      held = next-held p.held;
+      waiting = p.waiting ∙ s.waiting;
+    }
+
+    -- it doesn't
+    pub sends-last : (failed : Failed) (after : Option Frames) → after ≡ mid → SendsSome (Err failed) start host' before after
+    sends-last failed after is = record {
+      sent = out ∷ s.sent;
+      took = is ∙ s.took;
+      sends = λ base log same m. let law = next-law base log same m in (law.0, law.1, tt);
+      held = next-held p.held;
+      waiting = p.waiting ∙ s.waiting;
+    }
+
+  -- no frame is left
+  pub sends-all : ((log : List Event) → Matches log host → IsQuiet host (commands log)) → ((log : List Event) → Matches log host → Matches log host') → IsHeld host host' → host'.waiting ≡ host.waiting
+      → SendsSome (Ok record {}) start host' before mid
+  sends-all quiet stays held waiting = record {
+    sent = s.sent;
+    took = s.took;
+    sends = λ base log same m.
+        let so_far = s.sends base log same m in
+        let log' = after_frames s.sent log in
+        (so_far.0, stays log' so_far.1, record { host = host; at = record { same = same-then base start host same s.held.same; time = so_far.1.time }; quiet = quiet log' so_far.1 });
+    held = next-held held;
+    waiting = waiting ∙ s.waiting;
+  }
+
+-- so many frames were sent that no command is left to be sent
+pub sends-full : (start host : Host) (before after : Option Frames) → start.last_ticket ≤ 65536 → Sending 65536 start host before after → SendsSome (Ok record {}) start host before after
+sends-full start host before after few s = record {
+  sent = s.sent;
+  took = s.took;
+  sends = λ base log same m.
+      let so_far = s.sends base log same m in
+      let log' = after_frames s.sent log in
+      let none : active log' ≡ 0 = omega (arith, so_far.2, few-active start log m, few) in
+      (so_far.0, so_far.1, record { host = host; at = record { same = same-then base start host same s.held.same; time = so_far.1.time }; quiet = none-active host log' so_far.1 none });
+  held = s.held;
+  waiting = s.waiting;
+}

@@ -1,0 +1,71 @@
+-- The commands of a turn, one by one.
+use Rattle.std.proofs.Common.{ℕ, ◌≡◌, ◌≤◌, ◌<◌, ◌+◌, List, [], ◌∷◌, length, map, Option, Some, refl, sym, ap, subst, ◌∙◌, arith}
+use Rattle.std.proofs.lemmas.List.{length-map}
+use Rattle.aoe_base.specs.declared.counted.Ticket.{Ticket}
+use Rattle.aoe_block.specs.Calls.{hand, AreUpTo}
+use Rattle.aoe_block.specs.Parts.{Part}
+use Rattle.aoe_initiator.specs.declared.device.Attached.{Attached}
+use Rattle.aoe_initiator.specs.declared.device.Device.{Device}
+use Rattle.aoe_initiator.specs.declared.op.Op.{Op}
+use Rattle.aoe_initiator.specs.Host.{Host, IsSame, Matches}
+use Rattle.aoe_initiator.specs.HostLog.{Event}
+use Rattle.aoe_initiator.specs.HostLog.Event.{Submits}
+use Rattle.aoe_tools.proofs.CourseLemmas.{left-handed, up-to-handed}
+use Rattle.aoe_tools.proofs.TransferHost.{same-self, same-then}
+use Rattle.aoe_tools.specs.declared.course.Course.{Course}
+use Rattle.aoe_tools.specs.TransferCourse.{handed, left, next_op, submitted}
+use Rattle.aoe_tools.specs.TransferRun.{after_submits, IsFit}
+use Rattle.aoe_tools.specs.TransferSteps.{SubmitsOne, SubmitsSome}
+
+-- as many devices as before
+pub as-many : (host host' : Host) → IsSame host host' → length host'.devices ≡ length host.devices
+as-many host host' same =
+    sym (length-map host'.devices (λ (d : Device). d.about)) ∙ ap (λ (l : List Attached). length l) same.devices ∙ length-map host.devices (λ (d : Device). d.about)
+
+pub submits-one : (host host' : Host) (c c' : Course) (op : Op) (ticket : Ticket) → IsFit host c → next_op c ≡ Some op → ticket.0 ≡ host.last_ticket + 1 → c' ≡ handed ticket c
+    → ((log : List Event) → Matches log host → Matches (Submits ticket (record { 0 = 0 }) op ∷ log) host')
+    → IsSame host host' × (host'.clock ≡ host.clock) × (host'.last_ticket ≡ ticket.0) × (host'.waiting ≡ host.waiting)
+    → ((last : ℕ) (ticket : Ticket) (parts : List Part) → AreUpTo last parts → last < ticket.0 → AreUpTo ticket.0 (hand ticket parts))
+    → SubmitsOne host host' c c'
+submits-one host host' c c' op ticket fit next is after matches same law =
+    let later : host.last_ticket < ticket.0 = omega (arith, is) in
+    let P : ℕ → Type 0 = λ n. AreUpTo n (handed ticket c).block.parts in
+    let Q : Course → Type 0 = λ x. IsFit host' x in
+    record {
+      is = record { ticket = ticket; op = op };
+      next = next;
+      course = after;
+      matches = matches;
+      same = same.0;
+      waiting = same.3;
+      fit = subst Q (sym after) (record {
+        attached = as-many host host' same.0 ∙ fit.attached;
+        few = omega (arith, same.2, is, fit.few, left-handed ticket c op next);
+        tickets = subst P (sym same.2) (up-to-handed host.last_ticket ticket c law fit.tickets later);
+      });
+    }
+
+pub submits-none : (host : Host) (c : Course) → IsFit host c → SubmitsSome host host c c
+submits-none host c fit = record {
+  submits = [];
+  are = tt;
+  course = refl;
+  matches = λ log m. m;
+  same = same-self host;
+  waiting = refl;
+  fit = fit;
+}
+
+pub submits-more : (start host host' : Host) (first c c' : Course) → SubmitsSome start host first c → c.under_way < 64 → SubmitsOne host host' c c' → SubmitsSome start host' first c'
+submits-more start host host' first c c' s few one =
+    let is = s.course in
+    let P : Course → Type 0 = λ x. x.under_way < 64 in
+    record {
+      submits = one.is ∷ s.submits;
+      are = (s.are, ap next_op (sym is) ∙ one.next, subst P is few);
+      course = one.course ∙ ap (handed one.is.ticket) is;
+      matches = λ log m. one.matches (after_submits s.submits log) (s.matches log m);
+      same = same-then start host host' s.same one.same;
+      waiting = one.waiting ∙ s.waiting;
+      fit = one.fit;
+    }

@@ -1,0 +1,230 @@
+-- The host of a transfer: what never changes of it, and how many of its commands can still be sent or answered.
+use Rattle.std.proofs.Common.{ℕ, zero, suc, ◌≡◌, ◌≤◌, ◌<◌, ◌+◌, ◌*◌, ◌-◌, ◌^◌, ◌&&◌, ◌⊎◌, cond, get_or, not, max, min, Bool, true, false, nat_eq, nat_le, List, [], ◌∷◌, ◌++◌, length, map, Option, Some, None, refl, sym, ap, subst, ◌∙◌, arith, inl, inr, rules}
+use Rattle.std.specs.Prelude.{option_map, slice_get, All, Contains}
+use Rattle.std.specs.List.{count_by, filter, filter_map, list_any}
+use Rattle.std.proofs.Math.Nat.{mul-le-mul_left}
+use Rattle.std.proofs.lemmas.Bool.{and_parts, cases_Bool, leb-true}
+use Rattle.std.proofs.lemmas.List.Elements.{All-cons, All-contains, All-head, All-nil, All-tail, All-weaker}
+use Rattle.std.proofs.lemmas.Nat.{pow_pos}
+use Rattle.aoe_base.specs.declared.counted.Millis.{Millis}
+use Rattle.aoe_base.specs.declared.counted.PathNo.{PathNo}
+use Rattle.aoe_base.specs.declared.counted.Ticket.{Ticket}
+use Rattle.aoe_flight.proofs.CountLemmas.{count-alike, count-cons, count-map, none-all, some-counted}
+use Rattle.aoe_flight.specs.declared.outstanding.Outstanding.{Outstanding}
+use Rattle.aoe_flight.specs.Outstanding.{is_due}
+use Rattle.aoe_hold.specs.Commands.{keeps_back}
+use Rattle.aoe_initiator.specs.declared.device.Device.{Device}
+use Rattle.aoe_initiator.specs.declared.step.Sent.{Sent}
+use Rattle.aoe_initiator.specs.Host.{Ascends, Host, IsSame, Matches}
+use Rattle.aoe_initiator.specs.HostLaw.{is_clear_at, IsNext, IsNextBy, IsQuiet, IsRepeat, IsStart}
+use Rattle.aoe_initiator.specs.HostLog.{after_end, after_send, as_entered, as_sent, at_ticket, clock, commands, entered_at, one_more, outstanding, path_log, sent_of, stage, wait_of, Event, HostCommand, Sending}
+use Rattle.aoe_initiator.specs.HostLog.Event.{Sends}
+use Rattle.aoe_hold.specs.Commands.{unsent}
+use Rattle.aoe_paths.specs.PathLog.{timeout_on, trips_on, PathEvent}
+use Rattle.aoe_paths.specs.Timeout.{greatest, last_trips, timeout_of}
+
+Contains-cons : {X : Type 0} (head x : X) (rest : List X) → Contains rest x → Contains (head ∷ rest) x
+Contains-cons head x rest p = (suc p.0, omega (arith, p.1), p.2)
+
+Contains-cons_cases : {X : Type 0} (head x : X) (rest : List X) → Contains (head ∷ rest) x → (head ≡ x) ⊎ Contains rest x
+Contains-cons_cases {X} head x rest p = by_index p.0 p.1 p.2
+  where
+    by_index : (k : ℕ) → k < length (head ∷ rest) → get_or (head ∷ rest) k x ≡ x → (head ≡ x) ⊎ Contains rest x
+    by_index zero below is = inl is
+    by_index (suc k) below is = inr (k, omega (arith, below), is)
+
+pub same-then : (a b c : Host) → IsSame a b → IsSame b c → IsSame a c
+same-then a b c one two = record {
+  ports = two.ports ∙ one.ports;
+  life = two.life ∙ one.life;
+  room = two.room ∙ one.room;
+  dead = two.dead ∙ one.dead;
+  devices = two.devices ∙ one.devices;
+}
+
+pub same-self : (a : Host) → IsSame a a
+same-self a = record { ports = refl; life = refl; room = refl; dead = refl; devices = refl }
+
+-- how many pass a test after a change
+fewer-one : (a b : Bool) → (a ≡ true → b ≡ true) → cond a 1 0 ≤ cond b 1 0
+fewer-one true true more = omega arith
+fewer-one true false more = absurd (let e : false ≡ true = more refl in absurd cc)
+fewer-one false true more = omega arith
+fewer-one false false more = omega arith
+
+pub count-fewer : {A : Type 0} (p : A → Bool) (f : A → A) → ((x : A) → p (f x) ≡ true → p x ≡ true) → (xs : List A) → count_by p (map f xs) ≤ count_by p xs
+count-fewer p f fewer [] = omega arith
+count-fewer p f fewer (x ∷ xs) = omega (arith, count-cons p (f x) (map f xs), count-cons p x xs, fewer-one (p (f x)) (p x) (fewer x), count-fewer p f fewer xs)
+
+pub count-one-fewer : {A : Type 0} (p : A → Bool) (f : A → A) → ((x : A) → p (f x) ≡ true → p x ≡ true) → (xs : List A) (c : A) → Contains xs c → p c ≡ true → p (f c) ≡ false
+    → count_by p (map f xs) + 1 ≤ count_by p xs
+count-one-fewer p f fewer [] c there passes fails = absurd (omega (arith, there.1))
+count-one-fewer {A} p f fewer (x ∷ xs) c there passes fails = elim (Contains-cons_cases x c xs there) [
+  | inl same ↦
+      let here : p x ≡ true = ap p same ∙ passes in
+      let gone : p (f x) ≡ false = ap (λ (y : A). p (f y)) same ∙ fails in
+      let before : count_by p (x ∷ xs) ≡ 1 + count_by p xs = count-cons p x xs ∙ rw here refl in
+      let after : count_by p (map f (x ∷ xs)) ≡ 0 + count_by p (map f xs) = count-cons p (f x) (map f xs) ∙ rw gone refl in
+      omega (arith, before, after, count-fewer p f fewer xs)
+  | inr behind ↦
+      omega (arith, count-cons p (f x) (map f xs), count-cons p x xs, fewer-one (p (f x)) (p x) (fewer x), count-one-fewer p f fewer xs c behind passes fails)
+]
+
+pub count-most : {A : Type 0} (p : A → Bool) (xs : List A) → count_by p xs ≤ length xs
+count-most p [] = omega arith
+count-most p (x ∷ xs) = omega (arith, count-cons p x xs, fewer-one (p x) true (λ e. refl), count-most p xs)
+
+-- a command that wasn't sent, or that is due
+abbrev pub active_by : ℕ → Bool → Option Sending → Bool
+active_by now done None = true
+active_by now done (Some s) = not done && nat_le s.wait.0 (now - s.last.0)
+
+abbrev pub is_active : ℕ → HostCommand → Bool
+is_active now c = active_by now c.done c.sends
+
+-- how many frames may be sent at once
+abbrev pub active : List Event → ℕ
+active log = count_by (is_active (clock log)) (commands log)
+
+some-timeout : (trips : List ℕ) → 0 < timeout_of trips
+some-timeout [] = omega arith
+some-timeout (trip ∷ earlier) = let n = 4 * greatest (last_trips (trip ∷ earlier)) in omega arith
+
+some-wait : (timeout n : ℕ) → 0 < timeout → 0 < wait_of timeout n
+some-wait timeout n some =
+    let one : 1 ≤ 2 ^ (n - 1) = omega (arith, pow_pos (n - 1)) in
+    let more : timeout * 1 ≤ timeout * 2 ^ (n - 1) = mul-le-mul_left timeout one in
+    omega (arith, more, some)
+
+not-due : (now wait : ℕ) (done : Bool) → 0 < wait → (not done && nat_le wait (now - now)) ≡ false
+not-due now wait done some = elim (cases_Bool (nat_le wait (now - now))) [
+  | inl is ↦ absurd (omega (arith, leb-true wait (now - now) is, some))
+  | inr is ↦ rw is (by done)
+]
+  where
+    by : (d : Bool) → (not d && false) ≡ false
+    by true = refl
+    by false = refl
+
+sent-inactive : (now tag timeout : ℕ) (path : PathNo) (c : HostCommand) → 0 < timeout → active_by now c.done (Some (one_more tag (record { 0 = now }) path timeout c.sends)) ≡ false
+sent-inactive now tag timeout path c some = at c.sends
+  where
+    at : (o : Option Sending) → active_by now c.done (Some (one_more tag (record { 0 = now }) path timeout o)) ≡ false
+    at None = not-due now (wait_of timeout 1) c.done (some-wait timeout 1 some)
+    at (Some s) = not-due now (wait_of timeout (s.count + 1)) c.done (some-wait timeout (s.count + 1) some)
+
+module _ (log : List Event) (ticket : Ticket) (tag : ℕ) (path : PathNo) where
+  abbrev sends : HostCommand → HostCommand
+  sends = after_send tag (record { 0 = clock log }) path (λ n. timeout_on (path_log log n) path.0)
+
+  inactive-sent : (c : HostCommand) → is_active (clock log) (sends c) ≡ false
+  inactive-sent c = sent-inactive (clock log) tag (timeout_on (path_log log c.device.0) path.0) path c (some-timeout (trips_on (path_log log c.device.0) path.0))
+
+  fewer-active : (c : HostCommand) → is_active (clock log) (at_ticket ticket sends c) ≡ true → is_active (clock log) c ≡ true
+  fewer-active c = at (nat_eq c.ticket.0 ticket.0)
+    where
+      at : (b : Bool) → is_active (clock log) (cond b (sends c) c) ≡ true → is_active (clock log) c ≡ true
+      at true is = let not_so = inactive-sent c in absurd cc
+      at false is = is
+
+  -- after a frame of an active command there is one less
+  pub active-sent : (c : HostCommand) → Contains (commands log) c → c.ticket ≡ ticket → is_active (clock log) c ≡ true → active (Sends ticket tag path ∷ log) + 1 ≤ active log
+  active-sent c there is before =
+      let own : nat_eq c.ticket.0 ticket.0 ≡ true = ap (λ (t : Ticket). nat_eq t.0 ticket.0) is ∙ same ticket.0 in
+      let after : is_active (clock log) (at_ticket ticket sends c) ≡ false = ap (λ (b : Bool). is_active (clock log) (cond b (sends c) c)) own ∙ inactive-sent c in
+      count-one-fewer (is_active (clock log)) (at_ticket ticket sends) fewer-active (commands log) c there before after
+    where
+      same : (n : ℕ) → nat_eq n n ≡ true
+      same n = search rules
+
+unsent-none : (o : Option Sending) (done : Bool) → unsent (stage o done) ≡ true → o ≡ None
+unsent-none None done e = refl
+unsent-none (Some s) true e = absurd cc
+unsent-none (Some s) false e = absurd cc
+
+abbrev with : Option Outstanding → List Outstanding → List Outstanding
+with None l = l
+with (Some x) l = x ∷ l
+
+-- a command that was sent, among all commands
+sent-from : (cs : List HostCommand) (o : Outstanding) → Contains (sent_of cs) o → (c : HostCommand) × Contains cs c × (as_sent c ≡ Some o)
+sent-from [] o there = absurd (omega (arith, there.1))
+sent-from (c ∷ cs) o there = at (as_sent c) refl there (sent-from cs o)
+  where
+    at : (x : Option Outstanding) → as_sent c ≡ x → Contains (with x (sent_of cs)) o → (Contains (sent_of cs) o → (d : HostCommand) × Contains cs d × (as_sent d ≡ Some o)) → (d : HostCommand) × Contains (c ∷ cs) d × (as_sent d ≡ Some o)
+    at None is inside rest = let found = rest inside in (found.0, Contains-cons c found.0 cs found.1, found.2)
+    at (Some x) is inside rest = elim (Contains-cons_cases x o (sent_of cs) inside) [
+      | inl same ↦ (c, (0, omega arith, refl), is ∙ ap Some same)
+      | inr behind ↦ let found = rest behind in (found.0, Contains-cons c found.0 cs found.1, found.2)
+    ]
+
+due-active : (now : ℕ) (c : HostCommand) (o : Outstanding) → as_sent c ≡ Some o → is_due now o ≡ is_active now c
+due-active now c o e = at c.sends e
+  where
+    at : (s : Option Sending) → option_map (outstanding c) s ≡ Some o → is_due now o ≡ active_by now c.done s
+    at None e = absurd cc
+    at (Some s) e = let is : outstanding c s ≡ o = cc in ap (is_due now) (sym is)
+
+-- what is sent next is active
+pub next-active : (host : Host) (log : List Event) (sent : Sent) → Matches log host → IsNext host (commands log) sent → active (Sends sent.ticket sent.tag sent.path ∷ log) + 1 ≤ active log
+next-active host log sent m next = at sent.again next
+  where
+    at : (b : Bool) → IsNextBy b host (commands log) sent → active (Sends sent.ticket sent.tag sent.path ∷ log) + 1 ≤ active log
+    at true r =
+        let found = sent-from (commands log) r.command r.first_due.there in
+        let due : is_due (clock log) r.command ≡ true = ap (λ (n : ℕ). is_due n r.command) (sym m.time) ∙ r.first_due.passes in
+        let own : found.0.ticket ≡ sent.ticket = ticket-of found.0 r.command found.2 ∙ r.ticket in
+        active-sent log sent.ticket sent.tag sent.path found.0 found.1 own (sym (due-active (clock log) found.0 r.command found.2) ∙ due)
+      where
+        ticket-of : (c : HostCommand) (o : Outstanding) → as_sent c ≡ Some o → c.ticket ≡ o.ticket
+        ticket-of c o e = by c.sends e
+          where
+            by : (s : Option Sending) → option_map (outstanding c) s ≡ Some o → c.ticket ≡ o.ticket
+            by None e = absurd cc
+            by (Some s) e = let is : outstanding c s ≡ o = cc in ap (λ (x : Outstanding). x.ticket) is
+    at false s =
+        let c = s.command in
+        let none : c.sends ≡ None =
+        unsent-none c.sends c.done (and_parts (unsent (stage c.sends c.done)) (not (list_any (λ earlier. keeps_back host.life host.clock earlier (as_entered c)) (entered_at c.device.0 (commands log)))) s.clear).0 in
+        active-sent log sent.ticket sent.tag sent.path c s.there s.ticket (ap (active_by (clock log) c.done) none)
+
+-- where nothing is active nothing may be sent
+pub none-active : (host : Host) (log : List Event) → Matches log host → active log ≡ 0 → IsQuiet host (commands log)
+none-active host log m none = record {
+  nothing_due = due (commands log) (subst (λ (n : ℕ). All (λ c. is_active n c ≡ false) (commands log)) (sym m.time) idle);
+  nothing_clear = inr (All-weaker (λ c. is_active (clock log) c ≡ false) (λ c. is_clear_at host.life host.clock (commands log) c ≡ false) unclear (commands log) idle);
+}
+  where
+    idle : All (λ c. is_active (clock log) c ≡ false) (commands log)
+    idle = none-all (is_active (clock log)) (commands log) none
+
+    due : (cs : List HostCommand) → All (λ c. is_active host.clock c ≡ false) cs → All (λ o. is_due host.clock o ≡ false) (sent_of cs)
+    due [] all = All-nil (λ o. is_due host.clock o ≡ false)
+    due (c ∷ cs) all = by (as_sent c) refl (due cs (All-tail (λ x. is_active host.clock x ≡ false) c cs all))
+      where
+        P : Outstanding → Type 0
+        P o = is_due host.clock o ≡ false
+
+        by : (x : Option Outstanding) → as_sent c ≡ x → All P (sent_of cs) → All P (with x (sent_of cs))
+        by None is rest = rest
+        by (Some x) is rest = All-cons P x (sent_of cs) (due-active host.clock c x is ∙ All-head (λ y. is_active host.clock y ≡ false) c cs all) rest
+
+    unclear : (c : HostCommand) → is_active (clock log) c ≡ false → is_clear_at host.life host.clock (commands log) c ≡ false
+    unclear c is = by c.sends refl
+      where
+        by : (o : Option Sending) → c.sends ≡ o → is_clear_at host.life host.clock (commands log) c ≡ false
+        by None e = let so : is_active (clock log) c ≡ true = ap (active_by (clock log) c.done) e in absurd cc
+        by (Some s) e = rw e (sent-not c.done)
+          where
+            sent-not : (d : Bool) → (unsent (stage (Some s) d) && not (list_any (λ earlier. keeps_back host.life host.clock earlier (record (as_entered c) { stage = stage (Some s) d })) (entered_at c.device.0 (commands log)))) ≡ false
+            sent-not true = refl
+            sent-not false = refl
+
+-- as many commands as tickets at most
+pub few-commands : (n last : ℕ) (cs : List HostCommand) → n ≤ last → Ascends n cs → All (λ c. c.ticket.0 ≤ last) cs → n + length cs ≤ last
+few-commands n last [] within up all = omega arith
+few-commands n last (c ∷ cs) within up all =
+    omega (arith, up.0, few-commands c.ticket.0 last cs (All-head (λ x. x.ticket.0 ≤ last) c cs all) up.1 (All-tail (λ x. x.ticket.0 ≤ last) c cs all))
+
+pub few-active : (host : Host) (log : List Event) → Matches log host → active log ≤ host.last_ticket
+few-active host log m = omega (arith, count-most (is_active (clock log)) (commands log), few-commands 0 host.last_ticket (commands log) (omega arith) m.tickets m.last)

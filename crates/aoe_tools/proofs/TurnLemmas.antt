@@ -1,0 +1,230 @@
+-- A turn of a transfer, of its two parts.
+use Rattle.std.proofs.Common.{ℕ, ◌≡◌, ◌+◌, ◌≤◌, ◌<◌, max, Bool, true, false, List, [], ◌∷◌, ◌++◌, map, reverse, Option, Some, None, refl, sym, ap, subst, ◌∙◌, arith}
+use Rattle.std.specs.Prelude.{Result, Ok, Err, All}
+use Rattle.aoe_block.specs.Calls.{settle, AreUpTo}
+use Rattle.aoe_block.specs.Parts.{Transfer}
+use Rattle.aoe_flight.specs.Outstanding.{is_expired}
+use Rattle.aoe_initiator.specs.declared.outcome.Done.{Done}
+use Rattle.aoe_initiator.specs.Host.{Host, IsSame, Matches}
+use Rattle.aoe_initiator.specs.HostLaw.{ended, GaveUpInTurn}
+use Rattle.aoe_initiator.specs.HostLog.{clock, commands, sent_of, Event}
+use Rattle.aoe_initiator.specs.HostLog.Event.{Advances}
+use Rattle.aoe_io.specs.Link.{Added, Turn, Turned}
+use Rattle.aoe_tools.proofs.CourseLemmas.{left-dones, up-to-dones}
+use Rattle.aoe_tools.proofs.ListenLemmas.{Frames}
+use Rattle.aoe_tools.proofs.SubmitLemmas.{as-many}
+use Rattle.aoe_tools.proofs.TransferHost.{same-then}
+use Rattle.aoe_tools.specs.declared.course.Course.{Course}
+use Rattle.aoe_initiator.specs.declared.outcome.Outcome.{Outcome}
+use Rattle.aoe_initiator.specs.declared.outcome.Outcome.TheVariants as outcome
+use Rattle.aoe_tools.specs.declared.end.Refusal.TheVariants as refusal
+use Rattle.aoe_tools.specs.declared.end.ToolRefusal.{ToolRefusal}
+use Rattle.aoe_tools.specs.declared.end.ToolRefusal.TheVariants as tool
+use Rattle.aoe_tools.specs.declared.transfer.Passed.{Passed}
+use Rattle.aoe_tools.specs.declared.transfer.Passed.TheVariants as passed
+use Rattle.aoe_tools.specs.TransferCourse.{after_done, after_dones, end_by, ending, ending_by, failure, is_over_in, left, or_later, submitted, End}
+use Rattle.aoe_tools.specs.TransferRun.{after_tick, course_of, dones, log_of, quiet_turns, told, told_by, AreRounds, Breaks, EndsBy, GivesUp, Heard, IsFit, IsRound, Round, Running}
+use Rattle.aoe_tools.specs.TransferSteps.{Broken, Exchanged, Exchanges, TakesRound, Turns}
+
+-- only the waiting outcomes of a host changed
+pub retold-same : (host host' : Host) → host' ≡ record host { waiting = host'.waiting } → IsSame host host'
+retold-same host host' is = record {
+  ports = ap (λ (x : Host). x.ports) is;
+  life = ap (λ (x : Host). x.life) is;
+  room = ap (λ (x : Host). x.room) is;
+  dead = ap (λ (x : Host). x.dead) is;
+  devices = ap (λ (x : Host). map (λ d. d.about) x.devices) is;
+}
+
+-- what an advance of the host does
+pub record Advanced (host advanced : Host) (now : ℕ) (gave_up : List Done) : Type 0 where
+  pub waiting : advanced.waiting ≡ host.waiting ++ reverse gave_up
+  pub gives : (log : List Event) → Matches log host → GaveUpInTurn host.dead advanced.clock (Advances (record { 0 = now }) ∷ log) gave_up
+      × All (λ o. is_expired host.dead advanced.clock o ≡ false) (sent_of (commands (ended gave_up (Advances (record { 0 = now }) ∷ log)))) × Matches (ended gave_up (Advances (record { 0 = now }) ∷ log)) advanced
+  pub clock_is : advanced.clock ≡ max host.clock now
+  pub same : IsSame host advanced
+  pub last : advanced.last_ticket ≡ host.last_ticket
+
+module _ (host advanced h1 : Host) (now : ℕ) (gave_up : List Done) (a : Advanced host advanced now gave_up) (is : h1 ≡ record advanced { waiting = h1.waiting }) where
+  -- the host and the course still fit
+  pub fit-turn : (turns : ℕ) (c c1 : Course) (waiting : List Done) → IsFit host c → c1 ≡ after_dones turns c waiting → ((last : ℕ) (block : Transfer) (done : Done) → AreUpTo last block.parts → AreUpTo last (settle block done).parts) → IsFit h1 c1
+  fit-turn turns c c1 waiting fit after law =
+      let last : h1.last_ticket ≡ host.last_ticket = ap (λ (x : Host). x.last_ticket) is ∙ a.last in
+      let P : Course → Type 0 = λ x. IsFit h1 x in
+      let Q : ℕ → Type 0 = λ n. AreUpTo n (after_dones turns c waiting).block.parts in
+      subst P (sym after) (record {
+        attached = as-many advanced h1 (retold-same advanced h1 is) ∙ as-many host advanced a.same ∙ fit.attached;
+        few = omega (arith, last, fit.few, left-dones turns c waiting);
+        tickets = subst Q (sym last) (up-to-dones host.last_ticket turns c waiting law fit.tickets);
+      })
+
+  module _ (base : Host) (turns : ℕ) (start : Course) (rounds : List Round) (c : Course) (run : Running base turns start rounds host c) (matches1 : (log : List Event) → Matches log advanced → Matches log h1) where
+    abbrev log : List Event
+    log = log_of rounds
+
+    same1 : IsSame base h1
+    same1 = same-then base advanced h1 (same-then base host advanced run.same a.same) (retold-same advanced h1 is)
+
+    time : advanced.clock ≡ clock (Advances (record { 0 = now }) ∷ log)
+    time = a.clock_is ∙ ap (λ (n : ℕ). max n now) run.matches.time
+
+    gives-up : GivesUp base log now gave_up
+    gives-up =
+        let g = a.gives log run.matches in
+        let dead : host.dead ≡ base.dead = run.same.dead in
+        let P : ℕ → Type 0 = λ n. GaveUpInTurn n advanced.clock (Advances (record { 0 = now }) ∷ log) gave_up in
+        let Q : ℕ → Type 0 = λ n. GaveUpInTurn base.dead n (Advances (record { 0 = now }) ∷ log) gave_up in
+        let R : ℕ → Type 0 = λ n. All (λ o. is_expired n advanced.clock o ≡ false) (sent_of (commands (after_tick now gave_up log))) in
+        let S : ℕ → Type 0 = λ n. All (λ o. is_expired base.dead n o ≡ false) (sent_of (commands (after_tick now gave_up log))) in
+        record { in_turn = subst Q time (subst P dead g.0); all = subst S time (subst R dead g.1) }
+
+    matches-tick : Matches (after_tick now gave_up log) h1
+    matches-tick = matches1 (after_tick now gave_up log) (a.gives log run.matches).2
+
+    outcomes : advanced.waiting ≡ dones (told rounds) gave_up
+    outcomes = a.waiting ∙ ap (λ (l : List Done). l ++ reverse gave_up) run.waiting
+
+    -- an outcome ended the transfer
+    pub ends-turn : (end : End) → Some end ≡ end_by turns c advanced.waiting → EndsBy end base turns c (told rounds) log now
+    ends-turn end e = record {
+      gave_up = gave_up;
+      gives_up = gives-up;
+      by = ap (end_by turns c) (sym outcomes) ∙ sym e;
+    }
+
+    pub over-course : (c1 : Course) → c1 ≡ after_dones turns c advanced.waiting → c1 ≡ after_dones turns c (dones (told rounds) gave_up)
+    over-course c1 e = e ∙ ap (after_dones turns c) outcomes
+
+    pub over-turn : (c1 : Course) → Some (Ok record {}) ≡ end_by turns c advanced.waiting → c1 ≡ after_dones turns c advanced.waiting
+        → (e : EndsBy (Ok record {}) base turns c (told rounds) log now) × (c1 ≡ after_dones turns c (dones (told rounds) e.gave_up))
+    over-turn c1 e after = (
+      record { gave_up = gave_up; gives_up = gives-up; by = ap (end_by turns c) (sym outcomes) ∙ sym e },
+      over-course c1 after,
+    )
+
+    module _ (c1 : Course) (none : None ≡ end_by turns c advanced.waiting) (after : c1 ≡ after_dones turns c advanced.waiting) where
+      goes-on : end_by turns c (dones (told rounds) gave_up) ≡ None
+      goes-on = ap (end_by turns c) (sym outcomes) ∙ sym none
+
+      now-course : c1 ≡ after_dones turns c (dones (told rounds) gave_up)
+      now-course = over-course c1 after
+
+      -- the link failed
+      pub breaks-turn : (taken taken' : Option Frames) → Broken base (after_tick now gave_up log) c1 taken taken' → Breaks base turns c (told rounds) log now taken taken'
+      breaks-turn taken taken' broken =
+          let P : Course → Type 0 = λ x. Broken base (after_tick now gave_up log) x taken taken' in
+          let b = subst P now-course broken in
+          record {
+            gave_up = gave_up;
+            gives_up = gives-up;
+            goes_on = goes-on;
+            submitted_are = b.submits;
+            submits = b.are;
+            filled = b.filled;
+            sent = b.sent;
+            sends = b.sends;
+            took = b.took;
+          }
+
+      -- the whole turn was taken
+      pub takes-turn : (quiet_turns rounds < turns) → (c' : Course) (h' : Host) (heard : Option Heard) (from turned' : ℕ) (given given' : Option (List Turn)) (taken taken' : Option Frames)
+          → Exchanged base (after_tick now gave_up log) c1 c' h' heard from turned' given given' taken taken'
+          → TakesRound base turns start rounds now heard h' c' from turned' given given' taken taken'
+      takes-turn below c' h' heard from turned' given given' taken taken' x' =
+          let P : Course → Type 0 = λ y. Exchanged base (after_tick now gave_up log) y c' h' heard from turned' given given' taken taken' in
+          let x = subst P now-course x' in
+          let r : Round = record { now = now; gave_up = gave_up; submits = x.submits; sent = x.sent; brought = x.brought; heard = heard } in
+          let Q : Course → Type 0 = λ y. IsRound base turns y (told rounds) log r in
+          let round : IsRound base turns c (told rounds) log r = record {
+            gives_up = gives-up;
+            goes_on = goes-on;
+            submits = x.are;
+            filled = x.filled;
+            sends = x.sends;
+            silent = x.silent;
+            hears = x.hears;
+          } in
+          record {
+            round = r;
+            now_is = refl;
+            heard_is = refl;
+            running = record {
+              rounds_are = (run.rounds_are, below, subst Q run.course round);
+              same = x.same;
+              matches = x.matches;
+              waiting = x.waiting;
+              course = x.course ∙ ap (λ (y : Course). submitted (after_dones turns y (dones (told rounds) gave_up)) x.submits) run.course;
+            };
+            fit = x.fit;
+            took = x.took;
+            turned = x.turned;
+          }
+
+      -- what the second part of the turn came to, the turn came to
+      pub by-exchange : (quiet_turns rounds < turns) → (result : Result Passed ToolRefusal) (c' : Course) (h' : Host) (from turned' : ℕ) (given given' : Option (List Turn)) (taken taken' : Option Frames)
+          → ((base : Host) (log : List Event) → IsSame base h1 → Matches log h1 → Exchanges result base log c1 c' h' from turned' given given' taken taken')
+          → Turns result base turns start rounds now h' c c' from turned' given given' taken taken'
+      by-exchange below (Ok passed.Answered) c' h' from turned' given given' taken taken' ex =
+          let x = ex base (after_tick now gave_up log) same1 matches-tick in
+          (x.0, takes-turn below c' h' (Some x.0) from turned' given given' taken taken' x.1)
+      by-exchange below (Ok passed.Quiet) c' h' from turned' given given' taken taken' ex =
+          takes-turn below c' h' None from turned' given given' taken taken' (ex base (after_tick now gave_up log) same1 matches-tick)
+      by-exchange below (Ok passed.Over) c' h' from turned' given given' taken taken' ex = absurd (ex base (after_tick now gave_up log) same1 matches-tick)
+      by-exchange below (Err tool.LinkFault) c' h' from turned' given given' taken taken' ex =
+          let x = ex base (after_tick now gave_up log) same1 matches-tick in
+          (breaks-turn taken taken' x.0, x.1)
+      by-exchange below (Err tool.NoMemory) c' h' from turned' given given' taken taken' ex = ex base (after_tick now gave_up log) same1 matches-tick
+      by-exchange below (Err (tool.Unanswered n)) c' h' from turned' given given' taken taken' ex = absurd (ex base (after_tick now gave_up log) same1 matches-tick)
+      by-exchange below (Err (tool.Refused r)) c' h' from turned' given given' taken taken' ex = absurd (ex base (after_tick now gave_up log) same1 matches-tick)
+      by-exchange below (Err (tool.Stream n)) c' h' from turned' given given' taken taken' ex = absurd (ex base (after_tick now gave_up log) same1 matches-tick)
+      by-exchange below (Err tool.Limit) c' h' from turned' given given' taken taken' ex = absurd (ex base (after_tick now gave_up log) same1 matches-tick)
+      by-exchange below (Err tool.SourceFault) c' h' from turned' given given' taken taken' ex = absurd (ex base (after_tick now gave_up log) same1 matches-tick)
+      by-exchange below (Err tool.SinkFault) c' h' from turned' given given' taken taken' ex = absurd (ex base (after_tick now gave_up log) same1 matches-tick)
+
+-- the refusals that an outcome can be
+abbrev pub OfOutcome : ℕ → ToolRefusal → Type 0
+OfOutcome turns (tool.Refused r) = Unit {0}
+OfOutcome turns (tool.Unanswered n) = n ≡ turns
+OfOutcome turns tool.LinkFault = ⊥
+OfOutcome turns tool.NoMemory = ⊥
+OfOutcome turns (tool.Stream n) = ⊥
+OfOutcome turns tool.Limit = ⊥
+OfOutcome turns tool.SourceFault = ⊥
+OfOutcome turns tool.SinkFault = ⊥
+
+of-failure : (turns : ℕ) (o : Outcome) (r : ToolRefusal) → failure turns o ≡ Some r → OfOutcome turns r
+of-failure turns (outcome.AoeError e) r is = let same : tool.Refused (refusal.Aoe e) ≡ r = cc in subst (OfOutcome turns) same tt
+of-failure turns (outcome.AtaError s e) r is = let same : tool.Refused (refusal.Ata s e) ≡ r = cc in subst (OfOutcome turns) same tt
+of-failure turns (outcome.GaveUp f n) r is = let same : tool.Unanswered turns ≡ r = cc in subst (OfOutcome turns) same refl
+of-failure turns (outcome.Read bytes) r is = absurd cc
+of-failure turns outcome.Written r is = absurd cc
+of-failure turns outcome.Flushed r is = absurd cc
+of-failure turns (outcome.Told args) r is = absurd cc
+
+of-ending : (o : Option ToolRefusal) (over : Bool) (r : ToolRefusal) → ending_by o over ≡ Some (Err r) → o ≡ Some r
+of-ending None true r is = absurd cc
+of-ending None false r is = absurd cc
+of-ending (Some x) over r is = let same : x ≡ r = cc in ap Some same
+
+pub of-outcome : (turns : ℕ) (c : Course) (dones : List Done) (r : ToolRefusal) → end_by turns c dones ≡ Some (Err r) → OfOutcome turns r
+of-outcome turns c [] r is = absurd cc
+of-outcome turns c (d ∷ dones) r is = at (ending turns c d) refl is (of-outcome turns (after_done d c) dones r)
+  where
+    at : (e : Option End) → ending turns c d ≡ e → or_later e (end_by turns (after_done d c) dones) ≡ Some (Err r) → (end_by turns (after_done d c) dones ≡ Some (Err r) → OfOutcome turns r) → OfOutcome turns r
+    at None here later rest = rest later
+    at (Some end) here later rest = let same : end ≡ Err r = cc in of-failure turns d.outcome r (of-ending (failure turns d.outcome) (is_over_in c.phase c d) r (here ∙ ap Some same))
+
+-- a refusal of an outcome ends the turn
+pub refused-turn : (r : ToolRefusal) (base host' : Host) (turns : ℕ) (start c c' : Course) (rounds : List Round) (now from : ℕ) (given : Option (List Turn)) (taken : Option Frames)
+    → OfOutcome turns r → EndsBy (Err r) base turns c (told rounds) (log_of rounds) now → Turns (Err r) base turns start rounds now host' c c' from from given given taken taken
+refused-turn (tool.Refused r) base host' turns start c c' rounds now from given taken is e = (e, refl, record { turns = refl; given_is = refl })
+refused-turn (tool.Unanswered n) base host' turns start c c' rounds now from given taken is e = (e, refl, record { turns = refl; given_is = refl })
+refused-turn tool.LinkFault base host' turns start c c' rounds now from given taken is e = absurd is
+refused-turn tool.NoMemory base host' turns start c c' rounds now from given taken is e = absurd is
+refused-turn (tool.Stream n) base host' turns start c c' rounds now from given taken is e = absurd is
+refused-turn tool.Limit base host' turns start c c' rounds now from given taken is e = absurd is
+refused-turn tool.SourceFault base host' turns start c c' rounds now from given taken is e = absurd is
+refused-turn tool.SinkFault base host' turns start c c' rounds now from given taken is e = absurd is
+
+pub not-link : (turns : ℕ) (r : ToolRefusal) → OfOutcome turns r → r ≡ tool.LinkFault → ⊥
+not-link turns r is e = subst (OfOutcome turns) e is

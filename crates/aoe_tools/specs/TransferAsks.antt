@@ -1,0 +1,105 @@
+-- The two requests before a transfer: where a device is, and how long it is.
+use Rattle.std.specs.Prelude.{ℕ, ◌≡◌, ◌≤◌, ◌+◌, true, false, nat_lt, List, [], ◌∷◌, length, drop, Option, Some, None, Result, Ok, Err, if◌then◌else◌, slice_index, slice_range, unwrap_or}
+use Rattle.aoe_ata.specs.Identify.{declared}
+use Rattle.aoe_base.specs.declared.address.Mac.{Mac}
+use Rattle.aoe_base.specs.declared.address.TargetId.{TargetId}
+use Rattle.aoe_base.specs.Addresses.{broadcast}
+use Rattle.aoe_initiator.specs.declared.op.Op.TheVariants as op
+use Rattle.aoe_initiator.specs.declared.response.Answer.{Answer}
+use Rattle.aoe_initiator.specs.declared.response.Answer.TheVariants as answer
+use Rattle.aoe_initiator.specs.Request.{request}
+use Rattle.aoe_io.specs.Link.{Added, Turn, Turned}
+use Rattle.aoe_tools.specs.Asking.{Response, TookSome, asked, responses, tag_of}
+use Rattle.aoe_tools.specs.One.{is_done, refusal_of, GoesOn}
+use Rattle.aoe_tools.specs.declared.end.Refusal.{Refusal}
+use Rattle.aoe_tools.specs.declared.end.ToolRefusal.{ToolRefusal}
+use Rattle.aoe_tools.specs.declared.end.ToolRefusal.TheVariants as tool
+use Rattle.aoe_tools.specs.declared.lookup.Device.{Device}
+use Rattle.aoe_tools.specs.declared.question.Ask.{Ask}
+use Rattle.aoe_tools.specs.declared.question.Question.{Question}
+use Rattle.aoe_tools.specs.declared.question.Reply.{Reply}
+use Rattle.aoe_tools.specs.declared.question.Subject.TheVariants as subject
+
+-- what a link tells: how many turns it gave, what came in them, and the frames that it took
+pub record LinkState : Type 0 where
+  pub turns : ℕ
+  pub given : Option (List Turn)
+  pub taken : Option (List (List ℕ))
+
+-- a response, where it doesn't refuse
+abbrev pub unless_refusing : Option Refusal → Response → Result Response ToolRefusal
+unless_refusing None r = Ok r
+unless_refusing (Some x) r = Err (tool.Refused x)
+
+-- what came of a request, by the responses that came, of which there is one at most
+abbrev pub answered : Question → ℕ → List Response → Result Response ToolRefusal
+answered q limit [] = Err (tool.Unanswered limit)
+answered q limit (r ∷ rs) = unless_refusing (refusal_of q.subject r.reply.answer r.args) r
+
+-- where the link failed it hadn't ended, and the link took a front of what was asked
+abbrev pub AskEnds : Result Response ToolRefusal → Question → List ℕ → ℕ → List Turn → Option (List (List ℕ)) → Option (List (List ℕ)) → Type 0
+AskEnds (Err tool.LinkFault) q request limit turns before after = (is_done q limit turns ≡ false) × TookSome request 0 (length turns) before after
+AskEnds result q request limit turns before after =
+    (is_done q limit turns ≡ true) × (result ≡ answered q limit (responses q turns)) × Added before after (asked request (length turns))
+
+-- a request over a link: its turns, latest first, are those after which it has ended
+pub record Asks (result : Result Response ToolRefusal) (q : Question) (request : List ℕ) (limit : ℕ) (before after : LinkState) : Type 0 where
+  pub turns : List Turn
+  pub turned : Turned before.turns after.turns before.given after.given turns
+  pub goes_on : GoesOn q limit turns
+  pub ends : AskEnds result q request limit turns before.taken after.taken
+
+-- a reply with the bytes that a frame has behind its header
+abbrev pub with_args : List ℕ → Result Reply ToolRefusal → Result Response ToolRefusal
+with_args frame (Ok r) = Ok record { reply = r; args = drop 24 frame }
+with_args frame (Err e) = Err e
+
+-- how many sectors a command has at most: as many as the device says (AoEr11, "Query Config Information", Sector Count), but one or two
+abbrev pub max_of : List ℕ → ℕ
+max_of args = if nat_lt 1 (slice_index args 4) then 2 else 1
+
+-- how many sectors a device has: none where its page declares no number
+abbrev pub total_of : Answer → List ℕ → ℕ
+total_of (answer.Data len) args = unwrap_or (declared (slice_range args 12 524)) 0
+total_of (answer.Told len) args = 0
+total_of answer.Written args = 0
+total_of answer.Flushed args = 0
+total_of (answer.AtaError status error) args = 0
+total_of (answer.AoeError error) args = 0
+
+abbrev pub config_question : Ask → TargetId → ℕ → Question
+config_question ask id first = record { subject = subject.Config; id = Some id; port = ask.port; tag = tag_of first 0 }
+
+abbrev pub page_question : Ask → TargetId → ℕ → Question
+page_question ask id first = record { subject = subject.Page; id = Some id; port = ask.port; tag = tag_of first 1 }
+
+abbrev pub config_frame : Ask → TargetId → ℕ → List ℕ
+config_frame ask id first = request (op.Config 0 []) id broadcast ask.port (tag_of first 0)
+
+abbrev pub page_frame : Ask → TargetId → ℕ → Mac → List ℕ
+page_frame ask id first remote = request op.Identify id remote ask.port (tag_of first 1)
+
+abbrev pub port_in : Result Response ToolRefusal → Result (Mac × ℕ) ToolRefusal
+port_in (Ok r) = Ok (r.reply.source, max_of r.args)
+port_in (Err e) = Err e
+
+abbrev pub total_in : Result Response ToolRefusal → Result ℕ ToolRefusal
+total_in (Ok r) = Ok (total_of r.reply.answer r.args)
+total_in (Err e) = Err e
+
+abbrev pub with_total : Mac × ℕ → Result ℕ ToolRefusal → Result Device ToolRefusal
+with_total (port, max) (Ok total) = Ok record { port = port; max = max; total = total }
+with_total found (Err e) = Err e
+
+-- once the device answered where it is, it is asked there how long it is
+abbrev pub FindsAt : Result (Mac × ℕ) ToolRefusal → Result Device ToolRefusal → Ask → TargetId → ℕ → LinkState → LinkState → Type 0
+FindsAt (Ok found) result ask id first mid after =
+    (page : Result Response ToolRefusal) × Asks page (page_question ask id first) (page_frame ask id first found.0) ask.turns mid after × (result ≡ with_total found (total_in page))
+FindsAt (Err e) result ask id first mid after = (result ≡ Err e) × (after ≡ mid)
+
+-- a device is found by its response to a query config request to all, and by its page
+pub record Finds (result : Result Device ToolRefusal) (ask : Ask) (id : TargetId) (first : ℕ) (before after : LinkState) : Type 0 where
+  pub mid : LinkState
+  pub config : Result Response ToolRefusal
+  pub asks : Asks config (config_question ask id first) (config_frame ask id first) ask.turns before mid
+  pub finds : FindsAt (port_in config) result ask id first mid after

@@ -1,0 +1,68 @@
+//! The tools that copy, over links in memory.
+ghost use Rattle.std.specs.Prelude.{◌≤◌, IfOk, length};
+
+use crate::{Ask, Refusal, ToolRefusal, get};
+use aoe_base::{Blob, Mac, NoMemory, TargetId};
+use aoe_frame::Frame;
+use aoe_io::{MemLink, MemSink, SetClock};
+use std::alloc::Global;
+use std::test::Fail;
+
+const A: Mac = Mac([2, 0, 0, 0, 0, 0x0a]);
+
+const DEVICE: TargetId = TargetId { major: 1, minor: 0 };
+
+/// A response of the device 1.0 at port 1 to a command with a tag.
+fn response(
+    alloc: Global,
+    command: u8,
+    tag: [u8; 4],
+    args: &[u8],
+    data: &[u8],
+) -> Result<Blob, NoMemory>
+    ensures { IfOk result (λ b. length b ≤ 9018) }
+{
+    let mut out = Frame::new();
+    let _ = out.try_extend_from_slice(&[2, 0, 0, 0, 0, 0x0a, 2, 0, 0, 0, 0, 1, 0x88, 0xa2]);
+    let _ = out.try_extend_from_slice(&[0x18, 0, 0, 1, 0, command]);
+    let _ = out.try_extend_from_slice(&tag);
+    let _ = out.try_extend_from_slice(args);
+    let _ = out.try_extend_from_slice(data);
+    Blob::of(alloc, out.as_slice())
+}
+
+/// A link that answers the two requests before a transfer: the device has 16 sectors.
+fn found(alloc: Global) -> Result<Vec<Option<Blob>>, Fail> {
+    let config = [0, 16, 0, 1, 17, 0x10, 0, 0];
+    let mut page = [0u8; 512];
+    page[99] = 2;
+    page[120] = 16;
+    let mut coming = Vec::new(alloc);
+    coming.push(Some(response(alloc, 1, [0x80, 0, 0, 0], &config, &[])?))?;
+    let registers = [0, 0, 0, 0x40, 0, 0, 0, 0, 0, 0, 0, 0];
+    coming.push(Some(response(alloc, 0, [0x80, 0, 0, 1], &registers, &page)?))?;
+    Ok(coming)
+}
+
+#[test]
+fn gets_sectors(rt: HostRuntime) -> Result<(), Fail> {
+    let alloc = rt.alloc();
+    let ask = Ask { port: A, turns: 50 };
+    let registers = [0x40, 0, 0, 0x40, 0, 0, 0, 0, 0, 0, 0, 0];
+    let mut coming = found(alloc)?;
+    coming.push(Some(response(alloc, 0, [0, 0, 0, 2], &registers, &[0x33; 512])?))?;
+    coming.push(None)?;
+    coming.push(Some(response(alloc, 0, [0, 0, 0, 1], &registers, &[0x5a; 1024])?))?;
+    let mut link = MemLink::of(alloc, coming, 10)?;
+    let mut sink = MemSink::new(alloc, 2000)?;
+    let mut clock = SetClock::new(0, 10);
+    let got = get(alloc, &ask, DEVICE, 2, 3, &mut sink, &mut link, &mut clock);
+    assert_eq!(rt; got, Ok(()));
+    assert_eq!(rt; link.count(), 4);
+    let mut sink = MemSink::new(alloc, 2000)?;
+    let mut link = MemLink::of(alloc, found(alloc)?, 10)?;
+    let mut clock = SetClock::new(0, 10);
+    let got = get(alloc, &ask, DEVICE, 15, 2, &mut sink, &mut link, &mut clock);
+    assert_eq!(rt; got, Err(ToolRefusal::Refused(Refusal::Range)));
+    Ok(())
+}
