@@ -2,20 +2,18 @@
 use Rattle.std.specs.Prelude.{ℕ, List, ◌++◌, codes}
 use Rattle.std.specs.Fmt.{decimal}
 use Rattle.aoe_base.specs.Names.{pair_text}
+use Rattle.aoe_tools.specs.declared.end.CopyRefusal.{CopyRefusal}
+use Rattle.aoe_tools.specs.declared.end.CopyRefusal.TheVariants as copy
 use Rattle.aoe_tools.specs.declared.end.Refusal.{Refusal}
 use Rattle.aoe_tools.specs.declared.end.Refusal.TheVariants as refusal
 use Rattle.aoe_tools.specs.declared.end.ToolRefusal.{ToolRefusal}
 use Rattle.aoe_tools.specs.declared.end.ToolRefusal.TheVariants as tool
 
 abbrev pub code_of : ToolRefusal → ℕ
-code_of tool.SourceFault = 3
-code_of tool.SinkFault = 4
 code_of tool.LinkFault = 6
 code_of tool.NoMemory = 7
 code_of (tool.Unanswered turns) = 9
 code_of (tool.Refused r) = 10
-code_of (tool.Stream offset) = 11
-code_of tool.Limit = 12
 
 -- a refusal: the registers in two hexadecimal digits each, the other codes in decimal
 abbrev pub refusal_text : Refusal → List ℕ
@@ -29,7 +27,18 @@ text_of tool.LinkFault = codes "aoe: link fault on port 0"
 text_of tool.NoMemory = codes "aoe: no memory"
 text_of (tool.Unanswered turns) = codes "aoe: no answer in " ++ (decimal turns ++ codes " turns")
 text_of (tool.Refused r) = refusal_text r
-text_of (tool.Stream offset) = codes "aoe: bad stream at byte " ++ decimal offset
-text_of tool.Limit = codes "aoe: limit: input bytes"
-text_of tool.SourceFault = codes "aoe: source fault"
-text_of tool.SinkFault = codes "aoe: sink fault"
+
+-- the same of a tool that copies sectors
+abbrev pub copy_code : CopyRefusal → ℕ
+copy_code copy.SourceFault = 3
+copy_code copy.SinkFault = 4
+copy_code (copy.Tool r) = code_of r
+copy_code (copy.Stream offset) = 11
+copy_code copy.Limit = 12
+
+abbrev pub copy_text : CopyRefusal → List ℕ
+copy_text copy.SourceFault = codes "aoe: source fault"
+copy_text copy.SinkFault = codes "aoe: sink fault"
+copy_text (copy.Tool r) = text_of r
+copy_text (copy.Stream offset) = codes "aoe: bad stream at byte " ++ decimal offset
+copy_text copy.Limit = codes "aoe: limit: input bytes"

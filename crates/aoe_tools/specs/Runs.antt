@@ -13,6 +13,9 @@ use Rattle.aoe_tools.specs.Asking.{Answers, tag_of}
 use Rattle.aoe_tools.specs.Discovery.{Discovers, finding_question, finding_request}
 use Rattle.aoe_tools.specs.One.{AsksOne, edits_by}
 use Rattle.aoe_tools.specs.Stat.{Stats}
+use Rattle.aoe_tools.specs.TransferAsks.{LinkState}
+use Rattle.aoe_tools.specs.TransferGets.{Reads, Writes}
+use Rattle.aoe_tools.specs.declared.end.CopyRefusal.{CopyRefusal}
 use Rattle.aoe_tools.specs.declared.end.ToolRefusal.{ToolRefusal}
 use Rattle.aoe_tools.specs.declared.found.Seen.{Seen}
 use Rattle.aoe_tools.specs.declared.question.Ask.{Ask}
@@ -63,3 +66,15 @@ RunsDiscovery result ask t = (first : ℕ) × Answers first t.least t.answers t.
 abbrev pub RunsStat : Result (List Seen) ToolRefusal → Ask → Told → Type 0
 RunsStat result ask t = (first : ℕ) × Answers first t.least t.answers t.answers'
     × Stats result first ask.port ask.turns t.turns t.turns' t.given t.given' t.taken t.taken'
+
+-- what its link tells before and after
+abbrev pub before : Told → LinkState
+before t = record { turns = t.turns; given = t.given; taken = t.taken }
+
+abbrev pub after : Told → LinkState
+after t = record { turns = t.turns'; given = t.given'; taken = t.taken' }
+
+-- sectors of the device were read, and a sink took them, or a front of them where it failed
+abbrev pub RunsGet : Result Unit CopyRefusal → Ask → TargetId → ℕ → ℕ → Told → Option (List ℕ) → Option (List ℕ) → Type 0
+RunsGet result ask id at count t held held' = (read : Result (List ℕ) ToolRefusal)
+    × Reads read ask id at count t.least (before t) (after t) t.answers t.answers' × Writes read result held held'

@@ -8,6 +8,8 @@ use Rattle.aoe_tools.specs.Asking.{Answers}
 use Rattle.aoe_tools.specs.declared.course.Course.{Course}
 use Rattle.aoe_tools.specs.declared.course.Phase.{Phase}
 use Rattle.aoe_tools.specs.declared.course.Phase.TheVariants as phase
+use Rattle.aoe_tools.specs.declared.end.CopyRefusal.{CopyRefusal}
+use Rattle.aoe_tools.specs.declared.end.CopyRefusal.TheVariants as copy
 use Rattle.aoe_tools.specs.declared.end.Refusal.TheVariants as refusal
 use Rattle.aoe_tools.specs.declared.end.ToolRefusal.{ToolRefusal}
 use Rattle.aoe_tools.specs.declared.end.ToolRefusal.TheVariants as tool
@@ -63,8 +65,8 @@ pub record Reads (result : Result (List ℕ) ToolRefusal) (ask : Ask) (id : Targ
   pub reads : ReadsAt found result ask id at count mid after later answers'
 
 -- the sink takes what was read, and nothing where nothing was
-abbrev pub Writes : Result (List ℕ) ToolRefusal → Result Unit ToolRefusal → Option (List ℕ) → Option (List ℕ) → Type 0
+abbrev pub Writes : Result (List ℕ) ToolRefusal → Result Unit CopyRefusal → Option (List ℕ) → Option (List ℕ) → Type 0
 Writes (Ok bytes) (Ok done) before after = Took before after bytes
-Writes (Ok bytes) (Err tool.SinkFault) before after = TookSome before after bytes
+Writes (Ok bytes) (Err copy.SinkFault) before after = TookSome before after bytes
 Writes (Ok bytes) (Err e) before after = ⊥
-Writes (Err e) result before after = (result ≡ Err e) × (after ≡ before)
+Writes (Err e) result before after = (result ≡ Err (copy.Tool e)) × (after ≡ before)

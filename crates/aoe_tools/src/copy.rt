@@ -4,11 +4,12 @@ ghost use Rattle.aoe_base.specs.Faults.{Rose};
 ghost use Rattle.aoe_base.specs.declared.address.Mac.{Mac};
 ghost use Rattle.aoe_base.specs.declared.address.TargetId.{TargetId};
 ghost use Rattle.aoe_tools.specs.declared.end.ToolRefusal.{ToolRefusal as Refused};
+ghost use Rattle.aoe_tools.specs.Runs.{RunsGet};
 ghost use Rattle.aoe_tools.specs.TransferGets.{IsFresh, Reads, Writes};
 ghost use Rattle.aoe_tools.specs.TransferRun.{host_of, IsFit};
 
 use crate::course::{Course, Phase};
-use crate::end::{Refusal, ToolRefusal};
+use crate::end::{CopyRefusal, Refusal, ToolRefusal};
 use crate::lookup::{Device, look_up};
 use crate::question::Ask;
 use crate::transfer::Transfer;
@@ -92,26 +93,39 @@ pub fn get<L: Link, C: Clock, K: Sink>(
     sink: &mut K,
     link: &mut L,
     clock: &mut C,
-) -> Result<(), ToolRefusal>
+) -> Result<(), CopyRefusal>
     requires some { 0 < count }
     requires few { count ≤ 32768 }
-    ensures get { (read : Result (List ℕ) Refused) × Reads read ask.now id at count (C.least clock.old) (record { turns = L.turns link.old; given = L.given link.old; taken = L.taken link.old }) (record { turns = L.turns link.new; given = L.given link.new; taken = L.taken link.new }) (C.answers clock.old) (C.answers clock.new)
-        × Writes read result (K.held sink.old) (K.held sink.new) }
+    ensures run { RunsGet result ask.now id at count
+        record {
+          least = C.least clock.old;
+          answers = C.answers clock.old;
+          answers' = C.answers clock.new;
+          turns = L.turns link.old;
+          turns' = L.turns link.new;
+          given = L.given link.old;
+          given' = L.given link.new;
+          taken = L.taken link.old;
+          taken' = L.taken link.new;
+        }
+        (K.held sink.old) (K.held sink.new) }
+    ensures unread { result ≢ Err CopyRefusal.SourceFault }
+    ensures unwritten { IfErr result (λ e. e ≢ CopyRefusal.SinkFault → sink.new ≡ sink.old) }
     ensures count { L.faults link.old ≤ L.faults link.new }
-    ensures cause { result ≡ Err ToolRefusal.LinkFault → Rose (L.faults link.old) (L.faults link.new) }
-    ensures no_fault { result ≢ Err ToolRefusal.LinkFault → L.faults link.new ≡ L.faults link.old }
+    ensures cause { result ≡ Err (CopyRefusal.Tool ToolRefusal.LinkFault) → Rose (L.faults link.old) (L.faults link.new) }
+    ensures no_fault { result ≢ Err (CopyRefusal.Tool ToolRefusal.LinkFault) → L.faults link.new ≡ L.faults link.old }
     ensures one_fault { L.faults link.new ≤ L.faults link.old + 1 }
     ensures sink_count { K.faults sink.old ≤ K.faults sink.new }
-    ensures sink_cause { result ≡ Err ToolRefusal.SinkFault → Rose (K.faults sink.old) (K.faults sink.new) }
-    ensures sink_no_fault { result ≢ Err ToolRefusal.SinkFault → K.faults sink.new ≡ K.faults sink.old }
+    ensures sink_cause { result ≡ Err CopyRefusal.SinkFault → Rose (K.faults sink.old) (K.faults sink.new) }
+    ensures sink_no_fault { result ≢ Err CopyRefusal.SinkFault → K.faults sink.new ≡ K.faults sink.old }
     ensures sink_one_fault { K.faults sink.new ≤ K.faults sink.old + 1 }
 {
     let sectors = match read_all(alloc, ask, id, at, count, link, clock) {
         Ok(sectors) => sectors,
-        Err(refusal) => return Err(refusal),
+        Err(refusal) => return Err(CopyRefusal::Tool(refusal)),
     };
     match give_all(sink, sectors.bytes()) {
         Ok(()) => Ok(()),
-        Err(Failed) => Err(ToolRefusal::SinkFault),
+        Err(Failed) => Err(CopyRefusal::SinkFault),
     }
 }

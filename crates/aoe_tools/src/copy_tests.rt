@@ -1,7 +1,7 @@
 //! The tools that copy, over links in memory.
 ghost use Rattle.std.specs.Prelude.{◌≤◌, IfOk, length};
 
-use crate::{Ask, Refusal, ToolRefusal, get};
+use crate::{Ask, CopyRefusal, Refusal, ToolRefusal, get};
 use aoe_base::{Blob, Mac, NoMemory, TargetId};
 use aoe_frame::Frame;
 use aoe_io::{MemLink, MemSink, SetClock};
@@ -63,6 +63,6 @@ fn gets_sectors(rt: HostRuntime) -> Result<(), Fail> {
     let mut link = MemLink::of(alloc, found(alloc)?, 10)?;
     let mut clock = SetClock::new(0, 10);
     let got = get(alloc, &ask, DEVICE, 15, 2, &mut sink, &mut link, &mut clock);
-    assert_eq!(rt; got, Err(ToolRefusal::Refused(Refusal::Range)));
+    assert_eq!(rt; got, Err(CopyRefusal::Tool(ToolRefusal::Refused(Refusal::Range))));
     Ok(())
 }

@@ -2,7 +2,7 @@
 ghost use Rattle.std.specs.Prelude.{◌≡◌, ◌<◌, IfOk};
 ghost use Rattle.std.specs.Char.{digit_char};
 ghost use Rattle.aoe_base.specs.Names.{pair_text};
-ghost use Rattle.aoe_tools.specs.Ending.{code_of, refusal_text, text_of};
+ghost use Rattle.aoe_tools.specs.Ending.{code_of, copy_code, copy_text, refusal_text, text_of};
 
 use aoe_base::{Blob, NoMemory, append};
 use arrayvec::ArrayVec;
@@ -22,18 +22,6 @@ pub enum ToolRefusal {
 
     /// The device refused.
     Refused(Refusal),
-
-    /// The input isn't whole sectors: after so many bytes less than a sector is left.
-    Stream { offset: u64 },
-
-    /// The input is longer than what is written at a time.
-    Limit,
-
-    /// The source failed.
-    SourceFault,
-
-    /// The sink failed.
-    SinkFault,
 }
 
 /// How a device refuses.
@@ -52,20 +40,35 @@ pub enum Refusal {
     Range,
 }
 
+/// How a tool that copies sectors ends without having copied them.
+#[derive(Clone, Copy, Debug, PartialEq, Eq)]
+pub enum CopyRefusal {
+    /// As a tool that asks.
+    Tool(ToolRefusal),
+
+    /// The input isn't whole sectors: after so many bytes less than a sector is left.
+    Stream { offset: u64 },
+
+    /// The input is longer than what is written at a time.
+    Limit,
+
+    /// The source failed.
+    SourceFault,
+
+    /// The sink failed.
+    SinkFault,
+}
+
 impl ToolRefusal {
     /// The exit status of the program.
     pub fn code(&self) -> u8
         ensures { result ≡ code_of self.now }
     {
         match self {
-            ToolRefusal::SourceFault => 3,
-            ToolRefusal::SinkFault => 4,
             ToolRefusal::LinkFault => 6,
             ToolRefusal::NoMemory => 7,
             ToolRefusal::Unanswered { .. } => 9,
             ToolRefusal::Refused(_) => 10,
-            ToolRefusal::Stream { .. } => 11,
-            ToolRefusal::Limit => 12,
         }
     }
 
@@ -78,10 +81,6 @@ impl ToolRefusal {
             ToolRefusal::NoMemory => Blob::of(alloc, b"aoe: no memory"),
             ToolRefusal::Unanswered { turns } => unanswered_text(alloc, turns),
             ToolRefusal::Refused(refusal) => refused_text(alloc, refusal),
-            ToolRefusal::Stream { offset } => stream_text(alloc, offset),
-            ToolRefusal::Limit => Blob::of(alloc, b"aoe: limit: input bytes"),
-            ToolRefusal::SourceFault => Blob::of(alloc, b"aoe: source fault"),
-            ToolRefusal::SinkFault => Blob::of(alloc, b"aoe: sink fault"),
         }
     }
 }
@@ -96,9 +95,37 @@ fn unanswered_text(alloc: Global, turns: u32) -> Result<Blob, NoMemory>
     }
 }
 
+impl CopyRefusal {
+    /// The exit status of the program.
+    pub fn code(&self) -> u8
+        ensures { result ≡ copy_code self.now }
+    {
+        match self {
+            CopyRefusal::SourceFault => 3,
+            CopyRefusal::SinkFault => 4,
+            CopyRefusal::Tool(refusal) => refusal.code(),
+            CopyRefusal::Stream { .. } => 11,
+            CopyRefusal::Limit => 12,
+        }
+    }
+
+    /// What the program says on standard error, without a line feed.
+    pub fn text(&self, alloc: Global) -> Result<Blob, NoMemory>
+        ensures { IfOk result (λ text. text ≡ copy_text self.now) }
+    {
+        match *self {
+            CopyRefusal::Tool(refusal) => refusal.text(alloc),
+            CopyRefusal::Stream { offset } => stream_text(alloc, offset),
+            CopyRefusal::Limit => Blob::of(alloc, b"aoe: limit: input bytes"),
+            CopyRefusal::SourceFault => Blob::of(alloc, b"aoe: source fault"),
+            CopyRefusal::SinkFault => Blob::of(alloc, b"aoe: sink fault"),
+        }
+    }
+}
+
 /// The text for an input that isn't whole sectors.
 fn stream_text(alloc: Global, offset: u64) -> Result<Blob, NoMemory>
-    ensures { IfOk result (λ text. text ≡ text_of (ToolRefusal.Stream offset)) }
+    ensures { IfOk result (λ text. text ≡ copy_text (CopyRefusal.Stream offset)) }
 {
     match format!(in alloc; "aoe: bad stream at byte {offset}") {
         Ok(text) => Blob::of(alloc, text.as_bytes()),

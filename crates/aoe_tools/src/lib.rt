@@ -19,7 +19,7 @@ mod transfer;
 mod visiting;
 
 pub use copy::get;
-pub use end::{Refusal, ToolRefusal};
+pub use end::{CopyRefusal, Refusal, ToolRefusal};
 pub use finding::discover;
 pub use found::{Found, Seen, State};
 pub use lists::{cfg, mask, reserve};

@@ -7,7 +7,7 @@ use Rattle.aoe_serve.specs.declared.over_files.Rack.{Rack}
 use Rattle.aoe_serve.specs.declared.plan.Plan.{Plan}
 use Rattle.aoe_serve.specs.declared.plan.Plan.TheVariants as plan
 use Rattle.aoe_words.specs.declared.command.Command.{Command}
-use Rattle.aoe_words.specs.declared.command.Command.TheVariants.{Ask}
+use Rattle.aoe_words.specs.declared.command.Command.TheVariants.{Ask, Get}
 use Rattle.aoe_words.specs.declared.command.Answer.{Answer as Answers}
 use Rattle.aoe_words.specs.declared.command.Serve.{Serve as Serves}
 
@@ -22,6 +22,7 @@ serve_plan serve = (record { first = record { major = serve.shelf; minor = 0 }; 
 -- it asks by the first link
 abbrev pub is_tool : Option Command → Bool
 is_tool (Some (Ask tool)) = true
+is_tool (Some (Get asked)) = true
 is_tool command = false
 
 -- the target with this minor, over a disk of so many sectors

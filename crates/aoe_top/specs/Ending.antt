@@ -53,6 +53,7 @@ limit_text what.Events = codes "aoe: limit: events"
 limit_text what.ScriptBytes = codes "aoe: limit: script bytes"
 limit_text what.Frames = codes "aoe: limit: frames"
 limit_text what.FrameBytes = codes "aoe: limit: frame bytes"
+limit_text what.InputBytes = codes "aoe: limit: input bytes"
 
 abbrev pub text_of : Status → List ℕ
 text_of status.Ok = []

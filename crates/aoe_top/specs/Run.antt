@@ -16,12 +16,13 @@ use Rattle.aoe_soak.specs.Soak.{soaked}
 use Rattle.aoe_world.specs.declared.end.ReplayEnd.{ReplayEnd}
 use Rattle.aoe_words.specs.declared.command.Command.{Command}
 use Rattle.aoe_words.specs.declared.command.Command.TheVariants as command
+use Rattle.aoe_words.specs.declared.command.Get.{Get}
 use Rattle.aoe_words.specs.declared.command.Soak.{Soak}
 use Rattle.aoe_words.specs.declared.command.Tool.{Tool}
 use Rattle.aoe_tools.specs.Runs.{Told}
 use Rattle.aoe_top.specs.Commands.{answer_plan, serve_plan, target_of}
 use Rattle.aoe_top.specs.Ending.{file_at, keep_at, refused_as, refused_slot, replayed_as, status_of}
-use Rattle.aoe_top.specs.Tools.{RunsTool, is_tool_status}
+use Rattle.aoe_top.specs.Tools.{CopiesOut, RunsTool, is_copy_status, is_tool_status}
 use Rattle.aoe_top.specs.declared.status.Status.{Status}
 use Rattle.aoe_top.specs.declared.status.Status.TheVariants as status
 
@@ -53,11 +54,15 @@ Ran state (command.Serve serve) t s a b disks disks' = RanFiles state (serve_pla
 Ran state command.Replay t s a b disks disks' = RanScript t.left t.held s a.source b.source a.sink b.sink × (b.links ≡ a.links) × (disks' ≡ disks)
 Ran state (command.Soak asked) t s a b disks disks' = RanSoak t.held asked s a.sink b.sink × (b.source ≡ a.source) × (b.links ≡ a.links) × (disks' ≡ disks)
 Ran state (command.Ask tool) t s a b disks disks' = (is_tool_status s ≡ true) × (b.source ≡ a.source) × (disks' ≡ disks)
+Ran state (command.Get asked) t s a b disks disks' = (is_copy_status s ≡ true) × (b.source ≡ a.source) × (disks' ≡ disks)
 
--- A tool ran over the first link and a clock, and a sink took what it says; or there was no memory to read its command, and the link is as
--- it was.
+-- a tool ran over the first link and a clock, and a sink took what it says
 abbrev pub Asked : {K L : Type 0} → (K → Option (List ℕ)) → (L → L → Told) → Tool → Status → K → K → List L → List L → Type 0
 Asked held told tool s sink sink' links links' = AtFirst (λ a b. RunsTool tool s (held sink) (held sink') (told a b)) links links'
+
+-- `get` ran over the first link and a clock, and a sink took the sectors
+abbrev pub Got : {K L : Type 0} → (K → Option (List ℕ)) → (L → L → Told) → Get → Status → K → K → List L → List L → Type 0
+Got held told asked s sink sink' links links' = AtFirst (λ a b. CopiesOut asked s (held sink) (held sink') (told a b)) links links'
 
 -- the script was run to its end, or until there was no memory or no room for a frame that it calls for
 pub record HasReplayed (script : ScriptLines) (s : Status) : Type 0 where

@@ -4,20 +4,24 @@ use Rattle.arrayvec.specs.ArrayVec.{ArrayVec}
 use Rattle.aoe_base.specs.declared.failure.NoMemory.{NoMemory}
 use Rattle.aoe_io.specs.Bytes.{Took, TookSome}
 use Rattle.aoe_lists.specs.declared.dir.Dir.{Dir}
-use Rattle.aoe_tools.specs.Runs.{RunsConfig, RunsDiscovery, RunsMasks, RunsReserves, RunsStat, Told}
+use Rattle.aoe_tools.specs.Runs.{RunsConfig, RunsDiscovery, RunsGet, RunsMasks, RunsReserves, RunsStat, Told}
 use Rattle.aoe_tools.specs.Text.{config_text, found_text, masks_text, reserves_text, stat_text}
+use Rattle.aoe_tools.specs.declared.end.CopyRefusal.{CopyRefusal}
+use Rattle.aoe_tools.specs.declared.end.CopyRefusal.TheVariants as copy
 use Rattle.aoe_tools.specs.declared.end.ToolRefusal.{ToolRefusal}
 use Rattle.aoe_tools.specs.declared.end.ToolRefusal.TheVariants as refusal
 use Rattle.aoe_tools.specs.declared.found.Seen.{Seen}
 use Rattle.aoe_tools.specs.declared.question.Ask.{Ask}
 use Rattle.aoe_words.specs.declared.command.Asking.{Asking}
 use Rattle.aoe_words.specs.declared.command.Cfg.{Cfg}
+use Rattle.aoe_words.specs.declared.command.Get.{Get}
 use Rattle.aoe_words.specs.declared.command.Mask.{Mask}
 use Rattle.aoe_words.specs.declared.command.Reserve.{Reserve}
 use Rattle.aoe_words.specs.declared.command.Tool.{Tool}
 use Rattle.aoe_words.specs.declared.command.Tool.TheVariants as tool
 use Rattle.aoe_top.specs.declared.status.Status.{Status}
 use Rattle.aoe_top.specs.declared.status.Status.TheVariants as status
+use Rattle.aoe_top.specs.declared.status.What.TheVariants as what
 
 -- who asks, and how long it listens
 abbrev pub ask_of : Asking → Ask
@@ -106,3 +110,28 @@ pub record RunsTool (tool : Tool) (s : Status) (held held' : Option (List ℕ)) 
   pub said : Result (List ℕ) ToolRefusal
   pub says : Says tool said t
   pub writes : Writes s said held held'
+
+-- the status of a tool that ended without having copied sectors
+abbrev pub copy_status : CopyRefusal → Status
+copy_status (copy.Tool r) = tool_status r
+copy_status (copy.Stream offset) = status.Stream offset
+copy_status copy.Limit = status.Limit what.InputBytes
+copy_status copy.SourceFault = status.SourceFault
+copy_status copy.SinkFault = status.SinkFault
+
+abbrev pub copied : Result Unit CopyRefusal → Status
+copied (Ok done) = status.Ok
+copied (Err r) = copy_status r
+
+-- the statuses that it can end with
+abbrev pub is_copy_status : Status → Bool
+is_copy_status (status.Stream offset) = true
+is_copy_status (status.Limit excess) = true
+is_copy_status status.SourceFault = true
+is_copy_status s = is_tool_status s
+
+-- `get` ran over a link and a clock, a sink took what it read, and the status tells how it ended
+pub record CopiesOut (asked : Get) (s : Status) (held held' : Option (List ℕ)) (t : Told) : Type 0 where
+  pub result : Result Unit CopyRefusal
+  pub runs : RunsGet result (ask_of asked.asking) asked.id asked.at asked.count t held held'
+  pub ends : s ≡ copied result

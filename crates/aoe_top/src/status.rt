@@ -53,6 +53,8 @@ pub enum What {
     Frames,
     /// The frames that a script sends have more than 536,870,912 bytes together.
     FrameBytes,
+    /// The input of a tool that copies sectors has more than 16,777,216 bytes.
+    InputBytes,
 }
 
 impl Status {
@@ -135,6 +137,7 @@ fn limit_text(alloc: Global, what: What) -> Result<Blob, NoMemory>
         What::ScriptBytes => Blob::of(alloc, b"aoe: limit: script bytes"),
         What::Frames => Blob::of(alloc, b"aoe: limit: frames"),
         What::FrameBytes => Blob::of(alloc, b"aoe: limit: frame bytes"),
+        What::InputBytes => Blob::of(alloc, b"aoe: limit: input bytes"),
     }
 }
 

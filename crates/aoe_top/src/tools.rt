@@ -2,17 +2,18 @@
 ghost use Rattle.std.specs.Prelude.{◌≡◌, ◌≢◌, ◌≤◌, ◌+◌, ℕ, Err, true, length, option_copied};
 ghost use Rattle.aoe_base.specs.Faults.{Rose};
 ghost use Rattle.aoe_tools.specs.One.{edits_by};
-ghost use Rattle.aoe_top.specs.Tools.{CanAsk, RunsTool, Says, SaysConfig, SaysFound, SaysMasks, SaysReserves, SaysStat, ask_of, dirs_of, is_tool_status, said, tool_status};
+ghost use Rattle.aoe_words.specs.Tools.{CanGet};
+ghost use Rattle.aoe_top.specs.Tools.{CanAsk, CopiesOut, RunsTool, Says, SaysConfig, SaysFound, SaysMasks, SaysReserves, SaysStat, ask_of, copy_status, dirs_of, is_copy_status, is_tool_status, said, tool_status};
 
-use crate::Status;
+use crate::{Status, What};
 use aoe_base::{Blob, Failed, NoMemory};
 use aoe_io::{Clock, Link, Sink, give_all};
 use aoe_lists::Dir;
 use aoe_tools::{
-    Ask, ToolRefusal, cfg, discover, mask, print_config, print_found, print_masks, print_reserves,
+    Ask, CopyRefusal, ToolRefusal, cfg, discover, get, mask, print_config, print_found, print_masks, print_reserves,
     print_stat, reserve, stat,
 };
-use aoe_words::{Asking, Cfg, Mask, Reserve, Tool};
+use aoe_words::{Asking, Cfg, Get, Mask, Reserve, Tool};
 use std::alloc::Global;
 
 /// Who asks, and how long it listens.
@@ -285,5 +286,56 @@ pub(crate) fn run_tool<K: Sink, L: Link, C: Clock>(
     match give_all(sink, text.bytes()) {
         Ok(()) => Status::Ok,
         Err(Failed) => Status::SinkFault,
+    }
+}
+
+/// The status of a tool that ended without having copied sectors.
+fn copy_status(refusal: CopyRefusal) -> Status
+    ensures { result ≡ copy_status refusal }
+{
+    match refusal {
+        CopyRefusal::Tool(refusal) => tool_status(refusal),
+        CopyRefusal::Stream { offset } => Status::Stream { offset },
+        CopyRefusal::Limit => Status::Limit(What::InputBytes),
+        CopyRefusal::SourceFault => Status::SourceFault,
+        CopyRefusal::SinkFault => Status::SinkFault,
+    }
+}
+
+/// Copies sectors of a device to the sink.
+pub(crate) fn run_get<K: Sink, L: Link, C: Clock>(
+    alloc: Global,
+    asked: &Get,
+    sink: &mut K,
+    link: &mut L,
+    clock: &mut C,
+) -> Status
+    requires { CanGet asked.now }
+    ensures run { CopiesOut asked.now result (K.held sink.old) (K.held sink.new)
+        record {
+          least = C.least clock.old;
+          answers = C.answers clock.old;
+          answers' = C.answers clock.new;
+          turns = L.turns link.old;
+          turns' = L.turns link.new;
+          given = L.given link.old;
+          given' = L.given link.new;
+          taken = L.taken link.old;
+          taken' = L.taken link.new;
+        } }
+    ensures leaves { result ≢ Status.Ok → result ≢ Status.SinkFault → sink.new ≡ sink.old }
+    ensures status { is_copy_status result ≡ true }
+    ensures unread { result ≢ Status.SourceFault }
+    ensures sink_fault { result ≡ Status.SinkFault → Rose (K.faults sink.old) (K.faults sink.new) }
+    ensures link_fault { (port : ℕ) → result ≡ Status.LinkFault port → (port ≡ 0) × Rose (L.faults link.old) (L.faults link.new) }
+    ensures sink_no_fault { result ≢ Status.SinkFault → K.faults sink.new ≡ K.faults sink.old }
+    ensures link_no_fault { result ≢ Status.LinkFault 0 → L.faults link.new ≡ L.faults link.old }
+    ensures sink_one_fault { K.faults sink.new ≤ K.faults sink.old + 1 }
+    ensures link_one_fault { L.faults link.new ≤ L.faults link.old + 1 }
+{
+    let ask = ask_of(asked.asking);
+    match get(alloc, &ask, asked.id, asked.at, asked.count, sink, link, clock) {
+        Ok(()) => Status::Ok,
+        Err(refusal) => copy_status(refusal),
     }
 }

@@ -10,15 +10,16 @@ ghost use Rattle.aoe_soak.specs.Soak.{soaked};
 ghost use Rattle.aoe_words.specs.Words.{CanSoak, IsInRange, command, file_count, file_names, link_count, port_words};
 ghost use Rattle.aoe_words.specs.declared.command.Answer.{Answer as Answers};
 ghost use Rattle.aoe_words.specs.declared.command.Serve.{Serve as Serves};
+ghost use Rattle.aoe_words.specs.declared.command.Get.{Get as Gets};
 ghost use Rattle.aoe_words.specs.declared.command.Soak.{Soak as Soaks};
 ghost use Rattle.aoe_words.specs.declared.command.Tool.{Tool};
 ghost use Rattle.aoe_top.specs.Commands.{CanExport, is_tool};
 ghost use Rattle.aoe_top.specs.Ending.{file_at, keep_at, refused_slot};
-ghost use Rattle.aoe_top.specs.Run.{Asked, HasLists, HasReplayed, IsBad, IsSmall, NothingLoose, OnSlot, Ran, RanFiles, RanScript, RanSoak, Refused};
+ghost use Rattle.aoe_top.specs.Run.{Asked, Got, HasLists, HasReplayed, IsBad, IsSmall, NothingLoose, OnSlot, Ran, RanFiles, RanScript, RanSoak, Refused};
 
 use crate::plan::{answer_plan, refused_as, replayed_as, serve_plan, status_of};
 use crate::status::Status;
-use crate::tools::run_tool;
+use crate::tools::{run_get, run_tool};
 use aoe_base::NoMemory;
 use aoe_disk::Disk;
 use aoe_io::{Clock, Link, Sink, Source};
@@ -135,6 +136,17 @@ fn run_command<S: Source, K: Sink, D: Disk + Drop, L: Link, C: Clock>(
       taken = L.taken a;
       taken' = L.taken b;
     }) tool result sink.old sink.new links.old links.new }
+    ensures gets { (asked : Gets) → command ≡ Command.Get asked → Got K.held (λ a b. record {
+      least = C.least clock.old;
+      answers = C.answers clock.old;
+      answers' = C.answers clock.new;
+      turns = L.turns a;
+      turns' = L.turns b;
+      given = L.given a;
+      given' = L.given b;
+      taken = L.taken a;
+      taken' = L.taken b;
+    }) asked result sink.old sink.new links.old links.new }
     ensures clock { is_tool (Some command) ≡ false → clock.new ≡ clock.old }
     ensures usage { result ≢ Status.Usage }
     ensures there { All IsSome disks.new }
@@ -163,6 +175,7 @@ fn run_command<S: Source, K: Sink, D: Disk + Drop, L: Link, C: Clock>(
         Command::Replay => run_script(alloc, source, sink),
         Command::Soak(asked) => run_soak(alloc, asked, sink),
         Command::Ask(tool) => run_tool(alloc, &tool, sink, &mut links[0], clock),
+        Command::Get(asked) => run_get(alloc, &asked, sink, &mut links[0], clock),
     }
 }
 
@@ -178,7 +191,7 @@ fn run_command<S: Source, K: Sink, D: Disk + Drop, L: Link, C: Clock>(
 ///
 /// The tools ask over the first link and the clock: `discover` and `stat` which targets there are, with
 /// their sizes and states, `cfg`, `mask` and `reserve` one target for a list or a change of it; what they
-/// are told goes to the sink as text. `--port` is who asks, and `--turns` how long each listens.
+/// are told goes to the sink as text. `get` copies sectors of a target to the sink. `--port` is who asks, and `--turns` how long each listens.
 ///
 /// `replay` reads the source to its end as a script, runs the events of the script through shelves
 /// and hosts in memory, and puts the text of what happened on the sink. Whatever a schedule loses,
@@ -254,6 +267,18 @@ pub fn aoe<S: Source, K: Sink, D: Disk + Drop, L: Link, C: Clock>(
           taken = L.taken a;
           taken' = L.taken b;
         }) tool result sink.old sink.new links.old links.new }
+    ensures gets { (asked : Gets) → command (map string_bytes words.now) ≡ Some (Command.Get asked) → (result ≡ Status.NoMemory) × (links.new ≡ links.old)
+        ⊎ Got K.held (λ a b. record {
+          least = C.least clock.old;
+          answers = C.answers clock.old;
+          answers' = C.answers clock.new;
+          turns = L.turns a;
+          turns' = L.turns b;
+          given = L.given a;
+          given' = L.given b;
+          taken = L.taken a;
+          taken' = L.taken b;
+        }) asked result sink.old sink.new links.old links.new }
     ensures clock { is_tool (command (map string_bytes words.now)) ≡ false → clock.new ≡ clock.old }
 
     // With no fault keeps that hold lists are mounted, and then a stream of frames is answered to its end, and a link is served;

@@ -18,9 +18,9 @@ use Rattle.aoe_words.specs.declared.command.Serve.{Serve as Serves}
 use Rattle.aoe_words.specs.declared.command.Soak.{Soak as Soaks}
 use Rattle.aoe_words.specs.declared.command.PortWords.{PortWords}
 use Rattle.aoe_words.specs.declared.command.Command.{Command}
-use Rattle.aoe_words.specs.declared.command.Command.TheVariants.{Answer, Serve, Replay, Soak, Ask}
+use Rattle.aoe_words.specs.declared.command.Command.TheVariants.{Answer, Serve, Replay, Soak, Ask, Get, Put}
 use Rattle.aoe_words.specs.declared.command.Tool.{Tool}
-use Rattle.aoe_words.specs.declared.command.Tool.TheVariants.{Discover, Stat, Cfg, Mask, Reserve, Get, Put}
+use Rattle.aoe_words.specs.declared.command.Tool.TheVariants.{Discover, Stat, Cfg, Mask, Reserve}
 
 -- ---- words
 
@@ -97,8 +97,6 @@ tool_of name rows =
     else if bytes_eq name (codes "cfg") then option_map Cfg (cfg_of rows)
     else if bytes_eq name (codes "mask") then option_map Mask (mask_of rows)
     else if bytes_eq name (codes "reserve") then option_map Reserve (reserve_of rows)
-    else if bytes_eq name (codes "get") then option_map Get (get_of rows)
-    else if bytes_eq name (codes "put") then option_map Put (put_of rows)
     else None
 
 -- the command of this name
@@ -108,6 +106,8 @@ command_of name rows =
     else if bytes_eq name (codes "serve") then option_map Serve (serve_of rows)
     else if bytes_eq name (codes "replay") then Some Replay
     else if bytes_eq name (codes "soak") then option_map Soak (soak_of rows)
+    else if bytes_eq name (codes "get") then option_map Get (get_of rows)
+    else if bytes_eq name (codes "put") then option_map Put (put_of rows)
     else option_map Ask (tool_of name rows)
 
 -- the command that the words spell with what clap found for it, or nothing
@@ -176,8 +176,6 @@ CanRun (Stat asking) = CanAsk asking
 CanRun (Cfg cfg) = CanCfg cfg
 CanRun (Mask mask) = CanMask mask
 CanRun (Reserve reserve) = CanReserve reserve
-CanRun (Get get) = CanGet get
-CanRun (Put put) = CanPut put
 
 abbrev pub IsInRange : Command → Type 0
 IsInRange (Answer answer) = CanAnswer answer
@@ -185,6 +183,8 @@ IsInRange (Serve serve) = CanServe serve
 IsInRange Replay = Unit
 IsInRange (Soak soak) = CanSoak soak
 IsInRange (Ask tool) = CanRun tool
+IsInRange (Get get) = CanGet get
+IsInRange (Put put) = CanPut put
 
 -- how many files and links a command has
 abbrev pub file_count : Command → ℕ

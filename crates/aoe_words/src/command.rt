@@ -146,8 +146,6 @@ pub enum Tool {
     Cfg(Cfg),
     Mask(Mask),
     Reserve(Reserve),
-    Get(Get),
-    Put(Put),
 }
 
 /// What the words of a command line ask for.
@@ -161,6 +159,8 @@ pub enum Command {
 
     Soak(Soak),
     Ask(Tool),
+    Get(Get),
+    Put(Put),
 }
 
 /// The texts that name the ends of a link, as they stand on the command line: its own address, and

@@ -171,10 +171,6 @@ fn tool_of(name: &str, found: &ArgMatches) -> Option<Tool>
         Some(Tool::Mask(mask_of(found)?))
     } else if name == "reserve" {
         Some(Tool::Reserve(reserve_of(found)?))
-    } else if name == "get" {
-        Some(Tool::Get(get_of(found)?))
-    } else if name == "put" {
-        Some(Tool::Put(put_of(found)?))
     } else {
         None
     }
@@ -195,6 +191,10 @@ fn command_of(name: &str, found: &ArgMatches) -> Option<Command>
         Some(Command::Replay)
     } else if name == "soak" {
         Some(Command::Soak(soak_of(found)?))
+    } else if name == "get" {
+        Some(Command::Get(get_of(found)?))
+    } else if name == "put" {
+        Some(Command::Put(put_of(found)?))
     } else {
         Some(Command::Ask(tool_of(name, found)?))
     }
@@ -260,7 +260,8 @@ pub fn files_of(alloc: Global, words: &[String]) -> Result<Vec<String>, NoMemory
             Some(texts) => copies(alloc, texts),
             None => Ok(Vec::new(alloc)),
         },
-        Command::Replay | Command::Soak(_) | Command::Ask(_) => Ok(Vec::new(alloc)),
+        Command::Replay | Command::Soak(_) | Command::Ask(_) | Command::Get(_) | Command::Put(_) =>
+            Ok(Vec::new(alloc)),
     }
 }
 
@@ -287,7 +288,9 @@ pub fn ports_of(alloc: Global, words: &[String]) -> Result<Vec<PortWords>, NoMem
     };
     match command {
         Command::Answer(_) | Command::Replay | Command::Soak(_) => Ok(Vec::new(alloc)),
-        Command::Serve(_) | Command::Ask(_) => match link(&matches) {
+        Command::Serve(_) | Command::Ask(_) | Command::Get(_) | Command::Put(_) => match link(
+            &matches,
+        ) {
             Some((local, peers)) => one_link(alloc, local, peers),
             None => Ok(Vec::new(alloc)),
         },

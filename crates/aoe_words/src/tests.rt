@@ -149,11 +149,16 @@ fn reads_serve(rt: HostRuntime) -> Result<(), Fail> {
 /// The ends of a link, as every tool is told them.
 const ENDS: &str = " --local 0.0.0.0:1 --peers 10.0.0.1:1";
 
-/// What the words of a tool spell, with the ends of a link behind them.
-fn read_tool(alloc: Global, line: &str) -> Result<Option<Tool>, Fail> {
+/// What the words spell, with the ends of a link behind them.
+fn read_linked(alloc: Global, line: &str) -> Result<Option<Command>, Fail> {
     let mut whole = String::from_str(alloc, line)?;
     whole.push_str(ENDS)?;
-    match read_line(alloc, whole.as_str())? {
+    read_line(alloc, whole.as_str())
+}
+
+/// What a tool that these words spell asks for.
+fn read_tool(alloc: Global, line: &str) -> Result<Option<Tool>, Fail> {
+    match read_linked(alloc, line)? {
         Some(Command::Ask(tool)) => Ok(Some(tool)),
         _ => Ok(None),
     }
@@ -214,12 +219,12 @@ fn reserve(rcmd: u8, macs: &[Mac]) -> Tool {
 }
 
 /// What `get` asks of the device.
-fn get(at: u64, count: u32, turns: u32) -> Tool {
+fn get(at: u64, count: u32, turns: u32) -> Command {
     let asking = Asking {
         port: mac(10),
         turns,
     };
-    Tool::Get(Get {
+    Command::Get(Get {
         asking,
         id: device(),
         at,
@@ -228,12 +233,12 @@ fn get(at: u64, count: u32, turns: u32) -> Tool {
 }
 
 /// What `put` asks of the device.
-fn put(at: u64, turns: u32) -> Tool {
+fn put(at: u64, turns: u32) -> Command {
     let asking = Asking {
         port: mac(10),
         turns,
     };
-    Tool::Put(Put {
+    Command::Put(Put {
         asking,
         id: device(),
         at,
@@ -494,7 +499,7 @@ fn reads_get_and_put(rt: HostRuntime) -> Result<(), Fail> {
         ("put e1.2 0 --turns 0", None),
     ];
     for (line, command) in cases {
-        assert_eq!(rt; read_tool(rt.alloc(), line)?, command, "{line}");
+        assert_eq!(rt; read_linked(rt.alloc(), line)?, command, "{line}");
     }
     Ok(())
 }

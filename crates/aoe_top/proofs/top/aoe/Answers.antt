@@ -79,3 +79,7 @@ returns-in-Ok-Some-clause-soaks g c asked is fine =
 
 pub returns-in-Err-clause-soaks : goal.returns-in-Err-clause-soaks
 returns-in-Err-clause-soaks g c asked is fine = record { end = replay.NoMemory; run = inr tt; ends = refl }
+
+pub returns-in-Ok-Some-clause-gets : goal.returns-in-Ok-Some-clause-gets
+returns-in-Ok-Some-clause-gets g c asked is =
+    inr (c.run_command.ensures.gets asked (same-command _ _ _ _ c.in-Ok-Some.field-0-is c.in-Ok-Some.ensures.command is))
