@@ -92,6 +92,7 @@ RunsTo part (Limit Events) script held held' = ⊥
 RunsTo part (Script line why) script held held' = ⊥
 RunsTo part SourceFault script held held' = ⊥
 
+-- the same with the whole text, and with its last line
 abbrev pub Runs : ReplayEnd → ScriptLines → Option (List ℕ) → Option (List ℕ) → Type 0
 Runs = RunsTo Whole
 
