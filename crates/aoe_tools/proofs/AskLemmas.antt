@@ -1,12 +1,11 @@
 -- A request until its first response that counts.
-use Rattle.std.proofs.Common.{ℕ, ◌≡◌, ◌<◌, ◌+◌, Bool, true, false, List, [], ◌∷◌, length, drop, Option, Some, None, refl, sym, ap, subst, ◌∙◌, arith, ◌||◌}
+use Rattle.std.proofs.Common.{ℕ, ◌≡◌, ◌<◌, ◌+◌, true, List, [], ◌∷◌, length, drop, Option, Some, None, refl, sym, ap, subst, ◌∙◌, arith, ◌||◌}
 use Rattle.std.specs.Prelude.{Result, Ok, Err, nat_eq, nat_lt, IfErr, IfOk}
 use Rattle.std.proofs.lemmas.Bool.{eq-eqb}
 use Rattle.aoe_base.specs.declared.failure.Failed.{Failed}
 use Rattle.aoe_io.specs.Link.{Added, Turn, Turned}
-use Rattle.aoe_tools.proofs.ListenLemmas.{Frames}
 use Rattle.aoe_tools.proofs.OneLemmas.{waits-on, went-on}
-use Rattle.aoe_tools.specs.Asking.{Response, asked, brought, responses, with_response}
+use Rattle.aoe_tools.specs.Asking.{Response, asked, responses, with_response}
 use Rattle.aoe_tools.specs.Listening.{Listens, Waits}
 use Rattle.aoe_tools.specs.One.{is_done, refusal_of}
 use Rattle.aoe_tools.specs.TransferAsks.{answered, unless_refusing, with_args, AskEnds, Asks, LinkState}

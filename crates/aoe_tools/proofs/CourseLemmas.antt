@@ -1,9 +1,9 @@
 -- The course of a transfer, outcome by outcome and command by command.
-use Rattle.std.proofs.Common.{ℕ, suc, ◌≡◌, ◌≤◌, ◌<◌, ◌+◌, cond, Bool, true, false, List, [], ◌∷◌, ◌++◌, length, map, Option, Some, None, refl, sym, ap, subst, ◌∙◌, arith, ◌-◌}
-use Rattle.std.specs.Prelude.{Result, Ok, Err, option_map}
-use Rattle.std.specs.List.{count_by, find}
+use Rattle.std.proofs.Common.{ℕ, ◌≡◌, ◌≤◌, ◌<◌, ◌+◌, cond, Bool, true, false, List, [], ◌∷◌, length, map, Option, Some, None, refl, sym, ap, subst, ◌∙◌, arith, ◌-◌}
+use Rattle.std.specs.Prelude.{Ok, Err, option_map}
+use Rattle.std.specs.List.{count_by}
 use Rattle.aoe_base.specs.declared.counted.Ticket.{Ticket}
-use Rattle.aoe_block.specs.Calls.{after_done as part_after, after_outcome, hand, is_success, next_part, op_of, part_of, settle, took, AreUpTo}
+use Rattle.aoe_block.specs.Calls.{after_done as part_after, after_outcome, hand, is_success, next_part, op_of, settle, took, AreUpTo}
 use Rattle.aoe_block.specs.Parts.{Part, Transfer}
 use Rattle.aoe_block.specs.Stages.{is_handed, is_pending}
 use Rattle.aoe_block.specs.declared.stage.Stage.{Stage}

@@ -1,18 +1,18 @@
 -- The second part of a turn, of its three steps.
-use Rattle.std.proofs.Common.{ℕ, ◌≡◌, ◌+◌, ◌≤◌, ◌⊎◌, Bool, true, false, List, [], ◌∷◌, ◌++◌, map, drop, Option, Some, None, refl, sym, ap, subst, ◌∙◌, arith, inl, inr}
-use Rattle.std.specs.Prelude.{Result, Ok, Err}
+use Rattle.std.proofs.Common.{ℕ, ◌≡◌, ◌+◌, ◌≤◌, Bool, true, false, List, [], ◌++◌, Option, Some, None, sym, ap, subst, ◌∙◌, inl, inr}
+use Rattle.std.specs.Prelude.{Ok, Err}
 use Rattle.aoe_base.specs.declared.failure.Failed.{Failed}
 use Rattle.aoe_initiator.specs.declared.outcome.Done.{Done}
 use Rattle.aoe_initiator.specs.Host.{Host, IsSame, Matches}
 use Rattle.aoe_initiator.specs.HostLog.{Event}
-use Rattle.aoe_io.specs.Link.{Added, Turn, Turned}
+use Rattle.aoe_io.specs.Link.{Turn}
 use Rattle.aoe_tools.proofs.ListenLemmas.{Frames}
 use Rattle.aoe_tools.proofs.SubmitLemmas.{as-many}
 use Rattle.aoe_tools.proofs.TransferHost.{same-then}
 use Rattle.aoe_tools.specs.declared.course.Course.{Course}
 use Rattle.aoe_tools.specs.TransferCourse.{left, submitted, IsFilled}
-use Rattle.aoe_tools.specs.TransferRun.{after_frames, after_heard, after_submits, told_by, AreSent, Heard, IsFit, IsSilent, Outgoing}
-use Rattle.aoe_tools.specs.TransferSteps.{is_heard, Broken, Exchanged, HearsOne, IsHeld, IsUnused, SendsSome, SubmitsSome}
+use Rattle.aoe_tools.specs.TransferRun.{after_frames, after_submits, told_by, Heard, IsFit}
+use Rattle.aoe_tools.specs.TransferSteps.{is_heard, Broken, Exchanged, HearsOne, IsHeld, SendsSome, SubmitsSome}
 
 pub fit-held : (host host' : Host) (c : Course) → IsHeld host host' → IsFit host c → IsFit host' c
 fit-held host host' c held fit =

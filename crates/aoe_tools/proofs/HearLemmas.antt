@@ -1,5 +1,5 @@
 -- What a turn of a link brings to the host of a transfer.
-use Rattle.std.proofs.Common.{ℕ, ◌≡◌, ◌≤◌, ◌+◌, ◌-◌, ◌^◌, min, Bool, true, false, List, [], ◌∷◌, ◌++◌, Option, Some, None, refl, sym, ap, subst, ◌∙◌, arith, drop}
+use Rattle.std.proofs.Common.{ℕ, ◌≡◌, true, false, List, [], ◌∷◌, Option, Some, None, refl, sym, ap, subst, ◌∙◌, drop}
 use Rattle.std.proofs.lemmas.List.{append-nil}
 use Rattle.aoe_base.specs.declared.counted.Ticket.{Ticket}
 use Rattle.aoe_initiator.specs.declared.step.Taken.TheVariants.{Finished, Stale}
@@ -7,10 +7,8 @@ use Rattle.aoe_initiator.specs.Host.{Host, IsSame, Matches}
 use Rattle.aoe_initiator.specs.HostLaw.{Takes}
 use Rattle.aoe_initiator.specs.HostLog.{Event}
 use Rattle.aoe_initiator.specs.Response.{outcome_of}
-use Rattle.aoe_io.specs.Link.{Turn, Turned, came, quiet, ended}
-use Rattle.aoe_tools.proofs.TransferHost.{same-self, same-then}
-use Rattle.aoe_tools.specs.TransferRun.{after_heard, told_by, Heard, Hears}
-use Rattle.aoe_tools.specs.TransferSteps.{is_heard, HearsOne, IsHeld}
+use Rattle.aoe_io.specs.Link.{Turn, Turned, came}
+use Rattle.aoe_tools.specs.TransferSteps.{HearsOne}
 
 module _ (host host' : Host) (start turned' : ℕ) (given given' : Option (List Turn)) (frame : List ℕ) (turned : Turned start turned' given given' (came frame ∷ [])) (held : IsSame host host' × (host'.clock ≡ host.clock) × (host'.last_ticket ≡ host.last_ticket)) where
   pub hears-answer : (ticket : Ticket) → ((log : List Event) → Matches log host → Takes host frame log (Finished ticket) host') → HearsOne true host host' start turned' given given'

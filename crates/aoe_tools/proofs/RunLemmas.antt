@@ -1,21 +1,20 @@
 -- The turns of a transfer, one after another, and how many there can be.
-use Rattle.std.proofs.Common.{ℕ, suc, ◌≡◌, ◌+◌, ◌-◌, ◌*◌, ◌≤◌, ◌<◌, ◌⊎◌, ◌&&◌, cond, drop, not, max, Bool, true, false, nat_eq, List, [], ◌∷◌, ◌++◌, length, map, reverse, Option, Some, None, refl, sym, ap, subst, ◌∙◌, arith, inl, inr, rules, append_assoc, length-append}
-use Rattle.std.specs.Prelude.{Result, Ok, Err, All, Contains, IfSome, option_map, slice_get}
+use Rattle.std.proofs.Common.{ℕ, ◌≡◌, ◌+◌, ◌-◌, ◌*◌, ◌≤◌, ◌<◌, ◌&&◌, cond, drop, not, Bool, true, false, nat_eq, List, [], ◌∷◌, ◌++◌, length, map, Option, Some, None, refl, sym, ap, subst, ◌∙◌, arith, inl, inr, rules}
+use Rattle.std.specs.Prelude.{Result, Ok, Err, IfSome, slice_get}
 use Rattle.std.specs.List.{count_by, filter}
 use Rattle.std.specs.Option.{option_and_then}
 use Rattle.std.proofs.Math.Nat.{mul-le-mul_left}
 use Rattle.std.proofs.lemmas.Bool.{and_parts}
-use Rattle.std.proofs.lemmas.List.{length-map, map-append}
-use Rattle.aoe_base.specs.declared.counted.PathNo.{PathNo}
+use Rattle.std.proofs.lemmas.List.{length-map}
 use Rattle.aoe_base.specs.declared.counted.Ticket.{Ticket}
 use Rattle.aoe_flight.proofs.CountLemmas.{count-alike, count-cons, count-map}
 use Rattle.aoe_frame.specs.Header.{head}
 use Rattle.aoe_frame.specs.declared.header.Header.{Header}
 use Rattle.aoe_initiator.specs.declared.outcome.Done.{Done}
-use Rattle.aoe_initiator.specs.Host.{unfinished, waiting_of, Host, IsSame, Matches, Waiting}
+use Rattle.aoe_initiator.specs.Host.{Host, Matches, Waiting}
 use Rattle.aoe_initiator.specs.HostLaw.{answer_to, ended, has_tag, is_answered, is_from, is_response}
 use Rattle.aoe_initiator.specs.HostLog.{after_end, after_send, at_ticket, clock, commands, path_log, submitted as submitted_as, Event, HostCommand}
-use Rattle.aoe_initiator.specs.HostLog.Event.{Advances, Ends, Sends}
+use Rattle.aoe_initiator.specs.HostLog.Event.{Advances}
 use Rattle.aoe_initiator.specs.Response.{answer}
 use Rattle.aoe_io.proofs.LinkLemmas.{Added-then, turned-nothing, turned-then}
 use Rattle.aoe_io.specs.Link.{Added, Turn, Turned, came, quiet as link_quiet, ended as link_ended}
@@ -26,11 +25,10 @@ use Rattle.aoe_tools.proofs.TransferHost.{count-fewer, count-one-fewer, same-sel
 use Rattle.aoe_tools.specs.declared.course.Course.{Course}
 use Rattle.aoe_tools.specs.declared.end.ToolRefusal.{ToolRefusal}
 use Rattle.aoe_tools.specs.declared.end.ToolRefusal.TheVariants as tool
-use Rattle.aoe_tools.specs.declared.transfer.Passed.{Passed}
 use Rattle.aoe_tools.specs.declared.transfer.Passed.TheVariants as passed
-use Rattle.aoe_tools.specs.TransferCourse.{after_dones, left, submitted, AreNext, Submission}
-use Rattle.aoe_tools.specs.TransferRun.{after_frames, after_heard, after_round, after_submits, after_tick, course_of, dones, frames_of, log_of, nows_of, quiet_by, quiet_turns, told, AreRounds, Heard, Hears, IsAnswer, IsFit, IsRound, Outgoing, Round, Running, RunEnds, Runs, Told}
-use Rattle.aoe_tools.specs.TransferSteps.{is_heard, IsUnused, TakesRound, Turns}
+use Rattle.aoe_tools.specs.TransferCourse.{after_dones, left, Submission}
+use Rattle.aoe_tools.specs.TransferRun.{after_frames, after_heard, after_submits, after_tick, course_of, dones, frames_of, log_of, nows_of, quiet_by, quiet_turns, told, Heard, Hears, IsFit, IsRound, Outgoing, Round, Running, RunEnds, Runs, Told}
+use Rattle.aoe_tools.specs.TransferSteps.{IsUnused, TakesRound, Turns}
 
 -- the commands without an outcome
 abbrev pub unended : HostCommand → Bool
@@ -256,10 +254,6 @@ module _ (turns quiet : ℕ) (base host : Host) (start c : Course) (from turned'
       at tool.NoMemory x = ran (Err tool.NoMemory) x.1 (now, refl, x.0)
       at (tool.Unanswered n) x = ran (Err (tool.Unanswered n)) x.2 (inr (now, x.0, refl, x.1))
       at (tool.Refused q) x = ran (Err (tool.Refused q)) x.2 (inr (now, x.0, refl, x.1))
-      at (tool.Stream n) x = ran (Err (tool.Stream n)) x.2 (inr (now, x.0, refl, x.1))
-      at tool.Limit x = ran (Err tool.Limit) x.2 (inr (now, x.0, refl, x.1))
-      at tool.SourceFault x = ran (Err tool.SourceFault) x.2 (inr (now, x.0, refl, x.1))
-      at tool.SinkFault x = ran (Err tool.SinkFault) x.2 (inr (now, x.0, refl, x.1))
 
 -- so many turns in a row ended no command
 pub is-unanswered : (turns quiet : ℕ) (base host : Host) (start c : Course) (from turned' : ℕ) (given given' : Option (List Turn)) (taken taken' : Option Frames) (answers answers' : Option (List ℕ)) → So turns quiet base host start c from turned' given given' taken taken' answers answers'

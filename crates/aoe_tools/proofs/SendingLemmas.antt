@@ -1,6 +1,6 @@
 -- The frames of a turn, one by one.
-use Rattle.std.proofs.Common.{ℕ, suc, ◌≡◌, ◌≤◌, ◌<◌, ◌+◌, List, [], ◌∷◌, ◌++◌, map, Option, Some, None, refl, sym, ap, subst, ◌∙◌, arith}
-use Rattle.std.specs.Prelude.{Result, Ok, Err, IfNone, IfSome, is_some, Bool, true, false}
+use Rattle.std.proofs.Common.{ℕ, ◌≡◌, ◌≤◌, ◌+◌, List, [], ◌∷◌, map, Option, Some, None, refl, ◌∙◌, arith}
+use Rattle.std.specs.Prelude.{Ok, Err, IfNone, IfSome, is_some, true, false}
 use Rattle.aoe_base.specs.declared.failure.Failed.{Failed}
 use Rattle.aoe_initiator.specs.declared.step.Sent.{Sent}
 use Rattle.aoe_initiator.specs.Host.{Host, IsSame, Matches}
@@ -11,8 +11,8 @@ use Rattle.aoe_io.proofs.LinkLemmas.{Added-then}
 use Rattle.aoe_io.specs.Link.{Added}
 use Rattle.aoe_tools.proofs.ListenLemmas.{Frames, added-nothing}
 use Rattle.aoe_tools.proofs.TransferHost.{active, few-active, next-active, none-active, same-self, same-then}
-use Rattle.aoe_tools.specs.TransferRun.{after_frames, AreSent, IsAt, IsSilent, MaySend, Outgoing}
-use Rattle.aoe_tools.specs.TransferSteps.{IsHeld, SendsSome, SilentIf}
+use Rattle.aoe_tools.specs.TransferRun.{after_frames, AreSent, MaySend, Outgoing}
+use Rattle.aoe_tools.specs.TransferSteps.{IsHeld, SendsSome}
 
 -- so many frames were sent, and the link took them
 pub record Sending (n : ℕ) (host host' : Host) (before after : Option Frames) : Type 0 where

@@ -1,5 +1,5 @@
 -- The commands of a turn, one by one.
-use Rattle.std.proofs.Common.{ℕ, ◌≡◌, ◌≤◌, ◌<◌, ◌+◌, List, [], ◌∷◌, length, map, Option, Some, refl, sym, ap, subst, ◌∙◌, arith}
+use Rattle.std.proofs.Common.{ℕ, ◌≡◌, ◌<◌, ◌+◌, List, [], ◌∷◌, length, Some, refl, sym, ap, subst, ◌∙◌, arith}
 use Rattle.std.proofs.lemmas.List.{length-map}
 use Rattle.aoe_base.specs.declared.counted.Ticket.{Ticket}
 use Rattle.aoe_block.specs.Calls.{hand, AreUpTo}
@@ -13,7 +13,7 @@ use Rattle.aoe_initiator.specs.HostLog.Event.{Submits}
 use Rattle.aoe_tools.proofs.CourseLemmas.{left-handed, up-to-handed}
 use Rattle.aoe_tools.proofs.TransferHost.{same-self, same-then}
 use Rattle.aoe_tools.specs.declared.course.Course.{Course}
-use Rattle.aoe_tools.specs.TransferCourse.{handed, left, next_op, submitted}
+use Rattle.aoe_tools.specs.TransferCourse.{handed, next_op}
 use Rattle.aoe_tools.specs.TransferRun.{after_submits, IsFit}
 use Rattle.aoe_tools.specs.TransferSteps.{SubmitsOne, SubmitsSome}
 

@@ -1,26 +1,24 @@
 -- The host of a transfer: what never changes of it, and how many of its commands can still be sent or answered.
-use Rattle.std.proofs.Common.{ℕ, zero, suc, ◌≡◌, ◌≤◌, ◌<◌, ◌+◌, ◌*◌, ◌-◌, ◌^◌, ◌&&◌, ◌⊎◌, cond, get_or, not, max, min, Bool, true, false, nat_eq, nat_le, List, [], ◌∷◌, ◌++◌, length, map, Option, Some, None, refl, sym, ap, subst, ◌∙◌, arith, inl, inr, rules}
-use Rattle.std.specs.Prelude.{option_map, slice_get, All, Contains}
-use Rattle.std.specs.List.{count_by, filter, filter_map, list_any}
+use Rattle.std.proofs.Common.{ℕ, zero, suc, ◌≡◌, ◌≤◌, ◌<◌, ◌+◌, ◌*◌, ◌-◌, ◌^◌, ◌&&◌, ◌⊎◌, cond, get_or, not, Bool, true, false, nat_eq, nat_le, List, [], ◌∷◌, length, map, Option, Some, None, refl, sym, ap, subst, ◌∙◌, arith, inl, inr, rules}
+use Rattle.std.specs.Prelude.{option_map, All, Contains}
+use Rattle.std.specs.List.{count_by, list_any}
 use Rattle.std.proofs.Math.Nat.{mul-le-mul_left}
 use Rattle.std.proofs.lemmas.Bool.{and_parts, cases_Bool, leb-true}
-use Rattle.std.proofs.lemmas.List.Elements.{All-cons, All-contains, All-head, All-nil, All-tail, All-weaker}
+use Rattle.std.proofs.lemmas.List.Elements.{All-cons, All-head, All-nil, All-tail, All-weaker}
 use Rattle.std.proofs.lemmas.Nat.{pow_pos}
-use Rattle.aoe_base.specs.declared.counted.Millis.{Millis}
 use Rattle.aoe_base.specs.declared.counted.PathNo.{PathNo}
 use Rattle.aoe_base.specs.declared.counted.Ticket.{Ticket}
-use Rattle.aoe_flight.proofs.CountLemmas.{count-alike, count-cons, count-map, none-all, some-counted}
+use Rattle.aoe_flight.proofs.CountLemmas.{count-cons, none-all}
 use Rattle.aoe_flight.specs.declared.outstanding.Outstanding.{Outstanding}
 use Rattle.aoe_flight.specs.Outstanding.{is_due}
 use Rattle.aoe_hold.specs.Commands.{keeps_back}
-use Rattle.aoe_initiator.specs.declared.device.Device.{Device}
 use Rattle.aoe_initiator.specs.declared.step.Sent.{Sent}
 use Rattle.aoe_initiator.specs.Host.{Ascends, Host, IsSame, Matches}
-use Rattle.aoe_initiator.specs.HostLaw.{is_clear_at, IsNext, IsNextBy, IsQuiet, IsRepeat, IsStart}
-use Rattle.aoe_initiator.specs.HostLog.{after_end, after_send, as_entered, as_sent, at_ticket, clock, commands, entered_at, one_more, outstanding, path_log, sent_of, stage, wait_of, Event, HostCommand, Sending}
+use Rattle.aoe_initiator.specs.HostLaw.{is_clear_at, IsNext, IsNextBy, IsQuiet}
+use Rattle.aoe_initiator.specs.HostLog.{after_send, as_entered, as_sent, at_ticket, clock, commands, entered_at, one_more, outstanding, path_log, sent_of, stage, wait_of, Event, HostCommand, Sending}
 use Rattle.aoe_initiator.specs.HostLog.Event.{Sends}
 use Rattle.aoe_hold.specs.Commands.{unsent}
-use Rattle.aoe_paths.specs.PathLog.{timeout_on, trips_on, PathEvent}
+use Rattle.aoe_paths.specs.PathLog.{timeout_on, trips_on}
 use Rattle.aoe_paths.specs.Timeout.{greatest, last_trips, timeout_of}
 
 Contains-cons : {X : Type 0} (head x : X) (rest : List X) → Contains rest x → Contains (head ∷ rest) x

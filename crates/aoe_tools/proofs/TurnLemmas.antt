@@ -1,5 +1,5 @@
 -- A turn of a transfer, of its two parts.
-use Rattle.std.proofs.Common.{ℕ, ◌≡◌, ◌+◌, ◌≤◌, ◌<◌, max, Bool, true, false, List, [], ◌∷◌, ◌++◌, map, reverse, Option, Some, None, refl, sym, ap, subst, ◌∙◌, arith}
+use Rattle.std.proofs.Common.{ℕ, ◌≡◌, ◌<◌, max, Bool, true, false, List, [], ◌∷◌, ◌++◌, map, reverse, Option, Some, None, refl, sym, ap, subst, ◌∙◌, arith}
 use Rattle.std.specs.Prelude.{Result, Ok, Err, All}
 use Rattle.aoe_block.specs.Calls.{settle, AreUpTo}
 use Rattle.aoe_block.specs.Parts.{Transfer}
@@ -9,7 +9,7 @@ use Rattle.aoe_initiator.specs.Host.{Host, IsSame, Matches}
 use Rattle.aoe_initiator.specs.HostLaw.{ended, GaveUpInTurn}
 use Rattle.aoe_initiator.specs.HostLog.{clock, commands, sent_of, Event}
 use Rattle.aoe_initiator.specs.HostLog.Event.{Advances}
-use Rattle.aoe_io.specs.Link.{Added, Turn, Turned}
+use Rattle.aoe_io.specs.Link.{Turn}
 use Rattle.aoe_tools.proofs.CourseLemmas.{left-dones, up-to-dones}
 use Rattle.aoe_tools.proofs.ListenLemmas.{Frames}
 use Rattle.aoe_tools.proofs.SubmitLemmas.{as-many}
@@ -22,8 +22,8 @@ use Rattle.aoe_tools.specs.declared.end.ToolRefusal.{ToolRefusal}
 use Rattle.aoe_tools.specs.declared.end.ToolRefusal.TheVariants as tool
 use Rattle.aoe_tools.specs.declared.transfer.Passed.{Passed}
 use Rattle.aoe_tools.specs.declared.transfer.Passed.TheVariants as passed
-use Rattle.aoe_tools.specs.TransferCourse.{after_done, after_dones, end_by, ending, ending_by, failure, is_over_in, left, or_later, submitted, End}
-use Rattle.aoe_tools.specs.TransferRun.{after_tick, course_of, dones, log_of, quiet_turns, told, told_by, AreRounds, Breaks, EndsBy, GivesUp, Heard, IsFit, IsRound, Round, Running}
+use Rattle.aoe_tools.specs.TransferCourse.{after_done, after_dones, end_by, ending, ending_by, failure, is_over_in, or_later, submitted, End}
+use Rattle.aoe_tools.specs.TransferRun.{after_tick, dones, log_of, quiet_turns, told, Breaks, EndsBy, GivesUp, Heard, IsFit, IsRound, Round, Running}
 use Rattle.aoe_tools.specs.TransferSteps.{Broken, Exchanged, Exchanges, TakesRound, Turns}
 
 -- only the waiting outcomes of a host changed
@@ -176,10 +176,6 @@ module _ (host advanced h1 : Host) (now : ℕ) (gave_up : List Done) (a : Advanc
       by-exchange below (Err tool.NoMemory) c' h' from turned' given given' taken taken' ex = ex base (after_tick now gave_up log) same1 matches-tick
       by-exchange below (Err (tool.Unanswered n)) c' h' from turned' given given' taken taken' ex = absurd (ex base (after_tick now gave_up log) same1 matches-tick)
       by-exchange below (Err (tool.Refused r)) c' h' from turned' given given' taken taken' ex = absurd (ex base (after_tick now gave_up log) same1 matches-tick)
-      by-exchange below (Err (tool.Stream n)) c' h' from turned' given given' taken taken' ex = absurd (ex base (after_tick now gave_up log) same1 matches-tick)
-      by-exchange below (Err tool.Limit) c' h' from turned' given given' taken taken' ex = absurd (ex base (after_tick now gave_up log) same1 matches-tick)
-      by-exchange below (Err tool.SourceFault) c' h' from turned' given given' taken taken' ex = absurd (ex base (after_tick now gave_up log) same1 matches-tick)
-      by-exchange below (Err tool.SinkFault) c' h' from turned' given given' taken taken' ex = absurd (ex base (after_tick now gave_up log) same1 matches-tick)
 
 -- the refusals that an outcome can be
 abbrev pub OfOutcome : ℕ → ToolRefusal → Type 0
@@ -187,10 +183,6 @@ OfOutcome turns (tool.Refused r) = Unit {0}
 OfOutcome turns (tool.Unanswered n) = n ≡ turns
 OfOutcome turns tool.LinkFault = ⊥
 OfOutcome turns tool.NoMemory = ⊥
-OfOutcome turns (tool.Stream n) = ⊥
-OfOutcome turns tool.Limit = ⊥
-OfOutcome turns tool.SourceFault = ⊥
-OfOutcome turns tool.SinkFault = ⊥
 
 of-failure : (turns : ℕ) (o : Outcome) (r : ToolRefusal) → failure turns o ≡ Some r → OfOutcome turns r
 of-failure turns (outcome.AoeError e) r is = let same : tool.Refused (refusal.Aoe e) ≡ r = cc in subst (OfOutcome turns) same tt
@@ -221,10 +213,6 @@ refused-turn (tool.Refused r) base host' turns start c c' rounds now from given 
 refused-turn (tool.Unanswered n) base host' turns start c c' rounds now from given taken is e = (e, refl, record { turns = refl; given_is = refl })
 refused-turn tool.LinkFault base host' turns start c c' rounds now from given taken is e = absurd is
 refused-turn tool.NoMemory base host' turns start c c' rounds now from given taken is e = absurd is
-refused-turn (tool.Stream n) base host' turns start c c' rounds now from given taken is e = absurd is
-refused-turn tool.Limit base host' turns start c c' rounds now from given taken is e = absurd is
-refused-turn tool.SourceFault base host' turns start c c' rounds now from given taken is e = absurd is
-refused-turn tool.SinkFault base host' turns start c c' rounds now from given taken is e = absurd is
 
 pub not-link : (turns : ℕ) (r : ToolRefusal) → OfOutcome turns r → r ≡ tool.LinkFault → ⊥
 not-link turns r is e = subst (OfOutcome turns) e is

@@ -1,5 +1,5 @@
 -- The two requests before a transfer: where a device is, and how long it is.
-use Rattle.std.specs.Prelude.{ℕ, ◌≡◌, ◌≤◌, ◌+◌, true, false, nat_lt, List, [], ◌∷◌, length, drop, Option, Some, None, Result, Ok, Err, if◌then◌else◌, slice_index, slice_range, unwrap_or}
+use Rattle.std.specs.Prelude.{ℕ, ◌≡◌, true, false, nat_lt, List, [], ◌∷◌, length, drop, Option, Some, None, Result, Ok, Err, if◌then◌else◌, slice_index, slice_range, unwrap_or}
 use Rattle.aoe_ata.specs.Identify.{declared}
 use Rattle.aoe_base.specs.declared.address.Mac.{Mac}
 use Rattle.aoe_base.specs.declared.address.TargetId.{TargetId}

@@ -1,7 +1,6 @@
 -- The tool that copies sectors out of a device.
-use Rattle.std.specs.Prelude.{ℕ, ◌≡◌, ◌+◌, ◌*◌, ◌≤◌, ◌⊎◌, Bool, true, false, List, [], replicate, Option, Result, Ok, Err}
+use Rattle.std.specs.Prelude.{ℕ, ◌≡◌, ◌+◌, ◌*◌, ◌≤◌, ◌⊎◌, Bool, false, List, replicate, Option, Result, Ok, Err}
 use Rattle.aoe_base.specs.declared.address.TargetId.{TargetId}
-use Rattle.aoe_block.specs.Calls.{part_of}
 use Rattle.aoe_block.specs.Parts.{joined, IsCut}
 use Rattle.aoe_io.specs.Bytes.{Took, TookSome}
 use Rattle.aoe_tools.specs.Asking.{Answers}

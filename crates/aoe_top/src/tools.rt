@@ -10,8 +10,8 @@ use aoe_base::{Blob, Failed, NoMemory};
 use aoe_io::{Clock, Link, Sink, give_all};
 use aoe_lists::Dir;
 use aoe_tools::{
-    Ask, CopyRefusal, ToolRefusal, cfg, discover, get, mask, print_config, print_found, print_masks, print_reserves,
-    print_stat, reserve, stat,
+    Ask, CopyRefusal, ToolRefusal, cfg, discover, get, mask, print_config, print_found,
+    print_masks, print_reserves, print_stat, reserve, stat,
 };
 use aoe_words::{Asking, Cfg, Get, Mask, Reserve, Tool};
 use std::alloc::Global;
@@ -334,7 +334,16 @@ pub(crate) fn run_get<K: Sink, L: Link, C: Clock>(
     ensures link_one_fault { L.faults link.new ≤ L.faults link.old + 1 }
 {
     let ask = ask_of(asked.asking);
-    match get(alloc, &ask, asked.id, asked.at, asked.count, sink, link, clock) {
+    match get(
+        alloc,
+        &ask,
+        asked.id,
+        asked.at,
+        asked.count,
+        sink,
+        link,
+        clock,
+    ) {
         Ok(()) => Status::Ok,
         Err(refusal) => copy_status(refusal),
     }

@@ -1,4 +1,4 @@
-use Rattle.std.proofs.Common.{ℕ, ◌≡◌, ◌*◌, List, length, refl, replicate, arith}
+use Rattle.std.proofs.Common.{ℕ, ◌*◌, refl, replicate, arith}
 use Rattle.std.proofs.lemmas.List.{length-replicate}
 use Rattle.aoe_tools.proofs.GetLemmas.{fit-fresh}
 use Rattle.aoe_tools.specs.declared.course.Phase.TheVariants as phase

@@ -1,14 +1,11 @@
-use Rattle.std.proofs.Common.{◌≡◌, ℕ, List, Option, inr, refl, sym, ap, subst, ◌∙◌}
+use Rattle.std.proofs.Common.{◌≡◌, inr, refl, sym, ap, subst, ◌∙◌}
 use Rattle.std.specs.Prelude.{Ok, Err}
-use Rattle.aoe_block.specs.Parts.{joined}
 use Rattle.aoe_initiator.specs.Host.{Host}
 use Rattle.aoe_tools.proofs.GetLemmas.{reads-ran, reads-refused, reads-unfound}
-use Rattle.aoe_tools.specs.Asking.{Answers}
 use Rattle.aoe_tools.specs.declared.course.Course.{Course}
 use Rattle.aoe_tools.specs.declared.end.ToolRefusal.TheVariants as tool
 use Rattle.aoe_tools.specs.TransferAsks.{LinkState}
 use Rattle.aoe_tools.specs.TransferCourse.{End}
-use Rattle.aoe_tools.specs.TransferGets.{IsFresh}
 use Rattle.aoe_tools.specs.TransferRun.{host_of, IsFit, Runs}
 use Rattle.aoe_tools.proofs.copy.read_all.Goals as goal
 

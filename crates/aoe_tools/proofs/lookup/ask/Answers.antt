@@ -1,8 +1,7 @@
-use Rattle.std.proofs.Common.{ℕ, ◌≡◌, ◌-◌, List, Option, Some, None, ◌∙◌, ap, sym, subst, drop, length, take}
+use Rattle.std.proofs.Common.{ℕ, ◌≡◌, ◌-◌, List, Option, None, ◌∙◌, ap, subst, drop, length, take}
 use Rattle.std.proofs.lemmas.List.{take_rest}
-use Rattle.std.specs.Prelude.{Ok, Err, IfErr, IfOk, IfSome}
+use Rattle.std.specs.Prelude.{Ok, Err, IfErr, IfOk}
 use Rattle.aoe_tools.proofs.AskLemmas.{asks-failed, asks-taken, asks-unanswered}
-use Rattle.aoe_tools.specs.Asking.{CanRead}
 use Rattle.aoe_tools.specs.Listening.{Listens}
 use Rattle.aoe_tools.specs.One.{refusal_of}
 use Rattle.aoe_tools.specs.TransferAsks.{unless_refusing, LinkState}

@@ -4,7 +4,7 @@ use Rattle.std.specs.Prelude.{Ok, Result}
 use Rattle.aoe_initiator.specs.declared.op.Op.TheVariants as op
 use Rattle.aoe_initiator.specs.Request.{request}
 use Rattle.aoe_tools.specs.Asking.{Response}
-use Rattle.aoe_tools.specs.TransferAsks.{page_question, total_of, Asks, LinkState}
+use Rattle.aoe_tools.specs.TransferAsks.{total_of, Asks, LinkState}
 use Rattle.aoe_tools.specs.declared.end.ToolRefusal.{ToolRefusal}
 use Rattle.aoe_tools.specs.declared.question.Subject.TheVariants as subject
 use Rattle.aoe_tools.proofs.lookup.find_total.Goals as goal

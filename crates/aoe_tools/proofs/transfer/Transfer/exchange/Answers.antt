@@ -1,12 +1,9 @@
-use Rattle.std.proofs.Common.{ℕ, List, Option, Bool, true, false, ◌≡◌, subst, sym, ap, ◌∙◌}
+use Rattle.std.proofs.Common.{ℕ, List, Option, subst, sym, ◌∙◌}
 use Rattle.std.specs.Prelude.{Ok}
-use Rattle.aoe_initiator.specs.Host.{Host, IsSame, Matches}
-use Rattle.aoe_initiator.specs.HostLog.{Event}
 use Rattle.aoe_io.specs.Link.{Turn}
 use Rattle.aoe_tools.proofs.ExchangeLemmas.{broken-hear, broken-send, exchanged-answer, exchanged-quiet}
 use Rattle.aoe_tools.proofs.ListenLemmas.{Frames}
-use Rattle.aoe_tools.specs.TransferSteps.{Broken, Exchanges, HearsOne, IsUnused, SendsSome}
-use Rattle.aoe_tools.specs.TransferRun.{Heard}
+use Rattle.aoe_tools.specs.TransferSteps.{HearsOne, SendsSome}
 use Rattle.aoe_tools.proofs.transfer.Transfer.exchange.Goals as goal
 
 pub returns-in-Err-send_all-clause-exchanges : goal.returns-in-Err-send_all-clause-exchanges

@@ -1,4 +1,4 @@
-use Rattle.std.proofs.Common.{List, [], ◌∷◌, ℕ, ap, subst}
+use Rattle.std.proofs.Common.{List, [], ◌∷◌, ℕ, subst}
 use Rattle.aoe_initiator.specs.Host.{Matches}
 use Rattle.aoe_initiator.specs.HostLaw.{Takes}
 use Rattle.aoe_initiator.specs.HostLog.{Event}

@@ -1,6 +1,6 @@
-use Rattle.std.proofs.Common.{◌≡◌, ◌≤◌, ◌+◌, ℕ, List, Option, Some, None, sym, ap, refl, subst, ◌∙◌, arith}
-use Rattle.std.specs.Prelude.{Ok, Err}
-use Rattle.aoe_tools.proofs.RunLemmas.{answered-smaller, begun, below-turns, goes-on, is-over, is-refused, is-unanswered, quiet-smaller, to_do}
+use Rattle.std.proofs.Common.{◌+◌, Some, None, refl, subst, ◌∙◌, arith}
+use Rattle.std.specs.Prelude.{Ok}
+use Rattle.aoe_tools.proofs.RunLemmas.{answered-smaller, begun, below-turns, goes-on, is-over, is-refused, quiet-smaller, to_do}
 use Rattle.aoe_tools.specs.TransferSteps.{Turns}
 use Rattle.aoe_tools.specs.declared.transfer.Passed.{Passed}
 use Rattle.aoe_tools.proofs.transfer.Transfer.run.Goals as goal

@@ -1,4 +1,4 @@
-use Rattle.std.proofs.Common.{ℕ, List, [], ◌∷◌, ◌≡◌, Option, Some, subst, sym, ap, arith, ◌∙◌}
+use Rattle.std.proofs.Common.{ℕ, List, [], ◌∷◌, ◌≡◌, subst, arith, ◌∙◌}
 use Rattle.aoe_io.specs.Link.{Added}
 use Rattle.aoe_initiator.specs.Host.{Matches}
 use Rattle.aoe_initiator.specs.HostLaw.{IsQuiet}

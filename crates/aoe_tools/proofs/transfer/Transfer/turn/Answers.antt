@@ -1,6 +1,6 @@
-use Rattle.std.proofs.Common.{◌≡◌, ℕ, List, [], Option, Some, None, sym, ap, refl, subst, ◌∙◌}
+use Rattle.std.proofs.Common.{◌≡◌, Some, sym, ap, refl, subst, ◌∙◌}
 use Rattle.std.specs.Prelude.{Ok, Err}
-use Rattle.aoe_tools.proofs.TurnLemmas.{by-exchange, ends-turn, fit-turn, not-link, of-outcome, over-turn, refused-turn, Advanced, OfOutcome}
+use Rattle.aoe_tools.proofs.TurnLemmas.{by-exchange, ends-turn, fit-turn, not-link, of-outcome, over-turn, refused-turn, Advanced}
 use Rattle.aoe_tools.specs.TransferCourse.{after_dones, end_by, End}
 use Rattle.aoe_tools.specs.TransferSteps.{UnlessFailed}
 use Rattle.aoe_tools.specs.declared.end.ToolRefusal.TheVariants as tool
