@@ -321,6 +321,7 @@ runs-of state command.Replay t s a b disks disks' count run = over_none count (�
 runs-of state (command.Soak asked) t s a b disks disks' count run = over_none count (λ disk e. no-disk run.0.end disk (sym run.0.ends ∙ e))
 runs-of state (command.Ask tool) t s a b disks disks' count run = over_none count (λ disk e. let f = sym (ap is_tool_status e) ∙ run.0 in absurd cc)
 runs-of state (command.Get asked) t s a b disks disks' count run = over_none count (λ disk e. let f = sym (ap is_copy_status e) ∙ run.0 in absurd cc)
+runs-of state (command.Put asked) t s a b disks disks' count run = over_none count (λ disk e. let f = sym (ap is_copy_status e) ∙ run.0 in absurd cc)
 
 module _ {D S K L : Type 0} (state : D → DiskState) (command : Command) (t : Tells S K L) (s : Status) (a b : Outside S K L) (disks disks' : List (Option D))
     (run : refused_slot s ≡ None → s ≢ status.NoMemory → Ran state command t s a b disks disks')

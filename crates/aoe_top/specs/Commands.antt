@@ -7,7 +7,7 @@ use Rattle.aoe_serve.specs.declared.over_files.Rack.{Rack}
 use Rattle.aoe_serve.specs.declared.plan.Plan.{Plan}
 use Rattle.aoe_serve.specs.declared.plan.Plan.TheVariants as plan
 use Rattle.aoe_words.specs.declared.command.Command.{Command}
-use Rattle.aoe_words.specs.declared.command.Command.TheVariants.{Ask, Get}
+use Rattle.aoe_words.specs.declared.command.Command.TheVariants.{Ask, Get, Put, Replay}
 use Rattle.aoe_words.specs.declared.command.Answer.{Answer as Answers}
 use Rattle.aoe_words.specs.declared.command.Serve.{Serve as Serves}
 
@@ -23,7 +23,14 @@ serve_plan serve = (record { first = record { major = serve.shelf; minor = 0 }; 
 abbrev pub is_tool : Option Command → Bool
 is_tool (Some (Ask tool)) = true
 is_tool (Some (Get asked)) = true
+is_tool (Some (Put asked)) = true
 is_tool command = false
+
+-- it reads the source and no frames: a script, or sectors
+abbrev pub reads_input : Option Command → Bool
+reads_input (Some Replay) = true
+reads_input (Some (Put asked)) = true
+reads_input command = false
 
 -- the target with this minor, over a disk of so many sectors
 abbrev pub target_of : Rack → ℕ → ℕ → Station

@@ -17,12 +17,13 @@ use Rattle.aoe_world.specs.declared.end.ReplayEnd.{ReplayEnd}
 use Rattle.aoe_words.specs.declared.command.Command.{Command}
 use Rattle.aoe_words.specs.declared.command.Command.TheVariants as command
 use Rattle.aoe_words.specs.declared.command.Get.{Get}
+use Rattle.aoe_words.specs.declared.command.Put.{Put}
 use Rattle.aoe_words.specs.declared.command.Soak.{Soak}
 use Rattle.aoe_words.specs.declared.command.Tool.{Tool}
 use Rattle.aoe_tools.specs.Runs.{Told}
 use Rattle.aoe_top.specs.Commands.{answer_plan, serve_plan, target_of}
 use Rattle.aoe_top.specs.Ending.{file_at, keep_at, refused_as, refused_slot, replayed_as, status_of}
-use Rattle.aoe_top.specs.Tools.{CopiesOut, RunsTool, is_copy_status, is_tool_status}
+use Rattle.aoe_top.specs.Tools.{CopiesIn, CopiesOut, RunsTool, is_copy_status, is_tool_status}
 use Rattle.aoe_top.specs.declared.status.Status.{Status}
 use Rattle.aoe_top.specs.declared.status.Status.TheVariants as status
 
@@ -55,14 +56,19 @@ Ran state command.Replay t s a b disks disks' = RanScript t.left t.held s a.sour
 Ran state (command.Soak asked) t s a b disks disks' = RanSoak t.held asked s a.sink b.sink × (b.source ≡ a.source) × (b.links ≡ a.links) × (disks' ≡ disks)
 Ran state (command.Ask tool) t s a b disks disks' = (is_tool_status s ≡ true) × (b.source ≡ a.source) × (disks' ≡ disks)
 Ran state (command.Get asked) t s a b disks disks' = (is_copy_status s ≡ true) × (b.source ≡ a.source) × (disks' ≡ disks)
+Ran state (command.Put asked) t s a b disks disks' = (is_copy_status s ≡ true) × (b.sink ≡ a.sink) × (disks' ≡ disks)
 
 -- a tool ran over the first link and a clock, and a sink took what it says
 abbrev pub Asked : {K L : Type 0} → (K → Option (List ℕ)) → (L → L → Told) → Tool → Status → K → K → List L → List L → Type 0
 Asked held told tool s sink sink' links links' = AtFirst (λ a b. RunsTool tool s (held sink) (held sink') (told a b)) links links'
 
 -- `get` ran over the first link and a clock, and a sink took the sectors
-abbrev pub Got : {K L : Type 0} → (K → Option (List ℕ)) → (L → L → Told) → Get → Status → K → K → List L → List L → Type 0
-Got held told asked s sink sink' links links' = AtFirst (λ a b. CopiesOut asked s (held sink) (held sink') (told a b)) links links'
+abbrev pub IsGot : {K L : Type 0} → (K → Option (List ℕ)) → (L → L → Told) → Get → Status → K → K → List L → List L → Type 0
+IsGot held told asked s sink sink' links links' = AtFirst (λ a b. CopiesOut asked s (held sink) (held sink') (told a b)) links links'
+
+-- `put` ran over a source, the first link and a clock
+abbrev pub IsPut : {S L : Type 0} → (S → Option (List ℕ)) → (L → L → Told) → Put → Status → S → S → List L → List L → Type 0
+IsPut left told asked s source source' links links' = AtFirst (λ a b. CopiesIn asked s (left source) (left source') (told a b)) links links'
 
 -- the script was run to its end, or until there was no memory or no room for a frame that it calls for
 pub record HasReplayed (script : ScriptLines) (s : Status) : Type 0 where

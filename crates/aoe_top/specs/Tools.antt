@@ -4,7 +4,7 @@ use Rattle.arrayvec.specs.ArrayVec.{ArrayVec}
 use Rattle.aoe_base.specs.declared.failure.NoMemory.{NoMemory}
 use Rattle.aoe_io.specs.Bytes.{Took, TookSome}
 use Rattle.aoe_lists.specs.declared.dir.Dir.{Dir}
-use Rattle.aoe_tools.specs.Runs.{RunsConfig, RunsDiscovery, RunsGet, RunsMasks, RunsReserves, RunsStat, Told}
+use Rattle.aoe_tools.specs.Runs.{RunsConfig, RunsDiscovery, RunsGet, RunsMasks, RunsPut, RunsReserves, RunsStat, Told}
 use Rattle.aoe_tools.specs.Text.{config_text, found_text, masks_text, reserves_text, stat_text}
 use Rattle.aoe_tools.specs.declared.end.CopyRefusal.{CopyRefusal}
 use Rattle.aoe_tools.specs.declared.end.CopyRefusal.TheVariants as copy
@@ -16,6 +16,7 @@ use Rattle.aoe_words.specs.declared.command.Asking.{Asking}
 use Rattle.aoe_words.specs.declared.command.Cfg.{Cfg}
 use Rattle.aoe_words.specs.declared.command.Get.{Get}
 use Rattle.aoe_words.specs.declared.command.Mask.{Mask}
+use Rattle.aoe_words.specs.declared.command.Put.{Put}
 use Rattle.aoe_words.specs.declared.command.Reserve.{Reserve}
 use Rattle.aoe_words.specs.declared.command.Tool.{Tool}
 use Rattle.aoe_words.specs.declared.command.Tool.TheVariants as tool
@@ -134,4 +135,10 @@ is_copy_status s = is_tool_status s
 pub record CopiesOut (asked : Get) (s : Status) (held held' : Option (List ℕ)) (t : Told) : Type 0 where
   pub result : Result Unit CopyRefusal
   pub runs : RunsGet result (ask_of asked.asking) asked.id asked.at asked.count t held held'
+  pub ends : s ≡ copied result
+
+-- `put` ran over a source, a link and a clock, and the status tells how it ended
+pub record CopiesIn (asked : Put) (s : Status) (left left' : Option (List ℕ)) (t : Told) : Type 0 where
+  pub result : Result Unit CopyRefusal
+  pub runs : RunsPut result (ask_of asked.asking) asked.id asked.at t left left'
   pub ends : s ≡ copied result

@@ -3,17 +3,17 @@ ghost use Rattle.std.specs.Prelude.{◌≡◌, ◌≢◌, ◌≤◌, ◌+◌, �
 ghost use Rattle.aoe_base.specs.Faults.{Rose};
 ghost use Rattle.aoe_tools.specs.One.{edits_by};
 ghost use Rattle.aoe_words.specs.Tools.{CanGet};
-ghost use Rattle.aoe_top.specs.Tools.{CanAsk, CopiesOut, RunsTool, Says, SaysConfig, SaysFound, SaysMasks, SaysReserves, SaysStat, ask_of, copy_status, dirs_of, is_copy_status, is_tool_status, said, tool_status};
+ghost use Rattle.aoe_top.specs.Tools.{CanAsk, CopiesIn, CopiesOut, RunsTool, Says, SaysConfig, SaysFound, SaysMasks, SaysReserves, SaysStat, ask_of, copy_status, dirs_of, is_copy_status, is_tool_status, said, tool_status};
 
 use crate::{Status, What};
 use aoe_base::{Blob, Failed, NoMemory};
-use aoe_io::{Clock, Link, Sink, give_all};
+use aoe_io::{Clock, Link, Sink, Source, give_all};
 use aoe_lists::Dir;
 use aoe_tools::{
     Ask, CopyRefusal, ToolRefusal, cfg, discover, get, mask, print_config, print_found,
-    print_masks, print_reserves, print_stat, reserve, stat,
+    print_masks, print_reserves, print_stat, put, reserve, stat,
 };
-use aoe_words::{Asking, Cfg, Get, Mask, Reserve, Tool};
+use aoe_words::{Asking, Cfg, Get, Mask, Put, Reserve, Tool};
 use std::alloc::Global;
 
 /// Who asks, and how long it listens.
@@ -344,6 +344,42 @@ pub(crate) fn run_get<K: Sink, L: Link, C: Clock>(
         link,
         clock,
     ) {
+        Ok(()) => Status::Ok,
+        Err(refusal) => copy_status(refusal),
+    }
+}
+
+/// Copies what the source gives to sectors of a device.
+pub(crate) fn run_put<S: Source, L: Link, C: Clock>(
+    alloc: Global,
+    asked: &Put,
+    source: &mut S,
+    link: &mut L,
+    clock: &mut C,
+) -> Status
+    ensures run { CopiesIn asked.now result (S.left source.old) (S.left source.new)
+        record {
+          least = C.least clock.old;
+          answers = C.answers clock.old;
+          answers' = C.answers clock.new;
+          turns = L.turns link.old;
+          turns' = L.turns link.new;
+          given = L.given link.old;
+          given' = L.given link.new;
+          taken = L.taken link.old;
+          taken' = L.taken link.new;
+        } }
+    ensures status { is_copy_status result ≡ true }
+    ensures unwritten { result ≢ Status.SinkFault }
+    ensures source_fault { result ≡ Status.SourceFault → Rose (S.faults source.old) (S.faults source.new) }
+    ensures link_fault { (port : ℕ) → result ≡ Status.LinkFault port → (port ≡ 0) × Rose (L.faults link.old) (L.faults link.new) }
+    ensures source_no_fault { result ≢ Status.SourceFault → S.faults source.new ≡ S.faults source.old }
+    ensures link_no_fault { result ≢ Status.LinkFault 0 → L.faults link.new ≡ L.faults link.old }
+    ensures source_one_fault { S.faults source.new ≤ S.faults source.old + 1 }
+    ensures link_one_fault { L.faults link.new ≤ L.faults link.old + 1 }
+{
+    let ask = ask_of(asked.asking);
+    match put(alloc, &ask, asked.id, asked.at, source, link, clock) {
         Ok(()) => Status::Ok,
         Err(refusal) => copy_status(refusal),
     }

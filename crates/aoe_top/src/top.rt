@@ -11,15 +11,16 @@ ghost use Rattle.aoe_words.specs.Words.{CanSoak, IsInRange, command, file_count,
 ghost use Rattle.aoe_words.specs.declared.command.Answer.{Answer as Answers};
 ghost use Rattle.aoe_words.specs.declared.command.Serve.{Serve as Serves};
 ghost use Rattle.aoe_words.specs.declared.command.Get.{Get as Gets};
+ghost use Rattle.aoe_words.specs.declared.command.Put.{Put as Puts};
 ghost use Rattle.aoe_words.specs.declared.command.Soak.{Soak as Soaks};
 ghost use Rattle.aoe_words.specs.declared.command.Tool.{Tool};
-ghost use Rattle.aoe_top.specs.Commands.{CanExport, is_tool};
+ghost use Rattle.aoe_top.specs.Commands.{CanExport, is_tool, reads_input};
 ghost use Rattle.aoe_top.specs.Ending.{file_at, keep_at, refused_slot};
-ghost use Rattle.aoe_top.specs.Run.{Asked, Got, HasLists, HasReplayed, IsBad, IsSmall, NothingLoose, OnSlot, Ran, RanFiles, RanScript, RanSoak, Refused};
+ghost use Rattle.aoe_top.specs.Run.{Asked, HasLists, HasReplayed, IsBad, IsGot, IsPut, IsSmall, NothingLoose, OnSlot, Ran, RanFiles, RanScript, RanSoak, Refused};
 
 use crate::plan::{answer_plan, refused_as, replayed_as, serve_plan, status_of};
 use crate::status::Status;
-use crate::tools::{run_get, run_tool};
+use crate::tools::{run_get, run_put, run_tool};
 use aoe_base::NoMemory;
 use aoe_disk::Disk;
 use aoe_io::{Clock, Link, Sink, Source};
@@ -124,7 +125,7 @@ fn run_command<S: Source, K: Sink, D: Disk + Drop, L: Link, C: Clock>(
         disks.old disks.new }
     ensures refused { (slot : ℕ) → refused_slot result ≡ Some slot → Refused D.state result slot disks.old disks.new }
     ensures unread { IsSome (refused_slot result) → (source.new ≡ source.old) × (sink.new ≡ sink.old) × (links.new ≡ links.old) }
-    ensures memory { result ≡ Status.NoMemory → (command ≢ Command.Replay → source.new ≡ source.old) × (sink.new ≡ sink.old) × (disks.new ≡ disks.old) × (is_tool (Some command) ≡ false → links.new ≡ links.old) }
+    ensures memory { result ≡ Status.NoMemory → (reads_input (Some command) ≡ false → source.new ≡ source.old) × (sink.new ≡ sink.old) × (disks.new ≡ disks.old) × (is_tool (Some command) ≡ false → links.new ≡ links.old) }
     ensures asks { (tool : Tool) → command ≡ Command.Ask tool → Asked K.held (λ a b. record {
       least = C.least clock.old;
       answers = C.answers clock.old;
@@ -136,7 +137,7 @@ fn run_command<S: Source, K: Sink, D: Disk + Drop, L: Link, C: Clock>(
       taken = L.taken a;
       taken' = L.taken b;
     }) tool result sink.old sink.new links.old links.new }
-    ensures gets { (asked : Gets) → command ≡ Command.Get asked → Got K.held (λ a b. record {
+    ensures gets { (asked : Gets) → command ≡ Command.Get asked → IsGot K.held (λ a b. record {
       least = C.least clock.old;
       answers = C.answers clock.old;
       answers' = C.answers clock.new;
@@ -147,6 +148,17 @@ fn run_command<S: Source, K: Sink, D: Disk + Drop, L: Link, C: Clock>(
       taken = L.taken a;
       taken' = L.taken b;
     }) asked result sink.old sink.new links.old links.new }
+    ensures puts { (asked : Puts) → command ≡ Command.Put asked → IsPut S.left (λ a b. record {
+      least = C.least clock.old;
+      answers = C.answers clock.old;
+      answers' = C.answers clock.new;
+      turns = L.turns a;
+      turns' = L.turns b;
+      given = L.given a;
+      given' = L.given b;
+      taken = L.taken a;
+      taken' = L.taken b;
+    }) asked result source.old source.new links.old links.new }
     ensures clock { is_tool (Some command) ≡ false → clock.new ≡ clock.old }
     ensures usage { result ≢ Status.Usage }
     ensures there { All IsSome disks.new }
@@ -176,6 +188,7 @@ fn run_command<S: Source, K: Sink, D: Disk + Drop, L: Link, C: Clock>(
         Command::Soak(asked) => run_soak(alloc, asked, sink),
         Command::Ask(tool) => run_tool(alloc, &tool, sink, &mut links[0], clock),
         Command::Get(asked) => run_get(alloc, &asked, sink, &mut links[0], clock),
+        Command::Put(asked) => run_put(alloc, &asked, source, &mut links[0], clock),
     }
 }
 
@@ -191,7 +204,8 @@ fn run_command<S: Source, K: Sink, D: Disk + Drop, L: Link, C: Clock>(
 ///
 /// The tools ask over the first link and the clock: `discover` and `stat` which targets there are, with
 /// their sizes and states, `cfg`, `mask` and `reserve` one target for a list or a change of it; what they
-/// are told goes to the sink as text. `get` copies sectors of a target to the sink. `--port` is who asks, and `--turns` how long each listens.
+/// are told goes to the sink as text. `get` copies sectors of a
+/// target to the sink, and `put` what the source gives to sectors. `--port` is who asks, and `--turns` how long each listens.
 ///
 /// `replay` reads the source to its end as a script, runs the events of the script through shelves
 /// and hosts in memory, and puts the text of what happened on the sink. Whatever a schedule loses,
@@ -251,7 +265,7 @@ pub fn aoe<S: Source, K: Sink, D: Disk + Drop, L: Link, C: Clock>(
     ensures keep_small { (slot sectors : ℕ) → OnSlot (λ _ _ keep _. (result ≡ Status.KeepSmall (keep_at slot) sectors) ↔ IsSmall (D.state keep) result slot sectors) slot disks.old disks.new }
     ensures keep_bad { (slot bad : ℕ) → OnSlot (λ _ _ keep _. IfSome (D.state keep).contents (λ c.
         (result ≡ Status.KeepBad (keep_at slot) bad) ↔ IsBad (D.state keep) c result slot bad)) slot disks.old disks.new }
-    ensures memory { result ≡ Status.NoMemory → (command (map string_bytes words.now) ≢ Some Command.Replay → source.new ≡ source.old)
+    ensures memory { result ≡ Status.NoMemory → (reads_input (command (map string_bytes words.now)) ≡ false → source.new ≡ source.old)
         × (sink.new ≡ sink.old) × (disks.new ≡ disks.old) × (is_tool (command (map string_bytes words.now)) ≡ false → links.new ≡ links.old) }
 
     // What a tool asks, when it ends and what it says; or there was no memory to read its command.
@@ -268,7 +282,7 @@ pub fn aoe<S: Source, K: Sink, D: Disk + Drop, L: Link, C: Clock>(
           taken' = L.taken b;
         }) tool result sink.old sink.new links.old links.new }
     ensures gets { (asked : Gets) → command (map string_bytes words.now) ≡ Some (Command.Get asked) → (result ≡ Status.NoMemory) × (links.new ≡ links.old)
-        ⊎ Got K.held (λ a b. record {
+        ⊎ IsGot K.held (λ a b. record {
           least = C.least clock.old;
           answers = C.answers clock.old;
           answers' = C.answers clock.new;
@@ -279,6 +293,18 @@ pub fn aoe<S: Source, K: Sink, D: Disk + Drop, L: Link, C: Clock>(
           taken = L.taken a;
           taken' = L.taken b;
         }) asked result sink.old sink.new links.old links.new }
+    ensures puts { (asked : Puts) → command (map string_bytes words.now) ≡ Some (Command.Put asked) → (result ≡ Status.NoMemory) × (links.new ≡ links.old)
+        ⊎ IsPut S.left (λ a b. record {
+          least = C.least clock.old;
+          answers = C.answers clock.old;
+          answers' = C.answers clock.new;
+          turns = L.turns a;
+          turns' = L.turns b;
+          given = L.given a;
+          given' = L.given b;
+          taken = L.taken a;
+          taken' = L.taken b;
+        }) asked result source.old source.new links.old links.new }
     ensures clock { is_tool (command (map string_bytes words.now)) ≡ false → clock.new ≡ clock.old }
 
     // With no fault keeps that hold lists are mounted, and then a stream of frames is answered to its end, and a link is served;

@@ -83,3 +83,7 @@ returns-in-Err-clause-soaks g c asked is fine = record { end = replay.NoMemory; 
 pub returns-in-Ok-Some-clause-gets : goal.returns-in-Ok-Some-clause-gets
 returns-in-Ok-Some-clause-gets g c asked is =
     inr (c.run_command.ensures.gets asked (same-command _ _ _ _ c.in-Ok-Some.field-0-is c.in-Ok-Some.ensures.command is))
+
+pub returns-in-Ok-Some-clause-puts : goal.returns-in-Ok-Some-clause-puts
+returns-in-Ok-Some-clause-puts g c asked is =
+    inr (c.run_command.ensures.puts asked (same-command _ _ _ _ c.in-Ok-Some.field-0-is c.in-Ok-Some.ensures.command is))
