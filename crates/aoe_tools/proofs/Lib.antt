@@ -1,10 +1,11 @@
 mod AskLemmas
+mod CopyLemmas
 mod CourseLemmas
 mod DiscoverLemmas
 mod ExchangeLemmas
 mod FoundLemmas
-mod GetLemmas
 mod HearLemmas
+mod InputLemmas
 mod JoinLemmas
 mod ListenLemmas
 mod OneLemmas

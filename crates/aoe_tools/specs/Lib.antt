@@ -9,8 +9,9 @@ pub mod Runs
 pub mod Stat
 pub mod Text
 pub mod TransferAsks
+pub mod TransferCopies
 pub mod TransferCourse
-pub mod TransferGets
+pub mod TransferInput
 pub mod TransferRun
 pub mod TransferSteps
 pub mod Visits

@@ -14,7 +14,9 @@ use Rattle.aoe_tools.specs.Discovery.{Discovers, finding_question, finding_reque
 use Rattle.aoe_tools.specs.One.{AsksOne, edits_by}
 use Rattle.aoe_tools.specs.Stat.{Stats}
 use Rattle.aoe_tools.specs.TransferAsks.{LinkState}
-use Rattle.aoe_tools.specs.TransferGets.{Reads, Writes}
+use Rattle.aoe_tools.specs.TransferCopies.{Copies, Puts, Writes, read_by, read_of}
+use Rattle.aoe_tools.specs.TransferInput.{Inputs}
+use Rattle.aoe_tools.specs.declared.course.Course.{Course}
 use Rattle.aoe_tools.specs.declared.end.CopyRefusal.{CopyRefusal}
 use Rattle.aoe_tools.specs.declared.end.ToolRefusal.{ToolRefusal}
 use Rattle.aoe_tools.specs.declared.found.Seen.{Seen}
@@ -76,5 +78,10 @@ after t = record { turns = t.turns'; given = t.given'; taken = t.taken' }
 
 -- sectors of the device were read, and a sink took them, or a front of them where it failed
 abbrev pub RunsGet : Result Unit CopyRefusal → Ask → TargetId → ℕ → ℕ → Told → Option (List ℕ) → Option (List ℕ) → Type 0
-RunsGet result ask id at count t held held' = (read : Result (List ℕ) ToolRefusal)
-    × Reads read ask id at count t.least (before t) (after t) t.answers t.answers' × Writes read result held held'
+RunsGet result ask id at count t held held' = (copied : Result Course ToolRefusal)
+    × Copies copied ask id (read_of at count) t.least (before t) (after t) t.answers t.answers' × Writes (read_by copied) result held held'
+
+-- what a source gave was written to sectors of the device, and flushed
+abbrev pub RunsPut : Result Unit CopyRefusal → Ask → TargetId → ℕ → Told → Option (List ℕ) → Option (List ℕ) → Type 0
+RunsPut result ask id at t left left' = (input : Result (List ℕ) CopyRefusal)
+    × Inputs input left left' × Puts input result ask id at t.least (before t) (after t) t.answers t.answers'

@@ -1,21 +1,24 @@
 //! The tools that copy sectors out of a device, and into it.
-ghost use Rattle.std.specs.Prelude.{◌≡◌, ◌≢◌, ◌≤◌, ◌<◌, ◌+◌, ◌*◌, ◌^◌, ◌⊎◌, ℕ, List, Err, IfErr, IfOk, OnErr, Result, false, replicate};
+ghost use Rattle.std.specs.Prelude.{◌≡◌, ◌≢◌, ◌≤◌, ◌<◌, ◌+◌, ◌*◌, ◌%◌, ◌^◌, ℕ, List, Err, IfErr, IfOk, Result, length, true};
 ghost use Rattle.aoe_base.specs.Faults.{Rose};
 ghost use Rattle.aoe_base.specs.declared.address.Mac.{Mac};
 ghost use Rattle.aoe_base.specs.declared.address.TargetId.{TargetId};
+ghost use Rattle.aoe_tools.specs.declared.course.Course.{Course};
 ghost use Rattle.aoe_tools.specs.declared.end.ToolRefusal.{ToolRefusal as Refused};
-ghost use Rattle.aoe_tools.specs.Runs.{RunsGet};
-ghost use Rattle.aoe_tools.specs.TransferGets.{IsFresh, Reads, Writes};
+ghost use Rattle.aoe_tools.specs.Runs.{RunsGet, RunsPut};
+ghost use Rattle.aoe_tools.specs.TransferCopies.{end_of, first_phase, read_by, read_of, write_of, Copies, IsFresh, MayRun, NotBegun, Puts, Writes};
+ghost use Rattle.aoe_tools.specs.TransferInput.{Inputs};
 ghost use Rattle.aoe_tools.specs.TransferRun.{host_of, IsFit};
 
 use crate::course::{Course, Phase};
 use crate::end::{CopyRefusal, Refusal, ToolRefusal};
+use crate::input::read_sectors;
 use crate::lookup::{Device, look_up};
 use crate::question::Ask;
 use crate::transfer::Transfer;
 use aoe_base::{Blob, Failed, NoMemory, TargetId};
 use aoe_block::{Block, BlockRefusal, ticket_law};
-use aoe_io::{Clock, Link, Sink, give_all};
+use aoe_io::{Clock, Link, Sink, Source, give_all};
 use std::alloc::Global;
 
 /// A read of these sectors.
@@ -28,10 +31,9 @@ fn course_of_read(
     requires some { 0 < device.now.max }
     requires max { device.now.max ≤ 2 }
     requires few { count ≤ 32768 }
-    ensures fresh { IfOk result (λ c. IsFresh false at device.now.max (replicate (512 * count) 0) Phase.Parts c) }
-    ensures range { IfOk result (λ _. at + count ≤ device.now.total) }
+    ensures fresh { IfOk result (λ c. IsFresh (read_of at count) device.now c) }
     ensures fit { IfOk result (λ c. (port : Mac) (id : TargetId) → IsFit (host_of port id device.now) c) }
-    ensures refused { IfErr result (λ e. ((at + count ≤ device.now.total → ⊥) × (e ≡ ToolRefusal.Refused Refusal.Range)) ⊎ (e ≡ ToolRefusal.NoMemory)) }
+    ensures refused { IfErr result (λ e. NotBegun e (read_of at count) device.now) }
 {
     ticket_law();
     match Block::read(alloc, device.total, device.max, at, count) {
@@ -46,7 +48,77 @@ fn course_of_read(
     }
 }
 
-/// The sectors, read.
+/// What a write of these bytes begins with.
+fn first_phase(bytes: &Blob) -> Phase
+    ensures { result ≡ first_phase true bytes.now }
+{
+    if bytes.bytes().is_empty() {
+        Phase::Flush
+    } else {
+        Phase::Parts
+    }
+}
+
+/// A write of these sectors.
+fn course_of_write(
+    alloc: Global,
+    device: &Device,
+    at: u64,
+    bytes: Blob,
+) -> Result<Course, ToolRefusal>
+    requires some { 0 < device.now.max }
+    requires max { device.now.max ≤ 2 }
+    requires whole { length bytes % 512 ≡ 0 }
+    requires few { length bytes ≤ 16777216 }
+    ensures fresh { IfOk result (λ c. IsFresh (write_of at bytes) device.now c) }
+    ensures fit { IfOk result (λ c. (port : Mac) (id : TargetId) → IsFit (host_of port id device.now) c) }
+    ensures refused { IfErr result (λ e. NotBegun e (write_of at bytes) device.now) }
+{
+    ticket_law();
+    let phase = first_phase(&bytes);
+    match Block::write(alloc, device.total, device.max, at, bytes) {
+        Ok(block) => Ok(Course {
+            block,
+            flushes: true,
+            phase,
+            under_way: 0,
+        }),
+        Err(BlockRefusal::OutOfRange) => Err(ToolRefusal::Refused(Refusal::Range)),
+        Err(BlockRefusal::NoMemory) => Err(ToolRefusal::NoMemory),
+    }
+}
+
+/// Runs a transfer at a device, and gives it back as far as it came.
+fn run_all<L: Link, C: Clock>(
+    alloc: Global,
+    ask: &Ask,
+    id: TargetId,
+    device: &Device,
+    course: Course,
+    link: &mut L,
+    clock: &mut C,
+) -> Result<Course, ToolRefusal>
+    requires total { device.now.total < 2 ^ 48 }
+    requires some { 0 < device.now.max }
+    requires max { device.now.max ≤ 2 }
+    requires fit { (port : Mac) (id : TargetId) → IsFit (host_of port id device.now) course }
+    ensures runs { MayRun result ask.now id device.now course (record { turns = L.turns link.old; given = L.given link.old; taken = L.taken link.old }) (record { turns = L.turns link.new; given = L.given link.new; taken = L.taken link.new }) (C.answers clock.old) (C.answers clock.new) }
+    ensures count { L.faults link.old ≤ L.faults link.new }
+    ensures cause { result ≡ Err ToolRefusal.LinkFault → Rose (L.faults link.old) (L.faults link.new) }
+    ensures no_fault { result ≢ Err ToolRefusal.LinkFault → L.faults link.new ≡ L.faults link.old }
+    ensures one_fault { L.faults link.new ≤ L.faults link.old + 1 }
+{
+    let mut transfer = match Transfer::new(alloc, ask.port, id, device, course) {
+        Ok(transfer) => transfer,
+        Err(NoMemory) => return Err(ToolRefusal::NoMemory),
+    };
+    match transfer.run(ask.turns, link, clock) {
+        Ok(()) => Ok(transfer.course),
+        Err(refusal) => Err(refusal),
+    }
+}
+
+/// Reads the sectors of a device, once it is found.
 fn read_all<L: Link, C: Clock>(
     alloc: Global,
     ask: &Ask,
@@ -55,9 +127,9 @@ fn read_all<L: Link, C: Clock>(
     count: u32,
     link: &mut L,
     clock: &mut C,
-) -> Result<Blob, ToolRefusal>
+) -> Result<Course, ToolRefusal>
     requires { count ≤ 32768 }
-    ensures reads { Reads result ask.now id at count (C.least clock.old) (record { turns = L.turns link.old; given = L.given link.old; taken = L.taken link.old }) (record { turns = L.turns link.new; given = L.given link.new; taken = L.taken link.new }) (C.answers clock.old) (C.answers clock.new) }
+    ensures copies { Copies result ask.now id (read_of at count) (C.least clock.old) (record { turns = L.turns link.old; given = L.given link.old; taken = L.taken link.old }) (record { turns = L.turns link.new; given = L.given link.new; taken = L.taken link.new }) (C.answers clock.old) (C.answers clock.new) }
     ensures count { L.faults link.old ≤ L.faults link.new }
     ensures cause { result ≡ Err ToolRefusal.LinkFault → Rose (L.faults link.old) (L.faults link.new) }
     ensures no_fault { result ≢ Err ToolRefusal.LinkFault → L.faults link.new ≡ L.faults link.old }
@@ -68,16 +140,37 @@ fn read_all<L: Link, C: Clock>(
         Ok(device) => device,
         Err(refusal) => return Err(refusal),
     };
-    let course = match course_of_read(alloc, &device, at, count) {
-        Ok(course) => course,
+    match course_of_read(alloc, &device, at, count) {
+        Ok(course) => run_all(alloc, ask, id, &device, course, link, clock),
+        Err(refusal) => Err(refusal),
+    }
+}
+
+/// Writes the sectors of a device and flushes it, once it is found.
+fn write_all<L: Link, C: Clock>(
+    alloc: Global,
+    ask: &Ask,
+    id: TargetId,
+    at: u64,
+    bytes: Blob,
+    link: &mut L,
+    clock: &mut C,
+) -> Result<Course, ToolRefusal>
+    requires whole { length bytes % 512 ≡ 0 }
+    requires few { length bytes ≤ 16777216 }
+    ensures copies { Copies result ask.now id (write_of at bytes) (C.least clock.old) (record { turns = L.turns link.old; given = L.given link.old; taken = L.taken link.old }) (record { turns = L.turns link.new; given = L.given link.new; taken = L.taken link.new }) (C.answers clock.old) (C.answers clock.new) }
+    ensures count { L.faults link.old ≤ L.faults link.new }
+    ensures cause { result ≡ Err ToolRefusal.LinkFault → Rose (L.faults link.old) (L.faults link.new) }
+    ensures no_fault { result ≢ Err ToolRefusal.LinkFault → L.faults link.new ≡ L.faults link.old }
+    ensures one_fault { L.faults link.new ≤ L.faults link.old + 1 }
+{
+    let first = clock.now();
+    let device = match look_up(ask, id, first, link) {
+        Ok(device) => device,
         Err(refusal) => return Err(refusal),
     };
-    let mut transfer = match Transfer::new(alloc, ask.port, id, &device, course) {
-        Ok(transfer) => transfer,
-        Err(NoMemory) => return Err(ToolRefusal::NoMemory),
-    };
-    match transfer.run(ask.turns, link, clock) {
-        Ok(()) => Ok(transfer.course.block.into_bytes()),
+    match course_of_write(alloc, &device, at, bytes) {
+        Ok(course) => run_all(alloc, ask, id, &device, course, link, clock),
         Err(refusal) => Err(refusal),
     }
 }
@@ -120,12 +213,57 @@ pub fn get<L: Link, C: Clock, K: Sink>(
     ensures sink_no_fault { result ≢ Err CopyRefusal.SinkFault → K.faults sink.new ≡ K.faults sink.old }
     ensures sink_one_fault { K.faults sink.new ≤ K.faults sink.old + 1 }
 {
-    let sectors = match read_all(alloc, ask, id, at, count, link, clock) {
-        Ok(sectors) => sectors,
+    let course = match read_all(alloc, ask, id, at, count, link, clock) {
+        Ok(course) => course,
         Err(refusal) => return Err(CopyRefusal::Tool(refusal)),
     };
+    let sectors = course.block.into_bytes();
     match give_all(sink, sectors.bytes()) {
         Ok(()) => Ok(()),
         Err(Failed) => Err(CopyRefusal::SinkFault),
+    }
+}
+
+/// Writes what the source gives up to its end to the sectors of a device from `at` on, and flushes
+/// the device. The source is read before anything is sent.
+pub fn put<L: Link, C: Clock, S: Source>(
+    alloc: Global,
+    ask: &Ask,
+    id: TargetId,
+    at: u64,
+    source: &mut S,
+    link: &mut L,
+    clock: &mut C,
+) -> Result<(), CopyRefusal>
+    ensures run { RunsPut result ask.now id at
+        record {
+          least = C.least clock.old;
+          answers = C.answers clock.old;
+          answers' = C.answers clock.new;
+          turns = L.turns link.old;
+          turns' = L.turns link.new;
+          given = L.given link.old;
+          given' = L.given link.new;
+          taken = L.taken link.old;
+          taken' = L.taken link.new;
+        }
+        (S.left source.old) (S.left source.new) }
+    ensures unwritten { result ≢ Err CopyRefusal.SinkFault }
+    ensures count { L.faults link.old ≤ L.faults link.new }
+    ensures cause { result ≡ Err (CopyRefusal.Tool ToolRefusal.LinkFault) → Rose (L.faults link.old) (L.faults link.new) }
+    ensures no_fault { result ≢ Err (CopyRefusal.Tool ToolRefusal.LinkFault) → L.faults link.new ≡ L.faults link.old }
+    ensures one_fault { L.faults link.new ≤ L.faults link.old + 1 }
+    ensures source_count { S.faults source.old ≤ S.faults source.new }
+    ensures source_cause { result ≡ Err CopyRefusal.SourceFault → Rose (S.faults source.old) (S.faults source.new) }
+    ensures source_no_fault { result ≢ Err CopyRefusal.SourceFault → S.faults source.new ≡ S.faults source.old }
+    ensures source_one_fault { S.faults source.new ≤ S.faults source.old + 1 }
+{
+    let sectors = match read_sectors(alloc, source) {
+        Ok(sectors) => sectors,
+        Err(refusal) => return Err(refusal),
+    };
+    match write_all(alloc, ask, id, at, sectors, link, clock) {
+        Ok(_) => Ok(()),
+        Err(refusal) => Err(CopyRefusal::Tool(refusal)),
     }
 }

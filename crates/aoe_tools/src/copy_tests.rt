@@ -1,10 +1,10 @@
 //! The tools that copy, over links in memory.
 ghost use Rattle.std.specs.Prelude.{◌≤◌, IfOk, length};
 
-use crate::{Ask, CopyRefusal, Refusal, ToolRefusal, get};
+use crate::{Ask, CopyRefusal, Refusal, ToolRefusal, get, put};
 use aoe_base::{Blob, Mac, NoMemory, TargetId};
 use aoe_frame::Frame;
-use aoe_io::{MemLink, MemSink, SetClock};
+use aoe_io::{MemLink, MemSink, MemSource, SetClock};
 use std::alloc::Global;
 use std::test::Fail;
 
@@ -63,6 +63,53 @@ fn gets_sectors(rt: HostRuntime) -> Result<(), Fail> {
     let mut link = MemLink::of(alloc, found(alloc)?, 10)?;
     let mut clock = SetClock::new(0, 10);
     let got = get(alloc, &ask, DEVICE, 15, 2, &mut sink, &mut link, &mut clock);
-    assert_eq!(rt; got, Err(CopyRefusal::Tool(ToolRefusal::Refused(Refusal::Range))));
+    assert_eq!(rt;
+        got,
+        Err(CopyRefusal::Tool(ToolRefusal::Refused(Refusal::Range)))
+    );
+    Ok(())
+}
+
+#[test]
+fn puts_sectors(rt: HostRuntime) -> Result<(), Fail> {
+    let alloc = rt.alloc();
+    let ask = Ask { port: A, turns: 50 };
+    let registers = [0x40, 0, 0, 0x40, 0, 0, 0, 0, 0, 0, 0, 0];
+    let mut coming = found(alloc)?;
+    coming.push(Some(response(alloc, 0, [0, 0, 0, 1], &registers, &[])?))?;
+    for _ in 0..4 {
+        coming.push(None)?;
+    }
+    coming.push(Some(response(alloc, 0, [0, 0, 0, 2], &registers, &[])?))?;
+    let mut link = MemLink::of(alloc, coming, 10)?;
+    let mut clock = SetClock::new(0, 500);
+    let mut source = MemSource::of(alloc, &[0x5a; 512])?;
+    let done = put(alloc, &ask, DEVICE, 3, &mut source, &mut link, &mut clock);
+    assert_eq!(rt; done, Ok(()));
+    assert_eq!(rt; link.count(), 4);
+    if link.count() == 4 {
+        let write = [0x41, 0, 1, 0x34, 3, 0, 0, 0, 0, 0, 0, 0, 0x5a];
+        assert_eq!(rt; link.frame(2).get(24..37), Some(write.as_slice()));
+        let flush = [0x40, 0, 0, 0xea, 0, 0];
+        assert_eq!(rt; link.frame(3).get(24..30), Some(flush.as_slice()));
+    }
+    Ok(())
+}
+
+#[test]
+fn refuses_inputs(rt: HostRuntime) -> Result<(), Fail> {
+    let alloc = rt.alloc();
+    let ask = Ask { port: A, turns: 50 };
+    let mut link = MemLink::of(alloc, found(alloc)?, 10)?;
+    let mut clock = SetClock::new(0, 10);
+    let mut source = MemSource::of(alloc, &[1; 513])?;
+    let done = put(alloc, &ask, DEVICE, 0, &mut source, &mut link, &mut clock);
+    assert_eq!(rt; done, Err(CopyRefusal::Stream { offset: 512 }));
+    assert_eq!(rt; link.count(), 0);
+    let mut source = MemSource::of(alloc, &[1; 1024])?;
+    source.fail_at(2);
+    let done = put(alloc, &ask, DEVICE, 0, &mut source, &mut link, &mut clock);
+    assert_eq!(rt; done, Err(CopyRefusal::SourceFault));
+    assert_eq!(rt; link.count(), 0);
     Ok(())
 }

@@ -10,6 +10,7 @@ mod course;
 mod end;
 mod finding;
 mod found;
+mod input;
 mod lists;
 mod lookup;
 mod question;
@@ -18,7 +19,7 @@ mod text;
 mod transfer;
 mod visiting;
 
-pub use copy::get;
+pub use copy::{get, put};
 pub use end::{CopyRefusal, Refusal, ToolRefusal};
 pub use finding::discover;
 pub use found::{Found, Seen, State};

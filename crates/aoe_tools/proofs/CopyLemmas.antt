@@ -1,0 +1,121 @@
+-- The tools that copy sectors, step by step.
+use Rattle.std.proofs.Common.{ℕ, ◌≡◌, ◌+◌, ◌*◌, ◌≤◌, ◌<◌, Bool, true, false, List, [], ◌∷◌, length, Option, refl, ap, subst, arith, inl, inr, length-append}
+use Rattle.std.specs.Prelude.{Result, Ok, Err, All}
+use Rattle.std.specs.List.{count_by}
+use Rattle.std.proofs.lemmas.Bool.{cases_lt}
+use Rattle.std.proofs.lemmas.List.Elements.{All-head, All-tail}
+use Rattle.aoe_base.specs.declared.address.Mac.{Mac}
+use Rattle.aoe_base.specs.declared.address.TargetId.{TargetId}
+use Rattle.aoe_block.specs.Calls.{AreUpTo}
+use Rattle.aoe_block.specs.Parts.{joined, AreFull, Part}
+use Rattle.aoe_block.specs.Stages.{is_pending}
+use Rattle.aoe_initiator.specs.Host.{Host}
+use Rattle.aoe_tools.proofs.TransferHost.{count-most}
+use Rattle.aoe_tools.specs.Asking.{Answers}
+use Rattle.aoe_tools.specs.declared.course.Course.{Course}
+use Rattle.aoe_tools.specs.declared.course.Phase.{Phase}
+use Rattle.aoe_tools.specs.declared.course.Phase.TheVariants as phase
+use Rattle.aoe_tools.specs.declared.end.ToolRefusal.{ToolRefusal}
+use Rattle.aoe_tools.specs.declared.end.ToolRefusal.TheVariants as tool
+use Rattle.aoe_tools.specs.declared.lookup.Device.{Device}
+use Rattle.aoe_tools.specs.declared.question.Ask.{Ask}
+use Rattle.aoe_tools.specs.TransferAsks.{Finds, LinkState}
+use Rattle.aoe_tools.specs.TransferCourse.{count_if, left_in}
+use Rattle.aoe_tools.specs.TransferCopies.{Copies, CopiesAt, IsFresh, MayRun, NotBegun, Range}
+use Rattle.aoe_tools.specs.TransferRun.{host_of, IsFit, Runs}
+
+-- a part has a sector at least
+few-parts : (max : ℕ) (parts : List Part) → 0 < max → AreFull max parts → All (λ p. length p.bytes ≡ 512 * p.count) parts → 512 * length parts ≤ length (joined parts)
+few-parts max [] some full whole = omega arith
+few-parts max (p ∷ []) some full whole =
+    let size : length p.bytes ≡ 512 * p.count = All-head (λ q. length q.bytes ≡ 512 * q.count) p [] whole in
+    omega (arith, size, full.0, length-append p.bytes [])
+few-parts max (p ∷ q ∷ parts) some full whole =
+    let size : length p.bytes ≡ 512 * p.count = All-head (λ q. length q.bytes ≡ 512 * q.count) p (q ∷ parts) whole in
+    let rest = few-parts max (q ∷ parts) some full.1 (All-tail (λ q. length q.bytes ≡ 512 * q.count) p (q ∷ parts) whole) in
+    omega (arith, size, full.0, some, rest, length-append p.bytes (joined (q ∷ parts)))
+
+abbrev waits : Part → Bool
+waits p = is_pending p.stage
+
+-- a fresh transfer fits its host
+pub fit-fresh : (range : Range) (c : Course) (port : Mac) (id : TargetId) (d : Device) → 0 < d.max → length range.bytes ≤ 16777216 → IsFresh range d c → AreUpTo 0 c.block.parts → IsFit (host_of port id d) c
+fit-fresh range c port id d some short fresh tickets = record {
+  attached = refl;
+  few = by c.phase;
+  tickets = tickets;
+}
+  where
+    most : count_by waits c.block.parts ≤ 32768
+    most = omega (arith, count-most waits c.block.parts, few-parts d.max c.block.parts some fresh.cut.full fresh.cut.whole, ap (λ (l : List ℕ). length l) fresh.cut.together, short)
+
+    one : (b : Bool) → count_if b ≤ 1
+    one true = omega arith
+    one false = omega arith
+
+    by : (q : Phase) → 0 + left_in q c ≤ 65536
+    by phase.Parts = omega (arith, most, one c.flushes)
+    by phase.Flush = omega arith
+    by (phase.Flushing ticket) = omega arith
+
+-- the sectors are within the device, where the range wasn't refused
+pub is-within : (a b : ℕ) → ((a ≤ b → ⊥) → ⊥) → a ≤ b
+is-within a b not_not = elim (cases_lt b a) [
+  | inl above ↦ absurd (not_not (λ below. omega (arith, above, below)))
+  | inr within ↦ within
+]
+
+module _ (ask : Ask) (id : TargetId) (range : Range) (least first : ℕ) (before mid : LinkState) (answers later : Option (List ℕ)) (answered_is : Answers first least answers later) where
+  pub copies-unfound : (e : ToolRefusal) → Finds (Err e) ask id first before mid → Copies (Err e) ask id range least before mid answers later
+  copies-unfound e finds = record {
+    first = first;
+    later = later;
+    answered = answered_is;
+    found = Err e;
+    mid = mid;
+    finds = finds;
+    copies = (refl, record { link = refl; clock = refl });
+  }
+
+  module _ (d : Device) (finds : Finds (Ok d) ask id first before mid) where
+    pub copies-refused : (e : ToolRefusal) → NotBegun e range d → Copies (Err e) ask id range least before mid answers later
+    copies-refused e why = record {
+      first = first;
+      later = later;
+      answered = answered_is;
+      found = Ok d;
+      mid = mid;
+      finds = finds;
+      copies = inl (e, refl, why, record { link = refl; clock = refl });
+    }
+
+    pub copies-ran : (result : Result Course ToolRefusal) (start : Course) (after : LinkState) (answers' : Option (List ℕ)) → IsFresh range d start
+        → MayRun result ask id d start mid after later answers' → Copies result ask id range least before after answers answers'
+    copies-ran result start after answers' fresh runs = record {
+      first = first;
+      later = later;
+      answered = answered_is;
+      found = Ok d;
+      mid = mid;
+      finds = finds;
+      copies = by runs;
+    }
+      where
+        by : MayRun result ask id d start mid after later answers' → CopiesAt (Ok d) result ask id range mid after later answers'
+        by (inl x) = inl (tool.NoMemory, x.0, inr refl, x.1)
+        by (inr x) = inr (start, fresh, x)
+
+-- a run that ended so, from the host that was made
+pub ran-ok : (ask : Ask) (id : TargetId) (d : Device) (host : Host) (start first last : Course) (before after : LinkState) (answers answers' : Option (List ℕ)) → host ≡ host_of ask.port id d → first ≡ start
+    → Runs (Ok record {}) host ask.turns first last before.turns after.turns before.given after.given before.taken after.taken answers answers' → MayRun (Ok last) ask id d start before after answers answers'
+ran-ok ask id d host start first last before after answers answers' host_is start_is runs =
+    let P : Host → Type 0 = λ h. Runs (Ok record {}) h ask.turns first last before.turns after.turns before.given after.given before.taken after.taken answers answers' in
+    let Q : Course → Type 0 = λ x. Runs (Ok record {}) (host_of ask.port id d) ask.turns x last before.turns after.turns before.given after.given before.taken after.taken answers answers' in
+    inr (record { last = last; runs = subst Q start_is (subst P host_is runs); gives = refl })
+
+pub ran-err : (e : ToolRefusal) (ask : Ask) (id : TargetId) (d : Device) (host : Host) (start first last : Course) (before after : LinkState) (answers answers' : Option (List ℕ)) → host ≡ host_of ask.port id d → first ≡ start
+    → Runs (Err e) host ask.turns first last before.turns after.turns before.given after.given before.taken after.taken answers answers' → MayRun (Err e) ask id d start before after answers answers'
+ran-err e ask id d host start first last before after answers answers' host_is start_is runs =
+    let P : Host → Type 0 = λ h. Runs (Err e) h ask.turns first last before.turns after.turns before.given after.given before.taken after.taken answers answers' in
+    let Q : Course → Type 0 = λ x. Runs (Err e) (host_of ask.port id d) ask.turns x last before.turns after.turns before.given after.given before.taken after.taken answers answers' in
+    inr (record { last = last; runs = subst Q start_is (subst P host_is runs); gives = tt })

@@ -1,0 +1,25 @@
+use Rattle.std.proofs.Common.{sym, subst}
+use Rattle.aoe_initiator.specs.Host.{Host}
+use Rattle.aoe_tools.proofs.CopyLemmas.{ran-err, ran-ok}
+use Rattle.aoe_tools.specs.TransferAsks.{LinkState}
+use Rattle.aoe_tools.specs.TransferRun.{IsFit}
+use Rattle.aoe_tools.specs.declared.course.Course.{Course}
+use Rattle.aoe_tools.proofs.copy.run_all.Goals as goal
+
+pub run-requires-clause-fit : goal.run-requires-clause-fit
+run-requires-clause-fit g c =
+    let P : Course → Type 0 = λ x. IsFit c.in-Ok.transfer.host x in
+    let Q : Host → Type 0 = λ h. IsFit h c.args.course in
+    subst P (sym c.in-Ok.ensures.course) (subst Q (sym c.in-Ok.ensures.host) (c.requires.fit c.args.ask.now.port c.args.id))
+
+pub returns-in-Ok-run-clause-runs : goal.returns-in-Ok-run-clause-runs
+returns-in-Ok-run-clause-runs g c =
+    let before : LinkState = record { turns = g.L.Link.turns c.args.link.now; given = g.L.Link.given c.args.link.now; taken = g.L.Link.taken c.args.link.now } in
+    let after : LinkState = record { turns = g.L.Link.turns c.run.new.link; given = g.L.Link.given c.run.new.link; taken = g.L.Link.taken c.run.new.link } in
+    ran-ok c.args.ask.now c.args.id c.args.device.now c.in-Ok.transfer.host c.args.course c.in-Ok.transfer.course c.run.new.self.course before after _ _ c.in-Ok.ensures.host c.in-Ok.ensures.course c.in-Ok-run.ensures.run
+
+pub returns-in-Err-run-clause-runs : goal.returns-in-Err-run-clause-runs
+returns-in-Err-run-clause-runs g c =
+    let before : LinkState = record { turns = g.L.Link.turns c.args.link.now; given = g.L.Link.given c.args.link.now; taken = g.L.Link.taken c.args.link.now } in
+    let after : LinkState = record { turns = g.L.Link.turns c.run.new.link; given = g.L.Link.given c.run.new.link; taken = g.L.Link.taken c.run.new.link } in
+    ran-err c.in-Err-run.refusal c.args.ask.now c.args.id c.args.device.now c.in-Ok.transfer.host c.args.course c.in-Ok.transfer.course c.run.new.self.course before after _ _ c.in-Ok.ensures.host c.in-Ok.ensures.course c.in-Err-run.ensures.run

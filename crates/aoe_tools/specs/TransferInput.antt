@@ -1,0 +1,28 @@
+-- The sectors that a source gives up to its end.
+use Rattle.std.specs.Prelude.{ℕ, ◌≡◌, ◌≢◌, ◌-◌, ◌%◌, ◌<◌, ◌≤◌, List, length, Option, Result, Ok, Err}
+use Rattle.aoe_io.specs.Bytes.{Gave, GaveSome, IsEnded}
+use Rattle.aoe_tools.specs.declared.end.CopyRefusal.{CopyRefusal}
+use Rattle.aoe_tools.specs.declared.end.CopyRefusal.TheVariants as copy
+use Rattle.aoe_tools.specs.declared.end.ToolRefusal.TheVariants as tool
+
+-- what was read of a source: all of it where that isn't more than an input has
+pub record IsInput (left left' : Option (List ℕ)) (bytes : List ℕ) : Type 0 where
+  pub gave : Gave left left' bytes
+  pub ended : length bytes ≤ 16777216 → IsEnded left'
+
+-- why no input came
+abbrev pub Unread : CopyRefusal → Option (List ℕ) → Option (List ℕ) → Type 0
+Unread copy.SourceFault left left' = GaveSome left left'
+Unread (copy.Tool tool.NoMemory) left left' = GaveSome left left'
+Unread (copy.Tool refusal) left left' = ⊥
+Unread (copy.Stream offset) left left' = ⊥
+Unread copy.Limit left left' = ⊥
+Unread copy.SinkFault left left' = ⊥
+
+-- what the source gave, to its end: whole sectors, and not too many; or why not
+abbrev pub Inputs : Result (List ℕ) CopyRefusal → Option (List ℕ) → Option (List ℕ) → Type 0
+Inputs (Ok bytes) left left' = IsInput left left' bytes × (length bytes ≤ 16777216) × (length bytes % 512 ≡ 0)
+Inputs (Err copy.Limit) left left' = (bytes : List ℕ) × IsInput left left' bytes × (16777216 < length bytes)
+Inputs (Err (copy.Stream offset)) left left' =
+    (bytes : List ℕ) × IsInput left left' bytes × (length bytes ≤ 16777216) × (length bytes % 512 ≢ 0) × (offset ≡ length bytes - length bytes % 512)
+Inputs (Err refusal) left left' = Unread refusal left left'
