@@ -6,6 +6,7 @@ use aoe_base::{Failed, Mac, Ports, Span, TargetId};
 use aoe_disk::{Arm, Disk, Loss, MemDisk};
 use aoe_frame::{Frame, pad};
 use aoe_keep::Keep;
+use aoe_lists::Lists;
 use aoe_store::{Direct, Store};
 use std::alloc::Global;
 use std::test::Fail;
@@ -121,6 +122,89 @@ fn counts_that_are_not_taken(rt: HostRuntime) -> Result<(), Fail> {
 }
 
 #[test]
+fn malformed_arguments(rt: HostRuntime) -> Result<(), Fail> {
+    // The version, the command, the begin of its arguments, the rest of them, and the error.
+    let cases: [(u8, u8, &[u8], &[u8], u8); 10] = [
+        (0x10, 1, b"", b"", 2),
+        (0x10, 1, b"\0\0\0\0\0\x03\x04\0", b"", 2),
+        (0x10, 1, b"\0\0\0\0\0\x03\x04\x01", &[b'a'; 1025], 2),
+        (0x10, 1, b"\0\0\0\0\0\x05\0\0", b"", 2),
+        (0x10, 2, b"\0\x01\0\xff", &[0; 2039], 2),
+        (0x10, 3, b"\x01\xb5", &[2; 1086], 2),
+        (0x10, 3, b"\x03\0", b"", 2),
+        (0x10, 0, b"\x41\0\x02\x34\0\0\0\0\0\0\0\0", &[7; 1023], 2),
+        (0x10, 255, b"", b"", 1),
+        (0x20, 255, b"", b"", 5),
+    ];
+    for (version, command, begin, rest, error) in cases {
+        let mut target = target(rt.alloc())?;
+        let args = joined(&[begin, rest]);
+        let frame = request(&A, version, command, args.as_slice());
+        let mut out = Frame::new();
+        let heard = target.receive(frame.as_slice(), &mut out);
+        assert_eq!(rt; heard, DONE);
+        let told = args.as_slice().get(..36).unwrap_or(args.as_slice());
+        let wanted = reply(&A, 0x1c, error, command, told);
+        assert_eq!(rt; out.as_slice(), wanted.as_slice(), "command {command}");
+        assert_eq!(rt; out.len(), 60);
+        assert!(rt; *target.lists() == Lists::new());
+        let (store, keep) = target.close();
+        assert_eq!(rt; store.close().calls(), 0);
+        assert_eq!(rt; keep.close().calls(), 3);
+    }
+    Ok(())
+}
+
+#[test]
+fn malformed_values(rt: HostRuntime) -> Result<(), Fail> {
+    // The command, its arguments, and those of the reply: an unknown directive, and a sector behind
+    // all others.
+    let cases: [(u8, &[u8], &[u8]); 2] = [
+        (2, b"\0\x01\0\x01\0\x03\x02\0\0\0\0\x0a", b"\0\x01\x02\0"),
+        (
+            0,
+            b"\x40\0\x01\x24\xff\xff\xff\xff\xff\xff\0\0",
+            b"\x40\x10\0\x41\xff\xff\xff\xff\xff\xff\0\0",
+        ),
+    ];
+    for (command, args, told) in cases {
+        let mut target = target(rt.alloc())?;
+        let (heard, out) = exchange(&mut target, &A, command, args);
+        assert_eq!(rt; heard, DONE);
+        let wanted = reply(&A, 0x18, 0, command, told);
+        assert_eq!(rt; out.as_slice(), wanted.as_slice(), "command {command}");
+        assert!(rt; *target.lists() == Lists::new());
+    }
+    Ok(())
+}
+
+#[test]
+fn whom_a_request_is_for(rt: HostRuntime) -> Result<(), Fail> {
+    let mut target = target(rt.alloc())?;
+    let mut out = Frame::new();
+    let told = reply(&A, 0x18, 0, 1, b"\0\x10\0\x01\x02\x10\0\0");
+    // The destination, the shelf and the slot, and what becomes of it.
+    let cases = [
+        (PORT, [0, 1, 255], DONE),
+        (PORT, [255, 255, 0], DONE),
+        ([255; 6], [255, 255, 255], DONE),
+        (C, [0, 1, 0], Heard::Ignored),
+        (PORT, [0, 2, 0], Heard::Ignored),
+        (PORT, [0, 1, 1], Heard::Ignored),
+    ];
+    for (destination, id, wanted) in cases {
+        let [high, low, minor] = id;
+        let middle = [0x88, 0xa2, 0x10, 0, high, low, minor, 1, 0, 0, 0, 7];
+        let frame = joined(&[&destination, &A, &middle, &[0; 8]]);
+        out.clear();
+        assert_eq!(rt; target.receive(frame.as_slice(), &mut out), wanted);
+        let reply = if wanted == DONE { told.as_slice() } else { b"" };
+        assert_eq!(rt; out.as_slice(), reply);
+    }
+    Ok(())
+}
+
+#[test]
 fn checks_in_their_order(rt: HostRuntime) -> Result<(), Fail> {
     let mut target = target(rt.alloc())?;
     let edit = joined(&[&[0, 1, 0, 1, 0, 1], &C]);
@@ -206,16 +290,24 @@ fn config_strings(rt: HostRuntime) -> Result<(), Fail> {
 
 #[test]
 fn lists_that_can_not_be_kept(rt: HostRuntime) -> Result<(), Fail> {
-    let mut target = target(rt.alloc())?;
     let set = b"\0\0\0\0\0\x03\0\x02ab";
-    target.arm_keep(Arm::Fail(6));
-    let (heard, out) = exchange(&mut target, &A, 1, set);
     let effect = Effect::EditFault;
-    assert_eq!(rt; heard, Heard::Replied { effect });
-    assert_eq!(rt; out.as_slice(), reply(&A, 0x1c, 3, 1, set).as_slice());
-    assert_eq!(rt; target.lists().config.len(), 0);
-    assert!(rt; !target.keep_is_out());
+    // Each of the six device calls of a change fails.
+    for k in 1..7u32 {
+        let mut target = target(rt.alloc())?;
+        target.arm_keep(Arm::Fail(k));
+        let (heard, out) = exchange(&mut target, &A, 1, set);
+        assert_eq!(rt; heard, Heard::Replied { effect }, "call {k}");
+        assert_eq!(rt; out.as_slice(), reply(&A, 0x1c, 3, 1, set).as_slice());
+        assert_eq!(rt; target.lists().config.len(), 0);
+        assert!(rt; !target.keep_is_out());
 
+        let (heard, _) = exchange(&mut target, &A, 1, set);
+        assert_eq!(rt; heard, EDITED, "behind call {k}");
+        assert_eq!(rt; target.lists().config.as_slice(), b"ab".as_slice());
+    }
+
+    let mut target = target(rt.alloc())?;
     target.arm_keep(Arm::Stop(1));
     let (heard, _) = exchange(&mut target, &A, 1, set);
     assert_eq!(rt; heard, Heard::Replied { effect });
@@ -276,33 +368,43 @@ fn failed_calls(rt: HostRuntime) -> Result<(), Fail> {
     let read = b"\x40\0\x01\x24\x03\0\0\0\0\0\0\0".as_slice();
     let verify = b"\x40\0\x01\x42\x03\0\0\0\0\0\0\0".as_slice();
     let flush = b"\x40\0\0\xea\0\0\0\0\0\0\0\0".as_slice();
+    // The arguments, the effect of a call that fails and the reply's arguments, and the effect of the
+    // same request behind it.
     let cases = [
-        (read, Effect::ReadFault, b"\x40\x40\0\x41\x03\0\0\0\0\0\0\0"),
+        (
+            read,
+            Effect::ReadFault,
+            b"\x40\x40\0\x41\x03\0\0\0\0\0\0\0",
+            Effect::None,
+        ),
         (
             verify,
             Effect::ReadFault,
             b"\x40\x40\0\x41\x03\0\0\0\0\0\0\0",
+            Effect::None,
         ),
         (
             write.as_slice(),
             Effect::WriteFault(span),
             b"\x41\x04\0\x41\x03\0\0\0\0\0\0\0",
+            Effect::Wrote(span),
         ),
-        (flush, Effect::SyncFault, b"\x40\x04\0\x41\0\0\0\0\0\0\0\0"),
+        (
+            flush,
+            Effect::SyncFault,
+            b"\x40\x04\0\x41\0\0\0\0\0\0\0\0",
+            Effect::Synced,
+        ),
     ];
-    for (args, effect, told) in cases {
+    for (args, fault, told, done) in cases {
         target.arm_store(Arm::Fail(1));
         let (heard, out) = exchange(&mut target, &A, 0, args);
-        assert_eq!(rt; heard, Heard::Replied { effect });
+        assert_eq!(rt; heard, Heard::Replied { effect: fault });
         assert_eq!(rt; out.as_slice(), reply(&A, 0x18, 0, 0, told).as_slice());
+        let (heard, _) = exchange(&mut target, &A, 0, args);
+        assert_eq!(rt; heard, Heard::Replied { effect: done });
     }
-    let (heard, out) = exchange(&mut target, &A, 0, flush);
-    assert_eq!(rt;
-        heard,
-        Heard::Replied {
-            effect: Effect::Synced
-        }
-    );
+    let (_, out) = exchange(&mut target, &A, 0, flush);
     let done = b"\x40\0\0\x40\0\0\0\0\0\0\0\0";
     assert_eq!(rt; out.as_slice(), reply(&A, 0x18, 0, 0, done).as_slice());
 
