@@ -33,15 +33,20 @@ fn shelf_link(alloc: Global) -> Result<MemShelf, Fail> {
     }
 }
 
-/// Runs a tool over links: its status, and what it wrote.
-fn ask<L: Link>(alloc: Global, line: &str, links: &mut [L; 1]) -> Result<(Status, MemSink), Fail> {
+/// Runs a tool over links, with this input: its status, and what it wrote.
+fn ask_with<L: Link>(
+    alloc: Global,
+    line: &str,
+    input: &[u8],
+    links: &mut [L; 1],
+) -> Result<(Status, MemSink), Fail> {
     let line = format!(in alloc; "{line} --local x --peers y")?;
     let words = words_of(alloc, line.as_str())?;
     let words = words.as_slice();
     if !files_of(alloc, words)?.is_empty() || ports_of(alloc, words)?.len() != 1 {
         return Err(Fail::from("other files or links"));
     }
-    let mut source = MemSource::of(alloc, b"")?;
+    let mut source = MemSource::of(alloc, input)?;
     let mut sink = MemSink::new(alloc, 10000)?;
     let mut disks: [Option<MemDisk>; 0] = [];
     let mut clock = SetClock::new(0, 10);
@@ -55,6 +60,11 @@ fn ask<L: Link>(alloc: Global, line: &str, links: &mut [L; 1]) -> Result<(Status
         &mut clock,
     );
     Ok((status, sink))
+}
+
+/// Runs a tool over links, without input.
+fn ask<L: Link>(alloc: Global, line: &str, links: &mut [L; 1]) -> Result<(Status, MemSink), Fail> {
+    ask_with(alloc, line, b"", links)
 }
 
 #[test]
@@ -111,5 +121,32 @@ fn tells_what_failed_a_tool(rt: HostRuntime) -> Result<(), Fail> {
     link.fail_at(2);
     let (status, _) = ask(alloc, "discover", &mut [link])?;
     assert_eq!(rt; status, Status::LinkFault { link: 0 });
+    Ok(())
+}
+
+#[test]
+fn copies_sectors(rt: HostRuntime) -> Result<(), Fail> {
+    let alloc = rt.alloc();
+    let mut links = [shelf_link(alloc)?];
+    let sector = [0x5a; 512];
+    let (status, sink) = ask_with(alloc, "put e1.0 3", &sector, &mut links)?;
+    assert_eq!(rt; status, Status::Ok);
+    assert_eq!(rt; sink.bytes(), b"".as_slice());
+    let (status, sink) = ask(alloc, "get e1.0 2 2", &mut links)?;
+    assert_eq!(rt; status, Status::Ok);
+    assert_eq!(rt; sink.bytes().get(..512), Some([0; 512].as_slice()));
+    assert_eq!(rt; sink.bytes().get(512..), Some(sector.as_slice()));
+    let (status, _) = ask(alloc, "get e1.0 15 2", &mut links)?;
+    assert_eq!(rt; status.code(), 10);
+    assert_eq!(rt;
+        status.text(alloc)?.bytes(),
+        b"aoe: refused: range".as_slice()
+    );
+    let (status, _) = ask_with(alloc, "put e1.0 0", &[0; 513], &mut links)?;
+    assert_eq!(rt; status.code(), 11);
+    assert_eq!(rt;
+        status.text(alloc)?.bytes(),
+        b"aoe: bad stream at byte 512".as_slice()
+    );
     Ok(())
 }
