@@ -1,6 +1,8 @@
 mod AskLemmas
+mod CopiedLemmas
 mod CopyLemmas
 mod CourseLemmas
+mod DataLemmas
 mod DiscoverLemmas
 mod ExchangeLemmas
 mod FoundLemmas

@@ -11,6 +11,7 @@ pub mod Text
 pub mod TransferAsks
 pub mod TransferCopies
 pub mod TransferCourse
+pub mod TransferData
 pub mod TransferInput
 pub mod TransferRun
 pub mod TransferSteps

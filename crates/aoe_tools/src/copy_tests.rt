@@ -31,17 +31,18 @@ fn response(
     Blob::of(alloc, out.as_slice())
 }
 
-/// A link that answers the two requests before a transfer: the device has 16 sectors.
-fn found(alloc: Global) -> Result<Vec<Option<Blob>>, Fail> {
+/// The responses to the two requests before a transfer: the device has 16 sectors.
+fn found(alloc: Global) -> Result<(Blob, Blob), NoMemory>
+    ensures { IfOk result (λ both. (length both.0 ≤ 9018) × (length both.1 ≤ 9018)) }
+{
     let config = [0, 16, 0, 1, 17, 0x10, 0, 0];
+    let registers = [0, 0, 0, 0x40, 0, 0, 0, 0, 0, 0, 0, 0];
     let mut page = [0u8; 512];
     page[99] = 2;
     page[120] = 16;
-    let mut coming = Vec::new(alloc);
-    coming.push(Some(response(alloc, 1, [0x80, 0, 0, 0], &config, &[])?))?;
-    let registers = [0, 0, 0, 0x40, 0, 0, 0, 0, 0, 0, 0, 0];
-    coming.push(Some(response(alloc, 0, [0x80, 0, 0, 1], &registers, &page)?))?;
-    Ok(coming)
+    let config = response(alloc, 1, [0x80, 0, 0, 0], &config, &[])?;
+    let page = response(alloc, 0, [0x80, 0, 0, 1], &registers, &page)?;
+    Ok((config, page))
 }
 
 #[test]
@@ -49,7 +50,10 @@ fn gets_sectors(rt: HostRuntime) -> Result<(), Fail> {
     let alloc = rt.alloc();
     let ask = Ask { port: A, turns: 50 };
     let registers = [0x40, 0, 0, 0x40, 0, 0, 0, 0, 0, 0, 0, 0];
-    let mut coming = found(alloc)?;
+    let (config, page) = found(alloc)?;
+    let mut coming = Vec::new(alloc);
+    coming.push(Some(config))?;
+    coming.push(Some(page))?;
     coming.push(Some(response(alloc, 0, [0, 0, 0, 2], &registers, &[0x33; 512])?))?;
     coming.push(None)?;
     coming.push(Some(response(alloc, 0, [0, 0, 0, 1], &registers, &[0x5a; 1024])?))?;
@@ -59,8 +63,17 @@ fn gets_sectors(rt: HostRuntime) -> Result<(), Fail> {
     let got = get(alloc, &ask, DEVICE, 2, 3, &mut sink, &mut link, &mut clock);
     assert_eq!(rt; got, Ok(()));
     assert_eq!(rt; link.count(), 4);
+    assert_eq!(rt; sink.bytes().len(), 1536);
+    assert_eq!(rt;
+        sink.bytes().get(1022..1026),
+        Some([0x5a, 0x5a, 0x33, 0x33].as_slice())
+    );
     let mut sink = MemSink::new(alloc, 2000)?;
-    let mut link = MemLink::of(alloc, found(alloc)?, 10)?;
+    let (config, page) = found(alloc)?;
+    let mut coming = Vec::new(alloc);
+    coming.push(Some(config))?;
+    coming.push(Some(page))?;
+    let mut link = MemLink::of(alloc, coming, 10)?;
     let mut clock = SetClock::new(0, 10);
     let got = get(alloc, &ask, DEVICE, 15, 2, &mut sink, &mut link, &mut clock);
     assert_eq!(rt;
@@ -75,11 +88,15 @@ fn puts_sectors(rt: HostRuntime) -> Result<(), Fail> {
     let alloc = rt.alloc();
     let ask = Ask { port: A, turns: 50 };
     let registers = [0x40, 0, 0, 0x40, 0, 0, 0, 0, 0, 0, 0, 0];
-    let mut coming = found(alloc)?;
+    let (config, page) = found(alloc)?;
+    let mut coming = Vec::new(alloc);
+    coming.push(Some(config))?;
+    coming.push(Some(page))?;
     coming.push(Some(response(alloc, 0, [0, 0, 0, 1], &registers, &[])?))?;
-    for _ in 0..4 {
-        coming.push(None)?;
-    }
+    coming.push(None)?;
+    coming.push(None)?;
+    coming.push(None)?;
+    coming.push(None)?;
     coming.push(Some(response(alloc, 0, [0, 0, 0, 2], &registers, &[])?))?;
     let mut link = MemLink::of(alloc, coming, 10)?;
     let mut clock = SetClock::new(0, 500);
@@ -100,7 +117,11 @@ fn puts_sectors(rt: HostRuntime) -> Result<(), Fail> {
 fn refuses_inputs(rt: HostRuntime) -> Result<(), Fail> {
     let alloc = rt.alloc();
     let ask = Ask { port: A, turns: 50 };
-    let mut link = MemLink::of(alloc, found(alloc)?, 10)?;
+    let (config, page) = found(alloc)?;
+    let mut coming = Vec::new(alloc);
+    coming.push(Some(config))?;
+    coming.push(Some(page))?;
+    let mut link = MemLink::of(alloc, coming, 10)?;
     let mut clock = SetClock::new(0, 10);
     let mut source = MemSource::of(alloc, &[1; 513])?;
     let done = put(alloc, &ask, DEVICE, 0, &mut source, &mut link, &mut clock);

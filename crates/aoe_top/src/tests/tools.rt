@@ -1,8 +1,8 @@
 //! The tools over a shelf in the same process.
 use super::words_of;
 use crate::{Status, aoe, files_of, ports_of};
-use aoe_base::{Mac, Ports};
-use aoe_disk::MemDisk;
+use aoe_base::{Failed, Mac, Ports};
+use aoe_disk::{Disk, MemDisk};
 use aoe_io::{Link, MemLink, MemSink, MemSource, SetClock};
 use aoe_keep::Keep;
 use aoe_serve::ShelfLink;
@@ -12,6 +12,36 @@ use std::alloc::Global;
 use std::test::Fail;
 
 type MemShelf = ShelfLink<Direct<MemDisk>, MemDisk>;
+
+/// A disk of so many zero sectors, which takes no room. No write succeeds.
+#[derive(Drop)]
+struct Zeros {
+    sectors: u64,
+    faults: u64,
+    ghost bounded: { sectors ≤ 2 ^ 40 },
+}
+
+impl Disk for Zeros {
+    ghost state = { λ d. record { sectors = d.sectors; faults = d.faults; contents = None; schedule = None; log = None } };
+
+    fn sectors(&self) -> u64 {
+        self.sectors
+    }
+
+    fn read(&mut self, _at: u64, out: &mut [u8]) -> Result<(), Failed> {
+        out.fill(0);
+        Ok(())
+    }
+
+    fn write(&mut self, _at: u64, _piece: &[u8]) -> Result<(), Failed> {
+        self.faults = self.faults.saturating_add(1);
+        Err(Failed)
+    }
+
+    fn sync(&mut self) -> Result<(), Failed> {
+        Ok(())
+    }
+}
 
 /// A link to the target 1.0 of 16 zero sectors.
 fn shelf_link(alloc: Global) -> Result<MemShelf, Fail> {
@@ -121,6 +151,34 @@ fn tells_what_failed_a_tool(rt: HostRuntime) -> Result<(), Fail> {
     link.fail_at(2);
     let (status, _) = ask(alloc, "discover", &mut [link])?;
     assert_eq!(rt; status, Status::LinkFault { link: 0 });
+    Ok(())
+}
+
+#[test]
+fn tells_sizes(rt: HostRuntime) -> Result<(), Fail> {
+    let alloc = rt.alloc();
+    let mut ports = Ports::new();
+    ports.push(Mac([2, 0, 0, 0, 0, 1]));
+    let mut shelf = Shelf::new(alloc, 1, ports, 1500)?;
+    let Ok(keep) = Keep::mount(MemDisk::new(alloc, 16)?) else {
+        return Err(Fail::from("a keep of zeros was refused"));
+    };
+    let store = Direct::new(Zeros {
+        sectors: 4_000_000,
+        faults: 0,
+    });
+    if shelf.add(0, store, keep).is_err() {
+        return Err(Fail::from("a slot was refused"));
+    }
+    let Ok(link) = ShelfLink::new(alloc, shelf) else {
+        return Err(Fail::from("no memory"));
+    };
+    let (status, sink) = ask(alloc, "stat", &mut [link])?;
+    assert_eq!(rt; status, Status::Ok);
+    assert_eq!(rt;
+        sink.bytes(),
+        b"e1.0 2.048GB 02:00:00:00:00:01 up\n".as_slice()
+    );
     Ok(())
 }
 

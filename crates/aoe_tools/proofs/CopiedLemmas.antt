@@ -1,0 +1,366 @@
+-- What a transfer has copied, turn by turn.
+use Rattle.std.proofs.Common.{ℕ, zero, suc, ◌≡◌, ◌+◌, ◌-◌, ◌*◌, ◌/◌, ◌<◌, ◌⊎◌, cond, get_or, not, nat_eq, Bool, true, false, List, [], ◌∷◌, ◌++◌, length, map, reverse, replicate, Option, Some, None, refl, sym, ap, subst, ◌∙◌, arith, inl, inr}
+use Rattle.std.specs.Prelude.{Ok, option_map, All, Contains}
+use Rattle.std.proofs.lemmas.Bool.{and_parts, eqb-true}
+use Rattle.std.proofs.lemmas.List.{get_or-reverse, length-append, length-replicate, length-reverse}
+use Rattle.std.proofs.lemmas.List.Elements.{All-head, All-tail}
+use Rattle.aoe_block.specs.Calls.{after_done as part_after, are_ended, hand, is_success, next_part, op_of, part_of, settle, took, took_as as took_by}
+use Rattle.aoe_block.specs.Parts.{joined, AreFull, Part, Transfer}
+use Rattle.aoe_block.specs.declared.took.Took.{Took}
+use Rattle.aoe_block.specs.declared.took.Took.TheVariants as took_as
+use Rattle.aoe_initiator.specs.declared.op.Op.{Op}
+use Rattle.aoe_initiator.specs.declared.op.Op.TheVariants as op
+use Rattle.aoe_initiator.specs.declared.outcome.Done.{Done}
+use Rattle.aoe_initiator.specs.declared.outcome.Outcome.{Outcome}
+use Rattle.aoe_initiator.specs.declared.outcome.Outcome.TheVariants as outcome
+use Rattle.aoe_initiator.specs.Host.{Host}
+use Rattle.aoe_tools.proofs.DataLemmas.{adjacent-so, each-so, joined-handed, joined-settled, sectors, sectors-handed, sectors-settled, size-so, so-fresh, so-handed, so-more, so-settled, whole-so, AreSo}
+use Rattle.aoe_tools.specs.declared.course.Course.{Course}
+use Rattle.aoe_tools.specs.declared.course.Phase.{Phase}
+use Rattle.aoe_tools.specs.declared.course.Phase.TheVariants as phase
+use Rattle.aoe_tools.specs.declared.end.ToolRefusal.{ToolRefusal}
+use Rattle.aoe_tools.specs.TransferCourse.{after_done, after_dones, after_parts, end_by, ending, ending_by, failure, hand_in, handed, is_flushed, is_last, is_over_in, next_in, next_op, note_in, or_later, submitted, unless_ended, AreNext, End, Submission}
+use Rattle.aoe_tools.specs.TransferAsks.{LinkState}
+use Rattle.aoe_tools.specs.TransferCopies.{first_phase, read_of, write_of, IsFresh, Range, RunsAll}
+use Rattle.aoe_tools.specs.TransferData.{outcomes, submissions, AreCopied, HasRead, HasWritten, IsFlushed}
+use Rattle.aoe_tools.specs.declared.lookup.Device.{Device}
+use Rattle.aoe_tools.specs.declared.question.Ask.{Ask}
+use Rattle.aoe_base.specs.declared.address.TargetId.{TargetId}
+use Rattle.aoe_tools.specs.TransferRun.{course_of, dones, host_of, log_of, told, told_by, AreRounds, EndsBy, Round}
+
+abbrev Into : {X : Type 0} → List X → List X → Type 0
+Into {X} xs ys = (x : X) → Contains xs x → Contains ys x
+
+cons-in : {X : Type 0} (head x : X) (rest : List X) → Contains rest x → Contains (head ∷ rest) x
+cons-in head x rest p = (suc p.0, omega (arith, p.1), p.2)
+
+cons-cases : {X : Type 0} (head x : X) (rest : List X) → Contains (head ∷ rest) x → (head ≡ x) ⊎ Contains rest x
+cons-cases {X} head x rest p = by_index p.0 p.1 p.2
+  where
+    by_index : (k : ℕ) → k < length (head ∷ rest) → get_or (head ∷ rest) k x ≡ x → (head ≡ x) ⊎ Contains rest x
+    by_index zero below is = inl is
+    by_index (suc k) below is = inr (k, omega (arith, below), is)
+
+in-left : {X : Type 0} (xs ys : List X) (x : X) → Contains xs x → Contains (xs ++ ys) x
+in-left [] ys x p = absurd (omega (arith, p.1))
+in-left (y ∷ xs) ys x p = elim (cons-cases y x xs p) [
+  | inl same ↦ (0, omega arith, same)
+  | inr behind ↦ cons-in y x (xs ++ ys) (in-left xs ys x behind)
+]
+
+in-right : {X : Type 0} (xs ys : List X) (x : X) → Contains ys x → Contains (xs ++ ys) x
+in-right [] ys x p = p
+in-right (y ∷ xs) ys x p = cons-in y x (xs ++ ys) (in-right xs ys x p)
+
+in-either : {X : Type 0} (xs ys : List X) (x : X) → Contains (xs ++ ys) x → Contains xs x ⊎ Contains ys x
+in-either [] ys x p = inr p
+in-either (y ∷ xs) ys x p = elim (cons-cases y x (xs ++ ys) p) [
+  | inl same ↦ inl (0, omega arith, same)
+  | inr behind ↦ elim (in-either xs ys x behind) [ inl left ↦ inl (cons-in y x xs left) | inr right ↦ inr right ]
+]
+
+in-reverse : {X : Type 0} (xs : List X) (x : X) → Contains (reverse xs) x → Contains xs x
+in-reverse xs x p =
+    let below : p.0 < length xs = omega (arith, p.1, length-reverse xs) in
+    (length xs - 1 - p.0, omega (arith, below), sym (get_or-reverse xs p.0 x below) ∙ p.2)
+
+-- the flush of what was written
+abbrev pub PhaseIs : List Submission → List Part → Phase → Type 0
+PhaseIs S parts phase.Parts = Unit {0}
+PhaseIs S parts phase.Flush = are_ended parts ≡ true
+PhaseIs S parts (phase.Flushing ticket) = (are_ended parts ≡ true) × Contains S (record { ticket = ticket; op = op.Flush })
+
+-- how far a course is, and why
+pub record IsSo (w : Bool) (at count : ℕ) (bytes : List ℕ) (S : List Submission) (D : List Done) (c : Course) : Type 0 where
+  pub parts : AreSo w S D at c.block.parts
+  pub write : c.block.write ≡ w
+  pub flushes : c.flushes ≡ w
+  pub sectors_are : sectors c.block.parts ≡ count
+  pub kept : w ≡ true → joined c.block.parts ≡ bytes
+  pub phase_is : PhaseIs S c.block.parts c.phase
+
+module _ (w : Bool) (at count : ℕ) (bytes : List ℕ) where
+  more-so : (S S' : List Submission) (D D' : List Done) (c : Course) → Into S S' → Into D D' → IsSo w at count bytes S D c → IsSo w at count bytes S' D' c
+  more-so S S' D D' c subs came x = record {
+    parts = so-more w S S' D D' subs came at c.block.parts x.parts;
+    write = x.write;
+    flushes = x.flushes;
+    sectors_are = x.sectors_are;
+    kept = x.kept;
+    phase_is = by c.phase x.phase_is;
+  }
+    where
+      by : (p : Phase) → PhaseIs S c.block.parts p → PhaseIs S' c.block.parts p
+      by phase.Parts y = y
+      by phase.Flush y = y
+      by (phase.Flushing ticket) y = (y.0, subs (record { ticket = ticket; op = op.Flush }) y.1)
+
+  -- a command is under way
+  handed-so : (S : List Submission) (D : List Done) (c : Course) (s : Submission) → next_op c ≡ Some s.op → IsSo w at count bytes S D c → IsSo w at count bytes (s ∷ S) D (handed s.ticket c)
+  handed-so S D c s e x = by c.phase refl e x.phase_is
+    where
+      into : Into S (s ∷ S)
+      into y there = cons-in s y S there
+
+      some-part : (b : Bool) (o : Option Part) → option_map (op_of b) o ≡ Some s.op → (q : Part) × (o ≡ Some q) × (op_of b q ≡ s.op)
+      some-part b None e = absurd cc
+      some-part b (Some q) e = (q, refl, cc)
+
+      stays : (y : IsSo w at count bytes (s ∷ S) D c) (p : Phase) → PhaseIs (s ∷ S) c.block.parts p → IsSo w at count bytes (s ∷ S) D (record c { phase = p; under_way = c.under_way + 1 })
+      stays y p is = record { parts = y.parts; write = y.write; flushes = y.flushes; sectors_are = y.sectors_are; kept = y.kept; phase_is = is }
+
+      by : (p : Phase) → c.phase ≡ p → next_in p c ≡ Some s.op → PhaseIs S c.block.parts p → IsSo w at count bytes (s ∷ S) D (hand_in p s.ticket c)
+      by phase.Parts is next y =
+          let found = some-part c.block.write (next_part c.block.parts) next in
+          let P : Op → Type 0 = λ o. AreSo w (record { ticket = s.ticket; op = o } ∷ S) D at (hand s.ticket c.block.parts) in
+          let same : op_of w found.0 ≡ s.op = ap (λ b. op_of b found.0) (sym x.write) ∙ found.2 in
+          record {
+            parts = subst P same (so-handed w S D s.ticket at c.block.parts found.0 found.1 x.parts);
+            write = x.write;
+            flushes = x.flushes;
+            sectors_are = sectors-handed s.ticket c.block.parts ∙ x.sectors_are;
+            kept = λ yes_writes. joined-handed s.ticket c.block.parts ∙ x.kept yes_writes;
+            phase_is = rw is tt;
+          }
+      by phase.Flush is next y =
+          let same : op.Flush ≡ s.op = cc in
+          let P : Op → Type 0 = λ o. Contains (record { ticket = s.ticket; op = o } ∷ S) (record { ticket = s.ticket; op = op.Flush }) in
+          stays (more-so S (s ∷ S) D D c into (λ d there. there) x) (phase.Flushing s.ticket) (y, subst P same (0, omega arith, refl))
+      by (phase.Flushing flush) is next y = absurd cc
+
+  -- a command has its outcome
+  done-so : (S : List Submission) (D : List Done) (c : Course) (d : Done) → IsSo w at count bytes S D c → IsSo w at count bytes S (d ∷ D) (after_done d c)
+  done-so S D c d x = by c.phase refl
+    where
+      into : Into D (d ∷ D)
+      into y there = cons-in d y D there
+
+      block' : Transfer
+      block' = settle c.block d
+
+      parts' : AreSo w S (d ∷ D) at block'.parts
+      parts' =
+          let P : Bool → Type 0 = λ b. AreSo w S (d ∷ D) at (map (part_after b d) c.block.parts) in
+          subst P (sym x.write) (so-settled w S D d at c.block.parts x.parts)
+
+      count' : sectors block'.parts ≡ count
+      count' =
+          let P : Bool → Type 0 = λ b. sectors (map (part_after b d) c.block.parts) ≡ sectors c.block.parts in
+          subst P (sym x.write) (sectors-settled w S D d at c.block.parts x.parts) ∙ x.sectors_are
+
+      kept' : w ≡ true → joined block'.parts ≡ bytes
+      kept' writes =
+          let P : Bool → Type 0 = λ b. joined (map (part_after b d) c.block.parts) ≡ joined c.block.parts in
+          subst P (sym (x.write ∙ writes)) (joined-settled d c.block.parts) ∙ x.kept writes
+
+      settled : (p : Phase) → PhaseIs S block'.parts p → IsSo w at count bytes S (d ∷ D) (record c { block = block'; phase = p; under_way = c.under_way - 1 })
+      settled p is = record { parts = parts'; write = x.write; flushes = x.flushes; sectors_are = count'; kept = kept'; phase_is = is }
+
+      same-phase : c.phase ≡ phase.Parts → IsSo w at count bytes S (d ∷ D) (record c { block = block'; under_way = c.under_way - 1 })
+      same-phase is = record { parts = parts'; write = x.write; flushes = x.flushes; sectors_are = count'; kept = kept'; phase_is = rw is tt }
+
+      whole-ended : (o : Option Part) (b : Bool) → took_by c.block.write d o b ≡ took_as.Whole → b ≡ true
+      whole-ended None b e = absurd cc
+      whole-ended (Some p) b e = at-success (is_success c.block.write p.count d.outcome) b e
+        where
+          at-success : (a b : Bool) → cond a (cond b took_as.Whole took_as.More) (took_as.Part d.outcome) ≡ took_as.Whole → b ≡ true
+          at-success true true e = refl
+          at-success true false e = absurd cc
+          at-success false b e = absurd cc
+
+      parts-over : (t : Took) → took c.block d ≡ t → c.phase ≡ phase.Parts → IsSo w at count bytes S (d ∷ D) (after_parts t (record c { block = block'; under_way = c.under_way - 1 }))
+      parts-over took_as.More e is = same-phase is
+      parts-over (took_as.NotMine f) e is = same-phase is
+      parts-over (took_as.Part o) e is = same-phase is
+      parts-over took_as.Whole e is = choose c.flushes
+        where
+          choose : (b : Bool) → IsSo w at count bytes S (d ∷ D) (cond b (record c { block = block'; phase = phase.Flush; under_way = c.under_way - 1 }) (record c { block = block'; under_way = c.under_way - 1 }))
+          choose true = settled phase.Flush (whole-ended (part_of d.ticket.0 c.block.parts) (are_ended block'.parts) e)
+          choose false = same-phase is
+
+      stays : (p : Phase) → c.phase ≡ p → IsSo w at count bytes S (d ∷ D) (record c { under_way = c.under_way - 1 })
+      stays p is = let y = more-so S S D (d ∷ D) c (λ s there. there) into x in
+          record { parts = y.parts; write = y.write; flushes = y.flushes; sectors_are = y.sectors_are; kept = y.kept; phase_is = y.phase_is }
+
+      by : (p : Phase) → c.phase ≡ p → IsSo w at count bytes S (d ∷ D) (note_in p d (record c { under_way = c.under_way - 1 }))
+      by phase.Parts is = parts-over (took c.block d) refl is
+      by phase.Flush is = stays phase.Flush is
+      by (phase.Flushing ticket) is = stays (phase.Flushing ticket) is
+
+  dones-so : (turns : ℕ) (S : List Submission) (D all : List Done) (c : Course) (ds : List Done) → Into D all → Into ds all → IsSo w at count bytes S D c → IsSo w at count bytes S all (after_dones turns c ds)
+  dones-so turns S D all c [] into these x = more-so S S D all c (λ s there. there) into x
+  dones-so turns S D all c (d ∷ ds) into these x = by (ending turns c d) (dones-so turns S (d ∷ D) all (after_done d c) ds next (λ y there. these y (cons-in d y ds there)) (done-so S D c d x))
+    where
+      next : Into (d ∷ D) all
+      next y there = elim (cons-cases d y D there) [
+        | inl same ↦ these y (0, omega arith, same)
+        | inr behind ↦ into y behind
+      ]
+
+      by : (e : Option End) → IsSo w at count bytes S all (after_dones turns (after_done d c) ds) → IsSo w at count bytes S all (unless_ended e (after_dones turns (after_done d c) ds) (after_done d c))
+      by None rest = rest
+      by (Some end) rest = more-so S S (d ∷ D) all (after_done d c) (λ s there. there) next (done-so S D c d x)
+
+  submits-so : (S : List Submission) (D : List Done) (c : Course) (submits : List Submission) → AreNext c submits → IsSo w at count bytes S D c → IsSo w at count bytes (submits ++ S) D (submitted c submits)
+  submits-so S D c [] are x = x
+  submits-so S D c (s ∷ earlier) are x = handed-so (earlier ++ S) D (submitted c earlier) s are.1 (submits-so S D c earlier are.0 x)
+
+  told-came : (rounds : List Round) → Into (told rounds) (outcomes rounds)
+  told-came [] d there = there
+  told-came (r ∷ rounds) d there = in-left (told_by r.heard) (r.gave_up ++ outcomes rounds) d there
+
+  dones-came : (rounds : List Round) (gave_up : List Done) → Into (dones (told rounds) gave_up) (gave_up ++ outcomes rounds)
+  dones-came rounds gave_up d there = elim (in-either (told rounds) (reverse gave_up) d there) [
+    | inl before ↦ in-right gave_up (outcomes rounds) d (told-came rounds d before)
+    | inr now ↦ in-left gave_up (outcomes rounds) d (in-reverse gave_up d now)
+  ]
+
+  rounds-so : (base : Host) (turns : ℕ) (start : Course) (rounds : List Round) → IsSo w at count bytes [] [] start → AreRounds base turns start rounds → IsSo w at count bytes (submissions rounds) (outcomes rounds) (course_of turns start rounds)
+  rounds-so base turns start [] x are = x
+  rounds-so base turns start (r ∷ rounds) x are =
+      let before = rounds-so base turns start rounds x are.0 in
+      let all = told_by r.heard ++ (r.gave_up ++ outcomes rounds) in
+      let c = course_of turns start rounds in
+      let ds = dones (told rounds) r.gave_up in
+      submits-so (submissions rounds) all (after_dones turns c ds) r.submits are.2.submits
+      (dones-so turns (submissions rounds) (outcomes rounds) all c ds (λ d there. in-right (told_by r.heard) (r.gave_up ++ outcomes rounds) d (in-right r.gave_up (outcomes rounds) d there))
+      (λ d there. in-right (told_by r.heard) (r.gave_up ++ outcomes rounds) d (dones-came rounds r.gave_up d there)) before)
+
+  -- where all is done, all parts were copied, and after a write the flush was acknowledged
+  abbrev Over : List Submission → List Done → Course → Type 0
+  Over S D c = (are_ended c.block.parts ≡ true) × (w ≡ true → IsFlushed S D)
+
+  over-here : (turns : ℕ) (S : List Submission) (D all : List Done) (c : Course) (d : Done) → Into (d ∷ D) all → ending turns c d ≡ Some (Ok record {}) → IsSo w at count bytes S D c → Over S all (after_done d c)
+  over-here turns S D all c d into e x = by c.phase refl (is-over (failure turns d.outcome) (is_over_in c.phase c d) e) x.phase_is
+    where
+      is-over : (o : Option ToolRefusal) (b : Bool) → ending_by o b ≡ Some (Ok record {}) → b ≡ true
+      is-over (Some r) b e = absurd cc
+      is-over None true e = refl
+      is-over None false e = absurd cc
+
+      last : (t : Took) → took c.block d ≡ t → is_last c.flushes t ≡ true → c.phase ≡ phase.Parts → Over S all (after_parts t (record c { block = settle c.block d; under_way = c.under_way - 1 }))
+      last took_as.More e y is = absurd cc
+      last (took_as.NotMine f) e y is = absurd cc
+      last (took_as.Part o) e y is = absurd cc
+      last took_as.Whole e y is = choose c.flushes refl y
+        where
+          choose : (b : Bool) → c.flushes ≡ b → not b ≡ true → Over S all (cond b (record c { block = settle c.block d; phase = phase.Flush; under_way = c.under_way - 1 }) (record c { block = settle c.block d; under_way = c.under_way - 1 }))
+          choose true f z = absurd cc
+          choose false f z = (whole-ended (part_of d.ticket.0 c.block.parts) (are_ended (settle c.block d).parts) e, λ writes. absurd (let a = x.flushes in cc))
+            where
+              whole-ended : (o : Option Part) (b : Bool) → took_by c.block.write d o b ≡ took_as.Whole → b ≡ true
+              whole-ended None b e = absurd cc
+              whole-ended (Some p) b e = at-success (is_success c.block.write p.count d.outcome) b e
+                where
+                  at-success : (a b : Bool) → cond a (cond b took_as.Whole took_as.More) (took_as.Part d.outcome) ≡ took_as.Whole → b ≡ true
+                  at-success true true e = refl
+                  at-success true false e = absurd cc
+                  at-success false b e = absurd cc
+
+      flushed : (o : Outcome) → is_flushed o ≡ true → o ≡ outcome.Flushed
+      flushed outcome.Flushed e = refl
+      flushed (outcome.Read read) e = absurd cc
+      flushed outcome.Written e = absurd cc
+      flushed (outcome.Told args) e = absurd cc
+      flushed (outcome.AtaError status error) e = absurd cc
+      flushed (outcome.AoeError error) e = absurd cc
+      flushed (outcome.GaveUp first now) e = absurd cc
+
+      by : (p : Phase) → c.phase ≡ p → is_over_in p c d ≡ true → PhaseIs S c.block.parts p → Over S all (note_in p d (record c { under_way = c.under_way - 1 }))
+      by phase.Parts is over y = last (took c.block d) refl over is
+      by phase.Flush is over y = absurd cc
+      by (phase.Flushing ticket) is over y =
+          let both = and_parts (nat_eq d.ticket.0 ticket.0) (is_flushed d.outcome) over in
+          let same : d.ticket.0 ≡ ticket.0 = eqb-true d.ticket.0 ticket.0 both.0 in
+          let P : ℕ → Type 0 = λ n. Contains all (record { ticket = record { 0 = n }; outcome = d.outcome }) in
+          let Q : Outcome → Type 0 = λ o. Contains all (record { ticket = ticket; outcome = o }) in
+          (y.0, λ writes. record { ticket = ticket; asked = y.1; acknowledged = subst Q (flushed d.outcome both.1) (subst P same (into d (0, omega arith, refl))) })
+
+  over-so : (turns : ℕ) (S : List Submission) (D all : List Done) (c : Course) (ds : List Done) → Into D all → Into ds all → end_by turns c ds ≡ Some (Ok record {}) → IsSo w at count bytes S D c → Over S all (after_dones turns c ds)
+  over-so turns S D all c [] into these e x = absurd cc
+  over-so turns S D all c (d ∷ ds) into these e x = by (ending turns c d) refl e (λ later. over-so turns S (d ∷ D) all (after_done d c) ds next (λ y there. these y (cons-in d y ds there)) later (done-so S D c d x))
+    where
+      next : Into (d ∷ D) all
+      next y there = elim (cons-cases d y D there) [
+        | inl same ↦ these y (0, omega arith, same)
+        | inr behind ↦ into y behind
+      ]
+
+      by : (o : Option End) → ending turns c d ≡ o → or_later o (end_by turns (after_done d c) ds) ≡ Some (Ok record {}) → (end_by turns (after_done d c) ds ≡ Some (Ok record {}) → Over S all (after_dones turns (after_done d c) ds))
+          → Over S all (unless_ended o (after_dones turns (after_done d c) ds) (after_done d c))
+      by None is later rest = rest later
+      by (Some end) is later rest = let same : end ≡ Ok record {} = cc in over-here turns S D all c d next (is ∙ ap Some same) x
+
+  -- so it is after a run
+  pub run-so : (base : Host) (turns now : ℕ) (start c : Course) (rounds : List Round) → IsSo w at count bytes [] [] start → AreRounds base turns start rounds
+      → (e : EndsBy (Ok record {}) base turns (course_of turns start rounds) (told rounds) (log_of rounds) now) → c ≡ after_dones turns (course_of turns start rounds) (dones (told rounds) e.gave_up)
+      → AreCopied w at count (submissions rounds) (e.gave_up ++ outcomes rounds) c.block.parts × (w ≡ true → (joined c.block.parts ≡ bytes) × IsFlushed (submissions rounds) (e.gave_up ++ outcomes rounds))
+  run-so base turns now start c rounds fresh are e is =
+      let all = e.gave_up ++ outcomes rounds in
+      let S = submissions rounds in
+      let before = rounds-so base turns start rounds fresh are in
+      let ds = dones (told rounds) e.gave_up in
+      let mine : Into (outcomes rounds) all = λ d there. in-right e.gave_up (outcomes rounds) d there in
+      let P : Course → Type 0 = λ x. IsSo w at count bytes S all x in
+      let Q : Course → Type 0 = λ x. Over S all x in
+      let x = subst P (sym is) (dones-so turns S (outcomes rounds) all (course_of turns start rounds) ds mine (dones-came rounds e.gave_up) before) in
+      let over = subst Q (sym is) (over-so turns S (outcomes rounds) all (course_of turns start rounds) ds mine (dones-came rounds e.gave_up) e.by before) in (
+        record {
+          adjacent = adjacent-so w S all at c.block.parts x.parts;
+          whole = whole-so w S all at c.block.parts x.parts;
+          size = size-so w S all at c.block.parts x.parts ∙ ap (λ n. 512 * n) x.sectors_are;
+          each = each-so w S all at c.block.parts x.parts over.0;
+        },
+        λ writes. (x.kept writes, over.1 writes),
+      )
+
+-- parts have bytes
+some-bytes : (max : ℕ) (p : Part) (parts : List Part) → AreFull max (p ∷ parts) → All (λ p. length p.bytes ≡ 512 * p.count) (p ∷ parts) → 0 < length (joined (p ∷ parts))
+some-bytes max p [] full whole =
+    let size : length p.bytes ≡ 512 * p.count = All-head (λ q. length q.bytes ≡ 512 * q.count) p [] whole in
+    omega (arith, size, full.0, length-append p.bytes [])
+some-bytes max p (q ∷ parts) full whole =
+    let rest = some-bytes max q parts full.1 (All-tail (λ q. length q.bytes ≡ 512 * q.count) p (q ∷ parts) whole) in
+    omega (arith, rest, length-append p.bytes (joined (q ∷ parts)))
+
+-- a fresh transfer
+pub fresh-so : (range : Range) (d : Device) (c : Course) → IsFresh range d c → sectors c.block.parts ≡ range.count → IsSo range.writes range.at range.count range.bytes [] [] c
+fresh-so range d c fresh count = record {
+  parts = so-fresh range.writes [] [] range.at c.block.parts fresh.cut.adjacent fresh.cut.whole fresh.cut.pending;
+  write = fresh.write;
+  flushes = fresh.flushes;
+  sectors_are = count;
+  kept = λ writes. fresh.cut.together;
+  phase_is = by range.writes range.bytes c.phase fresh.phase_is fresh.cut.together;
+}
+  where
+    first-ended : (parts : List Part) → AreFull d.max parts → All (λ p. length p.bytes ≡ 512 * p.count) parts → joined parts ≡ [] → are_ended parts ≡ true
+    first-ended [] full whole e = refl
+    first-ended (p ∷ parts) full whole e = absurd (omega (arith, some-bytes d.max p parts full whole, ap (λ (l : List ℕ). length l) e))
+
+    by : (w : Bool) (bytes : List ℕ) (p : Phase) → p ≡ first_phase w bytes → joined c.block.parts ≡ bytes → PhaseIs [] c.block.parts p
+    by false bytes p is e = rw is tt
+    by true [] p is e = rw is (first-ended c.block.parts fresh.cut.full fresh.cut.whole e)
+    by true (b ∷ bytes) p is e = rw is tt
+
+pub read-law : (ask : Ask) (id : TargetId) (d : Device) (at count : ℕ) (start c : Course) (before after : LinkState) (answers answers' : Option (List ℕ)) → IsFresh (read_of at count) d start
+    → (x : RunsAll (Ok c) ask id d start before after answers answers') → HasRead at count x.runs.rounds (joined c.block.parts)
+read-law ask id d at count start c before after answers answers' fresh x =
+    let size = size-so false [] [] at start.block.parts (so-fresh false [] [] at start.block.parts fresh.cut.adjacent fresh.cut.whole fresh.cut.pending) in
+    let zeros : length (replicate {A = ℕ} (512 * count) 0) ≡ 512 * count = length-replicate {A = ℕ} (512 * count) 0 in
+    let many : sectors start.block.parts ≡ count = omega (arith, size, ap (λ (l : List ℕ). length l) fresh.cut.together, zeros) in
+    let e = x.runs.ends in
+    let r = run-so false at count (replicate {A = ℕ} (512 * count) 0) (host_of ask.port id d) ask.turns e.0 start x.last x.runs.rounds (fresh-so (read_of at count) d start fresh many) x.runs.are e.1 e.2 in
+    let P : Course → Type 0 = λ y. HasRead at count x.runs.rounds (joined y.block.parts) in
+    subst P (sym x.gives) (record { parts = x.last.block.parts; gave_up = e.1.gave_up; copied = r.0; together = refl })
+
+pub write-law : (ask : Ask) (id : TargetId) (d : Device) (at : ℕ) (bytes : List ℕ) (start c : Course) (before after : LinkState) (answers answers' : Option (List ℕ)) → IsFresh (write_of at bytes) d start
+    → (x : RunsAll (Ok c) ask id d start before after answers answers') → HasWritten at bytes x.runs.rounds
+write-law ask id d at bytes start c before after answers answers' fresh x =
+    let size = size-so true [] [] at start.block.parts (so-fresh true [] [] at start.block.parts fresh.cut.adjacent fresh.cut.whole fresh.cut.pending) in
+    let long : length bytes ≡ 512 * sectors start.block.parts = sym (ap (λ (l : List ℕ). length l) fresh.cut.together) ∙ size in
+    let many : sectors start.block.parts ≡ length bytes / 512 = omega (arith, long) in
+    let e = x.runs.ends in
+    let r = run-so true at (length bytes / 512) bytes (host_of ask.port id d) ask.turns e.0 start x.last x.runs.rounds (fresh-so (write_of at bytes) d start fresh many) x.runs.are e.1 e.2 in
+    let w = r.1 refl in
+    record { parts = x.last.block.parts; gave_up = e.1.gave_up; copied = r.0; together = w.0; flushed = w.1 }
