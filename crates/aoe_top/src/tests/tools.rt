@@ -1,4 +1,6 @@
 //! The tools over a shelf in the same process.
+ghost use Rattle.std.specs.Prelude.{◌≤◌, ◌^◌, None};
+
 use super::words_of;
 use crate::{Status, aoe, files_of, ports_of};
 use aoe_base::{Failed, Mac, Ports};
