@@ -1,4 +1,10 @@
-//! The program: its words, its files and sockets, the standard streams, and its status.
+//! The program: it opens the files and sockets that its arguments name, runs the command over them, and
+//! ends with its status.
+//!
+//! In order: `files_of` and `ports_of` of `aoe_top` say what to open; files are opened and locked, and
+//! then sockets; `aoe` runs the command; the text of its status goes to standard error. What a file, a
+//! socket, a stream and a clock do is in adapters (`files`, `aoe_udp`, `streams`, `clock`), which tell the
+//! proofs nothing of content. It catches no signal and starts no thread.
 #![tactic(auto)]
 
 ghost use Rattle.std.specs.Prelude.{◌≡◌, All, IfOk, IsSome, length};
@@ -23,7 +29,7 @@ const READ_AHEAD: usize = 65536;
 /// A folder that is always there.
 const ROOT: &str = "/";
 
-/// The words after the program's name.
+/// The arguments behind the program's name.
 fn words(rt: &HostRuntime) -> io::Result<Vec<String>> {
     let mut words = Vec::new(rt.alloc());
     for word in env::args(rt)?.skip(1) {
@@ -119,7 +125,7 @@ fn tell(rt: &HostRuntime, status: Status) -> u8 {
     status.code()
 }
 
-/// Runs the command that the words spell on its files, its links and the standard streams, and gives
+/// Runs the command that the arguments spell on its files, its links and the standard streams, and gives
 /// the exit status.
 fn run_words(rt: &HostRuntime, words: &[String]) -> u8 {
     let Ok(names) = files_of(rt.alloc(), words) else {
@@ -157,8 +163,8 @@ fn run_words(rt: &HostRuntime, words: &[String]) -> u8 {
     tell(rt, status)
 }
 
-/// Runs the command that the program's words spell, and gives the exit status. Words that aren't UTF-8
-/// are no command.
+/// Runs the command that the program's arguments spell, and gives the exit status. Arguments that aren't
+/// UTF-8 are no command.
 fn run(rt: &HostRuntime) -> u8 {
     match words(rt) {
         Ok(words) => run_words(rt, words.as_slice()),

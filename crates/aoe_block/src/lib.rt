@@ -1,7 +1,7 @@
 //! A read or a write of any length, as commands of a host that its device takes.
 //!
-//! A device takes so many sectors in one command and no more. A `Block` cuts a range of sectors
-//! into parts of that many, hands them out as operations, and puts together what came of them.
+//! A device says how many sectors a command may have. A `Block` cuts a range of sectors into parts of
+//! that many, hands them out as operations, and puts together what came of them.
 //!
 //! 1. `Block::read` or `Block::write` makes it of a range within the device.
 //! 2. `pending` gives the next part's operation, which is submitted to a host (`aoe_initiator`),

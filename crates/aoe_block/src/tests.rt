@@ -12,7 +12,7 @@ fn ended(ticket: u64, outcome: Outcome) -> Done {
     }
 }
 
-/// So many sectors, each byte of which is `fill`.
+/// `count` sectors, each byte of which is `fill`.
 fn sectors(rt: &HostRuntime, fill: u8, count: usize) -> Result<Blob, Fail>
     requires { count < 17 }
     ensures { IfOk result (λ blob. length blob ≡ 512 * count) }

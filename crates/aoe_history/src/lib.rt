@@ -3,8 +3,20 @@
 //! A [`History`] has an [`Entry`] for each thing that happened, in order. What its entries say of
 //! times, frames, sectors and commands, which entry may come next by the shelf law, the host law
 //! and the network, and what a host may then read of a sector, stands in specs/. That every lawful
-//! history keeps the law of what is read is [`read_law`]. A [`Run`] is a history under way: its
-//! clock, the frames that are in its network, and all that happened.
+//! history keeps the law of what is read is [`read_law`].
+//!
+//! A [`Run`] is a history under way: its clock, the frames that are in its network, and all that
+//! happened.
+//!
+//! 1. [`Run::new`] makes one in which nothing happened.
+//! 2. `send`, `inject` and `reply` each record an entry and bring its frame into the network, both
+//!    or neither; `tick` lets time go by; `note` records what sends no frame and takes no time.
+//! 3. `fetch` gives a frame by its number, as long as it can be handed over.
+//! 4. `history` gives what happened so far.
+//!
+//! A run doesn't look whether an entry is lawful: that is proved where it is recorded
+//! (`aoe_sim_hosts`, `aoe_sim_shelves`, `aoe_world`). It has no stations, and prints nothing
+//! (`aoe_transcript`).
 #![tactic(auto)]
 
 mod boxed;

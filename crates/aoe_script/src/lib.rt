@@ -1,6 +1,18 @@
 //! Scripts: schedules of what hosts ask, of frames that are handed over, repeated or lost, and of
-//! faults and crashes. What the lines of a text say, whether each may stand where it stands, and
-//! the script that the text spells.
+//! faults and crashes.
+//!
+//! 1. [`read_script`] makes a [`Script`] of a text, or tells its first bad line and why that is bad
+//!    ([`Why`]). [`read_line`] tells what one line says, whatever stands before it.
+//! 2. `Script::push` adds an [`Event`] where it may stand behind what is there.
+//! 3. `Script::setup` and `Script::event` give the lines by their places, from 0.
+//! 4. [`print_script`] gives the one text of a script, from which it can be read again.
+//!
+//! No line of a `Script` is bad: what it names is declared, and its numbers are in their ranges. A
+//! setup line can't be pushed, so a script that is made by `push` begins with the text of its setup
+//! lines. The public modules `cuts` and `spelling` cut texts and spell their parts, for transcripts
+//! too.
+//!
+//! It runs nothing: that is `aoe_world`.
 #![tactic(auto)]
 
 mod classes;

@@ -1,7 +1,16 @@
-//! The loops that serve a shelf: frames come in, each goes to every slot, and the replies go out
-//! (`answer`, `serve`). Files as the slots of a shelf for the time of one such run (`export`): all
-//! keeps are mounted before it, each store writes through or holds back some sectors, and every disk
-//! is given back after it. And a link to a shelf in the same process (`ShelfLink`).
+//! The loops that serve a shelf, and files as its slots.
+//!
+//! - [`answer`] takes the frames of a source's stream, and [`serve`] those of a link. Each frame
+//!   goes to every slot in order, and each reply goes out before the next frame is looked at.
+//!   Neither takes memory.
+//! - [`export`] makes a shelf of files for the time of one such run: it takes the memory of all
+//!   stores, mounts all keeps, runs the [`Plan`], syncs every store, and gives every disk back. A
+//!   store writes through, or holds back as many sectors as the [`Rack`] says (`aoe_cache`).
+//! - [`ShelfLink`] is a link to a shelf in the same process, for a host that needs no network.
+//!
+//! A loop serves one source or one link, one frame after the other. It ends with the first fault of
+//! what carries its frames, and isn't begun again. It syncs sectors for a flush alone, and opens
+//! nothing: files and sockets are opened by the program.
 #![tactic(auto)]
 
 mod backing;

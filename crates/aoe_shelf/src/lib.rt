@@ -1,4 +1,16 @@
 //! A shelf: up to 16 targets behind one set of ports.
+//!
+//! 1. [`Shelf::new`] makes a shelf without targets, and takes all the memory that it will ever use.
+//! 2. [`Shelf::add`] puts a target into the next slot, with its sectors (`aoe_store`) and its keep
+//!    (`aoe_keep`). Where there are 16, or one has its minor, both are given back.
+//! 3. [`Shelf::receive_slot`] hands a frame to one slot. A frame can be for several targets, so its
+//!    user hands it to each slot in order, and sends each reply before it asks the next.
+//! 4. [`Shelf::sync_slot`] syncs the sectors of a slot, and [`Shelf::take_last`] gives those of the
+//!    last target back, with its keep.
+//!
+//! What a target does with a frame is in `aoe_target`, and the loops that carry frames to all slots
+//! are in `aoe_serve`. A shelf opens no file, and doesn't sync by itself when it ends. The calls
+//! that arm a disk are for tests and for the simulator.
 #![tactic(auto)]
 
 mod refusal;

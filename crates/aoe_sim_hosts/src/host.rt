@@ -53,8 +53,8 @@ fn place_of(ids: &[TargetId], dev: TargetId) -> Option<usize>
     ids.iter().position(|id| *id == dev)
 }
 
-/// What is taken down of what the core answered, with a copy of the operation. There is nothing to
-/// take down where there is no memory.
+/// The entry of what the core answered, with a copy of the operation. There is nothing to record where
+/// there is no memory.
 fn entry_of(
     host: Name,
     dev: TargetId,
@@ -168,8 +168,7 @@ impl NamedHost {
         run.note(entry)
     }
 
-    /// Hands an operation to the core, and gives what is taken down of it, with a copy of the
-    /// operation.
+    /// Hands an operation to the core, and gives the entry of its answer, with a copy of the operation.
     fn enter(&mut self, dev: TargetId, op: Op, copy: Boxed<Op>) -> Result<Entry, NoMemory>
         requires same { copy ≡ op }
         requires can { CanSubmit op }

@@ -1,4 +1,14 @@
 //! A shelf in a run: each of its steps, and what it adds to the history.
+//!
+//! 1. [`MemoryRack::new`] makes a shelf without targets, and [`MemoryRack::add`] adds one of zeros
+//!    with empty lists, over two disks in memory. Both come before anything happened in the run.
+//! 2. [`MemoryRack::arm`] makes a later call of a disk fail, or the power be lost in it.
+//! 3. [`MemoryRack::arrive`] hands a frame to each target in order, and brings each reply into the
+//!    network. Where the power is lost in it, the shelf crashes there.
+//! 4. [`MemoryRack::crash`] takes the power now. The targets are mounted again in the same call.
+//!
+//! The shelf itself is that of `aoe_shelf`, over stores without a cache; this crate records what it
+//! does. A shelf that lost its power is never down for a time.
 #![tactic(auto)]
 
 mod arrive;

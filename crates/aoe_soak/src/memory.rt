@@ -1,4 +1,4 @@
-//! Want of memory, where nothing else is wrong.
+//! Out of memory, where nothing else is wrong.
 ghost use Rattle.std.specs.Prelude.{Err, None};
 ghost use Rattle.aoe_script.specs.Lines.{FailsFor, ScriptLines};
 

@@ -1,7 +1,18 @@
 //! One device of a shelf: which frames it hears, what it does with each, and what it replies.
 //!
-//! [`Target::receive`] decides first, by a [`Verdict`], and then acts on its lists or its store. Its
-//! contract is one line of the shelf law, which stands in specs/Law.antt.
+//! 1. [`Target::mount`] makes it of its sectors (`aoe_store`) and of a keep with its lists
+//!    (`aoe_keep`), and gives it a name, the ports of its shelf and the size of a frame.
+//! 2. [`Target::receive`] is handed each frame that comes, for whomever it is. It decides first, by
+//!    a [`Verdict`], and then acts on the lists or on the store. [`Heard`] tells what it did, and
+//!    the reply stands in a frame of the caller's, who sends it.
+//! 3. [`Target::sync`] syncs the store, and [`Target::close`] gives store and keep back.
+//!
+//! The contract of `receive` is one line of the shelf law, which stands in specs/Law.antt.
+//!
+//! A target takes no memory. It remembers no request, so that a frame that comes twice is done
+//! twice, and it makes no failed call of a disk again: the failure is its reply. It knows no other
+//! target of its shelf (`aoe_shelf`), and syncs only for a flush, for a change of the lists, or by
+//! `sync`.
 #![tactic(auto)]
 
 mod ata;

@@ -162,7 +162,7 @@ told-then a b None xs n first second = tt
 told-then a None (Some l) xs n first second = absurd cc
 told-then a (Some k) (Some l) xs n first second = Added-then a (Some k) (Some l) xs (n ∷ []) first second
 
--- so many turns were taken, the latest of which in a row ended no command
+-- so many turns were taken, the latest consecutive ones of which ended no command
 pub record So (turns quiet : ℕ) (base host : Host) (start c : Course) (from turned' : ℕ) (given given' : Option (List Turn)) (taken taken' : Option Frames) (answers answers' : Option (List ℕ)) : Type 0 where
   pub rounds : List Round
   pub running : Running base turns start rounds host c
@@ -255,7 +255,7 @@ module _ (turns quiet : ℕ) (base host : Host) (start c : Course) (from turned'
       at (tool.Unanswered n) x = ran (Err (tool.Unanswered n)) x.2 (inr (now, x.0, refl, x.1))
       at (tool.Refused q) x = ran (Err (tool.Refused q)) x.2 (inr (now, x.0, refl, x.1))
 
--- so many turns in a row ended no command
+-- so many consecutive turns ended no command
 pub is-unanswered : (turns quiet : ℕ) (base host : Host) (start c : Course) (from turned' : ℕ) (given given' : Option (List Turn)) (taken taken' : Option Frames) (answers answers' : Option (List ℕ)) → So turns quiet base host start c from turned' given given' taken taken' answers answers'
     → quiet ≡ turns → Runs (Err (tool.Unanswered turns)) base turns start c from turned' given given' taken taken' answers answers'
 is-unanswered turns quiet base host start c from turned' given given' taken taken' answers answers' s all = record {

@@ -84,7 +84,7 @@ abbrev pub course_of : ℕ → Course → List Round → Course
 course_of turns c [] = c
 course_of turns c (r ∷ rounds) = submitted (after_dones turns (course_of turns c rounds) (dones (told rounds) r.gave_up)) r.submits
 
--- how many of the latest turns in a row ended no command
+-- how many of the latest consecutive turns ended no command
 abbrev pub quiet_by : Option Heard → ℕ → ℕ
 quiet_by None n = n + 1
 quiet_by (Some h) n = 0

@@ -10,7 +10,8 @@ use aoe_base::Failed;
 use aoe_frame::Frame;
 use aoe_io::{Got, Link};
 
-/// A request that isn't answered is sent again after so many turns.
+/// After how many turns a request that isn't answered is sent again: a tenth of a second over a silent
+/// UDP link, which is this program's own choice.
 const TURNS_BETWEEN: u32 = 10;
 
 /// Sends a request that has waited for `passed` turns, where it is time.

@@ -39,7 +39,7 @@ pub(crate) struct Course {
     pub(crate) under_way: u32,
 }
 
-/// Why an outcome ends a transfer of which each wait lasts so many turns.
+/// Why an outcome ends a transfer of which each wait lasts `turns` turns.
 fn failure(outcome: &Outcome, turns: u32) -> Option<ToolRefusal>
     ensures { result ≡ failure turns outcome.now }
 {

@@ -17,7 +17,7 @@ pub enum ToolRefusal {
     /// The link failed.
     LinkFault,
 
-    /// No response that counts came in so many turns.
+    /// No response that counts came in this number of turns.
     Unanswered { turns: u32 },
 
     /// The device refused.
@@ -46,7 +46,7 @@ pub enum CopyRefusal {
     /// As a tool that asks.
     Tool(ToolRefusal),
 
-    /// The input isn't whole sectors: after so many bytes less than a sector is left.
+    /// The input isn't whole sectors: from this byte offset on less than a sector is left.
     Stream { offset: u64 },
 
     /// The input is longer than what is written at a time.

@@ -1,7 +1,24 @@
-//! Tools that ask the devices of a network, over a link and a clock: which there are, how many
-//! sectors they have, and their config strings, mask lists and reserve lists.
+//! Tools that ask the devices of a network, over a link and a clock (`aoe_io`), and copy sectors.
 //!
-//! A request is sent before its turns 1, 11, 21 and so on, and each turn listens once.
+//! Each tool is one call with an [`Ask`], which says who asks and how many turns a request has.
+//!
+//! - [`discover`] gives the devices that answer, and [`stat`] asks each of them for its size and
+//!   state.
+//! - [`cfg`], [`mask`] and [`reserve`] read or change the config string and the lists of one
+//!   device, and give the arguments of its response.
+//! - [`get`] reads sectors and gives them to a sink once all have come. [`put`] reads a source to
+//!   its end, writes that to sectors, and flushes.
+//! - [`print_found`], [`print_stat`], [`print_config`], [`print_masks`] and [`print_reserves`] then
+//!   make the text of an answer. A refusal has the exit status and the text of the program (`code`,
+//!   `text`).
+//!
+//! A request is sent before its turns 1, 11, 21 and so on, and each turn listens once. `get` and
+//! `put` ask so for the device; then a host (`aoe_initiator`) sends the commands of a block
+//! (`aoe_block`), up to 64 at a time over one path, and repeats them by the clock.
+//!
+//! A tool keeps nothing from one call to the next. It opens no socket and doesn't wait by itself: a
+//! turn lasts as long as the link's `recv`. A copy is of 32,768 sectors at most, and it isn't taken
+//! up again where it broke off.
 #![tactic(auto)]
 
 mod asking;

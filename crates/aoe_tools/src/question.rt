@@ -68,8 +68,8 @@ pub(crate) struct Reply {
     pub(crate) answer: Answer,
 }
 
-/// The tag of a tool's request number `i`, from 0, by the clock's first answer. It is beyond the
-/// tags of an initiator.
+/// The tag of a tool's request number `i`, from 0, by the clock's first answer. An initiator's tags
+/// begin at 1, so that those of a copy never come near.
 pub(crate) fn tag_of(first: u64, i: u64) -> u32
     ensures { result ≡ tag_of first i }
 {

@@ -240,7 +240,7 @@ impl Transfer {
         }
     }
 
-    /// Takes turns until all is done, or `turns` of them in a row ended no command.
+    /// Takes turns until all is done, or `turns` consecutive ones ended no command.
     pub(crate) fn run<L: Link, C: Clock>(
         &mut self,
         turns: u32,

@@ -1,4 +1,11 @@
-//! The commands of the program, from their words to their status.
+//! The commands of the program, from their arguments to their status.
+//!
+//! [`files_of`] and [`ports_of`] say which files and which links a command names. Its user opens
+//! them in that order, and then calls [`aoe`] once, with the arguments, the standard streams, what
+//! was opened and a clock. [`Status`] has the exit status, and the text for standard error.
+//!
+//! It opens nothing and says no status: the program `crates/aoe` opens files and sockets, and writes
+//! the text of the status.
 #![tactic(auto)]
 
 mod plan;

@@ -84,7 +84,7 @@ fn ended_by(end: RunEnd) -> Status
     }
 }
 
-/// What there was too much of in a replay.
+/// The limit that a replay exceeded.
 fn excess_of(limit: ReplayLimit) -> What
     ensures { result ≡ excess_of limit }
 {

@@ -12,7 +12,7 @@ use std::alloc::Global;
 pub enum Status {
     /// All that was asked for was done.
     Ok,
-    /// The words are no command.
+    /// The arguments are no command.
     Usage,
     /// The line of the script with that number, from 1, is the first that is bad.
     Script { line: u32, why: Why },
@@ -23,7 +23,7 @@ pub enum Status {
     /// The disk with that number, in the order of the files' names, failed while its keep was mounted,
     /// or when its store was synced at the end.
     DiskFault { disk: u32 },
-    /// The link with that number, in the order of the words that name links, failed.
+    /// The link with that number, in the order of the arguments that name links, failed.
     LinkFault { link: u32 },
     /// An allocation was refused.
     NoMemory,
@@ -32,7 +32,7 @@ pub enum Status {
     /// The keep on the disk with that number holds no lists: the gate of that slot is open before
     /// something else, or both gates are open before lists of one turn, which is the fault of slot 1.
     KeepBad { disk: u32, slot: u8 },
-    /// Nobody answered a tool in so many turns.
+    /// Nobody answered a tool in this number of turns.
     Unanswered { turns: u32 },
     /// The device refused what a tool asked for.
     Refused(Refusal),
@@ -42,7 +42,7 @@ pub enum Status {
     Limit(What),
 }
 
-/// What there was too much of.
+/// Which limit was exceeded.
 #[derive(Clone, Copy, Debug, PartialEq, Eq)]
 pub enum What {
     /// A script has more than 50,000 events.
@@ -102,7 +102,7 @@ impl Status {
     }
 }
 
-/// What is wrong with a line of a script, in a word.
+/// What is wrong with a line of a script, in one word.
 fn word_of(why: Why) -> &'static str
     ensures { result.now ≡ word_of why }
 {

@@ -22,7 +22,7 @@ const REPLY: [u8; 34] = [
     0, 1, 2, 16, 0, 0,
 ];
 
-/// The words that single spaces part.
+/// The arguments that single spaces part.
 fn words_of(alloc: Global, line: &str) -> Result<Vec<String>, AllocError> {
     let mut words = Vec::new(alloc);
     for word in line.split(' ') {

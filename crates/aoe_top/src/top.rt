@@ -192,7 +192,7 @@ fn run_command<S: Source, K: Sink, D: Disk + Drop, L: Link, C: Clock>(
     }
 }
 
-/// Runs the command that the words after the program's name spell.
+/// Runs the command that the arguments behind the program's name spell.
 ///
 /// `answer SHELF SLOT FILE KEEP` answers each frame that the source's stream brings, as the target
 /// SHELF.SLOT over the first disk and behind the port that `--port` names, with at most one frame on
@@ -204,8 +204,8 @@ fn run_command<S: Source, K: Sink, D: Disk + Drop, L: Link, C: Clock>(
 ///
 /// The tools ask over the first link and the clock: `discover` and `stat` which targets there are, with
 /// their sizes and states, `cfg`, `mask` and `reserve` one target for a list or a change of it; what they
-/// are told goes to the sink as text. `get` copies sectors of a
-/// target to the sink, and `put` what the source gives to sectors. `--port` is who asks, and `--turns` how long each listens.
+/// are told goes to the sink as text. `get` copies sectors of a target to the sink, and `put` what the
+/// source gives to sectors. `--port` is who asks, and `--turns` how long each listens.
 ///
 /// `replay` reads the source to its end as a script, runs the events of the script through shelves
 /// and hosts in memory, and puts the text of what happened on the sink. Whatever a schedule loses,
@@ -221,7 +221,7 @@ fn run_command<S: Source, K: Sink, D: Disk + Drop, L: Link, C: Clock>(
 /// where one is refused nothing is read, written or sent. At the end each store is synced, however
 /// the run ended. There are as many disks as `files_of` names, and as many links as `ports_of`.
 ///
-/// Memory is taken while the words are read, and for the shelf and its stores before the first keep is
+/// Memory is taken while the arguments are read, and for the shelf and its stores before the first keep is
 /// mounted; then no more. A replay takes memory until its text is written, and so does a tool.
 pub fn aoe<S: Source, K: Sink, D: Disk + Drop, L: Link, C: Clock>(
     alloc: Global,

@@ -21,7 +21,7 @@ use Rattle.aoe_history.specs.Lawful.{IsLawful, MayCome}
 use Rattle.aoe_history.specs.Setup.{host_called, HostSetup, Setup}
 use Rattle.aoe_transcript.specs.Print.{CanPrint, HasCause, IsFromLine}
 
--- ---- no host refuses for want of memory
+-- ---- no host refuses because it is out of memory
 
 span_cause : (empty long out : Bool) (max : ℕ) → (if empty then Some Empty else if long then Some (TooLong max) else if out then Some OutOfRange else None) ≡ Some NoMemory → ⊥
 span_cause true long out max e = absurd cc

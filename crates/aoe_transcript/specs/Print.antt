@@ -65,7 +65,7 @@ abbrev pub submit_words : ℕ → List Text → List Text
 submit_words ticket (word ∷ host ∷ ws) = codes "submit" ∷ host ∷ decimal ticket ∷ word ∷ ws
 submit_words ticket _ = []
 
--- want of memory has no words
+-- being out of memory has no words
 abbrev pub refusal_words : SubmitRefusal → List Text
 refusal_words Empty = codes "empty" ∷ []
 refusal_words (TooLong max) = codes "too-long" ∷ decimal max ∷ []
@@ -125,7 +125,7 @@ entry_words (Crashed dev lists mode) = codes "crashed" ∷ device_text dev ∷ l
 abbrev pub entry_text : Entry → Text
 entry_text entry = line_text (entry_words entry)
 
--- a host refused for a cause, and not for want of memory
+-- a host refused for a cause, and not because it was out of memory
 abbrev pub HasCause : SubmitRefusal → Type 0
 HasCause refusal = refusal ≢ NoMemory
 

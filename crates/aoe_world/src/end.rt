@@ -35,6 +35,6 @@ pub enum ReplayEnd {
     /// The line of this number, from 1, is the first that is bad.
     Script { line: u32, why: Why },
 
-    /// There was too much of something.
+    /// A limit was exceeded.
     Limit(ReplayLimit),
 }

@@ -29,10 +29,10 @@ pub(crate) enum Plan {
     /// One act.
     One(Act),
 
-    /// So many frames from the cursor on are handed to their addressees.
+    /// This many frames from the cursor on are handed to their addressees.
     Pass(u64),
 
-    /// So many frames from the cursor on are lost.
+    /// This many frames from the cursor on are lost.
     Skip(u64),
 
     /// The frame before the cursor is handed to its addressees once more.
