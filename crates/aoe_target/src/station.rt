@@ -37,14 +37,13 @@ pub struct Station {
 }
 
 impl Station {
-    /// Whether an address is a port of the shelf. The first is looked at first: most shelves have no
-    /// other.
+    /// Whether an address is a port of the shelf. Most shelves have one, with which one comparison does.
     fn has_port(&self, address: &Mac) -> bool
         ensures { result ≡ holds self.now.ports.items address.now }
     {
-        match self.ports.first() {
-            Some(port) if port == address => true,
-            _ => self.ports.contains(address),
+        match self.ports.as_slice() {
+            [port] => port == address,
+            ports => ports.contains(address),
         }
     }
 
