@@ -1,7 +1,7 @@
 -- The words of a submission say what it asks.
 use Rattle.std.proofs.Common.{◌≡◌, ◌^◌, ◌<◌, ◌≤◌, ◌==◌, ℕ, zero, suc, Bool, true, false, List, [], ◌∷◌, length, Some, nat_le, refl, arith}
 use Rattle.std.specs.Prelude.{All, if◌then◌else◌}
-use Rattle.std.proofs.lemmas.Bool.{and_from, and_parts}
+use Rattle.std.proofs.lemmas.Bool.{and_parts}
 use Rattle.std.proofs.lemmas.Bool.Decides.{nat_tests}
 use Rattle.arrayvec.specs.ArrayVec.{ArrayVec}
 use Rattle.aoe_base.specs.declared.address.Mac.{Mac}
@@ -26,7 +26,7 @@ module _ (law : AddressLaw) (devices : DeviceLaw)
   unfolding said
   read_is at count low few = record {
     said_is = rw (name_back host named, device_back devices dev known, number_is at low, number_is count few) refl;
-    are_words = and_from _ _ (name_word host named) (and_from _ _ (device_word dev known) (and_from _ _ (number_word at low) (and_from _ _ (number_word count few) refl)));
+    are_words = rw (name_word host named, device_word dev known, number_word at low, number_word count few) refl;
     few = omega arith;
   }
 
@@ -34,25 +34,17 @@ module _ (law : AddressLaw) (devices : DeviceLaw)
   unfolding said
   write_is at count fill low few byte = record {
     said_is = rw (name_back host named, device_back devices dev known, number_is at low, number_is count few, byte_back fill byte) refl;
-    are_words = and_from _ _ (name_word host named) (and_from _ _ (device_word dev known) (and_from _ _ (number_word at low) (and_from _ _ (number_word count few) (and_from _ _ (byte_word fill byte) refl))));
+    are_words = rw (name_word host named, device_word dev known, number_word at low, number_word count few, byte_word fill byte) refl;
     few = omega arith;
   }
 
   pub flush_is : IsSaid (event_words (Flush host dev)) (Asks (Flush host dev))
   unfolding said
-  flush_is = record {
-    said_is = rw (name_back host named, device_back devices dev known) refl;
-    are_words = and_from _ _ (name_word host named) (and_from _ _ (device_word dev known) refl);
-    few = omega arith;
-  }
+  flush_is = record { said_is = rw (name_back host named, device_back devices dev known) refl; are_words = rw (name_word host named, device_word dev known) refl; few = omega arith }
 
   pub identify_is : IsSaid (event_words (Identify host dev)) (Asks (Identify host dev))
   unfolding said
-  identify_is = record {
-    said_is = rw (name_back host named, device_back devices dev known) refl;
-    are_words = and_from _ _ (name_word host named) (and_from _ _ (device_word dev known) refl);
-    few = omega arith;
-  }
+  identify_is = record { said_is = rw (name_back host named, device_back devices dev known) refl; are_words = rw (name_word host named, device_word dev known) refl; few = omega arith }
 
   -- ---- actions on the lists of a device
 
@@ -61,7 +53,7 @@ module _ (law : AddressLaw) (devices : DeviceLaw)
   unfolding said
   config_with ccmd text back word some small = record {
     said_is = rw (back, some, name_back host named, device_back devices dev known, bytes_back text small) refl;
-    are_words = rw (word, some) (and_from _ _ (name_word host named) (and_from _ _ (device_word dev known) (and_from _ _ (bytes_word text small) refl)));
+    are_words = rw (word, some, name_word host named, device_word dev known, bytes_word text small) refl;
     few = rw some (omega arith);
   }
 
@@ -70,7 +62,7 @@ module _ (law : AddressLaw) (devices : DeviceLaw)
   unfolding said
   config_is zero [] e few small = record {
     said_is = rw (name_back host named, device_back devices dev known) refl;
-    are_words = and_from _ _ (name_word host named) (and_from _ _ (device_word dev known) refl);
+    are_words = rw (name_word host named, device_word dev known) refl;
     few = omega arith;
   }
   config_is zero (b ∷ text) e few small = absurd (grind (arith, nat_tests))
@@ -83,11 +75,7 @@ module _ (law : AddressLaw) (devices : DeviceLaw)
   pub masks_is : (edit : Bool) (dirs : List Dir) → is_within (if edit then 1 else 0) (if edit then 64 else 0) (length dirs) ≡ true → All (λ dir. IsAddress dir.mac) dirs
       → IsSaid (event_words (Masks host dev edit (record { items = dirs }))) (Asks (Masks host dev edit (record { items = dirs })))
   unfolding said
-  masks_is false [] e fits = record {
-    said_is = rw (name_back host named, device_back devices dev known) refl;
-    are_words = and_from _ _ (name_word host named) (and_from _ _ (device_word dev known) refl);
-    few = omega arith;
-  }
+  masks_is false [] e fits = record { said_is = rw (name_back host named, device_back devices dev known) refl; are_words = rw (name_word host named, device_word dev known) refl; few = omega arith }
   masks_is false (dir ∷ dirs) e fits = absurd (grind (arith, nat_tests))
   masks_is true dirs e fits =
       let h = and_parts (nat_le 1 (length dirs)) (nat_le (length dirs) 64) e in
@@ -95,7 +83,7 @@ module _ (law : AddressLaw) (devices : DeviceLaw)
       let most : length dirs ≤ 64 = grind (arith, nat_tests) in
       record {
         said_is = rw (name_back host named, device_back devices dev known, dirs_back law dirs some most fits) refl;
-        are_words = and_from _ _ (name_word host named) (and_from _ _ (device_word dev known) (and_from _ _ (dirs_word law dirs some fits) refl));
+        are_words = rw (name_word host named, device_word dev known, dirs_word law dirs some fits) refl;
         few = omega arith;
       }
 
@@ -104,7 +92,7 @@ module _ (law : AddressLaw) (devices : DeviceLaw)
   unfolding said
   reserve_with rcmd list back word some most fits = record {
     said_is = rw (back, some, name_back host named, device_back devices dev known, list_back_of law list most fits) refl;
-    are_words = rw (word, some) (and_from _ _ (name_word host named) (and_from _ _ (device_word dev known) (and_from _ _ (list_word_of law list fits) refl)));
+    are_words = rw (word, some, name_word host named, device_word dev known, list_word_of law list fits) refl;
     few = rw some (omega arith);
   }
 
@@ -113,7 +101,7 @@ module _ (law : AddressLaw) (devices : DeviceLaw)
   unfolding said
   reserve_is zero [] e few fits = record {
     said_is = rw (name_back host named, device_back devices dev known) refl;
-    are_words = and_from _ _ (name_word host named) (and_from _ _ (device_word dev known) refl);
+    are_words = rw (name_word host named, device_word dev known) refl;
     few = omega arith;
   }
   reserve_is zero (mac ∷ list) e few fits = absurd (grind (arith, nat_tests))

@@ -1,7 +1,7 @@
 -- The words of an event line say what it asks.
 use Rattle.std.proofs.Common.{◌≡◌, ◌^◌, ◌<◌, ◌==◌, ℕ, true, ◌&&◌, List, length, nat_lt, nat_le, refl, arith, lit<}
 use Rattle.std.specs.Prelude.{All, if◌then◌else◌}
-use Rattle.std.proofs.lemmas.Bool.{and_from, and_parts}
+use Rattle.std.proofs.lemmas.Bool.{and_parts}
 use Rattle.std.proofs.lemmas.Bool.Decides.{nat_tests}
 use Rattle.arrayvec.specs.ArrayVec.{ArrayVec}
 use Rattle.aoe_base.specs.declared.address.TargetId.{TargetId}
@@ -23,15 +23,15 @@ use Rattle.aoe_script.proofs.AskedBack.{config_is, flush_is, identify_is, masks_
 
 tick_is : (ms : ℕ) → ms < 2 ^ 64 → IsSaid (event_words (Tick ms)) (Asks (Tick ms))
 unfolding said
-tick_is ms small = record { said_is = rw (number_is ms small) refl; are_words = and_from _ _ (number_word ms small) refl; few = omega arith }
+tick_is ms small = record { said_is = rw (number_is ms small) refl; are_words = rw (number_word ms small) refl; few = omega arith }
 
 pass_is : (n : ℕ) → n < 2 ^ 64 → IsSaid (event_words (Pass n)) (Asks (Pass n))
 unfolding said
-pass_is n small = record { said_is = rw (number_is n small) refl; are_words = and_from _ _ (number_word n small) refl; few = omega arith }
+pass_is n small = record { said_is = rw (number_is n small) refl; are_words = rw (number_word n small) refl; few = omega arith }
 
 skip_is : (n : ℕ) → n < 2 ^ 64 → IsSaid (event_words (Skip n)) (Asks (Skip n))
 unfolding said
-skip_is n small = record { said_is = rw (number_is n small) refl; are_words = and_from _ _ (number_word n small) refl; few = omega arith }
+skip_is n small = record { said_is = rw (number_is n small) refl; are_words = rw (number_word n small) refl; few = omega arith }
 
 again_is : IsSaid (event_words Again) (Asks Again)
 unfolding said
@@ -41,28 +41,24 @@ deliver_is : (frame : ℕ) (station : ArrayVec ℕ) → frame < 2 ^ 64 → is_na
 unfolding said
 deliver_is frame station small named = record {
   said_is = rw (number_is frame small, name_back station named) refl;
-  are_words = and_from _ _ (number_word frame small) (and_from _ _ (name_word station named) refl);
+  are_words = rw (number_word frame small, name_word station named) refl;
   few = omega arith;
 }
 
 inject_is : (bytes : List ℕ) → All IsByte bytes → IsSaid (event_words (Inject bytes)) (Asks (Inject bytes))
 unfolding said
-inject_is bytes small = record { said_is = rw (bytes_back bytes small) refl; are_words = and_from _ _ (bytes_word bytes small) refl; few = omega arith }
+inject_is bytes small = record { said_is = rw (bytes_back bytes small) refl; are_words = rw (bytes_word bytes small) refl; few = omega arith }
 
 crash_is : (shelf : ArrayVec ℕ) (mode : Loss) → is_name shelf ≡ true → FitsLoss mode → IsSaid (event_words (Crash shelf mode)) (Asks (Crash shelf mode))
 unfolding said
-crash_is shelf mode named fits = record {
-  said_is = rw (name_back shelf named, mode_back mode fits) refl;
-  are_words = and_from _ _ (name_word shelf named) (and_from _ _ (mode_word mode fits) refl);
-  few = omega arith;
-}
+crash_is shelf mode named fits = record { said_is = rw (name_back shelf named, mode_back mode fits) refl; are_words = rw (name_word shelf named, mode_word mode fits) refl; few = omega arith }
 
 module _ (devices : DeviceLaw) (dev : TargetId) (known : is_device dev ≡ true) where
   fail_is : (which : Which) (k : ℕ) → k < 2 ^ 64 → IsSaid (event_words (Fail dev which k)) (Asks (Fail dev which k))
   unfolding said
   fail_is which k small = record {
     said_is = rw (device_back devices dev known, which_back which, number_is k small) refl;
-    are_words = and_from _ _ (device_word dev known) (and_from _ _ (which_word which) (and_from _ _ (number_word k small) refl));
+    are_words = rw (device_word dev known, which_word which, number_word k small) refl;
     few = omega arith;
   }
 
@@ -70,7 +66,7 @@ module _ (devices : DeviceLaw) (dev : TargetId) (known : is_device dev ≡ true)
   unfolding said
   stop_is which k mode small fits = record {
     said_is = rw (device_back devices dev known, which_back which, number_is k small, mode_back mode fits) refl;
-    are_words = and_from _ _ (device_word dev known) (and_from _ _ (which_word which) (and_from _ _ (number_word k small) (and_from _ _ (mode_word mode fits) refl)));
+    are_words = rw (device_word dev known, which_word which, number_word k small, mode_word mode fits) refl;
     few = omega arith;
   }
 

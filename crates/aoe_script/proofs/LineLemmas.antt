@@ -7,9 +7,6 @@ use Rattle.std.proofs.lemmas.List.{take_all, drop_all}
 use Rattle.std.proofs.lemmas.List.Sums.{passes_at_first}
 use Rattle.aoe_script.proofs.SplitLemmas.{cut}
 
-is_feed : ℕ → Bool
-is_feed c = c == 10
-
 tail_is : (x y : List ℕ) (xs ys : List (List ℕ)) → x ∷ xs ≡ y ∷ ys → xs ≡ ys
 tail_is x y xs ys e = cc
 

@@ -2,7 +2,7 @@
 use Rattle.std.proofs.Common.{◌≡◌, ◌^◌, ◌<◌, ◌≤◌, ℕ, true, ◌&&◌, length, Option, Some, None, nat_le, refl, arith, lit<}
 use Rattle.std.specs.Prelude.{All}
 use Rattle.std.specs.List.{list_all}
-use Rattle.std.proofs.lemmas.Bool.{and_from, and_parts}
+use Rattle.std.proofs.lemmas.Bool.{and_parts}
 use Rattle.std.proofs.lemmas.Bool.Decides.{nat_tests}
 use Rattle.arrayvec.specs.ArrayVec.{ArrayVec}
 use Rattle.aoe_base.specs.declared.address.Mac.{Mac}
@@ -30,19 +30,14 @@ few_ports ports e =
 module _ (law : AddressLaw) where
   life_is : (ms : ℕ) → ms < 2 ^ 64 → IsSaid (setup_words (Life ms)) (Declares (Life ms))
   unfolding said
-  life_is ms small = record {
-    said_is = rw (number_is ms small) refl;
-    are_words = and_from _ _ (number_word ms small) refl;
-    few = omega arith;
-  }
+  life_is ms small = record { said_is = rw (number_is ms small) refl; are_words = rw (number_word ms small) refl; few = omega arith }
 
   shelf_is : (name : ArrayVec ℕ) (major : ℕ) (ports : ArrayVec Mac) (mtu : ℕ) → is_name name ≡ true → major < 2 ^ 64 → are_ports ports ≡ true → mtu < 2 ^ 64 → All IsAddress ports.items
       → IsSaid (setup_words (Shelf name major ports mtu)) (Declares (Shelf name major ports mtu))
   unfolding said
   shelf_is name major ports mtu named high are low fits = record {
     said_is = rw (name_back name named, number_is major high, ports_back law ports.items (few_ports ports are).0 (few_ports ports are).1 fits, number_is mtu low) refl;
-    are_words = and_from _ _ (name_word name named) (and_from _ _ (number_word major high)
-        (and_from _ _ (macs_word law ports.items (few_ports ports are).0 fits) (and_from _ _ (number_word mtu low) refl)));
+    are_words = rw (name_word name named, number_word major high, macs_word law ports.items (few_ports ports are).0 fits, number_word mtu low) refl;
     few = omega arith;
   }
 
@@ -50,7 +45,7 @@ module _ (law : AddressLaw) where
   unfolding said
   slot_is shelf minor sectors named low small = record {
     said_is = rw (name_back shelf named, number_is minor low, number_is sectors small) refl;
-    are_words = and_from _ _ (name_word shelf named) (and_from _ _ (number_word minor low) (and_from _ _ (number_word sectors small) refl));
+    are_words = rw (name_word shelf named, number_word minor low, number_word sectors small) refl;
     few = omega arith;
   }
 
@@ -59,7 +54,7 @@ module _ (law : AddressLaw) where
   unfolding said
   host_is name ports named are fits = record {
     said_is = rw (name_back name named, ports_back law ports.items (few_ports ports are).0 (few_ports ports are).1 fits) refl;
-    are_words = and_from _ _ (name_word name named) (and_from _ _ (macs_word law ports.items (few_ports ports are).0 fits) refl);
+    are_words = rw (name_word name named, macs_word law ports.items (few_ports ports are).0 fits) refl;
     few = omega arith;
   }
 
@@ -68,8 +63,7 @@ module _ (law : AddressLaw) where
   unfolding said
   limited_is name ports room dead named are high low fits = record {
     said_is = rw (name_back name named, ports_back law ports.items (few_ports ports are).0 (few_ports ports are).1 fits, number_is room high, number_is dead low) refl;
-    are_words = and_from _ _ (name_word name named) (and_from _ _ (macs_word law ports.items (few_ports ports are).0 fits)
-        (and_from _ _ (number_word room high) (and_from _ _ (number_word dead low) refl)));
+    are_words = rw (name_word name named, macs_word law ports.items (few_ports ports are).0 fits, number_word room high, number_word dead low) refl;
     few = omega arith;
   }
 
@@ -77,7 +71,7 @@ module _ (law : AddressLaw) where
   unfolding said
   attach_is host shelf minor named other low = record {
     said_is = rw (name_back host named, name_back shelf other, number_is minor low) refl;
-    are_words = and_from _ _ (name_word host named) (and_from _ _ (name_word shelf other) (and_from _ _ (number_word minor low) refl));
+    are_words = rw (name_word host named, name_word shelf other, number_word minor low) refl;
     few = omega arith;
   }
 

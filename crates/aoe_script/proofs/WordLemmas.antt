@@ -7,9 +7,6 @@ use Rattle.std.proofs.Math.Seq.{take-append_seam}
 use Rattle.aoe_script.proofs.SplitLemmas.{cut, position_or_len-le}
 use Rattle.aoe_script.specs.Words.{few_words, words}
 
-is_space : ℕ → Bool
-is_space c = c == 32
-
 space_first : (c : ℕ) (line : List ℕ) → (c == 32) ≡ true → words (c ∷ line) ≡ words line
 unfolding words
 space_first c line is =

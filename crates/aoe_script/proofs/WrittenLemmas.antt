@@ -24,9 +24,6 @@ own = numerals_by_weight _ (search rules) decimal_value (search rules)
 pub digits_are : (n : ℕ) → n < 2 ^ 64 → list_all is_ascii_digit (decimal n) ≡ true
 digits_are n small = digits_decimal own n small
 
-digit_part : (c : ℕ) → is_ascii_digit c ≡ true → is_part c ≡ true
-digit_part c e = grind (arith, nat_tests)
-
 digit_plain : (c : ℕ) → is_ascii_digit c ≡ true → is_plain c ≡ true
 digit_plain c e = grind (arith, nat_tests)
 

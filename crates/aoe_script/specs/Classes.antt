@@ -13,6 +13,8 @@ use Rattle.aoe_disk.specs.declared.loss.Loss.TheVariants.{Keep as Kept, Old, Tor
 use Rattle.aoe_lists.specs.declared.dir.Dir.{Dir}
 use Rattle.aoe_script.specs.declared.event.Which.{Which}
 use Rattle.aoe_script.specs.declared.event.Which.TheVariants.{Store, Keep}
+use Rattle.aoe_script.specs.declared.keyword.Keyword.{Keyword}
+use Rattle.aoe_script.specs.declared.keyword.Keyword.TheVariants.{Life, Shelf, Slot, Host, Attach, Read, Write, Flush, Identify, Config, Masks, Reserve, Tick, Deliver, Pass, Skip, Again, Inject, Fail, Stop, Crash}
 use Rattle.aoe_script.specs.Words.{Text}
 
 -- ---- names and numbers
@@ -86,6 +88,22 @@ unfoldable pub dirs_of : Text → Option (List Dir)
 dirs_of text = at_most 64 (each dir_of (slice_split (λ c. c == 44) text))
 
 -- ---- fixed words
+
+-- the first words
+abbrev pub keywords : List (Text × Keyword)
+keywords =
+    (codes "life", Life) ∷ (codes "shelf", Shelf) ∷ (codes "slot", Slot) ∷ (codes "host", Host) ∷ (codes "attach", Attach)
+    ∷ (codes "read", Read) ∷ (codes "write", Write) ∷ (codes "flush", Flush) ∷ (codes "identify", Identify)
+    ∷ (codes "config", Config) ∷ (codes "masks", Masks) ∷ (codes "reserve", Reserve)
+    ∷ (codes "tick", Tick) ∷ (codes "deliver", Deliver) ∷ (codes "pass", Pass) ∷ (codes "skip", Skip) ∷ (codes "again", Again) ∷ (codes "inject", Inject)
+    ∷ (codes "fail", Fail) ∷ (codes "stop", Stop) ∷ (codes "crash", Crash) ∷ []
+
+abbrev pub listed : Text → List (Text × Keyword) → Option Keyword
+listed word [] = None
+listed word (row ∷ rows) = if bytes_eq word row.0 then Some row.1 else listed word rows
+
+abbrev pub keyword_of : Text → Option Keyword
+keyword_of word = listed word keywords
 
 -- the fields CCmd and RCmd of an action (AoEr11, "Query Config Information", "Reserve / Release")
 abbrev pub ccmd_of : Text → Option ℕ

@@ -1,7 +1,6 @@
 -- The lines of the grammar: what the words of a line say.
-use Rattle.std.specs.Prelude.{ℕ, Bool, true, false, ◌&&◌, ◌||◌, ◌==◌, List, [], length, nat_le, slice_index, Option, Some, None, if◌then◌else◌, is_some, option_and_then, option_map, codes}
+use Rattle.std.specs.Prelude.{ℕ, Bool, true, false, ◌&&◌, ◌||◌, ◌==◌, List, [], length, nat_le, slice_index, Option, Some, None, if◌then◌else◌, is_some, option_and_then, option_map}
 use Rattle.std.specs.Option.{option_map_or}
-use Rattle.std.specs.Str.{bytes_eq}
 use Rattle.arrayvec.specs.ArrayVec.{ArrayVec}
 use Rattle.aoe_base.specs.Names.{device_of}
 use Rattle.aoe_base.specs.declared.address.Mac.{Mac}
@@ -14,7 +13,9 @@ use Rattle.aoe_script.specs.declared.setup.Setup.{Setup}
 use Rattle.aoe_script.specs.declared.setup.Setup.TheVariants.{Life, Shelf, Slot, Host, Attach}
 use Rattle.aoe_script.specs.declared.line.Line.{Line}
 use Rattle.aoe_script.specs.declared.line.Line.TheVariants.{Blank, Declares, Asks, Bad}
-use Rattle.aoe_script.specs.Classes.{byte_of, bytes_of, ccmd_of, dirs_of, edit_of, list_of, mode_of, name_of, number, ports_of, rcmd_of, which_of}
+use Rattle.aoe_script.specs.declared.keyword.Keyword.{Keyword}
+use Rattle.aoe_script.specs.declared.keyword.Keyword.TheVariants.{Life as LifeLine, Shelf as ShelfLine, Slot as SlotLine, Host as HostLine, Attach as AttachLine, Read as ReadLine, Write as WriteLine, Flush as FlushLine, Identify as IdentifyLine, Config as ConfigLine, Masks as MasksLine, Reserve as ReserveLine, Tick as TickLine, Deliver as DeliverLine, Pass as PassLine, Skip as SkipLine, Again as AgainLine, Inject as InjectLine, Fail as FailLine, Stop as StopLine, Crash as CrashLine}
+use Rattle.aoe_script.specs.Classes.{byte_of, bytes_of, ccmd_of, dirs_of, edit_of, keyword_of, list_of, mode_of, name_of, number, ports_of, rcmd_of, which_of}
 use Rattle.aoe_script.specs.Words.{Text, few_words, word_at}
 
 -- ---- parts that several forms have
@@ -146,63 +147,51 @@ stop_of ws =
 abbrev pub crash_of : List Text → Option Event
 crash_of ws = option_and_then (λ shelf. option_map (λ mode. Crash shelf mode) (mode_of (word_at ws 2))) (name_of (word_at ws 1))
 
--- ---- the table of lines: the first word, the number of words with the fixed words, what it says
+-- ---- the table of lines
 
 -- a line with so many words says this, where each word is of its class
-abbrev pub setup_row : Bool → Option Setup → Line
-setup_row false setup = Bad Word
-setup_row true None = Bad Value
-setup_row true (Some setup) = Declares setup
+abbrev pub declares : Bool → Option Setup → Line
+declares false setup = Bad Word
+declares true None = Bad Value
+declares true (Some setup) = Declares setup
 
-abbrev pub event_row : Bool → Option Event → Line
-event_row false event = Bad Word
-event_row true None = Bad Value
-event_row true (Some event) = Asks event
+abbrev pub asks : Bool → Option Event → Line
+asks false event = Bad Word
+asks true None = Bad Value
+asks true (Some event) = Asks event
 
-abbrev pub fault_line : List Text → Line
-fault_line ws =
-    if bytes_eq (word_at ws 0) (codes "fail") then event_row (length ws == 4 && is_some (which_of (word_at ws 2))) (fail_of ws)
-    else if bytes_eq (word_at ws 0) (codes "stop") then event_row (length ws == 5 && is_some (which_of (word_at ws 2))) (stop_of ws)
-    else if bytes_eq (word_at ws 0) (codes "crash") then event_row (length ws == 3) (crash_of ws)
-    else Bad Word
+-- how many words there are with the first, which of them are fixed, and what they say
+abbrev pub row_of : Keyword → List Text → Line
+row_of LifeLine ws = declares (length ws == 2) (life_of ws)
+row_of ShelfLine ws = declares (length ws == 5) (shelf_of ws)
+row_of SlotLine ws = declares (length ws == 4) (slot_of ws)
+row_of HostLine ws = declares (length ws == 3 || length ws == 5) (host_of ws)
+row_of AttachLine ws = declares (length ws == 4) (attach_of ws)
+row_of ReadLine ws = asks (length ws == 5) (read_of ws)
+row_of WriteLine ws = asks (length ws == 6) (write_of ws)
+row_of FlushLine ws = asks (length ws == 3) (flush_of ws)
+row_of IdentifyLine ws = asks (length ws == 3) (identify_of ws)
+row_of ConfigLine ws = asks (has_config_shape ws) (config_of ws)
+row_of MasksLine ws = asks (has_masks_shape ws) (masks_of ws)
+row_of ReserveLine ws = asks (has_reserve_shape ws) (reserve_of ws)
+row_of TickLine ws = asks (length ws == 2) (tick_of ws)
+row_of DeliverLine ws = asks (length ws == 3) (deliver_of ws)
+row_of PassLine ws = asks (length ws == 2) (pass_of ws)
+row_of SkipLine ws = asks (length ws == 2) (skip_of ws)
+row_of AgainLine ws = asks (length ws == 1) (Some Again)
+row_of InjectLine ws = asks (length ws == 2) (inject_of ws)
+row_of FailLine ws = asks (length ws == 4 && is_some (which_of (word_at ws 2))) (fail_of ws)
+row_of StopLine ws = asks (length ws == 5 && is_some (which_of (word_at ws 2))) (stop_of ws)
+row_of CrashLine ws = asks (length ws == 3) (crash_of ws)
 
-abbrev pub network_line : List Text → Line
-network_line ws =
-    if bytes_eq (word_at ws 0) (codes "tick") then event_row (length ws == 2) (tick_of ws)
-    else if bytes_eq (word_at ws 0) (codes "deliver") then event_row (length ws == 3) (deliver_of ws)
-    else if bytes_eq (word_at ws 0) (codes "pass") then event_row (length ws == 2) (pass_of ws)
-    else if bytes_eq (word_at ws 0) (codes "skip") then event_row (length ws == 2) (skip_of ws)
-    else if bytes_eq (word_at ws 0) (codes "again") then event_row (length ws == 1) (Some Again)
-    else if bytes_eq (word_at ws 0) (codes "inject") then event_row (length ws == 2) (inject_of ws)
-    else fault_line ws
-
-abbrev pub list_line : List Text → Line
-list_line ws =
-    if bytes_eq (word_at ws 0) (codes "config") then event_row (has_config_shape ws) (config_of ws)
-    else if bytes_eq (word_at ws 0) (codes "masks") then event_row (has_masks_shape ws) (masks_of ws)
-    else if bytes_eq (word_at ws 0) (codes "reserve") then event_row (has_reserve_shape ws) (reserve_of ws)
-    else network_line ws
-
-abbrev pub data_line : List Text → Line
-data_line ws =
-    if bytes_eq (word_at ws 0) (codes "read") then event_row (length ws == 5) (read_of ws)
-    else if bytes_eq (word_at ws 0) (codes "write") then event_row (length ws == 6) (write_of ws)
-    else if bytes_eq (word_at ws 0) (codes "flush") then event_row (length ws == 3) (flush_of ws)
-    else if bytes_eq (word_at ws 0) (codes "identify") then event_row (length ws == 3) (identify_of ws)
-    else list_line ws
-
-abbrev pub setup_line : List Text → Line
-setup_line ws =
-    if bytes_eq (word_at ws 0) (codes "life") then setup_row (length ws == 2) (life_of ws)
-    else if bytes_eq (word_at ws 0) (codes "shelf") then setup_row (length ws == 5) (shelf_of ws)
-    else if bytes_eq (word_at ws 0) (codes "slot") then setup_row (length ws == 4) (slot_of ws)
-    else if bytes_eq (word_at ws 0) (codes "host") then setup_row (length ws == 3 || length ws == 5) (host_of ws)
-    else if bytes_eq (word_at ws 0) (codes "attach") then setup_row (length ws == 4) (attach_of ws)
-    else data_line ws
+-- a first word that no row has is bad
+abbrev pub any_row : Option Keyword → List Text → Line
+any_row None ws = Bad Word
+any_row (Some keyword) ws = row_of keyword ws
 
 -- what the words of a line say: nothing where there are none, or where the first begins with # (35)
 unfoldable pub said : List Text → Line
-said ws = if length ws == 0 || slice_index (word_at ws 0) 0 == 35 then Blank else setup_line ws
+said ws = if length ws == 0 || slice_index (word_at ws 0) 0 == 35 then Blank else any_row (keyword_of (word_at ws 0)) ws
 
 -- what a line says
 abbrev pub line_of : Text → Line

@@ -19,6 +19,7 @@ mod classes;
 pub mod cuts;
 mod event;
 mod forms;
+mod keyword;
 mod laws;
 mod line;
 mod lines;
@@ -33,17 +34,18 @@ mod setup;
 pub mod spelling;
 mod standing;
 mod submissions;
+mod table;
 mod types;
 mod words;
 
 pub use event::{Event, Which};
-pub use forms::read_line;
 pub use laws::{printed_line_reads_back, printed_script_reads_back};
 pub use line::Line;
 pub use print::print_script;
 pub use refusal::{ScriptRefusal, Why};
 pub use script::{LONGEST_TEXT, MAX_EVENTS, Script, read_script};
 pub use setup::{Name, Setup};
+pub use table::read_line;
 
 #[cfg(test)]
 mod tests;

@@ -8,8 +8,14 @@ use crate::classes::is_name;
 use crate::event::Event;
 use crate::setup::{Name, Setup};
 use aoe_base::{Blob, Mac, Ports, TargetId, all_unique};
-use aoe_lists::{Dir, MAX_DIRS};
+use aoe_lists::{Dir, MAX_CONFIG, MAX_DIRS};
 use arrayvec::ArrayVec;
+
+/// The greatest number of a shelf: the next is that of all shelves.
+const LAST_MAJOR: u64 = 65_534;
+
+/// The greatest number of a slot: the next is that of all slots.
+const LAST_MINOR: u64 = 254;
 
 /// The first sector that has no 48-bit address.
 const END_OF_SECTORS: u64 = 281_474_976_710_656;
@@ -53,7 +59,7 @@ fn is_limit(room: Option<u64>, dead: Option<u64>) -> bool
 fn is_device(dev: &TargetId) -> bool
     ensures { result ≡ is_device dev.now }
 {
-    dev.major <= 65534 && dev.minor <= 254
+    u64::from(dev.major) <= LAST_MAJOR && u64::from(dev.minor) <= LAST_MINOR
 }
 
 /// Whether these can be a host and a device.
@@ -74,7 +80,7 @@ fn is_span(at: u64, count: u64) -> bool
 fn has_text(ccmd: u8, text: &Blob) -> bool
     ensures { result ≡ nat_le (length text.now) (if ccmd == 0 then 0 else 1024) }
 {
-    text.bytes().len() <= if ccmd == 0 { 0 } else { 1024 }
+    text.bytes().len() <= if ccmd == 0 { 0 } else { MAX_CONFIG }
 }
 
 /// Whether an action on the mask list can have these directives: a read has none.
@@ -82,7 +88,7 @@ fn has_dirs(edit: bool, dirs: &ArrayVec<Dir, MAX_DIRS>) -> bool
     ensures { result ≡ is_within (if edit then 1 else 0) (if edit then 64 else 0) (length dirs.now.items) }
 {
     if edit {
-        is_within(1, 64, dirs.len() as u64)
+        is_within(1, MAX_DIRS as u64, dirs.len() as u64)
     } else {
         dirs.len() == 0
     }
@@ -92,7 +98,7 @@ fn has_dirs(edit: bool, dirs: &ArrayVec<Dir, MAX_DIRS>) -> bool
 fn has_list(rcmd: u8, list: &ArrayVec<Mac, MAX_DIRS>) -> bool
     ensures { result ≡ nat_le (length list.now.items) (if rcmd == 0 then 0 else 64) }
 {
-    list.len() <= if rcmd == 0 { 0 } else { 64 }
+    list.len() <= if rcmd == 0 { 0 } else { MAX_DIRS }
 }
 
 impl Setup {
@@ -108,14 +114,14 @@ impl Setup {
                 ports,
                 mtu,
             } => is_name(name)
-                && *major <= 65534
+                && *major <= LAST_MAJOR
                 && are_ports(ports)
                 && is_within(1500, 9000, *mtu),
             Setup::Slot {
                 shelf,
                 minor,
                 sectors,
-            } => is_name(shelf) && *minor <= 254 && is_within(1, 65536, *sectors),
+            } => is_name(shelf) && *minor <= LAST_MINOR && is_within(1, 65536, *sectors),
             Setup::Host {
                 name,
                 ports,
@@ -123,7 +129,7 @@ impl Setup {
                 dead,
             } => is_name(name) && are_ports(ports) && is_limit(*room, *dead),
             Setup::Attach { host, shelf, minor } => {
-                is_name(host) && is_name(shelf) && *minor <= 254
+                is_name(host) && is_name(shelf) && *minor <= LAST_MINOR
             }
         }
     }

@@ -1,5 +1,5 @@
 //! What is wrong with a line, by what stands before it.
-ghost use Rattle.std.specs.Prelude.{◌≡◌, ◌≤◌, ◌+◌, slice_range, true, false, not, ◌||◌, ◌&&◌, length, None};
+ghost use Rattle.std.specs.Prelude.{◌≡◌, ◌≤◌, true, false, not, ◌||◌, ◌&&◌, length, None};
 ghost use Rattle.std.specs.List.{list_any};
 ghost use Rattle.aoe_base.specs.Addresses.{source_of};
 ghost use Rattle.aoe_script.specs.Rules.{are_too_many, asked_why, attaches, declared_why, event_why, first_of, has_major, has_port, is_event, is_full, is_host_named, is_shelf, is_shelf_named, is_slot, is_slot_of, is_station_named, is_taken, known_why, named_why, setup_why, unless};
@@ -96,17 +96,6 @@ impl Setup {
             return Some(Why::Place);
         }
         self.declared_why(setups)
-    }
-}
-
-/// The `N` bytes from `at` on.
-fn array_at<const N: usize>(bytes: &[u8], at: usize) -> [u8; N]
-    requires { at + N ≤ length bytes.now }
-    ensures { result ≡ slice_range bytes.now at (at + N) }
-{
-    match bytes[at..at + N].first_chunk::<N>() {
-        Some(array) => *array,
-        None => unreachable!(),
     }
 }
 

@@ -4,11 +4,11 @@ ghost use Rattle.aoe_script.specs.Lines.{FailsFor, IsScript, ScriptLines, line_r
 ghost use Rattle.aoe_script.specs.Rules.{event_why, setup_why};
 
 use crate::event::Event;
-use crate::forms::read_line;
 use crate::line::Line;
 use crate::lines::next_line;
 use crate::refusal::ScriptRefusal;
 use crate::setup::Setup;
+use crate::table::read_line;
 use std::alloc::Global;
 use std::marker::Model;
 

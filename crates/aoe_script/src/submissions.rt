@@ -1,11 +1,9 @@
-//! The lines by which hosts ask devices for something.
+//! The forms of lines by which hosts ask devices for something.
 ghost use Rattle.std.specs.Prelude.{◌≡◌, IfOk, option_map};
-ghost use Rattle.aoe_script.specs.Forms.{config_of, config_text, data_line, event_row, flush_of, has_config_shape, has_masks_shape, has_reserve_shape, identify_of, list_line, mask_dirs, masks_of, read_of, reserve_list, reserve_of, write_of};
+ghost use Rattle.aoe_script.specs.Forms.{config_of, config_text, flush_of, has_config_shape, has_masks_shape, has_reserve_shape, identify_of, mask_dirs, masks_of, read_of, reserve_list, reserve_of, write_of};
 
 use crate::classes::{byte_of, bytes_of, ccmd_of, edit_of, name_of, number, rcmd_of};
 use crate::event::Event;
-use crate::line::Line;
-use crate::network::{event_row, network_line};
 use crate::parts::{dirs_of, list_of};
 use crate::words::Words;
 use aoe_base::{Blob, Mac, NoMemory, read_device};
@@ -14,7 +12,7 @@ use arrayvec::ArrayVec;
 use std::alloc::Global;
 
 /// `read HOST DEV AT COUNT`
-fn read_of(words: &Words) -> Option<Event>
+pub(crate) fn read_of(words: &Words) -> Option<Event>
     ensures { result ≡ read_of words.now }
 {
     Some(Event::Read {
@@ -26,7 +24,7 @@ fn read_of(words: &Words) -> Option<Event>
 }
 
 /// `write HOST DEV AT COUNT HH`
-fn write_of(words: &Words) -> Option<Event>
+pub(crate) fn write_of(words: &Words) -> Option<Event>
     ensures { result ≡ write_of words.now }
 {
     Some(Event::Write {
@@ -39,7 +37,7 @@ fn write_of(words: &Words) -> Option<Event>
 }
 
 /// `flush HOST DEV`
-fn flush_of(words: &Words) -> Option<Event>
+pub(crate) fn flush_of(words: &Words) -> Option<Event>
     ensures { result ≡ flush_of words.now }
 {
     Some(Event::Flush {
@@ -49,7 +47,7 @@ fn flush_of(words: &Words) -> Option<Event>
 }
 
 /// `identify HOST DEV`
-fn identify_of(words: &Words) -> Option<Event>
+pub(crate) fn identify_of(words: &Words) -> Option<Event>
     ensures { result ≡ identify_of words.now }
 {
     Some(Event::Identify {
@@ -69,7 +67,7 @@ fn config_text(alloc: Global, ccmd: u8, words: &Words) -> Result<Option<Blob>, N
 }
 
 /// `config HOST DEV read`, or an action with HEX
-fn config_of(alloc: Global, words: &Words) -> Result<Option<Event>, NoMemory>
+pub(crate) fn config_of(alloc: Global, words: &Words) -> Result<Option<Event>, NoMemory>
     ensures { IfOk result (λ r. r ≡ config_of words.now) }
 {
     let (Some(host), Some(dev), Some(ccmd)) = (
@@ -91,7 +89,7 @@ fn config_of(alloc: Global, words: &Words) -> Result<Option<Event>, NoMemory>
 }
 
 /// Whether the action on the config string has its words.
-fn has_config_shape(words: &Words) -> bool
+pub(crate) fn has_config_shape(words: &Words) -> bool
     ensures { result ≡ has_config_shape words.now }
 {
     match ccmd_of(words.at(3)) {
@@ -112,7 +110,7 @@ fn mask_dirs(edit: bool, words: &Words) -> Option<ArrayVec<Dir, MAX_DIRS>>
 }
 
 /// `masks HOST DEV read`, or `edit DIRS`
-fn masks_of(words: &Words) -> Option<Event>
+pub(crate) fn masks_of(words: &Words) -> Option<Event>
     ensures { result ≡ masks_of words.now }
 {
     let host = name_of(words.at(1))?;
@@ -128,7 +126,7 @@ fn masks_of(words: &Words) -> Option<Event>
 }
 
 /// Whether the action on the mask list has its words.
-fn has_masks_shape(words: &Words) -> bool
+pub(crate) fn has_masks_shape(words: &Words) -> bool
     ensures { result ≡ has_masks_shape words.now }
 {
     match edit_of(words.at(3)) {
@@ -149,7 +147,7 @@ fn reserve_list(rcmd: u8, words: &Words) -> Option<ArrayVec<Mac, MAX_DIRS>>
 }
 
 /// `reserve HOST DEV read`, or an action with LIST
-fn reserve_of(words: &Words) -> Option<Event>
+pub(crate) fn reserve_of(words: &Words) -> Option<Event>
     ensures { result ≡ reserve_of words.now }
 {
     let host = name_of(words.at(1))?;
@@ -165,47 +163,11 @@ fn reserve_of(words: &Words) -> Option<Event>
 }
 
 /// Whether the action on the reserve list has its words.
-fn has_reserve_shape(words: &Words) -> bool
+pub(crate) fn has_reserve_shape(words: &Words) -> bool
     ensures { result ≡ has_reserve_shape words.now }
 {
     match rcmd_of(words.at(3)) {
         Some(rcmd) => words.len() == if rcmd == 0 { 4 } else { 5 },
         None => false,
-    }
-}
-
-/// The lines on the lists of a device, and those behind them in the grammar.
-fn list_line(alloc: Global, words: &Words) -> Result<Line, NoMemory>
-    ensures { IfOk result (λ line. line ≡ list_line words.now) }
-{
-    let first = words.at(0);
-    if first == b"config".as_slice() {
-        let config = config_of(alloc, words)?;
-        Ok(event_row(has_config_shape(words), config))
-    } else if first == b"masks".as_slice() {
-        Ok(event_row(has_masks_shape(words), masks_of(words)))
-    } else if first == b"reserve".as_slice() {
-        Ok(event_row(has_reserve_shape(words), reserve_of(words)))
-    } else {
-        network_line(alloc, words)
-    }
-}
-
-/// The lines on the sectors of a device, and those behind them in the grammar.
-pub(crate) fn data_line(alloc: Global, words: &Words) -> Result<Line, NoMemory>
-    ensures { IfOk result (λ line. line ≡ data_line words.now) }
-{
-    let first = words.at(0);
-    let count = words.len();
-    if first == b"read".as_slice() {
-        Ok(event_row(count == 5, read_of(words)))
-    } else if first == b"write".as_slice() {
-        Ok(event_row(count == 6, write_of(words)))
-    } else if first == b"flush".as_slice() {
-        Ok(event_row(count == 3, flush_of(words)))
-    } else if first == b"identify".as_slice() {
-        Ok(event_row(count == 3, identify_of(words)))
-    } else {
-        list_line(alloc, words)
     }
 }
