@@ -5,6 +5,8 @@ mod IndexLemmas
 mod ListLemmas
 mod MoveLemmas
 mod OrderLemmas
+mod PastLemmas
+mod PlaceLemmas
 mod QueueLemmas
 mod ReleaseLemmas
 mod StageLemmas

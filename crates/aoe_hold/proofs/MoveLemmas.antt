@@ -85,10 +85,10 @@ take-suc [] i d below = absurd (omega (arith, below))
 take-suc (x ∷ xs) zero d below = refl
 take-suc (x ∷ xs) (suc i) d below = ap (λ (l : List Command). x ∷ l) (take-suc xs i d (omega (arith, below)))
 
-take-more : (xs : List Command) (i : ℕ) (d : Command) → i < length xs → take (i + 1) xs ≡ take i xs ++ get_or xs i d ∷ []
+pub take-more : (xs : List Command) (i : ℕ) (d : Command) → i < length xs → take (i + 1) xs ≡ take i xs ++ get_or xs i d ∷ []
 take-more xs i d below = let next : i + 1 ≡ suc i = omega arith in ap (λ n. take n xs) next ∙ take-suc xs i d below
 
-take-whole : (xs : List Command) (i : ℕ) → length xs ≤ i → take i xs ≡ xs
+pub take-whole : (xs : List Command) (i : ℕ) → length xs ≤ i → take i xs ≡ xs
 take-whole [] zero least = refl
 take-whole [] (suc i) least = refl
 take-whole (x ∷ xs) zero least = absurd (omega (arith, least))

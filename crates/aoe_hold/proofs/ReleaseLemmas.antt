@@ -169,7 +169,7 @@ lingers-ended life now ticket c e free = at (nat_eq e.ticket.0 ticket)
     at true = end-lingers life now (comes_first e c) (has_effect e.kind) (rests_on_effects c.kind) e.stage free
     at false = refl
 
-none-any : (p : Command → Bool) (xs : List Command) → list_any p xs ≡ false → All (λ x. p x ≡ false) xs
+pub none-any : (p : Command → Bool) (xs : List Command) → list_any p xs ≡ false → All (λ x. p x ≡ false) xs
 none-any p [] out = All-nil (λ x. p x ≡ false)
 none-any p (x ∷ xs) out = let parts = or_parts (p x) (list_any p xs) out in All-cons (λ y. p y ≡ false) x xs parts.0 (none-any p xs parts.1)
 

@@ -135,7 +135,7 @@ ready-rises (w ∷ ready) order past =
       ready-rises ready order.1 rest,
     )
 
-all-true : (p : Command → Bool) (xs : List Command) → list_all p xs ≡ true → All (λ x. p x ≡ true) xs
+pub all-true : (p : Command → Bool) (xs : List Command) → list_all p xs ≡ true → All (λ x. p x ≡ true) xs
 all-true p [] all = All-nil (λ x. p x ≡ true)
 all-true p (x ∷ xs) all = let parts = and_parts (p x) (list_all p xs) all in All-cons (λ y. p y ≡ true) x xs parts.0 (all-true p xs parts.1)
 

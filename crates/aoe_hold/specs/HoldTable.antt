@@ -1,5 +1,5 @@
 -- What a host keeps of its commands at one device.
-use Rattle.std.specs.Prelude.{ℕ, ◌≡◌, ◌&&◌, Bool, true, false, not, nat_eq, nat_lt, nat_le, List, [], ◌∷◌, ◌++◌, Option, Some, None}
+use Rattle.std.specs.Prelude.{ℕ, ◌≡◌, ◌<◌, ◌&&◌, Bool, true, false, not, nat_eq, nat_lt, nat_le, List, [], ◌∷◌, ◌++◌, Option, Some, None, All}
 use Rattle.std.specs.List.{filter, list_all}
 use Rattle.aoe_base.specs.declared.counted.Ticket.{Ticket}
 use Rattle.aoe_base.specs.declared.sectors.Span.{Span}
@@ -7,7 +7,7 @@ use Rattle.aoe_base.specs.declared.counted.Millis.{Millis}
 use Rattle.aoe_hold.specs.declared.command.Command.{Command}
 use Rattle.aoe_hold.specs.declared.command.Kind.{Kind}
 use Rattle.aoe_hold.specs.declared.command.Stage.TheVariants.{Unsent}
-use Rattle.aoe_hold.specs.Commands.{after_stage, clear_tickets, live, stage_finished, stage_sent, unsent_count}
+use Rattle.aoe_hold.specs.Commands.{after_stage, clear_tickets, is_past, live, stage_finished, stage_sent, unsent_count}
 
 -- how long a frame can arrive, the latest time that was told, the greatest ticket entered, and the commands
 -- that are held, in the order of their tickets; and the tickets of those that were found clear and weren't sent
@@ -65,3 +65,7 @@ is_up_to (Some greatest) commands = list_all (λ c. nat_le c.ticket.0 greatest) 
 abbrev pub IsSound : Option ℕ → ℕ → List Command → Type 0
 IsSound greatest unsent commands =
     (is_ascending commands ≡ true) × (is_up_to greatest commands ≡ true) × (unsent ≡ unsent_count commands)
+
+-- before this time none of the commands is past
+abbrev pub NonePastBefore : ℕ → ℕ → List Command → Type 0
+NonePastBefore life from commands = (now : ℕ) → now < from → All (λ c. is_past life now c ≡ false) commands

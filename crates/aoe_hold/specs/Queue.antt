@@ -1,5 +1,5 @@
 -- Commands that may be sent from some time on, in the order of these times.
-use Rattle.std.specs.Prelude.{ℕ, ◌≡◌, ◌+◌, ◌≤◌, ◌&&◌, Bool, not, List, [], nat_le, All}
+use Rattle.std.specs.Prelude.{ℕ, ◌≡◌, ◌+◌, ◌≤◌, ◌&&◌, Bool, not, List, [], nat_eq, nat_le, All}
 use Rattle.std.specs.List.{count_by, list_any}
 use Rattle.aoe_hold.specs.Order.{AreInOrder}
 use Rattle.aoe_hold.specs.declared.command.Command.{Command}
@@ -20,6 +20,9 @@ time_of w = w.from
 
 abbrev pub ticket_of : Waiter → ℕ
 ticket_of w = w.command.ticket.0
+
+abbrev pub has_ticket : ℕ → Waiter → Bool
+has_ticket ticket w = nat_eq w.command.ticket.0 ticket
 
 abbrev pub IsInOrder : List Waiter → Type 0
 IsInOrder waiters = AreInOrder time_of ticket_of waiters

@@ -1,5 +1,5 @@
 //! Commands, and which of them keep others back.
-ghost use Rattle.std.specs.Prelude.{◌≡◌, ◌+◌, ◌&&◌, ℕ, not, nat_le};
+ghost use Rattle.std.specs.Prelude.{◌≡◌, ◌+◌, ◌<◌, ◌&&◌, ℕ, false, not, nat_le};
 ghost use Rattle.aoe_hold.specs.Queue.{blocks, lingers};
 ghost use Rattle.aoe_hold.specs.Commands.{comes_first, conflict, has_effect, is_past, is_unsent, rests_on_effects, stage_finished, stage_sent};
 
@@ -108,6 +108,16 @@ impl Command {
         match self.stage {
             Stage::Finished(last) => now.0.saturating_sub(last.0) > life.0,
             _ => false,
+        }
+    }
+
+    /// The time before which the command isn't past, as long as it isn't sent again.
+    pub fn past_from(&self, life: Millis) -> u128
+        ensures { (now : ℕ) → now < result → is_past life.0 now self.now ≡ false }
+    {
+        match self.stage {
+            Stage::Finished(last) => expiry(last, life),
+            _ => u128::MAX,
         }
     }
 

@@ -1,11 +1,11 @@
 //! The commands of one host at one device.
-ghost use Rattle.std.specs.Prelude.{◌≡◌, ◌+◌, ◌-◌, ◌^◌, ◌<◌, ◌≤◌, ◌&&◌, ℕ, Bool, nat_eq, nat_le, not, cond, false, List, [], ◌∷◌, ◌++◌, length, position, All, Contains, IfNone, IfSome, OnErr, OnOk};
-ghost use Rattle.std.specs.List.{count_by, list_any};
+ghost use Rattle.std.specs.Prelude.{◌≡◌, ◌+◌, ◌-◌, ◌^◌, ◌<◌, ◌≤◌, ◌&&◌, ℕ, Bool, nat_eq, nat_le, not, cond, false, true, List, [], ◌∷◌, ◌++◌, length, position, All, Contains, IfNone, IfSome, OnErr, OnOk};
+ghost use Rattle.std.specs.List.{count_by, filter, list_any};
 ghost use Rattle.std.specs.Option.{ForSome};
 ghost use Rattle.std.specs.Vec.{vec_capacity, vec_len};
 ghost use Rattle.aoe_hold.specs.Commands.{after_stage, clear_tickets, live, stage_finished, stage_sent, unsent_count};
-ghost use Rattle.aoe_hold.specs.HoldTable.{after_finish, after_send, at_time, new_command, no_commands, with_command, Recalls};
-ghost use Rattle.aoe_hold.specs.Queue.{is_blocked, is_released, lingers, Knows, Moved};
+ghost use Rattle.aoe_hold.specs.HoldTable.{after_finish, after_send, at_time, is_ascending, new_command, no_commands, with_command, NonePastBefore, Recalls};
+ghost use Rattle.aoe_hold.specs.Queue.{has_ticket, is_blocked, is_released, lingers, Knows, Moved};
 
 use crate::command::{Command, Kind, Stage};
 use crate::queue::{Queue, Waiter};
@@ -117,18 +117,55 @@ fn make_ready<L: Ledger>(timed: &mut Queue, ready: &mut Queue, now: Millis, step
 }
 
 fn place_of(commands: &[Command], ticket: Ticket) -> Option<usize>
+    requires { is_ascending commands.now ≡ true }
     ensures { result ≡ position (λ c. nat_eq c.ticket.0 ticket.0) commands.now }
 {
-    commands.iter().position(|command| command.ticket == ticket)
+    let at = commands.partition_point(|command| command.ticket < ticket);
+    match commands.get(at) {
+        Some(command) if command.ticket == ticket => Some(at),
+        _ => None,
+    }
 }
 
-/// Drops the commands that no later answer can go by.
-fn forget(commands: &mut Vec<Command>, life: Millis, now: Millis)
+/// Takes a command out of the queues, where it may stand in one of them.
+fn leave(timed: &mut Queue, ready: &mut Queue, ticket: Ticket, may_stand: bool)
+    requires once { count_by (has_ticket ticket.0) timed.old.waiters + count_by (has_ticket ticket.0) ready.old.waiters ≤ cond may_stand 1 0 }
+    ensures timed { timed.new.waiters ≡ filter (λ w. not (nat_eq w.command.ticket.0 ticket.0)) timed.old.waiters }
+    ensures ready { ready.new.waiters ≡ filter (λ w. not (nat_eq w.command.ticket.0 ticket.0)) ready.old.waiters }
+    ensures timed_room { timed.new.room ≡ timed.old.room }
+    ensures ready_room { ready.new.room ≡ ready.old.room }
+{
+    if may_stand && ready.pop_ticket(ticket).is_none() {
+        timed.remove(ticket);
+        ready.remove(ticket);
+    }
+}
+
+/// The time before which none of the commands is past.
+fn first_past(commands: &[Command], life: Millis) -> u128
+    ensures { NonePastBefore life.0 result commands.now }
+{
+    let mut from = u128::MAX;
+    'looked: for command in commands {
+        from = from.min(command.past_from(life));
+    }
+    from
+}
+
+/// Drops the commands that no later answer can go by: before `past_from` there is none. Returns
+/// the time before which none of the others is past.
+fn forget(commands: &mut Vec<Command>, life: Millis, now: Millis, past_from: u128) -> u128
+    requires { NonePastBefore life.0 past_from commands.old.items }
     ensures live { commands.new.items ≡ live life.0 now.0 commands.old.items }
+    ensures none { NonePastBefore life.0 result commands.new.items }
     ensures fewer { vec_len commands.new ≤ vec_len commands.old }
     ensures capacity { vec_capacity commands.new ≡ vec_capacity commands.old }
 {
+    if u128::from(now.0) < past_from {
+        return past_from;
+    }
     commands.retain(|command| !command.is_past(life, now));
+    first_past(commands, life)
 }
 
 /// The commands of one host at one device, with their order.
@@ -149,6 +186,9 @@ pub struct Holds {
     /// How many commands were never sent.
     unsent: u32,
 
+    /// Before this time none of the commands is past.
+    past_from: u128,
+
     /// In the order of their tickets.
     commands: Vec<Command>,
 
@@ -162,7 +202,7 @@ pub struct Holds {
 
 impl Model for Holds {
     ghost use Rattle.std.specs.Prelude.{map, option_map};
-    ghost use Rattle.aoe_hold.specs.HoldTable.{HoldTable, IsSound};
+    ghost use Rattle.aoe_hold.specs.HoldTable.{HoldTable, IsSound, NonePastBefore};
     ghost use Rattle.aoe_hold.specs.Queue.{ticket_of, IsIndex};
 
     ghost Value = { HoldTable };
@@ -177,7 +217,8 @@ impl Model for Holds {
 
     ghost invariant = { λ holds.
         IsSound (option_map (λ t. t.0) holds.greatest) holds.unsent holds.commands.items
-        × IsIndex holds.life.0 holds.latest.0 holds.unsent holds.commands.items holds.timed holds.ready };
+        × IsIndex holds.life.0 holds.latest.0 holds.unsent holds.commands.items holds.timed holds.ready
+        × NonePastBefore holds.life.0 holds.past_from holds.commands.items };
 }
 
 impl Holds {
@@ -190,6 +231,7 @@ impl Holds {
             latest: Millis(0),
             greatest: None,
             unsent: 0,
+            past_from: u128::MAX,
             commands: Vec::new(alloc),
             timed: Queue::new(alloc),
             ready: Queue::new(alloc),
@@ -208,7 +250,7 @@ impl Holds {
     {
         let room = self.unsent + 1;
         make_room(&mut self.commands, &mut self.timed, &mut self.ready, room)?;
-        forget(&mut self.commands, self.life, self.latest);
+        self.past_from = forget(&mut self.commands, self.life, self.latest, self.past_from);
         let command = Command {
             ticket,
             kind,
@@ -254,12 +296,12 @@ impl Holds {
             → Recalls self.new (after_stage ticket.0 (stage_sent now) entered) }
     {
         self.latest = now;
-        self.timed.remove(ticket);
-        self.ready.remove(ticket);
         if let Some(at) = place_of(&self.commands, ticket) {
             let command = &mut self.commands[at];
-            self.unsent -= u32::from(command.is_unsent());
+            let first = command.is_unsent();
+            self.unsent -= u32::from(first);
             command.stage = command.stage.sent(now);
+            leave(&mut self.timed, &mut self.ready, ticket, first);
         }
     }
 
@@ -273,6 +315,7 @@ impl Holds {
             let command = &mut self.commands[at];
             let ended = *command;
             command.stage = command.stage.finished();
+            self.past_from = self.past_from.min(command.past_from(self.life));
             release(&self.commands, &mut self.timed, &ended, self.life);
         }
     }

@@ -1,5 +1,5 @@
 //! Commands that may be sent from some time on, in the order of these times.
-ghost use Rattle.std.specs.Prelude.{◌≡◌, ◌+◌, ◌<◌, ◌≤◌, ◌∷◌, ◌++◌, length, not, nat_eq, IfNone, OnOk, option_copied, slice_get};
+ghost use Rattle.std.specs.Prelude.{◌≡◌, ◌+◌, ◌<◌, ◌≤◌, ◌∷◌, ◌++◌, length, not, nat_eq, true, IfNone, IfSome, OnOk, option_copied, slice_get};
 ghost use Rattle.std.specs.List.{filter};
 ghost use Rattle.std.specs.List.Sorted.{IsPermutation};
 ghost use Rattle.std.specs.Option.{option_to_list};
@@ -95,6 +95,18 @@ impl Queue {
         ensures none { IfNone result (length self.old.waiters ≡ 0) }
         ensures room { self.new.room ≡ self.old.room }
     {
+        self.waiters.pop_front()
+    }
+
+    /// Takes the first command out, where it has this ticket.
+    pub fn pop_ticket(&mut self, ticket: Ticket) -> Option<Waiter>
+        ensures some { IfSome result (λ w. (nat_eq w.command.ticket.0 ticket.0 ≡ true) × (self.old.waiters ≡ w ∷ self.new.waiters)) }
+        ensures none { IfNone result (self.new.waiters ≡ self.old.waiters) }
+        ensures room { self.new.room ≡ self.old.room }
+    {
+        if self.waiters.front()?.command.ticket != ticket {
+            return None;
+        }
         self.waiters.pop_front()
     }
 

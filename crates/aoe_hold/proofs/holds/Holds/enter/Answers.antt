@@ -3,11 +3,12 @@ use Rattle.std.specs.Prelude.{option_map}
 use Rattle.aoe_hold.specs.declared.command.Command.{Command}
 use Rattle.aoe_hold.specs.Commands.{is_past, live, unsent_count}
 use Rattle.aoe_hold.specs.declared.queue.Waiter.{Waiter}
-use Rattle.aoe_hold.specs.HoldTable.{new_command, IsSound}
+use Rattle.aoe_hold.specs.HoldTable.{new_command, IsSound, NonePastBefore}
 use Rattle.aoe_hold.specs.Queue.{IsIndex}
 use Rattle.aoe_hold.proofs.HoldLemmas.{index-entered, index-few, index-reserved}
 use Rattle.aoe_hold.proofs.LiveLemmas.{count-live}
 use Rattle.aoe_hold.proofs.OrderLemmas.{ascending-filter, enter-ascending, enter-up_to, up_to-filter}
+use Rattle.aoe_hold.proofs.PastLemmas.{past-entered}
 use Rattle.aoe_hold.proofs.TableLemmas.{above-view, count-enter, enter-recalls, room-view}
 use Rattle.aoe_hold.proofs.holds.Holds.enter.Goals as goal
 
@@ -29,8 +30,8 @@ make_room-requires-clause-ready c =
 pub invariant_of-self : goal.invariant_of-self
 invariant_of-self c =
     let index = index-reserved c.self.inside.life.0 c.self.inside.latest.0 c.self.inside.unsent c.self.inside.commands.items c.self.inside.timed c.self.inside.ready c.make_room.new.timed c.make_room.new.ready c.make_room.ensures.timed c.make_room.ensures.ready c.make_room.ensures.timed_more c.make_room.ensures.ready_more c.self.invariant.1 in
-    let P : List Command → Type 0 = λ l. IsSound (option_map (λ t. t.0) c.self.inside.greatest) c.self.inside.unsent l × IsIndex c.self.inside.life.0 c.self.inside.latest.0 c.self.inside.unsent l c.make_room.new.timed c.make_room.new.ready in
-    subst P (sym c.make_room.ensures.commands) (c.self.invariant.0, index)
+    let P : List Command → Type 0 = λ l. IsSound (option_map (λ t. t.0) c.self.inside.greatest) c.self.inside.unsent l × IsIndex c.self.inside.life.0 c.self.inside.latest.0 c.self.inside.unsent l c.make_room.new.timed c.make_room.new.ready × NonePastBefore c.self.inside.life.0 c.self.inside.past_from l in
+    subst P (sym c.make_room.ensures.commands) (c.self.invariant.0, index, c.self.invariant.2)
 
 pub queue-requires : goal.queue-requires
 queue-requires c = λ free.
@@ -46,13 +47,13 @@ invariant_of-self-2 c =
     let kept = live life latest held in
     let new = new_command c.args.ticket c.args.kind c.args.span in
     let reserved : c.make_room.new.commands.items ≡ held = c.make_room.ensures.commands in
-    let dropped : c.forget.new.commands.items ≡ kept = c.forget.ensures.live ∙ ap (live life latest) reserved in
+    let dropped : c.forget-self-inside.new.commands.items ≡ kept = c.forget-self-inside.ensures.live ∙ ap (live life latest) reserved in
     let items : c.push_reserved.new.self.items ≡ kept ++ new ∷ [] = c.push_reserved.ensures.items ∙ ap (λ l. l ++ new ∷ []) dropped in
     let above = above-view c.args.self.now _ c.args.ticket.0 c.self.view_is c.requires.above in
     let ascending = ascending-filter (λ (d : Command). not (is_past life latest d)) held c.self.invariant.0.0 in
     let up = up_to-filter (λ (d : Command). not (is_past life latest d)) _ held c.self.invariant.0.1 in
     let index = index-reserved life latest unsent held c.self.inside.timed c.self.inside.ready c.make_room.new.timed c.make_room.new.ready c.make_room.ensures.timed c.make_room.ensures.ready c.make_room.ensures.timed_more c.make_room.ensures.ready_more c.self.invariant.1 in
-    let seen : c.deref.result.now ≡ c.forget.new.commands.items = c.deref.ensures.value in
+    let seen : c.deref.result.now ≡ c.forget-self-inside.new.commands.items = c.deref.ensures.value in
     let after : c.push_reserved.new.self.items ≡ c.deref.result.now ++ new ∷ [] = c.push_reserved.ensures.items ∙ ap (λ l. l ++ new ∷ []) (sym seen) in (
       (
         rw items (enter-ascending _ kept new ascending up above),
@@ -61,6 +62,7 @@ invariant_of-self-2 c =
       ),
       index-entered life latest unsent _ held c.deref.result.now c.push_reserved.new.self.items new c.make_room.new.timed c.make_room.new.ready c.queue.new.timed refl c.self.invariant.0.1 above (seen ∙ dropped) after
           c.queue.ensures.waiters c.queue.ensures.knows c.queue.ensures.room c.in_ok-make_room.ensures.timed_room c.in_ok-make_room.ensures.ready_room index,
+      rw after (past-entered life c.forget-self-inside.result c.deref.result.now new refl (rw seen c.forget-self-inside.ensures.none)),
     )
 
 pub returns-clause-recalls : goal.returns-clause-recalls
@@ -69,6 +71,6 @@ returns-clause-recalls c =
     let life = c.self.inside.life.0 in
     let latest = c.self.inside.latest.0 in
     let new = new_command c.args.ticket c.args.kind c.args.span in
-    let dropped : c.forget.new.commands.items ≡ live life latest held = c.forget.ensures.live ∙ ap (live life latest) c.make_room.ensures.commands in
+    let dropped : c.forget-self-inside.new.commands.items ≡ live life latest held = c.forget-self-inside.ensures.live ∙ ap (live life latest) c.make_room.ensures.commands in
     let items : c.push_reserved.new.self.items ≡ live life latest held ++ new ∷ [] = c.push_reserved.ensures.items ∙ ap (λ l. l ++ new ∷ []) dropped in
     enter-recalls life latest _ new held _ c.args.self.now c.self.view_is items

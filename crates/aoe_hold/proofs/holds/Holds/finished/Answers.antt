@@ -5,6 +5,7 @@ use Rattle.aoe_hold.specs.Commands.{after_stage, stage_finished, unsent_count}
 use Rattle.aoe_hold.specs.Queue.{IsIndex}
 use Rattle.aoe_hold.specs.HoldTable.{HoldTable, Recalls}
 use Rattle.aoe_hold.proofs.StageLemmas.{count-finished, place-within, stage-missing, stage-set}
+use Rattle.aoe_hold.proofs.PastLemmas.{past-ended}
 use Rattle.aoe_hold.proofs.OrderLemmas.{ascending-after_stage, up_to-after_stage}
 use Rattle.aoe_hold.proofs.TableLemmas.{finish-recalls, finish-value}
 use Rattle.aoe_hold.proofs.HoldLemmas.{index-ended, index-ended_room}
@@ -27,6 +28,7 @@ invariant_of-self c =
         c.self.invariant.0.2 ∙ sym (count-finished held c.in-Some.at command c.finished-command.result within c.index_mut-command.ensures.value c.finished-command.ensures),
       ),
       subst P seen (index-ended c.self.inside.life.0 c.self.inside.latest.0 c.self.inside.unsent c.args.ticket.0 held c.deref-in-Some.result.now command c.self.inside.timed c.self.inside.ready c.release.new.timed ended c.release.ensures.waiters c.release.ensures.knows c.release.ensures.room c.self.invariant.1),
+      past-ended c.self.inside.life.0 c.self.inside.past_from c.past_from.result c.min-self-inside.result c.in-Some.at held (record command { stage = c.finished-command.result }) c.min-self-inside.ensures c.past_from.ensures c.self.invariant.2,
     )
 
 pub release-requires : goal.release-requires

@@ -1,6 +1,6 @@
 use Rattle.std.proofs.Common.{◌≡◌, ◌+◌, Some, ap, arith, refl, sym, ◌∙◌}
 use Rattle.aoe_hold.specs.Commands.{live, unsent_count}
-use Rattle.aoe_hold.specs.HoldTable.{new_command, HoldTable}
+use Rattle.aoe_hold.specs.HoldTable.{HoldTable}
 use Rattle.aoe_hold.proofs.LiveLemmas.{count-live}
 use Rattle.aoe_hold.proofs.TableLemmas.{count-enter}
 use Rattle.aoe_hold.proofs.holds.tests.enter_writes.Goals as goal
