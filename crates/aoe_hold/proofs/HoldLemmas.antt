@@ -10,9 +10,11 @@ use Rattle.aoe_hold.specs.declared.command.Stage.TheVariants.{Unsent}
 use Rattle.aoe_hold.specs.declared.queue.Waiter.{Waiter}
 use Rattle.aoe_hold.specs.Commands.{after_stage, clear_tickets, live, stage_sent, unsent_count}
 use Rattle.aoe_hold.specs.HoldTable.{is_ascending, is_up_to}
-use Rattle.aoe_hold.specs.Queue.{is_blocked, is_released, ticket_of, IsInOrder, IsIndex, Knows, Moved, QueueTable}
-use Rattle.aoe_hold.proofs.IndexLemmas.{entered-waits, keeps, knows-entered, knows-live, knows-sent, sent-waits, waiters-few, waiters-free}
-use Rattle.aoe_hold.proofs.ReleaseLemmas.{ended-room, ended-waits, knows-ended, Ended}
+use Rattle.aoe_hold.specs.Queue.{is_blocked, ticket_of, waited_for, AreHeld, IsHeldBy, IsInOrder, IsIndex, Knows, Moved, QueueTable, Released}
+use Rattle.aoe_hold.proofs.CountLemmas.{all-none, count-all, none-all}
+use Rattle.aoe_hold.proofs.HeldLemmas.{all-sent, free-ended, held-blocked, held-ended, held-live, held-pushed, held-sent, unsent-all, unsent-ended, unsent-entered, waiters-all, HasAll}
+use Rattle.aoe_hold.proofs.IndexLemmas.{bit, entered-waits, keeps, knows-entered, knows-live, knows-sent, sent-waits, waiters-few, waiters-free}
+use Rattle.aoe_hold.proofs.ReleaseLemmas.{ends, knows-ended, Ended}
 use Rattle.aoe_hold.proofs.WaitLemmas.{length-tickets, ready-is}
 
 pub index-few : (life latest unsent : ℕ) (commands : List Command) (timed ready : QueueTable) → unsent ≡ unsent_count commands → IsIndex life latest unsent commands timed ready → length timed.waiters + length ready.waiters ≤ unsent
@@ -63,24 +65,78 @@ index-sent life latest unsent less ticket now commands after timed ready timed_n
   ready_room = omega (arith, index.ready_room, fewer, ready_room);
 }
 
-pub index-ended : (life latest unsent ticket : ℕ) (commands after : List Command) (ended : Command) (timed ready timed_new : QueueTable) → Ended ticket commands after ended
-    → ((test : Command → Bool) → count_by (λ w. test w.command) timed_new.waiters ≡ count_by (λ w. test w.command) timed.waiters + count_by (λ c. is_released after ended c && test c) after)
-    → ((now : ℕ) → All (Knows life now after) timed.waiters → All (Knows life now after) timed_new.waiters) → timed_new.room ≡ timed.room
-    → IsIndex life latest unsent commands timed ready → IsIndex life latest unsent after timed_new ready
-index-ended life latest unsent ticket commands after ended timed ready timed_new e released knows room index =
-    let free = waiters-free commands timed.waiters ready.waiters index.same in record {
-      same = ended-waits ticket commands after ended timed.waiters ready.waiters timed_new.waiters e released index.same;
-      knows_timed = knows latest (knows-ended life latest ticket commands after timed.waiters e.is free.0 index.knows_timed);
-      knows_ready = knows-ended life latest ticket commands after ready.waiters e.is free.1 index.knows_ready;
-      past = index.past;
-      timed_room = omega (arith, index.timed_room, room);
-      ready_room = index.ready_room;
-    }
+pub index-ended : (life latest unsent ticket : ℕ) (commands after : List Command) (ended new : Command) (timed ready blocked timed_new blocked_new : QueueTable) → Ended ticket commands after ended → ended.ticket.0 ≡ ticket → new ≡ ends ticket ended
+    → Released life after new timed blocked timed_new blocked_new → All (λ w. waited_for new w ≡ false) blocked_new.waiters
+    → IsIndex life latest unsent commands timed ready → AreHeld unsent commands timed ready blocked → IsIndex life latest unsent after timed_new ready × AreHeld unsent after timed_new ready blocked_new
+index-ended life latest unsent ticket commands after ended new timed ready blocked timed_new blocked_new e its new_is r none index all_held =
+    let free = waiters-free commands timed.waiters ready.waiters index.same in
+    let free_timed = free-ended ticket commands after ended timed.waiters e free.0 in
+    let free_ready = free-ended ticket commands after ended ready.waiters e free.1 in
+    let free_new : All (λ w. is_blocked after w.command ≡ false) timed_new.waiters = none-all (λ w. is_blocked after w.command) timed_new.waiters (r.free ∙ all-none (λ w. is_blocked after w.command) timed.waiters free_timed) in
+    let rest = r.held (held-ended ticket commands after ended new blocked.waiters e its new_is all_held.held) in
+    let held : All (IsHeldBy after) blocked_new.waiters = λ k d below. rest k d below (none k d below) in
+    let all : HasAll after timed_new.waiters ready.waiters blocked_new.waiters = λ test. omega (arith, all_held.all test, r.all test, unsent-ended ticket commands after e.is test) in (
+      record {
+        same = waiters-all after timed_new.waiters ready.waiters blocked_new.waiters all free_new free_ready (held-blocked after blocked_new.waiters held);
+        knows_timed = r.knows latest (knows-ended life latest ticket commands after timed.waiters e.is free.0 index.knows_timed);
+        knows_ready = knows-ended life latest ticket commands after ready.waiters e.is free.1 index.knows_ready;
+        past = index.past;
+        timed_room = omega (arith, index.timed_room, r.timed_room);
+        ready_room = index.ready_room;
+      },
+      record { all = all; held = held; room = omega (arith, all_held.room, r.blocked_room) },
+    )
 
-pub index-ended_room : (life latest unsent ticket : ℕ) (commands after : List Command) (ended : Command) (timed ready : QueueTable) → Ended ticket commands after ended → unsent ≡ unsent_count after
-    → IsIndex life latest unsent commands timed ready → length timed.waiters + count_by (is_released after ended) after ≤ timed.room
-index-ended_room life latest unsent ticket commands after ended timed ready e is index =
-    omega (arith, ended-room ticket commands after ended timed.waiters ready.waiters e index.same, is, index.timed_room)
+pub held-few : (unsent : ℕ) (commands : List Command) (timed ready blocked : QueueTable) → unsent ≡ unsent_count commands → AreHeld unsent commands timed ready blocked → length timed.waiters + length ready.waiters + length blocked.waiters ≡ unsent
+held-few unsent commands timed ready blocked is all_held =
+    omega (arith, is, all_held.all (λ _. true), count-all timed.waiters, count-all ready.waiters, count-all blocked.waiters, unsent-all commands)
+
+pub held-reserved : (unsent : ℕ) (commands : List Command) (timed ready blocked timed_new ready_new blocked_new : QueueTable) → timed_new.waiters ≡ timed.waiters → ready_new.waiters ≡ ready.waiters → blocked_new.waiters ≡ blocked.waiters → blocked.room ≤ blocked_new.room
+    → AreHeld unsent commands timed ready blocked → AreHeld unsent commands timed_new ready_new blocked_new
+held-reserved unsent commands timed ready blocked timed_new ready_new blocked_new timed_is ready_is blocked_is more all_held = record {
+  all = rw (timed_is, ready_is, blocked_is) all_held.all;
+  held = rw blocked_is all_held.held;
+  room = omega (arith, all_held.room, more);
+}
+
+pub held-entered : (life latest unsent : ℕ) (commands kept after : List Command) (c : Command) (timed ready blocked timed_new blocked_new : QueueTable) → c.stage ≡ Unsent → kept ≡ live life latest commands → after ≡ kept ++ c ∷ []
+    → ((test : Command → Bool) → count_by (λ w. test w.command) timed_new.waiters ≡ cond (not (is_blocked kept c) && test c) 1 0 + count_by (λ w. test w.command) timed.waiters)
+    → ((test : Command → Bool) → count_by (λ w. test w.command) blocked_new.waiters ≡ cond (is_blocked kept c && test c) 1 0 + count_by (λ w. test w.command) blocked.waiters)
+    → ((skip : Waiter → Bool) → All (λ w. skip w ≡ false → IsHeldBy kept w) blocked.waiters → All (λ w. skip w ≡ false → IsHeldBy kept w) blocked_new.waiters)
+    → blocked_new.room ≡ blocked.room → unsent + 1 ≤ blocked.room → AreHeld unsent commands timed ready blocked → AreHeld (unsent + 1) after timed_new ready blocked_new
+held-entered life latest unsent commands kept after c timed ready blocked timed_new blocked_new fresh kept_is after_is queued_timed queued_blocked queued room enough all_held =
+    let K : List Command → Type 0 = λ l. All (IsHeldBy l) blocked.waiters in
+    let before : All (IsHeldBy kept) blocked.waiters = subst K (sym kept_is) (held-live life latest commands blocked.waiters all_held.held) in
+    let now = queued (λ _. false) (λ k d below _. before k d below) in
+    record {
+      all = λ test.
+          let split : bit (not (is_blocked kept c) && test c) + bit (is_blocked kept c && test c) ≡ bit (test c) = either (is_blocked kept c) (test c) in
+          omega (arith, all_held.all test, queued_timed test, queued_blocked test, split, unsent-entered life latest commands kept after c fresh kept_is after_is test);
+      held = held-pushed kept after c blocked_new.waiters after_is (λ k d below. now k d below refl);
+      room = omega (arith, room, enough);
+    }
+  where
+    either : (b t : Bool) → bit (not b && t) + bit (b && t) ≡ bit t
+    either true true = refl
+    either true false = refl
+    either false true = refl
+    either false false = refl
+
+pub held-gone : (unsent less ticket : ℕ) (now : Millis) (commands after : List Command) (timed ready blocked timed_new ready_new blocked_new : QueueTable) → after ≡ after_stage ticket (stage_sent now) commands → less ≤ unsent
+    → timed_new.waiters ≡ filter (keeps ticket) timed.waiters → ready_new.waiters ≡ filter (keeps ticket) ready.waiters → blocked_new.waiters ≡ filter (keeps ticket) blocked.waiters → blocked_new.room ≡ blocked.room
+    → AreHeld unsent commands timed ready blocked → AreHeld less after timed_new ready_new blocked_new
+held-gone unsent less ticket now commands after timed ready blocked timed_new ready_new blocked_new is fewer timed_is ready_is blocked_is room all_held = record {
+  all = all-sent ticket now commands after timed.waiters ready.waiters blocked.waiters timed_new.waiters ready_new.waiters blocked_new.waiters is timed_is ready_is blocked_is all_held.all;
+  held = held-sent ticket now commands after blocked_new.waiters is (rw blocked_is (All-filter (keeps ticket) (IsHeldBy commands) blocked.waiters all_held.held));
+  room = omega (arith, all_held.room, fewer, room);
+}
+
+pub held-moved : (now unsent : ℕ) (commands : List Command) (timed ready blocked timed_new ready_new : QueueTable) → Moved now timed ready timed_new ready_new → AreHeld unsent commands timed ready blocked → AreHeld unsent commands timed_new ready_new blocked
+held-moved now unsent commands timed ready blocked timed_new ready_new moved all_held = record {
+  all = λ test. omega (arith, moved.same test, all_held.all test);
+  held = all_held.held;
+  room = all_held.room;
+}
 
 knows-later : (life latest now : ℕ) (commands : List Command) (waiters : List Waiter) → latest ≤ now → All (Knows life latest commands) waiters → All (Knows life now commands) waiters
 knows-later life latest now commands waiters later knows = λ k d below t from. knows k d below t (omega (arith, later, from))

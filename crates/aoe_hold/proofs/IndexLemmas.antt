@@ -73,7 +73,7 @@ past-block false c = refl
 past-block true false = refl
 past-block true true = refl
 
-past-blocks : (life latest : ℕ) (c e : Command) → is_past life latest e ≡ true → blocks c e ≡ false
+pub past-blocks : (life latest : ℕ) (c e : Command) → is_past life latest e ≡ true → blocks c e ≡ false
 past-blocks life latest c e is = rw ((past-finished life latest e.stage is).0) (past-block (nat_lt e.ticket.0 c.ticket.0) (conflict e c))
 
 past-lingers : (life latest now : ℕ) (c e : Command) → latest ≤ now → is_past life latest e ≡ true → lingers life now c e ≡ false
@@ -165,16 +165,16 @@ sent-gone life t now Unsent = refl
 sent-gone life t now (Flying last) = refl
 sent-gone life t now (Finished last) = refl
 
-sent-unsent : (now : Millis) (s : Stage) → unsent (stage_sent now s) ≡ false
+pub sent-unsent : (now : Millis) (s : Stage) → unsent (stage_sent now s) ≡ false
 sent-unsent now Unsent = refl
 sent-unsent now (Flying last) = refl
 sent-unsent now (Finished last) = refl
 
-and-join : (a f g : Bool) → ((a && f) && g) ≡ (a && (f && g))
+pub and-join : (a f g : Bool) → ((a && f) && g) ≡ (a && (f && g))
 and-join true f g = refl
 and-join false f g = refl
 
-blocks-sent : (ticket : ℕ) (now : Millis) (c e : Command) → blocks c (with_stage ticket (stage_sent now) e) ≡ blocks c e
+pub blocks-sent : (ticket : ℕ) (now : Millis) (c e : Command) → blocks c (with_stage ticket (stage_sent now) e) ≡ blocks c e
 blocks-sent ticket now c e = at (nat_eq e.ticket.0 ticket)
   where
     at : (b : Bool) → blocks c (cond b (record e { stage = stage_sent now e.stage }) e) ≡ blocks c e

@@ -1,5 +1,6 @@
 mod ClearLemmas
 mod CountLemmas
+mod HeldLemmas
 mod HoldLemmas
 mod IndexLemmas
 mod ListLemmas

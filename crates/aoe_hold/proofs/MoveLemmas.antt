@@ -1,20 +1,19 @@
 -- Commands are moved from one queue to the other.
-use Rattle.std.proofs.Common.{ℕ, zero, suc, ◌≡◌, ◌+◌, ◌<◌, ◌≤◌, ◌&&◌, ◌||◌, not, cond, get_or, Bool, true, false, List, [], ◌∷◌, ◌++◌, length, max, take, Option, Some, None, refl, sym, ap, subst, ◌∙◌, add-zero, arith, nat_le}
+use Rattle.std.proofs.Common.{ℕ, zero, suc, ◌≡◌, ◌+◌, ◌-◌, ◌<◌, ◌≤◌, ◌&&◌, ◌||◌, not, cond, get_or, Bool, true, false, List, [], ◌∷◌, ◌++◌, length, max, take, Option, Some, None, inl, inr, refl, sym, ap, subst, ◌∙◌, arith, nat_eq, nat_le}
 use Rattle.std.specs.Prelude.{All, Err, IfNone, Ok, OnErr, OnOk, Result}
 use Rattle.std.specs.List.{count_by, list_any}
 use Rattle.std.specs.List.Sorted.{IsPermutation}
-use Rattle.std.proofs.lemmas.Bool.{le-leb, leb-false, leb-true, lt-leb}
+use Rattle.std.proofs.lemmas.Bool.{cases_lt, eq-eqb, le-leb, leb-false, leb-true, lt-leb, ne_eqb, true≢false}
 use Rattle.std.proofs.lemmas.List.Elements.{All-cons, All-head, All-tail}
-use Rattle.std.proofs.lemmas.List.Sorted.{All-permutation, sum_by-IsPermutation}
-use Rattle.std.proofs.lemmas.List.Sums.{sum_by_push}
-use Rattle.aoe_hold.proofs.CountLemmas.{count-all, count-alike, count-cons}
+use Rattle.std.proofs.lemmas.List.Sorted.{All-permutation, length_permutation, sum_by-IsPermutation}
+use Rattle.aoe_hold.proofs.CountLemmas.{count-all, count-cons}
 use Rattle.aoe_hold.specs.declared.command.Command.{Command}
 use Rattle.aoe_hold.specs.declared.command.Kind.TheVariants.{Read}
 use Rattle.aoe_hold.specs.declared.command.Stage.TheVariants.{Unsent}
 use Rattle.aoe_hold.specs.declared.queue.Waiter.{Waiter}
 use Rattle.aoe_hold.proofs.IndexLemmas.{bit}
-use Rattle.aoe_hold.specs.Commands.{is_unsent}
-use Rattle.aoe_hold.specs.Queue.{blocks, is_blocked, is_released, lingers, Knows, Moved, QueueTable}
+use Rattle.aoe_hold.specs.Commands.{finished}
+use Rattle.aoe_hold.specs.Queue.{blocks, is_blocked, lingers, waited_for, IsHeldBy, Knows, Moved, QueueTable, Released}
 use Rattle.aoe_hold.proofs.WaitLemmas.{any-push}
 
 pub moved-none : (now : ℕ) (timed ready : QueueTable) → Moved now timed ready timed ready
@@ -66,20 +65,6 @@ pub none-late : {X : Type 0} (now : ℕ) (waiters : List Waiter) (r : Option X) 
 none-late now waiters (Some w) none = tt
 none-late now waiters None none = λ k d below. absurd (omega (arith, none, below))
 
--- some of the commands were looked at, and those among them that were released were queued
-pub record Releasing (life : ℕ) (commands : List Command) (ended : Command) (done : List Command) (old now : QueueTable) : Type 0 where
-  pub waiters : (test : Command → Bool) → count_by (λ w. test w.command) now.waiters
-      ≡ count_by (λ w. test w.command) old.waiters + count_by (λ c. is_released commands ended c && test c) done
-  pub knows : (latest : ℕ) → All (Knows life latest commands) old.waiters → All (Knows life latest commands) now.waiters
-  pub room : now.room ≡ old.room
-
-pub releasing-none : (life : ℕ) (commands : List Command) (ended : Command) (old : QueueTable) → Releasing life commands ended [] old old
-releasing-none life commands ended old = record {
-  waiters = λ test. sym (add-zero (count_by (λ (w : Waiter). test w.command) old.waiters));
-  knows = λ latest is. is;
-  room = refl;
-}
-
 take-suc : (xs : List Command) (i : ℕ) (d : Command) → i < length xs → take (suc i) xs ≡ take i xs ++ get_or xs i d ∷ []
 take-suc [] i d below = absurd (omega (arith, below))
 take-suc (x ∷ xs) zero d below = refl
@@ -94,57 +79,6 @@ take-whole [] (suc i) least = refl
 take-whole (x ∷ xs) zero least = absurd (omega (arith, least))
 take-whole (x ∷ xs) (suc i) least = ap (λ (l : List Command). x ∷ l) (take-whole xs i (omega (arith, least)))
 
-count-take : (p : Command → Bool) (xs : List Command) (i : ℕ) → count_by p (take i xs) ≤ count_by p xs
-count-take p [] zero = omega arith
-count-take p [] (suc i) = omega arith
-count-take p (x ∷ xs) zero = omega arith
-count-take p (x ∷ xs) (suc i) = omega (arith, count-take p xs i, count-cons p x xs, count-cons p x (take i xs))
-
-count-push : (p : Command → Bool) (xs : List Command) (x : Command) → count_by p (xs ++ x ∷ []) ≡ count_by p xs + cond (p x) 1 0
-count-push p xs x = sum_by_push (λ (y : Command). cond (p y) 1 0) xs x
-
--- a command that didn't wait for the ended one
-pub releasing-other : (life : ℕ) (commands : List Command) (ended : Command) (i : ℕ) (x : Command) (old now : QueueTable) → i < length commands → x ≡ get_or commands i x → (is_unsent x && blocks x ended) ≡ false
-    → Releasing life commands ended (take i commands) old now → Releasing life commands ended (take (i + 1) commands) old now
-releasing-other life commands ended i x old now below read other r = record {
-  waiters = λ test.
-      let out : bit (is_released commands ended x && test x) ≡ 0 = rw other refl in
-      let done : take (i + 1) commands ≡ take i commands ++ x ∷ [] = take-more commands i x below ∙ ap (λ y. take i commands ++ y ∷ []) (sym read) in
-      let more = ap (count_by (λ c. is_released commands ended c && test c)) done ∙ count-push (λ c. is_released commands ended c && test c) (take i commands) x in
-      omega (arith, r.waiters test, more, out);
-  knows = r.knows;
-  room = r.room;
-}
-
--- a command that waited for it
-pub releasing-one : (life : ℕ) (commands : List Command) (ended : Command) (i : ℕ) (x : Command) (old now more : QueueTable) → i < length commands → x ≡ get_or commands i x → (is_unsent x && blocks x ended) ≡ true
-    → ((test : Command → Bool) → count_by (λ w. test w.command) more.waiters ≡ cond (not (is_blocked commands x) && test x) 1 0 + count_by (λ w. test w.command) now.waiters)
-    → ((latest : ℕ) → All (Knows life latest commands) now.waiters → All (Knows life latest commands) more.waiters) → more.room ≡ now.room
-    → Releasing life commands ended (take i commands) old now → Releasing life commands ended (take (i + 1) commands) old more
-releasing-one life commands ended i x old now more below read waited queued knows room r = record {
-  waiters = λ test.
-      let same : bit (is_released commands ended x && test x) ≡ bit (not (is_blocked commands x) && test x) = rw waited refl in
-      let done : take (i + 1) commands ≡ take i commands ++ x ∷ [] = take-more commands i x below ∙ ap (λ y. take i commands ++ y ∷ []) (sym read) in
-      let grown = ap (count_by (λ c. is_released commands ended c && test c)) done ∙ count-push (λ c. is_released commands ended c && test c) (take i commands) x in
-      omega (arith, r.waiters test, grown, same, queued test);
-  knows = λ latest is. knows latest (r.knows latest is);
-  room = room ∙ r.room;
-}
-
--- there is room for it
-pub releasing-room : (life : ℕ) (commands : List Command) (ended : Command) (i : ℕ) (x : Command) (old now : QueueTable) → i < length commands → x ≡ get_or commands i x → (is_unsent x && blocks x ended) ≡ true
-    → length old.waiters + count_by (is_released commands ended) commands ≤ old.room → Releasing life commands ended (take i commands) old now → is_blocked commands x ≡ false → length now.waiters < now.room
-releasing-room life commands ended i x old now below read waited room r free =
-    let here : bit (is_released commands ended x) ≡ 1 = rw (waited, free) refl in
-    let done : take (i + 1) commands ≡ take i commands ++ x ∷ [] = take-more commands i x below ∙ ap (λ y. take i commands ++ y ∷ []) (sym read) in
-    let grown = ap (count_by (is_released commands ended)) done ∙ count-push (is_released commands ended) (take i commands) x in
-    let all = count-alike (λ c. is_released commands ended c && true) (is_released commands ended) (λ c. and-true (is_released commands ended c)) (take i commands) in
-    omega (arith, room, r.waiters (λ _. true), r.room, all, grown, here, count-take (is_released commands ended) commands (i + 1), count-all now.waiters, count-all old.waiters)
-  where
-    and-true : (b : Bool) → (b && true) ≡ b
-    and-true true = refl
-    and-true false = refl
-
 -- the time from which no frame of the commands so far lingers
 pub lingers-more : (life : ℕ) (commands : List Command) (c : Command) (i from more next : ℕ) (x : Command) → next ≡ max from more → i < length commands → x ≡ get_or commands i x
     → ((now : ℕ) → list_any (λ e. lingers life now c e) (take i commands) ≡ not (nat_le from now)) → ((now : ℕ) → lingers life now c x ≡ not (nat_le more now))
@@ -158,9 +92,74 @@ lingers-more life commands c i from more next x next_is below read so_far one no
     later true false first second = sym (ap not (lt-leb (max from more) now (omega (arith, leb-false more now second))))
     later false b first second = sym (ap not (lt-leb (max from more) now (omega (arith, leb-false from now first))))
 
-pub releasing-all : (life : ℕ) (commands : List Command) (ended : Command) (i : ℕ) (old now : QueueTable) → length commands ≤ i → Releasing life commands ended (take i commands) old now
-    → (test : Command → Bool) → count_by (λ w. test w.command) now.waiters ≡ count_by (λ w. test w.command) old.waiters + count_by (λ c. is_released commands ended c && test c) commands
-releasing-all life commands ended i old now least r test = r.waiters test ∙ rw (take-whole commands i least) refl
+pub released-none : (life : ℕ) (commands : List Command) (ended : Command) (timed blocked : QueueTable) → Released life commands ended timed blocked timed blocked
+released-none life commands ended timed blocked = record {
+  all = λ test. refl;
+  free = refl;
+  knows = λ latest is. is;
+  held = λ is. is;
+  timed_room = refl;
+  blocked_room = refl;
+}
+
+-- there is room for one that was taken out
+pub released-room : (life : ℕ) (commands : List Command) (ended : Command) (old_timed old_blocked timed blocked one : QueueTable) (w : Waiter) → Released life commands ended old_timed old_blocked timed blocked → IsPermutation blocked.waiters (w ∷ one.waiters) → one.room ≡ blocked.room
+    → length old_timed.waiters + length old_blocked.waiters ≤ old_timed.room → length old_timed.waiters + length old_blocked.waiters ≤ old_blocked.room → (length timed.waiters < timed.room) × (length one.waiters < one.room)
+released-room life commands ended old_timed old_blocked timed blocked one w r is room timed_enough blocked_enough =
+    let longer = length_permutation blocked.waiters (w ∷ one.waiters) is in
+    let total : length timed.waiters + length blocked.waiters ≡ length old_timed.waiters + length old_blocked.waiters =
+    omega (arith, r.all (λ _. true), count-all timed.waiters, count-all blocked.waiters, count-all old_timed.waiters, count-all old_blocked.waiters) in
+    (omega (arith, longer, total, r.timed_room, timed_enough), omega (arith, longer, total, r.blocked_room, blocked_enough, room))
+
+-- one was taken out and queued anew
+pub released-more : (life : ℕ) (commands : List Command) (ended : Command) (old_timed old_blocked timed blocked one timed_new blocked_new : QueueTable) (w : Waiter)
+    → Released life commands ended old_timed old_blocked timed blocked → IsPermutation blocked.waiters (w ∷ one.waiters) → one.room ≡ blocked.room
+    → ((test : Command → Bool) → count_by (λ w. test w.command) timed_new.waiters ≡ cond (not (is_blocked commands w.command) && test w.command) 1 0 + count_by (λ w. test w.command) timed.waiters)
+    → ((test : Command → Bool) → count_by (λ w. test w.command) blocked_new.waiters ≡ cond (is_blocked commands w.command && test w.command) 1 0 + count_by (λ w. test w.command) one.waiters)
+    → ((latest : ℕ) → All (Knows life latest commands) timed.waiters → All (Knows life latest commands) timed_new.waiters)
+    → ((skip : Waiter → Bool) → All (λ w. skip w ≡ false → IsHeldBy commands w) one.waiters → All (λ w. skip w ≡ false → IsHeldBy commands w) blocked_new.waiters)
+    → timed_new.room ≡ timed.room → blocked_new.room ≡ one.room → Released life commands ended old_timed old_blocked timed_new blocked_new
+released-more life commands ended old_timed old_blocked timed blocked one timed_new blocked_new w r is room queued_timed queued_blocked knows queued timed_room blocked_room = record {
+  all = λ test.
+      let split : bit (not (is_blocked commands w.command) && test w.command) + bit (is_blocked commands w.command && test w.command) ≡ bit (test w.command) = either (is_blocked commands w.command) (test w.command) in
+      let taken = sum_by-IsPermutation (λ (v : Waiter). cond (test v.command) 1 0) blocked.waiters (w ∷ one.waiters) is in
+      omega (arith, r.all test, queued_timed test, queued_blocked test, split, count-cons (λ (v : Waiter). test v.command) w one.waiters, taken);
+  free = let out : bit (not (is_blocked commands w.command) && is_blocked commands w.command) ≡ 0 = never (is_blocked commands w.command) in omega (arith, r.free, queued_timed (is_blocked commands), out);
+  knows = λ latest all. knows latest (r.knows latest all);
+  held = λ all.
+      let P : Waiter → Type 0 = λ v. waited_for ended v ≡ false → IsHeldBy commands v in
+      queued (waited_for ended) (All-tail P w one.waiters (All-permutation P blocked.waiters (w ∷ one.waiters) is (r.held all)));
+  timed_room = timed_room ∙ r.timed_room;
+  blocked_room = blocked_room ∙ room ∙ r.blocked_room;
+}
+  where
+    either : (b t : Bool) → bit (not b && t) + bit (b && t) ≡ bit t
+    either true true = refl
+    either true false = refl
+    either false true = refl
+    either false false = refl
+
+    never : (b : Bool) → bit (not b && b) ≡ 0
+    never true = refl
+    never false = refl
+
+-- fewer wait for the ended one
+pub released-fewer : (ended : Command) (w : Waiter) (blocked one new : List Waiter) → IsPermutation blocked (w ∷ one) → w.from ≡ ended.ticket.0 → finished ended.stage ≡ true
+    → count_by (waited_for ended) new ≡ count_by (waited_for ended) one → count_by (waited_for ended) new < count_by (waited_for ended) blocked
+released-fewer ended w blocked one new is from done same =
+    let here : bit (waited_for ended w) ≡ 1 = rw (eq-eqb w.from ended.ticket.0 from, done) refl in
+    let taken = sum_by-IsPermutation (λ (v : Waiter). cond (waited_for ended v) 1 0) blocked (w ∷ one) is in
+    omega (arith, here, taken, same, count-cons (waited_for ended) w one)
+
+pub none-waited : (ended : Command) (waiters : List Waiter) → All (λ w. nat_eq w.from ended.ticket.0 ≡ false) waiters → All (λ w. waited_for ended w ≡ false) waiters
+none-waited ended waiters out = λ k d below. ap (λ b. b && finished ended.stage) (out k d below)
+
+pub none-open : (ended : Command) (waiters : List Waiter) → finished ended.stage ≡ false → All (λ w. waited_for ended w ≡ false) waiters
+none-open ended waiters out = λ k d below. let b = nat_eq (get_or waiters k d).from ended.ticket.0 in ap (λ f. b && f) out ∙ none b
+  where
+    none : (b : Bool) → (b && false) ≡ false
+    none true = refl
+    none false = refl
 
 -- what stands where a list has none
 abbrev pub none_command : Command
@@ -170,3 +169,20 @@ pub read-at : (xs : List Command) (i : ℕ) (d e : Command) → i < length xs �
 read-at [] i d e below = absurd (omega (arith, below))
 read-at (x ∷ xs) zero d e below = refl
 read-at (x ∷ xs) (suc i) d e below = read-at xs i d e (omega (arith, below))
+
+-- going back, one more isn't an unfinished one in conflict
+pub none-more : (commands : List Command) (c : Command) (left : ℕ) (x : Command) → 0 < left → left ≤ length commands → x ≡ get_or commands (left - 1) x → blocks c x ≡ false
+    → ((k : ℕ) (d : Command) → left ≤ k → k < length commands → blocks c (get_or commands k d) ≡ false) → (k : ℕ) (d : Command) → left - 1 ≤ k → k < length commands → blocks c (get_or commands k d) ≡ false
+none-more commands c left x some within read out rest k d from below = elim (cases_lt k left) [
+  | inl before ↦
+      let same : k ≡ left - 1 = omega (arith, before, from) in
+      ap (blocks c) (ap (λ i. get_or commands i d) same ∙ read-at commands (left - 1) d x (omega (arith, some, within)) ∙ sym read) ∙ out
+  | inr after ↦ rest k d after below
+]
+
+-- one that waits for a command doesn't wait for one that ended
+pub not-waited : (commands : List Command) (c ended : Command) (from : ℕ) → list_any (λ e. nat_eq e.ticket.0 from && blocks c e) commands ≡ true → list_any (λ e. nat_eq e.ticket.0 ended.ticket.0 && blocks c e) commands ≡ false
+    → nat_eq from ended.ticket.0 ≡ false
+not-waited commands c ended from held out = ne_eqb from ended.ticket.0 (λ same.
+    let P : ℕ → Type 0 = λ n. list_any (λ e. nat_eq e.ticket.0 n && blocks c e) commands ≡ true in
+    true≢false (sym (subst P same held) ∙ out))

@@ -36,7 +36,7 @@ tickets-kept test ticket change (c ∷ commands) = rw (tickets-kept test ticket 
     at true = refl
     at false = refl
 
-ticket-kept : (ticket : ℕ) (change : Stage → Stage) (c : Command) → (with_stage ticket change c).ticket ≡ c.ticket
+pub ticket-kept : (ticket : ℕ) (change : Stage → Stage) (c : Command) → (with_stage ticket change c).ticket ≡ c.ticket
 ticket-kept ticket change c = at (nat_eq c.ticket.0 ticket)
   where
     at : (b : Bool) → (cond b (record c { stage = change c.stage }) c).ticket ≡ c.ticket

@@ -10,9 +10,10 @@ use Rattle.aoe_hold.specs.declared.command.Command.{Command}
 use Rattle.aoe_hold.specs.declared.queue.Waiter.{Waiter}
 use Rattle.aoe_hold.specs.Commands.{is_unsent}
 use Rattle.aoe_hold.specs.HoldTable.{is_ascending}
-use Rattle.aoe_hold.specs.Queue.{has_ticket, waits}
+use Rattle.aoe_hold.specs.Queue.{has_ticket}
 use Rattle.aoe_hold.proofs.CountLemmas.{all-none, count-cons, none-all}
-use Rattle.aoe_hold.proofs.IndexLemmas.{bit, keeps, HasWaiters}
+use Rattle.aoe_hold.proofs.HeldLemmas.{HasAll}
+use Rattle.aoe_hold.proofs.IndexLemmas.{bit, keeps}
 use Rattle.aoe_hold.proofs.ReleaseLemmas.{none-any, one-at}
 use Rattle.aoe_hold.proofs.WaitLemmas.{all-true}
 
@@ -109,10 +110,10 @@ missing-none p commands missing = all-none p commands (λ k d below. elim (cases
 ])
 
 -- a command stands once in the queues, where it wasn't sent
-pub leaves-once : (ticket i : ℕ) (commands : List Command) (command : Command) (timed ready : List Waiter) (fresh : Bool) → is_ascending commands ≡ true → HasWaiters commands timed ready
+pub leaves-once : (ticket i : ℕ) (commands : List Command) (command : Command) (timed ready blocked : List Waiter) (fresh : Bool) → is_ascending commands ≡ true → HasAll commands timed ready blocked
     → position (λ c. nat_eq c.ticket.0 ticket) commands ≡ Some i → command ≡ get_or commands i command → fresh ≡ is_unsent command
-    → count_by (has_ticket ticket) timed + count_by (has_ticket ticket) ready ≤ cond fresh 1 0
-leaves-once ticket i commands command timed ready fresh up same found read is = at fresh is
+    → count_by (has_ticket ticket) timed + count_by (has_ticket ticket) ready + count_by (has_ticket ticket) blocked ≤ cond fresh 1 0
+leaves-once ticket i commands command timed ready blocked fresh up all found read is = at fresh is
   where
     p : Command → Bool
     p c = nat_eq c.ticket.0 ticket
@@ -123,13 +124,12 @@ leaves-once ticket i commands command timed ready fresh up same found read is = 
     swap false true = refl
     swap false false = refl
 
-    at : (b : Bool) → b ≡ is_unsent command → count_by (has_ticket ticket) timed + count_by (has_ticket ticket) ready ≤ cond b 1 0
-    at true is = omega (arith, same p, count-fewer (waits commands) p commands, tickets-once ticket commands up)
+    at : (b : Bool) → b ≡ is_unsent command → count_by (has_ticket ticket) timed + count_by (has_ticket ticket) ready + count_by (has_ticket ticket) blocked ≤ cond b 1 0
+    at true is = omega (arith, all p, count-fewer is_unsent p commands, tickets-once ticket commands up)
     at false is =
-        let sent : waits commands command ≡ false = rw (← is) refl in
-        let none = none-any (λ e. nat_eq e.ticket.0 ticket && waits commands e) commands (one-at ticket (waits commands) commands i command up found read ∙ sent) in
-        let count : count_by (λ c. waits commands c && p c) commands ≡ 0 = all-none (λ c. waits commands c && p c) commands (λ k d below. swap (waits commands (get_or commands k d)) (p (get_or commands k d)) ∙ none k d below) in
-        omega (arith, same p, count)
+        let none = none-any (λ e. nat_eq e.ticket.0 ticket && is_unsent e) commands (one-at ticket is_unsent commands i command up found read ∙ sym is) in
+        let count : count_by (λ c. is_unsent c && p c) commands ≡ 0 = all-none (λ c. is_unsent c && p c) commands (λ k d below. swap (is_unsent (get_or commands k d)) (p (get_or commands k d)) ∙ none k d below) in
+        omega (arith, all p, count)
 
 pub filter-same : {X : Type 0} (p : X → Bool) (xs : List X) → All (λ x. p x ≡ true) xs → xs ≡ filter p xs
 filter-same p [] all = refl
@@ -138,32 +138,29 @@ filter-same p (x ∷ xs) all = rw (All-head (λ y. p y ≡ true) x xs all, ← f
 pub stays-none : (ticket : ℕ) (waiters : List Waiter) → count_by (has_ticket ticket) waiters ≡ 0 → waiters ≡ filter (keeps ticket) waiters
 stays-none ticket waiters none = filter-same (keeps ticket) waiters (λ k d below. ap not (none-all (has_ticket ticket) waiters none k d below))
 
-first-alone : (ticket : ℕ) (w : Waiter) (old waiters timed : List Waiter) → nat_eq w.command.ticket.0 ticket ≡ true → old ≡ w ∷ waiters
-    → count_by (has_ticket ticket) timed + count_by (has_ticket ticket) old ≤ 1 → (timed ≡ filter (keeps ticket) timed) × (waiters ≡ filter (keeps ticket) old)
-first-alone ticket w old waiters timed here is once =
+pub leaves-none : (ticket : ℕ) (timed ready blocked : List Waiter) → count_by (has_ticket ticket) timed + count_by (has_ticket ticket) ready + count_by (has_ticket ticket) blocked ≤ 0
+    → (timed ≡ filter (keeps ticket) timed) × (ready ≡ filter (keeps ticket) ready) × (blocked ≡ filter (keeps ticket) blocked)
+leaves-none ticket timed ready blocked none = (stays-none ticket timed (omega (arith, none)), stays-none ticket ready (omega (arith, none)), stays-none ticket blocked (omega (arith, none)))
+
+first-alone : (ticket : ℕ) (w : Waiter) (old waiters timed blocked : List Waiter) → nat_eq w.command.ticket.0 ticket ≡ true → old ≡ w ∷ waiters
+    → count_by (has_ticket ticket) timed + count_by (has_ticket ticket) old + count_by (has_ticket ticket) blocked ≤ 1
+    → (timed ≡ filter (keeps ticket) timed) × (waiters ≡ filter (keeps ticket) old) × (blocked ≡ filter (keeps ticket) blocked)
+first-alone ticket w old waiters timed blocked here is once =
     let whole = ap (count_by (has_ticket ticket)) is ∙ count-cons (has_ticket ticket) w waiters in
-    let one : bit (has_ticket ticket w) ≡ 1 = rw here refl in (
-      stays-none ticket timed (omega (arith, once, whole, one)),
-      stays-none ticket waiters (omega (arith, once, whole, one)) ∙ sym (ap (filter (keeps ticket)) is ∙ rw here refl),
-    )
+    let one : bit (has_ticket ticket w) ≡ 1 = rw here refl in
+    let rest = leaves-none ticket timed waiters blocked (omega (arith, once, whole, one)) in
+    (rest.0, rest.1 ∙ sym (ap (filter (keeps ticket)) is ∙ rw here refl), rest.2)
 
 -- where the first has the ticket, it has it alone
-pub leaves-first : (ticket : ℕ) (first : Option Waiter) (old waiters timed : List Waiter) → is_none first ≡ false → IfSome first (λ w. (nat_eq w.command.ticket.0 ticket ≡ true) × (old ≡ w ∷ waiters))
-    → count_by (has_ticket ticket) timed + count_by (has_ticket ticket) old ≤ 1 → (timed ≡ filter (keeps ticket) timed) × (waiters ≡ filter (keeps ticket) old)
-leaves-first ticket None old waiters timed found is once = absurd cc
-leaves-first ticket (Some w) old waiters timed found is once = first-alone ticket w old waiters timed is.0 is.1 once
+pub leaves-first : (ticket : ℕ) (first : Option Waiter) (old waiters timed blocked : List Waiter) → is_none first ≡ false → IfSome first (λ w. (nat_eq w.command.ticket.0 ticket ≡ true) × (old ≡ w ∷ waiters))
+    → count_by (has_ticket ticket) timed + count_by (has_ticket ticket) old + count_by (has_ticket ticket) blocked ≤ 1
+    → (timed ≡ filter (keeps ticket) timed) × (waiters ≡ filter (keeps ticket) old) × (blocked ≡ filter (keeps ticket) blocked)
+leaves-first ticket None old waiters timed blocked found is once = absurd cc
+leaves-first ticket (Some w) old waiters timed blocked found is once = first-alone ticket w old waiters timed blocked is.0 is.1 once
 
 -- one that isn't held stands in no queue
-pub leaves-missing : (ticket : ℕ) (commands : List Command) (timed ready : List Waiter) → HasWaiters commands timed ready → position (λ c. nat_eq c.ticket.0 ticket) commands ≡ None
-    → (timed ≡ filter (keeps ticket) timed) × (ready ≡ filter (keeps ticket) ready)
-leaves-missing ticket commands timed ready same missing =
+pub leaves-missing : (ticket : ℕ) (commands : List Command) (timed ready blocked : List Waiter) → HasAll commands timed ready blocked → position (λ c. nat_eq c.ticket.0 ticket) commands ≡ None
+    → (timed ≡ filter (keeps ticket) timed) × (ready ≡ filter (keeps ticket) ready) × (blocked ≡ filter (keeps ticket) blocked)
+leaves-missing ticket commands timed ready blocked all missing =
     let p : Command → Bool = λ c. nat_eq c.ticket.0 ticket in
-    let none = missing-none p commands missing in
-    let fewer = count-fewer (waits commands) p commands in (
-      stays-none ticket timed (omega (arith, same p, none, fewer)),
-      stays-none ticket ready (omega (arith, same p, none, fewer)),
-    )
-
-pub leaves-none : (ticket : ℕ) (timed ready : List Waiter) → count_by (has_ticket ticket) timed + count_by (has_ticket ticket) ready ≤ 0
-    → (timed ≡ filter (keeps ticket) timed) × (ready ≡ filter (keeps ticket) ready)
-leaves-none ticket timed ready none = (stays-none ticket timed (omega (arith, none)), stays-none ticket ready (omega (arith, none)))
+    leaves-none ticket timed ready blocked (omega (arith, all p, missing-none p commands missing, count-fewer is_unsent p commands))

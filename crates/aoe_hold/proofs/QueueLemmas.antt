@@ -1,10 +1,10 @@
 -- Things in the order of their times and tickets.
-use Rattle.std.proofs.Common.{ℕ, zero, suc, ◌≡◌, ◌<◌, ◌≤◌, ◌&&◌, cond, Bool, true, false, List, [], ◌∷◌, length, get_or, ◌⊎◌, inl, inr, sym, ◌∙◌, arith, nat_eq, nat_lt, if◌then◌else◌, Some}
-use Rattle.std.specs.Prelude.{slice_get, All, Contains, Err, IsOk, Ok, Result, is_ok}
-use Rattle.std.specs.List.{filter, insert}
+use Rattle.std.proofs.Common.{ℕ, zero, suc, ◌≡◌, ◌<◌, ◌≤◌, ◌&&◌, cond, Bool, true, false, List, [], ◌∷◌, length, get_or, ◌⊎◌, inl, inr, sym, ◌∙◌, arith, nat_eq, nat_lt, if◌then◌else◌, Option, Some, None}
+use Rattle.std.specs.Prelude.{slice_get, All, Contains, Err, IfNone, IsOk, Ok, OnSome, Result, is_ok}
+use Rattle.std.specs.List.{filter, insert, remove, AllWithin}
 use Rattle.std.specs.List.Sorted.{IsPartitionedBy}
-use Rattle.std.proofs.lemmas.Bool.{and_cases, and_left, and_parts, and_right, cases_eq, cases_Bool, eqb-false, eqb-true, le-ltb, ltb-false, ltb-true, ne_eqb, or_cases, or_from, or_parts}
-use Rattle.std.proofs.lemmas.List.Elements.{All-cons, All-filter, All-nil}
+use Rattle.std.proofs.lemmas.Bool.{and_cases, and_left, and_parts, and_right, cases_eq, cases_lt, cases_Bool, eqb-false, eqb-true, le-ltb, lt-ltb, ltb-false, ltb-true, ne_eqb, or_cases, or_from, or_parts}
+use Rattle.std.proofs.lemmas.List.Elements.{All-cons, All-filter, All-head, All-nil, All-tail}
 use Rattle.std.proofs.lemmas.List.Sorted.{All-permutation, IsPermutation-insert}
 use Rattle.aoe_hold.specs.Order.{comes_before, AreInOrder}
 
@@ -100,3 +100,46 @@ head-first time ticket (x ∷ xs) d order is =
 pub inserted-ok : {X T E : Type 0} (r : Result T E) (xs new : List X) (i : ℕ) (x : X) → IsOk r → new ≡ (if is_ok r then insert xs i x else xs) → new ≡ insert xs i x
 inserted-ok (Ok done) xs new i x ok is = is
 inserted-ok (Err refused) xs new i x ok is = absurd cc
+
+-- one is taken out at its place
+all-removed : {X : Type 0} (P : X → Type 0) (xs : List X) (i : ℕ) → i < length xs → All P xs → All P (remove xs i)
+all-removed P [] i within all = absurd (omega (arith, within))
+all-removed P (x ∷ xs) zero within all = All-tail P x xs all
+all-removed P (x ∷ xs) (suc i) within all = All-cons P x (remove xs i) (All-head P x xs all) (all-removed P xs i (omega (arith, within)) (All-tail P x xs all))
+
+pub ordered-remove : {X : Type 0} (time ticket : X → ℕ) (xs : List X) (i : ℕ) → i < length xs → AreInOrder time ticket xs → AreInOrder time ticket (remove xs i)
+ordered-remove time ticket [] i within order = absurd (omega (arith, within))
+ordered-remove time ticket (x ∷ xs) zero within order = order.1
+ordered-remove time ticket (x ∷ xs) (suc i) within order =
+    (all-removed (λ later. comes_before time ticket later x ≡ false) xs i (omega (arith, within)) order.0, ordered-remove time ticket xs i (omega (arith, within)) order.1)
+
+times-rise : {X : Type 0} (time ticket : X → ℕ) (xs : List X) (i j : ℕ) (d : X) → AreInOrder time ticket xs → i ≤ j → j < length xs → time (get_or xs i d) ≤ time (get_or xs j d)
+times-rise time ticket [] i j d order le within = absurd (omega (arith, within))
+times-rise time ticket (x ∷ xs) zero zero d order le within = omega arith
+times-rise time ticket (x ∷ xs) zero (suc j) d order le within = (before-false time ticket (get_or xs j d) x (order.0 j d (omega (arith, within)))).0
+times-rise time ticket (x ∷ xs) (suc i) zero d order le within = absurd (omega (arith, le))
+times-rise time ticket (x ∷ xs) (suc i) (suc j) d order le within = times-rise time ticket xs i j d order.1 (omega (arith, le)) (omega (arith, within))
+
+pub times-parted : {X : Type 0} (time ticket : X → ℕ) (from : ℕ) (xs : List X) → AreInOrder time ticket xs → IsPartitionedBy (λ x. nat_lt (time x) from) xs
+times-parted time ticket from xs order i j d le within passes =
+    lt-ltb (time (get_or xs i d)) from (omega (arith, times-rise time ticket xs i j d order le within, ltb-true (time (get_or xs j d)) from passes))
+
+-- none has a time, where the first that isn't before it doesn't
+pub none-from : {X : Type 0} (time ticket : X → ℕ) (from place : ℕ) (xs : List X) → AreInOrder time ticket xs → AllWithin (λ x. nat_lt (time x) from ≡ true) xs 0 place → AllWithin (λ x. nat_lt (time x) from ≡ false) xs place (length xs)
+    → ((d : X) → place < length xs → nat_eq (time (get_or xs place d)) from ≡ false) → All (λ x. nat_eq (time x) from ≡ false) xs
+none-from time ticket from place xs order lower higher here k d within = elim (cases_lt k place) [
+  | inl before ↦ let low = ltb-true (time (get_or xs k d)) from (lower k d (omega arith) before) in ne_eqb (time (get_or xs k d)) from (λ same. absurd (omega (arith, low, same)))
+  | inr after ↦
+      let first = ltb-false (time (get_or xs place d)) from (higher place d (omega arith) (omega (arith, after, within))) in
+      let rises = times-rise time ticket xs place k d order after within in
+      ne_eqb (time (get_or xs k d)) from (λ same. eqb-false (time (get_or xs place d)) from (here d (omega (arith, after, within))) (omega (arith, first, rises, same)))
+]
+
+-- an answer that is there
+pub on-some : {X : Type 0} (r : Option X) (x : X) (A : Type 0) → r ≡ Some x → OnSome r A → A
+on-some (Some y) x A is on = on
+on-some None x A is on = absurd cc
+
+pub if-none : {X : Type 0} (r : Option X) (A : Type 0) → A → IfNone r A
+if-none (Some x) A is = tt
+if-none None A is = is

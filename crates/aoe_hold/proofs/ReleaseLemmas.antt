@@ -1,22 +1,20 @@
 -- The commands that wait, after one ended.
-use Rattle.std.proofs.Common.{ℕ, zero, suc, ◌≡◌, ◌+◌, ◌<◌, ◌≤◌, ◌&&◌, ◌||◌, not, cond, get_or, Bool, true, false, List, [], ◌∷◌, length, Some, refl, sym, ap, subst, ◌∙◌, arith, nat_eq, nat_lt}
+use Rattle.std.proofs.Common.{ℕ, zero, suc, ◌≡◌, ◌<◌, ◌≤◌, ◌&&◌, ◌||◌, not, cond, get_or, Bool, true, false, List, [], ◌∷◌, length, Some, refl, sym, ap, ◌∙◌, arith, nat_eq, nat_lt}
 use Rattle.std.specs.Prelude.{position, All}
-use Rattle.std.specs.List.{count_by, list_all, list_any}
+use Rattle.std.specs.List.{list_all, list_any}
 use Rattle.std.proofs.lemmas.Bool.{and_parts, eqb-true, ltb-true, ne_eqb, or_parts}
 use Rattle.std.proofs.lemmas.List.Elements.{All-cons, All-nil}
 use Rattle.std.proofs.lemmas.List.Quantifiers.{position-Some}
-use Rattle.aoe_hold.proofs.CountLemmas.{count-all, count-alike, count-map, count-split}
 use Rattle.aoe_hold.specs.declared.command.Command.{Command}
 use Rattle.aoe_hold.specs.declared.command.Stage.{Stage}
 use Rattle.aoe_hold.specs.declared.command.Stage.TheVariants.{Unsent, Flying, Finished}
 use Rattle.aoe_hold.specs.declared.queue.Waiter.{Waiter}
-use Rattle.aoe_hold.specs.Commands.{after_stage, all_gone, comes_first, finished, has_effect, is_unsent, rests_on_effects, stage_finished, unsent, unsent_count, with_stage}
+use Rattle.aoe_hold.specs.Commands.{after_stage, all_gone, comes_first, finished, has_effect, is_unsent, rests_on_effects, stage_finished, unsent, with_stage}
 use Rattle.aoe_hold.specs.HoldTable.{is_ascending}
-use Rattle.aoe_hold.specs.Queue.{blocks, is_blocked, is_released, lingers, waits, Knows}
-use Rattle.aoe_hold.proofs.IndexLemmas.{waits-few, HasWaiters}
+use Rattle.aoe_hold.specs.Queue.{blocks, is_blocked, lingers, Knows}
 use Rattle.aoe_hold.proofs.WaitLemmas.{any-agree, any-alike, any-map, any-or}
 
-abbrev ends : ℕ → Command → Command
+abbrev pub ends : ℕ → Command → Command
 ends ticket c = with_stage ticket stage_finished c
 
 end-unsent : (s : Stage) → unsent (stage_finished s) ≡ unsent s
@@ -74,14 +72,14 @@ pub record Ended (ticket : ℕ) (commands after : List Command) (ended : Command
   pub is : after ≡ after_stage ticket stage_finished commands
   pub once : (p : Command → Bool) → list_any (λ e. nat_eq e.ticket.0 ticket && p e) commands ≡ p ended
 
-blocked-ended : (ticket : ℕ) (commands after : List Command) (ended c : Command) → Ended ticket commands after ended → is_blocked commands c ≡ (is_blocked after c || blocks c ended)
+pub blocked-ended : (ticket : ℕ) (commands after : List Command) (ended c : Command) → Ended ticket commands after ended → is_blocked commands c ≡ (is_blocked after c || blocks c ended)
 blocked-ended ticket commands after ended c e =
     any-alike (blocks c) (λ x. blocks c (ends ticket x) || (nat_eq x.ticket.0 ticket && blocks c x)) (blocks-ended ticket c) commands
     ∙ any-or (λ x. blocks c (ends ticket x)) (λ x. nat_eq x.ticket.0 ticket && blocks c x) commands
     ∙ rw (e.once (blocks c), e.is, any-map (blocks c) (ends ticket) commands) refl
 
 -- a command that was never sent is left as it is
-same-unsent : (ticket : ℕ) (c : Command) → is_unsent c ≡ true → ends ticket c ≡ c
+pub same-unsent : (ticket : ℕ) (c : Command) → is_unsent c ≡ true → ends ticket c ≡ c
 same-unsent ticket c is = at (nat_eq c.ticket.0 ticket)
   where
     stays : (s : Stage) → unsent s ≡ true → stage_finished s ≡ s
@@ -93,66 +91,12 @@ same-unsent ticket c is = at (nat_eq c.ticket.0 ticket)
     at true = ap (λ (s : Stage). record c { stage = s }) (stays c.stage is)
     at false = refl
 
-never-unsent : (ticket : ℕ) (c : Command) → is_unsent c ≡ false → is_unsent (ends ticket c) ≡ false
+pub never-unsent : (ticket : ℕ) (c : Command) → is_unsent c ≡ false → is_unsent (ends ticket c) ≡ false
 never-unsent ticket c is = at (nat_eq c.ticket.0 ticket)
   where
     at : (b : Bool) → is_unsent (cond b (record c { stage = stage_finished c.stage }) c) ≡ false
     at true = end-unsent c.stage ∙ is
     at false = is
-
-split-bool : (b r t : Bool) → cond ((true && not b) && t) 1 0 ≡ cond ((true && not (b || r)) && t) 1 0 + cond ((true && r && not b) && t) 1 0
-split-bool true r true = at r
-  where
-    at : (r : Bool) → cond ((true && not true) && true) 1 0 ≡ cond ((true && not (true || r)) && true) 1 0 + cond ((true && r && not true) && true) 1 0
-    at true = refl
-    at false = refl
-split-bool true true false = refl
-split-bool true false false = refl
-split-bool false true true = refl
-split-bool false true false = refl
-split-bool false false true = refl
-split-bool false false false = refl
-
--- those that wait now waited before, or were released
-ended-split : (ticket : ℕ) (commands after : List Command) (ended : Command) → Ended ticket commands after ended → (test : Command → Bool)
-    → count_by (λ c. waits after c && test c) after ≡ count_by (λ c. waits commands c && test c) commands + count_by (λ c. is_released after ended c && test c) after
-ended-split ticket commands after ended e test =
-    let f = ends ticket in
-    let now : count_by (λ c. waits after c && test c) after ≡ count_by (λ c. waits after (f c) && test (f c)) commands = ap (count_by (λ c. waits after c && test c)) e.is ∙ count-map (λ c. waits after c && test c) f commands in
-    let freed : count_by (λ c. is_released after ended c && test c) after ≡ count_by (λ c. is_released after ended (f c) && test (f c)) commands =
-    ap (count_by (λ c. is_released after ended c && test c)) e.is ∙ count-map (λ c. is_released after ended c && test c) f commands in
-    let split = count-split (λ c. waits after (f c) && test (f c)) (λ c. waits commands c && test c) (λ c. is_released after ended (f c) && test (f c)) one commands in
-    omega (arith, now, freed, split)
-  where
-    fresh : (c : Command) → is_unsent c ≡ true → cond (waits after c && test c) 1 0 ≡ cond (waits commands c && test c) 1 0 + cond (is_released after ended c && test c) 1 0
-    fresh c is = rw (is, blocked-ended ticket commands after ended c e) (split-bool (is_blocked after c) (blocks c ended) (test c))
-
-    one : (c : Command) → cond (waits after (ends ticket c) && test (ends ticket c)) 1 0 ≡ cond (waits commands c && test c) 1 0 + cond (is_released after ended (ends ticket c) && test (ends ticket c)) 1 0
-    one c = at (is_unsent c) refl
-      where
-        at : (b : Bool) → is_unsent c ≡ b → cond (waits after (ends ticket c) && test (ends ticket c)) 1 0 ≡ cond (waits commands c && test c) 1 0 + cond (is_released after ended (ends ticket c) && test (ends ticket c)) 1 0
-        at true is =
-            let P : Command → Type 0 = λ x. cond (waits after x && test x) 1 0 ≡ cond (waits commands c && test c) 1 0 + cond (is_released after ended x && test x) 1 0 in
-            subst P (sym (same-unsent ticket c is)) (fresh c is)
-        at false is = rw (never-unsent ticket c is, is) refl
-
-pub ended-waits : (ticket : ℕ) (commands after : List Command) (ended : Command) (timed ready timed_after : List Waiter) → Ended ticket commands after ended
-    → ((test : Command → Bool) → count_by (λ w. test w.command) timed_after ≡ count_by (λ w. test w.command) timed + count_by (λ c. is_released after ended c && test c) after)
-    → HasWaiters commands timed ready → HasWaiters after timed_after ready
-ended-waits ticket commands after ended timed ready timed_after e released same test = omega (arith, released test, same test, ended-split ticket commands after ended e test)
-
--- there is room for those that are released
-pub ended-room : (ticket : ℕ) (commands after : List Command) (ended : Command) (timed ready : List Waiter) → Ended ticket commands after ended → HasWaiters commands timed ready
-    → length timed + count_by (is_released after ended) after ≤ unsent_count after
-ended-room ticket commands after ended timed ready e same =
-    omega (arith, ended-split ticket commands after ended e (λ _. true), same (λ _. true), count-all timed, waits-few after after, alike after)
-  where
-    and-true : (b : Bool) → b ≡ (b && true)
-    and-true true = refl
-    and-true false = refl
-
-    alike : (xs : List Command) → count_by (is_released after ended) xs ≡ count_by (λ c. is_released after ended c && true) xs
-    alike xs = count-alike (is_released after ended) (λ c. is_released after ended c && true) (λ c. and-true (is_released after ended c)) xs
 
 -- frames of a command that just ended keep back none that waited before
 end-lingers : (life now : ℕ) (cf e r : Bool) (s : Stage) → (cf && not (finished s)) ≡ false

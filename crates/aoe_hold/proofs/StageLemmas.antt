@@ -2,7 +2,7 @@
 use Rattle.std.proofs.Common.{ℕ, zero, suc, ◌≡◌, ◌+◌, ◌<◌, ◌≤◌, cond, true, false, List, [], ◌∷◌, length, get_or, set, Some, None, inl, inr, refl, sym, ap, subst, ◌∙◌, arith, add-zero, nat_eq, nat_lt}
 use Rattle.std.specs.Prelude.{position}
 use Rattle.std.specs.List.{list_all, position_or_len}
-use Rattle.std.proofs.lemmas.Bool.{and_parts, cases_lt, eqb-true, ltb-true, lt-ltb, ne_eqb}
+use Rattle.std.proofs.lemmas.Bool.{and_parts, cases_lt, eq-eqb, eqb-true, ltb-true, lt-ltb, ne_eqb}
 use Rattle.std.proofs.lemmas.List.Quantifiers.{position-Some}
 use Rattle.std.proofs.lemmas.List.Sums.{fails_before_first, get_or-le-sum_by, sum_by-set}
 use Rattle.aoe_base.specs.declared.counted.Millis.{Millis}
@@ -105,3 +105,11 @@ counted commands i command within read =
 
 pub place-within : (ticket : ℕ) (commands : List Command) (i : ℕ) (d : Command) → position (λ c. nat_eq c.ticket.0 ticket) commands ≡ Some i → i < length commands
 place-within ticket commands i d found = (position-Some (λ (c : Command). nat_eq c.ticket.0 ticket) commands i d found).0
+
+pub place-ticket : (ticket : ℕ) (commands : List Command) (i : ℕ) (command : Command) → position (λ c. nat_eq c.ticket.0 ticket) commands ≡ Some i → command ≡ get_or commands i command → command.ticket.0 ≡ ticket
+place-ticket ticket commands i command found read =
+    let there = (position-Some (λ (c : Command). nat_eq c.ticket.0 ticket) commands i command found).1 in
+    ap (λ (c : Command). c.ticket.0) read ∙ eqb-true (get_or commands i command).ticket.0 ticket there
+
+pub new-ends : (ticket : ℕ) (command : Command) (stage : Stage) → command.ticket.0 ≡ ticket → stage ≡ stage_finished command.stage → (let made : Command = record command { stage = stage } in made) ≡ with_stage ticket stage_finished command
+new-ends ticket command stage its is = rw (is, eq-eqb command.ticket.0 ticket its) refl

@@ -1,12 +1,12 @@
--- Commands that may be sent from some time on, in the order of these times.
-use Rattle.std.specs.Prelude.{ℕ, ◌≡◌, ◌+◌, ◌≤◌, ◌&&◌, Bool, not, List, [], nat_eq, nat_le, All}
+-- Commands that wait, in the order of what they wait for.
+use Rattle.std.specs.Prelude.{ℕ, ◌≡◌, ◌+◌, ◌≤◌, ◌&&◌, Bool, true, false, not, List, [], nat_eq, nat_le, All}
 use Rattle.std.specs.List.{count_by, list_any}
 use Rattle.aoe_hold.specs.Order.{AreInOrder}
 use Rattle.aoe_hold.specs.declared.command.Command.{Command}
 use Rattle.aoe_hold.specs.declared.queue.Waiter.{Waiter}
 use Rattle.aoe_hold.specs.Commands.{all_gone, comes_first, finished, has_effect, is_unsent, rests_on_effects}
 
--- for how many there is room, and those that wait, the one that may be sent first at the head
+-- for how many there is room, and those that wait, in order
 pub record QueueTable : Type 0 where
   pub room : ℕ
   pub waiters : List Waiter
@@ -14,7 +14,7 @@ pub record QueueTable : Type 0 where
 abbrev pub no_waiters : QueueTable
 no_waiters = record { room = 0; waiters = [] }
 
--- the time from which a command may be sent, and its ticket
+-- what a command waits for, and its ticket
 abbrev pub time_of : Waiter → ℕ
 time_of w = w.from
 
@@ -49,10 +49,6 @@ lingers life now later earlier =
 abbrev pub waits : List Command → Command → Bool
 waits commands c = is_unsent c && not (is_blocked commands c)
 
--- a command waited for an ended one, and waits for no other
-abbrev pub is_released : List Command → Command → Command → Bool
-is_released commands ended c = is_unsent c && blocks c ended && not (is_blocked commands c)
-
 -- from its time on no frame can arrive that a command waits for
 abbrev pub Knows : ℕ → ℕ → List Command → Waiter → Type 0
 Knows life latest commands w = (now : ℕ) → latest ≤ now → list_any (λ e. lingers life now w.command e) commands ≡ not (nat_le w.from now)
@@ -67,6 +63,21 @@ pub record IsIndex (life latest unsent : ℕ) (commands : List Command) (timed r
   pub timed_room : unsent ≤ timed.room
   pub ready_room : unsent ≤ ready.room
 
+-- what a command waits for is the ticket of an earlier one in conflict that is unfinished
+abbrev pub IsHeldBy : List Command → Waiter → Type 0
+IsHeldBy commands w = list_any (λ e. nat_eq e.ticket.0 w.from && blocks w.command e) commands ≡ true
+
+-- a command ended that this one waited for
+abbrev pub waited_for : Command → Waiter → Bool
+waited_for ended w = nat_eq w.from ended.ticket.0 && finished ended.stage
+
+-- each command that was never sent stands in one of the queues, once, and in the last one with a command that it waits for
+pub record AreHeld (unsent : ℕ) (commands : List Command) (timed ready blocked : QueueTable) : Type 0 where
+  pub all : (test : Command → Bool) → count_by (λ w. test w.command) timed.waiters + count_by (λ w. test w.command) ready.waiters + count_by (λ w. test w.command) blocked.waiters
+      ≡ count_by (λ c. is_unsent c && test c) commands
+  pub held : All (IsHeldBy commands) blocked.waiters
+  pub room : unsent ≤ blocked.room
+
 -- commands whose time was past were moved from the first queue to the second
 pub record Moved (now : ℕ) (old_timed old_ready timed ready : QueueTable) : Type 0 where
   pub same : (test : Command → Bool) → count_by (λ w. test w.command) timed.waiters + count_by (λ w. test w.command) ready.waiters
@@ -76,3 +87,13 @@ pub record Moved (now : ℕ) (old_timed old_ready timed ready : QueueTable) : Ty
   pub past : All (λ w. w.from ≡ 0) old_ready.waiters → All (λ w. w.from ≡ 0) ready.waiters
   pub timed_room : timed.room ≡ old_timed.room
   pub ready_room : ready.room ≡ old_ready.room
+
+-- the commands that waited for an ended one were queued anew
+pub record Released (life : ℕ) (commands : List Command) (ended : Command) (old_timed old_blocked timed blocked : QueueTable) : Type 0 where
+  pub all : (test : Command → Bool) → count_by (λ w. test w.command) timed.waiters + count_by (λ w. test w.command) blocked.waiters
+      ≡ count_by (λ w. test w.command) old_timed.waiters + count_by (λ w. test w.command) old_blocked.waiters
+  pub free : count_by (λ w. is_blocked commands w.command) timed.waiters ≡ count_by (λ w. is_blocked commands w.command) old_timed.waiters
+  pub knows : (latest : ℕ) → All (Knows life latest commands) old_timed.waiters → All (Knows life latest commands) timed.waiters
+  pub held : All (λ w. waited_for ended w ≡ false → IsHeldBy commands w) old_blocked.waiters → All (λ w. waited_for ended w ≡ false → IsHeldBy commands w) blocked.waiters
+  pub timed_room : timed.room ≡ old_timed.room
+  pub blocked_room : blocked.room ≡ old_blocked.room

@@ -1,7 +1,7 @@
 //! Commands, and which of them keep others back.
 ghost use Rattle.std.specs.Prelude.{◌≡◌, ◌+◌, ◌<◌, ◌&&◌, ℕ, false, not, nat_le};
 ghost use Rattle.aoe_hold.specs.Queue.{blocks, lingers};
-ghost use Rattle.aoe_hold.specs.Commands.{comes_first, conflict, has_effect, is_past, is_unsent, rests_on_effects, stage_finished, stage_sent};
+ghost use Rattle.aoe_hold.specs.Commands.{comes_first, conflict, finished, has_effect, is_past, is_unsent, rests_on_effects, stage_finished, stage_sent};
 
 use aoe_base::{Millis, Span, Ticket};
 
@@ -132,14 +132,14 @@ impl Command {
     pub fn blocks(&self, later: &Command) -> bool
         ensures { result ≡ blocks later.now self.now }
     {
-        self.comes_first(later) && !matches!(self.stage, Stage::Finished(_))
+        self.comes_first(later) && !self.is_finished()
     }
 
-    /// Whether the command was never sent, and waits for an earlier one that isn't finished.
-    pub fn waits_for(&self, earlier: &Command) -> bool
-        ensures { result ≡ (is_unsent self.now && blocks self.now earlier.now) }
+    /// Whether the command has its outcome.
+    pub fn is_finished(&self) -> bool
+        ensures { result ≡ finished self.now.stage }
     {
-        self.is_unsent() && earlier.blocks(self)
+        matches!(self.stage, Stage::Finished(_))
     }
 
     /// The time from which no frame of the command can arrive that a later one waits for, once the

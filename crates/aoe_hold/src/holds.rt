@@ -3,9 +3,10 @@ ghost use Rattle.std.specs.Prelude.{◌≡◌, ◌+◌, ◌-◌, ◌^◌, ◌<�
 ghost use Rattle.std.specs.List.{count_by, filter, list_any};
 ghost use Rattle.std.specs.Option.{ForSome};
 ghost use Rattle.std.specs.Vec.{vec_capacity, vec_len};
-ghost use Rattle.aoe_hold.specs.Commands.{after_stage, clear_tickets, live, stage_finished, stage_sent, unsent_count};
+ghost use Rattle.aoe_hold.specs.Commands.{after_stage, clear_tickets, finished, live, stage_finished, stage_sent, unsent_count};
+ghost use Rattle.aoe_hold.specs.declared.queue.Waiter.{Waiter as WaiterValue};
 ghost use Rattle.aoe_hold.specs.HoldTable.{after_finish, after_send, at_time, is_ascending, new_command, no_commands, with_command, NonePastBefore, Recalls};
-ghost use Rattle.aoe_hold.specs.Queue.{has_ticket, is_blocked, is_released, lingers, Knows, Moved};
+ghost use Rattle.aoe_hold.specs.Queue.{blocks, has_ticket, is_blocked, lingers, waited_for, IsHeldBy, Knows, Moved, Released};
 
 use crate::command::{Command, Kind, Stage};
 use crate::queue::{Queue, Waiter};
@@ -14,11 +15,19 @@ use std::alloc::Global;
 use std::marker::Model;
 use std::sync::ledger::Ledger;
 
-/// Whether an earlier command in conflict is unfinished.
-fn is_blocked(commands: &[Command], command: &Command) -> bool
-    ensures { result ≡ is_blocked commands.now command.now }
+/// The latest of the earlier commands in conflict that are unfinished.
+fn blocker(commands: &[Command], command: &Command) -> Option<Ticket>
+    ensures some { IfSome result (λ ticket. list_any (λ e. nat_eq e.ticket.0 ticket.0 && blocks command.now e) commands.now ≡ true) }
+    ensures none { IfNone result (is_blocked commands.now command.now ≡ false) }
 {
-    commands.iter().any(|earlier| earlier.blocks(command))
+    let mut left = commands.len();
+    'earlier: while left > 0 {
+        left -= 1;
+        if commands[left].blocks(command) {
+            return Some(commands[left].ticket);
+        }
+    }
+    None
 }
 
 /// The time from which no frame can arrive that a command waits for.
@@ -37,56 +46,85 @@ fn make_room(
     commands: &mut Vec<Command>,
     timed: &mut Queue,
     ready: &mut Queue,
+    blocked: &mut Queue,
     room: u32,
 ) -> Result<(), NoMemory>
     requires timed { length timed.old.waiters ≤ room }
     requires ready { length ready.old.waiters ≤ room }
+    requires blocked { length blocked.old.waiters ≤ room }
     ensures commands { commands.new.items ≡ commands.old.items }
     ensures place { OnOk result (vec_len commands.new < vec_capacity commands.new) }
     ensures timed { timed.new.waiters ≡ timed.old.waiters }
     ensures ready { ready.new.waiters ≡ ready.old.waiters }
+    ensures blocked { blocked.new.waiters ≡ blocked.old.waiters }
     ensures timed_more { timed.old.room ≤ timed.new.room }
     ensures ready_more { ready.old.room ≤ ready.new.room }
+    ensures blocked_more { blocked.old.room ≤ blocked.new.room }
     ensures timed_room { OnOk result (room ≤ timed.new.room) }
     ensures ready_room { OnOk result (room ≤ ready.new.room) }
+    ensures blocked_room { OnOk result (room ≤ blocked.new.room) }
 {
     if commands.reserve(1).is_err() {
         return Err(NoMemory);
     }
     timed.reserve(room)?;
-    ready.reserve(room)
+    ready.reserve(room)?;
+    blocked.reserve(room)
 }
 
-/// Queues a command that was never sent, where no earlier one in conflict is unfinished.
-fn queue(commands: &[Command], timed: &mut Queue, command: Command, life: Millis)
-    requires { is_blocked commands.now command ≡ false → length timed.old.waiters < timed.old.room }
-    ensures waiters { (test : Command → Bool) → count_by (λ w. test w.command) timed.new.waiters
+/// Queues a command that was never sent.
+fn queue(
+    commands: &[Command],
+    timed: &mut Queue,
+    blocked: &mut Queue,
+    command: Command,
+    life: Millis,
+)
+    requires timed { length timed.old.waiters < timed.old.room }
+    requires blocked { length blocked.old.waiters < blocked.old.room }
+    ensures timed { (test : Command → Bool) → count_by (λ w. test w.command) timed.new.waiters
         ≡ cond (not (is_blocked commands.now command) && test command) 1 0
         + count_by (λ w. test w.command) timed.old.waiters }
+    ensures blocked { (test : Command → Bool) → count_by (λ w. test w.command) blocked.new.waiters
+        ≡ cond (is_blocked commands.now command && test command) 1 0
+        + count_by (λ w. test w.command) blocked.old.waiters }
     ensures knows { (latest : ℕ) → All (Knows life.0 latest commands.now) timed.old.waiters
         → All (Knows life.0 latest commands.now) timed.new.waiters }
-    ensures room { timed.new.room ≡ timed.old.room }
+    ensures held { (skip : WaiterValue → Bool) → All (λ w. skip w ≡ false → IsHeldBy commands.now w) blocked.old.waiters
+        → All (λ w. skip w ≡ false → IsHeldBy commands.now w) blocked.new.waiters }
+    ensures after { (ended : Command) → ((c : Command) → list_any (λ e. nat_eq e.ticket.0 ended.ticket.0 && blocks c e) commands.now ≡ false)
+        → count_by (waited_for ended) blocked.new.waiters ≡ count_by (waited_for ended) blocked.old.waiters }
+    ensures timed_room { timed.new.room ≡ timed.old.room }
+    ensures blocked_room { blocked.new.room ≡ blocked.old.room }
 {
-    if !is_blocked(commands, &command) {
+    if let Some(earlier) = blocker(commands, &command) {
+        let from = u128::from(earlier.0);
+        blocked.insert(Waiter { command, from });
+    } else {
         let from = clear_from(commands, &command, life);
         timed.insert(Waiter { command, from });
     }
 }
 
-/// Queues the commands that waited for one alone, which isn't unfinished any more.
-fn release(commands: &[Command], timed: &mut Queue, ended: &Command, life: Millis)
-    requires { length timed.old.waiters + count_by (is_released commands.now ended.now) commands.now ≤ timed.old.room }
-    ensures waiters { (test : Command → Bool) → count_by (λ w. test w.command) timed.new.waiters
-        ≡ count_by (λ w. test w.command) timed.old.waiters
-        + count_by (λ c. is_released commands.now ended.now c && test c) commands.now }
-    ensures knows { (latest : ℕ) → All (Knows life.0 latest commands.now) timed.old.waiters
-        → All (Knows life.0 latest commands.now) timed.new.waiters }
-    ensures room { timed.new.room ≡ timed.old.room }
+/// Queues the commands anew that waited for one that is finished now.
+fn release(
+    commands: &[Command],
+    timed: &mut Queue,
+    blocked: &mut Queue,
+    ended: &Command,
+    life: Millis,
+)
+    requires done { finished ended.now.stage ≡ true → (c : Command) → list_any (λ e. nat_eq e.ticket.0 ended.now.ticket.0 && blocks c e) commands.now ≡ false }
+    requires timed { length timed.old.waiters + length blocked.old.waiters ≤ timed.old.room }
+    requires blocked { length timed.old.waiters + length blocked.old.waiters ≤ blocked.old.room }
+    ensures released { Released life.0 commands.now ended.now timed.old blocked.old timed.new blocked.new }
+    ensures none { All (λ w. waited_for ended.now w ≡ false) blocked.new.waiters }
 {
-    'later: for later in commands {
-        if later.waits_for(ended) {
-            queue(commands, timed, *later, life);
-        }
+    if !ended.is_finished() {
+        return;
+    }
+    'waiting: while let Some(waiter) = blocked.pop_from(u128::from(ended.ticket.0)) {
+        queue(commands, timed, blocked, waiter.command, life);
     }
 }
 
@@ -128,16 +166,20 @@ fn place_of(commands: &[Command], ticket: Ticket) -> Option<usize>
 }
 
 /// Takes a command out of the queues, where it may stand in one of them.
-fn leave(timed: &mut Queue, ready: &mut Queue, ticket: Ticket, may_stand: bool)
-    requires once { count_by (has_ticket ticket.0) timed.old.waiters + count_by (has_ticket ticket.0) ready.old.waiters ≤ cond may_stand 1 0 }
+fn leave(timed: &mut Queue, ready: &mut Queue, blocked: &mut Queue, ticket: Ticket, may_stand: bool)
+    requires once { count_by (has_ticket ticket.0) timed.old.waiters + count_by (has_ticket ticket.0) ready.old.waiters
+        + count_by (has_ticket ticket.0) blocked.old.waiters ≤ cond may_stand 1 0 }
     ensures timed { timed.new.waiters ≡ filter (λ w. not (nat_eq w.command.ticket.0 ticket.0)) timed.old.waiters }
     ensures ready { ready.new.waiters ≡ filter (λ w. not (nat_eq w.command.ticket.0 ticket.0)) ready.old.waiters }
+    ensures blocked { blocked.new.waiters ≡ filter (λ w. not (nat_eq w.command.ticket.0 ticket.0)) blocked.old.waiters }
     ensures timed_room { timed.new.room ≡ timed.old.room }
     ensures ready_room { ready.new.room ≡ ready.old.room }
+    ensures blocked_room { blocked.new.room ≡ blocked.old.room }
 {
     if may_stand && ready.pop_ticket(ticket).is_none() {
         timed.remove(ticket);
         ready.remove(ticket);
+        blocked.remove(ticket);
     }
 }
 
@@ -198,12 +240,16 @@ pub struct Holds {
 
     /// The others of these: they may be sent, and stand in the order of their tickets.
     ready: Queue,
+
+    /// The others that were never sent, each under the ticket of one that it waits for: when this
+    /// is finished, they alone are looked at.
+    blocked: Queue,
 }
 
 impl Model for Holds {
     ghost use Rattle.std.specs.Prelude.{map, option_map};
     ghost use Rattle.aoe_hold.specs.HoldTable.{HoldTable, IsSound, NonePastBefore};
-    ghost use Rattle.aoe_hold.specs.Queue.{ticket_of, IsIndex};
+    ghost use Rattle.aoe_hold.specs.Queue.{ticket_of, AreHeld, IsIndex};
 
     ghost Value = { HoldTable };
 
@@ -218,7 +264,8 @@ impl Model for Holds {
     ghost invariant = { λ holds.
         IsSound (option_map (λ t. t.0) holds.greatest) holds.unsent holds.commands.items
         × IsIndex holds.life.0 holds.latest.0 holds.unsent holds.commands.items holds.timed holds.ready
-        × NonePastBefore holds.life.0 holds.past_from holds.commands.items };
+        × NonePastBefore holds.life.0 holds.past_from holds.commands.items
+        × AreHeld holds.unsent holds.commands.items holds.timed holds.ready holds.blocked };
 }
 
 impl Holds {
@@ -235,6 +282,7 @@ impl Holds {
             commands: Vec::new(alloc),
             timed: Queue::new(alloc),
             ready: Queue::new(alloc),
+            blocked: Queue::new(alloc),
         }
     }
 
@@ -249,7 +297,13 @@ impl Holds {
         ensures err { OnErr result (self.new ≡ self.old) }
     {
         let room = self.unsent + 1;
-        make_room(&mut self.commands, &mut self.timed, &mut self.ready, room)?;
+        make_room(
+            &mut self.commands,
+            &mut self.timed,
+            &mut self.ready,
+            &mut self.blocked,
+            room,
+        )?;
         self.past_from = forget(&mut self.commands, self.life, self.latest, self.past_from);
         let command = Command {
             ticket,
@@ -257,7 +311,13 @@ impl Holds {
             span,
             stage: Stage::Unsent,
         };
-        queue(&self.commands, &mut self.timed, command, self.life);
+        queue(
+            &self.commands,
+            &mut self.timed,
+            &mut self.blocked,
+            command,
+            self.life,
+        );
         self.commands.push_reserved(command);
         self.greatest = Some(ticket);
         self.unsent += 1;
@@ -301,7 +361,13 @@ impl Holds {
             let first = command.is_unsent();
             self.unsent -= u32::from(first);
             command.stage = command.stage.sent(now);
-            leave(&mut self.timed, &mut self.ready, ticket, first);
+            leave(
+                &mut self.timed,
+                &mut self.ready,
+                &mut self.blocked,
+                ticket,
+                first,
+            );
         }
     }
 
@@ -313,10 +379,16 @@ impl Holds {
     {
         if let Some(at) = place_of(&self.commands, ticket) {
             let command = &mut self.commands[at];
-            let ended = *command;
             command.stage = command.stage.finished();
-            self.past_from = self.past_from.min(command.past_from(self.life));
-            release(&self.commands, &mut self.timed, &ended, self.life);
+            let ended = *command;
+            self.past_from = self.past_from.min(ended.past_from(self.life));
+            release(
+                &self.commands,
+                &mut self.timed,
+                &mut self.blocked,
+                &ended,
+                self.life,
+            );
         }
     }
 

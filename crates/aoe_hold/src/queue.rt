@@ -1,5 +1,5 @@
-//! Commands that may be sent from some time on, in the order of these times.
-ghost use Rattle.std.specs.Prelude.{◌≡◌, ◌+◌, ◌<◌, ◌≤◌, ◌∷◌, ◌++◌, length, not, nat_eq, true, IfNone, IfSome, OnOk, option_copied, slice_get};
+//! Commands that wait, in the order of what they wait for.
+ghost use Rattle.std.specs.Prelude.{◌≡◌, ◌+◌, ◌<◌, ◌≤◌, ◌∷◌, ◌++◌, length, not, nat_eq, false, true, All, IfNone, IfSome, OnOk, option_copied, slice_get};
 ghost use Rattle.std.specs.List.{filter};
 ghost use Rattle.std.specs.List.Sorted.{IsPermutation};
 ghost use Rattle.std.specs.Option.{option_to_list};
@@ -13,13 +13,14 @@ use std::collections::VecDeque;
 use std::marker::Model;
 use std::sync::ledger::Ledger;
 
-/// A command that was never sent and for which no earlier one in conflict is unfinished.
+/// A command that was never sent.
 #[derive(Clone, Copy)]
 pub struct Waiter {
     pub command: Command,
 
-    /// The time from which no frame can arrive that the command waits for: a sum of two times and
-    /// one needs more than 64 bits.
+    /// What the command waits for: the ticket of an earlier one in conflict that is unfinished, or,
+    /// where there is none, the time from which no frame can arrive that it waits for. A sum of
+    /// two times and one needs more than 64 bits.
     pub from: u128,
 }
 
@@ -108,6 +109,20 @@ impl Queue {
             return None;
         }
         self.waiters.pop_front()
+    }
+
+    /// Takes a command out that waits for this.
+    pub fn pop_from(&mut self, from: u128) -> Option<Waiter>
+        ensures some { IfSome result (λ w. (w.from ≡ from) × IsPermutation self.old.waiters (w ∷ self.new.waiters)) }
+        ensures none { IfNone result (self.new.waiters ≡ self.old.waiters) }
+        ensures out { IfNone result (All (λ w. nat_eq w.from from ≡ false) self.old.waiters) }
+        ensures room { self.new.room ≡ self.old.room }
+    {
+        let place = self.waiters.partition_point(|other| other.from < from);
+        if self.waiters.get(place)?.from != from {
+            return None;
+        }
+        self.waiters.remove(place)
     }
 
     /// Adds a command, for which there is room.

@@ -1,7 +1,10 @@
-use Rattle.std.proofs.Common.{take}
-use Rattle.aoe_hold.proofs.MoveLemmas.{Releasing}
+use Rattle.std.specs.List.{count_by}
+use Rattle.aoe_hold.specs.Queue.{waited_for, Released}
 use Rattle.aoe_hold.proofs.holds.release.Given as goal
 
--- of the commands so far those that were released are queued
-abbrev pub invariant-later : goal.invariant-later
-invariant-later l = Releasing l.life.0 l.commands l.ended (take l.later-index l.commands) l.fn.timed l.timed
+-- those that were taken out so far are queued
+abbrev pub invariant-waiting : goal.invariant-waiting
+invariant-waiting l = Released l.life.0 l.commands l.ended l.fn.timed l.fn.blocked l.timed l.blocked
+
+abbrev pub decreases-waiting : goal.decreases-waiting
+decreases-waiting l = count_by (waited_for l.ended) l.blocked.waiters

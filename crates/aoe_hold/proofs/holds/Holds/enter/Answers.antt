@@ -4,8 +4,8 @@ use Rattle.aoe_hold.specs.declared.command.Command.{Command}
 use Rattle.aoe_hold.specs.Commands.{is_past, live, unsent_count}
 use Rattle.aoe_hold.specs.declared.queue.Waiter.{Waiter}
 use Rattle.aoe_hold.specs.HoldTable.{new_command, IsSound, NonePastBefore}
-use Rattle.aoe_hold.specs.Queue.{IsIndex}
-use Rattle.aoe_hold.proofs.HoldLemmas.{index-entered, index-few, index-reserved}
+use Rattle.aoe_hold.specs.Queue.{AreHeld, IsIndex}
+use Rattle.aoe_hold.proofs.HoldLemmas.{held-entered, held-few, held-reserved, index-entered, index-reserved}
 use Rattle.aoe_hold.proofs.LiveLemmas.{count-live}
 use Rattle.aoe_hold.proofs.OrderLemmas.{ascending-filter, enter-ascending, enter-up_to, up_to-filter}
 use Rattle.aoe_hold.proofs.PastLemmas.{past-entered}
@@ -19,24 +19,37 @@ overflow_add-self c =
 
 pub make_room-requires-clause-timed : goal.make_room-requires-clause-timed
 make_room-requires-clause-timed c =
-    let few = index-few c.self.inside.life.0 c.self.inside.latest.0 c.self.inside.unsent c.self.inside.commands.items c.self.inside.timed c.self.inside.ready c.self.invariant.0.2 c.self.invariant.1 in
+    let few = held-few c.self.inside.unsent c.self.inside.commands.items c.self.inside.timed c.self.inside.ready c.self.inside.blocked c.self.invariant.0.2 c.self.invariant.3 in
     omega (arith, few)
 
 pub make_room-requires-clause-ready : goal.make_room-requires-clause-ready
 make_room-requires-clause-ready c =
-    let few = index-few c.self.inside.life.0 c.self.inside.latest.0 c.self.inside.unsent c.self.inside.commands.items c.self.inside.timed c.self.inside.ready c.self.invariant.0.2 c.self.invariant.1 in
+    let few = held-few c.self.inside.unsent c.self.inside.commands.items c.self.inside.timed c.self.inside.ready c.self.inside.blocked c.self.invariant.0.2 c.self.invariant.3 in
+    omega (arith, few)
+
+pub make_room-requires-clause-blocked : goal.make_room-requires-clause-blocked
+make_room-requires-clause-blocked c =
+    let few = held-few c.self.inside.unsent c.self.inside.commands.items c.self.inside.timed c.self.inside.ready c.self.inside.blocked c.self.invariant.0.2 c.self.invariant.3 in
     omega (arith, few)
 
 pub invariant_of-self : goal.invariant_of-self
 invariant_of-self c =
     let index = index-reserved c.self.inside.life.0 c.self.inside.latest.0 c.self.inside.unsent c.self.inside.commands.items c.self.inside.timed c.self.inside.ready c.make_room.new.timed c.make_room.new.ready c.make_room.ensures.timed c.make_room.ensures.ready c.make_room.ensures.timed_more c.make_room.ensures.ready_more c.self.invariant.1 in
-    let P : List Command → Type 0 = λ l. IsSound (option_map (λ t. t.0) c.self.inside.greatest) c.self.inside.unsent l × IsIndex c.self.inside.life.0 c.self.inside.latest.0 c.self.inside.unsent l c.make_room.new.timed c.make_room.new.ready × NonePastBefore c.self.inside.life.0 c.self.inside.past_from l in
-    subst P (sym c.make_room.ensures.commands) (c.self.invariant.0, index, c.self.invariant.2)
+    let P : List Command → Type 0 = λ l. IsSound (option_map (λ t. t.0) c.self.inside.greatest) c.self.inside.unsent l × IsIndex c.self.inside.life.0 c.self.inside.latest.0 c.self.inside.unsent l c.make_room.new.timed c.make_room.new.ready × NonePastBefore c.self.inside.life.0 c.self.inside.past_from l
+    × AreHeld c.self.inside.unsent l c.make_room.new.timed c.make_room.new.ready c.make_room.new.blocked in
+    let reserved = held-reserved c.self.inside.unsent c.self.inside.commands.items c.self.inside.timed c.self.inside.ready c.self.inside.blocked c.make_room.new.timed c.make_room.new.ready c.make_room.new.blocked
+    c.make_room.ensures.timed c.make_room.ensures.ready c.make_room.ensures.blocked c.make_room.ensures.blocked_more c.self.invariant.3 in
+    subst P (sym c.make_room.ensures.commands) (c.self.invariant.0, index, c.self.invariant.2, reserved)
 
-pub queue-requires : goal.queue-requires
-queue-requires c = λ free.
-    let few = index-few c.self.inside.life.0 c.self.inside.latest.0 c.self.inside.unsent c.self.inside.commands.items c.self.inside.timed c.self.inside.ready c.self.invariant.0.2 c.self.invariant.1 in
+pub queue-requires-clause-timed : goal.queue-requires-clause-timed
+queue-requires-clause-timed c =
+    let few = held-few c.self.inside.unsent c.self.inside.commands.items c.self.inside.timed c.self.inside.ready c.self.inside.blocked c.self.invariant.0.2 c.self.invariant.3 in
     omega (arith, few, ap (λ (l : List Waiter). length l) c.make_room.ensures.timed, c.in_ok-make_room.ensures.timed_room)
+
+pub queue-requires-clause-blocked : goal.queue-requires-clause-blocked
+queue-requires-clause-blocked c =
+    let few = held-few c.self.inside.unsent c.self.inside.commands.items c.self.inside.timed c.self.inside.ready c.self.inside.blocked c.self.invariant.0.2 c.self.invariant.3 in
+    omega (arith, few, ap (λ (l : List Waiter). length l) c.make_room.ensures.blocked, c.in_ok-make_room.ensures.blocked_room)
 
 pub invariant_of-self-2 : goal.invariant_of-self-2
 invariant_of-self-2 c =
@@ -61,8 +74,11 @@ invariant_of-self-2 c =
         rw items (ap (λ n. n + 1) (c.self.invariant.0.2 ∙ sym (count-live life latest held)) ∙ sym (count-enter kept new refl)),
       ),
       index-entered life latest unsent _ held c.deref.result.now c.push_reserved.new.self.items new c.make_room.new.timed c.make_room.new.ready c.queue.new.timed refl c.self.invariant.0.1 above (seen ∙ dropped) after
-          c.queue.ensures.waiters c.queue.ensures.knows c.queue.ensures.room c.in_ok-make_room.ensures.timed_room c.in_ok-make_room.ensures.ready_room index,
+          c.queue.ensures.timed c.queue.ensures.knows c.queue.ensures.timed_room c.in_ok-make_room.ensures.timed_room c.in_ok-make_room.ensures.ready_room index,
       rw after (past-entered life c.forget-self-inside.result c.deref.result.now new refl (rw seen c.forget-self-inside.ensures.none)),
+      held-entered life latest unsent held c.deref.result.now c.push_reserved.new.self.items new c.make_room.new.timed c.make_room.new.ready c.make_room.new.blocked c.queue.new.timed c.queue.new.blocked refl (seen ∙ dropped) after
+          c.queue.ensures.timed c.queue.ensures.blocked c.queue.ensures.held c.queue.ensures.blocked_room c.in_ok-make_room.ensures.blocked_room
+          (held-reserved unsent held c.self.inside.timed c.self.inside.ready c.self.inside.blocked c.make_room.new.timed c.make_room.new.ready c.make_room.new.blocked c.make_room.ensures.timed c.make_room.ensures.ready c.make_room.ensures.blocked c.make_room.ensures.blocked_more c.self.invariant.3),
     )
 
 pub returns-clause-recalls : goal.returns-clause-recalls

@@ -1,14 +1,16 @@
-use Rattle.std.proofs.Common.{◌≡◌, List, ap, Some, None, sym, subst, ◌∙◌, rules, nat_eq}
+use Rattle.std.proofs.Common.{ℕ, ◌≡◌, ◌&&◌, List, Some, None, arith, false, sym, subst, ◌∙◌, rules, nat_eq}
 use Rattle.std.specs.Prelude.{position}
 use Rattle.aoe_hold.specs.declared.command.Command.{Command}
-use Rattle.aoe_hold.specs.Commands.{after_stage, stage_finished, unsent_count}
-use Rattle.aoe_hold.specs.Queue.{IsIndex}
+use Rattle.std.specs.List.{list_any}
+use Rattle.aoe_hold.specs.Commands.{after_stage, stage_finished}
+use Rattle.aoe_hold.specs.Queue.{blocks, AreHeld, IsIndex}
 use Rattle.aoe_hold.specs.HoldTable.{HoldTable, Recalls}
-use Rattle.aoe_hold.proofs.StageLemmas.{count-finished, place-within, stage-missing, stage-set}
+use Rattle.aoe_hold.proofs.StageLemmas.{count-finished, new-ends, place-ticket, place-within, stage-missing, stage-set}
 use Rattle.aoe_hold.proofs.PastLemmas.{past-ended}
 use Rattle.aoe_hold.proofs.OrderLemmas.{ascending-after_stage, up_to-after_stage}
 use Rattle.aoe_hold.proofs.TableLemmas.{finish-recalls, finish-value}
-use Rattle.aoe_hold.proofs.HoldLemmas.{index-ended, index-ended_room}
+use Rattle.aoe_hold.proofs.HeldLemmas.{ended-done}
+use Rattle.aoe_hold.proofs.HoldLemmas.{held-few, index-ended}
 use Rattle.aoe_hold.proofs.ReleaseLemmas.{one-at, Ended}
 use Rattle.aoe_hold.proofs.holds.Holds.finished.Goals as goal
 
@@ -16,32 +18,44 @@ pub invariant_of-self : goal.invariant_of-self
 invariant_of-self c =
     let held = c.self.inside.commands.items in
     let command = c.index_mut-command.result.now in
+    let new : Command = record command { stage = c.finished-command.result } in
     let found : position (λ (d : Command). nat_eq d.ticket.0 c.args.ticket.0) held ≡ Some c.in-Some.at = search rules in
     let after = stage-set c.args.ticket.0 stage_finished held c.in-Some.at command c.finished-command.result c.self.invariant.0.0 found c.index_mut-command.ensures.value c.finished-command.ensures in
     let within = place-within c.args.ticket.0 held c.in-Some.at command found in
+    let its = place-ticket c.args.ticket.0 held c.in-Some.at command found c.index_mut-command.ensures.value in
     let seen = c.deref-in-Some.ensures.value in
     let ended : Ended c.args.ticket.0 held c.deref-in-Some.result.now command = record { is = seen ∙ after; once = λ p. one-at c.args.ticket.0 p held c.in-Some.at command c.self.invariant.0.0 found c.index_mut-command.ensures.value } in
-    let P : List Command → Type 0 = λ l. IsIndex c.self.inside.life.0 c.self.inside.latest.0 c.self.inside.unsent l c.release.new.timed c.self.inside.ready in (
+    let both = index-ended c.self.inside.life.0 c.self.inside.latest.0 c.self.inside.unsent c.args.ticket.0 held c.deref-in-Some.result.now command new c.self.inside.timed c.self.inside.ready c.self.inside.blocked c.release.new.timed c.release.new.blocked
+    ended its (new-ends c.args.ticket.0 command c.finished-command.result its c.finished-command.ensures) c.release.ensures.released c.release.ensures.none c.self.invariant.1 c.self.invariant.3 in
+    let P : List Command → Type 0 = λ l. IsIndex c.self.inside.life.0 c.self.inside.latest.0 c.self.inside.unsent l c.release.new.timed c.self.inside.ready × AreHeld c.self.inside.unsent l c.release.new.timed c.self.inside.ready c.release.new.blocked in
+    let turned = subst P seen both in (
       (
         rw after (ascending-after_stage c.args.ticket.0 stage_finished held c.self.invariant.0.0),
         rw after (up_to-after_stage c.args.ticket.0 stage_finished _ held c.self.invariant.0.1),
         c.self.invariant.0.2 ∙ sym (count-finished held c.in-Some.at command c.finished-command.result within c.index_mut-command.ensures.value c.finished-command.ensures),
       ),
-      subst P seen (index-ended c.self.inside.life.0 c.self.inside.latest.0 c.self.inside.unsent c.args.ticket.0 held c.deref-in-Some.result.now command c.self.inside.timed c.self.inside.ready c.release.new.timed ended c.release.ensures.waiters c.release.ensures.knows c.release.ensures.room c.self.invariant.1),
-      past-ended c.self.inside.life.0 c.self.inside.past_from c.past_from.result c.min-self-inside.result c.in-Some.at held (record command { stage = c.finished-command.result }) c.min-self-inside.ensures c.past_from.ensures c.self.invariant.2,
+      turned.0,
+      past-ended c.self.inside.life.0 c.self.inside.past_from c.past_from.result c.min-self-inside.result c.in-Some.at held new c.min-self-inside.ensures c.past_from.ensures c.self.invariant.2,
+      turned.1,
     )
 
 pub release-requires : goal.release-requires
 release-requires c =
     let held = c.self.inside.commands.items in
     let command = c.index_mut-command.result.now in
+    let new : Command = record command { stage = c.finished-command.result } in
     let found : position (λ (d : Command). nat_eq d.ticket.0 c.args.ticket.0) held ≡ Some c.in-Some.at = search rules in
     let after = stage-set c.args.ticket.0 stage_finished held c.in-Some.at command c.finished-command.result c.self.invariant.0.0 found c.index_mut-command.ensures.value c.finished-command.ensures in
-    let within = place-within c.args.ticket.0 held c.in-Some.at command found in
-    let seen = c.deref-in-Some.ensures.value in
-    let ended : Ended c.args.ticket.0 held c.deref-in-Some.result.now command = record { is = seen ∙ after; once = λ p. one-at c.args.ticket.0 p held c.in-Some.at command c.self.invariant.0.0 found c.index_mut-command.ensures.value } in
-    index-ended_room c.self.inside.life.0 c.self.inside.latest.0 c.self.inside.unsent c.args.ticket.0 held c.deref-in-Some.result.now command c.self.inside.timed c.self.inside.ready ended
-    (c.self.invariant.0.2 ∙ sym (count-finished held c.in-Some.at command c.finished-command.result within c.index_mut-command.ensures.value c.finished-command.ensures) ∙ sym (ap unsent_count seen)) c.self.invariant.1
+    let its = place-ticket c.args.ticket.0 held c.in-Some.at command found c.index_mut-command.ensures.value in
+    let ended : Ended c.args.ticket.0 held c.deref-in-Some.result.now command = record { is = c.deref-in-Some.ensures.value ∙ after; once = λ p. one-at c.args.ticket.0 p held c.in-Some.at command c.self.invariant.0.0 found c.index_mut-command.ensures.value } in
+    let few = held-few c.self.inside.unsent held c.self.inside.timed c.self.inside.ready c.self.inside.blocked c.self.invariant.0.2 c.self.invariant.3 in
+    record {
+      done = λ done later.
+          let P : ℕ → Type 0 = λ n. list_any (λ e. nat_eq e.ticket.0 n && blocks later e) c.deref-in-Some.result.now ≡ false in
+          subst P (sym its) (ended-done c.args.ticket.0 held c.deref-in-Some.result.now command new later ended (new-ends c.args.ticket.0 command c.finished-command.result its c.finished-command.ensures) done);
+      timed = omega (arith, few, c.self.invariant.1.timed_room);
+      blocked = omega (arith, few, c.self.invariant.3.room);
+    }
 
 pub returns-in-Some-clause-value : goal.returns-in-Some-clause-value
 returns-in-Some-clause-value c =
