@@ -34,7 +34,7 @@ index-reserved life latest unsent commands timed ready timed_new ready_new timed
 pub index-entered : (life latest unsent : ℕ) (greatest : Option ℕ) (commands kept after : List Command) (c : Command) (timed ready timed_new : QueueTable) → c.stage ≡ Unsent → is_up_to greatest commands ≡ true → ForSome greatest (λ g. g < c.ticket.0)
     → kept ≡ live life latest commands → after ≡ kept ++ c ∷ []
     → ((test : Command → Bool) → count_by (λ w. test w.command) timed_new.waiters ≡ cond (not (is_blocked kept c) && test c) 1 0 + count_by (λ w. test w.command) timed.waiters)
-    → ((now : ℕ) → All (Knows life now kept) timed.waiters → All (Knows life now kept) timed_new.waiters) → timed_new.room ≡ timed.room → unsent + 1 ≤ timed.room → unsent + 1 ≤ ready.room
+    → (All (Knows life latest kept) timed.waiters → All (Knows life latest kept) timed_new.waiters) → timed_new.room ≡ timed.room → unsent + 1 ≤ timed.room → unsent + 1 ≤ ready.room
     → IsIndex life latest unsent commands timed ready → IsIndex life latest (unsent + 1) after timed_new ready
 index-entered life latest unsent greatest commands kept after c timed ready timed_new fresh up above kept_is after_is queued knows room timed_room ready_room index =
     let K : List Waiter → Type 0 = λ ws. All (Knows life latest after) ws in
@@ -46,7 +46,7 @@ index-entered life latest unsent greatest commands kept after c timed ready time
     let P : List Command → Type 0 = λ l. All (Knows life latest l) ws in subst P (sym after_is) (knows-entered life latest kept c ws fresh all) in
     record {
       same = entered-waits life latest greatest commands after c timed.waiters timed_new.waiters ready.waiters fresh up above (subst A kept_is after_is) (subst Q kept_is queued) index.same;
-      knows_timed = to_after timed_new.waiters (knows latest old_timed);
+      knows_timed = to_after timed_new.waiters (knows old_timed);
       knows_ready = to_after ready.waiters old_ready;
       past = index.past;
       timed_room = omega (arith, room, timed_room);
@@ -66,7 +66,7 @@ index-sent life latest unsent less ticket now commands after timed ready timed_n
 }
 
 pub index-ended : (life latest unsent ticket : ℕ) (commands after : List Command) (ended new : Command) (timed ready blocked timed_new blocked_new : QueueTable) → Ended ticket commands after ended → ended.ticket.0 ≡ ticket → new ≡ ends ticket ended
-    → Released life after new timed blocked timed_new blocked_new → All (λ w. waited_for new w ≡ false) blocked_new.waiters
+    → Released life latest after new timed blocked timed_new blocked_new → All (λ w. waited_for new w ≡ false) blocked_new.waiters
     → IsIndex life latest unsent commands timed ready → AreHeld unsent commands timed ready blocked → IsIndex life latest unsent after timed_new ready × AreHeld unsent after timed_new ready blocked_new
 index-ended life latest unsent ticket commands after ended new timed ready blocked timed_new blocked_new e its new_is r none index all_held =
     let free = waiters-free commands timed.waiters ready.waiters index.same in
@@ -78,7 +78,7 @@ index-ended life latest unsent ticket commands after ended new timed ready block
     let all : HasAll after timed_new.waiters ready.waiters blocked_new.waiters = λ test. omega (arith, all_held.all test, r.all test, unsent-ended ticket commands after e.is test) in (
       record {
         same = waiters-all after timed_new.waiters ready.waiters blocked_new.waiters all free_new free_ready (held-blocked after blocked_new.waiters held);
-        knows_timed = r.knows latest (knows-ended life latest ticket commands after timed.waiters e.is free.0 index.knows_timed);
+        knows_timed = r.knows (knows-ended life latest ticket commands after timed.waiters e.is free.0 index.knows_timed);
         knows_ready = knows-ended life latest ticket commands after ready.waiters e.is free.1 index.knows_ready;
         past = index.past;
         timed_room = omega (arith, index.timed_room, r.timed_room);

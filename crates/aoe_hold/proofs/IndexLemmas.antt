@@ -76,7 +76,7 @@ past-block true true = refl
 pub past-blocks : (life latest : ℕ) (c e : Command) → is_past life latest e ≡ true → blocks c e ≡ false
 past-blocks life latest c e is = rw ((past-finished life latest e.stage is).0) (past-block (nat_lt e.ticket.0 c.ticket.0) (conflict e c))
 
-past-lingers : (life latest now : ℕ) (c e : Command) → latest ≤ now → is_past life latest e ≡ true → lingers life now c e ≡ false
+pub past-lingers : (life latest now : ℕ) (c e : Command) → latest ≤ now → is_past life latest e ≡ true → lingers life now c e ≡ false
 past-lingers life latest now c e later is =
     let parts = past-finished life now e.stage (over-later life latest now e.stage later is) in
     rw (parts.0, parts.1) (past-bool (nat_lt e.ticket.0 c.ticket.0) (conflict e c) (has_effect e.kind) (rests_on_effects c.kind) true)

@@ -6,6 +6,7 @@ mod IndexLemmas
 mod ListLemmas
 mod MoveLemmas
 mod OrderLemmas
+mod OutsideLemmas
 mod PastLemmas
 mod PlaceLemmas
 mod QueueLemmas

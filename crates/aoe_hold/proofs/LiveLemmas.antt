@@ -35,7 +35,7 @@ past-stage life now change Unsent keeps is = absurd cc
 past-stage life now change (Flying last) keeps is = absurd cc
 past-stage life now change (Finished last) keeps is = rw (keeps last) is
 
-past-with_stage : (life now ticket : ℕ) (change : Stage → Stage) (c : Command) → KeepsFinished change → is_past life now c ≡ true → is_past life now (with_stage ticket change c) ≡ true
+pub past-with_stage : (life now ticket : ℕ) (change : Stage → Stage) (c : Command) → KeepsFinished change → is_past life now c ≡ true → is_past life now (with_stage ticket change c) ≡ true
 past-with_stage life now ticket change c keeps is = at (nat_eq c.ticket.0 ticket)
   where
     at : (b : Bool) → is_past life now (cond b (record c { stage = change c.stage }) c) ≡ true

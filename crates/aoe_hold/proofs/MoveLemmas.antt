@@ -1,5 +1,5 @@
 -- Commands are moved from one queue to the other.
-use Rattle.std.proofs.Common.{ℕ, zero, suc, ◌≡◌, ◌+◌, ◌-◌, ◌<◌, ◌≤◌, ◌&&◌, ◌||◌, not, cond, get_or, Bool, true, false, List, [], ◌∷◌, ◌++◌, length, max, take, Option, Some, None, inl, inr, refl, sym, ap, subst, ◌∙◌, arith, nat_eq, nat_le}
+use Rattle.std.proofs.Common.{ℕ, zero, suc, ◌≡◌, ◌+◌, ◌-◌, ◌<◌, ◌≤◌, ◌&&◌, ◌||◌, not, cond, get_or, Bool, true, false, List, [], ◌∷◌, ◌++◌, length, drop, max, take, Option, Some, None, inl, inr, refl, sym, ap, subst, ◌∙◌, arith, nat_eq, nat_le}
 use Rattle.std.specs.Prelude.{All, Err, IfNone, Ok, OnErr, OnOk, Result}
 use Rattle.std.specs.List.{count_by, list_any}
 use Rattle.std.specs.List.Sorted.{IsPermutation}
@@ -14,7 +14,6 @@ use Rattle.aoe_hold.specs.declared.queue.Waiter.{Waiter}
 use Rattle.aoe_hold.proofs.IndexLemmas.{bit}
 use Rattle.aoe_hold.specs.Commands.{finished}
 use Rattle.aoe_hold.specs.Queue.{blocks, is_blocked, lingers, waited_for, IsHeldBy, Knows, Moved, QueueTable, Released}
-use Rattle.aoe_hold.proofs.WaitLemmas.{any-push}
 
 pub moved-none : (now : ℕ) (timed ready : QueueTable) → Moved now timed ready timed ready
 moved-none now timed ready = record {
@@ -79,53 +78,78 @@ take-whole [] (suc i) least = refl
 take-whole (x ∷ xs) zero least = absurd (omega (arith, least))
 take-whole (x ∷ xs) (suc i) least = ap (λ (l : List Command). x ∷ l) (take-whole xs i (omega (arith, least)))
 
--- the time from which no frame of the commands so far lingers
-pub lingers-more : (life : ℕ) (commands : List Command) (c : Command) (i from more next : ℕ) (x : Command) → next ≡ max from more → i < length commands → x ≡ get_or commands i x
-    → ((now : ℕ) → list_any (λ e. lingers life now c e) (take i commands) ≡ not (nat_le from now)) → ((now : ℕ) → lingers life now c x ≡ not (nat_le more now))
-    → (now : ℕ) → list_any (λ e. lingers life now c e) (take (i + 1) commands) ≡ not (nat_le next now)
-lingers-more life commands c i from more next x next_is below read so_far one now =
-    let done : take (i + 1) commands ≡ take i commands ++ x ∷ [] = take-more commands i x below ∙ ap (λ y. take i commands ++ y ∷ []) (sym read) in
-    ap (list_any (λ e. lingers life now c e)) done ∙ any-push (λ e. lingers life now c e) (take i commands) x ∙ rw (so_far now, one now, next_is) (later (nat_le from now) (nat_le more now) refl refl)
+drop-suc : (xs : List Command) (i : ℕ) (d : Command) → i < length xs → drop i xs ≡ get_or xs i d ∷ drop (suc i) xs
+drop-suc [] i d below = absurd (omega (arith, below))
+drop-suc (x ∷ xs) zero d below = refl
+drop-suc (x ∷ xs) (suc i) d below = drop-suc xs i d (omega (arith, below))
+
+drop-less : (xs : List Command) (left : ℕ) (x : Command) → 0 < left → left ≤ length xs → x ≡ get_or xs (left - 1) x → drop (left - 1) xs ≡ x ∷ drop left xs
+drop-less xs zero x some within read = absurd (omega (arith, some))
+drop-less xs (suc i) x some within read =
+    let same : suc i - 1 ≡ i = omega arith in
+    let here : x ≡ get_or xs i x = read ∙ ap (λ n. get_or xs n x) same in
+    ap (λ n. drop n xs) same ∙ drop-suc xs i x (omega (arith, within)) ∙ ap (λ y. y ∷ drop (suc i) xs) (sym here)
+
+-- the time from which no frame of the commands so far lingers, and of one more
+pub lingers-more : (life : ℕ) (commands : List Command) (c : Command) (left from more next : ℕ) (x : Command) → next ≡ max from more → 0 < left → left ≤ length commands → x ≡ get_or commands (left - 1) x
+    → ((now : ℕ) → list_any (λ e. lingers life now c e) (drop left commands) ≡ not (nat_le from now)) → ((now : ℕ) → lingers life now c x ≡ not (nat_le more now))
+    → (now : ℕ) → list_any (λ e. lingers life now c e) (drop (left - 1) commands) ≡ not (nat_le next now)
+lingers-more life commands c left from more next x next_is some within read so_far one now =
+    let done : drop (left - 1) commands ≡ x ∷ drop left commands = drop-less commands left x some within read in
+    ap (list_any (λ e. lingers life now c e)) done ∙ rw (so_far now, one now, next_is) (later (nat_le from now) (nat_le more now) refl refl)
   where
-    later : (a b : Bool) → nat_le from now ≡ a → nat_le more now ≡ b → (not a || not b) ≡ not (nat_le (max from more) now)
+    later : (a b : Bool) → nat_le from now ≡ a → nat_le more now ≡ b → (not b || not a) ≡ not (nat_le (max from more) now)
     later true true first second = sym (ap not (le-leb (max from more) now (omega (arith, leb-true from now first, leb-true more now second))))
     later true false first second = sym (ap not (lt-leb (max from more) now (omega (arith, leb-false more now second))))
-    later false b first second = sym (ap not (lt-leb (max from more) now (omega (arith, leb-false from now first))))
+    later false true first second = sym (ap not (lt-leb (max from more) now (omega (arith, leb-false from now first))))
+    later false false first second = sym (ap not (lt-leb (max from more) now (omega (arith, leb-false from now first))))
 
-pub released-none : (life : ℕ) (commands : List Command) (ended : Command) (timed blocked : QueueTable) → Released life commands ended timed blocked timed blocked
-released-none life commands ended timed blocked = record {
+pub released-none : (life latest : ℕ) (commands : List Command) (ended : Command) (timed blocked : QueueTable) → Released life latest commands ended timed blocked timed blocked
+released-none life latest commands ended timed blocked = record {
   all = λ test. refl;
   free = refl;
-  knows = λ latest is. is;
+  knows = λ is. is;
   held = λ is. is;
   timed_room = refl;
   blocked_room = refl;
 }
 
+-- the same, where nothing was taken out
+pub released-same : (life latest : ℕ) (commands : List Command) (ended : Command) (old_timed old_blocked timed blocked same : QueueTable) → same.waiters ≡ blocked.waiters → same.room ≡ blocked.room
+    → Released life latest commands ended old_timed old_blocked timed blocked → Released life latest commands ended old_timed old_blocked timed same
+released-same life latest commands ended old_timed old_blocked timed blocked same is room r = record {
+  all = rw is r.all;
+  free = r.free;
+  knows = r.knows;
+  held = rw is r.held;
+  timed_room = r.timed_room;
+  blocked_room = room ∙ r.blocked_room;
+}
+
 -- there is room for one that was taken out
-pub released-room : (life : ℕ) (commands : List Command) (ended : Command) (old_timed old_blocked timed blocked one : QueueTable) (w : Waiter) → Released life commands ended old_timed old_blocked timed blocked → IsPermutation blocked.waiters (w ∷ one.waiters) → one.room ≡ blocked.room
+pub released-room : (life latest : ℕ) (commands : List Command) (ended : Command) (old_timed old_blocked timed blocked one : QueueTable) (w : Waiter) → Released life latest commands ended old_timed old_blocked timed blocked → IsPermutation blocked.waiters (w ∷ one.waiters) → one.room ≡ blocked.room
     → length old_timed.waiters + length old_blocked.waiters ≤ old_timed.room → length old_timed.waiters + length old_blocked.waiters ≤ old_blocked.room → (length timed.waiters < timed.room) × (length one.waiters < one.room)
-released-room life commands ended old_timed old_blocked timed blocked one w r is room timed_enough blocked_enough =
+released-room life latest commands ended old_timed old_blocked timed blocked one w r is room timed_enough blocked_enough =
     let longer = length_permutation blocked.waiters (w ∷ one.waiters) is in
     let total : length timed.waiters + length blocked.waiters ≡ length old_timed.waiters + length old_blocked.waiters =
     omega (arith, r.all (λ _. true), count-all timed.waiters, count-all blocked.waiters, count-all old_timed.waiters, count-all old_blocked.waiters) in
     (omega (arith, longer, total, r.timed_room, timed_enough), omega (arith, longer, total, r.blocked_room, blocked_enough, room))
 
 -- one was taken out and queued anew
-pub released-more : (life : ℕ) (commands : List Command) (ended : Command) (old_timed old_blocked timed blocked one timed_new blocked_new : QueueTable) (w : Waiter)
-    → Released life commands ended old_timed old_blocked timed blocked → IsPermutation blocked.waiters (w ∷ one.waiters) → one.room ≡ blocked.room
+pub released-more : (life latest : ℕ) (commands : List Command) (ended : Command) (old_timed old_blocked timed blocked one timed_new blocked_new : QueueTable) (w : Waiter)
+    → Released life latest commands ended old_timed old_blocked timed blocked → IsPermutation blocked.waiters (w ∷ one.waiters) → one.room ≡ blocked.room
     → ((test : Command → Bool) → count_by (λ w. test w.command) timed_new.waiters ≡ cond (not (is_blocked commands w.command) && test w.command) 1 0 + count_by (λ w. test w.command) timed.waiters)
     → ((test : Command → Bool) → count_by (λ w. test w.command) blocked_new.waiters ≡ cond (is_blocked commands w.command && test w.command) 1 0 + count_by (λ w. test w.command) one.waiters)
-    → ((latest : ℕ) → All (Knows life latest commands) timed.waiters → All (Knows life latest commands) timed_new.waiters)
+    → (All (Knows life latest commands) timed.waiters → All (Knows life latest commands) timed_new.waiters)
     → ((skip : Waiter → Bool) → All (λ w. skip w ≡ false → IsHeldBy commands w) one.waiters → All (λ w. skip w ≡ false → IsHeldBy commands w) blocked_new.waiters)
-    → timed_new.room ≡ timed.room → blocked_new.room ≡ one.room → Released life commands ended old_timed old_blocked timed_new blocked_new
-released-more life commands ended old_timed old_blocked timed blocked one timed_new blocked_new w r is room queued_timed queued_blocked knows queued timed_room blocked_room = record {
+    → timed_new.room ≡ timed.room → blocked_new.room ≡ one.room → Released life latest commands ended old_timed old_blocked timed_new blocked_new
+released-more life latest commands ended old_timed old_blocked timed blocked one timed_new blocked_new w r is room queued_timed queued_blocked knows queued timed_room blocked_room = record {
   all = λ test.
       let split : bit (not (is_blocked commands w.command) && test w.command) + bit (is_blocked commands w.command && test w.command) ≡ bit (test w.command) = either (is_blocked commands w.command) (test w.command) in
       let taken = sum_by-IsPermutation (λ (v : Waiter). cond (test v.command) 1 0) blocked.waiters (w ∷ one.waiters) is in
       omega (arith, r.all test, queued_timed test, queued_blocked test, split, count-cons (λ (v : Waiter). test v.command) w one.waiters, taken);
   free = let out : bit (not (is_blocked commands w.command) && is_blocked commands w.command) ≡ 0 = never (is_blocked commands w.command) in omega (arith, r.free, queued_timed (is_blocked commands), out);
-  knows = λ latest all. knows latest (r.knows latest all);
+  knows = λ all. knows (r.knows all);
   held = λ all.
       let P : Waiter → Type 0 = λ v. waited_for ended v ≡ false → IsHeldBy commands v in
       queued (waited_for ended) (All-tail P w one.waiters (All-permutation P blocked.waiters (w ∷ one.waiters) is (r.held all)));
@@ -171,9 +195,9 @@ read-at (x ∷ xs) zero d e below = refl
 read-at (x ∷ xs) (suc i) d e below = read-at xs i d e (omega (arith, below))
 
 -- going back, one more isn't an unfinished one in conflict
-pub none-more : (commands : List Command) (c : Command) (left : ℕ) (x : Command) → 0 < left → left ≤ length commands → x ≡ get_or commands (left - 1) x → blocks c x ≡ false
-    → ((k : ℕ) (d : Command) → left ≤ k → k < length commands → blocks c (get_or commands k d) ≡ false) → (k : ℕ) (d : Command) → left - 1 ≤ k → k < length commands → blocks c (get_or commands k d) ≡ false
-none-more commands c left x some within read out rest k d from below = elim (cases_lt k left) [
+pub none-more : (commands : List Command) (c : Command) (left until : ℕ) (x : Command) → 0 < left → left ≤ length commands → x ≡ get_or commands (left - 1) x → blocks c x ≡ false
+    → ((k : ℕ) (d : Command) → left ≤ k → k < until → blocks c (get_or commands k d) ≡ false) → (k : ℕ) (d : Command) → left - 1 ≤ k → k < until → blocks c (get_or commands k d) ≡ false
+none-more commands c left until x some within read out rest k d from below = elim (cases_lt k left) [
   | inl before ↦
       let same : k ≡ left - 1 = omega (arith, before, from) in
       ap (blocks c) (ap (λ i. get_or commands i d) same ∙ read-at commands (left - 1) d x (omega (arith, some, within)) ∙ sym read) ∙ out

@@ -1,5 +1,5 @@
 -- What a host keeps of its commands at one device.
-use Rattle.std.specs.Prelude.{ℕ, ◌≡◌, ◌<◌, ◌&&◌, Bool, true, false, not, nat_eq, nat_lt, nat_le, List, [], ◌∷◌, ◌++◌, Option, Some, None, All}
+use Rattle.std.specs.Prelude.{ℕ, ◌≡◌, ◌<◌, ◌&&◌, Bool, true, false, not, take, nat_eq, nat_lt, nat_le, List, [], ◌∷◌, ◌++◌, Option, Some, None, All}
 use Rattle.std.specs.List.{filter, list_all}
 use Rattle.aoe_base.specs.declared.counted.Ticket.{Ticket}
 use Rattle.aoe_base.specs.declared.sectors.Span.{Span}
@@ -69,3 +69,7 @@ IsSound greatest unsent commands =
 -- before this time none of the commands is past
 abbrev pub NonePastBefore : ℕ → ℕ → List Command → Type 0
 NonePastBefore life from commands = (now : ℕ) → now < from → All (λ c. is_past life now c ≡ false) commands
+
+-- so many of the first commands are past
+abbrev pub ArePast : ℕ → ℕ → ℕ → List Command → Type 0
+ArePast life latest gone commands = All (λ c. is_past life latest c ≡ true) (take gone commands)

@@ -1,10 +1,10 @@
 -- Commands that wait, in the order of what they wait for.
-use Rattle.std.specs.Prelude.{ℕ, ◌≡◌, ◌+◌, ◌≤◌, ◌&&◌, Bool, true, false, not, List, [], nat_eq, nat_le, All}
-use Rattle.std.specs.List.{count_by, list_any}
+use Rattle.std.specs.Prelude.{ℕ, ◌≡◌, ◌+◌, ◌≤◌, ◌&&◌, Bool, true, false, not, length, take, List, [], nat_eq, nat_le, nat_lt, All}
+use Rattle.std.specs.List.{count_by, list_any, AllWithin}
 use Rattle.aoe_hold.specs.Order.{AreInOrder}
 use Rattle.aoe_hold.specs.declared.command.Command.{Command}
 use Rattle.aoe_hold.specs.declared.queue.Waiter.{Waiter}
-use Rattle.aoe_hold.specs.Commands.{all_gone, comes_first, finished, has_effect, is_unsent, rests_on_effects}
+use Rattle.aoe_hold.specs.Commands.{all_gone, comes_first, finished, has_effect, is_past, is_unsent, rests_on_effects}
 
 -- for how many there is room, and those that wait, in order
 pub record QueueTable : Type 0 where
@@ -78,6 +78,12 @@ pub record AreHeld (unsent : ℕ) (commands : List Command) (timed ready blocked
   pub held : All (IsHeldBy commands) blocked.waiters
   pub room : unsent ≤ blocked.room
 
+-- what keeps a command back stands from the one place on and ahead of the other: the commands in front are past, and those behind aren't earlier
+pub record AreOutside (life latest first until : ℕ) (commands : List Command) (c : Command) : Type 0 where
+  pub within : until ≤ length commands
+  pub past : All (λ e. is_past life latest e ≡ true) (take first commands)
+  pub later : AllWithin (λ e. nat_lt e.ticket.0 c.ticket.0 ≡ false) commands until (length commands)
+
 -- commands whose time was past were moved from the first queue to the second
 pub record Moved (now : ℕ) (old_timed old_ready timed ready : QueueTable) : Type 0 where
   pub same : (test : Command → Bool) → count_by (λ w. test w.command) timed.waiters + count_by (λ w. test w.command) ready.waiters
@@ -89,11 +95,11 @@ pub record Moved (now : ℕ) (old_timed old_ready timed ready : QueueTable) : Ty
   pub ready_room : ready.room ≡ old_ready.room
 
 -- the commands that waited for an ended one were queued anew
-pub record Released (life : ℕ) (commands : List Command) (ended : Command) (old_timed old_blocked timed blocked : QueueTable) : Type 0 where
+pub record Released (life latest : ℕ) (commands : List Command) (ended : Command) (old_timed old_blocked timed blocked : QueueTable) : Type 0 where
   pub all : (test : Command → Bool) → count_by (λ w. test w.command) timed.waiters + count_by (λ w. test w.command) blocked.waiters
       ≡ count_by (λ w. test w.command) old_timed.waiters + count_by (λ w. test w.command) old_blocked.waiters
   pub free : count_by (λ w. is_blocked commands w.command) timed.waiters ≡ count_by (λ w. is_blocked commands w.command) old_timed.waiters
-  pub knows : (latest : ℕ) → All (Knows life latest commands) old_timed.waiters → All (Knows life latest commands) timed.waiters
+  pub knows : All (Knows life latest commands) old_timed.waiters → All (Knows life latest commands) timed.waiters
   pub held : All (λ w. waited_for ended w ≡ false → IsHeldBy commands w) old_blocked.waiters → All (λ w. waited_for ended w ≡ false → IsHeldBy commands w) blocked.waiters
   pub timed_room : timed.room ≡ old_timed.room
   pub blocked_room : blocked.room ≡ old_blocked.room

@@ -5,8 +5,8 @@ ghost use Rattle.std.specs.Option.{ForSome};
 ghost use Rattle.std.specs.Vec.{vec_capacity, vec_len};
 ghost use Rattle.aoe_hold.specs.Commands.{after_stage, clear_tickets, finished, live, stage_finished, stage_sent, unsent_count};
 ghost use Rattle.aoe_hold.specs.declared.queue.Waiter.{Waiter as WaiterValue};
-ghost use Rattle.aoe_hold.specs.HoldTable.{after_finish, after_send, at_time, is_ascending, new_command, no_commands, with_command, NonePastBefore, Recalls};
-ghost use Rattle.aoe_hold.specs.Queue.{blocks, has_ticket, is_blocked, lingers, waited_for, IsHeldBy, Knows, Moved, Released};
+ghost use Rattle.aoe_hold.specs.HoldTable.{after_finish, after_send, at_time, is_ascending, new_command, no_commands, with_command, ArePast, NonePastBefore, Recalls};
+ghost use Rattle.aoe_hold.specs.Queue.{blocks, has_ticket, AreOutside, is_blocked, lingers, waited_for, IsHeldBy, Knows, Moved, Released};
 
 use crate::command::{Command, Kind, Stage};
 use crate::queue::{Queue, Waiter};
@@ -15,13 +15,22 @@ use std::alloc::Global;
 use std::marker::Model;
 use std::sync::ledger::Ledger;
 
-/// The latest of the earlier commands in conflict that are unfinished.
-fn blocker(commands: &[Command], command: &Command) -> Option<Ticket>
+/// The latest of the earlier commands in conflict that are unfinished. It stands from `first` on,
+/// ahead of `until`.
+fn blocker(
+    commands: &[Command],
+    first: usize,
+    until: usize,
+    command: &Command,
+    life: Millis,
+    latest: Millis,
+) -> Option<Ticket>
+    requires { AreOutside life.0 latest.0 first until commands.now command.now }
     ensures some { IfSome result (λ ticket. list_any (λ e. nat_eq e.ticket.0 ticket.0 && blocks command.now e) commands.now ≡ true) }
     ensures none { IfNone result (is_blocked commands.now command.now ≡ false) }
 {
-    let mut left = commands.len();
-    'earlier: while left > 0 {
+    let mut left = until;
+    'earlier: while left > first {
         left -= 1;
         if commands[left].blocks(command) {
             return Some(commands[left].ticket);
@@ -30,13 +39,24 @@ fn blocker(commands: &[Command], command: &Command) -> Option<Ticket>
     None
 }
 
-/// The time from which no frame can arrive that a command waits for.
-fn clear_from(commands: &[Command], command: &Command, life: Millis) -> u128
-    ensures { (now : ℕ) → list_any (λ e. lingers life.0 now command.now e) commands.now ≡ not (nat_le result now) }
+/// The time from which no frame can arrive that a command waits for, where no earlier one in
+/// conflict is unfinished.
+fn clear_from(
+    commands: &[Command],
+    first: usize,
+    until: usize,
+    command: &Command,
+    life: Millis,
+    latest: Millis,
+) -> u128
+    requires { AreOutside life.0 latest.0 first until commands.now command.now }
+    ensures { (now : ℕ) → latest.0 ≤ now → list_any (λ e. lingers life.0 now command.now e) commands.now ≡ not (nat_le result now) }
 {
     let mut from = 0;
-    'earlier: for earlier in commands {
-        from = from.max(earlier.lingers_until(command, life));
+    let mut left = until;
+    'earlier: while left > first {
+        left -= 1;
+        from = from.max(commands[left].lingers_until(command, life));
     }
     from
 }
@@ -72,14 +92,18 @@ fn make_room(
     blocked.reserve(room)
 }
 
-/// Queues a command that was never sent.
+/// Queues a command that was never sent. The first of the commands, `gone` in number, are past.
 fn queue(
     commands: &[Command],
+    gone: usize,
     timed: &mut Queue,
     blocked: &mut Queue,
     command: Command,
     life: Millis,
+    latest: Millis,
 )
+    requires ascending { is_ascending commands.now ≡ true }
+    requires past { ArePast life.0 latest.0 gone commands.now }
     requires timed { length timed.old.waiters < timed.old.room }
     requires blocked { length blocked.old.waiters < blocked.old.room }
     ensures timed { (test : Command → Bool) → count_by (λ w. test w.command) timed.new.waiters
@@ -88,8 +112,8 @@ fn queue(
     ensures blocked { (test : Command → Bool) → count_by (λ w. test w.command) blocked.new.waiters
         ≡ cond (is_blocked commands.now command && test command) 1 0
         + count_by (λ w. test w.command) blocked.old.waiters }
-    ensures knows { (latest : ℕ) → All (Knows life.0 latest commands.now) timed.old.waiters
-        → All (Knows life.0 latest commands.now) timed.new.waiters }
+    ensures knows { All (Knows life.0 latest.0 commands.now) timed.old.waiters
+        → All (Knows life.0 latest.0 commands.now) timed.new.waiters }
     ensures held { (skip : WaiterValue → Bool) → All (λ w. skip w ≡ false → IsHeldBy commands.now w) blocked.old.waiters
         → All (λ w. skip w ≡ false → IsHeldBy commands.now w) blocked.new.waiters }
     ensures after { (ended : Command) → ((c : Command) → list_any (λ e. nat_eq e.ticket.0 ended.ticket.0 && blocks c e) commands.now ≡ false)
@@ -97,11 +121,12 @@ fn queue(
     ensures timed_room { timed.new.room ≡ timed.old.room }
     ensures blocked_room { blocked.new.room ≡ blocked.old.room }
 {
-    if let Some(earlier) = blocker(commands, &command) {
+    let until = commands.partition_point(|earlier| earlier.ticket < command.ticket);
+    if let Some(earlier) = blocker(commands, gone, until, &command, life, latest) {
         let from = u128::from(earlier.0);
         blocked.insert(Waiter { command, from });
     } else {
-        let from = clear_from(commands, &command, life);
+        let from = clear_from(commands, gone, until, &command, life, latest);
         timed.insert(Waiter { command, from });
     }
 }
@@ -109,23 +134,39 @@ fn queue(
 /// Queues the commands anew that waited for one that is finished now.
 fn release(
     commands: &[Command],
+    gone: usize,
     timed: &mut Queue,
     blocked: &mut Queue,
     ended: &Command,
     life: Millis,
+    latest: Millis,
 )
+    requires ascending { is_ascending commands.now ≡ true }
+    requires past { ArePast life.0 latest.0 gone commands.now }
     requires done { finished ended.now.stage ≡ true → (c : Command) → list_any (λ e. nat_eq e.ticket.0 ended.now.ticket.0 && blocks c e) commands.now ≡ false }
     requires timed { length timed.old.waiters + length blocked.old.waiters ≤ timed.old.room }
     requires blocked { length timed.old.waiters + length blocked.old.waiters ≤ blocked.old.room }
-    ensures released { Released life.0 commands.now ended.now timed.old blocked.old timed.new blocked.new }
+    ensures released { Released life.0 latest.0 commands.now ended.now timed.old blocked.old timed.new blocked.new }
     ensures none { All (λ w. waited_for ended.now w ≡ false) blocked.new.waiters }
 {
     if !ended.is_finished() {
         return;
     }
     'waiting: while let Some(waiter) = blocked.pop_from(u128::from(ended.ticket.0)) {
-        queue(commands, timed, blocked, waiter.command, life);
+        queue(commands, gone, timed, blocked, waiter.command, life, latest);
     }
+}
+
+/// How many of the first commands are past.
+fn count_gone(commands: &[Command], known: usize, life: Millis, latest: Millis) -> usize
+    requires { ArePast life.0 latest.0 known commands.now }
+    ensures { ArePast life.0 latest.0 result commands.now }
+{
+    let mut gone = known;
+    'past: while gone < commands.len() && commands[gone].is_past(life, latest) {
+        gone += 1;
+    }
+    gone
 }
 
 /// Takes the first of the commands out, where its time is past.
@@ -234,6 +275,9 @@ pub struct Holds {
     /// In the order of their tickets.
     commands: Vec<Command>,
 
+    /// How many of the first commands are known to be past.
+    gone: usize,
+
     /// Of those that were never sent and for which no earlier one in conflict is unfinished, those
     /// that wait for frames to expire, and those that weren't looked at since they may be sent.
     timed: Queue,
@@ -248,7 +292,7 @@ pub struct Holds {
 
 impl Model for Holds {
     ghost use Rattle.std.specs.Prelude.{map, option_map};
-    ghost use Rattle.aoe_hold.specs.HoldTable.{HoldTable, IsSound, NonePastBefore};
+    ghost use Rattle.aoe_hold.specs.HoldTable.{ArePast, HoldTable, IsSound, NonePastBefore};
     ghost use Rattle.aoe_hold.specs.Queue.{ticket_of, AreHeld, IsIndex};
 
     ghost Value = { HoldTable };
@@ -265,7 +309,8 @@ impl Model for Holds {
         IsSound (option_map (λ t. t.0) holds.greatest) holds.unsent holds.commands.items
         × IsIndex holds.life.0 holds.latest.0 holds.unsent holds.commands.items holds.timed holds.ready
         × NonePastBefore holds.life.0 holds.past_from holds.commands.items
-        × AreHeld holds.unsent holds.commands.items holds.timed holds.ready holds.blocked };
+        × AreHeld holds.unsent holds.commands.items holds.timed holds.ready holds.blocked
+        × ArePast holds.life.0 holds.latest.0 holds.gone holds.commands.items };
 }
 
 impl Holds {
@@ -280,6 +325,7 @@ impl Holds {
             unsent: 0,
             past_from: u128::MAX,
             commands: Vec::new(alloc),
+            gone: 0,
             timed: Queue::new(alloc),
             ready: Queue::new(alloc),
             blocked: Queue::new(alloc),
@@ -311,12 +357,15 @@ impl Holds {
             span,
             stage: Stage::Unsent,
         };
+        self.gone = 0;
         queue(
             &self.commands,
+            0,
             &mut self.timed,
             &mut self.blocked,
             command,
             self.life,
+            self.latest,
         );
         self.commands.push_reserved(command);
         self.greatest = Some(ticket);
@@ -382,12 +431,15 @@ impl Holds {
             command.stage = command.stage.finished();
             let ended = *command;
             self.past_from = self.past_from.min(ended.past_from(self.life));
+            self.gone = count_gone(&self.commands, self.gone, self.life, self.latest);
             release(
                 &self.commands,
+                self.gone,
                 &mut self.timed,
                 &mut self.blocked,
                 &ended,
                 self.life,
+                self.latest,
             );
         }
     }

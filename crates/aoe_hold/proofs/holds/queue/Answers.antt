@@ -1,14 +1,16 @@
-use Rattle.std.proofs.Common.{ℕ, ◌≡◌, ◌&&◌, not, cond, false, true, refl, ap, sym, subst, ◌∙◌, arith, rules, nat_eq}
+use Rattle.std.proofs.Common.{ℕ, ◌≡◌, ◌&&◌, not, cond, false, true, refl, ap, sym, subst, ◌∙◌, arith, rules, nat_eq, nat_lt}
 use Rattle.std.specs.Prelude.{◌∷◌}
 use Rattle.std.specs.List.{list_any}
 use Rattle.std.proofs.lemmas.List.Elements.{All-cons}
-use Rattle.std.proofs.lemmas.List.Sorted.{All-permutation, sum_by-IsPermutation}
+use Rattle.std.proofs.lemmas.List.Sorted.{All-permutation, sum_by-IsPermutation, IsPartitionPoint-from_clause}
 use Rattle.aoe_hold.proofs.CountLemmas.{count-cons}
+use Rattle.aoe_hold.specs.declared.command.Command.{Command}
 use Rattle.aoe_hold.specs.declared.queue.Waiter.{Waiter}
 use Rattle.aoe_hold.specs.Queue.{blocks, is_blocked, waited_for, IsHeldBy, Knows}
 use Rattle.aoe_hold.proofs.HeldLemmas.{any-weaker}
 use Rattle.aoe_hold.proofs.IndexLemmas.{bit}
 use Rattle.aoe_hold.proofs.MoveLemmas.{not-waited}
+use Rattle.aoe_hold.proofs.PlaceLemmas.{tickets-parted}
 use Rattle.aoe_hold.proofs.holds.queue.Goals as goal
 
 pub returns-in-Some-clause-timed : goal.returns-in-Some-clause-timed
@@ -47,8 +49,20 @@ returns-in_default-clause-timed c = λ test.
     ∙ count-cons (λ (w : Waiter). test w.command) new c.args.timed.now.waiters ∙ rw free refl
 
 pub returns-in_default-clause-knows : goal.returns-in_default-clause-knows
-returns-in_default-clause-knows c = λ latest all.
+returns-in_default-clause-knows c = λ all.
     let new : Waiter = record { command = c.args.command; from = c.clear_from-from.result } in
-    let P : Waiter → Type 0 = Knows c.args.life.0 latest c.args.commands.now in
+    let P : Waiter → Type 0 = Knows c.args.life.0 c.args.latest.0 c.args.commands.now in
     All-permutation P (new ∷ c.args.timed.now.waiters) c.insert-in_default.new.self.waiters c.insert-in_default.ensures.waiters
-    (All-cons P new c.args.timed.now.waiters (λ now later. c.clear_from-from.ensures now) all)
+    (All-cons P new c.args.timed.now.waiters c.clear_from-from.ensures all)
+
+pub blocker-requires : goal.blocker-requires
+blocker-requires c =
+    let point = IsPartitionPoint-from_clause (λ (d : Command). nat_lt d.ticket.0 c.args.command.ticket.0) c.args.commands.now c.partition_point-until.result c.partition_point-until.ensures.partitioned
+    (tickets-parted c.args.command.ticket.0 c.args.commands.now c.requires.ascending) (λ a r f h. search rules) in
+    record { within = c.partition_point-until.ensures.bound; past = c.requires.past; later = point.1 }
+
+pub clear_from-from-requires : goal.clear_from-from-requires
+clear_from-from-requires c =
+    let point = IsPartitionPoint-from_clause (λ (d : Command). nat_lt d.ticket.0 c.args.command.ticket.0) c.args.commands.now c.partition_point-until.result c.partition_point-until.ensures.partitioned
+    (tickets-parted c.args.command.ticket.0 c.args.commands.now c.requires.ascending) (λ a r f h. search rules) in
+    record { within = c.partition_point-until.ensures.bound; past = c.requires.past; later = point.1 }

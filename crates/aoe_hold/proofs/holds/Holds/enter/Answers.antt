@@ -1,13 +1,14 @@
-use Rattle.std.proofs.Common.{◌≡◌, ◌+◌, ◌++◌, List, [], ◌∷◌, ◌^◌, ◌-◌, ◌<◌, length, not, refl, sym, subst, ◌∙◌, ap, arith}
+use Rattle.std.proofs.Common.{◌≡◌, ◌+◌, ◌++◌, List, [], ◌∷◌, ◌^◌, ◌-◌, ◌<◌, length, not, true, refl, sym, subst, ◌∙◌, ap, arith}
 use Rattle.std.specs.Prelude.{option_map}
 use Rattle.aoe_hold.specs.declared.command.Command.{Command}
 use Rattle.aoe_hold.specs.Commands.{is_past, live, unsent_count}
 use Rattle.aoe_hold.specs.declared.queue.Waiter.{Waiter}
-use Rattle.aoe_hold.specs.HoldTable.{new_command, IsSound, NonePastBefore}
+use Rattle.aoe_hold.specs.HoldTable.{is_ascending, new_command, ArePast, IsSound, NonePastBefore}
 use Rattle.aoe_hold.specs.Queue.{AreHeld, IsIndex}
 use Rattle.aoe_hold.proofs.HoldLemmas.{held-entered, held-few, held-reserved, index-entered, index-reserved}
 use Rattle.aoe_hold.proofs.LiveLemmas.{count-live}
 use Rattle.aoe_hold.proofs.OrderLemmas.{ascending-filter, enter-ascending, enter-up_to, up_to-filter}
+use Rattle.aoe_hold.proofs.OutsideLemmas.{gone-none}
 use Rattle.aoe_hold.proofs.PastLemmas.{past-entered}
 use Rattle.aoe_hold.proofs.TableLemmas.{above-view, count-enter, enter-recalls, room-view}
 use Rattle.aoe_hold.proofs.holds.Holds.enter.Goals as goal
@@ -36,10 +37,10 @@ pub invariant_of-self : goal.invariant_of-self
 invariant_of-self c =
     let index = index-reserved c.self.inside.life.0 c.self.inside.latest.0 c.self.inside.unsent c.self.inside.commands.items c.self.inside.timed c.self.inside.ready c.make_room.new.timed c.make_room.new.ready c.make_room.ensures.timed c.make_room.ensures.ready c.make_room.ensures.timed_more c.make_room.ensures.ready_more c.self.invariant.1 in
     let P : List Command → Type 0 = λ l. IsSound (option_map (λ t. t.0) c.self.inside.greatest) c.self.inside.unsent l × IsIndex c.self.inside.life.0 c.self.inside.latest.0 c.self.inside.unsent l c.make_room.new.timed c.make_room.new.ready × NonePastBefore c.self.inside.life.0 c.self.inside.past_from l
-    × AreHeld c.self.inside.unsent l c.make_room.new.timed c.make_room.new.ready c.make_room.new.blocked in
+    × AreHeld c.self.inside.unsent l c.make_room.new.timed c.make_room.new.ready c.make_room.new.blocked × ArePast c.self.inside.life.0 c.self.inside.latest.0 c.self.inside.gone l in
     let reserved = held-reserved c.self.inside.unsent c.self.inside.commands.items c.self.inside.timed c.self.inside.ready c.self.inside.blocked c.make_room.new.timed c.make_room.new.ready c.make_room.new.blocked
     c.make_room.ensures.timed c.make_room.ensures.ready c.make_room.ensures.blocked c.make_room.ensures.blocked_more c.self.invariant.3 in
-    subst P (sym c.make_room.ensures.commands) (c.self.invariant.0, index, c.self.invariant.2, reserved)
+    subst P (sym c.make_room.ensures.commands) (c.self.invariant.0, index, c.self.invariant.2, reserved, c.self.invariant.4)
 
 pub queue-requires-clause-timed : goal.queue-requires-clause-timed
 queue-requires-clause-timed c =
@@ -79,6 +80,7 @@ invariant_of-self-2 c =
       held-entered life latest unsent held c.deref.result.now c.push_reserved.new.self.items new c.make_room.new.timed c.make_room.new.ready c.make_room.new.blocked c.queue.new.timed c.queue.new.blocked refl (seen ∙ dropped) after
           c.queue.ensures.timed c.queue.ensures.blocked c.queue.ensures.held c.queue.ensures.blocked_room c.in_ok-make_room.ensures.blocked_room
           (held-reserved unsent held c.self.inside.timed c.self.inside.ready c.self.inside.blocked c.make_room.new.timed c.make_room.new.ready c.make_room.new.blocked c.make_room.ensures.timed c.make_room.ensures.ready c.make_room.ensures.blocked c.make_room.ensures.blocked_more c.self.invariant.3),
+      gone-none life latest c.push_reserved.new.self.items,
     )
 
 pub returns-clause-recalls : goal.returns-clause-recalls
@@ -90,3 +92,12 @@ returns-clause-recalls c =
     let dropped : c.forget-self-inside.new.commands.items ≡ live life latest held = c.forget-self-inside.ensures.live ∙ ap (live life latest) c.make_room.ensures.commands in
     let items : c.push_reserved.new.self.items ≡ live life latest held ++ new ∷ [] = c.push_reserved.ensures.items ∙ ap (λ l. l ++ new ∷ []) dropped in
     enter-recalls life latest _ new held _ c.args.self.now c.self.view_is items
+
+pub queue-requires-clause-ascending : goal.queue-requires-clause-ascending
+queue-requires-clause-ascending c =
+    let life = c.self.inside.life.0 in
+    let latest = c.self.inside.latest.0 in
+    let held = c.self.inside.commands.items in
+    let seen : c.deref.result.now ≡ live life latest held = c.deref.ensures.value ∙ c.forget-self-inside.ensures.live ∙ ap (live life latest) c.make_room.ensures.commands in
+    let P : List Command → Type 0 = λ l. is_ascending l ≡ true in
+    subst P (sym seen) (ascending-filter (λ (d : Command). not (is_past life latest d)) held c.self.invariant.0.0)

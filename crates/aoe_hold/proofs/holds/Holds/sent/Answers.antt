@@ -6,6 +6,7 @@ use Rattle.aoe_hold.proofs.StageLemmas.{count-sent, place-within, stage-missing,
 use Rattle.aoe_hold.proofs.PastLemmas.{past-sent}
 use Rattle.aoe_hold.proofs.PlaceLemmas.{leaves-missing, leaves-once}
 use Rattle.aoe_hold.proofs.OrderLemmas.{ascending-after_stage, up_to-after_stage}
+use Rattle.aoe_hold.proofs.OutsideLemmas.{gone-later, gone-stage}
 use Rattle.aoe_hold.proofs.TableLemmas.{send-recalls, send-value, time-of}
 use Rattle.aoe_hold.specs.declared.queue.Waiter.{Waiter}
 use Rattle.aoe_hold.specs.Queue.{ticket_of}
@@ -32,6 +33,7 @@ invariant_of-self c =
       past-sent c.self.inside.life.0 c.self.inside.past_from c.args.ticket.0 c.args.now held _ after c.self.invariant.2,
       held-gone c.self.inside.unsent _ c.args.ticket.0 c.args.now held _ c.self.inside.timed c.self.inside.ready c.self.inside.blocked c.leave.new.timed c.leave.new.ready c.leave.new.blocked after (omega arith)
           c.leave.ensures.timed c.leave.ensures.ready c.leave.ensures.blocked c.leave.ensures.blocked_room c.self.invariant.3,
+      gone-stage c.self.inside.life.0 c.self.inside.latest.0 c.args.now.0 c.self.inside.gone c.args.ticket.0 (stage_sent c.args.now) held _ (λ last. refl) later after c.self.invariant.4,
     )
 
 pub invariant_of-self-in_default : goal.invariant_of-self-in_default
@@ -46,6 +48,7 @@ invariant_of-self-in_default c =
       c.self.invariant.2,
       held-gone c.self.inside.unsent c.self.inside.unsent c.args.ticket.0 c.args.now held held c.self.inside.timed c.self.inside.ready c.self.inside.blocked c.self.inside.timed c.self.inside.ready c.self.inside.blocked
           (stage-missing c.args.ticket.0 (stage_sent c.args.now) held missing) (omega arith) stay.0 stay.1 stay.2 refl c.self.invariant.3,
+      gone-later c.self.inside.life.0 c.self.inside.latest.0 c.args.now.0 c.self.inside.gone held later c.self.invariant.4,
     )
 
 pub leave-requires : goal.leave-requires
