@@ -34,7 +34,7 @@ impl Waiter {
     }
 }
 
-/// Such commands, the one that may be sent first at the head.
+/// Such commands, in the order of what they wait for and of their tickets.
 #[derive(Drop)]
 pub struct Queue {
     /// For how many there is room.
