@@ -38,15 +38,19 @@ pub record AreCopied (writes : Bool) (at count : ℕ) (submits : List Submission
   pub size : length (joined parts) ≡ 512 * count
   pub each : All (IsCopied writes submits came) parts
 
--- a flush was submitted, and acknowledged
-pub record IsFlushed (submits : List Submission) (came : List Done) : Type 0 where
-  pub ticket : Ticket
-  pub asked : Contains submits (record { ticket = ticket; op = op.Flush })
-  pub acknowledged : Contains came (record { ticket = ticket; outcome = outcome.Flushed })
-
 -- the outcomes that came, with those of a last turn that broke off
 abbrev pub came_in : List Round → List Done → List Done
 came_in rounds gave_up = gave_up ++ outcomes rounds
+
+-- the last command of one of these turns is a flush, and each part was written before: its write was submitted, and acknowledged
+pub record FollowsWrites (parts : List Part) (rounds : List Round) (flush : Ticket) : Type 0 where
+  pub later : List Round
+  pub turn : Round
+  pub earlier : List Round
+  pub order : rounds ≡ later ++ turn ∷ earlier
+  pub before : List Submission
+  pub asked : turn.submits ≡ record { ticket = flush; op = op.Flush } ∷ before
+  pub written : All (IsCopied true (before ++ submissions earlier) (came_in earlier turn.gave_up)) parts
 
 -- these bytes are those of so many sectors in order, each from a response to a read of it
 pub record HasRead (at count : ℕ) (rounds : List Round) (bytes : List ℕ) : Type 0 where
@@ -55,10 +59,13 @@ pub record HasRead (at count : ℕ) (rounds : List Round) (bytes : List ℕ) : T
   pub copied : AreCopied false at count (submissions rounds) (came_in rounds gave_up) parts
   pub together : joined parts ≡ bytes
 
--- these bytes were written from a sector on: each sector was acknowledged by a response to its write, and then a flush
+-- these bytes were written from a sector on: each sector was acknowledged by a response to its write, and then a flush, which was
+-- asked for once all of them were
 pub record HasWritten (at : ℕ) (bytes : List ℕ) (rounds : List Round) : Type 0 where
   pub parts : List Part
   pub gave_up : List Done
   pub copied : AreCopied true at (length bytes / 512) (submissions rounds) (came_in rounds gave_up) parts
   pub together : joined parts ≡ bytes
-  pub flushed : IsFlushed (submissions rounds) (came_in rounds gave_up)
+  pub flush : Ticket
+  pub follows : FollowsWrites parts rounds flush
+  pub acknowledged : Contains (came_in rounds gave_up) (record { ticket = flush; outcome = outcome.Flushed })
