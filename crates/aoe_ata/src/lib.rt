@@ -1,5 +1,15 @@
-//! ATA over Ethernet's registers, both ways, what a request asks of a device, and the page that a
-//! device tells of itself.
+//! The registers of ATA over Ethernet, both ways, what a request asks of a device, and the page
+//! that a device tells of itself.
+//!
+//! For a target: [`decide`] says what a device of that size does with the bytes behind the header,
+//! as an [`AtaDecision`]. The caller reads, writes ([`put_data`] gives the data) or syncs, and
+//! [`reply_args`] gives the registers of what came of it. [`identify_page`] makes the page.
+//!
+//! For a host: [`write_args`] makes the registers of a request; [`read_args`], [`is_failed`] and
+//! [`read_identify`] read those of a reply.
+//!
+//! It calls no device and knows no list of stations. What a device doesn't know ends with ABRT:
+//! there is no DMA, no SMART, and no address by cylinder, head and sector.
 #![tactic(auto)]
 
 mod args;

@@ -37,7 +37,7 @@ impl Blob {
         Blob { held: bytes }
     }
 
-    /// So many zeros.
+    /// `len` zeros.
     pub fn zeros(alloc: Global, len: usize) -> Result<Blob, NoMemory>
         ensures { IfOk result (λ zeros. zeros ≡ replicate {A = ℕ} len 0) }
     {

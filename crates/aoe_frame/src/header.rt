@@ -33,7 +33,7 @@ pub const ERROR_FLAG: u8 = 0x4;
 /// | 19 | 1 | command |
 /// | 20 | 4 | tag |
 ///
-/// Numbers of several bytes have the greatest first.
+/// Numbers of several bytes are big-endian.
 #[derive(Clone, Copy, Debug, PartialEq, Eq)]
 pub struct Header {
     pub dst: Mac,

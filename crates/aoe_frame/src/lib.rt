@@ -1,4 +1,11 @@
 //! A frame in fixed room, the header that all AoE frames begin with, and the padding behind it.
+//!
+//! A [`Frame`] holds the bytes from the destination address on. [`read_header`] gives the fields of
+//! a [`Header`]; [`turn_round`] makes that of a reply of it, and [`write_header`] writes one.
+//! [`stretch`], [`overwrite`] and [`refill`] put bytes behind it, and [`pad`] comes last.
+//!
+//! No call takes memory. It knows neither what stands behind a header (`aoe_ata`, `aoe_lists`) nor
+//! who may send a frame, and has no check sequence.
 #![tactic(auto)]
 
 mod frame;

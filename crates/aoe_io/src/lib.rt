@@ -1,5 +1,15 @@
 //! What comes in and goes out: sources and sinks of bytes, links of frames and clocks, in memory
 //! too, and the stream of frames.
+//!
+//! [`Source`], [`Sink`], [`Link`] and [`Clock`] are traits, which a program implements over its
+//! files, sockets and time. Each counts its failed calls, and may tell contracts what it holds or
+//! tell nothing. [`MemSource`], [`MemSink`], [`MemLink`] and [`SetClock`] tell all, and fail where
+//! a test says.
+//!
+//! On a stream each frame is preceded by its length: [`next_frame`] takes one and [`give_frame`]
+//! gives one. [`give_all`] writes bytes to their end.
+//!
+//! Nothing here is buffered, and no call is made again after a failure.
 #![tactic(auto)]
 
 mod clocks;

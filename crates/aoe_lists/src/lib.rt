@@ -1,5 +1,12 @@
 //! What a device keeps for its hosts (a config string and two lists of addresses), and the written
 //! answers to the requests that read and change it.
+//!
+//! [`admits`] and [`may_use`] say what a station may do. [`config_step`], [`mask_step`] and
+//! [`reserve_step`] take the lists and a request's bytes, and make the arguments of the reply; with
+//! [`Answer::Change`] they also make the lists that the request asks for.
+//!
+//! A step changes no list by itself: the caller keeps the next ones first (`aoe_keep`), and then
+//! they are the present ones. No call takes memory.
 #![tactic(auto)]
 
 mod answer;

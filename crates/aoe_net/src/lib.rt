@@ -1,5 +1,12 @@
 //! A network that keeps each frame that was sent on it and hands it over, any number of times and
 //! in any order, until the frame's lifetime is over.
+//!
+//! 1. [`Net::new`] with that lifetime.
+//! 2. [`Net::send`] or [`Net::send_shared`] with each frame, which gets the next number.
+//! 3. [`Net::fetch`] gives the frame of a number as long as it can be handed over.
+//!
+//! It is full at 200,000 frames or 536,870,912 bytes, which expired frames count among: their
+//! numbers stay theirs. It knows no stations, and chooses neither which frame comes nor when.
 #![tactic(auto)]
 
 mod frame_bytes;

@@ -8,19 +8,20 @@ use circular_buffer::HeapCircularBuffer;
 use std::alloc::Global;
 use std::marker::Model;
 
-/// How many round trips of a path are kept.
+/// How many round trips of a path are kept: this host's own choice.
 pub const KEPT_TRIPS: usize = 8;
 
-/// How long an answer is waited for on a path without a round trip.
+/// How long an answer is waited for on a path without a round trip (RFC 6298, 2.1).
 pub const FIRST_TIMEOUT: Millis = Millis(1000);
 
-/// How many times the greatest round trip an answer is waited for.
+/// How many times the greatest round trip an answer is waited for: this host's own choice.
 pub const TRIPS_PER_TIMEOUT: u64 = 4;
 
-/// The least timeout of a path with a round trip.
+/// The least timeout of a path with a round trip: this host's own choice, below the second of RFC 6298
+/// (2.4), since both ends are on one Ethernet.
 pub const MIN_TIMEOUT: Millis = Millis(100);
 
-/// The greatest timeout.
+/// The greatest timeout: the least maximum that RFC 6298 allows (2.5).
 pub const MAX_TIMEOUT: Millis = Millis(60_000);
 
 /// A path: a mark, and the round trips that its timeout goes by.

@@ -82,7 +82,7 @@ refusal text = if nat_lt 16777216 (length text) then Some TooLong else first_ref
 abbrev pub script_of : Text → ScriptLines
 script_of text = lines_of (said_by text)
 
--- it fails for this cause alone, or for want of memory
+-- it fails for this cause alone, or because it is out of memory
 abbrev pub FailsFor : {T : Type 0} → Option ScriptRefusal → Result T ScriptRefusal → Type 0
 FailsFor cause (Ok value) = cause ≡ None
 FailsFor cause (Err NoMemory) = Unit {0}

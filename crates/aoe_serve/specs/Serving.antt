@@ -24,7 +24,7 @@ abbrev pub has_ended : List Turn → Bool
 has_ended (ended ∷ turns) = true
 has_ended turns = false
 
--- serve has no more to do: so many frames came, so many turns in a row were quiet, or the link ended
+-- serve has no more to do: so many frames came, so many consecutive turns were quiet, or the link ended
 abbrev pub is_over : ℕ → ℕ → List Turn → Bool
 is_over limit idle turns = nat_eq (length (came_in turns)) limit || nat_eq (quiet_since turns) idle || has_ended turns
 

@@ -1,7 +1,11 @@
 //! The sectors that a target exports.
 //!
-//! [`Store`] is what a target stands on, [`ArmedStore`] one whose failures can be planned, and
-//! [`Direct`] a disk as a store, call for call.
+//! [`Store`] is what a target stands on, with the calls of a disk; [`ArmedStore`] one whose
+//! failures can be planned. [`Direct::new`] makes a disk a store, call for call, and
+//! [`Direct::close`] gives it back. A store that writes later is in `aoe_cache`.
+//!
+//! A store tells its sectors and no calls: a write may reach the disk later, but a sync that is Ok
+//! has brought all of them there.
 #![tactic(auto)]
 
 mod direct;

@@ -275,7 +275,7 @@ fn commands<'a>(alloc: Global) -> Result<Command<'a>, AllocError>
         .subcommand(put(alloc)?)
 }
 
-/// What clap finds in the words after the program's name.
+/// What clap finds in the arguments behind the program's name.
 pub(crate) fn matches<'a>(alloc: Global, words: &'a [String]) -> Result<ArgMatches<'a>, Error>
     ensures kinds { FailsBy (fault_of aoe_app (map string_bytes words.entry.now)) result }
     ensures found { IfOk result (HasMatchesOf aoe_app (map string_bytes words.entry.now)) }

@@ -1,4 +1,4 @@
-//! What words can spell.
+//! What arguments can spell.
 use aoe_base::{Blob, Mac, Ports, TargetId};
 use aoe_lists::{Dir, MAX_CONFIG, MAX_DIRS};
 use arrayvec::ArrayVec;
@@ -44,7 +44,7 @@ pub struct Serve {
     pub idle: u32,
 }
 
-/// What `soak SEED N` asks for: to run the script of so many commands that a number picks, and to
+/// What `soak SEED N` asks for: to run the script of `count` commands that a number picks, and to
 /// print what was seen.
 #[derive(Clone, Copy, Debug, PartialEq, Eq)]
 pub struct Soak {
@@ -148,7 +148,7 @@ pub enum Tool {
     Reserve(Reserve),
 }
 
-/// What the words of a command line ask for.
+/// What the arguments of a command line ask for.
 #[derive(Debug, Drop, PartialEq, Eq)]
 pub enum Command {
     Answer(Answer),

@@ -1,8 +1,14 @@
-//! The command line: what its words spell, or that they spell nothing.
+//! The command line: what its arguments spell, or that they spell nothing.
 //!
-//! The first word is the command. A word that begins with a hyphen is an option of it, `--name
-//! value` or `--name=value`; options may stand anywhere behind the command. Which word goes to
-//! which argument is the work of the crate `clap`; numbers and addresses are read as everywhere.
+//! [`read_words`] gives the [`Command`] that the arguments spell. [`files_of`] and [`ports_of`]
+//! give what a program has to open for it, in the order in which it is named.
+//!
+//! The first argument is the command. An argument that begins with a hyphen is an option of it,
+//! `--name value` or `--name=value`; options may stand anywhere behind the command. Which argument
+//! goes to which place is the work of the crate `clap`; numbers and addresses are read as
+//! everywhere.
+//!
+//! It opens nothing, and says nothing of what is wrong: arguments are a command or none.
 #![tactic(auto)]
 
 mod app;

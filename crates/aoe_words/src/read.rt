@@ -1,4 +1,4 @@
-//! What words spell.
+//! What arguments spell.
 ghost use Rattle.std.specs.Prelude.{◌≡◌, ◌*◌, [], ◌∷◌, length, map, option_map, string_bytes, IfOk, IfSome, IsSome};
 ghost use Rattle.std.specs.List.{list_all};
 ghost use Rattle.clap.specs.Words.{found_of, rows_of};
@@ -64,7 +64,7 @@ const LAST_SEED: u64 = 65535;
 /// The most commands of such a script.
 const MOST_COMMANDS: u32 = 16_000;
 
-/// A command that words spell, with what clap found for it.
+/// A command that arguments spell, with what clap found for it.
 #[derive(Drop)]
 struct Found<'a> {
     command: Command,
@@ -101,7 +101,7 @@ fn parsed<'a>(
     }
 }
 
-/// What the words of `answer` ask for.
+/// What the arguments of `answer` ask for.
 fn answer_of(found: &ArgMatches) -> Option<Answer>
     ensures value { result ≡ answer_of (rows_of (found_of found.now)) }
     ensures range { IfSome result CanAnswer }
@@ -121,7 +121,7 @@ fn answer_of(found: &ArgMatches) -> Option<Answer>
     })
 }
 
-/// What the words of `serve` ask for.
+/// What the arguments of `serve` ask for.
 fn serve_of(found: &ArgMatches) -> Option<Serve>
     ensures value { result ≡ serve_of (rows_of (found_of found.now)) }
     ensures range { IfSome result CanServe }
@@ -144,7 +144,7 @@ fn serve_of(found: &ArgMatches) -> Option<Serve>
     })
 }
 
-/// What the words of `soak` ask for.
+/// What the arguments of `soak` ask for.
 fn soak_of(found: &ArgMatches) -> Option<Soak>
     ensures value { result ≡ soak_of (rows_of (found_of found.now)) }
     ensures range { IfSome result CanSoak }
@@ -155,7 +155,7 @@ fn soak_of(found: &ArgMatches) -> Option<Soak>
     })
 }
 
-/// What the words of the tool of this name ask for.
+/// What the arguments of the tool of this name ask for.
 fn tool_of(name: &str, found: &ArgMatches) -> Option<Tool>
     ensures value { result ≡ tool_of name.now (rows_of (found_of found.now)) }
     ensures range { IfSome result CanRun }
@@ -176,7 +176,7 @@ fn tool_of(name: &str, found: &ArgMatches) -> Option<Tool>
     }
 }
 
-/// What the words of the command of this name ask for.
+/// What the arguments of the command of this name ask for.
 fn command_of(name: &str, found: &ArgMatches) -> Option<Command>
     ensures value { result ≡ command_of name.now (rows_of (found_of found.now)) }
     ensures range { IfSome result IsInRange }
@@ -200,7 +200,7 @@ fn command_of(name: &str, found: &ArgMatches) -> Option<Command>
     }
 }
 
-/// The command that the words spell, with what clap found for it.
+/// The command that the arguments spell, with what clap found for it.
 fn spelled<'a>(alloc: Global, words: &'a [String]) -> Result<Option<Found<'a>>, NoMemory>
     ensures value { IfOk result (λ r. option_map (λ s. (s.command, rows_of (found_of s.matches))) r ≡ spelled (map string_bytes words.entry.now)) }
     ensures range { IfOk result (λ r. IfSome r (λ s. IsInRange s.command)) }
@@ -216,7 +216,7 @@ fn spelled<'a>(alloc: Global, words: &'a [String]) -> Result<Option<Found<'a>>, 
     }
 }
 
-/// The command that the words after the program's name spell, or `None` where they spell none.
+/// The command that the arguments behind the program's name spell, or `None` where they spell none.
 pub fn read_words(alloc: Global, words: &[String]) -> Result<Option<Command>, NoMemory>
     ensures command { IfOk result (λ r. r ≡ command (map string_bytes words.now)) }
     ensures range { IfOk result (λ r. IfSome r IsInRange) }
@@ -248,7 +248,7 @@ fn copies(alloc: Global, texts: &[&str]) -> Result<Vec<String>, NoMemory>
 }
 
 /// The names of the files that `answer` or `serve` works on, in their order; none for the other
-/// commands and where the words spell no command.
+/// commands and where the arguments spell no command.
 pub fn files_of(alloc: Global, words: &[String]) -> Result<Vec<String>, NoMemory>
     ensures { IfOk result (λ names. map string_bytes names.items ≡ file_names (map string_bytes words.now)) }
 {
@@ -279,7 +279,7 @@ fn one_link(alloc: Global, local: &str, peers: &str) -> Result<Vec<PortWords>, N
 }
 
 /// The ends of the links that the command works on: one for `serve` and for each tool, none for the
-/// other commands and where the words spell no command.
+/// other commands and where the arguments spell no command.
 pub fn ports_of(alloc: Global, words: &[String]) -> Result<Vec<PortWords>, NoMemory>
     ensures { IfOk result (λ links. links.items ≡ port_words (map string_bytes words.now)) }
 {

@@ -1,4 +1,4 @@
-//! What the words of the tools spell.
+//! What the arguments of the tools spell.
 ghost use Rattle.std.specs.Prelude.{◌≡◌, ◌≤◌, ◌<◌, ◌^◌, IfSome, IsSome};
 ghost use Rattle.clap.specs.Words.{found_of, rows_of};
 ghost use Rattle.aoe_words.specs.Tools.{CanAsk, CanCfg, CanGet, CanMask, CanPut, CanReserve, IsDevice, asking_of, ccmd_alone, ccmd_with_text, cfg_of, device, get_of, mask_of, put_of, rcmd_alone, rcmd_with_list, reserve_of, sector};
@@ -88,7 +88,7 @@ fn ccmd_with_text(action: &str) -> Option<u8>
     }
 }
 
-/// What the words of `cfg` ask for.
+/// What the arguments of `cfg` ask for.
 pub(crate) fn cfg_of(found: &ArgMatches) -> Option<Cfg>
     ensures value { result ≡ cfg_of (rows_of (found_of found.now)) }
     ensures range { IfSome result CanCfg }
@@ -113,7 +113,7 @@ pub(crate) fn cfg_of(found: &ArgMatches) -> Option<Cfg>
     }
 }
 
-/// What the words of `mask` ask for.
+/// What the arguments of `mask` ask for.
 pub(crate) fn mask_of(found: &ArgMatches) -> Option<Mask>
     ensures value { result ≡ mask_of (rows_of (found_of found.now)) }
     ensures range { IfSome result CanMask }
@@ -161,7 +161,7 @@ fn rcmd_with_list(action: &str) -> Option<u8>
     }
 }
 
-/// What the words of `reserve` ask for.
+/// What the arguments of `reserve` ask for.
 pub(crate) fn reserve_of(found: &ArgMatches) -> Option<Reserve>
     ensures value { result ≡ reserve_of (rows_of (found_of found.now)) }
     ensures range { IfSome result CanReserve }
@@ -194,7 +194,7 @@ fn sector(found: &ArgMatches) -> Option<u64>
     number(found, "at", LAST_SECTOR)
 }
 
-/// What the words of `get` ask for.
+/// What the arguments of `get` ask for.
 pub(crate) fn get_of(found: &ArgMatches) -> Option<Get>
     ensures value { result ≡ get_of (rows_of (found_of found.now)) }
     ensures range { IfSome result CanGet }
@@ -208,7 +208,7 @@ pub(crate) fn get_of(found: &ArgMatches) -> Option<Get>
     })
 }
 
-/// What the words of `put` ask for.
+/// What the arguments of `put` ask for.
 pub(crate) fn put_of(found: &ArgMatches) -> Option<Put>
     ensures value { result ≡ put_of (rows_of (found_of found.now)) }
     ensures range { IfSome result CanPut }
