@@ -1,5 +1,5 @@
 -- Which command a frame answers.
-use Rattle.std.proofs.Common.{ℕ, ◌≡◌, ◌≢◌, ◌≤◌, ◌+◌, ◌*◌, ◌&&◌, ◌||◌, suc, length, ◌∷◌, [], cond, not, Bool, true, false, List, drop, Option, Some, None, inl, inr, refl, sym, ap, subst, ◌∙◌, arith, nat_eq}
+use Rattle.std.proofs.Common.{ℕ, ◌≡◌, ◌≢◌, ◌≤◌, ◌+◌, ◌*◌, ◌&&◌, length, ◌∷◌, [], cond, not, Bool, true, false, List, drop, Option, Some, None, inl, inr, refl, sym, ap, subst, ◌∙◌, arith, nat_eq}
 use Rattle.std.specs.Prelude.{option_map, slice_get, All, Contains, IfNone, IfSome, IsSome}
 use Rattle.std.specs.List.{find}
 use Rattle.std.proofs.lemmas.Bool.{and_parts, cases_Bool, eq-eqb, eqb-true, not-true}
@@ -8,7 +8,7 @@ use Rattle.aoe_base.specs.declared.address.Mac.{Mac}
 use Rattle.aoe_base.specs.declared.counted.PathNo.{PathNo}
 use Rattle.aoe_base.specs.declared.counted.Ticket.{Ticket}
 use Rattle.aoe_base.specs.declared.counted.DeviceNo.{DeviceNo}
-use Rattle.aoe_base.specs.Addresses.{holds, same_address}
+use Rattle.aoe_base.specs.Addresses.{holds}
 use Rattle.aoe_frame.specs.declared.header.Header.{Header}
 use Rattle.aoe_frame.specs.Header.{head}
 use Rattle.aoe_base.proofs.AddressLemmas.{place-of}

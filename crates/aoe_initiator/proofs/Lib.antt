@@ -5,6 +5,7 @@ mod LogLemmas
 mod MatchLemmas
 mod NextLemmas
 mod PathLemmas
+mod PlaceLemmas
 mod RequestLemmas
 mod SoundLemmas
 mod StepLemmas

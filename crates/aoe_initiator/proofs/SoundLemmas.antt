@@ -4,7 +4,7 @@ use Rattle.std.specs.Prelude.{All}
 use Rattle.std.specs.List.{remove}
 use Rattle.std.specs.Option.{ForSome}
 use Rattle.std.proofs.lemmas.List.{length-append, length-map}
-use Rattle.std.proofs.lemmas.List.Elements.{All-map, All-push, All-weaker}
+use Rattle.std.proofs.lemmas.List.Elements.{All-map, All-nil, All-push, All-weaker}
 use Rattle.aoe_base.specs.declared.address.Mac.{Mac}
 use Rattle.aoe_base.specs.declared.counted.Millis.{Millis}
 use Rattle.aoe_base.specs.declared.counted.PathNo.{PathNo}
@@ -16,7 +16,7 @@ use Rattle.aoe_initiator.specs.declared.device.Device.{Device}
 use Rattle.aoe_initiator.specs.declared.outcome.Done.{Done}
 use Rattle.aoe_initiator.specs.declared.pending.Pending.{Pending}
 use Rattle.aoe_initiator.specs.Devices.{change_at, device_at, device_finished, device_sent}
-use Rattle.aoe_initiator.specs.Host.{IsAttached, IsReady, IsSound}
+use Rattle.aoe_initiator.specs.Host.{IsAttached, IsInOrder, IsReady, IsSound}
 use Rattle.aoe_initiator.proofs.DeviceLemmas.{device_entered, length-change_at, All-change_at}
 use Rattle.aoe_initiator.proofs.ListLemmas.{All-remove}
 
@@ -62,6 +62,21 @@ length-remove [] i inside = absurd (omega (arith, inside))
 length-remove (x ∷ xs) zero inside = omega arith
 length-remove (x ∷ xs) (suc i) inside = omega (arith, length-remove xs i (omega (arith, inside)))
 
+ordered-remove : (xs : List Pending) (i : ℕ) → i < length xs → IsInOrder xs → IsInOrder (remove xs i)
+ordered-remove [] i inside order = absurd (omega (arith, inside))
+ordered-remove (x ∷ xs) zero inside order = order.1
+ordered-remove (x ∷ xs) (suc i) inside order =
+    let below : i < length xs = omega (arith, inside) in
+    (All-remove (λ later. x.ticket.0 < later.ticket.0) xs i below order.0, ordered-remove xs i below order.1)
+
+ordered-push : (xs : List Pending) (p : Pending) (last : ℕ) → IsInOrder xs → All (λ q. q.ticket.0 ≤ last) xs → last < p.ticket.0 → IsInOrder (xs ++ p ∷ [])
+ordered-push [] p last order given new = (All-nil (λ later. p.ticket.0 < later.ticket.0), tt)
+ordered-push (x ∷ xs) p last order given new =
+    let here = given 0 x (omega arith) in (
+      All-push (λ later. x.ticket.0 < later.ticket.0) xs p order.0 (omega (arith, here, new)),
+      ordered-push xs p last order.1 (λ k d below. given (suc k) d (omega (arith, below))) new,
+    )
+
 pub sound-sent : (ports : List Mac) (last n : ℕ) (now : Millis) (t : Ticket) (missed : Option PathNo) (path : PathNo) (flight after : FlightTable) (devices changed : List Device) (pending : List Pending) (waiting : List Done) (capacity : ℕ)
     → after.latest ≤ now.0 → changed ≡ change_at n (device_sent t now missed path) devices → IsSound ports now.0 last flight devices pending waiting capacity → IsSound ports now.0 last after changed pending waiting capacity
 sound-sent ports last n now t missed path flight after devices changed pending waiting capacity time is s =
@@ -73,6 +88,8 @@ sound-sent ports last n now t missed path flight after devices changed pending w
       time = time;
       attached = All-change_at (IsAttached now.0 last) n (device_sent t now missed path) devices (attached-sent last t now missed path) s.attached;
       ready = ready-more (length devices) (length (change_at n (device_sent t now missed path) devices)) pending (omega (arith, same)) s.ready;
+      order = s.order;
+      given = s.given;
       reserved = s.reserved;
     })
 
@@ -87,6 +104,8 @@ sound-cleared ports now last flight devices changed pending waiting capacity is 
       time = s.time;
       attached = All-map (IsAttached now last) (device_at now) devices (All-weaker (IsAttached now last) (λ d. IsAttached now last (device_at now d)) (attached-at now last) devices s.attached);
       ready = ready-more (length devices) (length (map (device_at now) devices)) pending (omega (arith, same)) s.ready;
+      order = s.order;
+      given = s.given;
       reserved = s.reserved;
     })
 
@@ -103,6 +122,8 @@ sound-closed ports now last n at t came flight after devices changed pending lef
       time = time;
       attached = All-change_at (IsAttached now last) n (device_finished t came) devices (attached-finished now last t came) s.attached;
       ready = ready-more (length devices) (length (change_at n (device_finished t came) devices)) (remove pending at) (omega (arith, same)) (All-remove (IsReady (length devices)) pending at inside s.ready);
+      order = ordered-remove pending at inside s.order;
+      given = All-remove (λ p. p.ticket.0 ≤ last) pending at inside s.given;
       reserved = omega (arith, s.reserved, length-remove pending at inside, one_more);
     } in
     rw (is, left_is, more_is, same_capacity) whole
@@ -123,13 +144,15 @@ sound-attached ports now last flight devices more d pending waiting capacity is 
       time = s.time;
       attached = All-push (IsAttached now last) devices d s.attached new;
       ready = ready-more (length devices) (length (devices ++ d ∷ [])) pending (omega (arith, one_more)) s.ready;
+      order = s.order;
+      given = s.given;
       reserved = s.reserved;
     })
 
 pub sound-submitted : (ports : List Mac) (now last next n : ℕ) (flight : FlightTable) (devices changed : List Device) (c : Command) (pending more : List Pending) (p : Pending) (waiting same_waiting : List Done) (capacity capacity_after : ℕ)
-    → next ≡ last + 1 → c.ticket.0 ≡ next → changed ≡ change_at n (device_entered c) devices → more ≡ pending ++ p ∷ [] → same_waiting ≡ waiting → length waiting + length pending + 1 ≤ capacity_after → IsReady (length devices) p
+    → next ≡ last + 1 → c.ticket.0 ≡ next → changed ≡ change_at n (device_entered c) devices → more ≡ pending ++ p ∷ [] → same_waiting ≡ waiting → length waiting + length pending + 1 ≤ capacity_after → p.ticket.0 ≡ next → IsReady (length devices) p
     → IsSound ports now last flight devices pending waiting capacity → IsSound ports now next flight changed more same_waiting capacity_after
-sound-submitted ports now last next n flight devices changed c pending more p waiting same_waiting capacity capacity_after next_is ticket_is is more_is waiting_is room ready s =
+sound-submitted ports now last next n flight devices changed c pending more p waiting same_waiting capacity capacity_after next_is ticket_is is more_is waiting_is room new ready s =
     let same : length (change_at n (device_entered c) devices) ≡ length devices = length-change_at n (device_entered c) devices in
     let one_more : length (pending ++ p ∷ []) ≡ length pending + 1 = length-append pending (p ∷ []) in
     let later : All (IsAttached now next) devices = All-weaker (IsAttached now last) (IsAttached now next) (λ d a. attached-later now last now next d (omega arith) (omega (arith, next_is)) a) devices s.attached in
@@ -141,6 +164,8 @@ sound-submitted ports now last next n flight devices changed c pending more p wa
       ready = All-push (IsReady (length (change_at n (device_entered c) devices))) pending p
           (ready-more (length devices) (length (change_at n (device_entered c) devices)) pending (omega (arith, same)) s.ready)
           (record { inside = omega (arith, ready.inside, same); spelled = ready.spelled; room = ready.room });
+      order = ordered-push pending p last s.order s.given (omega (arith, next_is, new));
+      given = All-push (λ q. q.ticket.0 ≤ next) pending p (All-weaker (λ q. q.ticket.0 ≤ last) (λ q. q.ticket.0 ≤ next) (λ q below. omega (arith, next_is, below)) pending s.given) (omega (arith, new));
       reserved = omega (arith, room, one_more);
     } in
     rw (is, more_is, waiting_is) whole
@@ -153,5 +178,7 @@ sound-advanced ports now later last flight devices pending waiting capacity more
   time = omega (arith, s.time, more);
   attached = All-weaker (IsAttached now last) (IsAttached later last) (λ d a. attached-later now last later last d more (omega arith) a) devices s.attached;
   ready = s.ready;
+  order = s.order;
+  given = s.given;
   reserved = s.reserved;
 }

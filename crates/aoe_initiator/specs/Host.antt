@@ -96,6 +96,11 @@ pub record IsAttached (now last : ℕ) (d : Device) : Type 0 where
   pub time : d.holds.latest ≤ now
   pub ticket : ForSome d.holds.greatest (λ greatest. greatest ≤ last)
 
+-- each pending command has a higher ticket than those that stand before it
+abbrev pub IsInOrder : List Pending → Type 0
+IsInOrder [] = Unit {0}
+IsInOrder (p ∷ pending) = All (λ later. p.ticket.0 < later.ticket.0) pending × IsInOrder pending
+
 -- what is true of what a host keeps at all times; `capacity` is the room for outcomes
 pub record IsSound (ports : List Mac) (now last : ℕ) (flight : FlightTable) (devices : List Device) (pending : List Pending) (waiting : List Done) (capacity : ℕ) : Type 0 where
   pub port : 0 < length ports
@@ -103,6 +108,8 @@ pub record IsSound (ports : List Mac) (now last : ℕ) (flight : FlightTable) (d
   pub time : flight.latest ≤ now
   pub attached : All (IsAttached now last) devices
   pub ready : All (IsReady (length devices)) pending
+  pub order : IsInOrder pending
+  pub given : All (λ p. p.ticket.0 ≤ last) pending
   pub reserved : length pending + length waiting ≤ capacity
 
 abbrev pub new_host : List Mac → ℕ → ℕ → ℕ → Host

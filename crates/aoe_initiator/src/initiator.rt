@@ -2,7 +2,6 @@
 ghost use Rattle.std.specs.Prelude.{Option, ◌≡◌, ◌≢◌, ◌+◌, ◌-◌, ◌^◌, ◌<◌, ◌≤◌, ◌⊎◌, ◌∷◌, ◌++◌, ℕ, List, [], false, true, length, map, max, position, nat_eq, reverse, All, Contains, Err, IfErr, IfNone, IfOk, IfSome, IsSome, MatchOption, None, OnErr, OnOk, OnSome, Some, drop, option_map, slice_get, slice_index_or, if◌then◌else◌};
 ghost use Rattle.std.specs.List.{find, remove};
 ghost use Rattle.std.specs.Option.{option_and_then, option_to_list};
-ghost use Rattle.std.specs.Vec.{vec_capacity};
 ghost use Rattle.std.specs.VecDeque.{deque_capacity};
 ghost use Rattle.aoe_base.specs.declared.counted.Ticket.{Ticket};
 ghost use Rattle.aoe_base.specs.Addresses.{IsDistinct};
@@ -76,7 +75,7 @@ pub struct Initiator {
     devices: Vec<Device>,
 
     /// The commands without an outcome, in the order of their tickets.
-    pending: Vec<Pending>,
+    pending: VecDeque<Pending>,
 
     /// The outcomes that wait to be taken. There is room for one of each pending command.
     done: VecDeque<Done>,
@@ -129,14 +128,14 @@ fn is_attached(devices: &[Device], id: TargetId) -> bool
 /// response.
 fn make_room(
     alloc: Global,
-    pending: &mut Vec<Pending>,
+    pending: &mut VecDeque<Pending>,
     done: &mut VecDeque<Done>,
     len: usize,
 ) -> Result<Blob, NoMemory>
     ensures pending { pending.new.items ≡ pending.old.items }
     ensures done { done.new.items ≡ done.old.items }
     ensures capacity { deque_capacity done.old ≤ deque_capacity done.new }
-    ensures place { OnOk result (length pending.new.items < vec_capacity pending.new) }
+    ensures place { OnOk result (length pending.new.items < deque_capacity pending.new) }
     ensures outcomes { OnOk result (length done.new.items + length pending.new.items + 1 ≤ deque_capacity done.new) }
     ensures room { IfOk result (λ room. length room ≡ len) }
 {
@@ -150,7 +149,7 @@ fn make_room(
 fn close(
     flight: &mut Flight,
     devices: &mut Vec<Device>,
-    pending: &mut Vec<Pending>,
+    pending: &mut VecDeque<Pending>,
     at: usize,
     came: Option<Arrival>,
 ) -> Pending
@@ -163,7 +162,7 @@ fn close(
         → Recalls flight.new (map (change_of result.ticket.0 after_finish) sent) }
     ensures devices { devices.new.items ≡ change_at result.device.0 (device_finished result.ticket came) devices.old.items }
 {
-    let command = pending.remove(at);
+    let command = pending.remove(at).unwrap();
     flight.finish(command.ticket);
     note_finished(devices, command.device, command.ticket, came);
     command
@@ -199,7 +198,7 @@ impl Initiator {
             last_ticket: Ticket(0),
             flight,
             devices: Vec::new(alloc),
-            pending: Vec::new(alloc),
+            pending: VecDeque::new(alloc),
             done: VecDeque::new(alloc),
         })
     }
@@ -296,7 +295,7 @@ impl Initiator {
             return Err((SubmitRefusal::NoMemory, op));
         }
         self.last_ticket = ticket;
-        self.pending.push_reserved(Pending {
+        self.pending.push_back_reserved(Pending {
             ticket,
             device,
             op,

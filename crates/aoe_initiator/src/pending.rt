@@ -1,8 +1,10 @@
 //! Commands that have no outcome yet.
 ghost use Rattle.std.specs.Prelude.{◌≡◌, nat_eq, position};
+ghost use Rattle.aoe_initiator.specs.Host.{IsInOrder};
 
 use crate::op::Op;
 use aoe_base::{Blob, DeviceNo, Ticket};
+use std::collections::VecDeque;
 
 /// A command without its outcome.
 #[derive(Drop)]
@@ -15,9 +17,14 @@ pub(crate) struct Pending {
     pub room: Blob,
 }
 
-/// The place of the command with a ticket.
-pub(crate) fn place_of(pending: &[Pending], ticket: Ticket) -> Option<usize>
-    ensures { result ≡ position (λ p. nat_eq p.ticket.0 ticket.0) pending.now }
+/// The place of the command with a ticket, where the tickets ascend.
+pub(crate) fn place_of(pending: &VecDeque<Pending>, ticket: Ticket) -> Option<usize>
+    requires { IsInOrder pending.now.items }
+    ensures { result ≡ position (λ p. nat_eq p.ticket.0 ticket.0) pending.now.items }
 {
-    pending.iter().position(|command| command.ticket == ticket)
+    let at = pending.partition_point(|command| command.ticket < ticket);
+    match pending.get(at) {
+        Some(command) if command.ticket == ticket => Some(at),
+        _ => None,
+    }
 }

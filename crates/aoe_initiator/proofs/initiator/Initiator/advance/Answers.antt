@@ -36,7 +36,7 @@ expired-preserved c =
     let closes = c.give_up.ensures.2 in
     let step = left-closed c.expired.self c.give_up.new.self c.in-Some-place_of.at None _ closes in
     let found : place c.in-Some.ticket c.self-in-expired.inside.pending.items ≡ Some c.in-Some-place_of.at =
-    ap (λ (l : List Pending). place c.in-Some.ticket l) (sym c.deref.ensures.value) ∙ sym c.place_of.ensures ∙ c.in-Some-place_of.is in
+    sym c.place_of.ensures ∙ c.in-Some-place_of.is in
     let P : Host → Type 0 = λ h. place c.in-Some.ticket h.pending ≡ Some c.in-Some-place_of.at in
     let Q : Host → Type 0 = λ h. IsFirstExpired h c.in-Some.ticket in
     record {
@@ -52,7 +52,7 @@ returns-in_default-place_of-clause-gives_up c =
     let given = c.expired.invariant.gives_up in
     let none : c.place_of.result ≡ None = search rules in
     let missing : place c.in-Some.ticket c.self-in-expired.inside.pending.items ≡ None =
-    ap (λ (l : List Pending). place c.in-Some.ticket l) (sym c.deref.ensures.value) ∙ sym c.place_of.ensures ∙ none in
+    sym c.place_of.ensures ∙ none in
     let P : Host → Type 0 = λ h. place c.in-Some.ticket h.pending ≡ None in
     let Q : Host → Type 0 = λ h. IsFirstExpired h c.in-Some.ticket in (
       given.0,

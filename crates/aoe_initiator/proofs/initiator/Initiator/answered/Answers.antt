@@ -1,4 +1,4 @@
-use Rattle.std.proofs.Common.{nat_eq, ◌≡◌, ◌<◌, ◌≤◌, ℕ, List, true, length, drop, Option, Some, None, sym, ap, subst, refl, ◌∙◌, rules}
+use Rattle.std.proofs.Common.{nat_eq, ◌≡◌, ◌<◌, ◌≤◌, ℕ, List, true, length, drop, Option, Some, None, sym, subst, refl, ◌∙◌, rules}
 use Rattle.std.specs.Prelude.{slice_get, IfSome, IsSome}
 use Rattle.std.specs.List.{find}
 use Rattle.std.proofs.lemmas.List.{take_rest}
@@ -37,7 +37,7 @@ pub returns-then-not-is_from-clause-none : goal.returns-then-not-is_from-clause-
 returns-then-not-is_from-clause-none c = λ log m.
     let is : head c.args.frame.now ≡ Some c.in_ok-header.header = search rules in
     let there : place c.in_ok-ticket.ticket c.self.inside.pending.items ≡ Some c.in_ok-at.at =
-    ap (λ (l : List Pending). place c.in_ok-ticket.ticket l) (sym c.deref.ensures.value) ∙ sym c.place_of.ensures ∙ c.in_ok-at.was in
+    sym c.place_of.ensures ∙ c.in_ok-at.was in
     let P : Host → Type 0 = λ h. place c.in_ok-ticket.ticket h.pending ≡ Some c.in_ok-at.at in
     let Q : Host → Type 0 = λ h. Recalls h.flight (sent_of (commands log)) in
     let R : Host → Type 0 = λ h. tag_count h.flight.commands c.in_ok-header.header.tag ≤ 1 in
@@ -48,7 +48,7 @@ returns-then-not-is_from-clause-none c = λ log m.
 pub returns-in_err-path-clause-none : goal.returns-in_err-path-clause-none
 returns-in_err-path-clause-none c =
     let there : place c.in_ok-ticket.ticket c.self.inside.pending.items ≡ Some c.in_ok-at.at =
-    ap (λ (l : List Pending). place c.in_ok-ticket.ticket l) (sym c.deref.ensures.value) ∙ sym c.place_of.ensures ∙ c.in_ok-at.was in
+    sym c.place_of.ensures ∙ c.in_ok-at.was in
     let inside : c.in_ok-at.at < length c.self.inside.pending.items = placed-inside (λ (q : Pending). nat_eq q.ticket.0 c.in_ok-ticket.ticket.0) c.self.inside.pending.items c.in_ok-at.at there in
     let p = get-there c.self.inside.pending.items c.in_ok-at.at inside in
     let S : Host → Type 0 = λ h. slice_get h.pending c.in_ok-at.at ≡ Some p.0 in
@@ -60,7 +60,7 @@ pub returns-in_err-answer-clause-none : goal.returns-in_err-answer-clause-none
 returns-in_err-answer-clause-none c =
     let is : head c.args.frame.now ≡ Some c.in_ok-header.header = search rules in
     let there : place c.in_ok-ticket.ticket c.self.inside.pending.items ≡ Some c.in_ok-at.at =
-    ap (λ (l : List Pending). place c.in_ok-ticket.ticket l) (sym c.deref.ensures.value) ∙ sym c.place_of.ensures ∙ c.in_ok-at.was in
+    sym c.place_of.ensures ∙ c.in_ok-at.was in
     let inside : c.in_ok-at.at < length c.self.inside.pending.items = placed-within _ c.self.inside.pending.items c.in_ok-at.at c.index.result.now there in
     let read : slice_get c.self.inside.pending.items c.in_ok-at.at ≡ Some c.index.result.now = slice_get_read c.self.inside.pending.items (length c.self.inside.pending.items) c.in_ok-at.at c.index.result.now refl inside c.index.ensures in
     let A : List ℕ → Type 0 = λ l. answer c.index.result.now.op c.in_ok-header.header l ≡ None in
@@ -77,7 +77,7 @@ returns-in_err-answer-clause-none c =
 pub returns-clause-fills : goal.returns-clause-fills
 returns-clause-fills c =
     let there : place c.in_ok-ticket.ticket c.self.inside.pending.items ≡ Some c.in_ok-at.at =
-    ap (λ (l : List Pending). place c.in_ok-ticket.ticket l) (sym c.deref.ensures.value) ∙ sym c.place_of.ensures ∙ c.in_ok-at.was in
+    sym c.place_of.ensures ∙ c.in_ok-at.was in
     let inside : c.in_ok-at.at < length c.self.inside.pending.items = placed-within _ c.self.inside.pending.items c.in_ok-at.at c.index.result.now there in
     let read : slice_get c.self.inside.pending.items c.in_ok-at.at ≡ Some c.index.result.now = slice_get_read c.self.inside.pending.items (length c.self.inside.pending.items) c.in_ok-at.at c.index.result.now refl inside c.index.ensures in
     let S : Host → Type 0 = λ h. slice_get h.pending c.in_ok-at.at ≡ Some c.index.result.now in
@@ -90,7 +90,7 @@ pub returns-clause-some : goal.returns-clause-some
 returns-clause-some c = λ log m.
     let is : head c.args.frame.now ≡ Some c.in_ok-header.header = search rules in
     let there : place c.in_ok-ticket.ticket c.self.inside.pending.items ≡ Some c.in_ok-at.at =
-    ap (λ (l : List Pending). place c.in_ok-ticket.ticket l) (sym c.deref.ensures.value) ∙ sym c.place_of.ensures ∙ c.in_ok-at.was in
+    sym c.place_of.ensures ∙ c.in_ok-at.was in
     let inside : c.in_ok-at.at < length c.self.inside.pending.items = placed-within _ c.self.inside.pending.items c.in_ok-at.at c.index.result.now there in
     let read : slice_get c.self.inside.pending.items c.in_ok-at.at ≡ Some c.index.result.now = slice_get_read c.self.inside.pending.items (length c.self.inside.pending.items) c.in_ok-at.at c.index.result.now refl inside c.index.ensures in
     let A : List ℕ → Type 0 = λ l. answer c.index.result.now.op c.in_ok-header.header l ≡ Some c.in_ok-answer.answer in
@@ -106,7 +106,7 @@ returns-clause-some c = λ log m.
 pub returns-clause-there : goal.returns-clause-there
 returns-clause-there c =
     let there : place c.in_ok-ticket.ticket c.self.inside.pending.items ≡ Some c.in_ok-at.at =
-    ap (λ (l : List Pending). place c.in_ok-ticket.ticket l) (sym c.deref.ensures.value) ∙ sym c.place_of.ensures ∙ c.in_ok-at.was in
+    sym c.place_of.ensures ∙ c.in_ok-at.was in
     let P : Host → Type 0 = λ h. place c.in_ok-ticket.ticket h.pending ≡ Some c.in_ok-at.at in
     subst P c.self.view_is there
 
