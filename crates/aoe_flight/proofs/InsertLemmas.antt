@@ -5,13 +5,13 @@ use Rattle.std.proofs.lemmas.List.Sorted.{IsPermutation-cons, IsPermutation-refl
 use Rattle.aoe_flight.specs.declared.outstanding.Outstanding.{Outstanding}
 use Rattle.aoe_flight.proofs.SlotLemmas.{held}
 
-cons-some : (c : Outstanding) (o : Option Outstanding) (slots : List (Option Outstanding)) → o ≡ Some c → held (o ∷ slots) ≡ c ∷ held slots
+pub cons-some : (c : Outstanding) (o : Option Outstanding) (slots : List (Option Outstanding)) → o ≡ Some c → held (o ∷ slots) ≡ c ∷ held slots
 cons-some c o slots is = rw is refl
 
-cons-none : (o : Option Outstanding) (slots : List (Option Outstanding)) → o ≡ None → held (o ∷ slots) ≡ held slots
+pub cons-none : (o : Option Outstanding) (slots : List (Option Outstanding)) → o ≡ None → held (o ∷ slots) ≡ held slots
 cons-none o slots is = rw is refl
 
-no-values : (slots : List (Option Outstanding)) → ((key : ℕ) → get_or slots key None ≡ None) → held slots ≡ []
+pub no-values : (slots : List (Option Outstanding)) → ((key : ℕ) → get_or slots key None ≡ None) → held slots ≡ []
 no-values [] none = refl
 no-values (o ∷ slots) none = cons-none o slots (none 0) ∙ no-values slots (λ key. none (suc key))
 

@@ -1,10 +1,14 @@
+mod ChangeLemmas
 pub mod CountLemmas
-mod DueLemmas
+mod EntryLemmas
 mod FirstLemmas
+mod IndexLemmas
 mod InsertLemmas
 mod LiveLemmas
-mod OrderLemmas
+mod PastLemmas
 pub mod RecallLemmas
 mod SlotLemmas
 mod SoundLemmas
+mod TableLemmas
 mod TagLemmas
+mod ValueLemmas

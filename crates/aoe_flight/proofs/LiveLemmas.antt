@@ -1,11 +1,13 @@
 -- What rested out changes no answer.
-use Rattle.std.proofs.Common.{ℕ, ◌≡◌, ◌-◌, ◌≤◌, cond, not, Bool, true, false, List, [], ◌∷◌, map, Option, Some, refl, ap, ◌∙◌, arith, nat_lt, inl, inr}
-use Rattle.std.specs.Prelude.{Contains}
+use Rattle.std.proofs.Common.{ℕ, ◌≡◌, ◌-◌, ◌≤◌, cond, not, Bool, true, false, List, [], ◌∷◌, map, Option, Some, None, refl, ap, ◌∙◌, arith, nat_lt, inl, inr}
+use Rattle.std.specs.Prelude.{All, Contains, IfNone, IfSome}
 use Rattle.std.specs.List.{filter, find}
-use Rattle.std.proofs.lemmas.Bool.{and_parts, and_from, ltb-true, lt-ltb, not-false}
+use Rattle.std.proofs.lemmas.Bool.{and_parts, and_from, ltb-true, lt-ltb, not-false, not-true}
+use Rattle.std.proofs.lemmas.List.Elements.{All-filter}
 use Rattle.slab.proofs.SlabLemmas.{Contains-cons, Contains-cons_cases}
 use Rattle.aoe_flight.specs.declared.outstanding.Outstanding.{Outstanding}
-use Rattle.aoe_flight.specs.Outstanding.{change_of, is_over, live}
+use Rattle.aoe_base.specs.declared.counted.Ticket.{Ticket}
+use Rattle.aoe_flight.specs.Outstanding.{change_of, is_over, live, IsFirst}
 
 over-later : (rest latest now : ℕ) (c : Outstanding) → latest ≤ now → is_over rest latest c ≡ true → is_over rest now c ≡ true
 over-later rest latest now c after is =
@@ -72,3 +74,23 @@ Contains-live rest latest (d ∷ commands) c flying there = elim (Contains-cons_
     at : (b : Bool) → Contains (live rest latest commands) c → Contains (cond b (d ∷ live rest latest commands) (live rest latest commands)) c
     at true rest_there = Contains-cons d c (live rest latest commands) rest_there
     at false rest_there = rest_there
+
+-- among those that fly or rest
+pub first-among : (test : Outstanding → Bool) (before : Outstanding → Outstanding → Bool) (rest latest : ℕ) → ((c : Outstanding) → test c ≡ true → not c.finished ≡ true) → (commands : List Outstanding) (result : Option Ticket)
+    → IfSome result (λ ticket. (c : Outstanding) × (c.ticket ≡ ticket) × IsFirst test before commands c) → IfSome result (λ ticket. (c : Outstanding) × (c.ticket ≡ ticket) × IsFirst test before (live rest latest commands) c)
+first-among test before rest latest flying commands None found = tt
+first-among test before rest latest flying commands (Some ticket) found =
+    let c = found.0 in
+    let first = found.2 in (
+      c,
+      found.1,
+      record {
+        there = Contains-live rest latest commands c (not-true c.finished (flying c first.passes)) first.there;
+        passes = first.passes;
+        least = All-filter (λ (d : Outstanding). not (is_over rest latest d)) (λ d. test d ≡ true → before d c ≡ false) commands first.least;
+      },
+    )
+
+pub none-among : (test : Outstanding → Bool) (rest latest : ℕ) (commands : List Outstanding) (result : Option Ticket) → IfNone result (All (λ c. test c ≡ false) commands) → IfNone result (All (λ c. test c ≡ false) (live rest latest commands))
+none-among test rest latest commands (Some ticket) none = tt
+none-among test rest latest commands None none = All-filter (λ (d : Outstanding). not (is_over rest latest d)) (λ c. test c ≡ false) commands none

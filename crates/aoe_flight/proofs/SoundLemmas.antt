@@ -2,7 +2,7 @@
 use Rattle.std.proofs.Common.{ℕ, ◌≡◌, ◌+◌, ◌<◌, ◌≤◌, ◌||◌, cond, not, Bool, true, false, List, [], ◌∷◌, length, get_or, suc, map, Some, refl, sym, ap, subst, ◌∙◌, arith, rules, zero-add, nat_eq}
 use Rattle.std.specs.List.{count_by, filter, find, list_any}
 use Rattle.std.specs.List.Sorted.{IsPermutation}
-use Rattle.std.specs.Prelude.{IsSome}
+use Rattle.std.specs.Prelude.{◌↔◌, IsSome}
 use Rattle.std.proofs.lemmas.Bool.{eqb-true, or_parts}
 use Rattle.std.proofs.lemmas.List.{length-map}
 use Rattle.std.proofs.lemmas.List.Elements.{All-cons, filter_passes}
@@ -151,3 +151,9 @@ pub live-view : (room rest dead latest last_tag now : ℕ) (commands : List Outs
 live-view room rest dead latest last_tag now commands table is later =
     let time = time-of room rest dead latest last_tag now commands table is later in
     rw (← is) (live-live rest latest now commands time)
+
+-- a table that is full has none that rested out
+pub full-none : (over : Bool) (lived alive : List Outstanding) (commands : List Outstanding) (room held : ℕ) → (over ≡ true → length alive < length commands) → (over ≡ false → alive ≡ commands) → length lived ≡ length alive → held ≡ room → length commands ≤ held → held ≤ length commands
+    → (not over ≡ true) ↔ (room ≤ length lived)
+full-none true lived alive commands room held some none same room_is fits full = (λ no_way. absurd cc, λ filled. absurd (omega (arith, some refl, filled, same, room_is, fits)))
+full-none false lived alive commands room held some none same room_is fits full = (λ yes_way. let all = ap (λ (l : List Outstanding). length l) (none refl) in omega (arith, all, same, room_is, full), λ filled. refl)

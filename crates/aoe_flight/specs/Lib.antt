@@ -1,3 +1,4 @@
 pub mod Outstanding
 pub mod FlightTable
-pub mod Deadlines
+pub mod Order
+pub mod Table

@@ -6,11 +6,9 @@ ghost use Rattle.aoe_flight.specs.declared.outstanding.Outstanding.{Outstanding}
 ghost use Rattle.aoe_flight.specs.FlightTable.{after_change, at_time, live_at, no_commands, Recalls};
 ghost use Rattle.aoe_flight.specs.Outstanding.{after_finish, after_repeat, change_of, flies_as, flies_with, is_due, is_expired, is_taken, launched, live, lower, precedes, tag_count, IsFirst, IsNextTag};
 
-use crate::deadlines::{Deadlines, Due};
 use crate::outstanding::{Flying, Outstanding};
-use crate::table;
+use crate::table::Table;
 use aoe_base::{Millis, NoMemory, PathNo, Steps, Ticket};
-use slab::Slab;
 use std::alloc::Global;
 use std::marker::Model;
 use std::sync::ledger::Ledger;
@@ -41,15 +39,12 @@ pub struct Flight {
     /// The tag that was given last.
     last_tag: u32,
 
-    commands: Slab<Outstanding>,
-
-    /// The flying ones among them, in the order in which they are due.
-    deadlines: Deadlines,
+    commands: Table,
 }
 
 impl Model for Flight {
+    ghost use Rattle.std.specs.Prelude.{◌≤◌, All};
     ghost use Rattle.slab.specs.Slab.{values};
-    ghost use Rattle.aoe_flight.specs.Deadlines.{AreDues};
     ghost use Rattle.aoe_flight.specs.FlightTable.{FlightTable, IsSound};
     ghost use Rattle.aoe_flight.specs.Outstanding.{live};
 
@@ -66,7 +61,7 @@ impl Model for Flight {
 
     ghost invariant = { λ flight.
         IsSound flight.room flight.commands.capacity (values flight.commands)
-        × AreDues flight.room flight.latest.0 (values flight.commands) flight.deadlines };
+        × All (λ c. c.flying.last.0 ≤ flight.latest.0) (values flight.commands) };
 }
 
 impl Flight {
@@ -80,19 +75,14 @@ impl Flight {
         ensures value { IfOk result (λ flight. flight ≡ no_commands room life.0 dead.0) }
         ensures recalls { IfOk result (λ flight. Recalls flight []) }
     {
-        let deadlines = Deadlines::new(alloc, room)?;
-        match Slab::with_capacity(alloc, room as usize) {
-            Ok(commands) => Ok(Flight {
-                room,
-                rest: Millis(2 * life.0),
-                dead,
-                latest: Millis(0),
-                last_tag: 0,
-                commands,
-                deadlines,
-            }),
-            Err(_) => Err(NoMemory),
-        }
+        Ok(Flight {
+            room,
+            rest: Millis(2 * life.0),
+            dead,
+            latest: Millis(0),
+            last_tag: 0,
+            commands: Table::new(alloc, room as usize)?,
+        })
     }
 
     /// Takes note of the first send of a command that doesn't fly, and gives its tag.
@@ -118,15 +108,14 @@ impl Flight {
             → is_taken (live self.old.rest now.0 sent) tag ≡ false) }
     {
         self.latest = now;
-        table::forget(&mut self.commands, self.rest, now);
+        self.commands.forget(self.rest, now);
         if self.commands.len() >= self.room as usize {
             return None;
         }
-        let tag = table::next_tag(&self.commands, self.last_tag);
+        let tag = self.commands.next_tag(self.last_tag);
         self.last_tag = tag;
         let command = Outstanding::launched(ticket, tag, now, path, wait);
-        table::insert(&mut self.commands, command);
-        self.deadlines.insert(command.due());
+        self.commands.insert(command);
         Some(tag)
     }
 
@@ -138,7 +127,7 @@ impl Flight {
             → IsTrue result ↔ (self.now.room ≤ length (live self.now.rest now.0 sent)) }
     {
         let room = self.room as usize;
-        self.commands.len() >= room && table::live_count(&self.commands, self.rest, now) >= room
+        self.commands.len() >= room && !self.commands.is_any_over(self.rest, now)
     }
 
     /// What is known of a flying command.
@@ -148,7 +137,7 @@ impl Flight {
         ensures sent { (sent : List Outstanding) → Recalls self.now sent
             → (c : Outstanding) × Contains sent c × (flies_as ticket.0 c ≡ true) × (c.flying ≡ result) }
     {
-        table::find_ticket(&self.commands, ticket).unwrap().flying
+        self.commands.find_ticket(ticket).unwrap().flying
     }
 
     /// The command to be sent again: of the flying ones that waited for their response long
@@ -166,12 +155,7 @@ impl Flight {
             → All (λ c. is_due now.0 c ≡ false) sent) }
         ensures bound { steps.new ≤ steps.old + 1 }
     {
-        let first = self.deadlines.look(0, steps)?;
-        if first.at <= u128::from(now.0) {
-            Some(first.ticket)
-        } else {
-            None
-        }
+        self.commands.first_due(now, steps)
     }
 
     /// Takes note that a flying command was sent again.
@@ -182,8 +166,7 @@ impl Flight {
             → Recalls self.new (map (change_of ticket.0 (after_repeat now path wait)) sent) }
     {
         self.latest = now;
-        table::repeat(&mut self.commands, ticket, now, path, wait);
-        self.deadlines.replace(Due::of(ticket, now, wait));
+        self.commands.repeat(ticket, now, path, wait);
     }
 
     /// The flying command with a tag.
@@ -196,7 +179,7 @@ impl Flight {
         ensures none_sent { IfNone result ((sent : List Outstanding) → Recalls self.now sent
             → All (λ c. flies_with tag c ≡ false) sent) }
     {
-        table::find_tag(&self.commands, tag).map(|command| command.ticket)
+        self.commands.find_tag(tag).map(|command| command.ticket)
     }
 
     /// Takes note that a flying command has its outcome: it rests from now on.
@@ -205,8 +188,7 @@ impl Flight {
         ensures recalls { (sent : List Outstanding) → Recalls self.old sent
             → Recalls self.new (map (change_of ticket.0 after_finish) sent) }
     {
-        table::finish(&mut self.commands, ticket);
-        self.deadlines.remove(ticket);
+        self.commands.finish(ticket);
     }
 
     /// The flying command with the lowest ticket that has to be given up.
@@ -222,7 +204,9 @@ impl Flight {
         ensures none_sent { IfNone result ((sent : List Outstanding) → Recalls self.now sent
             → All (λ c. is_expired self.now.dead now.0 c ≡ false) sent) }
     {
-        table::first_expired(&self.commands, self.dead, now).map(|command| command.ticket)
+        self.commands
+            .first_expired(self.dead, now)
+            .map(|command| command.ticket)
     }
 
     /// Drops the commands that rested out.
@@ -232,7 +216,7 @@ impl Flight {
         ensures recalls { (sent : List Outstanding) → Recalls self.old sent → Recalls self.new sent }
     {
         self.latest = now;
-        table::forget(&mut self.commands, self.rest, now);
+        self.commands.forget(self.rest, now);
     }
 }
 

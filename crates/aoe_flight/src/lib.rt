@@ -9,8 +9,8 @@
 //! It doesn't know what the commands ask, nor to which device they go: a command is its ticket.
 #![tactic(auto)]
 
-mod deadlines;
 mod flight;
+mod order;
 mod outstanding;
 mod table;
 

@@ -1,9 +1,9 @@
 //! One command that was sent.
 ghost use Rattle.std.specs.Prelude.{◌≡◌};
-ghost use Rattle.aoe_flight.specs.Deadlines.{due_of};
-ghost use Rattle.aoe_flight.specs.Outstanding.{after_repeat, flies_as, flies_with, is_expired, is_over, launched};
+ghost use Rattle.aoe_flight.specs.Outstanding.{after_repeat, is_due, is_expired, is_over, launched};
+ghost use Rattle.aoe_flight.specs.Table.{by_due, by_first, by_last, by_tag, by_ticket};
 
-use crate::deadlines::Due;
+use crate::order::Entry;
 use aoe_base::{Millis, PathNo, Ticket};
 
 /// The most sends of a command that are counted: long before, its wait has grown to a minute and
@@ -67,20 +67,6 @@ impl Outstanding {
         }
     }
 
-    /// Whether the command flies and has the ticket.
-    pub fn flies_as(&self, ticket: Ticket) -> bool
-        ensures { result ≡ flies_as ticket.0 self.now }
-    {
-        !self.finished && self.ticket == ticket
-    }
-
-    /// Whether the command flies and has the tag.
-    pub fn flies_with(&self, tag: u32) -> bool
-        ensures { result ≡ flies_with tag self.now }
-    {
-        !self.finished && self.flying.tag == tag
-    }
-
     /// Whether the command is finished and rested for longer than `rest`.
     pub fn is_over(&self, rest: Millis, now: Millis) -> bool
         ensures { result ≡ is_over rest.0 now.0 self.now }
@@ -95,11 +81,63 @@ impl Outstanding {
         !self.finished && now.0.saturating_sub(self.flying.first.0) >= dead.0
     }
 
-    /// When the command is due.
-    pub fn due(&self) -> Due
-        ensures { result ≡ due_of self.now }
+    /// Whether the command waited for its response long enough.
+    pub fn is_due(&self, now: Millis) -> bool
+        ensures { result ≡ is_due now.0 self.now }
     {
-        Due::of(self.ticket, self.flying.last, self.wait)
+        !self.finished && now.0.saturating_sub(self.flying.last.0) >= self.wait.0
+    }
+
+    /// Its place by tags: the flying command with a tag ahead of those that rest.
+    pub fn by_tag(&self, slot: usize) -> Entry
+        ensures { result ≡ by_tag slot self.now }
+    {
+        Entry {
+            at: u128::from(self.flying.tag),
+            tie: if self.finished { 1 } else { 0 },
+            slot,
+        }
+    }
+
+    pub fn by_ticket(&self, slot: usize) -> Entry
+        ensures { result ≡ by_ticket slot self.now }
+    {
+        Entry {
+            at: u128::from(self.ticket.0),
+            tie: 0,
+            slot,
+        }
+    }
+
+    /// Its place by the time at which it is due.
+    pub fn by_due(&self, slot: usize) -> Entry
+        ensures { result ≡ by_due slot self.now }
+    {
+        Entry {
+            at: u128::from(self.flying.last.0) + u128::from(self.wait.0),
+            tie: self.ticket.0,
+            slot,
+        }
+    }
+
+    pub fn by_first(&self, slot: usize) -> Entry
+        ensures { result ≡ by_first slot self.now }
+    {
+        Entry {
+            at: u128::from(self.flying.first.0),
+            tie: self.ticket.0,
+            slot,
+        }
+    }
+
+    pub fn by_last(&self, slot: usize) -> Entry
+        ensures { result ≡ by_last slot self.now }
+    {
+        Entry {
+            at: u128::from(self.flying.last.0),
+            tie: self.ticket.0,
+            slot,
+        }
     }
 
     /// The command after it was sent again.

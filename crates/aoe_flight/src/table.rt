@@ -1,68 +1,297 @@
-//! Searches and changes over all commands that were sent.
-ghost use Rattle.std.specs.Prelude.{◌≡◌, ◌-◌, ◌^◌, ◌<◌, ◌∷◌, length, map, None};
+//! The commands that were sent, each in a slot, and the orders by which they are found.
+ghost use Rattle.std.specs.Prelude.{◌≡◌, ◌+◌, ◌-◌, ◌^◌, ◌<◌, ◌≤◌, ◌∷◌, ℕ, [], false, true, length, map, None, Some, All, IfNone, IfOk, IfSome, slice_set};
 ghost use Rattle.std.specs.List.{find};
 ghost use Rattle.std.specs.List.Sorted.{IsPermutation};
-ghost use Rattle.slab.specs.Slab.{values};
-ghost use Rattle.aoe_flight.specs.Outstanding.{after_finish, after_repeat, best, change_of, flies_as, flies_with, is_better, is_expired, is_taken, live, lower, tag_after, IsNextTag};
+ghost use Rattle.slab.specs.Slab.{get, slab_len, values, with_value};
+ghost use Rattle.aoe_flight.specs.declared.outstanding.Outstanding.{Outstanding};
+ghost use Rattle.aoe_flight.specs.Outstanding.{after_finish, after_repeat, best, change_of, flies_as, flies_with, is_better, is_due, is_expired, is_over, is_taken, live, lower, precedes, tag_after, IsFirst, IsNextTag};
+ghost use Rattle.aoe_flight.specs.Table.{IsFirstSlot};
 
+use crate::order::Order;
 use crate::outstanding::Outstanding;
-use aoe_base::{Millis, PathNo, Ticket};
+use aoe_base::{Millis, NoMemory, PathNo, Steps, Ticket};
 use slab::Slab;
+use std::alloc::Global;
+use std::marker::Model;
+use std::sync::ledger::Ledger;
 
 /// The greatest tag: a frame has 32 bits for it (AoEr11, "Tag"). Tags go from 1 to it and round.
 const MAX_TAG: u32 = u32::MAX;
 
-/// The flying command with a ticket.
-pub fn find_ticket(commands: &Slab<Outstanding>, ticket: Ticket) -> Option<Outstanding>
-    ensures { result ≡ find (flies_as ticket.0) (values commands.now) }
-{
-    'commands: for (_, command) in commands.iter() {
-        if command.flies_as(ticket) {
-            return Some(*command);
-        }
-    }
-    None
+/// The commands that fly or rest. A tag is found by its place in an order of all tags, a ticket in
+/// one of the flying tickets, and that order names the slot. All room is made by `new`.
+#[derive(Drop)]
+pub struct Table {
+    slots: Slab<Outstanding>,
+
+    /// All of them, by their tags.
+    tags: Order,
+
+    /// The flying ones, by their tickets.
+    tickets: Order,
+
+    /// The flying ones, by the times at which they are due.
+    dues: Order,
+
+    /// The flying ones, by the times of their first sends.
+    firsts: Order,
+
+    /// The resting ones, by the times of their last sends.
+    rests: Order,
 }
 
-/// The flying command with a tag.
-pub fn find_tag(commands: &Slab<Outstanding>, tag: u32) -> Option<Outstanding>
-    ensures { result ≡ find (flies_with tag) (values commands.now) }
-{
-    'commands: for (_, command) in commands.iter() {
-        if command.flies_with(tag) {
-            return Some(*command);
-        }
-    }
-    None
+impl Model for Table {
+    ghost use Rattle.slab.specs.Slab.{Slab};
+    ghost use Rattle.aoe_flight.specs.declared.outstanding.Outstanding.{Outstanding};
+    ghost use Rattle.aoe_flight.specs.Table.{IsIndexed};
+
+    ghost Value = { Slab Outstanding };
+
+    ghost view = { λ t. t.slots };
+
+    ghost invariant = { λ t. IsIndexed t.slots t.tags t.tickets t.dues t.firsts t.rests };
 }
 
-/// Whether a flying or resting command has the tag.
-fn is_taken(commands: &Slab<Outstanding>, tag: u32) -> bool
-    ensures { result ≡ is_taken (values commands.now) tag }
-{
-    'commands: for (_, command) in commands.iter() {
-        if command.flying.tag == tag {
-            return true;
+impl Table {
+    /// No command, and room for so many.
+    pub fn new(alloc: Global, room: usize) -> Result<Table, NoMemory>
+        ensures empty { IfOk result (λ table. values table ≡ []) }
+        ensures room { IfOk result (λ table. room ≤ table.capacity) }
+    {
+        let Ok(slots) = Slab::with_capacity(alloc, room) else {
+            return Err(NoMemory);
+        };
+        let room = slots.capacity();
+        Ok(Table {
+            slots,
+            tags: Order::new(alloc, room)?,
+            tickets: Order::new(alloc, room)?,
+            dues: Order::new(alloc, room)?,
+            firsts: Order::new(alloc, room)?,
+            rests: Order::new(alloc, room)?,
+        })
+    }
+
+    /// How many commands fly or rest.
+    pub fn len(&self) -> usize
+        ensures { result ≡ length (values self.now) }
+    {
+        self.slots.len()
+    }
+
+    /// The first slot from `from` on whose command flies and has the ticket.
+    fn flying_slot(&self, ticket: Ticket, from: usize) -> Option<(usize, Outstanding)>
+        ensures some { IfSome result (λ found. IsFirstSlot (flies_as ticket.0) self.now from found.0 found.1) }
+        ensures none { IfNone result ((k : ℕ) (c : Outstanding) → from ≤ k → get self.now k ≡ Some c → flies_as ticket.0 c ≡ false) }
+    {
+        let slot = self.tickets.find(u128::from(ticket.0), from)?;
+        let command = self.slots.get(slot)?;
+        Some((slot, *command))
+    }
+
+    /// The flying command with a ticket.
+    pub fn find_ticket(&self, ticket: Ticket) -> Option<Outstanding>
+        ensures { result ≡ find (flies_as ticket.0) (values self.now) }
+    {
+        match self.flying_slot(ticket, 0) {
+            Some((_, command)) => Some(command),
+            None => None,
         }
     }
-    false
-}
 
-/// How many commands fly or rest.
-pub fn live_count(commands: &Slab<Outstanding>, rest: Millis, now: Millis) -> usize
-    ensures { result ≡ length (live rest.0 now.0 (values commands.now)) }
-{
-    let mut count = commands.len();
-    'commands: for (_, command) in commands.iter() {
+    /// The flying command with a tag.
+    pub fn find_tag(&self, tag: u32) -> Option<Outstanding>
+        ensures { result ≡ find (flies_with tag) (values self.now) }
+    {
+        let slot = self.tags.find(u128::from(tag), 0)?;
+        self.slots.get(slot).copied()
+    }
+
+    /// Whether a flying or resting command has the tag.
+    fn is_taken(&self, tag: u32) -> bool
+        ensures { result ≡ is_taken (values self.now) tag }
+    {
+        self.tags.has(u128::from(tag))
+    }
+
+    /// A command that rested out.
+    fn over_slot(&self, rest: Millis, now: Millis) -> Option<(usize, Outstanding)>
+        ensures some { IfSome result (λ found. (get self.now found.0 ≡ Some found.1) × (is_over rest.0 now.0 found.1 ≡ true)) }
+        ensures none { IfNone result (All (λ c. is_over rest.0 now.0 c ≡ false) (values self.now)) }
+    {
+        let first = self.rests.first()?;
+        let command = self.slots.get(first.slot)?;
         if command.is_over(rest, now) {
-            count -= 1;
+            Some((first.slot, *command))
+        } else {
+            None
         }
     }
-    count
+
+    /// Whether a command rested out.
+    pub fn is_any_over(&self, rest: Millis, now: Millis) -> bool
+        ensures some { result ≡ true → length (live rest.0 now.0 (values self.now)) < length (values self.now) }
+        ensures none { result ≡ false → live rest.0 now.0 (values self.now) ≡ values self.now }
+    {
+        self.over_slot(rest, now).is_some()
+    }
+
+    /// The expired command with the lowest ticket. Where the command that flies for longest isn't
+    /// expired, none is.
+    pub fn first_expired(&self, dead: Millis, now: Millis) -> Option<Outstanding>
+        ensures { result ≡ best (is_expired dead.0 now.0) lower None (values self.now) }
+    {
+        let first = self.firsts.first()?;
+        let command = self.slots.get(first.slot)?;
+        if !command.is_expired(dead, now) {
+            return None;
+        }
+        lowest_expired(&self.slots, dead, now)
+    }
+
+    /// The command that is due first, where it is due: one step.
+    pub fn first_due<L: Ledger>(&self, now: Millis, steps: &mut Steps<L>) -> Option<Ticket>
+        requires { All (λ c. c.flying.last.0 ≤ now.0) (values self.now) }
+        ensures first { IfSome result (λ ticket. (c : Outstanding) × (c.ticket ≡ ticket) × IsFirst (is_due now.0) precedes (values self.now) c) }
+        ensures none { IfNone result (All (λ c. is_due now.0 c ≡ false) (values self.now)) }
+        ensures step { steps.new ≡ steps.old + 1 }
+    {
+        let first = self.dues.look(steps)?;
+        let command = self.slots.get(first.slot)?;
+        if command.is_due(now) {
+            Some(command.ticket)
+        } else {
+            None
+        }
+    }
+
+    /// Takes the command out of a slot in which it rested out.
+    fn drop_slot(&mut self, slot: usize, command: Outstanding)
+        requires there { get self.old slot ≡ Some command }
+        requires rests { command.finished ≡ true }
+        ensures slots { self.new.slots ≡ slice_set self.old.slots slot None }
+        ensures capacity { self.new.capacity ≡ self.old.capacity }
+        ensures len { slab_len self.new + 1 ≡ slab_len self.old }
+    {
+        let _ = self.slots.remove(slot);
+        self.tags.remove(command.by_tag(slot));
+        self.rests.remove(command.by_last(slot));
+    }
+
+    /// Drops the commands that rested out.
+    pub fn forget(&mut self, rest: Millis, now: Millis)
+        ensures values { values self.new ≡ live rest.0 now.0 (values self.old) }
+        ensures capacity { self.new.capacity ≡ self.old.capacity }
+    {
+        'over: while let Some((slot, command)) = self.over_slot(rest, now) {
+            self.drop_slot(slot, command);
+        }
+    }
+
+    /// The slots end before this number.
+    fn end(&self) -> usize
+        ensures { length self.now.slots ≤ result }
+    {
+        self.slots.capacity()
+    }
+
+    /// Ends the flying command in a slot.
+    fn finish_slot(&mut self, slot: usize, command: Outstanding)
+        requires there { get self.old slot ≡ Some command }
+        requires flies { command.finished ≡ false }
+        ensures { self.new ≡ with_value self.old slot (after_finish command) }
+    {
+        let finished = Outstanding {
+            finished: true,
+            ..command
+        };
+        self.slots[slot] = finished;
+        self.tags.remove(command.by_tag(slot));
+        self.tickets.remove(command.by_ticket(slot));
+        self.dues.remove(command.by_due(slot));
+        self.firsts.remove(command.by_first(slot));
+        self.tags.insert(finished.by_tag(slot));
+        self.rests.insert(finished.by_last(slot));
+    }
+
+    /// Ends the flying command with a ticket.
+    pub fn finish(&mut self, ticket: Ticket)
+        ensures values { values self.new
+            ≡ map (change_of ticket.0 after_finish) (values self.old) }
+        ensures capacity { self.new.capacity ≡ self.old.capacity }
+    {
+        let end = self.end();
+        let mut from = 0;
+        'flying: while let Some((slot, command)) = self.flying_slot(ticket, from) {
+            self.finish_slot(slot, command);
+            from = slot + 1;
+        }
+    }
+
+    /// Takes note that the flying command in a slot was sent again.
+    fn repeat_slot(
+        &mut self,
+        slot: usize,
+        command: Outstanding,
+        now: Millis,
+        path: PathNo,
+        wait: Millis,
+    )
+        requires there { get self.old slot ≡ Some command }
+        requires flies { command.finished ≡ false }
+        ensures { self.new ≡ with_value self.old slot (after_repeat now path wait command) }
+    {
+        let repeated = command.repeated(now, path, wait);
+        self.slots[slot] = repeated;
+        self.dues.remove(command.by_due(slot));
+        self.dues.insert(repeated.by_due(slot));
+    }
+
+    /// Takes note that the flying command with a ticket was sent again.
+    pub fn repeat(&mut self, ticket: Ticket, now: Millis, path: PathNo, wait: Millis)
+        ensures values { values self.new
+            ≡ map (change_of ticket.0 (after_repeat now path wait)) (values self.old) }
+        ensures capacity { self.new.capacity ≡ self.old.capacity }
+    {
+        let end = self.end();
+        let mut from = 0;
+        'flying: while let Some((slot, command)) = self.flying_slot(ticket, from) {
+            self.repeat_slot(slot, command, now, path, wait);
+            from = slot + 1;
+        }
+    }
+
+    /// The first tag after `last` that no flying or resting command has.
+    pub fn next_tag(&self, last: u32) -> u32
+        requires { length (values self.now) < 2 ^ 32 - 1 }
+        ensures { IsNextTag (values self.now) last result }
+    {
+        let mut steps = 0;
+        let mut tag = tag_after(last, steps);
+        'passed: while self.is_taken(tag) {
+            steps += 1;
+            tag = tag_after(last, steps);
+        }
+        tag
+    }
+
+    /// Adds a flying command, for which there is room.
+    pub fn insert(&mut self, command: Outstanding)
+        requires flies { command.finished ≡ false }
+        requires room { length (values self.old) < self.old.capacity }
+        ensures values { IsPermutation (command ∷ values self.old) (values self.new) }
+        ensures capacity { self.new.capacity ≡ self.old.capacity }
+    {
+        let slot = self.slots.insert_reserved(command);
+        self.tags.insert(command.by_tag(slot));
+        self.tickets.insert(command.by_ticket(slot));
+        self.dues.insert(command.by_due(slot));
+        self.firsts.insert(command.by_first(slot));
+    }
 }
 
 /// The expired command with the lowest ticket.
-pub fn first_expired(commands: &Slab<Outstanding>, dead: Millis, now: Millis) -> Option<Outstanding>
+fn lowest_expired(commands: &Slab<Outstanding>, dead: Millis, now: Millis) -> Option<Outstanding>
     ensures { result ≡ best (is_expired dead.0 now.0) lower None (values commands.now) }
 {
     let mut first: Option<Outstanding> = None;
@@ -83,48 +312,6 @@ fn is_lower(first: Option<Outstanding>, command: Outstanding) -> bool
     }
 }
 
-/// Drops the commands that rested out.
-pub fn forget(commands: &mut Slab<Outstanding>, rest: Millis, now: Millis)
-    ensures values { values commands.new ≡ live rest.0 now.0 (values commands.old) }
-    ensures capacity { commands.new.capacity ≡ commands.old.capacity }
-{
-    commands.retain(|_, command| !command.is_over(rest, now));
-}
-
-/// Ends the flying command with a ticket.
-pub fn finish(commands: &mut Slab<Outstanding>, ticket: Ticket)
-    ensures values { values commands.new
-        ≡ map (change_of ticket.0 after_finish) (values commands.old) }
-    ensures capacity { commands.new.capacity ≡ commands.old.capacity }
-{
-    commands.retain(|_, command| {
-        if command.flies_as(ticket) {
-            command.finished = true;
-        }
-        true
-    });
-}
-
-/// Takes note that the flying command with a ticket was sent again.
-pub fn repeat(
-    commands: &mut Slab<Outstanding>,
-    ticket: Ticket,
-    now: Millis,
-    path: PathNo,
-    wait: Millis,
-)
-    ensures values { values commands.new
-        ≡ map (change_of ticket.0 (after_repeat now path wait)) (values commands.old) }
-    ensures capacity { commands.new.capacity ≡ commands.old.capacity }
-{
-    commands.retain(|_, command| {
-        if command.flies_as(ticket) {
-            *command = command.repeated(now, path, wait);
-        }
-        true
-    });
-}
-
 /// The tag that comes `steps` steps after the next of `last`.
 fn tag_after(last: u32, steps: u32) -> u32
     requires { steps < 2 ^ 32 - 1 }
@@ -136,29 +323,6 @@ fn tag_after(last: u32, steps: u32) -> u32
     } else {
         (tag - u64::from(MAX_TAG)) as u32
     }
-}
-
-/// The first tag after `last` that no flying or resting command has.
-pub fn next_tag(commands: &Slab<Outstanding>, last: u32) -> u32
-    requires { length (values commands.now) < 2 ^ 32 - 1 }
-    ensures { IsNextTag (values commands.now) last result }
-{
-    let mut steps = 0;
-    let mut tag = tag_after(last, steps);
-    'passed: while is_taken(commands, tag) {
-        steps += 1;
-        tag = tag_after(last, steps);
-    }
-    tag
-}
-
-/// Adds a command, for which there is room.
-pub fn insert(commands: &mut Slab<Outstanding>, command: Outstanding)
-    requires { length (values commands.old) < commands.old.capacity }
-    ensures values { IsPermutation (command ∷ values commands.old) (values commands.new) }
-    ensures capacity { commands.new.capacity ≡ commands.old.capacity }
-{
-    let _ = commands.insert_reserved(command);
 }
 
 #[cfg(test)]

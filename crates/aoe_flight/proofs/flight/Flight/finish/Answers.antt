@@ -1,7 +1,7 @@
 use Rattle.std.proofs.Common.{refl}
 use Rattle.slab.specs.Slab.{values}
 use Rattle.aoe_flight.specs.Outstanding.{after_finish}
-use Rattle.aoe_flight.proofs.DueLemmas.{dues-finished}
+use Rattle.aoe_flight.proofs.PastLemmas.{past-finished}
 use Rattle.aoe_flight.proofs.SoundLemmas.{finish-value, sound-changed}
 use Rattle.std.proofs.Common.{arith}
 use Rattle.aoe_flight.proofs.RecallLemmas.{recalls-change}
@@ -10,7 +10,7 @@ use Rattle.aoe_flight.proofs.flight.Flight.finish.Goals as goal
 pub invariant_of-self : goal.invariant_of-self
 invariant_of-self c = (
   sound-changed _ _ c.args.ticket.0 after_finish (values c.self.inside.commands) _ _ (λ d. refl) c.finish.ensures.values c.finish.ensures.capacity c.self.invariant.0,
-  dues-finished _ _ c.args.ticket.0 (values c.self.inside.commands) _ c.self.inside.deadlines _ c.finish.ensures.values c.remove.ensures.dues c.remove.ensures.room c.self.invariant.1,
+  past-finished c.self.inside.latest.0 c.args.ticket.0 (values c.self.inside.commands) _ c.finish.ensures.values c.self.invariant.1,
 )
 
 pub returns-clause-value : goal.returns-clause-value

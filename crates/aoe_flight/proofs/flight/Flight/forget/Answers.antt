@@ -1,5 +1,5 @@
 use Rattle.slab.specs.Slab.{values}
-use Rattle.aoe_flight.proofs.DueLemmas.{dues-live}
+use Rattle.aoe_flight.proofs.PastLemmas.{past-live}
 use Rattle.aoe_flight.proofs.SoundLemmas.{forget-value, sound-live, time-of}
 use Rattle.aoe_flight.proofs.RecallLemmas.{recalls-at}
 use Rattle.aoe_flight.proofs.flight.Flight.forget.Goals as goal
@@ -8,7 +8,7 @@ pub invariant_of-self : goal.invariant_of-self
 invariant_of-self c =
     let later = time-of _ _ _ _ _ c.args.now.0 (values c.self.inside.commands) c.args.self.now c.self.view_is c.requires in (
       sound-live _ _ c.self.inside.rest.0 c.args.now.0 (values c.self.inside.commands) _ _ c.forget.ensures.values c.forget.ensures.capacity c.self.invariant.0,
-      dues-live _ _ c.self.inside.rest.0 c.args.now.0 (values c.self.inside.commands) _ c.self.inside.deadlines c.forget.ensures.values later c.self.invariant.1,
+      past-live c.self.inside.latest.0 c.self.inside.rest.0 c.args.now.0 (values c.self.inside.commands) _ c.forget.ensures.values later c.self.invariant.1,
     )
 
 pub returns-clause-value : goal.returns-clause-value

@@ -1,13 +1,11 @@
-use Rattle.std.proofs.Common.{◌≡◌, false, List, ◌∷◌, ap, length, refl, subst, sym, ◌∙◌, arith}
+use Rattle.std.proofs.Common.{◌≡◌, List, ◌∷◌, ap, length, refl, subst, sym, ◌∙◌, arith}
 use Rattle.std.specs.List.Sorted.{IsPermutation}
 use Rattle.std.proofs.lemmas.Bool.{eq-eqb}
 use Rattle.slab.specs.Slab.{values}
 use Rattle.aoe_flight.specs.declared.outstanding.Outstanding.{Outstanding}
 use Rattle.aoe_flight.specs.FlightTable.{FlightTable}
 use Rattle.aoe_flight.specs.Outstanding.{is_taken, launched, live}
-use Rattle.aoe_flight.specs.declared.deadlines.Due.{Due}
-use Rattle.aoe_flight.proofs.DueLemmas.{deadlines-fewer, dues-launched, dues-live}
-use Rattle.aoe_flight.proofs.SlotLemmas.{length-held}
+use Rattle.aoe_flight.proofs.PastLemmas.{past-launched, past-live}
 use Rattle.aoe_flight.proofs.SoundLemmas.{count-live, flies-new, forget-value, live-new, live-view, sound-live, sound-new, time-of}
 use Rattle.std.proofs.Common.{rules}
 use Rattle.aoe_flight.proofs.RecallLemmas.{free-recalled, recalls-launch}
@@ -16,8 +14,8 @@ use Rattle.aoe_flight.proofs.flight.Flight.launch.Goals as goal
 pub invariant_of-self : goal.invariant_of-self
 invariant_of-self c =
     let later = time-of _ _ _ _ _ c.args.now.0 (values c.self.inside.commands) c.args.self.now c.self.view_is c.requires in (
-      sound-live _ _ c.self.inside.rest.0 c.args.now.0 (values c.self.inside.commands) (values c.forget.new.commands) c.forget.new.commands.capacity c.forget.ensures.values c.forget.ensures.capacity c.self.invariant.0,
-      dues-live _ _ c.self.inside.rest.0 c.args.now.0 (values c.self.inside.commands) _ c.self.inside.deadlines c.forget.ensures.values later c.self.invariant.1,
+      sound-live _ _ c.self.inside.rest.0 c.args.now.0 (values c.self.inside.commands) (values c.forget.new.self) c.forget.new.self.capacity c.forget.ensures.values c.forget.ensures.capacity c.self.invariant.0,
+      past-live c.self.inside.latest.0 c.self.inside.rest.0 c.args.now.0 (values c.self.inside.commands) _ c.forget.ensures.values later c.self.invariant.1,
     )
 
 pub returns-then-len-self-clause-full : goal.returns-then-len-self-clause-full
@@ -25,7 +23,7 @@ returns-then-len-self-clause-full c =
     let live = live-view _ _ _ _ _ c.args.now.0 (values c.self.inside.commands) c.args.self.now c.self.view_is c.requires in
     let kept = live ∙ sym c.forget.ensures.values in
     let room = ap (λ (t : FlightTable). t.room) c.self.view_is in
-    let count : c.len.result ≡ length (values c.forget.new.commands) = c.len.ensures ∙ length-held c.forget.new.commands.slots in
+    let count : c.len.result ≡ length (values c.forget.new.self) = c.len.ensures in
     rw kept (omega (arith, room, count, c.if-len-self.true))
 
 pub returns-then-len-self-clause-unchanged : goal.returns-then-len-self-clause-unchanged
@@ -33,39 +31,37 @@ returns-then-len-self-clause-unchanged c = forget-value _ _ _ _ _ c.args.now.0 (
 
 pub returns-then-len-self-clause-distinct : goal.returns-then-len-self-clause-distinct
 returns-then-len-self-clause-distinct c =
-    let sound = sound-live _ _ c.self.inside.rest.0 c.args.now.0 (values c.self.inside.commands) (values c.forget.new.commands) c.forget.new.commands.capacity c.forget.ensures.values c.forget.ensures.capacity c.self.invariant.0 in
-    λ tag. count-live c.self.inside.rest.0 c.args.now.0 (values c.forget.new.commands) tag (sound.distinct tag)
+    let sound = sound-live _ _ c.self.inside.rest.0 c.args.now.0 (values c.self.inside.commands) (values c.forget.new.self) c.forget.new.self.capacity c.forget.ensures.values c.forget.ensures.capacity c.self.invariant.0 in
+    λ tag. count-live c.self.inside.rest.0 c.args.now.0 (values c.forget.new.self) tag (sound.distinct tag)
 
 pub next_tag-tag-requires : goal.next_tag-tag-requires
 next_tag-tag-requires c =
-    let sound = sound-live _ _ c.self.inside.rest.0 c.args.now.0 (values c.self.inside.commands) (values c.forget.new.commands) c.forget.new.commands.capacity c.forget.ensures.values c.forget.ensures.capacity c.self.invariant.0 in
+    let sound = sound-live _ _ c.self.inside.rest.0 c.args.now.0 (values c.self.inside.commands) (values c.forget.new.self) c.forget.new.self.capacity c.forget.ensures.values c.forget.ensures.capacity c.self.invariant.0 in
     omega (arith, sound.fits, sound.few)
 
-pub insert-requires : goal.insert-requires
-insert-requires c =
-    let sound = sound-live _ _ c.self.inside.rest.0 c.args.now.0 (values c.self.inside.commands) (values c.forget.new.commands) c.forget.new.commands.capacity c.forget.ensures.values c.forget.ensures.capacity c.self.invariant.0 in
-    let count : c.len.result ≡ length (values c.forget.new.commands) = c.len.ensures ∙ length-held c.forget.new.commands.slots in
+pub insert-requires-clause-room : goal.insert-requires-clause-room
+insert-requires-clause-room c =
+    let sound = sound-live _ _ c.self.inside.rest.0 c.args.now.0 (values c.self.inside.commands) (values c.forget.new.self) c.forget.new.self.capacity c.forget.ensures.values c.forget.ensures.capacity c.self.invariant.0 in
+    let count : c.len.result ≡ length (values c.forget.new.self) = c.len.ensures in
     omega (arith, count, c.if-len-self.false, sound.reserved)
 
 pub invariant_of-self-2 : goal.invariant_of-self-2
 invariant_of-self-2 c =
-    let count : c.len.result ≡ length (values c.forget.new.commands) = c.len.ensures ∙ length-held c.forget.new.commands.slots in
-    let sound = sound-live _ _ c.self.inside.rest.0 c.args.now.0 (values c.self.inside.commands) (values c.forget.new.commands) c.forget.new.commands.capacity c.forget.ensures.values c.forget.ensures.capacity c.self.invariant.0 in
-    let free = ap (λ (d : Outstanding). is_taken (values c.forget.new.commands) d.flying.tag) c.launched-command.ensures ∙ c.next_tag-tag.ensures.free in
-    let after = sound-new _ _ c.launched-command.result (values c.forget.new.commands) (values c.insert.new.commands) c.insert.new.commands.capacity c.insert.ensures.values free c.insert.ensures.capacity (omega (arith, count, c.if-len-self.false)) sound in
+    let count : c.len.result ≡ length (values c.forget.new.self) = c.len.ensures in
+    let sound = sound-live _ _ c.self.inside.rest.0 c.args.now.0 (values c.self.inside.commands) (values c.forget.new.self) c.forget.new.self.capacity c.forget.ensures.values c.forget.ensures.capacity c.self.invariant.0 in
+    let free = ap (λ (d : Outstanding). is_taken (values c.forget.new.self) d.flying.tag) c.launched-command.ensures ∙ c.next_tag-tag.ensures.free in
+    let after = sound-new _ _ c.launched-command.result (values c.forget.new.self) (values c.insert.new.self) c.insert.new.self.capacity c.insert.ensures.values free c.insert.ensures.capacity (omega (arith, count, c.if-len-self.false)) sound in
     let later = time-of _ _ _ _ _ c.args.now.0 (values c.self.inside.commands) c.args.self.now c.self.view_is c.requires in
-    let dues = dues-live _ _ c.self.inside.rest.0 c.args.now.0 (values c.self.inside.commands) _ c.self.inside.deadlines c.forget.ensures.values later c.self.invariant.1 in
-    let flying : c.launched-command.result.finished ≡ false = ap (λ (d : Outstanding). d.finished) c.launched-command.ensures in
+    let past = past-live c.self.inside.latest.0 c.self.inside.rest.0 c.args.now.0 (values c.self.inside.commands) (values c.forget.new.self) c.forget.ensures.values later c.self.invariant.1 in
     let last : c.launched-command.result.flying.last.0 ≡ c.args.now.0 = ap (λ (d : Outstanding). d.flying.last.0) c.launched-command.ensures in
-    let D : Due → Type 0 = λ d. IsPermutation (d ∷ c.self.inside.deadlines.dues) c.insert-2.new.self.dues in
-    (after, dues-launched _ c.args.now.0 c.launched-command.result (values c.forget.new.commands) (values c.insert.new.commands) c.self.inside.deadlines c.insert-2.new.self flying (omega (arith, last)) c.insert.ensures.values (subst D c.due.ensures c.insert-2.ensures.dues) c.insert-2.ensures.room dues)
+    (after, past-launched c.args.now.0 c.launched-command.result (values c.forget.new.self) (values c.insert.new.self) (omega (arith, last)) c.insert.ensures.values past)
 
 pub returns-clause-room : goal.returns-clause-room
 returns-clause-room c =
     let live = live-view _ _ _ _ _ c.args.now.0 (values c.self.inside.commands) c.args.self.now c.self.view_is c.requires in
     let kept = live ∙ sym c.forget.ensures.values in
     let room = ap (λ (t : FlightTable). t.room) c.self.view_is in
-    let count : c.len.result ≡ length (values c.forget.new.commands) = c.len.ensures ∙ length-held c.forget.new.commands.slots in
+    let count : c.len.result ≡ length (values c.forget.new.self) = c.len.ensures in
     rw kept (omega (arith, room, count, c.if-len-self.false))
 
 pub returns-clause-tag : goal.returns-clause-tag
@@ -80,28 +76,28 @@ pub returns-clause-command : goal.returns-clause-command
 returns-clause-command c =
     let old = live-view _ _ _ _ _ c.args.now.0 (values c.self.inside.commands) c.args.self.now c.self.view_is c.requires in
     let new = launched c.args.ticket c.next_tag-tag.result c.args.now c.args.path c.args.wait in
-    let P : Outstanding → Type 0 = λ d. IsPermutation (d ∷ values c.forget.new.commands) (values c.insert.new.commands) in
-    let Q : List Outstanding → Type 0 = λ l. IsPermutation (new ∷ l) (values c.insert.new.commands) in
-    let all : IsPermutation (new ∷ live c.self.inside.rest.0 c.args.now.0 (values c.self.inside.commands)) (values c.insert.new.commands) = subst Q c.forget.ensures.values (subst P c.launched-command.ensures c.insert.ensures.values) in
-    let alive = live-new c.self.inside.rest.0 c.args.now.0 new (values c.self.inside.commands) (values c.insert.new.commands) refl all in
+    let P : Outstanding → Type 0 = λ d. IsPermutation (d ∷ values c.forget.new.self) (values c.insert.new.self) in
+    let Q : List Outstanding → Type 0 = λ l. IsPermutation (new ∷ l) (values c.insert.new.self) in
+    let all : IsPermutation (new ∷ live c.self.inside.rest.0 c.args.now.0 (values c.self.inside.commands)) (values c.insert.new.self) = subst Q c.forget.ensures.values (subst P c.launched-command.ensures c.insert.ensures.values) in
+    let alive = live-new c.self.inside.rest.0 c.args.now.0 new (values c.self.inside.commands) (values c.insert.new.self) refl all in
     rw (old, alive) all
 
 pub returns-clause-flies : goal.returns-clause-flies
 returns-clause-flies c =
     let new = launched c.args.ticket c.next_tag-tag.result c.args.now c.args.path c.args.wait in
-    let P : Outstanding → Type 0 = λ d. IsPermutation (d ∷ values c.forget.new.commands) (values c.insert.new.commands) in
-    let Q : List Outstanding → Type 0 = λ l. IsPermutation (new ∷ l) (values c.insert.new.commands) in
-    let all : IsPermutation (new ∷ live c.self.inside.rest.0 c.args.now.0 (values c.self.inside.commands)) (values c.insert.new.commands) = subst Q c.forget.ensures.values (subst P c.launched-command.ensures c.insert.ensures.values) in
-    let alive = live-new c.self.inside.rest.0 c.args.now.0 new (values c.self.inside.commands) (values c.insert.new.commands) refl all in
-    rw alive (flies-new c.args.ticket.0 new (live c.self.inside.rest.0 c.args.now.0 (values c.self.inside.commands)) (values c.insert.new.commands) all (eq-eqb c.args.ticket.0 c.args.ticket.0 refl))
+    let P : Outstanding → Type 0 = λ d. IsPermutation (d ∷ values c.forget.new.self) (values c.insert.new.self) in
+    let Q : List Outstanding → Type 0 = λ l. IsPermutation (new ∷ l) (values c.insert.new.self) in
+    let all : IsPermutation (new ∷ live c.self.inside.rest.0 c.args.now.0 (values c.self.inside.commands)) (values c.insert.new.self) = subst Q c.forget.ensures.values (subst P c.launched-command.ensures c.insert.ensures.values) in
+    let alive = live-new c.self.inside.rest.0 c.args.now.0 new (values c.self.inside.commands) (values c.insert.new.self) refl all in
+    rw alive (flies-new c.args.ticket.0 new (live c.self.inside.rest.0 c.args.now.0 (values c.self.inside.commands)) (values c.insert.new.self) all (eq-eqb c.args.ticket.0 c.args.ticket.0 refl))
 
 pub returns-clause-distinct : goal.returns-clause-distinct
 returns-clause-distinct c =
-    let count : c.len.result ≡ length (values c.forget.new.commands) = c.len.ensures ∙ length-held c.forget.new.commands.slots in
-    let sound = sound-live _ _ c.self.inside.rest.0 c.args.now.0 (values c.self.inside.commands) (values c.forget.new.commands) c.forget.new.commands.capacity c.forget.ensures.values c.forget.ensures.capacity c.self.invariant.0 in
-    let free = ap (λ (d : Outstanding). is_taken (values c.forget.new.commands) d.flying.tag) c.launched-command.ensures ∙ c.next_tag-tag.ensures.free in
-    let after = sound-new _ _ c.launched-command.result (values c.forget.new.commands) (values c.insert.new.commands) c.insert.new.commands.capacity c.insert.ensures.values free c.insert.ensures.capacity (omega (arith, count, c.if-len-self.false)) sound in
-    λ tag. count-live c.self.inside.rest.0 c.args.now.0 (values c.insert.new.commands) tag (after.distinct tag)
+    let count : c.len.result ≡ length (values c.forget.new.self) = c.len.ensures in
+    let sound = sound-live _ _ c.self.inside.rest.0 c.args.now.0 (values c.self.inside.commands) (values c.forget.new.self) c.forget.new.self.capacity c.forget.ensures.values c.forget.ensures.capacity c.self.invariant.0 in
+    let free = ap (λ (d : Outstanding). is_taken (values c.forget.new.self) d.flying.tag) c.launched-command.ensures ∙ c.next_tag-tag.ensures.free in
+    let after = sound-new _ _ c.launched-command.result (values c.forget.new.self) (values c.insert.new.self) c.insert.new.self.capacity c.insert.ensures.values free c.insert.ensures.capacity (omega (arith, count, c.if-len-self.false)) sound in
+    λ tag. count-live c.self.inside.rest.0 c.args.now.0 (values c.insert.new.self) tag (after.distinct tag)
 
 pub returns-clause-same : goal.returns-clause-same
 returns-clause-same c = search rules
@@ -114,10 +110,3 @@ returns-clause-recalls c = λ sent recalls.
 
 pub returns-clause-free : goal.returns-clause-free
 returns-clause-free c = λ sent recalls. free-recalled c.args.self.now sent c.args.now.0 c.next_tag-tag.result recalls c.requires (returns-clause-tag c).free
-
-pub insert-requires-2 : goal.insert-requires-2
-insert-requires-2 c =
-    let count : c.len.result ≡ length (values c.forget.new.commands) = c.len.ensures ∙ length-held c.forget.new.commands.slots in
-    let later = time-of _ _ _ _ _ c.args.now.0 (values c.self.inside.commands) c.args.self.now c.self.view_is c.requires in
-    let dues = dues-live _ _ c.self.inside.rest.0 c.args.now.0 (values c.self.inside.commands) _ c.self.inside.deadlines c.forget.ensures.values later c.self.invariant.1 in
-    omega (arith, count, c.if-len-self.false, dues.reserved, deadlines-fewer _ _ _ _ dues)

@@ -1,7 +1,7 @@
 use Rattle.std.proofs.Common.{refl}
 use Rattle.slab.specs.Slab.{values}
 use Rattle.aoe_flight.specs.Outstanding.{after_repeat}
-use Rattle.aoe_flight.proofs.DueLemmas.{dues-repeated}
+use Rattle.aoe_flight.proofs.PastLemmas.{past-repeated}
 use Rattle.aoe_flight.proofs.SoundLemmas.{change-value, sound-changed, time-of}
 use Rattle.aoe_flight.proofs.RecallLemmas.{recalls-change}
 use Rattle.aoe_flight.proofs.flight.Flight.repeat.Goals as goal
@@ -10,7 +10,7 @@ pub invariant_of-self : goal.invariant_of-self
 invariant_of-self c =
     let later = time-of _ _ _ _ _ c.args.now.0 (values c.self.inside.commands) c.args.self.now c.self.view_is c.requires in (
       sound-changed _ _ c.args.ticket.0 (after_repeat c.args.now c.args.path c.args.wait) (values c.self.inside.commands) _ _ (λ d. refl) c.repeat.ensures.values c.repeat.ensures.capacity c.self.invariant.0,
-      dues-repeated _ _ c.args.now c.args.path c.args.wait c.of.result (values c.self.inside.commands) _ c.self.inside.deadlines _ later c.of.ensures.at (rw c.of.ensures.ticket c.repeat.ensures.values) c.replace.ensures.dues c.replace.ensures.room c.self.invariant.1,
+      past-repeated c.self.inside.latest.0 c.args.ticket.0 c.args.now c.args.path c.args.wait (values c.self.inside.commands) _ later c.repeat.ensures.values c.self.invariant.1,
     )
 
 pub returns-clause-value : goal.returns-clause-value

@@ -1,0 +1,48 @@
+use Rattle.std.proofs.Common.{◌≡◌, List, Some, rules, arith, ap, refl, subst}
+use Rattle.std.specs.List.{remove}
+use Rattle.std.specs.Prelude.{slice_get, Contains}
+use Rattle.aoe_flight.specs.declared.order.Entry.{Entry}
+use Rattle.aoe_flight.specs.Order.{OrderTable}
+use Rattle.aoe_flight.proofs.EntryLemmas.{found-there, length-remove, ordered-remove, removed-kept, removed-only, taken-out}
+use Rattle.aoe_flight.proofs.order.Order.remove.Goals as goal
+
+pub invariant_of-self : goal.invariant_of-self
+invariant_of-self c =
+    let xs = c.self.inside.entries.items in
+    let same = ap (λ (o : OrderTable). o.entries) c.self.view_is in
+    let here : slice_get xs c.place-place.result ≡ Some c.args.entry = rw same (c.is_at.ensures.here c.if-is_at.true) in
+    let items : c.remove.new.self.items ≡ remove xs c.place-place.result = taken-out c.remove.result _ xs c.place-place.result c.args.entry c.remove.ensures.items here (search rules) in
+    record {
+      order = rw items (ordered-remove xs c.place-place.result c.self.invariant.order);
+      fits = rw items (omega (arith, length-remove xs c.place-place.result c.args.entry here, c.self.invariant.fits));
+      reserved = omega (arith, c.self.invariant.reserved, c.remove.ensures.capacity);
+    }
+
+pub returns-then-is_at-clause-kept : goal.returns-then-is_at-clause-kept
+returns-then-is_at-clause-kept c = λ e other there.
+    let xs = c.self.inside.entries.items in
+    let same = ap (λ (o : OrderTable). o.entries) c.self.view_is in
+    let here = c.is_at.ensures.here c.if-is_at.true in
+    let inside : slice_get xs c.place-place.result ≡ Some c.args.entry = rw same here in
+    let items : c.remove.new.self.items ≡ remove xs c.place-place.result = taken-out c.remove.result _ xs c.place-place.result c.args.entry c.remove.ensures.items inside (search rules) in
+    rw (items, same) (removed-kept c.args.self.now.entries c.place-place.result c.args.entry e here other there)
+
+pub returns-then-is_at-clause-only : goal.returns-then-is_at-clause-only
+returns-then-is_at-clause-only c = λ e there.
+    let xs = c.self.inside.entries.items in
+    let same = ap (λ (o : OrderTable). o.entries) c.self.view_is in
+    let here = c.is_at.ensures.here c.if-is_at.true in
+    let inside : slice_get xs c.place-place.result ≡ Some c.args.entry = rw same here in
+    let items : c.remove.new.self.items ≡ remove xs c.place-place.result = taken-out c.remove.result _ xs c.place-place.result c.args.entry c.remove.ensures.items inside (search rules) in
+    let P : List Entry → Type 0 = λ l. Contains (remove l c.place-place.result) e in
+    let Q : List Entry → Type 0 = λ l. Contains l e in
+    removed-only c.args.self.now.entries c.place-place.result c.args.entry e c.place-place.ensures.order here (subst P same (subst Q items there))
+
+pub returns-else-is_at-clause-length : goal.returns-else-is_at-clause-length
+returns-else-is_at-clause-length c = λ there.
+    let never = found-there c.args.self.now.entries c.place-place.result c.args.entry c.place-place.ensures.order c.place-place.ensures.low (c.is_at.ensures.out c.if-is_at.false) c.args.entry there in
+    absurd (never refl)
+
+pub returns-else-is_at-clause-only : goal.returns-else-is_at-clause-only
+returns-else-is_at-clause-only c = λ e there.
+    (there, found-there c.args.self.now.entries c.place-place.result c.args.entry c.place-place.ensures.order c.place-place.ensures.low (c.is_at.ensures.out c.if-is_at.false) e there)

@@ -1,0 +1,72 @@
+use Rattle.std.proofs.Common.{◌<◌, length, arith, subst, sym}
+use Rattle.slab.specs.Slab.{values, Slab}
+use Rattle.aoe_flight.specs.declared.outstanding.Outstanding.{Outstanding}
+use Rattle.aoe_flight.specs.Table.{by_due, by_first, by_tag, by_ticket}
+use Rattle.aoe_flight.proofs.ChangeLemmas.{indexed-inserted, inserted}
+use Rattle.aoe_flight.proofs.InsertLemmas.{inserted as values-inserted}
+use Rattle.aoe_flight.proofs.SlotLemmas.{length-held}
+use Rattle.aoe_flight.proofs.table.Table.insert.Goals as goal
+
+pub insert_reserved-slot-requires : goal.insert_reserved-slot-requires
+insert_reserved-slot-requires c =
+    let long = length-held c.self.inside.slots.slots in
+    let P : Slab Outstanding → Type 0 = λ s. length (values s) < s.capacity in
+    let room = subst P (sym c.self.view_is) c.requires.room in
+    omega (arith, room, long)
+
+pub insert-requires : goal.insert-requires
+insert-requires c =
+    let i = c.self.invariant in
+    let long = length-held c.self.inside.slots.slots in
+    let P : Slab Outstanding → Type 0 = λ s. length (values s) < s.capacity in
+    let room = subst P (sym c.self.view_is) c.requires.room in
+    omega (arith, room, long, i.tags_room.fits, i.tags_room.room)
+
+pub insert-requires-2 : goal.insert-requires-2
+insert-requires-2 c =
+    let i = c.self.invariant in
+    let long = length-held c.self.inside.slots.slots in
+    let P : Slab Outstanding → Type 0 = λ s. length (values s) < s.capacity in
+    let room = subst P (sym c.self.view_is) c.requires.room in
+    omega (arith, room, long, i.tickets_room.fits, i.tickets_room.room)
+
+pub insert-requires-3 : goal.insert-requires-3
+insert-requires-3 c =
+    let i = c.self.invariant in
+    let long = length-held c.self.inside.slots.slots in
+    let P : Slab Outstanding → Type 0 = λ s. length (values s) < s.capacity in
+    let room = subst P (sym c.self.view_is) c.requires.room in
+    omega (arith, room, long, i.dues_room.fits, i.dues_room.room)
+
+pub insert-requires-4 : goal.insert-requires-4
+insert-requires-4 c =
+    let i = c.self.invariant in
+    let long = length-held c.self.inside.slots.slots in
+    let P : Slab Outstanding → Type 0 = λ s. length (values s) < s.capacity in
+    let room = subst P (sym c.self.view_is) c.requires.room in
+    omega (arith, room, long, i.firsts_room.fits, i.firsts_room.room)
+
+pub invariant_of-self : goal.invariant_of-self
+invariant_of-self c =
+    let k = c.insert_reserved-slot.result in
+    let command = c.args.command in
+    let long = length-held c.self.inside.slots.slots in
+    let P : Slab Outstanding → Type 0 = λ s. length (values s) < s.capacity in
+    let room = subst P (sym c.self.view_is) c.requires.room in
+    let tag = c.insert.ensures in
+    let ticket = c.insert-2.ensures in
+    let due = c.insert-3.ensures in
+    let first = c.insert-4.ensures in
+    indexed-inserted c.self.inside.slots c.insert_reserved-slot.new.self k command c.self.inside.tags c.insert.new.self c.self.inside.tickets c.insert-2.new.self c.self.inside.dues c.insert-3.new.self
+    c.self.inside.firsts c.insert-4.new.self c.self.inside.rests c.insert_reserved-slot.ensures.was_vacant c.requires.flies c.insert_reserved-slot.ensures.updates c.insert_reserved-slot.ensures.len
+    c.insert_reserved-slot.ensures.capacity (omega (arith, room, long))
+    (inserted _ _ (by_tag k command) c.by_tag.result c.by_tag.ensures tag.length tag.there tag.kept tag.only) tag.room
+    (inserted _ _ (by_ticket k command) c.by_ticket.result c.by_ticket.ensures ticket.length ticket.there ticket.kept ticket.only) ticket.room
+    (inserted _ _ (by_due k command) c.by_due.result c.by_due.ensures due.length due.there due.kept due.only) due.room
+    (inserted _ _ (by_first k command) c.by_first.result c.by_first.ensures first.length first.there first.kept first.only) first.room
+    c.self.invariant
+
+pub returns-clause-values : goal.returns-clause-values
+returns-clause-values c =
+    let updates = c.insert_reserved-slot.ensures.updates in
+    rw (← c.self.view_is) (values-inserted c.self.inside.slots.slots _ c.insert_reserved-slot.result c.args.command c.insert_reserved-slot.ensures.was_vacant updates.changed updates.others)
