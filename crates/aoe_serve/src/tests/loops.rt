@@ -5,23 +5,23 @@ use aoe_base::{Blob, Mac, Ports};
 use aoe_cache::{AnyStore, Cached};
 use aoe_disk::MemDisk;
 use aoe_frame::Frame;
-use aoe_io::{Got, Link, MemLink, MemSink, MemSource, Source};
+use aoe_io::{Got, Link, MemLink, MemSink, MemSource};
 use aoe_keep::Keep;
 use aoe_shelf::Shelf;
 use aoe_store::Direct;
 use std::alloc::Global;
 use std::test::Fail;
 
-type MemShelf = Shelf<AnyStore<MemDisk>, MemDisk>;
+pub(crate) type MemShelf = Shelf<AnyStore<MemDisk>, MemDisk>;
 
 /// A query config read from all shelves and slots, by 02:00:00:00:00:0a, as it stands on the stream.
-const QUERY: [u8; 34] = [
+pub(crate) const QUERY: [u8; 34] = [
     0, 32, 255, 255, 255, 255, 255, 255, 2, 0, 0, 0, 0, 10, 0x88, 0xa2, 0x10, 0, 255, 255, 255, 1,
     0, 0, 0, 7, 0, 0, 0, 0, 0, 0, 0, 0,
 ];
 
 /// Sets the config string `ab`, by 02:00:00:00:00:0a, at all targets.
-const SET: [u8; 36] = [
+pub(crate) const SET: [u8; 36] = [
     0, 34, 255, 255, 255, 255, 255, 255, 2, 0, 0, 0, 0, 10, 0x88, 0xa2, 0x10, 0, 255, 255, 255, 1,
     0, 0, 0, 7, 0, 0, 0, 0, 0, 3, 0, 2, b'a', b'b',
 ];
@@ -33,7 +33,7 @@ const REPLY: [u8; 34] = [
 ];
 
 /// The reply to the query by the target of the shelf 1 with this minor, as it stands on the stream.
-fn reply(minor: u8) -> [u8; 62] {
+pub(crate) fn reply(minor: u8) -> [u8; 62] {
     let mut reply = [0u8; 62];
     reply[..34].copy_from_slice(&REPLY);
     reply[20] = minor;
@@ -62,7 +62,7 @@ fn add(alloc: Global, shelf: &mut MemShelf, minor: u8, store: AnyStore<MemDisk>)
 }
 
 /// The shelf 1 with the targets 1.0 and 1.1, of which the second writes to its disk later.
-fn shelf_of_two(alloc: Global) -> Result<MemShelf, Fail> {
+pub(crate) fn shelf_of_two(alloc: Global) -> Result<MemShelf, Fail> {
     let mut ports = Ports::new();
     ports.push(Mac([2, 0, 0, 0, 0, 1]));
     let mut shelf = Shelf::new(alloc, 1, ports, 1500)?;
@@ -98,42 +98,6 @@ fn answers_streams(rt: HostRuntime) -> Result<(), Fail> {
     Ok(())
 }
 
-#[test]
-fn stops_at_a_fault_of_the_sink(rt: HostRuntime) -> Result<(), Fail> {
-    let mut stream = [0u8; 68];
-    stream[..34].copy_from_slice(&QUERY);
-    stream[34..].copy_from_slice(&QUERY);
-    let mut shelf = shelf_of_two(rt.alloc())?;
-    let mut source = MemSource::of(rt.alloc(), &stream)?;
-    let mut sink = MemSink::new(rt.alloc(), 1000)?;
-    sink.fail_at(2);
-    assert_eq!(rt;
-        answer(&mut shelf, &mut source, &mut sink),
-        AnswerEnd::SinkFault
-    );
-    assert_eq!(rt; sink.bytes(), reply(0).as_slice());
-    assert_eq!(rt; source.read(&mut stream), Ok(34));
-    Ok(())
-}
-
-#[test]
-fn hands_a_frame_to_the_slots_behind_a_fault(rt: HostRuntime) -> Result<(), Fail> {
-    let mut shelf = shelf_of_two(rt.alloc())?;
-    let mut source = MemSource::of(rt.alloc(), &SET)?;
-    let mut sink = MemSink::new(rt.alloc(), 1000)?;
-    sink.fail_at(1);
-    assert_eq!(rt;
-        answer(&mut shelf, &mut source, &mut sink),
-        AnswerEnd::SinkFault
-    );
-    assert_eq!(rt; sink.bytes(), b"".as_slice());
-    assert_eq!(rt; shelf.count(), 2);
-    for slot in 0..shelf.count() {
-        assert_eq!(rt; shelf.lists(slot).config.as_slice(), b"ab".as_slice());
-    }
-    Ok(())
-}
-
 /// A link with room for two frames that brings the query, and then has ended.
 fn link_of_query(alloc: Global) -> Result<MemLink, Fail> {
     let mut coming = Vec::new(alloc);
@@ -143,23 +107,13 @@ fn link_of_query(alloc: Global) -> Result<MemLink, Fail> {
 
 #[test]
 fn serves_a_link(rt: HostRuntime) -> Result<(), Fail> {
-    // The most frames and quiet turns, the call of the link that fails, the end and how many replies
-    // the link took.
-    let cases = [
-        (0, 9, 0, ServeEnd::Ended, 0),
-        (1, 0, 0, ServeEnd::Ended, 0),
-        (1, 9, 0, ServeEnd::Ended, 2),
-        (2, 9, 0, ServeEnd::Ended, 2),
-        (1, 9, 1, ServeEnd::LinkFault, 0),
-        (1, 9, 2, ServeEnd::LinkFault, 0),
-        (1, 9, 3, ServeEnd::LinkFault, 1),
-        (2, 9, 4, ServeEnd::LinkFault, 2),
-    ];
-    for (frames, idle, due, end, count) in cases {
+    // The most frames and quiet turns, and how many replies the link took.
+    let cases = [(0, 9, 0), (1, 0, 0), (1, 9, 2), (2, 9, 2)];
+    for (frames, idle, count) in cases {
         let mut shelf = shelf_of_two(rt.alloc())?;
         let mut link = link_of_query(rt.alloc())?;
-        link.fail_at(due);
-        assert_eq!(rt; serve(&mut shelf, &mut link, frames, idle), end);
+        let end = serve(&mut shelf, &mut link, frames, idle);
+        assert_eq!(rt; end, ServeEnd::Ended);
         assert_eq!(rt; link.count(), count);
         for minor in 0..2u8 {
             let i = usize::from(minor);
