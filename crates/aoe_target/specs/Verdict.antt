@@ -1,6 +1,5 @@
 -- What a target does with a frame: the first check that applies decides (AoEr11, "Common AoE header" and the four commands).
 use Rattle.std.specs.Prelude.{ℕ, ◌^◌, ◌<◌, Bool, ◌&&◌, ◌||◌, ◌==◌, not, List, drop, nat_lt, Result, Ok, Err, if◌then◌else◌, is_some}
-use Rattle.std.specs.Str.{bytes_eq}
 use Rattle.aoe_base.specs.declared.address.Mac.{Mac}
 use Rattle.aoe_frame.specs.Header.{head, fields}
 use Rattle.aoe_frame.specs.declared.header.Header.{Header}
