@@ -1,5 +1,6 @@
 mod ClearLemmas
 mod CountLemmas
+mod ExtentLemmas
 mod HeldLemmas
 mod HoldLemmas
 mod IndexLemmas

@@ -2,3 +2,4 @@ pub mod Commands
 pub mod HoldTable
 pub mod Queue
 pub mod Order
+pub mod Extents

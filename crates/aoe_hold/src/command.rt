@@ -1,7 +1,7 @@
 //! Commands, and which of them keep others back.
 ghost use Rattle.std.specs.Prelude.{◌≡◌, ◌+◌, ◌<◌, ◌&&◌, ℕ, false, not, nat_le};
 ghost use Rattle.aoe_hold.specs.Queue.{blocks, lingers};
-ghost use Rattle.aoe_hold.specs.Commands.{comes_first, conflict, finished, has_effect, is_past, is_unsent, rests_on_effects, stage_finished, stage_sent};
+ghost use Rattle.aoe_hold.specs.Commands.{comes_first, conflict, finished, has_effect, is_flush, is_past, is_unsent, is_write, rests_on_effects, stage_finished, stage_sent};
 
 use aoe_base::{Millis, Span, Ticket};
 
@@ -20,6 +20,18 @@ pub enum Kind {
 }
 
 impl Kind {
+    pub fn is_write(self) -> bool
+        ensures { result ≡ is_write self }
+    {
+        matches!(self, Kind::Write)
+    }
+
+    pub fn is_flush(self) -> bool
+        ensures { result ≡ is_flush self }
+    {
+        matches!(self, Kind::Flush)
+    }
+
     /// Whether a frame that comes late can still change what the device has.
     fn has_effect(self) -> bool
         ensures { result ≡ has_effect self }

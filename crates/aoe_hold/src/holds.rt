@@ -5,10 +5,12 @@ ghost use Rattle.std.specs.Option.{ForSome};
 ghost use Rattle.std.specs.Vec.{vec_capacity, vec_len};
 ghost use Rattle.aoe_hold.specs.Commands.{after_stage, clear_tickets, finished, live, stage_finished, stage_sent, unsent_count};
 ghost use Rattle.aoe_hold.specs.declared.queue.Waiter.{Waiter as WaiterValue};
+ghost use Rattle.aoe_hold.specs.Extents.{Covers};
 ghost use Rattle.aoe_hold.specs.HoldTable.{after_finish, after_send, at_time, is_ascending, new_command, no_commands, with_command, ArePast, NonePastBefore, Recalls};
 ghost use Rattle.aoe_hold.specs.Queue.{blocks, has_ticket, AreOutside, is_blocked, lingers, waited_for, IsHeldBy, Knows, Moved, Released};
 
 use crate::command::{Command, Kind, Stage};
+use crate::extent::Extent;
 use crate::queue::{Queue, Waiter};
 use aoe_base::{Millis, NoMemory, Span, Steps, Ticket};
 use std::alloc::Global;
@@ -128,6 +130,40 @@ fn queue(
     } else {
         let from = clear_from(commands, gone, until, &command, life, latest);
         timed.insert(Waiter { command, from });
+    }
+}
+
+/// Queues a command that is entered. The held ones lie within the extent.
+fn queue_entered(
+    commands: &[Command],
+    extent: Extent,
+    timed: &mut Queue,
+    blocked: &mut Queue,
+    command: Command,
+    life: Millis,
+    latest: Millis,
+)
+    requires ascending { is_ascending commands.now ≡ true }
+    requires covers { Covers extent commands.now }
+    requires timed { length timed.old.waiters < timed.old.room }
+    requires blocked { length blocked.old.waiters < blocked.old.room }
+    ensures timed { (test : Command → Bool) → count_by (λ w. test w.command) timed.new.waiters
+        ≡ cond (not (is_blocked commands.now command) && test command) 1 0
+        + count_by (λ w. test w.command) timed.old.waiters }
+    ensures blocked { (test : Command → Bool) → count_by (λ w. test w.command) blocked.new.waiters
+        ≡ cond (is_blocked commands.now command && test command) 1 0
+        + count_by (λ w. test w.command) blocked.old.waiters }
+    ensures knows { All (Knows life.0 latest.0 commands.now) timed.old.waiters
+        → All (Knows life.0 latest.0 commands.now) timed.new.waiters }
+    ensures held { (skip : WaiterValue → Bool) → All (λ w. skip w ≡ false → IsHeldBy commands.now w) blocked.old.waiters
+        → All (λ w. skip w ≡ false → IsHeldBy commands.now w) blocked.new.waiters }
+    ensures timed_room { timed.new.room ≡ timed.old.room }
+    ensures blocked_room { blocked.new.room ≡ blocked.old.room }
+{
+    if extent.is_apart(&command) {
+        timed.insert(Waiter { command, from: 0 });
+    } else {
+        queue(commands, 0, timed, blocked, command, life, latest);
     }
 }
 
@@ -275,6 +311,9 @@ pub struct Holds {
     /// In the order of their tickets.
     commands: Vec<Command>,
 
+    /// What they are at most.
+    extent: Extent,
+
     /// How many of the first commands are known to be past.
     gone: usize,
 
@@ -292,6 +331,7 @@ pub struct Holds {
 
 impl Model for Holds {
     ghost use Rattle.std.specs.Prelude.{map, option_map};
+    ghost use Rattle.aoe_hold.specs.Extents.{Covers};
     ghost use Rattle.aoe_hold.specs.HoldTable.{ArePast, HoldTable, IsSound, NonePastBefore};
     ghost use Rattle.aoe_hold.specs.Queue.{ticket_of, AreHeld, IsIndex};
 
@@ -310,7 +350,8 @@ impl Model for Holds {
         × IsIndex holds.life.0 holds.latest.0 holds.unsent holds.commands.items holds.timed holds.ready
         × NonePastBefore holds.life.0 holds.past_from holds.commands.items
         × AreHeld holds.unsent holds.commands.items holds.timed holds.ready holds.blocked
-        × ArePast holds.life.0 holds.latest.0 holds.gone holds.commands.items };
+        × ArePast holds.life.0 holds.latest.0 holds.gone holds.commands.items
+        × Covers holds.extent holds.commands.items };
 }
 
 impl Holds {
@@ -325,6 +366,7 @@ impl Holds {
             unsent: 0,
             past_from: u128::MAX,
             commands: Vec::new(alloc),
+            extent: Extent::new(),
             gone: 0,
             timed: Queue::new(alloc),
             ready: Queue::new(alloc),
@@ -358,9 +400,10 @@ impl Holds {
             stage: Stage::Unsent,
         };
         self.gone = 0;
-        queue(
+        let extent = self.extent.kept(&self.commands);
+        queue_entered(
             &self.commands,
-            0,
+            extent,
             &mut self.timed,
             &mut self.blocked,
             command,
@@ -368,6 +411,7 @@ impl Holds {
             self.latest,
         );
         self.commands.push_reserved(command);
+        self.extent = extent.widened(&command);
         self.greatest = Some(ticket);
         self.unsent += 1;
         Ok(())

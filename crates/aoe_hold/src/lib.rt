@@ -12,6 +12,7 @@
 #![tactic(auto)]
 
 mod command;
+mod extent;
 mod holds;
 mod law;
 mod queue;

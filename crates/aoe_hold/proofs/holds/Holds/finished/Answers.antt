@@ -7,6 +7,7 @@ use Rattle.aoe_hold.specs.Queue.{blocks, AreHeld, IsIndex}
 use Rattle.aoe_hold.specs.HoldTable.{is_ascending, ArePast, HoldTable, Recalls}
 use Rattle.aoe_hold.proofs.StageLemmas.{count-finished, new-ends, place-ticket, place-within, stage-missing, stage-set}
 use Rattle.aoe_hold.proofs.OutsideLemmas.{gone-stage}
+use Rattle.aoe_hold.proofs.ExtentLemmas.{covers-stage}
 use Rattle.aoe_hold.proofs.PastLemmas.{past-ended}
 use Rattle.aoe_hold.proofs.OrderLemmas.{ascending-after_stage, up_to-after_stage}
 use Rattle.aoe_hold.proofs.TableLemmas.{finish-recalls, finish-value}
@@ -39,6 +40,7 @@ invariant_of-self c =
       past-ended c.self.inside.life.0 c.self.inside.past_from c.past_from.result c.min-self-inside.result c.in-Some.at held new c.min-self-inside.ensures c.past_from.ensures c.self.invariant.2,
       turned.1,
       subst (ArePast c.self.inside.life.0 c.self.inside.latest.0 c.count_gone-self-inside.result) c.deref-in-Some.ensures.value c.count_gone-self-inside.ensures,
+      covers-stage c.self.inside.extent c.args.ticket.0 stage_finished held _ after c.self.invariant.5,
     )
 
 pub release-requires : goal.release-requires

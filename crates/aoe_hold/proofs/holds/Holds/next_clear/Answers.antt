@@ -17,7 +17,7 @@ make_ready-requires g c =
 pub invariant_of-self : goal.invariant_of-self
 invariant_of-self g c =
     let later = time-of _ _ c.args.now.0 _ c.self.inside.commands.items c.args.self.now c.self.view_is c.requires in
-    (c.self.invariant.0, index-moved c.self.inside.life.0 c.self.inside.latest.0 c.args.now.0 c.self.inside.unsent c.self.inside.commands.items c.self.inside.timed c.self.inside.ready _ _ later c.make_ready.ensures.moved c.self.invariant.1, c.self.invariant.2, held-moved c.args.now.0 c.self.inside.unsent c.self.inside.commands.items c.self.inside.timed c.self.inside.ready c.self.inside.blocked _ _ c.make_ready.ensures.moved c.self.invariant.3, gone-later c.self.inside.life.0 c.self.inside.latest.0 c.args.now.0 c.self.inside.gone c.self.inside.commands.items later c.self.invariant.4)
+    (c.self.invariant.0, index-moved c.self.inside.life.0 c.self.inside.latest.0 c.args.now.0 c.self.inside.unsent c.self.inside.commands.items c.self.inside.timed c.self.inside.ready _ _ later c.make_ready.ensures.moved c.self.invariant.1, c.self.invariant.2, held-moved c.args.now.0 c.self.inside.unsent c.self.inside.commands.items c.self.inside.timed c.self.inside.ready c.self.inside.blocked _ _ c.make_ready.ensures.moved c.self.invariant.3, gone-later c.self.inside.life.0 c.self.inside.latest.0 c.args.now.0 c.self.inside.gone c.self.inside.commands.items later c.self.invariant.4, c.self.invariant.5)
 
 pub returns-clause-clear : goal.returns-clause-clear
 returns-clause-clear g c =

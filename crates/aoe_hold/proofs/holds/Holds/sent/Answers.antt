@@ -3,6 +3,7 @@ use Rattle.std.specs.Prelude.{position}
 use Rattle.aoe_hold.specs.declared.command.Command.{Command}
 use Rattle.aoe_hold.specs.Commands.{is_unsent, stage_sent}
 use Rattle.aoe_hold.proofs.StageLemmas.{count-sent, place-within, stage-missing, stage-set}
+use Rattle.aoe_hold.proofs.ExtentLemmas.{covers-stage}
 use Rattle.aoe_hold.proofs.PastLemmas.{past-sent}
 use Rattle.aoe_hold.proofs.PlaceLemmas.{leaves-missing, leaves-once}
 use Rattle.aoe_hold.proofs.OrderLemmas.{ascending-after_stage, up_to-after_stage}
@@ -34,6 +35,7 @@ invariant_of-self c =
       held-gone c.self.inside.unsent _ c.args.ticket.0 c.args.now held _ c.self.inside.timed c.self.inside.ready c.self.inside.blocked c.leave.new.timed c.leave.new.ready c.leave.new.blocked after (omega arith)
           c.leave.ensures.timed c.leave.ensures.ready c.leave.ensures.blocked c.leave.ensures.blocked_room c.self.invariant.3,
       gone-stage c.self.inside.life.0 c.self.inside.latest.0 c.args.now.0 c.self.inside.gone c.args.ticket.0 (stage_sent c.args.now) held _ (λ last. refl) later after c.self.invariant.4,
+      covers-stage c.self.inside.extent c.args.ticket.0 (stage_sent c.args.now) held _ after c.self.invariant.5,
     )
 
 pub invariant_of-self-in_default : goal.invariant_of-self-in_default
@@ -49,6 +51,7 @@ invariant_of-self-in_default c =
       held-gone c.self.inside.unsent c.self.inside.unsent c.args.ticket.0 c.args.now held held c.self.inside.timed c.self.inside.ready c.self.inside.blocked c.self.inside.timed c.self.inside.ready c.self.inside.blocked
           (stage-missing c.args.ticket.0 (stage_sent c.args.now) held missing) (omega arith) stay.0 stay.1 stay.2 refl c.self.invariant.3,
       gone-later c.self.inside.life.0 c.self.inside.latest.0 c.args.now.0 c.self.inside.gone held later c.self.invariant.4,
+      c.self.invariant.5,
     )
 
 pub leave-requires : goal.leave-requires
