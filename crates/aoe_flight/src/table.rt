@@ -188,7 +188,7 @@ impl Table {
         }
     }
 
-    /// The slots end before this number.
+    /// The slots end before this number. A walk over them asks for it since its proof counts by it.
     fn end(&self) -> usize
         ensures { length self.now.slots ≤ result }
     {
