@@ -1,7 +1,8 @@
 // Sends one kind of AoE request to the target 1.0, so many of them under way at a time, and prints how
 // many were answered in a second, and how many were sent again since no answer came for 100 milliseconds.
 // Each reply has to be the whole answer to a request that is under way, and each sector of a read has to
-// begin with its own number, as the writes leave it, or with zeros. The frames go over UDP on the
+// begin with its own number, as the writes leave it, or with zeros. Requests are spread over the disk, but
+// for those to append, which write one sector behind the other. The frames go over UDP on the
 // loopback interface from LINK to SHELF, two ports; where SHELF is -, they go over the interface LINK.
 #include <arpa/inet.h>
 #include <endian.h>
@@ -16,7 +17,7 @@
 #include <time.h>
 
 enum { HEADER = 24, REGISTERS = 12, DATA = HEADER + REGISTERS, MOST = 9018, SECTOR = 512, MOST_UNDER_WAY = 16 };
-enum kind { QUERY, READ, WRITE };
+enum kind { QUERY, READ, WRITE, APPEND };
 
 struct request { uint32_t tag; uint64_t lba; int under_way; };
 
@@ -74,7 +75,8 @@ static void give(const struct load *load, const struct request *request) {
 static void begin(struct load *load, int place) {
     struct request *request = &load->requests[place];
     request->tag = load->sent * MOST_UNDER_WAY + place;
-    request->lba = load->kind == QUERY ? 0 : load->sent * 7919 % (load->room - load->sectors);
+    uint64_t stride = load->kind == APPEND ? load->sectors : 7919;
+    request->lba = load->kind == QUERY ? 0 : load->sent * stride % (load->room - load->sectors);
     request->under_way = 1;
     load->sent++;
     give(load, request);
@@ -152,12 +154,12 @@ static void open_link(struct load *load, const char *link, const char *shelf) {
 }
 
 static enum kind kind_of(const char *name) {
-    return strcmp(name, "query") == 0 ? QUERY : strcmp(name, "read") == 0 ? READ : WRITE;
+    return strcmp(name, "query") == 0 ? QUERY : strcmp(name, "read") == 0 ? READ : strcmp(name, "append") == 0 ? APPEND : WRITE;
 }
 
 int main(int argc, char **argv) {
     if (argc != 8) {
-        fprintf(stderr, "usage: load LINK SHELF query|read|write SECTORS DISK_SECTORS UNDER_WAY COUNT\n");
+        fprintf(stderr, "usage: load LINK SHELF query|read|write|append SECTORS DISK_SECTORS UNDER_WAY COUNT\n");
         return 1;
     }
     struct load load = {.station = {255, 255, 255, 255, 255, 255}};

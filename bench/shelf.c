@@ -6,7 +6,7 @@
 #include <string.h>
 #include <unistd.h>
 
-enum { HEADER = 24, REGISTERS = 12, DATA = HEADER + REGISTERS, MOST = 9018, READ = 0x24, WRITE = 0x34 };
+enum { HEADER = 24, REGISTERS = 12, DATA = HEADER + REGISTERS, MOST = 9018, READ = 0x24, WRITE = 0x34, FLUSH = 0xea };
 
 static uint8_t frame[2 + MOST];
 static char ahead[65536];
@@ -29,6 +29,8 @@ int main(int argc, char **argv) {
             reply += data;
         } else if (registers[3] == WRITE) {
             if (length < DATA + data || pwrite(disk, bytes + DATA, data, at * 512) != (ssize_t)data) return 5;
+        } else if (registers[3] == FLUSH && fdatasync(disk) != 0) {
+            return 5;
         }
         memcpy(bytes, bytes + 6, 6);
         memcpy(bytes + 6, port, 6);

@@ -1,7 +1,9 @@
 // Copies sectors of the target 1.0 to standard output (get), or standard input to them (put), with 64
 // commands of 2 sectors under way, and a flush behind the last write. Each reply has to be the whole
 // answer to a command that is under way; what isn't answered for 100 milliseconds is sent again. The
-// frames go over UDP on the loopback interface from LINK to SHELF, two ports.
+// frames go over UDP on the loopback interface from LINK to SHELF, two ports. With a LIFETIME, in
+// milliseconds, the flush keeps the order that `aoe put` keeps: it is sent when no frame of a write can
+// arrive any more, and when one of the 16,384 tags is free, which is two lifetimes after its last frame.
 #include <arpa/inet.h>
 #include <endian.h>
 #include <stdint.h>
@@ -10,8 +12,9 @@
 #include <string.h>
 #include <sys/socket.h>
 #include <sys/time.h>
+#include <time.h>
 
-enum { HEADER = 24, DATA = HEADER + 12, MOST = 9018, SECTOR = 512, EACH = 2, UNDER_WAY = 64 };
+enum { HEADER = 24, DATA = HEADER + 12, MOST = 9018, SECTOR = 512, EACH = 2, UNDER_WAY = 64, ROOM = 16384 };
 enum { READ = 0x24, WRITE = 0x34, FLUSH = 0xea };
 
 struct command { uint32_t tag; uint64_t first; int under_way; };
@@ -21,10 +24,17 @@ static struct sockaddr_in shelf;
 static struct command commands[UNDER_WAY];
 static uint8_t *data, code;
 static uint64_t start, count, sent, answered, again;
+static double sent_at[ROOM];
 
 static void fail(const char *why) {
     fprintf(stderr, "transfer: %s\n", why);
     exit(1);
+}
+
+static double now(void) {
+    struct timespec time;
+    clock_gettime(CLOCK_MONOTONIC, &time);
+    return time.tv_sec + time.tv_nsec * 1e-9;
 }
 
 static uint64_t sectors_of(const struct command *command) {
@@ -50,6 +60,7 @@ static void give(const struct command *command) {
         length += sectors * SECTOR;
     }
     if (length < 60) length = 60;
+    if (code == WRITE) sent_at[command->first / EACH % ROOM] = now();
     if (sendto(link_socket, frame, length, 0, (struct sockaddr *)&shelf, sizeof shelf) < 0) fail("a command couldn't be sent");
 }
 
@@ -95,8 +106,23 @@ static void run(uint64_t total) {
     }
 }
 
+// Waits until a flush behind so many writes may be sent.
+static void wait_for_order(uint64_t writes, double lifetime) {
+    double least = 0;
+    if (writes > ROOM) fail("too many writes for one flush");
+    for (uint64_t i = 0; i < writes; i++)
+        if (sent_at[i] + lifetime > least) least = sent_at[i] + lifetime;
+    if (writes == ROOM) {
+        double free = sent_at[0];
+        for (uint64_t i = 1; i < writes; i++)
+            if (sent_at[i] < free) free = sent_at[i];
+        if (free + 2 * lifetime > least) least = free + 2 * lifetime;
+    }
+    while (now() < least) nanosleep(&(struct timespec){.tv_nsec = 100000}, NULL);
+}
+
 int main(int argc, char **argv) {
-    if (argc != 6) fail("LINK SHELF get|put AT COUNT");
+    if (argc != 6 && argc != 7) fail("LINK SHELF get|put AT COUNT [LIFETIME]");
     struct sockaddr_in local = {.sin_family = AF_INET, .sin_port = htons(atoi(argv[1]))};
     struct timeval patience = {.tv_usec = 100000};
     local.sin_addr.s_addr = htonl(INADDR_LOOPBACK);
@@ -112,6 +138,7 @@ int main(int argc, char **argv) {
     if (put && fread(data, SECTOR, count, stdin) != count) fail("too few sectors");
     code = put ? WRITE : READ;
     run((count + EACH - 1) / EACH);
+    if (put && argc == 7) wait_for_order(sent, atof(argv[6]) / 1000);
     code = FLUSH;
     if (put) run(1);
     if (!put) fwrite(data, SECTOR, count, stdout);
