@@ -1,9 +1,11 @@
 mod ClearLemmas
 mod CountLemmas
 mod ExtentLemmas
+mod FreeLemmas
 mod HeldLemmas
 mod HoldLemmas
 mod IndexLemmas
+mod KeyLemmas
 mod ListLemmas
 mod MoveLemmas
 mod OrderLemmas
@@ -11,6 +13,7 @@ mod OutsideLemmas
 mod PastLemmas
 mod PlaceLemmas
 mod QueueLemmas
+mod QueuedLemmas
 mod ReleaseLemmas
 mod StageLemmas
 mod TableLemmas

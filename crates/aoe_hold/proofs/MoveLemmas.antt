@@ -13,7 +13,7 @@ use Rattle.aoe_hold.specs.declared.command.Stage.TheVariants.{Unsent}
 use Rattle.aoe_hold.specs.declared.queue.Waiter.{Waiter}
 use Rattle.aoe_hold.proofs.IndexLemmas.{bit}
 use Rattle.aoe_hold.specs.Commands.{finished}
-use Rattle.aoe_hold.specs.Queue.{blocks, is_blocked, lingers, waited_for, IsHeldBy, Knows, Moved, QueueTable, Released}
+use Rattle.aoe_hold.specs.Queue.{blocks, is_blocked, lingers, waited_for, IsHeldBy, Knows, Moved, Queued, QueueTable, Released}
 
 pub moved-none : (now : ℕ) (timed ready : QueueTable) → Moved now timed ready timed ready
 moved-none now timed ready = record {
@@ -138,23 +138,19 @@ released-room life latest commands ended old_timed old_blocked timed blocked one
 -- one was taken out and queued anew
 pub released-more : (life latest : ℕ) (commands : List Command) (ended : Command) (old_timed old_blocked timed blocked one timed_new blocked_new : QueueTable) (w : Waiter)
     → Released life latest commands ended old_timed old_blocked timed blocked → IsPermutation blocked.waiters (w ∷ one.waiters) → one.room ≡ blocked.room
-    → ((test : Command → Bool) → count_by (λ w. test w.command) timed_new.waiters ≡ cond (not (is_blocked commands w.command) && test w.command) 1 0 + count_by (λ w. test w.command) timed.waiters)
-    → ((test : Command → Bool) → count_by (λ w. test w.command) blocked_new.waiters ≡ cond (is_blocked commands w.command && test w.command) 1 0 + count_by (λ w. test w.command) one.waiters)
-    → (All (Knows life latest commands) timed.waiters → All (Knows life latest commands) timed_new.waiters)
-    → ((skip : Waiter → Bool) → All (λ w. skip w ≡ false → IsHeldBy commands w) one.waiters → All (λ w. skip w ≡ false → IsHeldBy commands w) blocked_new.waiters)
-    → timed_new.room ≡ timed.room → blocked_new.room ≡ one.room → Released life latest commands ended old_timed old_blocked timed_new blocked_new
-released-more life latest commands ended old_timed old_blocked timed blocked one timed_new blocked_new w r is room queued_timed queued_blocked knows queued timed_room blocked_room = record {
+    → Queued life latest commands w.command timed one timed_new blocked_new → Released life latest commands ended old_timed old_blocked timed_new blocked_new
+released-more life latest commands ended old_timed old_blocked timed blocked one timed_new blocked_new w r is room queued = record {
   all = λ test.
       let split : bit (not (is_blocked commands w.command) && test w.command) + bit (is_blocked commands w.command && test w.command) ≡ bit (test w.command) = either (is_blocked commands w.command) (test w.command) in
       let taken = sum_by-IsPermutation (λ (v : Waiter). cond (test v.command) 1 0) blocked.waiters (w ∷ one.waiters) is in
-      omega (arith, r.all test, queued_timed test, queued_blocked test, split, count-cons (λ (v : Waiter). test v.command) w one.waiters, taken);
-  free = let out : bit (not (is_blocked commands w.command) && is_blocked commands w.command) ≡ 0 = never (is_blocked commands w.command) in omega (arith, r.free, queued_timed (is_blocked commands), out);
-  knows = λ all. knows (r.knows all);
+      omega (arith, r.all test, queued.timed test, queued.blocked test, split, count-cons (λ (v : Waiter). test v.command) w one.waiters, taken);
+  free = let out : bit (not (is_blocked commands w.command) && is_blocked commands w.command) ≡ 0 = never (is_blocked commands w.command) in omega (arith, r.free, queued.timed (is_blocked commands), out);
+  knows = λ all. queued.knows (r.knows all);
   held = λ all.
       let P : Waiter → Type 0 = λ v. waited_for ended v ≡ false → IsHeldBy commands v in
-      queued (waited_for ended) (All-tail P w one.waiters (All-permutation P blocked.waiters (w ∷ one.waiters) is (r.held all)));
-  timed_room = timed_room ∙ r.timed_room;
-  blocked_room = blocked_room ∙ room ∙ r.blocked_room;
+      queued.held (waited_for ended) (All-tail P w one.waiters (All-permutation P blocked.waiters (w ∷ one.waiters) is (r.held all)));
+  timed_room = queued.timed_room ∙ r.timed_room;
+  blocked_room = queued.blocked_room ∙ room ∙ r.blocked_room;
 }
   where
     either : (b t : Bool) → bit (not b && t) + bit (b && t) ≡ bit t

@@ -62,7 +62,7 @@ up_to-below greatest ticket (c ∷ commands) above up =
     let at_most : c.ticket.0 ≤ greatest = leb-true c.ticket.0 greatest parts.0 in
     and_from (nat_lt c.ticket.0 ticket) (list_all (λ d. nat_lt d.ticket.0 ticket) commands) (lt-ltb c.ticket.0 ticket (omega arith)) (up_to-below greatest ticket commands above parts.1)
 
-all-below : (greatest : Option ℕ) (ticket : ℕ) (commands : List Command) → ForSome greatest (λ g. g < ticket) → is_up_to greatest commands ≡ true → list_all (λ c. nat_lt c.ticket.0 ticket) commands ≡ true
+pub all-below : (greatest : Option ℕ) (ticket : ℕ) (commands : List Command) → ForSome greatest (λ g. g < ticket) → is_up_to greatest commands ≡ true → list_all (λ c. nat_lt c.ticket.0 ticket) commands ≡ true
 all-below None ticket [] above up = refl
 all-below None ticket (c ∷ commands) above up = absurd cc
 all-below (Some greatest) ticket commands above up = up_to-below greatest ticket commands (above greatest refl) up

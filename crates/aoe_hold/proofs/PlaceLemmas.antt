@@ -17,7 +17,7 @@ use Rattle.aoe_hold.proofs.IndexLemmas.{bit, keeps}
 use Rattle.aoe_hold.proofs.ReleaseLemmas.{none-any, one-at}
 use Rattle.aoe_hold.proofs.WaitLemmas.{all-true}
 
-ascending-at : (commands : List Command) (i j : ℕ) (d : Command) → is_ascending commands ≡ true → i < j → j < length commands → (get_or commands i d).ticket.0 < (get_or commands j d).ticket.0
+pub ascending-at : (commands : List Command) (i j : ℕ) (d : Command) → is_ascending commands ≡ true → i < j → j < length commands → (get_or commands i d).ticket.0 < (get_or commands j d).ticket.0
 ascending-at [] i j d up before within = absurd (omega (arith, within))
 ascending-at (c ∷ commands) zero zero d up before within = absurd (omega (arith, before))
 ascending-at (c ∷ commands) zero (suc j) d up before within =
@@ -103,7 +103,7 @@ count-fewer p q (x ∷ xs) = omega (arith, count-cons (λ c. p c && q c) x xs, c
     bits false true = omega arith
     bits false false = omega arith
 
-missing-none : (p : Command → Bool) (commands : List Command) → position p commands ≡ None → count_by p commands ≡ 0
+pub missing-none : (p : Command → Bool) (commands : List Command) → position p commands ≡ None → count_by p commands ≡ 0
 missing-none p commands missing = all-none p commands (λ k d below. elim (cases_lt (position_or_len p commands) (length commands)) [
   | inl found ↦ let there = lt-ltb (position_or_len p commands) (length commands) found in let impossible = rw there at missing in absurd cc
   | inr past ↦ fails_before_first p commands k d (omega (arith, below, past))

@@ -1,30 +1,52 @@
--- What the held commands are at most: a bound by which a new one may conflict with none of them.
-use Rattle.std.specs.Prelude.{◌≡◌, ◌+◌, ◌≤◌, ◌||◌, Bool, false, max, nat_eq, nat_le, List, All}
-use Rattle.aoe_base.specs.declared.sectors.Span.{Span}
+-- What the held commands are at most, and by what each is found.
+use Rattle.std.specs.Prelude.{ℕ, ◌≡◌, ◌+◌, ◌-◌, ◌≤◌, ◌||◌, Bool, false, true, max, nat_eq, not, List, All}
+use Rattle.std.specs.Ordering.{bool_cmp, nat_cmp, ordering_then}
+use Rattle.std.specs.declared.cmp.Ordering.{Ordering}
+use Rattle.std.specs.BTreeSet.{contains, BTreeSet}
 use Rattle.aoe_hold.specs.declared.command.Command.{Command}
+use Rattle.aoe_hold.specs.declared.command.Kind.{Kind}
+use Rattle.aoe_hold.specs.declared.command.Kind.TheVariants.{Read, Write, Other}
 use Rattle.aoe_hold.specs.declared.extent.Extent.{Extent}
-use Rattle.aoe_hold.specs.Commands.{is_flush, is_write}
+use Rattle.aoe_hold.specs.declared.keys.Key.{Key}
+use Rattle.aoe_hold.specs.Commands.{is_flush, is_past, is_write}
 
--- a command ends by the end; it is no write where there are none, and no flush where there are none
-pub record IsWithin (extent : Extent) (c : Command) : Type 0 where
-  pub ends : c.span.at + c.span.count ≤ extent.end
-  pub unwritten : extent.writes ≡ false → is_write c.kind ≡ false
+-- what a command is found by: whether it writes, its first sector and its ticket
+abbrev pub key_of : Command → Key
+key_of c = record { writes = is_write c.kind; first = c.span.at; ticket = c.ticket }
+
+-- the order of keys
+abbrev pub key_cmp : Key → Key → Ordering
+key_cmp a b = ordering_then (bool_cmp a.writes b.writes) (ordering_then (nat_cmp a.first b.first) (nat_cmp a.ticket.0 b.ticket.0))
+
+abbrev pub HasKey : BTreeSet Key → Command → Type 0
+HasKey keys c = contains key_cmp keys (key_of c) ≡ true
+
+-- a command has no more sectors than the extent allows; it is no flush where there are none; and it is found by its key
+pub record IsWithin (extent : Extent) (keys : BTreeSet Key) (c : Command) : Type 0 where
+  pub reached : c.span.count ≤ extent.reach + 1
   pub unflushed : extent.flushes ≡ false → is_flush c.kind ≡ false
+  pub keyed : HasKey keys c
 
-abbrev pub Covers : Extent → List Command → Type 0
-Covers extent commands = All (IsWithin extent) commands
+abbrev pub Covers : Extent → BTreeSet Key → List Command → Type 0
+Covers extent keys commands = All (IsWithin extent keys) commands
+
+-- none of the commands that are past has the ticket of this one
+abbrev pub IsNonePast : ℕ → ℕ → List Command → Command → Type 0
+IsNonePast life now commands c = All (λ e. is_past life now e ≡ true → nat_eq e.ticket.0 c.ticket.0 ≡ false) commands
 
 abbrev pub no_extent : Extent
-no_extent = record { end = 0; writes = false; flushes = false }
+no_extent = record { reach = 0; flushes = false }
 
 -- the extent of one command more
 abbrev pub widened : Extent → Command → Extent
 widened extent c = record {
-  end = max extent.end (c.span.at + c.span.count);
-  writes = extent.writes || is_write c.kind;
+  reach = max extent.reach (c.span.count - 1);
   flushes = extent.flushes || is_flush c.kind;
 }
 
--- a span has no sector ahead of the end
-abbrev pub is_behind : Extent → Span → Bool
-is_behind extent span = nat_eq span.count 0 || nat_le extent.end span.at
+-- of those within the extent a command of this kind conflicts only with such whose span overlaps its own
+abbrev pub goes_by_span : Extent → Kind → Bool
+goes_by_span extent Read = true
+goes_by_span extent Other = true
+goes_by_span extent Write = not extent.flushes
+goes_by_span extent _ = false

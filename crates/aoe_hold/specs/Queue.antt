@@ -1,8 +1,10 @@
 -- Commands that wait, in the order of what they wait for.
-use Rattle.std.specs.Prelude.{ℕ, ◌≡◌, ◌+◌, ◌≤◌, ◌&&◌, Bool, true, false, not, length, take, List, [], nat_eq, nat_le, nat_lt, All}
+use Rattle.std.specs.Prelude.{ℕ, ◌≡◌, ◌+◌, ◌<◌, ◌≤◌, ◌&&◌, Bool, cond, true, false, not, length, take, List, [], nat_eq, nat_le, nat_lt, All}
 use Rattle.std.specs.List.{count_by, list_any, AllWithin}
 use Rattle.aoe_hold.specs.Order.{AreInOrder}
 use Rattle.aoe_hold.specs.declared.command.Command.{Command}
+use Rattle.aoe_hold.specs.declared.queue.Keeper.{Keeper}
+use Rattle.aoe_hold.specs.declared.queue.Keeper.TheVariants.{Blocker, Clear}
 use Rattle.aoe_hold.specs.declared.queue.Waiter.{Waiter}
 use Rattle.aoe_hold.specs.Commands.{all_gone, comes_first, finished, has_effect, is_past, is_unsent, rests_on_effects}
 
@@ -63,6 +65,22 @@ pub record IsIndex (life latest unsent : ℕ) (commands : List Command) (timed r
   pub timed_room : unsent ≤ timed.room
   pub ready_room : unsent ≤ ready.room
 
+-- no unfinished command in conflict is among those that pass the test, and from the time on no frame can arrive of one of them that a command waits for; before it one can
+pub record IsFree (life from : ℕ) (test : Command → Bool) (commands : List Command) (c : Command) : Type 0 where
+  pub free : list_any (λ e. test e && blocks c e) commands ≡ false
+  pub some : (now : ℕ) → now < from → list_any (λ e. lingers life now c e) commands ≡ true
+  pub none : (now : ℕ) → from ≤ now → list_any (λ e. test e && lingers life now c e) commands ≡ false
+
+-- what keeps a command back among those that pass the test: an earlier one in conflict that is unfinished; or else frames
+abbrev pub IsKeeperOf : ℕ → (Command → Bool) → List Command → Command → Keeper → Type 0
+IsKeeperOf life test commands c (Blocker ticket) = list_any (λ e. nat_eq e.ticket.0 ticket.0 && blocks c e) commands ≡ true
+IsKeeperOf life test commands c (Clear from) = IsFree life from test commands c
+
+-- the same among all
+abbrev pub IsKeeper : ℕ → ℕ → List Command → Command → Keeper → Type 0
+IsKeeper life latest commands c (Blocker ticket) = list_any (λ e. nat_eq e.ticket.0 ticket.0 && blocks c e) commands ≡ true
+IsKeeper life latest commands c (Clear from) = (is_blocked commands c ≡ false) × Knows life latest commands (record { command = c; from = from })
+
 -- what a command waits for is the ticket of an earlier one in conflict that is unfinished
 abbrev pub IsHeldBy : List Command → Waiter → Type 0
 IsHeldBy commands w = list_any (λ e. nat_eq e.ticket.0 w.from && blocks w.command e) commands ≡ true
@@ -93,6 +111,17 @@ pub record Moved (now : ℕ) (old_timed old_ready timed ready : QueueTable) : Ty
   pub past : All (λ w. w.from ≡ 0) old_ready.waiters → All (λ w. w.from ≡ 0) ready.waiters
   pub timed_room : timed.room ≡ old_timed.room
   pub ready_room : ready.room ≡ old_ready.room
+
+-- a command was queued by what keeps it back
+pub record Queued (life latest : ℕ) (commands : List Command) (c : Command) (old_timed old_blocked new_timed new_blocked : QueueTable) : Type 0 where
+  pub timed : (test : Command → Bool) → count_by (λ w. test w.command) new_timed.waiters ≡ cond (not (is_blocked commands c) && test c) 1 0 + count_by (λ w. test w.command) old_timed.waiters
+  pub blocked : (test : Command → Bool) → count_by (λ w. test w.command) new_blocked.waiters ≡ cond (is_blocked commands c && test c) 1 0 + count_by (λ w. test w.command) old_blocked.waiters
+  pub knows : All (Knows life latest commands) old_timed.waiters → All (Knows life latest commands) new_timed.waiters
+  pub held : (skip : Waiter → Bool) → All (λ w. skip w ≡ false → IsHeldBy commands w) old_blocked.waiters → All (λ w. skip w ≡ false → IsHeldBy commands w) new_blocked.waiters
+  pub after : (ended : Command) → ((d : Command) → list_any (λ e. nat_eq e.ticket.0 ended.ticket.0 && blocks d e) commands ≡ false)
+      → count_by (waited_for ended) new_blocked.waiters ≡ count_by (waited_for ended) old_blocked.waiters
+  pub timed_room : new_timed.room ≡ old_timed.room
+  pub blocked_room : new_blocked.room ≡ old_blocked.room
 
 -- the commands that waited for an ended one were queued anew
 pub record Released (life latest : ℕ) (commands : List Command) (ended : Command) (old_timed old_blocked timed blocked : QueueTable) : Type 0 where

@@ -1,20 +1,16 @@
 //! What the held commands are at most.
-ghost use Rattle.std.specs.Prelude.{◌≡◌, false, true};
-ghost use Rattle.aoe_hold.specs.Commands.{conflict};
-ghost use Rattle.aoe_hold.specs.Extents.{is_behind, no_extent, widened, Covers, IsWithin};
+ghost use Rattle.std.specs.Prelude.{◌≡◌};
+ghost use Rattle.std.specs.BTreeSet.{BTreeSet as Seen};
+ghost use Rattle.aoe_hold.specs.declared.keys.Key.{Key as KeyValue};
+ghost use Rattle.aoe_hold.specs.Extents.{goes_by_span, no_extent, widened, Covers};
 
 use crate::command::{Command, Kind};
-use aoe_base::Span;
 
-/// A bound of the held commands. It tells of most commands of a stream that they conflict with
-/// none, and no held one is looked at for that.
+/// A bound of the held commands.
 #[derive(Clone, Copy)]
 pub struct Extent {
-    /// Their spans end by this sector.
-    end: u128,
-
-    /// Whether one of them may be a write.
-    writes: bool,
+    /// How far the last sector of one lies behind its first.
+    pub reach: u32,
 
     /// Whether one of them may be a flush.
     flushes: bool,
@@ -26,15 +22,14 @@ impl Extent {
         ensures { result ≡ no_extent }
     {
         Extent {
-            end: 0,
-            writes: false,
+            reach: 0,
             flushes: false,
         }
     }
 
     /// The extent of what is still held.
     pub fn kept(self, commands: &[Command]) -> Extent
-        ensures { Covers self commands.now → Covers result commands.now }
+        ensures { (keys : Seen KeyValue) → Covers self keys commands.now → Covers result keys commands.now }
     {
         if commands.is_empty() {
             Extent::new()
@@ -47,28 +42,19 @@ impl Extent {
     pub fn widened(self, command: &Command) -> Extent
         ensures { result ≡ widened self command.now }
     {
-        let end = u128::from(command.span.at) + u128::from(command.span.count);
         Extent {
-            end: self.end.max(end),
-            writes: self.writes || command.kind.is_write(),
+            reach: self.reach.max(command.span.count.saturating_sub(1)),
             flushes: self.flushes || command.kind.is_flush(),
         }
     }
 
-    /// Whether a span has no sector ahead of the end.
-    fn is_behind(&self, span: &Span) -> bool
-        ensures { result ≡ is_behind self.now span.now }
+    /// Whether a command of this kind conflicts only with such whose span overlaps its own.
+    pub fn goes_by_span(&self, kind: Kind) -> bool
+        ensures { result ≡ goes_by_span self.now kind }
     {
-        span.count == 0 || self.end <= u128::from(span.at)
-    }
-
-    /// Whether a command conflicts with none of those within the extent.
-    pub fn is_apart(&self, command: &Command) -> bool
-        ensures { result ≡ true → (e : Command) → IsWithin self.now e → conflict e command.now ≡ false }
-    {
-        match command.kind {
-            Kind::Read | Kind::Other => !self.writes || self.is_behind(&command.span),
-            Kind::Write => !self.flushes && self.is_behind(&command.span),
+        match kind {
+            Kind::Read | Kind::Other => true,
+            Kind::Write => !self.flushes,
             Kind::Flush | Kind::Edit => false,
         }
     }

@@ -4,16 +4,19 @@ ghost use Rattle.std.specs.List.{count_by, filter, list_any};
 ghost use Rattle.std.specs.Option.{ForSome};
 ghost use Rattle.std.specs.Vec.{vec_capacity, vec_len};
 ghost use Rattle.aoe_hold.specs.Commands.{after_stage, clear_tickets, finished, live, stage_finished, stage_sent, unsent_count};
-ghost use Rattle.aoe_hold.specs.declared.queue.Waiter.{Waiter as WaiterValue};
-ghost use Rattle.aoe_hold.specs.Extents.{Covers};
+ghost use Rattle.std.specs.BTreeSet.{contains};
+ghost use Rattle.aoe_hold.specs.declared.keys.Key.{Key as KeyValue};
+ghost use Rattle.aoe_hold.specs.Extents.{key_cmp, Covers, HasKey, IsNonePast};
 ghost use Rattle.aoe_hold.specs.HoldTable.{after_finish, after_send, at_time, is_ascending, new_command, no_commands, with_command, ArePast, NonePastBefore, Recalls};
-ghost use Rattle.aoe_hold.specs.Queue.{blocks, has_ticket, AreOutside, is_blocked, lingers, waited_for, IsHeldBy, Knows, Moved, Released};
+ghost use Rattle.aoe_hold.specs.Queue.{blocks, has_ticket, AreOutside, is_blocked, lingers, waited_for, IsKeeper, Moved, Queued, Released};
 
 use crate::command::{Command, Kind, Stage};
 use crate::extent::Extent;
-use crate::queue::{Queue, Waiter};
+use crate::keys::{Key, add_key, drop_past, keeper_by_span, place_of};
+use crate::queue::{Keeper, Queue, Waiter};
 use aoe_base::{Millis, NoMemory, Span, Steps, Ticket};
 use std::alloc::Global;
+use std::collections::BTreeSet;
 use std::marker::Model;
 use std::sync::ledger::Ledger;
 
@@ -63,9 +66,11 @@ fn clear_from(
     from
 }
 
-/// Makes room for one more command, and for so many in the queues.
+/// Makes room for one more command, adds its key, and makes room for so many in the queues.
 fn make_room(
     commands: &mut Vec<Command>,
+    keys: &mut BTreeSet<Key>,
+    command: &Command,
     timed: &mut Queue,
     ready: &mut Queue,
     blocked: &mut Queue,
@@ -76,6 +81,8 @@ fn make_room(
     requires blocked { length blocked.old.waiters ≤ room }
     ensures commands { commands.new.items ≡ commands.old.items }
     ensures place { OnOk result (vec_len commands.new < vec_capacity commands.new) }
+    ensures key { OnOk result (HasKey keys.new command.now) }
+    ensures keys { (key : KeyValue) → contains key_cmp keys.old key ≡ true → contains key_cmp keys.new key ≡ true }
     ensures timed { timed.new.waiters ≡ timed.old.waiters }
     ensures ready { ready.new.waiters ≡ ready.old.waiters }
     ensures blocked { blocked.new.waiters ≡ blocked.old.waiters }
@@ -91,79 +98,63 @@ fn make_room(
     }
     timed.reserve(room)?;
     ready.reserve(room)?;
-    blocked.reserve(room)
+    blocked.reserve(room)?;
+    add_key(keys, command)
 }
 
-/// Queues a command that was never sent. The first of the commands, `gone` in number, are past.
-fn queue(
+/// What keeps a command back that was never sent, by those that were entered before it. The first
+/// of the commands, `gone` in number, are past.
+fn keeper_by_walk(
     commands: &[Command],
     gone: usize,
-    timed: &mut Queue,
-    blocked: &mut Queue,
-    command: Command,
+    command: &Command,
     life: Millis,
     latest: Millis,
-)
+) -> Keeper
     requires ascending { is_ascending commands.now ≡ true }
     requires past { ArePast life.0 latest.0 gone commands.now }
-    requires timed { length timed.old.waiters < timed.old.room }
-    requires blocked { length blocked.old.waiters < blocked.old.room }
-    ensures timed { (test : Command → Bool) → count_by (λ w. test w.command) timed.new.waiters
-        ≡ cond (not (is_blocked commands.now command) && test command) 1 0
-        + count_by (λ w. test w.command) timed.old.waiters }
-    ensures blocked { (test : Command → Bool) → count_by (λ w. test w.command) blocked.new.waiters
-        ≡ cond (is_blocked commands.now command && test command) 1 0
-        + count_by (λ w. test w.command) blocked.old.waiters }
-    ensures knows { All (Knows life.0 latest.0 commands.now) timed.old.waiters
-        → All (Knows life.0 latest.0 commands.now) timed.new.waiters }
-    ensures held { (skip : WaiterValue → Bool) → All (λ w. skip w ≡ false → IsHeldBy commands.now w) blocked.old.waiters
-        → All (λ w. skip w ≡ false → IsHeldBy commands.now w) blocked.new.waiters }
-    ensures after { (ended : Command) → ((c : Command) → list_any (λ e. nat_eq e.ticket.0 ended.ticket.0 && blocks c e) commands.now ≡ false)
-        → count_by (waited_for ended) blocked.new.waiters ≡ count_by (waited_for ended) blocked.old.waiters }
-    ensures timed_room { timed.new.room ≡ timed.old.room }
-    ensures blocked_room { blocked.new.room ≡ blocked.old.room }
+    ensures { IsKeeper life.0 latest.0 commands.now command.now result }
 {
     let until = commands.partition_point(|earlier| earlier.ticket < command.ticket);
-    if let Some(earlier) = blocker(commands, gone, until, &command, life, latest) {
-        let from = u128::from(earlier.0);
-        blocked.insert(Waiter { command, from });
-    } else {
-        let from = clear_from(commands, gone, until, &command, life, latest);
-        timed.insert(Waiter { command, from });
+    match blocker(commands, gone, until, command, life, latest) {
+        Some(earlier) => Keeper::Blocker(earlier),
+        None => Keeper::Clear(clear_from(commands, gone, until, command, life, latest)),
     }
 }
 
-/// Queues a command that is entered. The held ones lie within the extent.
-fn queue_entered(
+/// What keeps a command back that is entered after those that are held.
+fn keeper_of(
     commands: &[Command],
+    keys: &BTreeSet<Key>,
     extent: Extent,
-    timed: &mut Queue,
-    blocked: &mut Queue,
-    command: Command,
+    command: &Command,
     life: Millis,
     latest: Millis,
-)
+) -> Keeper
     requires ascending { is_ascending commands.now ≡ true }
-    requires covers { Covers extent commands.now }
+    requires covers { Covers extent keys.now commands.now }
+    ensures { IsKeeper life.0 latest.0 commands.now command.now result }
+{
+    if extent.goes_by_span(command.kind) {
+        keeper_by_span(keys, commands, extent, command, life)
+    } else {
+        keeper_by_walk(commands, 0, command, life, latest)
+    }
+}
+
+/// Queues a command that was never sent by what keeps it back.
+fn queue(timed: &mut Queue, blocked: &mut Queue, command: Command, keeper: Keeper)
     requires timed { length timed.old.waiters < timed.old.room }
     requires blocked { length blocked.old.waiters < blocked.old.room }
-    ensures timed { (test : Command → Bool) → count_by (λ w. test w.command) timed.new.waiters
-        ≡ cond (not (is_blocked commands.now command) && test command) 1 0
-        + count_by (λ w. test w.command) timed.old.waiters }
-    ensures blocked { (test : Command → Bool) → count_by (λ w. test w.command) blocked.new.waiters
-        ≡ cond (is_blocked commands.now command && test command) 1 0
-        + count_by (λ w. test w.command) blocked.old.waiters }
-    ensures knows { All (Knows life.0 latest.0 commands.now) timed.old.waiters
-        → All (Knows life.0 latest.0 commands.now) timed.new.waiters }
-    ensures held { (skip : WaiterValue → Bool) → All (λ w. skip w ≡ false → IsHeldBy commands.now w) blocked.old.waiters
-        → All (λ w. skip w ≡ false → IsHeldBy commands.now w) blocked.new.waiters }
-    ensures timed_room { timed.new.room ≡ timed.old.room }
-    ensures blocked_room { blocked.new.room ≡ blocked.old.room }
+    ensures { (life latest : ℕ) (commands : List Command) → IsKeeper life latest commands command keeper
+        → Queued life latest commands command timed.old blocked.old timed.new blocked.new }
 {
-    if extent.is_apart(&command) {
-        timed.insert(Waiter { command, from: 0 });
-    } else {
-        queue(commands, 0, timed, blocked, command, life, latest);
+    match keeper {
+        Keeper::Blocker(earlier) => {
+            let from = u128::from(earlier.0);
+            blocked.insert(Waiter { command, from });
+        }
+        Keeper::Clear(from) => timed.insert(Waiter { command, from }),
     }
 }
 
@@ -189,7 +180,8 @@ fn release(
         return;
     }
     'waiting: while let Some(waiter) = blocked.pop_from(u128::from(ended.ticket.0)) {
-        queue(commands, gone, timed, blocked, waiter.command, life, latest);
+        let keeper = keeper_by_walk(commands, gone, &waiter.command, life, latest);
+        queue(timed, blocked, waiter.command, keeper);
     }
 }
 
@@ -231,17 +223,6 @@ fn make_ready<L: Ledger>(timed: &mut Queue, ready: &mut Queue, now: Millis, step
     }
 }
 
-fn place_of(commands: &[Command], ticket: Ticket) -> Option<usize>
-    requires { is_ascending commands.now ≡ true }
-    ensures { result ≡ position (λ c. nat_eq c.ticket.0 ticket.0) commands.now }
-{
-    let at = commands.partition_point(|command| command.ticket < ticket);
-    match commands.get(at) {
-        Some(command) if command.ticket == ticket => Some(at),
-        _ => None,
-    }
-}
-
 /// Takes a command out of the queues, where it may stand in one of them.
 fn leave(timed: &mut Queue, ready: &mut Queue, blocked: &mut Queue, ticket: Ticket, may_stand: bool)
     requires once { count_by (has_ticket ticket.0) timed.old.waiters + count_by (has_ticket ticket.0) ready.old.waiters
@@ -273,8 +254,15 @@ fn first_past(commands: &[Command], life: Millis) -> u128
 
 /// Drops the commands that no later answer can go by: before `past_from` there is none. Returns
 /// the time before which none of the others is past.
-fn forget(commands: &mut Vec<Command>, life: Millis, now: Millis, past_from: u128) -> u128
+fn forget(
+    commands: &mut Vec<Command>,
+    keys: &mut BTreeSet<Key>,
+    life: Millis,
+    now: Millis,
+    past_from: u128,
+) -> u128
     requires { NonePastBefore life.0 past_from commands.old.items }
+    ensures keys { (c : Command) → IsNonePast life.0 now.0 commands.old.items c → HasKey keys.old c → HasKey keys.new c }
     ensures live { commands.new.items ≡ live life.0 now.0 commands.old.items }
     ensures none { NonePastBefore life.0 result commands.new.items }
     ensures fewer { vec_len commands.new ≤ vec_len commands.old }
@@ -283,6 +271,7 @@ fn forget(commands: &mut Vec<Command>, life: Millis, now: Millis, past_from: u12
     if u128::from(now.0) < past_from {
         return past_from;
     }
+    drop_past(keys, commands, life, now);
     commands.retain(|command| !command.is_past(life, now));
     first_past(commands, life)
 }
@@ -313,6 +302,9 @@ pub struct Holds {
 
     /// What they are at most.
     extent: Extent,
+
+    /// By what they are found.
+    keys: BTreeSet<Key>,
 
     /// How many of the first commands are known to be past.
     gone: usize,
@@ -351,7 +343,7 @@ impl Model for Holds {
         × NonePastBefore holds.life.0 holds.past_from holds.commands.items
         × AreHeld holds.unsent holds.commands.items holds.timed holds.ready holds.blocked
         × ArePast holds.life.0 holds.latest.0 holds.gone holds.commands.items
-        × Covers holds.extent holds.commands.items };
+        × Covers holds.extent holds.keys holds.commands.items };
 }
 
 impl Holds {
@@ -367,6 +359,7 @@ impl Holds {
             past_from: u128::MAX,
             commands: Vec::new(alloc),
             extent: Extent::new(),
+            keys: BTreeSet::new(alloc),
             gone: 0,
             timed: Queue::new(alloc),
             ready: Queue::new(alloc),
@@ -384,32 +377,39 @@ impl Holds {
             → Recalls self.new (entered ++ new_command ticket kind span ∷ [])) }
         ensures err { OnErr result (self.new ≡ self.old) }
     {
-        let room = self.unsent + 1;
-        make_room(
-            &mut self.commands,
-            &mut self.timed,
-            &mut self.ready,
-            &mut self.blocked,
-            room,
-        )?;
-        self.past_from = forget(&mut self.commands, self.life, self.latest, self.past_from);
         let command = Command {
             ticket,
             kind,
             span,
             stage: Stage::Unsent,
         };
+        make_room(
+            &mut self.commands,
+            &mut self.keys,
+            &command,
+            &mut self.timed,
+            &mut self.ready,
+            &mut self.blocked,
+            self.unsent + 1,
+        )?;
+        self.past_from = forget(
+            &mut self.commands,
+            &mut self.keys,
+            self.life,
+            self.latest,
+            self.past_from,
+        );
         self.gone = 0;
         let extent = self.extent.kept(&self.commands);
-        queue_entered(
+        let keeper = keeper_of(
             &self.commands,
+            &self.keys,
             extent,
-            &mut self.timed,
-            &mut self.blocked,
-            command,
+            &command,
             self.life,
             self.latest,
         );
+        queue(&mut self.timed, &mut self.blocked, command, keeper);
         self.commands.push_reserved(command);
         self.extent = extent.widened(&command);
         self.greatest = Some(ticket);

@@ -14,6 +14,7 @@
 mod command;
 mod extent;
 mod holds;
+mod keys;
 mod law;
 mod queue;
 

@@ -13,6 +13,16 @@ use std::collections::VecDeque;
 use std::marker::Model;
 use std::sync::ledger::Ledger;
 
+/// What keeps a command back.
+#[derive(Clone, Copy)]
+pub enum Keeper {
+    /// An earlier one in conflict that is unfinished.
+    Blocker(Ticket),
+
+    /// There is none, and from this time on no frame can arrive that the command waits for.
+    Clear(u128),
+}
+
 /// A command that was never sent.
 #[derive(Clone, Copy)]
 pub struct Waiter {

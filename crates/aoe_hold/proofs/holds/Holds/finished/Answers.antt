@@ -40,7 +40,7 @@ invariant_of-self c =
       past-ended c.self.inside.life.0 c.self.inside.past_from c.past_from.result c.min-self-inside.result c.in-Some.at held new c.min-self-inside.ensures c.past_from.ensures c.self.invariant.2,
       turned.1,
       subst (ArePast c.self.inside.life.0 c.self.inside.latest.0 c.count_gone-self-inside.result) c.deref-in-Some.ensures.value c.count_gone-self-inside.ensures,
-      covers-stage c.self.inside.extent c.args.ticket.0 stage_finished held _ after c.self.invariant.5,
+      covers-stage c.self.inside.extent c.self.inside.keys c.args.ticket.0 stage_finished held _ after c.self.invariant.5,
     )
 
 pub release-requires : goal.release-requires

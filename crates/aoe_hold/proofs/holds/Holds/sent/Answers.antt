@@ -35,7 +35,7 @@ invariant_of-self c =
       held-gone c.self.inside.unsent _ c.args.ticket.0 c.args.now held _ c.self.inside.timed c.self.inside.ready c.self.inside.blocked c.leave.new.timed c.leave.new.ready c.leave.new.blocked after (omega arith)
           c.leave.ensures.timed c.leave.ensures.ready c.leave.ensures.blocked c.leave.ensures.blocked_room c.self.invariant.3,
       gone-stage c.self.inside.life.0 c.self.inside.latest.0 c.args.now.0 c.self.inside.gone c.args.ticket.0 (stage_sent c.args.now) held _ (λ last. refl) later after c.self.invariant.4,
-      covers-stage c.self.inside.extent c.args.ticket.0 (stage_sent c.args.now) held _ after c.self.invariant.5,
+      covers-stage c.self.inside.extent c.self.inside.keys c.args.ticket.0 (stage_sent c.args.now) held _ after c.self.invariant.5,
     )
 
 pub invariant_of-self-in_default : goal.invariant_of-self-in_default

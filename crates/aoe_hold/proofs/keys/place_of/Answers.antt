@@ -3,7 +3,7 @@ use Rattle.std.proofs.lemmas.List.Sorted.{IsPartitionPoint-from_clause}
 use Rattle.aoe_hold.specs.declared.command.Command.{Command}
 use Rattle.aoe_hold.proofs.MoveLemmas.{none_command}
 use Rattle.aoe_hold.proofs.PlaceLemmas.{place-found, place-none, tickets-parted}
-use Rattle.aoe_hold.proofs.holds.place_of.Goals as goal
+use Rattle.aoe_hold.proofs.keys.place_of.Goals as goal
 
 pub returns-in-Some : goal.returns-in-Some
 returns-in-Some c =

@@ -1,0 +1,17 @@
+use Rattle.std.proofs.Common.{nat_lt, rules}
+use Rattle.std.proofs.lemmas.List.Sorted.{IsPartitionPoint-from_clause}
+use Rattle.aoe_hold.specs.declared.command.Command.{Command}
+use Rattle.aoe_hold.proofs.PlaceLemmas.{tickets-parted}
+use Rattle.aoe_hold.proofs.holds.keeper_by_walk.Goals as goal
+
+pub blocker-requires : goal.blocker-requires
+blocker-requires c =
+    let point = IsPartitionPoint-from_clause (λ (d : Command). nat_lt d.ticket.0 c.args.command.now.ticket.0) c.args.commands.now c.partition_point-until.result c.partition_point-until.ensures.partitioned
+    (tickets-parted c.args.command.now.ticket.0 c.args.commands.now c.requires.ascending) (λ a r f h. search rules) in
+    record { within = c.partition_point-until.ensures.bound; past = c.requires.past; later = point.1 }
+
+pub clear_from-requires : goal.clear_from-requires
+clear_from-requires c =
+    let point = IsPartitionPoint-from_clause (λ (d : Command). nat_lt d.ticket.0 c.args.command.now.ticket.0) c.args.commands.now c.partition_point-until.result c.partition_point-until.ensures.partitioned
+    (tickets-parted c.args.command.now.ticket.0 c.args.commands.now c.requires.ascending) (λ a r f h. search rules) in
+    record { within = c.partition_point-until.ensures.bound; past = c.requires.past; later = point.1 }
