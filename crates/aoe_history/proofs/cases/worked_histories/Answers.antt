@@ -1,14 +1,14 @@
-use Rattle.aoe_history.proofs.CentralCase as central_case
-use Rattle.aoe_history.proofs.CentralGroups.{follows}
-use Rattle.aoe_history.proofs.CrashedCache as crashed_cache
-use Rattle.aoe_history.proofs.CrashedStore as crashed_store
-use Rattle.aoe_history.proofs.FailedWrite as failed_write
-use Rattle.aoe_history.proofs.GivingUp as giving_up
-use Rattle.aoe_history.proofs.LateAcknowledgement as late
-use Rattle.aoe_history.proofs.PathCase as path_case
-use Rattle.aoe_history.proofs.RefusalAfterEffect as refusal
-use Rattle.aoe_history.proofs.StaleResponse as stale
-use Rattle.aoe_history.proofs.StoppedFlush.{lawful-keep, lawful-mix, lawful-old, lawful-torn}
+use Rattle.aoe_history.proofs.worked.CentralCase as central_case
+use Rattle.aoe_history.proofs.worked.CentralGroups.{follows}
+use Rattle.aoe_history.proofs.worked.CrashedCache as crashed_cache
+use Rattle.aoe_history.proofs.worked.CrashedStore as crashed_store
+use Rattle.aoe_history.proofs.worked.FailedWrite as failed_write
+use Rattle.aoe_history.proofs.worked.GivingUp as giving_up
+use Rattle.aoe_history.proofs.worked.LateAcknowledgement as late
+use Rattle.aoe_history.proofs.worked.PathCase as path_case
+use Rattle.aoe_history.proofs.worked.RefusalAfterEffect as refusal
+use Rattle.aoe_history.proofs.worked.StaleResponse as stale
+use Rattle.aoe_history.proofs.worked.StoppedFlush.{lawful-keep, lawful-mix, lawful-old, lawful-torn}
 use Rattle.aoe_history.proofs.cases.worked_histories.Goals as goal
 
 pub returns-clause-central : goal.returns-clause-central

@@ -1,5 +1,5 @@
-use Rattle.aoe_history.proofs.SetupLemmas.{setup-is, two-paths-is}
-use Rattle.aoe_history.proofs.Values.{allowed-is, alone-is, clock-is, fault-is, frames-is, known-is, late-is, safe-is, spoiled-is, unanswered-is, unmarked-is, written-is}
+use Rattle.aoe_history.proofs.worked.SetupLemmas.{setup-is, two-paths-is}
+use Rattle.aoe_history.proofs.worked.Values.{allowed-is, alone-is, clock-is, fault-is, frames-is, known-is, late-is, safe-is, spoiled-is, unanswered-is, unmarked-is, written-is}
 use Rattle.aoe_history.proofs.cases.worked_values.Goals as goal
 
 pub returns-clause-is_setup : goal.returns-clause-is_setup

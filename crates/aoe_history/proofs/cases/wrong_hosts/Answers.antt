@@ -1,4 +1,4 @@
-use Rattle.aoe_history.proofs.Refused.{any-source, early-flush, early-write, repeats-never, sends-nothing, used-tag}
+use Rattle.aoe_history.proofs.worked.Refused.{any-source, early-flush, early-write, repeats-never, sends-nothing, used-tag}
 use Rattle.aoe_history.proofs.cases.wrong_hosts.Goals as goal
 
 pub returns-clause-flush : goal.returns-clause-flush

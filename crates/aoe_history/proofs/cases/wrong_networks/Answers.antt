@@ -1,4 +1,4 @@
-use Rattle.aoe_history.proofs.Refused.{dropped, expired}
+use Rattle.aoe_history.proofs.worked.Refused.{dropped, expired}
 use Rattle.aoe_history.proofs.cases.wrong_networks.Goals as goal
 
 pub returns-clause-expired : goal.returns-clause-expired

@@ -1,4 +1,4 @@
-use Rattle.aoe_history.proofs.RefusedPaths.{from-first, from-last, one-path, same-path, slow, steady, unmarked}
+use Rattle.aoe_history.proofs.worked.RefusedPaths.{from-first, from-last, one-path, same-path, slow, steady, unmarked}
 use Rattle.aoe_history.proofs.cases.wrong_paths.Goals as goal
 
 pub returns-clause-one_path : goal.returns-clause-one_path

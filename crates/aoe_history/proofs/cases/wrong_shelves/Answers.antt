@@ -1,4 +1,4 @@
-use Rattle.aoe_history.proofs.Refused.{fails-early, fails-never, held-back, lost-lists, no-sync, not-kept-out, not-masked, written-through}
+use Rattle.aoe_history.proofs.worked.Refused.{fails-early, fails-never, held-back, lost-lists, no-sync, not-kept-out, not-masked, written-through}
 use Rattle.aoe_history.proofs.cases.wrong_shelves.Goals as goal
 
 pub returns-clause-flush : goal.returns-clause-flush

@@ -1,8 +1,8 @@
 use Rattle.std.proofs.Common.{◌≡◌, true, Option, Some, None, is_some, refl}
 use Rattle.aoe_initiator.specs.HostLog.{Sending}
 use Rattle.aoe_history.specs.CommandView.{sends_of}
-use Rattle.aoe_history.proofs.AskedLemmas.{asked-of}
-use Rattle.aoe_history.proofs.HostLemmas.{holds-of, known-of}
+use Rattle.aoe_history.proofs.hosts.AskedLemmas.{asked-of}
+use Rattle.aoe_history.proofs.hosts.HostLemmas.{holds-of, known-of}
 use Rattle.aoe_history.proofs.commands.host_commands_law.Goals as goal
 
 there : (o : Option Sending) → is_some o ≡ true → (x : Sending) × (o ≡ Some x)

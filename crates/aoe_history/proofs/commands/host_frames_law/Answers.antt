@@ -1,6 +1,6 @@
-use Rattle.aoe_history.proofs.ApartLemmas.{arriving-active}
-use Rattle.aoe_history.proofs.AskedLemmas.{understood}
-use Rattle.aoe_history.proofs.HostLemmas.{holds-of}
+use Rattle.aoe_history.proofs.hosts.ApartLemmas.{arriving-active}
+use Rattle.aoe_history.proofs.hosts.AskedLemmas.{understood}
+use Rattle.aoe_history.proofs.hosts.HostLemmas.{holds-of}
 use Rattle.aoe_history.proofs.commands.host_frames_law.Goals as goal
 
 pub returns-clause-requests : goal.returns-clause-requests

@@ -1,5 +1,5 @@
-use Rattle.aoe_history.proofs.ApartLemmas.{none-beside-flush, none-beside-read, one-write}
-use Rattle.aoe_history.proofs.HostLemmas.{holds-of}
+use Rattle.aoe_history.proofs.hosts.ApartLemmas.{none-beside-flush, none-beside-read, one-write}
+use Rattle.aoe_history.proofs.hosts.HostLemmas.{holds-of}
 use Rattle.aoe_history.proofs.commands.host_writes_law.Goals as goal
 
 pub returns-clause-one_write : goal.returns-clause-one_write

@@ -1,4 +1,4 @@
-use Rattle.aoe_history.proofs.RequestLemmas.{request-asks, request-writes}
+use Rattle.aoe_history.proofs.replies.RequestLemmas.{request-asks, request-writes}
 use Rattle.aoe_history.proofs.conversation.requests_are_understood.Goals as goal
 
 pub returns-clause-answer : goal.returns-clause-answer

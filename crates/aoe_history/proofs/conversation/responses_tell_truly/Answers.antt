@@ -1,4 +1,4 @@
-use Rattle.aoe_history.proofs.ConversationLemmas.{response-tells}
+use Rattle.aoe_history.proofs.replies.ConversationLemmas.{response-tells}
 use Rattle.aoe_history.proofs.conversation.responses_tell_truly.Goals as goal
 
 pub returns : goal.returns

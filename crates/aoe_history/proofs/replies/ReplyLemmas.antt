@@ -1,0 +1,117 @@
+-- What a host reads in the replies of a target.
+use Rattle.std.proofs.Common.{if◌then◌else◌, nat_le, ◌==◌, ℕ, ◌-◌, ◌≤◌, ◌≡◌, inl, inr, true, List, ◌++◌, length, drop, Option, Some, None, refl, sym, ap, ◌∙◌, arith}
+use Rattle.std.proofs.lemmas.Bool.{le-leb}
+use Rattle.std.specs.Option.{option_map}
+use Rattle.aoe_ata.specs.Args.{args_bytes}
+use Rattle.aoe_ata.specs.Reply.{reply_of, status_of, error_of}
+use Rattle.aoe_ata.specs.declared.args.AtaArgs.{AtaArgs}
+use Rattle.aoe_ata.specs.declared.reply.AtaOutcome.{AtaOutcome}
+use Rattle.aoe_frame.specs.declared.header.Header.{Header}
+use Rattle.aoe_base.specs.declared.refusal.AoeError.{AoeError}
+use Rattle.aoe_frame.specs.Header.{fields, header_bytes, padded, reply_header, Fits}
+use Rattle.aoe_base.specs.Refusal.{code_of_error}
+use Rattle.aoe_initiator.specs.declared.op.Op.{Op}
+use Rattle.aoe_initiator.specs.declared.op.Op.TheVariants.{Read, Write, Flush, Identify, Config, Masks, Reserve}
+use Rattle.aoe_initiator.specs.declared.response.Answer.{Answer}
+use Rattle.aoe_initiator.specs.declared.response.Answer.TheVariants.{Data, Written, Flushed, Told, AtaError, AoeError as AoeErrorAnswer}
+use Rattle.aoe_initiator.specs.Op.{command_of as command}
+use Rattle.aoe_initiator.specs.Response.{answer, ata_success, is_failure}
+use Rattle.aoe_target.specs.declared.station.Station.{Station}
+use Rattle.aoe_target.specs.Reply.{reply_port, spelled}
+use Rattle.aoe_target.specs.declared.heard.Effect.{Effect}
+use Rattle.aoe_target.specs.declared.heard.Effect.TheVariants.{Wrote, Synced}
+use Rattle.aoe_target.specs.Device.{State}
+use Rattle.aoe_initiator.specs.Op.{span_of}
+use Rattle.aoe_history.specs.Conversation.{CanReply, TellsTruly}
+use Rattle.aoe_history.proofs.replies.RequestLemmas.{fields-are, padded-head, padded-rest, zeros_behind}
+
+-- the header of a reply
+abbrev pub replying : Station → Header → Option AoeError → Header
+replying station h error = reply_header h station.id (reply_port station h) (option_map code_of_error error)
+
+-- a reply with an error
+pub says-error : (op : Op) (h : Header) (station : Station) (error : AoeError) (args : List ℕ) → answer op (replying station h (Some error)) args ≡ Some (AoeErrorAnswer (code_of_error error))
+unfolding answer
+says-error op h station error args = refl
+
+by-length : (n : ℕ) (x y : Option Answer) → 12 ≤ n → (if nat_le 12 n then x else y) ≡ x
+by-length n x y le = rw (le-leb 12 n le) refl
+
+-- a reply without an error is read by its registers
+pub says-ata : (op : Op) (h : Header) (station : Station) (a : AtaArgs) (outcome : AtaOutcome) (rest : List ℕ) → (command op == 0) ≡ true
+    → answer op (replying station h None) (args_bytes (reply_of a outcome) ++ rest)
+    ≡ (if is_failure (status_of outcome) then Some (AtaError (status_of outcome) (error_of outcome)) else ata_success op (length (args_bytes (reply_of a outcome) ++ rest) - 12))
+unfolding answer
+says-ata (Read span) h station a outcome rest c = by-length (length (args_bytes (reply_of a outcome) ++ rest)) (if is_failure (status_of outcome) then Some (AtaError (status_of outcome) (error_of outcome)) else ata_success (Read span) (length (args_bytes (reply_of a outcome) ++ rest) - 12)) None (omega arith)
+says-ata (Write at bytes) h station a outcome rest c = by-length (length (args_bytes (reply_of a outcome) ++ rest)) (if is_failure (status_of outcome) then Some (AtaError (status_of outcome) (error_of outcome)) else Some Written) None (omega arith)
+says-ata Flush h station a outcome rest c = by-length (length (args_bytes (reply_of a outcome) ++ rest)) (if is_failure (status_of outcome) then Some (AtaError (status_of outcome) (error_of outcome)) else Some Flushed) None (omega arith)
+says-ata Identify h station a outcome rest c = by-length (length (args_bytes (reply_of a outcome) ++ rest)) (if is_failure (status_of outcome) then Some (AtaError (status_of outcome) (error_of outcome)) else ata_success Identify (length (args_bytes (reply_of a outcome) ++ rest) - 12)) None (omega arith)
+says-ata (Config ccmd text) h station a outcome rest c = absurd (cc)
+says-ata (Masks edit dirs) h station a outcome rest c = absurd (cc)
+says-ata (Reserve rcmd list) h station a outcome rest c = absurd (cc)
+
+-- A REPLY, READ
+
+-- what is read in a reply with these arguments
+pub record IsRead (reply : List ℕ) (h : Header) (args : List ℕ) : Type 0 where
+  pub head_is : fields reply ≡ h
+  pub zeros : List ℕ
+  pub rest : drop 24 reply ≡ args ++ zeros
+
+pub reply-read : (station : Station) (h : Header) (error : Option AoeError) (args : List ℕ) → Fits (replying station h error) → IsRead (spelled station h error args) (replying station h error) args
+unfolding spelled
+reply-read station h error args fits = record {
+  head_is = fields-are (padded (header_bytes (replying station h error) ++ args)) (replying station h error) (padded-head (replying station h error) args fits);
+  zeros = zeros_behind (header_bytes (replying station h error) ++ args);
+  rest = padded-rest (replying station h error) args fits;
+}
+
+-- it is read by a host as its header and arguments are
+pub answered-as : (op : Op) (reply args : List ℕ) (h : Header) (a b : Answer) → (r : IsRead reply h args) → answer op (fields reply) (drop 24 reply) ≡ Some a → answer op h (args ++ r.zeros) ≡ Some b → a ≡ b
+answered-as op reply args h a b r p q =
+    some-same a b (sym p ∙ ap (λ x. answer op x (drop 24 reply)) r.head_is ∙ ap (λ l. answer op h l) r.rest ∙ q)
+  where
+    some-same : (a b : Answer) → Some a ≡ Some b → a ≡ b
+    some-same a b e = cc
+
+-- the header of a reply fits where that of the request does
+pub reply-fits : (station : Station) (h : Header) (error : Option AoeError) → Fits h → CanReply station h → Fits (replying station h error)
+reply-fits station h None fits can = record { dst = fits.src; src = can.port; version = omega arith; flags = inr (inr (inl refl)); major = can.major; tag = fits.tag }
+reply-fits station h (Some error) fits can = record { dst = fits.src; src = can.port; version = omega arith; flags = inr (inr (inr refl)); major = can.major; tag = fits.tag }
+
+-- WHAT A RESPONSE TELLS
+
+module _ (k : State) (e : Effect) (reply : List ℕ) where
+  pub error-tells : (op : Op) (code : ℕ) → TellsTruly op k e reply (AoeErrorAnswer code)
+  error-tells (Read span) code = tt
+  error-tells (Write at bytes) code = tt
+  error-tells Flush code = tt
+  error-tells Identify code = tt
+  error-tells (Config ccmd text) code = tt
+  error-tells (Masks edit dirs) code = tt
+  error-tells (Reserve rcmd list) code = tt
+
+  pub failure-tells : (op : Op) (status error : ℕ) → TellsTruly op k e reply (AtaError status error)
+  failure-tells (Read span) status error = tt
+  failure-tells (Write at bytes) status error = tt
+  failure-tells Flush status error = tt
+  failure-tells Identify status error = tt
+  failure-tells (Config ccmd text) status error = tt
+  failure-tells (Masks edit dirs) status error = tt
+  failure-tells (Reserve rcmd list) status error = tt
+
+  pub write-tells : (at : ℕ) (bytes : List ℕ) (a : Answer) → e ≡ Wrote (span_of (Write at bytes)) → TellsTruly (Write at bytes) k e reply a
+  write-tells at bytes (Data len) p = tt
+  write-tells at bytes Written p = p
+  write-tells at bytes Flushed p = tt
+  write-tells at bytes (Told len) p = tt
+  write-tells at bytes (AtaError status error) p = tt
+  write-tells at bytes (AoeErrorAnswer error) p = tt
+
+  pub flush-tells : (a : Answer) → e ≡ Synced → TellsTruly Flush k e reply a
+  flush-tells (Data len) p = tt
+  flush-tells Written p = tt
+  flush-tells Flushed p = p
+  flush-tells (Told len) p = tt
+  flush-tells (AtaError status error) p = tt
+  flush-tells (AoeErrorAnswer error) p = tt

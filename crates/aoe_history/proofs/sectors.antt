@@ -1,0 +1,6 @@
+-- What a sector of a device holds for a host.
+pub mod SectorLemmas
+pub mod ArrivalLemmas
+pub mod DeedLemmas
+pub mod AtLemmas
+pub mod ArriveLemmas
