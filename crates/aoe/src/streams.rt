@@ -1,12 +1,13 @@
 //! A reader as a source, and a writer as a sink. They tell nothing of what they give and take.
-ghost use Rattle.std.specs.Prelude.{◌≡◌, ◌≢◌, IfErr, None, length};
+ghost use Rattle.std.specs.Prelude.{◌≡◌, ◌≢◌, ◌≤◌, ◌+◌, IfErr, IfOk, None, OnErr, OnOk, length};
 ghost use Rattle.std.specs.Io.{ReadsAtMost, WritesAtMost};
 ghost use Rattle.std.specs.IoError.{error_kind};
+ghost use Rattle.aoe_base.specs.Faults.{Rose};
 
 use aoe_base::Failed;
 use aoe_io::{Sink, Source};
 use std::io;
-use std::io::{ErrorKind, Read, Write};
+use std::io::{BufRead, BufReader, ErrorKind, Read, Write};
 
 /// How often a call that a signal interrupts is made again: as often as std does for files.
 const TRIES: u64 = u64::MAX;
@@ -40,18 +41,37 @@ fn write_through<W: Write>(writer: &mut W, piece: &[u8]) -> io::Result<usize>
     Err(io::Error::from(ErrorKind::TimedOut))
 }
 
-/// A reader that counts its faults.
+/// A reader with what was read ahead of it, which counts its faults.
 #[derive(Drop)]
-pub struct Input<R> {
-    reader: R,
+pub struct Input<R: Read> {
+    reader: BufReader<R>,
     faults: u64,
 }
 
 impl<R: Read> Input<R> {
-    pub fn new(reader: R) -> Input<R>
+    pub fn new(reader: BufReader<R>) -> Input<R>
         ensures { result.faults ≡ 0 }
     {
         Input { reader, faults: 0 }
+    }
+
+    /// Reads where less is left of what was read ahead. It stands apart, so that `read` is inlined.
+    #[cold]
+    #[inline(never)]
+    fn read_on(&mut self, buf: &mut [u8]) -> Result<usize, Failed>
+        ensures within { IfOk result (λ n. n ≤ length buf.old) }
+        ensures count { self.old.faults ≤ self.new.faults }
+        ensures cause { OnErr result (Rose self.old.faults self.new.faults) }
+        ensures no_fault { OnOk result (self.new.faults ≡ self.old.faults) }
+        ensures one_fault { self.new.faults ≤ self.old.faults + 1 }
+    {
+        match read_through(&mut self.reader, buf) {
+            Ok(n) => Ok(n),
+            Err(_) => {
+                self.faults = self.faults.saturating_add(1);
+                Err(Failed)
+            }
+        }
     }
 }
 
@@ -60,14 +80,16 @@ impl<R: Read> Source for Input<R> {
 
     ghost faults = { λ s. s.faults };
 
+    #[inline(always)]
     fn read(&mut self, buf: &mut [u8]) -> Result<usize, Failed> {
-        match read_through(&mut self.reader, buf) {
-            Ok(n) => Ok(n),
-            Err(_) => {
-                self.faults = self.faults.saturating_add(1);
-                Err(Failed)
-            }
+        let ahead = self.reader.buffer();
+        let count = buf.len();
+        if count <= ahead.len() {
+            buf.copy_from_slice(&ahead[..count]);
+            self.reader.consume(count);
+            return Ok(count);
         }
+        self.read_on(buf)
     }
 }
 
