@@ -4,7 +4,7 @@
 //! [`Source`], [`Sink`], [`Link`] and [`Clock`] are traits, which a program implements over its
 //! files, sockets and time. Each counts its failed calls, and may tell contracts what it holds or
 //! tell nothing. [`MemSource`], [`MemSink`], [`MemLink`] and [`SetClock`] tell all, and fail where
-//! a test says.
+//! a test says. [`JoinedLink`] is one of two links in memory that give each other's frames.
 //!
 //! On a stream each frame is preceded by its length: [`next_frame`] takes one and [`give_frame`]
 //! gives one. [`give_all`] writes bytes to their end.
@@ -13,6 +13,7 @@
 #![tactic(auto)]
 
 mod clocks;
+mod joined_link;
 mod links;
 mod mem_link;
 mod memory;
@@ -20,6 +21,7 @@ mod outside;
 mod stream;
 
 pub use clocks::{Clock, SetClock};
+pub use joined_link::JoinedLink;
 pub use links::{Got, Link};
 pub use mem_link::MemLink;
 pub use memory::{MemSink, MemSource};

@@ -1,6 +1,6 @@
 use crate::{
-    Clock, Got, Link, MemLink, MemSink, MemSource, Next, SetClock, Sink, Source, StreamRefusal,
-    give_frame, next_frame,
+    Clock, Got, JoinedLink, Link, MemLink, MemSink, MemSource, Next, SetClock, Sink, Source,
+    StreamRefusal, give_frame, next_frame,
 };
 use aoe_base::{Blob, Failed};
 use aoe_frame::Frame;
@@ -61,6 +61,31 @@ fn links_in_memory(rt: HostRuntime) -> Result<(), Fail> {
     assert_eq!(rt; link.send(b"more"), Err(Failed));
     assert_eq!(rt; link.count(), 1);
     assert_eq!(rt; link.frame(0), b"answer".as_slice());
+    Ok(())
+}
+
+#[test]
+fn joined_links_give_what_the_other_took(rt: HostRuntime) -> Result<(), Fail> {
+    let (mut one, mut two) = JoinedLink::pair(rt.alloc(), 2)?;
+    let mut frame = Frame::new();
+    assert_eq!(rt; two.recv(&mut frame), Ok(Got::Quiet));
+    one.send(b"first")?;
+    one.send(b"second")?;
+    assert_eq!(rt; one.send(b"third"), Err(Failed));
+    assert_eq!(rt; one.recv(&mut frame), Ok(Got::Quiet));
+    two.send(b"back")?;
+    assert_eq!(rt; two.recv(&mut frame), Ok(Got::Frame));
+    assert_eq!(rt; frame.as_slice(), b"first".as_slice());
+    one.send(b"fourth")?;
+    for sent in [b"second".as_slice(), b"fourth".as_slice()] {
+        assert_eq!(rt; two.recv(&mut frame), Ok(Got::Frame));
+        assert_eq!(rt; frame.as_slice(), sent);
+    }
+    assert_eq!(rt; two.recv(&mut frame), Ok(Got::Quiet));
+    assert_eq!(rt; one.recv(&mut frame), Ok(Got::Frame));
+    assert_eq!(rt; frame.as_slice(), b"back".as_slice());
+    assert_eq!(rt; two.send(&[0; 9019]), Err(Failed));
+    assert_eq!(rt; one.recv(&mut frame), Ok(Got::Quiet));
     Ok(())
 }
 
