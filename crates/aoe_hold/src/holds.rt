@@ -1,5 +1,5 @@
 //! The commands of one host at one device.
-ghost use Rattle.std.specs.Prelude.{◌≡◌, ◌+◌, ◌-◌, ◌^◌, ◌<◌, ◌≤◌, ◌&&◌, ℕ, Bool, nat_eq, nat_le, not, cond, false, true, List, [], ◌∷◌, ◌++◌, length, position, All, Contains, IfNone, IfSome, OnErr, OnOk};
+ghost use Rattle.std.specs.Prelude.{◌≡◌, ◌+◌, ◌-◌, ◌^◌, ◌<◌, ◌≤◌, ◌&&◌, ℕ, nat_eq, nat_le, not, cond, false, true, List, [], ◌∷◌, ◌++◌, length, All, Contains, IfNone, IfSome, OnErr, OnOk};
 ghost use Rattle.std.specs.List.{count_by, filter, list_any};
 ghost use Rattle.std.specs.Option.{ForSome};
 ghost use Rattle.std.specs.Vec.{vec_capacity, vec_len};
