@@ -6,3 +6,4 @@ pub mod Runs
 pub mod Down
 pub mod Seen
 pub mod Freeing
+pub mod Beneath

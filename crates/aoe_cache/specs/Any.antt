@@ -1,12 +1,20 @@
 -- Either of two stores over one kind of disk.
+use Rattle.std.specs.Prelude.{Option, None, Some}
 use Rattle.aoe_disk.specs.State.{DiskState}
+use Rattle.aoe_store.specs.Under.{Under}
 use Rattle.aoe_cache.specs.Cache.{Cache, state_of}
+use Rattle.aoe_cache.specs.Free.{under_of}
 use Rattle.aoe_cache.specs.declared.any.AnyStore.{AnyStore}
 use Rattle.aoe_cache.specs.declared.any.AnyStore.TheVariants.{Direct, Cached}
 
 abbrev pub any_state : {D : Type 0} → (D → DiskState) → AnyStore D → DiskState
 any_state state (Direct d) = state d
 any_state state (Cached c) = state_of state c
+
+-- what is told of the disk under a cached store
+abbrev pub any_under : {D : Type 0} → (D → DiskState) → AnyStore D → Option Under
+any_under state (Direct d) = None
+any_under state (Cached c) = Some (under_of state c)
 
 abbrev pub any_disk : {D : Type 0} → AnyStore D → D
 any_disk (Direct d) = d

@@ -2,6 +2,7 @@
 use Rattle.std.specs.Prelude.{◌≡◌, ◌≤◌, ◌+◌, ◌-◌, ℕ, Bool, false, not, Option, Some, None, IfSome, Result, OnOk, List, length, if◌then◌else◌, option_map}
 use Rattle.std.specs.List.{list_all}
 use Rattle.aoe_disk.specs.State.{Contents, DiskState, is_loose, sector}
+use Rattle.aoe_store.specs.Under.{Under}
 use Rattle.aoe_cache.specs.Cache.{Cache, state_of}
 
 -- no sector is loose
@@ -19,6 +20,10 @@ base state c = option_map (λ (d : Contents). d.bytes) (state c.disk).contents
 -- how many more sectors can be written before the disk is: a number as long as no sector of the disk is loose
 abbrev pub free : {D : Type 0} → (D → DiskState) → Cache D → Option ℕ
 free state c = free_of (c.room - length c.held) (state c.disk).contents
+
+-- what a cached store tells of its disk
+abbrev pub under_of : {D : Type 0} → (D → DiskState) → Cache D → Under
+under_of state c = record { disk = state c.disk; free = free state c; room = c.room }
 
 -- a write of n sectors, of which k could be written: the disk's stay, and at most n fewer can be written
 pub record Spends {D : Type 0} (state : D → DiskState) (n k : ℕ) (old new : Cache D) : Type 0 where

@@ -27,14 +27,18 @@ impl<D: Disk> AnyStore<D> {
 }
 
 impl<D: Disk> Store for AnyStore<D> {
-    ghost use Rattle.std.specs.Prelude.{◌/◌, length};
+    ghost use Rattle.std.specs.Prelude.{◌/◌, length, is_err};
+    ghost use Rattle.aoe_disk.specs.State.{BothTell};
     ghost use Rattle.aoe_disk.specs.Calls.{IsRange, Reads, SyncsTo};
     ghost use Rattle.aoe_store.specs.Store.{StoresTo};
+    ghost use Rattle.aoe_store.specs.Under.{FreesUnder, ReadsUnder, SpendsUnder};
     ghost use Rattle.aoe_cache.specs.Cache.{CacheReads, CacheSyncs, CacheWrites};
-    ghost use Rattle.aoe_cache.specs.Any.{StaysWith, any_state};
+    ghost use Rattle.aoe_cache.specs.Any.{StaysWith, any_state, any_under};
     ghost use Rattle.aoe_cache.specs.Free.{FreesAll, KeepsFree, SpendsFree};
 
     ghost state = { λ s. any_state D.state s };
+
+    ghost under = { λ s. any_under D.state s };
 
     fn sectors(&self) -> u64 {
         match self {
@@ -49,6 +53,7 @@ impl<D: Disk> Store for AnyStore<D> {
             (any_state D.state self.old) (any_state D.state self.new) }
         ensures device { StaysWith (CacheReads D.state at (length out.old) result) self.old self.new }
         ensures free { StaysWith (KeepsFree D.state) self.old self.new }
+        ensures under { BothTell (ReadsUnder (is_err result)) (any_under D.state self.old) (any_under D.state self.new) }
     {
         match self {
             AnyStore::Direct(store) => store.read(at, out),
@@ -61,6 +66,8 @@ impl<D: Disk> Store for AnyStore<D> {
         ensures stores { StoresTo at piece.now result (any_state D.state self.old) (any_state D.state self.new) }
         ensures device { StaysWith (CacheWrites D.state at piece.now result) self.old self.new }
         ensures free { StaysWith (SpendsFree D.state (length piece.now / 512)) self.old self.new }
+        ensures under { BothTell (SpendsUnder (length piece.now / 512) (is_err result))
+            (any_under D.state self.old) (any_under D.state self.new) }
     {
         match self {
             AnyStore::Direct(store) => store.write(at, piece),
@@ -72,6 +79,8 @@ impl<D: Disk> Store for AnyStore<D> {
         ensures syncs { SyncsTo result (any_state D.state self.old) (any_state D.state self.new) }
         ensures device { StaysWith (CacheSyncs D.state result) self.old self.new }
         ensures free { StaysWith (FreesAll D.state result) self.old self.new }
+        ensures under { BothTell (FreesUnder (is_err result) (any_state D.state self.old).contents)
+            (any_under D.state self.old) (any_under D.state self.new) }
     {
         match self {
             AnyStore::Direct(store) => store.sync(),
@@ -83,13 +92,16 @@ impl<D: Disk> Store for AnyStore<D> {
 impl<D: Armed> ArmedStore for AnyStore<D> {
     ghost use Rattle.std.specs.Prelude.{◌<◌};
     ghost use Rattle.aoe_disk.specs.Arming.{number_of, ArmsTo};
+    ghost use Rattle.aoe_disk.specs.State.{BothTell};
+    ghost use Rattle.aoe_store.specs.Under.{ArmsUnder};
     ghost use Rattle.aoe_cache.specs.Cache.{CacheArms};
-    ghost use Rattle.aoe_cache.specs.Any.{StaysWith, any_state};
+    ghost use Rattle.aoe_cache.specs.Any.{StaysWith, any_state, any_under};
 
     fn arm(&mut self, arm: Arm)
         requires { 0 < number_of arm }
         ensures arms { ArmsTo arm (any_state D.state self.old) (any_state D.state self.new) }
         ensures device { StaysWith (CacheArms D.state arm) self.old self.new }
+        ensures under { BothTell (ArmsUnder arm) (any_under D.state self.old) (any_under D.state self.new) }
     {
         match self {
             AnyStore::Direct(store) => store.arm(arm),

@@ -1,5 +1,5 @@
 //! The sectors that a store holds back.
-ghost use Rattle.std.specs.Prelude.{◌≡◌, ◌≤◌, ◌<◌, ◌+◌, ◌*◌, ◌/◌, ◌^◌, ◌++◌, ℕ, List, IfOk, length, take, drop};
+ghost use Rattle.std.specs.Prelude.{◌≡◌, ◌≤◌, ◌<◌, ◌+◌, ◌*◌, ◌/◌, ◌^◌, ◌++◌, ℕ, List, [], IfOk, length, take, drop};
 ghost use Rattle.aoe_cache.specs.Held.{IsAscending, count_below, sectors_of, with_written, laid_over, held_of};
 ghost use Rattle.aoe_cache.specs.Down.{IsJoined, bytes_of, first_of};
 ghost use Rattle.aoe_cache.specs.Cache.{IsBuffer};
@@ -186,6 +186,15 @@ impl Buffer {
             let start = SECTOR * i;
             out[start..start + SECTOR].copy_from_slice(self.places[from + i].bytes());
         }
+    }
+
+    /// Lets go of all its sectors.
+    pub(crate) fn clear(&mut self)
+        ensures held { held_of self.new ≡ [] }
+        ensures none { self.new.held ≡ 0 }
+        ensures places { length self.new.places.items ≡ length self.old.places.items }
+    {
+        self.held = 0;
     }
 
     /// Lets go of the first `count` sectors.

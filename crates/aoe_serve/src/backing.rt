@@ -1,6 +1,6 @@
 //! The store of a slot, over its file.
 ghost use Rattle.std.specs.Prelude.{◌≡◌, ◌≤◌, ℕ, IfErr, IfOk};
-ghost use Rattle.aoe_cache.specs.Any.{any_disk, any_state};
+ghost use Rattle.aoe_cache.specs.Any.{any_disk, any_state, any_under};
 ghost use Rattle.aoe_serve.specs.Backing.{over};
 ghost use Rattle.aoe_serve.specs.Files.{IsUnder};
 
@@ -73,6 +73,8 @@ impl<D: Disk, M: Most> Backing<D, M> {
 
 impl<D: Disk, M: Most> Store for Backing<D, M> {
     ghost state = { λ s. any_state D.state s };
+
+    ghost under = { λ s. any_under D.state s };
 
     fn sectors(&self) -> u64 {
         self.store.sectors()

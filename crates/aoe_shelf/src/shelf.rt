@@ -56,7 +56,7 @@ impl<S: Store, D: Disk> Shelf<S, D> {
     ghost use Rattle.aoe_shelf.specs.Shelf.{refusal_of};
     ghost use Rattle.aoe_shelf.specs.Slot.{ChangesAt};
     ghost use Rattle.aoe_target.specs.Mounted.{station_of};
-    ghost use Rattle.aoe_target.specs.Turn.{Receives};
+    ghost use Rattle.aoe_target.specs.Turn.{Receives, TurnsDisk};
 
     /// A shelf with the number `major` and no target, whose frames carry up to `mtu` bytes.
     pub fn new(alloc: Global, major: u16, ports: Ports, mtu: u32) -> Result<Shelf<S, D>, NoMemory>
@@ -144,6 +144,7 @@ impl<S: Store, D: Disk> Shelf<S, D> {
         requires { slot < length self.old.targets }
         ensures receives { ChangesAt slot (λ before after. Receives S.state D.state before after frame.now result out.new.items)
             self.old.targets self.new.targets }
+        ensures under { ChangesAt slot (TurnsDisk S.state S.under frame.now result) self.old.targets self.new.targets }
         ensures count { length self.new.targets ≡ length self.old.targets }
         ensures rest { self.new ≡ record self.old { targets = self.new.targets } }
     {
@@ -173,6 +174,8 @@ impl<S: Store, D: Disk> Shelf<S, D> {
 impl<S: ArmedStore, D: Armed> Shelf<S, D> {
     ghost use Rattle.std.specs.Prelude.{◌≡◌, ◌<◌, length, slice_get, IfSome, IsSomeAnd};
     ghost use Rattle.aoe_disk.specs.Arming.{number_of};
+    ghost use Rattle.aoe_disk.specs.State.{BothTell};
+    ghost use Rattle.aoe_store.specs.Under.{ArmsUnder};
     ghost use Rattle.aoe_shelf.specs.Calls.{ArmsKeep, ArmsStore};
     ghost use Rattle.aoe_shelf.specs.Slot.{ChangesAt};
 
@@ -181,6 +184,8 @@ impl<S: ArmedStore, D: Armed> Shelf<S, D> {
         requires slot { slot < length self.old.targets }
         requires number { 0 < number_of arm }
         ensures arms { ChangesAt slot (ArmsStore S.state arm) self.old.targets self.new.targets }
+        ensures under { ChangesAt slot (λ before after. BothTell (ArmsUnder arm) (S.under before.store) (S.under after.store))
+            self.old.targets self.new.targets }
         ensures count { length self.new.targets ≡ length self.old.targets }
         ensures rest { self.new ≡ record self.old { targets = self.new.targets } }
     {

@@ -6,6 +6,7 @@ use Rattle.aoe_disk.specs.State as device
 use Rattle.aoe_disk.specs.Calls.{IsRun}
 use Rattle.aoe_keep.specs.Found.{AlwaysFinds, FindsOffered}
 use Rattle.aoe_keep.specs.Keep.{KeepsOthers}
+use Rattle.aoe_store.specs.Under.{FreesUnder, ReadsUnder, SpendsUnder, Under}
 use Rattle.aoe_ata.specs.Decision.{written}
 use Rattle.aoe_ata.specs.declared.decision.AtaAnswer.{AtaAnswer}
 use Rattle.aoe_ata.specs.declared.decision.AtaAnswer.TheVariants.{Give, Put, Verify, Sync}
@@ -53,6 +54,19 @@ ata_calls f answer = []
 abbrev pub store_calls : List ℕ → Verdict → List DeviceCall
 store_calls f (Ata d) = ata_calls f d.answer
 store_calls f v = []
+
+-- what an answer to an ATA command does to the disk of a store that writes later
+abbrev pub TurnsUnder : AtaAnswer → Bool → Option Contents → Option Under → Option Under → Type 0
+TurnsUnder (Give span) failed shown old new = BothTell (ReadsUnder failed) old new
+TurnsUnder (Verify span) failed shown old new = BothTell (ReadsUnder failed) old new
+TurnsUnder (Put span) failed shown old new = BothTell (SpendsUnder span.count failed) old new
+TurnsUnder Sync failed shown old new = BothTell (FreesUnder failed shown) old new
+TurnsUnder answer failed shown old new = new ≡ old
+
+-- and what a verdict on a frame does
+abbrev pub MovesUnder : Verdict → Bool → Option Contents → Option Under → Option Under → Type 0
+MovesUnder (Ata d) failed shown old new = TurnsUnder d.answer failed shown old new
+MovesUnder v failed shown old new = new ≡ old
 
 -- the lists change
 abbrev pub is_change : Step → Bool

@@ -1,9 +1,11 @@
 //! What the ATA commands that reach the store do to it.
-ghost use Rattle.std.specs.Prelude.{◌≡◌, ◌+◌, ◌*◌, ◌≤◌, [], ◌∷◌, ◌++◌, None, true, false, length, take, drop};
+ghost use Rattle.std.specs.Prelude.{◌≡◌, ◌+◌, ◌*◌, ◌≤◌, [], ◌∷◌, ◌++◌, None, true, false, is_err, length, take, drop};
 ghost use Rattle.std.specs.Bool.{OnTrue};
 ghost use Rattle.std.specs.Option.{option_map};
 ghost use Rattle.aoe_base.specs.Faults.{Rose};
+ghost use Rattle.aoe_disk.specs.State.{BothTell};
 ghost use Rattle.aoe_disk.specs.Calls.{IsRange, IsRun, Logs, Reads};
+ghost use Rattle.aoe_store.specs.Under.{FreesUnder, ReadsUnder, SpendsUnder};
 ghost use Rattle.aoe_ata.specs.Args.{args_bytes};
 ghost use Rattle.aoe_ata.specs.Decision.{InRange, CanServe};
 ghost use Rattle.aoe_ata.specs.Reply.{reply_of};
@@ -11,7 +13,7 @@ ghost use Rattle.aoe_ata.specs.declared.decision.AtaAnswer.{AtaAnswer};
 ghost use Rattle.aoe_target.specs.Reply.{reply_head};
 ghost use Rattle.aoe_target.specs.Sectors.{sectors_of};
 ghost use Rattle.aoe_target.specs.Law.{AllowsAta, Gives, Syncs, Verifies, Writes, replied};
-ghost use Rattle.aoe_target.specs.Receive.{Leaves, ata_calls, calls_for, is_fault};
+ghost use Rattle.aoe_target.specs.Receive.{Leaves, TurnsUnder, ata_calls, calls_for, is_fault};
 ghost use Rattle.aoe_target.specs.Mounted.{IsMounted};
 
 use crate::reply::{DATA_AT, ata_front, reply_ata, reply_page};
@@ -45,6 +47,7 @@ fn read_into<S: Store>(store: &mut S, span: Span, out: &mut Frame) -> Result<(),
     ensures reads { Reads span.at (512 * span.count) result (drop 36 out.new.items) (S.state store.old) (S.state store.new) }
     ensures front { take 36 out.new.items ≡ take 36 out.old.items }
     ensures len { length out.new.items ≡ 36 + 512 * span.count }
+    ensures under { BothTell (ReadsUnder (is_err result)) (S.under store.old) (S.under store.new) }
 {
     store.read(span.at, &mut out.as_mut_slice()[DATA_AT..])
 }
@@ -65,6 +68,7 @@ fn give<S: Store>(
     ensures same { (S.state store.new).contents ≡ (S.state store.old).contents }
     ensures call { IsRun 1 (is_fault result) (S.state store.old) (S.state store.new) }
     ensures log { Logs (ata_calls [] (AtaAnswer.Give span)) (S.state store.old) (S.state store.new) }
+    ensures under { BothTell (ReadsUnder (is_fault result)) (S.under store.old) (S.under store.new) }
 {
     begin_data(station, header, args, span.count, out);
     match read_into(store, span, out) {
@@ -94,6 +98,7 @@ fn verify<S: Store>(
     ensures same { (S.state store.new).contents ≡ (S.state store.old).contents }
     ensures call { IsRun 1 (is_fault result) (S.state store.old) (S.state store.new) }
     ensures log { Logs (ata_calls [] (AtaAnswer.Verify span)) (S.state store.old) (S.state store.new) }
+    ensures under { BothTell (ReadsUnder (is_fault result)) (S.under store.old) (S.under store.new) }
 {
     begin_data(station, header, args, span.count, out);
     match read_into(store, span, out) {
@@ -127,6 +132,7 @@ fn put<S: Store>(
         (S.state store.old).contents (S.state store.new).contents }
     ensures call { IsRun 1 (is_fault result) (S.state store.old) (S.state store.new) }
     ensures log { Logs (ata_calls frame.now (AtaAnswer.Put span)) (S.state store.old) (S.state store.new) }
+    ensures under { BothTell (SpendsUnder span.count (is_fault result)) (S.under store.old) (S.under store.new) }
 {
     match store.write(span.at, put_data(args_of(frame), span)) {
         Ok(()) => {
@@ -154,6 +160,7 @@ fn sync<S: Store>(
         (S.state store.old).contents (S.state store.new).contents }
     ensures call { IsRun 1 (is_fault result) (S.state store.old) (S.state store.new) }
     ensures log { Logs (ata_calls frame.now AtaAnswer.Sync) (S.state store.old) (S.state store.new) }
+    ensures under { BothTell (FreesUnder (is_fault result) (S.state store.old).contents) (S.under store.old) (S.under store.new) }
 {
     match store.sync() {
         Ok(()) => {
@@ -186,6 +193,8 @@ pub(crate) fn serve<S: Store>(
     ensures call { OnTrue (calls_for decision.answer)
         (IsRun 1 (is_fault result) (S.state store.old) (S.state store.new)) }
     ensures log { Logs (ata_calls frame.now decision.answer) (S.state store.old) (S.state store.new) }
+    ensures under { TurnsUnder decision.answer (is_fault result) (S.state store.old).contents
+        (S.under store.old) (S.under store.new) }
     ensures idle { calls_for decision.answer ≡ false → store.new ≡ store.old }
     ensures fault { is_fault result ≡ true → Rose (S.state store.old).faults (S.state store.new).faults }
 {

@@ -110,7 +110,7 @@ impl<S: Store, D: Disk> Target<S, D> {
     ghost use Rattle.aoe_disk.specs.Calls.{IsRun, Logs, SyncsTo};
     ghost use Rattle.aoe_target.specs.Device.{State, Holds};
     ghost use Rattle.aoe_target.specs.Law.{IsStep};
-    ghost use Rattle.aoe_target.specs.Receive.{calls_store, store_calls, edits, fate_of, is_faulty, is_unkept, Replaces};
+    ghost use Rattle.aoe_target.specs.Receive.{calls_store, store_calls, edits, fate_of, is_faulty, is_unkept, MovesUnder, Replaces};
     ghost use Rattle.aoe_target.specs.Mounted.{device_of, station_of};
     ghost use Rattle.aoe_target.specs.Verdict.{verdict};
 
@@ -178,6 +178,8 @@ impl<S: Store, D: Disk> Target<S, D> {
         ensures idle { calls_store (verdict self.old.station self.old.keep.lists frame.now) ≡ false
             → self.new.store ≡ self.old.store }
         ensures fault { is_faulty result ≡ true → Rose (S.state self.old.store).faults (S.state self.new.store).faults }
+        ensures under { MovesUnder (verdict self.old.station self.old.keep.lists frame.now) (is_faulty result)
+            (S.state self.old.store).contents (S.under self.old.store) (S.under self.new.store) }
 
         // The lists of the keep are replaced where the verdict says so, and then once.
         ensures edit { OnTrue (edits self.old.station self.old.keep.lists frame.now (verdict self.old.station self.old.keep.lists frame.now))
@@ -257,11 +259,14 @@ impl<S: Store, D: Disk> Target<S, D> {
 impl<S: ArmedStore, D: Armed> Target<S, D> {
     ghost use Rattle.std.specs.Prelude.{◌≡◌, ◌<◌, IfSome};
     ghost use Rattle.aoe_disk.specs.Arming.{number_of, ArmsTo};
+    ghost use Rattle.aoe_disk.specs.State.{BothTell};
+    ghost use Rattle.aoe_store.specs.Under.{ArmsUnder};
 
     /// Arms the store's disk, in place of what was armed before.
     pub fn arm_store(&mut self, arm: Arm)
         requires { 0 < number_of arm }
         ensures arms { ArmsTo arm (S.state self.old.store) (S.state self.new.store) }
+        ensures under { BothTell (ArmsUnder arm) (S.under self.old.store) (S.under self.new.store) }
         ensures rest { self.new ≡ record self.old { store = self.new.store } }
     {
         self.store.arm(arm);

@@ -1,6 +1,5 @@
 use super::*;
 use crate::AnyStore;
-use aoe_disk::{Loss, MemDisk};
 use aoe_store::Direct;
 use std::test::Fail;
 
@@ -148,6 +147,14 @@ fn loses_what_was_not_synced(rt: HostRuntime) -> Result<(), Fail> {
     assert_eq!(rt; four(&mut store, 0), Some([1, 2, 2, 0]));
     let disk = store.close().crash(Loss::Old);
     assert_eq!(rt; four(&mut Direct::new(disk), 0), Some([1, 1, 0, 0]));
+
+    // Mounted again it holds nothing back, and has its room.
+    let mut store = cached(&rt, 4)?;
+    assert!(rt; put(&mut store, 0, &[1; 512 * 2]));
+    let mut store = store.crash(Loss::Keep);
+    assert_eq!(rt; four(&mut store, 0), Some([0, 0, 0, 0]));
+    assert!(rt; put(&mut store, 0, &[2; 512 * 4]));
+    assert_eq!(rt; store.close().calls(), 1);
     Ok(())
 }
 

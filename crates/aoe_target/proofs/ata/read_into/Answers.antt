@@ -27,7 +27,7 @@ returns-clause-reads g c =
     let size = rest c.args.out.now.items c.as_mut_slice.result.now c.read.new.out n c.as_mut_slice.ensures.value c.requires.len c.read.auto.out in
     let P : List ℕ → Type 0 = λ l. Reads c.args.span.at n c.read.result l old new in
     let Q : ℕ → Type 0 = λ k. Reads c.args.span.at k c.read.result c.read.new.out old new in
-    subst P (sym out) (subst Q size c.read.ensures)
+    subst P (sym out) (subst Q size c.read.ensures.reads)
 
 pub returns-clause-front : goal.returns-clause-front
 returns-clause-front g c = before c.args.out.now.items c.as_mut_slice.result.now c.read.new.out (512 * c.args.span.count) c.as_mut_slice.ensures.value c.requires.len c.read.auto.out

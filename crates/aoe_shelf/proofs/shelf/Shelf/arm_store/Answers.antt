@@ -7,3 +7,7 @@ pub returns-clause-arms : goal.returns-clause-arms
 returns-clause-arms g c =
     changed c.args.slot _ c.self.inside.targets.items _ _ _ (ap (λ (rack : Rack _ _). rack.targets) c.self.view_is) c.requires.slot c.index_mut.ensures.value
     (record { arms = c.arm_store.ensures.arms; rest = c.arm_store.ensures.rest })
+
+pub returns-clause-under : goal.returns-clause-under
+returns-clause-under g c =
+    changed c.args.slot _ c.self.inside.targets.items _ _ _ (ap (λ (rack : Rack _ _). rack.targets) c.self.view_is) c.requires.slot c.index_mut.ensures.value c.arm_store.ensures.under

@@ -19,3 +19,7 @@ returns-clause-receives g c =
       unedited = c.receive.ensures.unedited;
       edit_fault = c.receive.ensures.edit_fault;
     })
+
+pub returns-clause-under : goal.returns-clause-under
+returns-clause-under g c =
+    changed c.args.slot _ c.self.inside.targets.items _ _ _ (ap (λ (rack : Rack _ _). rack.targets) c.self.view_is) c.requires c.index_mut.ensures.value c.receive.ensures.under

@@ -4,7 +4,7 @@ use Rattle.aoe_disk.specs.Calls.{IsRun, Logs}
 use Rattle.aoe_disk.proofs.Runs.{logs_none}
 use Rattle.aoe_target.specs.Device.{State, Holds}
 use Rattle.aoe_target.specs.Law.{ignored, silent, replied, IsStep}
-use Rattle.aoe_target.specs.Receive.{calls_store, store_calls, edits, fate_of, is_edit_fault, is_fault, is_faulty, is_unkept, Replaces}
+use Rattle.aoe_target.specs.Receive.{calls_store, store_calls, edits, fate_of, is_edit_fault, is_fault, is_faulty, is_unkept, MovesUnder, Replaces}
 use Rattle.aoe_target.specs.Mounted.{Mounted, device_of}
 use Rattle.aoe_target.specs.declared.heard.Effect.TheVariants as effect
 use Rattle.aoe_target.specs.declared.verdict.Verdict.{Verdict}
@@ -168,3 +168,38 @@ returns-in-Ata-clause-log g c =
     let v = judged_is c.self.inside.station c.self.inside.keep.lists c.lists.result.now c.args.frame.now c.in-Some.header c.args_of.result.now (Ata c.in-Ata.decision) c.in-Some.ensures.there c.in-Some.ensures.fields c.args_of.ensures c.lists.ensures c.in-Ata.ensures.verdict in
     let Q : Mounted _ _ → Verdict → Type 0 = λ t w. Logs (store_calls c.args.frame.now w) (g.S.Store.state t.store) (g.S.Store.state c.serve-effect.new.store) in
     by_verdict _ _ c.args.frame.now (Ata c.in-Ata.decision) Q c.self.view_is v c.serve-effect.ensures.log
+
+pub returns-in_default-clause-under : goal.returns-in_default-clause-under
+returns-in_default-clause-under g c =
+    let Q : Mounted _ _ → Verdict → Type 0 = λ t w. MovesUnder w false (g.S.Store.state t.store).contents (g.S.Store.under t.store) (g.S.Store.under t.store) in
+    by_verdict c.args.self.now c.args.self.now c.args.frame.now Ignored Q refl (unheard c.args.self.now.station c.args.self.now.keep.lists c.args.frame.now c.in_default.ensures.there) refl
+
+pub returns-in-Ignored-clause-under : goal.returns-in-Ignored-clause-under
+returns-in-Ignored-clause-under g c =
+    let v = judged_is c.self.inside.station c.self.inside.keep.lists c.lists.result.now c.args.frame.now c.in-Some.header c.args_of.result.now Ignored c.in-Some.ensures.there c.in-Some.ensures.fields c.args_of.ensures c.lists.ensures c.in-Ignored.ensures.verdict in
+    let Q : Mounted _ _ → Verdict → Type 0 = λ t w. MovesUnder w false (g.S.Store.state t.store).contents (g.S.Store.under t.store) (g.S.Store.under t.store) in
+    by_verdict _ _ c.args.frame.now Ignored Q c.self.view_is v refl
+
+pub returns-in-Silent-clause-under : goal.returns-in-Silent-clause-under
+returns-in-Silent-clause-under g c =
+    let v = judged_is c.self.inside.station c.self.inside.keep.lists c.lists.result.now c.args.frame.now c.in-Some.header c.args_of.result.now Silent c.in-Some.ensures.there c.in-Some.ensures.fields c.args_of.ensures c.lists.ensures c.in-Silent.ensures.verdict in
+    let Q : Mounted _ _ → Verdict → Type 0 = λ t w. MovesUnder w false (g.S.Store.state t.store).contents (g.S.Store.under t.store) (g.S.Store.under t.store) in
+    by_verdict _ _ c.args.frame.now Silent Q c.self.view_is v refl
+
+pub returns-in-Refused-clause-under : goal.returns-in-Refused-clause-under
+returns-in-Refused-clause-under g c =
+    let v = judged_is c.self.inside.station c.self.inside.keep.lists c.lists.result.now c.args.frame.now c.in-Some.header c.args_of.result.now (Refused c.in-Refused.error) c.in-Some.ensures.there c.in-Some.ensures.fields c.args_of.ensures c.lists.ensures c.in-Refused.ensures.verdict in
+    let Q : Mounted _ _ → Verdict → Type 0 = λ t w. MovesUnder w false (g.S.Store.state t.store).contents (g.S.Store.under t.store) (g.S.Store.under t.store) in
+    by_verdict _ _ c.args.frame.now (Refused c.in-Refused.error) Q c.self.view_is v refl
+
+pub returns-in-Lists-clause-under : goal.returns-in-Lists-clause-under
+returns-in-Lists-clause-under g c =
+    let v = judged_is c.self.inside.station c.self.inside.keep.lists c.lists.result.now c.args.frame.now c.in-Some.header c.args_of.result.now (Lists c.in-Lists.command) c.in-Some.ensures.there c.in-Some.ensures.fields c.args_of.ensures c.lists.ensures c.in-Lists.ensures.verdict in
+    let Q : Mounted _ _ → Verdict → Type 0 = λ t w. MovesUnder w (is_faulty c.tell.result) (g.S.Store.state t.store).contents (g.S.Store.under t.store) (g.S.Store.under c.self.inside.store) in
+    by_verdict _ _ c.args.frame.now (Lists c.in-Lists.command) Q c.self.view_is v refl
+
+pub returns-in-Ata-clause-under : goal.returns-in-Ata-clause-under
+returns-in-Ata-clause-under g c =
+    let v = judged_is c.self.inside.station c.self.inside.keep.lists c.lists.result.now c.args.frame.now c.in-Some.header c.args_of.result.now (Ata c.in-Ata.decision) c.in-Some.ensures.there c.in-Some.ensures.fields c.args_of.ensures c.lists.ensures c.in-Ata.ensures.verdict in
+    let Q : Mounted _ _ → Verdict → Type 0 = λ t w. MovesUnder w (is_fault c.serve-effect.result) (g.S.Store.state t.store).contents (g.S.Store.under t.store) (g.S.Store.under c.serve-effect.new.store) in
+    by_verdict _ _ c.args.frame.now (Ata c.in-Ata.decision) Q c.self.view_is v c.serve-effect.ensures.under
