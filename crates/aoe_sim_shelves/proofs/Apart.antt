@@ -4,6 +4,8 @@ use Rattle.std.proofs.lemmas.Option.{same_Some, slice_get_within}
 use Rattle.std.specs.Prelude.{slice_get, IfSome}
 use Rattle.std.specs.List.{list_any}
 use Rattle.std.specs.Option.{option_map}
+use Rattle.aoe_cache.specs.Any.{any_state, any_under}
+use Rattle.aoe_cache.specs.declared.any.AnyStore.{AnyStore}
 use Rattle.aoe_base.specs.declared.address.TargetId.{TargetId}
 use Rattle.aoe_disk.specs.declared.loss.Loss.{Loss}
 use Rattle.aoe_disk.specs.Memory.{state_of, Memory}
@@ -19,7 +21,7 @@ use Rattle.aoe_history.specs.Slots.{after_crash, after_frame, slot_after, Slot}
 use Rattle.aoe_script.specs.declared.event.Which.{Which}
 use Rattle.aoe_script.specs.declared.event.Which.TheVariants.{Store, Keep}
 use Rattle.aoe_sim_shelves.specs.declared.rack.Stops.{Stops}
-use Rattle.aoe_sim_shelves.specs.Rack.{is_apart, stop_in, HoldsWithin, IsDue, IsServing, IsStanding, MemoryRack, Serves, Stands}
+use Rattle.aoe_sim_shelves.specs.Rack.{is_apart, stop_in, HoldsWithin, IsDue, IsServing, IsStanding, IsStoreDue, IsUnder, MemoryRack, Serves, Stands}
 
 -- there is an element at each place of a list
 pub there : {X : Type 0} (xs : List X) (i : ℕ) → i < length xs → (x : X) × (slice_get xs i ≡ Some x)
@@ -44,26 +46,26 @@ pub record SaysSame (slot : SlotSetup) (h n : List Entry) : Type 0 where
   pub known : slot_after slot n ≡ slot_after slot h
   pub stretches : (which : Which) → stretch which slot n ≡ stretch which slot h
 
-pub stands-still : (slot : SlotSetup) (h n : List Entry) (t : Mounted Memory Memory) → SaysSame slot h n → IsStanding slot h t → IsStanding slot n t
+pub stands-still : (slot : SlotSetup) (h n : List Entry) (t : Mounted (AnyStore Memory) Memory) → SaysSame slot h n → IsStanding slot h t → IsStanding slot n t
 stands-still slot h n t same k = record {
   station = k.station;
-  direct = k.direct;
-  holds = subst (λ (z : Slot). HoldsWithin slot.station.sectors (device_of state_of state_of t) z.state) (sym same.known) k.holds;
+  under = subst (λ (z : Slot). IsUnder slot.station.sectors slot.cache z (any_under state_of t.store)) (sym same.known) k.under;
+  holds = subst (λ (z : Slot). HoldsWithin slot.station.sectors (device_of (any_state state_of) state_of t) z.state) (sym same.known) k.holds;
 }
 
-pub serves-still : (slot : SlotSetup) (h n : List Entry) (t : Mounted Memory Memory) (stops : Stops) → SaysSame slot h n → IsServing slot h t stops → IsServing slot n t stops
+pub serves-still : (slot : SlotSetup) (h n : List Entry) (t : Mounted (AnyStore Memory) Memory) (stops : Stops) → SaysSame slot h n → IsServing slot h t stops → IsServing slot n t stops
 serves-still slot h n t stops same k = record {
   station = k.station;
-  direct = k.direct;
-  holds = subst (λ (z : Slot). HoldsWithin slot.station.sectors (device_of state_of state_of t) z.state) (sym same.known) k.holds;
-  store_due = subst (λ (z : Option Stretch). IfSome (state_of t.store).schedule (IsDue Store z)) (sym (same.stretches Store)) k.store_due;
+  under = subst (λ (z : Slot). IsUnder slot.station.sectors slot.cache z (any_under state_of t.store)) (sym same.known) k.under;
+  holds = subst (λ (z : Slot). HoldsWithin slot.station.sectors (device_of (any_state state_of) state_of t) z.state) (sym same.known) k.holds;
+  store_due = subst (λ (z : Option Stretch). IsStoreDue z t.store) (sym (same.stretches Store)) k.store_due;
   keep_due = subst (λ (z : Option Stretch). IfSome (state_of t.keep.disk).schedule (IsDue Keep z)) (sym (same.stretches Keep)) k.keep_due;
   store_stop = k.store_stop ∙ ap stop_in (sym (same.stretches Store));
   keep_stop = k.keep_stop ∙ ap stop_in (sym (same.stretches Keep));
 }
 
-pub serving-stands : (slot : SlotSetup) (h : List Entry) (t : Mounted Memory Memory) (stops : Stops) → IsServing slot h t stops → IsStanding slot h t
-serving-stands slot h t stops k = record { station = k.station; direct = k.direct; holds = k.holds }
+pub serving-stands : (slot : SlotSetup) (h : List Entry) (t : Mounted (AnyStore Memory) Memory) (stops : Stops) → IsServing slot h t stops → IsStanding slot h t
+serving-stands slot h t stops k = record { station = k.station; under = k.under; holds = k.holds }
 
 module _ (slot : SlotSetup) (h : List Entry) (dev : TargetId) (other : is_slot slot dev ≡ false) where
   pub says-arrived : (frame : ℕ) (fate : Fate) → SaysSame slot h (Arrived dev frame fate ∷ h)

@@ -6,6 +6,10 @@ use Rattle.std.specs.List.{refill}
 use Rattle.std.specs.Prelude.{slice_get, slice_set, IfNone, IfSome, IsSomeAnd}
 use Rattle.std.specs.Option.{option_map}
 use Rattle.arrayvec.proofs.ArrayVecLemmas.{items-with_items}
+use Rattle.aoe_cache.specs.Any.{any_state, any_under}
+use Rattle.aoe_cache.specs.declared.any.AnyStore.{AnyStore}
+use Rattle.aoe_cache.specs.declared.any.AnyStore.TheVariants.{Direct, Cached}
+use Rattle.aoe_store.specs.Under.{ArmsUnder}
 use Rattle.aoe_base.specs.declared.address.TargetId.{TargetId}
 use Rattle.aoe_disk.specs.Arming.{number_of, Arms, ArmsTo}
 use Rattle.aoe_disk.specs.Memory.{schedule_of, state_of, Memory}
@@ -24,16 +28,17 @@ use Rattle.aoe_history.specs.declared.entry.Entry.{Entry}
 use Rattle.aoe_history.specs.declared.entry.Entry.TheVariants.{Armed}
 use Rattle.aoe_history.specs.Setup.{is_slot, AreApart, SlotSetup}
 use Rattle.aoe_history.specs.ShelfLaw.{same_disk, stretch, Stretch}
-use Rattle.aoe_history.specs.Slots.{state_after}
+use Rattle.aoe_history.specs.Slots.{slot_after, state_after}
 use Rattle.aoe_script.specs.declared.event.Which.{Which}
 use Rattle.aoe_script.specs.declared.event.Which.TheVariants.{Store, Keep}
 use Rattle.aoe_sim_shelves.specs.declared.rack.Stops.{Stops}
 use Rattle.aoe_sim_shelves.specs.Arming.{arm_of, with_stop, ArmsDisk}
-use Rattle.aoe_sim_shelves.specs.Rack.{calls_per, stop_in, IsDue, IsRack, IsServing, MemoryRack, SameWithin, Serves}
+use Rattle.aoe_sim_shelves.specs.Rack.{calls_per, stop_in, AgreesWithin, IsDue, IsOnceDue, IsRack, IsServing, IsStoreDue, MemoryRack, Serves}
 use Rattle.aoe_sim_shelves.proofs.Apart.{if-false, if-true, says-armed, serves-still, there}
 use Rattle.aoe_sim_shelves.proofs.ArrivalLemmas.{at-place, same-or}
 use Rattle.aoe_sim_shelves.proofs.RackLemmas.{rack-kept, IsSameTarget}
 use Rattle.aoe_sim_shelves.proofs.SlotLemmas.{same-self}
+use Rattle.aoe_sim_shelves.proofs.UnderLemmas.{armed-under, settled-self, under-same}
 
 -- the stretch of a disk that was just armed
 abbrev pub begun : ℕ → Option Loss → Stretch
@@ -83,28 +88,44 @@ module _ (slot : SlotSetup) (h : List Entry) (which disk : Which) (k : ℕ) (mod
   stretch-other e = if-false (is_slot slot slot.station.id && same_disk disk which) (Some (begun k mode)) (stretch disk slot h)
       (and-other (is_slot slot slot.station.id) (same_disk disk which) e)
 
+-- the disk of a cached one
+once-begun : (k : ℕ) (mode : Option Loss) (m n : Memory) → ArmsTo (arm_of k mode) (state_of m) (state_of n) → IsOnceDue (begun k mode) (schedule_of n.arming n.out)
+once-begun k mode m n a = record { told = refl; number = counts mode a.schedule; once = λ s. absurd (cc) }
+  where
+    counts : (o : Option Loss) → Arms (arm_of k o) (schedule_of m.arming m.out) (schedule_of n.arming n.out) → IfNone o (is_some (schedule_of n.arming n.out).armed ≡ true)
+    counts None s = some-of (schedule_of n.arming n.out).armed s.armed
+    counts (Some how) s = tt
+
+store-begun : (k : ℕ) (mode : Option Loss) (s t : AnyStore Memory) → 0 < k → ArmsTo (arm_of k mode) (any_state state_of s) (any_state state_of t) → BothTell (ArmsUnder (arm_of k mode)) (any_under state_of s) (any_under state_of t)
+    → IsStoreDue (Some (begun k mode)) t
+store-begun k mode (Direct m) (Direct n) first a u = due-begun Store k mode m n first a
+store-begun k mode (Direct m) (Cached d) first a u = absurd u
+store-begun k mode (Cached c) (Direct n) first a u = absurd u
+store-begun k mode (Cached c) (Cached d) first a u = once-begun k mode c.disk d.disk u.arms
+
 -- the store's disk is armed
-store-armed : (slot : SlotSetup) (h : List Entry) (k : ℕ) (mode : Option Loss) (t : Mounted Memory Memory) (m : Memory) (stops : Stops) → 0 < k → IsServing slot h t stops
-    → ArmsTo (arm_of k mode) (state_of t.store) (state_of m) → IsServing slot (Armed slot.station.id Store k mode ∷ h) (record t { store = m }) (record stops { store = mode })
-store-armed slot h k mode t m stops first s a =
+store-armed : (slot : SlotSetup) (h : List Entry) (k : ℕ) (mode : Option Loss) (t : Mounted (AnyStore Memory) Memory) (m : AnyStore Memory) (stops : Stops) → 0 < k → IsServing slot h t stops
+    → ArmsTo (arm_of k mode) (any_state state_of t.store) (any_state state_of m) → BothTell (ArmsUnder (arm_of k mode)) (any_under state_of t.store) (any_under state_of m) → IsServing slot (Armed slot.station.id Store k mode ∷ h) (record t { store = m }) (record stops { store = mode })
+store-armed slot h k mode t m stops first s a u =
     let mine = stretch-begun slot h Store Store k mode refl in
     let other = stretch-other slot h Store Keep k mode refl in
     record {
       station = s.station;
-      direct = s.direct;
+      under = under-same slot.station.sectors slot.cache (slot_after slot h) (slot_after slot h) (any_under state_of t.store) (any_under state_of m) refl refl (settled-self (state_after slot h).sectors)
+          (armed-under (arm_of k mode) (any_under state_of t.store) (any_under state_of m) u) s.under;
       holds = record {
         lists = s.holds.lists;
         crash = s.holds.crash;
-        sectors = subst (λ (o : Option Contents). BothTell (SameWithin slot.station.sectors) (option_map sectors_of o) (state_after slot h).sectors) (sym a.contents) s.holds.sectors;
+        sectors = subst (λ (o : Option Contents). BothTell (AgreesWithin slot.station.sectors) (option_map sectors_of o) (state_after slot h).sectors) (sym a.contents) s.holds.sectors;
       };
-      store_due = subst (λ (o : Option Stretch). IsDue Store o (schedule_of m.arming m.out)) (sym mine) (due-begun Store k mode t.store m first a);
+      store_due = subst (λ (o : Option Stretch). IsStoreDue o m) (sym mine) (store-begun k mode t.store m first a u);
       keep_due = subst (λ (o : Option Stretch). IsDue Keep o (schedule_of t.keep.disk.arming t.keep.disk.out)) (sym other) s.keep_due;
       store_stop = ap stop_in (sym mine);
       keep_stop = s.keep_stop ∙ ap stop_in (sym other);
     }
 
 -- that of the keep is
-keep-armed : (slot : SlotSetup) (h : List Entry) (k : ℕ) (mode : Option Loss) (t : Mounted Memory Memory) (new : Kept Memory) (stops : Stops) → 0 < k → IsServing slot h t stops → new.lists ≡ t.keep.lists
+keep-armed : (slot : SlotSetup) (h : List Entry) (k : ℕ) (mode : Option Loss) (t : Mounted (AnyStore Memory) Memory) (new : Kept Memory) (stops : Stops) → 0 < k → IsServing slot h t stops → new.lists ≡ t.keep.lists
     → ArmsTo (arm_of k mode) (state_of t.keep.disk) (state_of new.disk)
     → IsServing slot (Armed slot.station.id Keep k mode ∷ h) (record t { keep = new }) (record stops { keep = mode })
 keep-armed slot h k mode t new stops first s same a =
@@ -112,24 +133,24 @@ keep-armed slot h k mode t new stops first s same a =
     let other = stretch-other slot h Keep Store k mode refl in
     record {
       station = s.station;
-      direct = s.direct;
+      under = s.under;
       holds = record {
         lists = same ∙ s.holds.lists;
         crash = subst (λ (o : Option Contents). IfSome o (Finds (MayStand (state_after slot h)))) (sym a.contents) s.holds.crash;
         sectors = s.holds.sectors;
       };
-      store_due = subst (λ (o : Option Stretch). IsDue Store o (schedule_of t.store.arming t.store.out)) (sym other) s.store_due;
+      store_due = subst (λ (o : Option Stretch). IsStoreDue o t.store) (sym other) s.store_due;
       keep_due = subst (λ (o : Option Stretch). IsDue Keep o (schedule_of new.disk.arming new.disk.out)) (sym mine) (due-begun Keep k mode t.keep.disk new.disk first a);
       store_stop = s.store_stop ∙ ap stop_in (sym other);
       keep_stop = ap stop_in (sym mine);
     }
 
-armed : (which : Which) (slot : SlotSetup) (h : List Entry) (k : ℕ) (mode : Option Loss) (t u : Mounted Memory Memory) (stops : Stops) → 0 < k → IsServing slot h t stops → ArmsDisk which (arm_of k mode) t u
+armed : (which : Which) (slot : SlotSetup) (h : List Entry) (k : ℕ) (mode : Option Loss) (t u : Mounted (AnyStore Memory) Memory) (stops : Stops) → 0 < k → IsServing slot h t stops → ArmsDisk which (arm_of k mode) t u
     → IsServing slot (Armed slot.station.id which k mode ∷ h) u (with_stop which mode stops)
 armed Store slot h k mode t u stops first s a =
-    subst (λ (w : Mounted Memory Memory). IsServing slot (Armed slot.station.id Store k mode ∷ h) w (record stops { store = mode })) (sym a.rest) (store-armed slot h k mode t u.store stops first s a.arms)
+    subst (λ (w : Mounted (AnyStore Memory) Memory). IsServing slot (Armed slot.station.id Store k mode ∷ h) w (record stops { store = mode })) (sym a.0.rest) (store-armed slot h k mode t u.store stops first s a.0.arms a.1)
 armed Keep slot h k mode t u stops first s a =
-    subst (λ (w : Mounted Memory Memory). IsServing slot (Armed slot.station.id Keep k mode ∷ h) w (record stops { keep = mode })) (sym a.rest)
+    subst (λ (w : Mounted (AnyStore Memory) Memory). IsServing slot (Armed slot.station.id Keep k mode ∷ h) w (record stops { keep = mode })) (sym a.rest)
     (keep-armed slot h k mode t u.keep stops first s a.lists a.arms)
 
 -- a target that is armed is the same one: its disks hold what they held
@@ -139,14 +160,14 @@ same-sectors a b k e p = subst (λ (o : Option Contents). BothTell Agrees (optio
 same-finds : (a b : Option Contents) (k : State) → b ≡ a → IfSome a (Finds (MayStand k)) → IfSome b (Finds (MayStand k))
 same-finds a b k e p = subst (λ (o : Option Contents). IfSome o (Finds (MayStand k))) (sym e) p
 
-pub armed-same : (which : Which) (arm : Arm) (t u : Mounted Memory Memory) → ArmsDisk which arm t u → IsSameTarget t u
-armed-same Store arm t u a = subst (λ (w : Mounted Memory Memory). IsSameTarget t w) (sym a.rest) (record {
+pub armed-same : (which : Which) (arm : Arm) (t u : Mounted (AnyStore Memory) Memory) → ArmsDisk which arm t u → IsSameTarget t u
+armed-same Store arm t u a = subst (λ (w : Mounted (AnyStore Memory) Memory). IsSameTarget t w) (sym a.0.rest) (record {
   station = refl;
-  sectors = a.arms.sectors;
+  sectors = a.0.arms.sectors;
   room = refl;
-  known = λ k h. (k, record { lists = h.lists; crash = h.crash; sectors = same-sectors (state_of t.store).contents (state_of u.store).contents k.sectors a.arms.contents h.sectors });
+  known = λ k h. (k, record { lists = h.lists; crash = h.crash; sectors = same-sectors (any_state state_of t.store).contents (any_state state_of u.store).contents k.sectors a.0.arms.contents h.sectors });
 })
-armed-same Keep arm t u a = subst (λ (w : Mounted Memory Memory). IsSameTarget t w) (sym a.rest) (record {
+armed-same Keep arm t u a = subst (λ (w : Mounted (AnyStore Memory) Memory). IsSameTarget t w) (sym a.rest) (record {
   station = refl;
   sectors = refl;
   room = a.arms.sectors;
@@ -171,7 +192,7 @@ module _ (slots : List SlotSetup) (apart : AreApart slots) (i : ℕ) (h : List E
       each = λ j other t last a b e. elim (same-or j i) [
         | inl is ↦
             subst (λ (w : SlotSetup). IsServing w (Armed slot.station.id which k mode ∷ h) t last) (at-place slots i j slot other is found a)
-            (subst (λ (w : Mounted Memory Memory). IsServing slot (Armed slot.station.id which k mode ∷ h) w last) (at-place y.shelf.targets i j c.after t is (get-after i (ArmsDisk which (arm_of k mode)) x.shelf.targets y.shelf.targets c) b)
+            (subst (λ (w : Mounted (AnyStore Memory) Memory). IsServing slot (Armed slot.station.id which k mode ∷ h) w last) (at-place y.shelf.targets i j c.after t is (get-after i (ArmsDisk which (arm_of k mode)) x.shelf.targets y.shelf.targets c) b)
             (subst (λ (w : Stops). IsServing slot (Armed slot.station.id which k mode ∷ h) c.after w) (at-place y.stops i j d.after last is (get-after i _ x.stops y.stops d) e) here))
         | inr ne ↦ serves-still other h (Armed slot.station.id which k mode ∷ h) t last (says-armed other h slot.station.id (apart j i other slot a found ne) which k mode)
             (s.each j other t last a (sym (get-other i (ArmsDisk which (arm_of k mode)) x.shelf.targets y.shelf.targets c j ne) ∙ b) (sym (get-other i _ x.stops y.stops d j ne) ∙ e))
@@ -181,7 +202,7 @@ module _ (slots : List SlotSetup) (apart : AreApart slots) (i : ℕ) (h : List E
     -- the name that the target has in code
     named : (dev : TargetId) → IsSomeAnd (slice_get x.shelf.targets i) (λ t. dev ≡ t.station.id) → slot.station.id ≡ dev
     named dev p =
-        let mine : dev ≡ c.before.station.id = subst (λ (o : Option (Mounted Memory Memory)). IsSomeAnd o (λ t. dev ≡ t.station.id)) c.found p in
+        let mine : dev ≡ c.before.station.id = subst (λ (o : Option (Mounted (AnyStore Memory) Memory)). IsSomeAnd o (λ t. dev ≡ t.station.id)) c.found p in
         sym (mine ∙ ap (λ z. z.id) (s.each i slot c.before d.before found c.found d.found).station)
 
   -- the disks of the shelf are then what the history says, of which the arming is the latest entry
@@ -191,7 +212,7 @@ module _ (slots : List SlotSetup) (apart : AreApart slots) (i : ℕ) (h : List E
       subst (λ (z : TargetId). Serves slots (Armed z which k mode ∷ h) y) (named slot.0 slot.1 dev p) (serves-armed slot.0 slot.1)
 
 -- what the code knows of an arming: how the targets changed, and the stops by what was read of them
-pub record IsArming (i : ℕ) (which : Which) (k : ℕ) (mode : Option Loss) (arm : Arm) (a b : Rack Memory Memory) (items read xs : List Stops) (old new : Stops) (dev : TargetId) (x : MemoryRack) : Type 0 where
+pub record IsArming (i : ℕ) (which : Which) (k : ℕ) (mode : Option Loss) (arm : Arm) (a b : Rack (AnyStore Memory) Memory) (items read xs : List Stops) (old new : Stops) (dev : TargetId) (x : MemoryRack) : Type 0 where
   pub first : 0 < k
   pub armed : arm ≡ arm_of k mode
   pub change : ChangesAt i (ArmsDisk which arm) a.targets b.targets
@@ -206,7 +227,7 @@ pub record IsArming (i : ℕ) (which : Which) (k : ℕ) (mode : Option Loss) (ar
 refilled : (items : List Stops) (i : ℕ) (new : Stops) → refill (length items) items (slice_set items i new) ≡ slice_set items i new
 refilled items i new = items-with_items (record { items = items }) (slice_set items i new) (length-set items i new)
 
-module _ (i : ℕ) (which : Which) (k : ℕ) (mode : Option Loss) (arm : Arm) (a b : Rack Memory Memory) (items read xs : List Stops) (old new : Stops) (dev : TargetId) (x : MemoryRack)
+module _ (i : ℕ) (which : Which) (k : ℕ) (mode : Option Loss) (arm : Arm) (a b : Rack (AnyStore Memory) Memory) (items read xs : List Stops) (old new : Stops) (dev : TargetId) (x : MemoryRack)
     (z : IsArming i which k mode arm a b items read xs old new dev x) where
   stops-then : refill (length items) items (slice_set xs i new) ≡ slice_set items i new
   stops-then = ap (λ l. refill (length items) items (slice_set l i new)) z.after ∙ refilled items i new

@@ -5,8 +5,9 @@ use Rattle.std.proofs.lemmas.List.{drop_all}
 use Rattle.std.proofs.lemmas.Option.{same_Some, slice_get-get_or, slice_get_within}
 use Rattle.std.specs.Prelude.{slice_get, IsSomeAnd}
 use Rattle.std.specs.Option.{option_and_then, option_map_or}
+use Rattle.aoe_cache.specs.declared.any.AnyStore.{AnyStore}
 use Rattle.aoe_base.specs.declared.address.TargetId.{TargetId}
-use Rattle.aoe_disk.specs.Memory.{state_of, Memory}
+use Rattle.aoe_disk.specs.Memory.{Memory}
 use Rattle.aoe_disk.specs.declared.loss.Loss.{Loss}
 use Rattle.aoe_net.specs.Network.{fresh_bytes, numbered, IsFull, SentFrame}
 use Rattle.aoe_shelf.specs.Shelf.{Rack}
@@ -16,7 +17,6 @@ use Rattle.aoe_target.specs.declared.heard.Effect.{Effect}
 use Rattle.aoe_target.specs.declared.heard.Heard.{Heard}
 use Rattle.aoe_target.specs.declared.heard.Heard.TheVariants as heard
 use Rattle.aoe_target.specs.Mounted.{Mounted}
-use Rattle.aoe_target.specs.Turn.{Receives}
 use Rattle.aoe_history.specs.declared.entry.Entry.{Entry}
 use Rattle.aoe_history.specs.declared.entry.Entry.TheVariants.{Arrived}
 use Rattle.aoe_history.specs.declared.entry.Fate.{Fate}
@@ -34,7 +34,7 @@ use Rattle.aoe_sim_shelves.specs.Arrival.{noted, stop_at, ComesToSlot, GoesOn, I
 use Rattle.aoe_sim_shelves.specs.Rack.{IsServing, IsStanding, MemoryRack, Serves, Stands}
 use Rattle.aoe_sim_shelves.proofs.Apart.{if-false, says-arrived, serves-stands, serves-still, serving-stands, stands-still, there, SaysSame}
 use Rattle.aoe_sim_shelves.proofs.FateLemmas.{noted-uncut, runs-on, stop-of}
-use Rattle.aoe_sim_shelves.proofs.SlotLemmas.{breaks, continues, follows, takes, Breaks, Continues, Takes}
+use Rattle.aoe_sim_shelves.proofs.SlotLemmas.{breaks, continues, follows, takes, Breaks, Continues, Meets, Takes}
 
 -- THE FRAME
 
@@ -96,7 +96,7 @@ pub at-place : {X : Type 0} (xs : List X) (i j : ℕ) (a b : X) → j ≡ i → 
 at-place xs i j a b e p q = same_Some a b (sym p ∙ ap (slice_get xs) (sym e) ∙ q)
 
 module _ (slots : List SlotSetup) (apart : AreApart slots) (i : ℕ) (slot : SlotSetup) (found : slice_get slots i ≡ Some slot) (h : List Entry) (frame : ℕ) (fate : Fate)
-    (x y : MemoryRack) {Change : Mounted Memory Memory → Mounted Memory Memory → Type 0} (change : ChangesAt i Change x.shelf.targets y.shelf.targets) (same : y.stops ≡ x.stops) where
+    (x y : MemoryRack) {Change : Mounted (AnyStore Memory) Memory → Mounted (AnyStore Memory) Memory → Type 0} (change : ChangesAt i Change x.shelf.targets y.shelf.targets) (same : y.stops ≡ x.stops) where
   others : (j : ℕ) (other : SlotSetup) → slice_get slots j ≡ Some other → j ≢ i → SaysSame other h (Arrived slot.station.id frame fate ∷ h)
   others j other at ne = says-arrived other h slot.station.id (apart j i other slot at found ne) frame fate
 
@@ -108,7 +108,7 @@ module _ (slots : List SlotSetup) (apart : AreApart slots) (i : ℕ) (slot : Slo
     each = λ j other t last a b c. elim (same-or j i) [
       | inl e ↦
           subst (λ (w : SlotSetup). IsServing w (Arrived slot.station.id frame fate ∷ h) t last) (at-place slots i j slot other e found a)
-          (subst (λ (w : Mounted Memory Memory). IsServing slot (Arrived slot.station.id frame fate ∷ h) w last) (at-place y.shelf.targets i j change.after t e (get-after i Change x.shelf.targets y.shelf.targets change) b)
+          (subst (λ (w : Mounted (AnyStore Memory) Memory). IsServing slot (Arrived slot.station.id frame fate ∷ h) w last) (at-place y.shelf.targets i j change.after t e (get-after i Change x.shelf.targets y.shelf.targets change) b)
           (subst (λ (w : Stops). IsServing slot (Arrived slot.station.id frame fate ∷ h) change.after w) (at-place x.stops i j stops last e at (ap (λ (l : List Stops). slice_get l j) (sym same) ∙ c)) here))
       | inr ne ↦ serves-still other h (Arrived slot.station.id frame fate ∷ h) t last (others j other a ne)
           (k.each j other t last a (sym (get-other i Change x.shelf.targets y.shelf.targets change j ne) ∙ b) (ap (λ (l : List Stops). slice_get l j) (sym same) ∙ c))
@@ -122,7 +122,7 @@ module _ (slots : List SlotSetup) (apart : AreApart slots) (i : ℕ) (slot : Slo
     each = λ j other t a b. elim (same-or j i) [
       | inl e ↦
           subst (λ (w : SlotSetup). IsStanding w (Arrived slot.station.id frame fate ∷ h) t) (at-place slots i j slot other e found a)
-          (subst (λ (w : Mounted Memory Memory). IsStanding slot (Arrived slot.station.id frame fate ∷ h) w) (at-place y.shelf.targets i j change.after t e (get-after i Change x.shelf.targets y.shelf.targets change) b) here)
+          (subst (λ (w : Mounted (AnyStore Memory) Memory). IsStanding slot (Arrived slot.station.id frame fate ∷ h) w) (at-place y.shelf.targets i j change.after t e (get-after i Change x.shelf.targets y.shelf.targets change) b) here)
       | inr ne ↦ stands-still other h (Arrived slot.station.id frame fate ∷ h) t (others j other a ne)
           (k.each j other t a (sym (get-other i Change x.shelf.targets y.shelf.targets change j ne) ∙ b))
     ];
@@ -130,7 +130,7 @@ module _ (slots : List SlotSetup) (apart : AreApart slots) (i : ℕ) (slot : Slo
 
 -- what the slot did with the frame
 module _ (s : Setup) (slots : List SlotSetup) (i number : ℕ) (f : List ℕ) (h : List Entry) (x y : MemoryRack) (w : Heard) (out : List ℕ) (stops : Stops) (r : IsReached s slots number f h x)
-    (c : ChangesAt i (λ a b. Receives state_of state_of a b f w out) x.shelf.targets y.shelf.targets) (same : y.stops ≡ x.stops) (at : slice_get x.stops i ≡ Some stops) where
+    (c : ChangesAt i (Meets f w out) x.shelf.targets y.shelf.targets) (same : y.stops ≡ x.stops) (at : slice_get x.stops i ≡ Some stops) where
   slot-here : (slot : SlotSetup) × (slice_get slots i ≡ Some slot)
   slot-here = there slots i (omega (arith, slice_get_within x.shelf.targets i c.before c.found, r.serves.count))
 
@@ -186,7 +186,7 @@ module _ (s : Setup) (slots : List SlotSetup) (i number : ℕ) (f : List ℕ) (h
     -- the name that the target has in code
     named : (dev : TargetId) → IsSomeAnd (slice_get x.shelf.targets i) (λ t. dev ≡ t.station.id) → slot.station.id ≡ dev
     named dev p =
-        let mine : dev ≡ c.before.station.id = subst (λ (o : Option (Mounted Memory Memory)). IsSomeAnd o (λ t. dev ≡ t.station.id)) c.found p in
+        let mine : dev ≡ c.before.station.id = subst (λ (o : Option (Mounted (AnyStore Memory) Memory)). IsSomeAnd o (λ t. dev ≡ t.station.id)) c.found p in
         sym (mine ∙ ap (λ z. z.id) served.station)
 
     meets-full : (e : Effect) → stop_at stops w ≡ None → w ≡ heard.Replied e → IsFull (network s.life h) out → MeetsFull s (ArriveAtSome number f slots (drop i slots) h) h
@@ -222,14 +222,14 @@ module _ (s : Setup) (slots : List SlotSetup) (i number : ℕ) (f : List ℕ) (h
       go (Some how) v is same p = absurd p
 
 -- what the code knows of one arrival: how the targets changed, and the stop by what was read of the stops
-pub record IsTurn (i : ℕ) (f : List ℕ) (w : Heard) (out : List ℕ) (a b : Rack Memory Memory) (items xs : List Stops) (d : Stops) (dev : TargetId) (stop : Option Loss) : Type 0 where
-  pub change : ChangesAt i (λ t u. Receives state_of state_of t u f w out) a.targets b.targets
+pub record IsTurn (i : ℕ) (f : List ℕ) (w : Heard) (out : List ℕ) (a b : Rack (AnyStore Memory) Memory) (items xs : List Stops) (d : Stops) (dev : TargetId) (stop : Option Loss) : Type 0 where
+  pub change : ChangesAt i (Meets f w out) a.targets b.targets
   pub name : IsSomeAnd (slice_get a.targets i) (λ t. dev ≡ t.station.id)
   pub count : length items ≡ length a.targets
   pub read : xs ≡ items
   pub is : stop ≡ stop_at (get_or xs i d) w
 
-module _ (i : ℕ) (f : List ℕ) (w : Heard) (out : List ℕ) (a b : Rack Memory Memory) (items xs : List Stops) (d : Stops) (dev : TargetId) (stop : Option Loss) (z : IsTurn i f w out a b items xs d dev stop) where
+module _ (i : ℕ) (f : List ℕ) (w : Heard) (out : List ℕ) (a b : Rack (AnyStore Memory) Memory) (items xs : List Stops) (d : Stops) (dev : TargetId) (stop : Option Loss) (z : IsTurn i f w out a b items xs d dev stop) where
   stops-at : slice_get items i ≡ Some (get_or xs i d)
   stops-at = slice_get-get_or items i d (omega (arith, slice_get_within a.targets i z.change.before z.change.found, z.count)) ∙ ap (λ (l : List Stops). Some (get_or l i d)) (sym z.read)
 

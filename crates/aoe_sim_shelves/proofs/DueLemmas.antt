@@ -45,25 +45,25 @@ IsMet which None failed = failed ≡ false
 IsMet which (Some x) failed = failed ≡ nat_eq (suc x.frames) (struck_frame which x.k)
 
 -- how a frame moved the call that was due
-record Moved (m : ℕ) (failed stop : Bool) (due : Option ℕ) (new : Option (Option ℕ)) : Type 0 where
+pub record Moved (m : ℕ) (failed stop : Bool) (due : Option ℕ) (new : Option (Option ℕ)) : Type 0 where
   pub next : Option ℕ
   pub is : new ≡ Some next
   pub moves : MovesDue m failed stop due next
 
-moved : (m : ℕ) (failed stop : Bool) (due : Option ℕ) (old new : Option (Option ℕ)) → old ≡ Some due → BothTell (MovesDue m failed stop) old new → Moved m failed stop due new
+pub moved : (m : ℕ) (failed stop : Bool) (due : Option ℕ) (old new : Option (Option ℕ)) → old ≡ Some due → BothTell (MovesDue m failed stop) old new → Moved m failed stop due new
 moved m failed stop due None new e p = absurd (cc)
 moved m failed stop due (Some a) None e p = absurd p
 moved m failed stop due (Some a) (Some b) e p = record { next = b; is = refl; moves = subst (λ (z : Option ℕ). MovesDue m failed stop z b) (same_Some a due e) p }
 
-if-none : (o : Option Loss) (P Q : Type 0) → (P → Q) → IfNone o P → IfNone o Q
+pub if-none : (o : Option Loss) (P Q : Type 0) → (P → Q) → IfNone o P → IfNone o Q
 if-none None P Q f p = f p
 if-none (Some x) P Q f p = tt
 
-none-of : (o : Option Loss) (P : Type 0) → o ≡ None → IfNone o P → P
+pub none-of : (o : Option Loss) (P : Type 0) → o ≡ None → IfNone o P → P
 none-of None P e p = p
 none-of (Some x) P e p = absurd (cc)
 
-none-not : (o : Option ℕ) → is_some o ≡ true → is_none o ≡ false
+pub none-not : (o : Option ℕ) → is_some o ≡ true → is_none o ≡ false
 none-not None e = absurd (cc)
 none-not (Some x) e = refl
 

@@ -3,6 +3,7 @@ use Rattle.std.proofs.Common.{◌≡◌, ◌≢◌, ◌⊎◌, ◌||◌, ◌==�
 use Rattle.std.specs.Prelude.{slice_get}
 use Rattle.std.proofs.lemmas.Bool.Decides.{nat_tests}
 use Rattle.std.proofs.lemmas.Option.{same_Some, slice_get_within}
+use Rattle.aoe_cache.specs.declared.any.AnyStore.{AnyStore}
 use Rattle.aoe_disk.specs.Memory.{Memory}
 use Rattle.aoe_disk.specs.declared.loss.Loss.{Loss}
 use Rattle.aoe_shelf.specs.Shelf.{has_minor, Rack}
@@ -42,7 +43,7 @@ get_replicate (suc n) (suc i) x y e = get_replicate n i x y e
 
 -- MINORS
 
-minor_other : (ts : List (Mounted Memory Memory)) (minor : ℕ) → ((i : ℕ) (t : Mounted Memory Memory) → slice_get ts i ≡ Some t → t.station.id.minor ≢ minor) → has_minor ts minor ≡ false
+minor_other : (ts : List (Mounted (AnyStore Memory) Memory)) (minor : ℕ) → ((i : ℕ) (t : Mounted (AnyStore Memory) Memory) → slice_get ts i ≡ Some t → t.station.id.minor ≢ minor) → has_minor ts minor ≡ false
 minor_other [] minor other = refl
 minor_other (t ∷ ts) minor other = none (t.station.id.minor == minor) _ (apart t.station.id.minor minor (other 0 t refl)) (minor_other ts minor (λ i u at. other (suc i) u at))
   where
@@ -53,9 +54,9 @@ minor_other (t ∷ ts) minor other = none (t.station.id.minor == minor) _ (apart
     none true b p q = absurd (cc)
     none false b p q = q
 
-pub minor_here : (ts : List (Mounted Memory Memory)) (minor i : ℕ) (t : Mounted Memory Memory) → has_minor ts minor ≡ false → slice_get ts i ≡ Some t → t.station.id.minor ≢ minor
+pub minor_here : (ts : List (Mounted (AnyStore Memory) Memory)) (minor i : ℕ) (t : Mounted (AnyStore Memory) Memory) → has_minor ts minor ≡ false → slice_get ts i ≡ Some t → t.station.id.minor ≢ minor
 minor_here [] minor i t e at = absurd (cc)
-minor_here (u ∷ ts) minor zero t e at = λ same. not_both (u.station.id.minor == minor) _ (itself u.station.id.minor minor (ap (λ (z : Mounted Memory Memory). z.station.id.minor) (same_Some u t at) ∙ same)) e
+minor_here (u ∷ ts) minor zero t e at = λ same. not_both (u.station.id.minor == minor) _ (itself u.station.id.minor minor (ap (λ (z : Mounted (AnyStore Memory) Memory). z.station.id.minor) (same_Some u t at) ∙ same)) e
   where
     itself : (a b : ℕ) → a ≡ b → (a == b) ≡ true
     itself a b e = grind (arith, nat_tests)
@@ -70,7 +71,7 @@ minor_here (u ∷ ts) minor (suc i) t e at = minor_here ts minor i t (rest (u.st
     rest false b q = q
 
 -- the minors of a shelf with one target more
-pub more_minors : (ts : List (Mounted Memory Memory)) (t : Mounted Memory Memory) (m : ℕ) → has_minor (ts ++ t ∷ []) m ≡ (has_minor ts m || t.station.id.minor == m)
+pub more_minors : (ts : List (Mounted (AnyStore Memory) Memory)) (t : Mounted (AnyStore Memory) Memory) (m : ℕ) → has_minor (ts ++ t ∷ []) m ≡ (has_minor ts m || t.station.id.minor == m)
 more_minors [] t m = last (t.station.id.minor == m)
   where
     last : (b : Bool) → (b || false) ≡ (false || b)
@@ -84,12 +85,12 @@ more_minors (u ∷ ts) t m = ap (λ (b : Bool). u.station.id.minor == m || b) (m
 
 -- THE TARGETS OF A SHELF
 
-module _ (shelf : Rack Memory Memory) (front : List (Mounted Memory Memory)) (t : Mounted Memory Memory) (is : shelf.targets ≡ front ++ t ∷ []) (k : AreTargets shelf) where
-  in_front : (i : ℕ) (u : Mounted Memory Memory) → slice_get front i ≡ Some u → slice_get shelf.targets i ≡ Some u
-  in_front i u at = ap (λ (l : List (Mounted Memory Memory)). slice_get l i) is ∙ get_front front (t ∷ []) i u at
+module _ (shelf : Rack (AnyStore Memory) Memory) (front : List (Mounted (AnyStore Memory) Memory)) (t : Mounted (AnyStore Memory) Memory) (is : shelf.targets ≡ front ++ t ∷ []) (k : AreTargets shelf) where
+  in_front : (i : ℕ) (u : Mounted (AnyStore Memory) Memory) → slice_get front i ≡ Some u → slice_get shelf.targets i ≡ Some u
+  in_front i u at = ap (λ (l : List (Mounted (AnyStore Memory) Memory)). slice_get l i) is ∙ get_front front (t ∷ []) i u at
 
   at_last : slice_get shelf.targets (length front) ≡ Some t
-  at_last = ap (λ (l : List (Mounted Memory Memory)). slice_get l (length front)) is ∙ get_last front t
+  at_last = ap (λ (l : List (Mounted (AnyStore Memory) Memory)). slice_get l (length front)) is ∙ get_last front t
 
   pub last_target : IsTargetOf shelf.major shelf.ports shelf.mtu t
   last_target = k.each (length front) t at_last
@@ -101,24 +102,24 @@ module _ (shelf : Rack Memory Memory) (front : List (Mounted Memory Memory)) (t 
   }
 
   -- those before the last one have other minors
-  pub front_apart : (i : ℕ) (u : Mounted Memory Memory) → slice_get front i ≡ Some u → u.station.id.minor ≢ t.station.id.minor
+  pub front_apart : (i : ℕ) (u : Mounted (AnyStore Memory) Memory) → slice_get front i ≡ Some u → u.station.id.minor ≢ t.station.id.minor
   front_apart i u at = k.apart i (length front) u t (in_front i u at) at_last (λ e. omega (arith, e, slice_get_within front i u at))
 
 -- one target more
-pub more_targets : (shelf : Rack Memory Memory) (t : Mounted Memory Memory) → AreTargets shelf → IsTargetOf shelf.major shelf.ports shelf.mtu t → has_minor shelf.targets t.station.id.minor ≡ false
+pub more_targets : (shelf : Rack (AnyStore Memory) Memory) (t : Mounted (AnyStore Memory) Memory) → AreTargets shelf → IsTargetOf shelf.major shelf.ports shelf.mtu t → has_minor shelf.targets t.station.id.minor ≡ false
     → AreTargets (record shelf { targets = shelf.targets ++ t ∷ [] })
 more_targets shelf t k here other = record {
   each = λ i u at. elim (get_split shelf.targets t i u at) [
     | inl f ↦ k.each i u f
-    | inr l ↦ subst (λ (z : Mounted Memory Memory). IsTargetOf shelf.major shelf.ports shelf.mtu z) l.1 here
+    | inr l ↦ subst (λ (z : Mounted (AnyStore Memory) Memory). IsTargetOf shelf.major shelf.ports shelf.mtu z) l.1 here
   ];
   apart = λ i j a b p q ne. elim (get_split shelf.targets t i a p) [
     | inl f ↦ elim (get_split shelf.targets t j b q) [
       | inl g ↦ k.apart i j a b f g ne
-      | inr m ↦ λ e. minor_here shelf.targets t.station.id.minor i a other f (e ∙ ap (λ (z : Mounted Memory Memory). z.station.id.minor) (sym m.1))
+      | inr m ↦ λ e. minor_here shelf.targets t.station.id.minor i a other f (e ∙ ap (λ (z : Mounted (AnyStore Memory) Memory). z.station.id.minor) (sym m.1))
     ]
     | inr l ↦ elim (get_split shelf.targets t j b q) [
-      | inl g ↦ λ e. minor_here shelf.targets t.station.id.minor j b other g (sym e ∙ ap (λ (z : Mounted Memory Memory). z.station.id.minor) (sym l.1))
+      | inl g ↦ λ e. minor_here shelf.targets t.station.id.minor j b other g (sym e ∙ ap (λ (z : Mounted (AnyStore Memory) Memory). z.station.id.minor) (sym l.1))
       | inr m ↦ absurd (ne (l.0 ∙ sym m.0))
     ]
   ];
@@ -127,7 +128,7 @@ more_targets shelf t k here other = record {
 -- A RESTART
 
 -- of a target, and of those before it
-restart_more : (how : Loss) (xs ys : List (Mounted Memory Memory)) (x y : Mounted Memory Memory) → RestartEach how xs ys → Restarts how x y → RestartEach how (xs ++ x ∷ []) (ys ++ y ∷ [])
+restart_more : (how : Loss) (xs ys : List (Mounted (AnyStore Memory) Memory)) (x y : Mounted (AnyStore Memory) Memory) → RestartEach how xs ys → Restarts how x y → RestartEach how (xs ++ x ∷ []) (ys ++ y ∷ [])
 restart_more how xs ys x y r one = record {
   count = length_last ys y ∙ ap suc r.count ∙ sym (length_last xs x);
   each = λ i a b p q. elim (get_split xs x i a p) [
@@ -137,21 +138,21 @@ restart_more how xs ys x y r one = record {
     ]
     | inr l ↦ elim (get_split ys y i b q) [
       | inl g ↦ absurd (omega (arith, slice_get_within ys i b g, l.0, r.count))
-      | inr m ↦ subst (λ (z : Mounted Memory Memory). Restarts how z b) l.1 (subst (λ (z : Mounted Memory Memory). Restarts how x z) m.1 one)
+      | inr m ↦ subst (λ (z : Mounted (AnyStore Memory) Memory). Restarts how z b) l.1 (subst (λ (z : Mounted (AnyStore Memory) Memory). Restarts how x z) m.1 one)
     ]
   ];
 }
 
 -- the last target was added again
-pub restart_last : (how : Loss) (before front : List (Mounted Memory Memory)) (x y : Mounted Memory Memory) (r new : Rack Memory Memory) → before ≡ front ++ x ∷ [] → new ≡ record r { targets = r.targets ++ y ∷ [] } → RestartEach how front r.targets
+pub restart_last : (how : Loss) (before front : List (Mounted (AnyStore Memory) Memory)) (x y : Mounted (AnyStore Memory) Memory) (r new : Rack (AnyStore Memory) Memory) → before ≡ front ++ x ∷ [] → new ≡ record r { targets = r.targets ++ y ∷ [] } → RestartEach how front r.targets
     → Restarts how x y → RestartEach how before new.targets
 restart_last how before front x y r new is added each one =
-    let targets : new.targets ≡ r.targets ++ y ∷ [] = ap (λ (z : Rack Memory Memory). z.targets) added in
-    subst (λ (l : List (Mounted Memory Memory)). RestartEach how l new.targets) (sym is)
-    (subst (λ (l : List (Mounted Memory Memory)). RestartEach how (front ++ x ∷ []) l) (sym targets) (restart_more how front r.targets x y each one))
+    let targets : new.targets ≡ r.targets ++ y ∷ [] = ap (λ (z : Rack (AnyStore Memory) Memory). z.targets) added in
+    subst (λ (l : List (Mounted (AnyStore Memory) Memory)). RestartEach how l new.targets) (sym is)
+    (subst (λ (l : List (Mounted (AnyStore Memory) Memory)). RestartEach how (front ++ x ∷ []) l) (sym targets) (restart_more how front r.targets x y each one))
 
 -- no minor is new
-pub restart_minor : (how : Loss) (xs ys : List (Mounted Memory Memory)) (minor : ℕ) → RestartEach how xs ys → ((i : ℕ) (t : Mounted Memory Memory) → slice_get xs i ≡ Some t → t.station.id.minor ≢ minor) → has_minor ys minor ≡ false
+pub restart_minor : (how : Loss) (xs ys : List (Mounted (AnyStore Memory) Memory)) (minor : ℕ) → RestartEach how xs ys → ((i : ℕ) (t : Mounted (AnyStore Memory) Memory) → slice_get xs i ≡ Some t → t.station.id.minor ≢ minor) → has_minor ys minor ≡ false
 restart_minor how xs ys minor r other = minor_other ys minor (λ i b at.
     let a = there xs i (omega (arith, slice_get_within ys i b at, r.count)) in
     λ e. other i a.0 a.1 (ap (λ z. z.id.minor) (sym (r.each i a.0 b a.1 at).station) ∙ e))
@@ -163,16 +164,16 @@ get_take (suc n) (a ∷ xs) zero x e = e
 get_take (suc n) (a ∷ xs) (suc i) x e = get_take n xs i x e
 
 -- the same targets, by their stations
-pub same_stations : (how : Loss) (xs ys : List (Mounted Memory Memory)) → RestartEach how xs ys → map (λ (t : Mounted Memory Memory). t.station) ys ≡ map (λ (t : Mounted Memory Memory). t.station) xs
+pub same_stations : (how : Loss) (xs ys : List (Mounted (AnyStore Memory) Memory)) → RestartEach how xs ys → map (λ (t : Mounted (AnyStore Memory) Memory). t.station) ys ≡ map (λ (t : Mounted (AnyStore Memory) Memory). t.station) xs
 same_stations how [] [] r = refl
 same_stations how [] (y ∷ ys) r = absurd (omega (arith, r.count))
 same_stations how (x ∷ xs) [] r = absurd (omega (arith, r.count))
 same_stations how (x ∷ xs) (y ∷ ys) r =
-    ap (λ (z : Station). z ∷ map (λ (t : Mounted Memory Memory). t.station) ys) (r.each 0 x y refl refl).station
+    ap (λ (z : Station). z ∷ map (λ (t : Mounted (AnyStore Memory) Memory). t.station) ys) (r.each 0 x y refl refl).station
     ∙ ap (λ (l : List Station). x.station ∷ l) (same_stations how xs ys (record { count = omega (arith, r.count); each = λ i a b p q. r.each (suc i) a b p q }))
 
 -- and they are targets of the shelf still
-pub restart_targets : (how : Loss) (shelf : Rack Memory Memory) (ys : List (Mounted Memory Memory)) → AreTargets shelf → RestartEach how shelf.targets ys → AreTargets (record shelf { targets = ys })
+pub restart_targets : (how : Loss) (shelf : Rack (AnyStore Memory) Memory) (ys : List (Mounted (AnyStore Memory) Memory)) → AreTargets shelf → RestartEach how shelf.targets ys → AreTargets (record shelf { targets = ys })
 restart_targets how shelf ys k r = record {
   each = λ i b at. let a = was i b at in restarted_target how a.0 b (r.each i a.0 b a.1 at) shelf.major shelf.ports shelf.mtu (k.each i a.0 a.1);
   apart = λ i j b c p q ne.
@@ -182,5 +183,5 @@ restart_targets how shelf ys k r = record {
       (ap (λ (z : Station). z.id.minor) (sym (r.each i a.0 b a.1 p).station) ∙ e ∙ ap (λ (z : Station). z.id.minor) (r.each j d.0 c d.1 q).station);
 }
   where
-    was : (i : ℕ) (b : Mounted Memory Memory) → slice_get ys i ≡ Some b → (a : Mounted Memory Memory) × (slice_get shelf.targets i ≡ Some a)
+    was : (i : ℕ) (b : Mounted (AnyStore Memory) Memory) → slice_get ys i ≡ Some b → (a : Mounted (AnyStore Memory) Memory) × (slice_get shelf.targets i ≡ Some a)
     was i b at = there shelf.targets i (omega (arith, slice_get_within ys i b at, r.count))

@@ -1,4 +1,5 @@
 pub mod Apart
+mod AgreeLemmas
 mod ArmLemmas
 mod ArrivalLemmas
 mod CrashLemmas
@@ -6,7 +7,10 @@ mod DueLemmas
 mod FateLemmas
 mod FrontLemmas
 mod HistoryLemmas
+mod OnceLemmas
 mod RackLemmas
 mod SeatLemmas
 mod SlotLemmas
+mod StepLemmas
+mod UnderLemmas
 mod WithinLemmas

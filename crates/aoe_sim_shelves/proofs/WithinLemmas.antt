@@ -1,44 +1,35 @@
 -- What is known of a device of so many sectors, and what a frame leaves of it.
-use Rattle.std.proofs.Common.{◌≡◌, ◌≤◌, ◌+◌, ◌-◌, ◌&&◌, ◌||◌, ◌==◌, cond, ℕ, Bool, true, false, not, nat_le, if◌then◌else◌, List, drop, length, Option, Some, None, is_some, refl, sym, ap, subst, ◌∙◌, arith}
-use Rattle.std.specs.Prelude.{IfSome, Ok, Err}
-use Rattle.std.specs.Option.{option_map, option_or}
+use Rattle.std.proofs.Common.{◌≡◌, ◌≤◌, ◌+◌, ◌-◌, ◌&&◌, ◌||◌, ◌==◌, cond, ℕ, Bool, true, false, not, nat_le, if◌then◌else◌, List, drop, length, Option, Some, None, is_some, refl, ap, ◌∙◌, arith}
+use Rattle.std.specs.Prelude.{Ok, Err}
+use Rattle.std.specs.Option.{option_or}
 use Rattle.std.proofs.lemmas.Bool.Decides.{nat_tests}
 use Rattle.aoe_base.specs.declared.sectors.Span.{Span}
-use Rattle.aoe_disk.specs.Memory.{contents_of, state_of, Memory}
-use Rattle.aoe_disk.specs.State.{sector, BothTell}
 use Rattle.aoe_frame.specs.Header.{fields, head}
-use Rattle.aoe_base.specs.declared.refusal.AoeError.TheVariants.{BadArgument}
 use Rattle.aoe_frame.specs.declared.header.Header.{Header}
 use Rattle.aoe_base.specs.declared.refusal.AoeError.TheVariants.{BadArgument}
 use Rattle.aoe_ata.specs.Args.{registers}
 use Rattle.aoe_ata.specs.Command.{command_of}
 use Rattle.aoe_ata.specs.Decision.{answer_of, decision, is_taken, written}
-use Rattle.aoe_ata.specs.declared.args.AtaArgs.{AtaArgs}
 use Rattle.aoe_ata.specs.declared.command.AtaCommand.{AtaCommand}
 use Rattle.aoe_ata.specs.declared.command.AtaCommand.TheVariants as command
 use Rattle.aoe_ata.specs.declared.decision.AtaAnswer.{AtaAnswer}
 use Rattle.aoe_ata.specs.declared.decision.AtaAnswer.TheVariants.{Abort, NotFound, Page, Mode, Give, Put, Verify, Sync}
 use Rattle.aoe_lists.specs.Settings.{admits, may_use, Settings}
-use Rattle.aoe_lists.specs.Step.{Step}
-use Rattle.aoe_lists.specs.Step as step
 use Rattle.aoe_target.specs.declared.heard.Effect.{Effect}
 use Rattle.aoe_target.specs.declared.heard.Effect.TheVariants as effect
 use Rattle.aoe_target.specs.declared.station.Station.{Station}
 use Rattle.aoe_target.specs.declared.verdict.Verdict.{Verdict}
 use Rattle.aoe_target.specs.declared.verdict.Verdict.TheVariants as verdict
-use Rattle.aoe_target.specs.Device.{Holds, State}
-use Rattle.aoe_target.specs.Law.{after, after_ata, after_cut, after_effect, after_read, after_step, cut, ignored, replied, silent, step_of, Allows, AllowsAta, Fate, Gives, IsStep}
-use Rattle.aoe_target.specs.Mounted.{device_of, Mounted}
+use Rattle.aoe_target.specs.Law.{after_ata, after_cut, after_effect, after_read, cut, ignored, replied, silent, Fate}
 use Rattle.aoe_target.specs.Reply.{data_of}
-use Rattle.aoe_target.specs.Sectors.{in_span, learns, puts, sectors_of, settles, spoiled, spoils, value_in, Agrees, Same, Sectors, Tells}
+use Rattle.aoe_target.specs.Sectors.{in_span, learns, puts, settles, spoiled, spoils, value_in, Same, Sectors}
 use Rattle.aoe_target.specs.Verdict.{ata_verdict, decided, is_heard, judged}
 use Rattle.aoe_target.specs.Verdict as judge
-use Rattle.aoe_target.proofs.SectorLemmas.{agrees_self}
-use Rattle.aoe_sim_shelves.specs.Rack.{HoldsWithin, SameWithin}
+use Rattle.aoe_sim_shelves.specs.Rack.{SameWithin}
 
 -- SECTORS
 
-same_then : (n : ℕ) (a b c : Sectors) → Same a b → SameWithin n b c → SameWithin n a c
+pub same_then : (n : ℕ) (a b c : Sectors) → Same a b → SameWithin n b c → SameWithin n a c
 same_then n a b c ab bc = record {
   known = λ s l. ab.known s ∙ bc.known s l;
   marks = λ s l. ab.marks s ∙ bc.marks s l;
@@ -55,7 +46,7 @@ module _ (n : ℕ) (a b : Sectors) (ab : SameWithin n a b) where
     exact = ab.exact;
   }
 
-  spoils_within : (span : Span) → SameWithin n (spoils span a) (spoils span b)
+  pub spoils_within : (span : Span) → SameWithin n (spoils span a) (spoils span b)
   spoils_within span = record {
     known = λ s l.
         ap (λ (t : Bool). cond (in_span span s) (spoiled t (s == span.at) (a.known s)) (a.known s)) ab.exact
@@ -106,7 +97,7 @@ module _ (n : ℕ) (a b : Sectors) (ab : SameWithin n a b) where
   effect_within effect.SyncFault f answer reply = ab
   effect_within effect.EditFault f answer reply = ab
 
-  ata_within : (fate : Fate) (f : List ℕ) (answer : AtaAnswer) → SameWithin n (after_ata f answer fate a) (after_ata f answer fate b)
+  pub ata_within : (fate : Fate) (f : List ℕ) (answer : AtaAnswer) → SameWithin n (after_ata f answer fate a) (after_ata f answer fate b)
   ata_within ignored f answer = ab
   ata_within silent f answer = ab
   ata_within cut f answer = cut_within answer
@@ -144,7 +135,7 @@ effect_exact effect.ReadFault f answer reply k = refl
 effect_exact effect.SyncFault f answer reply k = refl
 effect_exact effect.EditFault f answer reply k = refl
 
-ata_exact : (fate : Fate) (f : List ℕ) (answer : AtaAnswer) (k : Sectors) → (after_ata f answer fate k).exact ≡ k.exact
+pub ata_exact : (fate : Fate) (f : List ℕ) (answer : AtaAnswer) (k : Sectors) → (after_ata f answer fate k).exact ≡ k.exact
 ata_exact ignored f answer k = refl
 ata_exact silent f answer k = refl
 ata_exact cut f answer k = cut_exact answer k
@@ -152,11 +143,11 @@ ata_exact (replied e reply) f answer k = effect_exact e f answer reply k
 
 -- WHAT IS READ IS WITHIN THE DEVICE
 
-abbrev InEnd : ℕ → AtaAnswer → Type 0
+abbrev pub InEnd : ℕ → AtaAnswer → Type 0
 InEnd n (Give span) = span.at + span.count ≤ n
 InEnd n answer = Unit {0}
 
-abbrev Ranged : ℕ → Verdict → Type 0
+abbrev pub Ranged : ℕ → Verdict → Type 0
 Ranged n (verdict.Ata d) = InEnd n d.answer
 Ranged n v = Unit {0}
 
@@ -206,125 +197,6 @@ module _ (station : Station) (lists : Settings) where
       (either (h.command == 2) (verdict.Lists _) _ tt
       (either (h.command == 3) (verdict.Lists _) (verdict.Refused _) tt tt))))))
 
-  verdict_end : (f : List ℕ) → Ranged station.sectors (judge.verdict station lists f)
+  pub verdict_end : (f : List ℕ) → Ranged station.sectors (judge.verdict station lists f)
   unfolding judge.verdict
   verdict_end f = either (is_some (head f)) (judged station lists (fields f) (drop 24 f)) verdict.Ignored (judged_end (fields f) (drop 24 f)) tt
-
--- WHAT MAY BECOME OF A FRAME
-
-tells_within : (n : ℕ) (span : Span) (bytes : List ℕ) (x y : Option Sectors) → BothTell (SameWithin n) x y → span.at + span.count ≤ n → IfSome x (Tells span bytes) → IfSome y (Tells span bytes)
-tells_within n span bytes None None xy end told = tt
-tells_within n span bytes None (Some b) xy end told = absurd xy
-tells_within n span bytes (Some a) None xy end told = absurd xy
-tells_within n span bytes (Some a) (Some b) xy end told = λ i low. subst (λ (o : Option (List ℕ)). IfSome o (λ v. sector bytes i ≡ v)) (xy.known (span.at + i) (omega arith)) (told i low)
-
-module _ (n : ℕ) (station : Station) (x y : Option Sectors) (xy : BothTell (SameWithin n) x y) (h : Header) (args : AtaArgs) where
-  gives_within : (e : Effect) (span : Span) (reply : List ℕ) → span.at + span.count ≤ n → Gives station x h args span e reply → Gives station y h args span e reply
-  gives_within effect.None span reply end g = (g.0, g.1, tells_within n span (data_of span reply) x y xy end g.2)
-  gives_within effect.ReadFault span reply end g = g
-  gives_within (effect.Wrote s) span reply end g = absurd g
-  gives_within (effect.WriteFault s) span reply end g = absurd g
-  gives_within effect.Synced span reply end g = absurd g
-  gives_within effect.Edited span reply end g = absurd g
-  gives_within effect.SyncFault span reply end g = absurd g
-  gives_within effect.EditFault span reply end g = absurd g
-
-  give_within : (fate : Fate) (span : Span) → span.at + span.count ≤ n → AllowsAta station x h args (Give span) fate → AllowsAta station y h args (Give span) fate
-  give_within ignored span end g = g
-  give_within silent span end g = g
-  give_within cut span end g = g
-  give_within (replied e reply) span end g = gives_within e span reply end g
-
-  allows_within : (answer : AtaAnswer) (fate : Fate) → InEnd n answer → AllowsAta station x h args answer fate → AllowsAta station y h args answer fate
-  allows_within (Give span) fate end g = give_within fate span end g
-  allows_within Abort fate end g = g
-  allows_within NotFound fate end g = g
-  allows_within Page fate end g = g
-  allows_within Mode fate end g = g
-  allows_within (Put span) fate end g = g
-  allows_within (Verify span) fate end g = g
-  allows_within Sync fate end g = g
-
--- A STEP
-
--- a device in memory as it is, in the words of what is known of it
-abbrev pub known_in : Mounted Memory Memory → State → State
-known_in t k = record k { sectors = Some (sectors_of (contents_of t.store)) }
-
-pub held : (n : ℕ) (t : Mounted Memory Memory) (k : State) → HoldsWithin n (device_of state_of state_of t) k → Holds (device_of state_of state_of t) (known_in t k)
-held n t k h = record { lists = h.lists; crash = h.crash; sectors = agrees_self (sectors_of (contents_of t.store)) }
-
-pub record StepsWithin (station : Station) (k : State) (f : List ℕ) (fate : Fate) (t : Mounted Memory Memory) : Type 0 where
-  pub allowed : Allows station k f (judge.verdict station k.lists f) fate
-  pub holds : HoldsWithin station.sectors (device_of state_of state_of t) (after station f (judge.verdict station k.lists f) fate k)
-
-step_known : (t : Mounted Memory Memory) (s : Step) (fate : Fate) (k : State) → after_step s fate (known_in t k) ≡ known_in t (after_step s fate k)
-step_known t step.Silent fate k = refl
-step_known t (step.Reply error args) fate k = refl
-step_known t (step.Change next args) ignored k = refl
-step_known t (step.Change next args) silent k = refl
-step_known t (step.Change next args) cut k = refl
-step_known t (step.Change next args) (replied effect.None reply) k = refl
-step_known t (step.Change next args) (replied (effect.Wrote span) reply) k = refl
-step_known t (step.Change next args) (replied effect.Synced reply) k = refl
-step_known t (step.Change next args) (replied effect.Edited reply) k = refl
-step_known t (step.Change next args) (replied (effect.WriteFault span) reply) k = refl
-step_known t (step.Change next args) (replied effect.ReadFault reply) k = refl
-step_known t (step.Change next args) (replied effect.SyncFault reply) k = refl
-step_known t (step.Change next args) (replied effect.EditFault reply) k = refl
-
-step_sectors : (s : Step) (fate : Fate) (k : State) → (after_step s fate k).sectors ≡ k.sectors
-step_sectors step.Silent fate k = refl
-step_sectors (step.Reply error args) fate k = refl
-step_sectors (step.Change next args) ignored k = refl
-step_sectors (step.Change next args) silent k = refl
-step_sectors (step.Change next args) cut k = refl
-step_sectors (step.Change next args) (replied effect.None reply) k = refl
-step_sectors (step.Change next args) (replied (effect.Wrote span) reply) k = refl
-step_sectors (step.Change next args) (replied effect.Synced reply) k = refl
-step_sectors (step.Change next args) (replied effect.Edited reply) k = refl
-step_sectors (step.Change next args) (replied (effect.WriteFault span) reply) k = refl
-step_sectors (step.Change next args) (replied effect.ReadFault reply) k = refl
-step_sectors (step.Change next args) (replied effect.SyncFault reply) k = refl
-step_sectors (step.Change next args) (replied effect.EditFault reply) k = refl
-
-both_then : (n : ℕ) (a b : Sectors) (y : Option Sectors) → Agrees a b → b.exact ≡ true → BothTell (SameWithin n) (Some b) y → BothTell (SameWithin n) (Some a) y
-both_then n a b None ab e by = absurd by
-both_then n a b (Some c) ab e by = same_then n a b c (ab.exact e) by
-
-both_ata : (n : ℕ) (fate : Fate) (f : List ℕ) (answer : AtaAnswer) (b : Sectors) (y : Option Sectors) → BothTell (SameWithin n) (Some b) y
-    → BothTell (SameWithin n) (Some (after_ata f answer fate b)) (option_map (after_ata f answer fate) y)
-both_ata n fate f answer b None by = absurd by
-both_ata n fate f answer b (Some c) by = ata_within n b c by fate f answer
-
-module _ (station : Station) (k : State) (f : List ℕ) (fate : Fate) (t u : Mounted Memory Memory) (h : HoldsWithin station.sectors (device_of state_of state_of t) k) where
-  kept : (k2 : State) → k2.sectors ≡ k.sectors → Holds (device_of state_of state_of u) (known_in t k2) → HoldsWithin station.sectors (device_of state_of state_of u) k2
-  kept k2 same hold = record {
-    lists = hold.lists;
-    crash = hold.crash;
-    sectors = both_then station.sectors (sectors_of (contents_of u.store)) (sectors_of (contents_of t.store)) k2.sectors hold.sectors refl
-        (subst (λ (o : Option Sectors). BothTell (SameWithin station.sectors) (Some (sectors_of (contents_of t.store))) o) (sym same) h.sectors);
-  }
-
-  by_verdict : (v : Verdict) → Ranged station.sectors v → Allows station (known_in t k) f v fate → Holds (device_of state_of state_of u) (after station f v fate (known_in t k))
-      → Allows station k f v fate × HoldsWithin station.sectors (device_of state_of state_of u) (after station f v fate k)
-  by_verdict verdict.Ignored r a hold = (a, kept k refl hold)
-  by_verdict verdict.Silent r a hold = (a, kept k refl hold)
-  by_verdict (verdict.Refused error) r a hold = (a, kept k refl hold)
-  by_verdict (verdict.Lists command) r a hold =
-      let s : Step = step_of station k.lists f command in
-      (a, kept (after_step s fate k) (step_sectors s fate k) (subst (λ (z : State). Holds (device_of state_of state_of u) z) (step_known t s fate k) hold))
-  by_verdict (verdict.Ata d) r a hold =
-      let own : Sectors = sectors_of (contents_of t.store) in (
-        allows_within station.sectors station (Some own) k.sectors h.sectors (fields f) d.args d.answer fate r a,
-        record {
-          lists = hold.lists;
-          crash = hold.crash;
-          sectors = both_then station.sectors (sectors_of (contents_of u.store)) (after_ata f d.answer fate own) (option_map (after_ata f d.answer fate) k.sectors) hold.sectors (ata_exact fate f d.answer own)
-              (both_ata station.sectors fate f d.answer own k.sectors h.sectors);
-        },
-      )
-
-  -- a step of the device as it is, is one of what is known of it
-  pub stepped : IsStep station (known_in t k) f fate (device_of state_of state_of u) → StepsWithin station k f fate u
-  stepped s = let both = by_verdict (judge.verdict station k.lists f) (verdict_end station k.lists f) s.allowed s.holds in record { allowed = both.0; holds = both.1 }

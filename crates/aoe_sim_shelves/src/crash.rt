@@ -4,7 +4,7 @@ ghost use Rattle.aoe_history.specs.declared.entry.Entry.TheVariants.{Crashed};
 ghost use Rattle.aoe_history.specs.Groups.{CrashEach, CrashSome};
 ghost use Rattle.aoe_history.specs.Lawful.{IsLawful};
 ghost use Rattle.aoe_history.specs.Setup.{AreSlots, Setup, SlotSetup};
-ghost use Rattle.aoe_sim_shelves.specs.Crash.{with_crashes, Loses, RestartEach};
+ghost use Rattle.aoe_sim_shelves.specs.Crash.{with_crashes, Loses, LosesStore, RestartEach};
 ghost use Rattle.aoe_sim_shelves.specs.Rack.{AreTargets, Serves, Stands};
 ghost use Rattle.aoe_history.specs.Run.{with_entry};
 
@@ -12,8 +12,10 @@ use crate::rack::MAX_TARGETS;
 use crate::seat::{MemShelf, mount, seat};
 use crate::{MemoryRack, Stops};
 use aoe_base::NoMemory;
+use aoe_cache::AnyStore;
 use aoe_disk::{Disk, Loss, MemDisk};
 use aoe_history::{Boxed, Entry, Run};
+use aoe_store::Direct;
 use arrayvec::ArrayVec;
 
 /// A disk that lost its power, opened again: it has as many sectors.
@@ -24,6 +26,17 @@ fn lose(disk: MemDisk, how: Loss) -> MemDisk
     let disk = disk.crash(how);
     prove_eq!(disk.sectors(), sectors);
     disk
+}
+
+/// A store whose disk lost its power, over what is left of it. A cache keeps its room, and nothing
+/// that stood in it.
+fn reopen(store: AnyStore<MemDisk>, how: Loss) -> AnyStore<MemDisk>
+    ensures { LosesStore how store result }
+{
+    match store {
+        AnyStore::Direct(store) => AnyStore::Direct(Direct::new(lose(store.close(), how))),
+        AnyStore::Cached(store) => AnyStore::Cached(store.crash(how)),
+    }
 }
 
 /// Each target loses its power, and is mounted again. The last one leaves the shelf first, and
@@ -42,7 +55,7 @@ fn restart(shelf: &mut MemShelf, how: Loss)
     };
     restart(shelf, how);
     let keep = mount(lose(keep.close(), how));
-    seat(shelf, minor, lose(store.close(), how), keep);
+    seat(shelf, minor, reopen(store, how), keep);
 }
 
 /// Records that the target at the slot lost its power.

@@ -7,8 +7,10 @@
 //!    network. Where the power is lost in it, the shelf crashes there.
 //! 4. [`MemoryRack::crash`] takes the power now. The targets are mounted again in the same call.
 //!
-//! The shelf itself is that of `aoe_shelf`, over stores without a cache; this crate records what it
-//! does. A shelf that lost its power is never down for a time.
+//! The shelf itself is that of `aoe_shelf`, over stores with a cache or without; this crate records
+//! what it does. A crash takes what stood in a cache, and leaves the disk under it as it was settled,
+//! as long as no more was written since then than the cache has room for, and no call failed. A
+//! shelf that lost its power is never down for a time.
 #![tactic(auto)]
 
 mod arrive;

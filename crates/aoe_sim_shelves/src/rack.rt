@@ -1,5 +1,5 @@
 //! A shelf over disks in memory.
-ghost use Rattle.std.specs.Prelude.{List, ℕ, ◌≡◌, ◌<◌, ◌≤◌, ◌+◌, ◌^◌, ◌==◌, ◌||◌, ◌++◌, ◌∷◌, [], IfOk, IsSomeAnd, None, OnErr, OnOk, false, length, map, slice_get};
+ghost use Rattle.std.specs.Prelude.{List, ℕ, ◌≡◌, ◌<◌, ◌≤◌, ◌+◌, ◌^◌, ◌==◌, ◌||◌, ◌++◌, ◌∷◌, [], IfOk, IfSome, IsSomeAnd, None, OnErr, OnOk, false, length, map, slice_get};
 ghost use Rattle.aoe_disk.specs.Arming.{number_of};
 ghost use Rattle.aoe_history.specs.declared.entry.Entry.TheVariants.{Armed};
 ghost use Rattle.aoe_history.specs.Setup.{AreApart, SlotSetup};
@@ -10,13 +10,12 @@ ghost use Rattle.aoe_shelf.specs.Shelf.{has_minor};
 ghost use Rattle.aoe_shelf.specs.Slot.{ChangesAt};
 ghost use Rattle.aoe_target.specs.Mounted.{station_of};
 
-use crate::seat::{mount, seat};
+use crate::seat::{MemShelf, mount, seat, store_over};
 use aoe_base::{NoMemory, Ports, TargetId};
 use aoe_disk::{Arm, Loss, MemDisk};
 use aoe_history::{Entry, Run};
 use aoe_script::Which;
 use aoe_shelf::Shelf;
-use aoe_store::Direct;
 use arrayvec::ArrayVec;
 use std::alloc::Global;
 use std::marker::Model;
@@ -39,7 +38,7 @@ pub struct Stops {
 #[derive(Drop)]
 pub struct MemoryRack {
     pub(crate) major: u16,
-    pub(crate) shelf: Shelf<Direct<MemDisk>, MemDisk>,
+    pub(crate) shelf: MemShelf,
 
     /// For each target, in the order of the shelf.
     pub(crate) stops: ArrayVec<Stops, MAX_TARGETS>,
@@ -91,7 +90,7 @@ fn arm_of(k: u32, mode: Option<Loss>) -> Arm
 }
 
 /// Arms one of the two disks of the target at the slot.
-fn arm_disk(shelf: &mut Shelf<Direct<MemDisk>, MemDisk>, slot: usize, which: Which, arm: Arm)
+fn arm_disk(shelf: &mut MemShelf, slot: usize, which: Which, arm: Arm)
     requires slot { slot < length shelf.old.targets }
     requires number { 0 < number_of arm }
     ensures arms { ChangesAt slot (ArmsDisk which arm) shelf.old.targets shelf.new.targets }
@@ -123,15 +122,23 @@ impl MemoryRack {
         })
     }
 
-    /// Adds a target of zeros with empty lists behind the others.
-    pub fn add(&mut self, alloc: Global, minor: u8, sectors: u64) -> Result<(), NoMemory>
+    /// Adds a target of zeros with empty lists behind the others. Its store has a cache for `room`
+    /// sectors, where there is a number.
+    pub fn add(
+        &mut self,
+        alloc: Global,
+        minor: u8,
+        sectors: u64,
+        room: Option<u32>,
+    ) -> Result<(), NoMemory>
         requires minor { minor < 255 }
         requires sectors { sectors ≤ 2 ^ 40 }
         requires room { length self.old.shelf.targets < 16 }
+        requires cache { IfSome room (λ (n : ℕ). (1 ≤ n) × (n ≤ 65536)) }
         requires repeats { has_minor self.old.shelf.targets minor ≡ false }
         ensures serves { OnOk result ((slots : List SlotSetup) → Serves slots [] self.old → Serves (slots ++ record {
           station = station_of record { major = self.old.shelf.major; minor = minor } self.old.shelf.ports self.old.shelf.mtu sectors;
-          cache = None;
+          cache = room;
         } ∷ []) [] self.new) }
         ensures count { OnOk result (length self.new.shelf.targets ≡ length self.old.shelf.targets + 1) }
         ensures minors { OnOk result ((m : ℕ) → has_minor self.new.shelf.targets m ≡ (has_minor self.old.shelf.targets m || minor == m)) }
@@ -147,6 +154,7 @@ impl MemoryRack {
         ) else {
             return Err(NoMemory);
         };
+        let store = store_over(alloc, store, room)?;
         seat(&mut self.shelf, minor, store, mount(keep));
         self.stops.push(Stops::none());
         Ok(())

@@ -1,18 +1,42 @@
 //! Disks in memory become a target of a shelf.
-ghost use Rattle.std.specs.Prelude.{◌≡◌, ◌≤◌, ◌<◌, ◌++◌, ◌∷◌, [], None, Ok, length};
+ghost use Rattle.std.specs.Prelude.{ℕ, ◌≡◌, ◌≤◌, ◌<◌, ◌++◌, ◌∷◌, [], IfOk, IfSome, None, Ok, length};
+ghost use Rattle.aoe_cache.specs.Any.{any_state};
+ghost use Rattle.aoe_disk.specs.Memory.{state_of};
 ghost use Rattle.aoe_keep.specs.Found.{found};
 ghost use Rattle.aoe_lists.specs.Settings.{Settings};
 ghost use Rattle.aoe_sim_shelves.specs.Crash.{IsMounted};
+ghost use Rattle.aoe_sim_shelves.specs.Rack.{over};
 ghost use Rattle.aoe_shelf.specs.Shelf.{refusal_of};
 ghost use Rattle.aoe_target.specs.Mounted.{station_of};
 
+use aoe_base::NoMemory;
+use aoe_cache::{AnyStore, Cached};
 use aoe_disk::MemDisk;
 use aoe_keep::Keep;
 use aoe_shelf::Shelf;
 use aoe_store::Direct;
+use std::alloc::Global;
 
 /// A shelf over disks in memory.
-pub(crate) type MemShelf = Shelf<Direct<MemDisk>, MemDisk>;
+pub(crate) type MemShelf = Shelf<AnyStore<MemDisk>, MemDisk>;
+
+/// The disk as a store, with a cache for `room` sectors where there is a number.
+pub(crate) fn store_over(
+    alloc: Global,
+    disk: MemDisk,
+    room: Option<u32>,
+) -> Result<AnyStore<MemDisk>, NoMemory>
+    requires { IfSome room (λ (n : ℕ). (1 ≤ n) × (n ≤ 65536)) }
+    ensures { IfOk result (λ store. store ≡ over room disk) }
+{
+    let Some(room) = room else {
+        return Ok(AnyStore::Direct(Direct::new(disk)));
+    };
+    match Cached::mount(alloc, disk, room) {
+        Ok(store) => Ok(AnyStore::Cached(store)),
+        Err((NoMemory, _)) => Err(NoMemory),
+    }
+}
 
 /// The keep of a disk that has room for lists, on which lists stand, and of which no call fails.
 pub(crate) fn mount(disk: MemDisk) -> Keep<MemDisk>
@@ -28,18 +52,18 @@ pub(crate) fn mount(disk: MemDisk) -> Keep<MemDisk>
 }
 
 /// Adds a target behind the others.
-pub(crate) fn seat(shelf: &mut MemShelf, minor: u8, store: MemDisk, keep: Keep<MemDisk>)
+pub(crate) fn seat(shelf: &mut MemShelf, minor: u8, store: AnyStore<MemDisk>, keep: Keep<MemDisk>)
     requires minor { minor < 255 }
     requires taken { refusal_of shelf.old.targets minor ≡ None }
     ensures { shelf.new ≡ record shelf.old {
       targets = shelf.old.targets ++ record {
-        station = station_of record { major = shelf.old.major; minor = minor } shelf.old.ports shelf.old.mtu (length store.loose);
+        station = station_of record { major = shelf.old.major; minor = minor } shelf.old.ports shelf.old.mtu (any_state state_of store).sectors;
         keep = keep;
         store = store;
       } ∷ [];
     } }
 {
-    match shelf.add(minor, Direct::new(store), keep) {
+    match shelf.add(minor, store, keep) {
         Ok(()) => {}
         Err(_) => unreachable!(),
     }

@@ -25,16 +25,37 @@ fn set_all() -> Frame {
     frame
 }
 
-/// The shelf 1 with the targets 1.7 and 1.3, of 16 sectors each.
+/// The shelf 1 with the targets 1.7 and 1.3, of 16 sectors each. The second has a cache.
 fn shelf_of_two(alloc: Global) -> Result<MemoryRack, Fail>
     ensures { IfOk result (λ x. length x.shelf.targets ≡ 2) }
 {
     let mut ports = Ports::new();
     ports.push(PORT);
     let mut rack = MemoryRack::new(alloc, 1, ports, 1500)?;
-    rack.add(alloc, 7, 16)?;
-    rack.add(alloc, 3, 16)?;
+    rack.add(alloc, 7, 16, None)?;
+    rack.add(alloc, 3, 16, Some(4))?;
     Ok(rack)
+}
+
+/// A request to the target 1.3 with an ATA command on the sector 2, and these bytes behind it.
+fn ata(aflags: u8, count: u8, command: u8, data: &[u8]) -> Frame {
+    let mut frame = Frame::new();
+    let head = [0x88, 0xa2, 0x10, 0, 0, 1, 3, 0, 0, 0, 0, 7];
+    let args = [aflags, 0, count, command, 2, 0, 0, 0, 0, 0, 0, 0];
+    let pieces: [&[u8]; 5] = [&PORT.0, &STATION.0, &head, &args, data];
+    for piece in pieces {
+        let _ = frame.try_extend_from_slice(piece);
+    }
+    frame
+}
+
+/// Hands a frame over, and gives the reply of the target 1.3.
+fn asked(rack: &mut MemoryRack, run: &mut Run, frame: &Frame) -> Result<Frame, Fail> {
+    let mut out = Frame::new();
+    run.inject(frame.as_slice())?;
+    let number = FrameNo(run.frames());
+    rack.arrive(run, number, frame.as_slice(), &mut out)?;
+    Ok(out)
 }
 
 fn is_answered(entry: &Entry, minor: u8, number: u64) -> bool {
@@ -130,6 +151,26 @@ fn a_crash_leaves_the_lists(rt: HostRuntime) -> Result<(), Fail> {
             return Err(Fail::from("no crash"));
         };
         assert_eq!(rt; lists.get().config.as_slice(), b"ab".as_slice());
+    }
+    Ok(())
+}
+
+#[test]
+fn a_crash_leaves_what_was_flushed(rt: HostRuntime) -> Result<(), Fail> {
+    for is_flushed in [false, true] {
+        let mut rack = shelf_of_two(rt.alloc())?;
+        let mut run = Run::new(rt.alloc(), Millis(2000));
+        asked(&mut rack, &mut run, &ata(0x41, 1, 0x34, &[0x5a; 512]))?;
+        if is_flushed {
+            asked(&mut rack, &mut run, &ata(0x40, 0, 0xea, &[]))?;
+        }
+        let read = ata(0x40, 1, 0x24, &[]);
+        let reply = asked(&mut rack, &mut run, &read)?;
+        assert_eq!(rt; reply.as_slice().get(36), Some(&0x5a));
+        rack.crash(&mut run, Loss::Keep)?;
+        let reply = asked(&mut rack, &mut run, &read)?;
+        let left = if is_flushed { 0x5a } else { 0 };
+        assert_eq!(rt; reply.as_slice().get(36), Some(&left));
     }
     Ok(())
 }

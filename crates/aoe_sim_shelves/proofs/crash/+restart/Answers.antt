@@ -1,9 +1,10 @@
 use Rattle.std.proofs.Common.{◌≡◌, length, sym, ap, subst, ◌∙◌, arith}
+use Rattle.aoe_cache.specs.declared.any.AnyStore.{AnyStore}
 use Rattle.aoe_disk.specs.Memory.{contents_of, Memory}
 use Rattle.aoe_disk.specs.State.{CanLeave}
 use Rattle.aoe_keep.specs.Keep.{Kept}
 use Rattle.aoe_shelf.specs.Shelf.{Rack}
-use Rattle.aoe_sim_shelves.specs.Crash.{Loses}
+use Rattle.aoe_sim_shelves.specs.Crash.{Loses, LosesStore}
 use Rattle.aoe_sim_shelves.specs.Rack.{AreTargets}
 use Rattle.aoe_sim_shelves.proofs.FrontLemmas.{front_apart, front_targets, last_target, length_last, restart_last, restart_minor}
 use Rattle.aoe_sim_shelves.proofs.SeatLemmas.{last_name, not_refused, seated, seated_again}
@@ -20,7 +21,7 @@ restart-requires t c =
 pub mount-keep-requires-clause-lists : goal.mount-keep-requires-clause-lists
 mount-keep-requires-clause-lists t c =
     let k = c.in-Some-take_last.ensures.takes in
-    let own : c.close.result ≡ k.0.keep.disk = c.close.ensures ∙ ap (λ (p : Memory × Kept Memory). p.1.disk) k.2 in
+    let own : c.close.result ≡ k.0.keep.disk = c.close.ensures ∙ ap (λ (p : AnyStore Memory × Kept Memory). p.1.disk) k.2 in
     let left : CanLeave (contents_of k.0.keep.disk) c.lose.result.bytes = subst (λ (m : Memory). CanLeave (contents_of m) c.lose.result.bytes) own c.lose.ensures.allowed in
     let lists = (last_target c.args.shelf.now c.take_last.new.self.targets k.0 k.1 c.requires).holds.crash c.lose.result.bytes left in
     (lists.0, lists.1)
@@ -50,9 +51,9 @@ returns-clause-restarts t c =
     let k = c.in-Some-take_last.ensures.takes in
     let r = c.restart.new.shelf in
     let name = last_name shelf.targets front k.0 c.in-Some.slot c.id-minor.result k.1 (omega (arith, c.count.ensures.count, c.in-Some.ensures.1)) c.id-minor.ensures in
-    let rest = c.restart.ensures.rest ∙ ap (λ (z : Rack Memory Memory). record z { targets = r.targets }) c.in-Some-take_last.ensures.rest in
-    let disk : c.close.result ≡ k.0.keep.disk = c.close.ensures ∙ ap (λ (p : Memory × Kept Memory). p.1.disk) k.2 in
-    let store : c.close-2.result ≡ k.0.store = c.close-2.ensures ∙ ap (λ (p : Memory × Kept Memory). p.0) k.2 in
-    let one = seated_again c.args.how shelf r k.0 c.id-minor.result.minor c.lose-2.result c.lose.result c.mount-keep.result (last_target shelf front k.0 k.1 c.requires) rest (ap (λ z. z.minor) name)
-    (subst (λ (m : Memory). Loses c.args.how m c.lose-2.result) store c.lose-2.ensures) (subst (λ (m : Memory). Loses c.args.how m c.lose.result) disk c.lose.ensures) c.mount-keep.ensures in
-    restart_last c.args.how shelf.targets front k.0 (seated r.major r.ports r.mtu c.id-minor.result.minor c.lose-2.result c.mount-keep.result) r c.seat.new.shelf k.1 c.seat.ensures c.restart.ensures.restarts one
+    let rest = c.restart.ensures.rest ∙ ap (λ (z : Rack (AnyStore Memory) Memory). record z { targets = r.targets }) c.in-Some-take_last.ensures.rest in
+    let disk : c.close.result ≡ k.0.keep.disk = c.close.ensures ∙ ap (λ (p : AnyStore Memory × Kept Memory). p.1.disk) k.2 in
+    let store : c.in-Some-take_last.store ≡ k.0.store = ap (λ (p : AnyStore Memory × Kept Memory). p.0) k.2 in
+    let one = seated_again c.args.how shelf r k.0 c.id-minor.result.minor c.reopen.result c.lose.result c.mount-keep.result (last_target shelf front k.0 k.1 c.requires) rest (ap (λ z. z.minor) name)
+    (subst (λ (m : AnyStore Memory). LosesStore c.args.how m c.reopen.result) store c.reopen.ensures) (subst (λ (m : Memory). Loses c.args.how m c.lose.result) disk c.lose.ensures) c.mount-keep.ensures in
+    restart_last c.args.how shelf.targets front k.0 (seated r.major r.ports r.mtu c.id-minor.result.minor c.reopen.result c.mount-keep.result) r c.seat.new.shelf k.1 c.seat.ensures c.restart.ensures.restarts one

@@ -2,6 +2,7 @@
 use Rattle.std.proofs.Common.{◌∙◌, List, length, map, sym, ap, subst}
 use Rattle.std.specs.List.{refill}
 use Rattle.std.specs.Prelude.{slice_set}
+use Rattle.aoe_cache.specs.declared.any.AnyStore.{AnyStore}
 use Rattle.aoe_history.specs.declared.entry.Entry.{Entry}
 use Rattle.aoe_disk.specs.Memory.{Memory}
 use Rattle.aoe_target.specs.Mounted.{Mounted}
@@ -50,4 +51,4 @@ returns-clause-serves c slots apart serves =
 pub returns-clause-stations : goal.returns-clause-stations
 returns-clause-stations c =
     let e = c.arm_disk.ensures.arms in
-    stations-kept c.args.slot _ _ _ e (armed-same c.args.which c.arm_of.result e.before e.after e.change).station ∙ ap (λ (x : MemoryRack). map (λ (t : Mounted Memory Memory). t.station) x.shelf.targets) c.self.view_is
+    stations-kept c.args.slot _ _ _ e (armed-same c.args.which c.arm_of.result e.before e.after e.change).station ∙ ap (λ (x : MemoryRack). map (λ (t : Mounted (AnyStore Memory) Memory). t.station) x.shelf.targets) c.self.view_is

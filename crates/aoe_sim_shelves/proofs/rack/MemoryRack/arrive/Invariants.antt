@@ -1,4 +1,5 @@
 use Rattle.std.proofs.Common.{◌≡◌, List, length, map}
+use Rattle.aoe_cache.specs.declared.any.AnyStore.{AnyStore}
 use Rattle.aoe_disk.specs.Memory.{Memory}
 use Rattle.aoe_target.specs.Mounted.{Mounted}
 use Rattle.aoe_history.specs.Setup.{Setup, SlotSetup}
@@ -12,5 +13,5 @@ invariant-slots l = record {
   life : l.run.life ≡ l.initial.run.life;
   count : length l.self.shelf.targets ≡ length l.initial.self.shelf.targets;
   major : l.self.shelf.major ≡ l.initial.self.shelf.major;
-  stations : map (λ (t : Mounted Memory Memory). t.station) l.self.shelf.targets ≡ map (λ (t : Mounted Memory Memory). t.station) l.initial.self.shelf.targets;
+  stations : map (λ (t : Mounted (AnyStore Memory) Memory). t.station) l.self.shelf.targets ≡ map (λ (t : Mounted (AnyStore Memory) Memory). t.station) l.initial.self.shelf.targets;
 }

@@ -1,5 +1,6 @@
 -- What is known when the frame was handed to the target: one turn.
 use Rattle.std.proofs.Common.{◌≡◌, Err, List, drop, map, refl, sym, ap, subst, ◌∙◌}
+use Rattle.aoe_cache.specs.declared.any.AnyStore.{AnyStore}
 use Rattle.aoe_history.specs.declared.entry.Entry.{Entry}
 use Rattle.aoe_history.specs.Groups.{ArriveAtSome}
 use Rattle.aoe_net.specs.declared.refusal.NetRefusal.TheVariants.{Full}
@@ -8,7 +9,7 @@ use Rattle.aoe_target.specs.Mounted.{Mounted}
 use Rattle.aoe_history.specs.Run.{Recorded, MeetsFull}
 use Rattle.aoe_sim_shelves.specs.Rack.{MemoryRack}
 use Rattle.aoe_sim_shelves.proofs.ArrivalLemmas.{turn-comes, turn-full, IsTurn}
-use Rattle.aoe_sim_shelves.proofs.RackLemmas.{rack-kept, receives-same, stations-kept}
+use Rattle.aoe_sim_shelves.proofs.RackLemmas.{both-changes, rack-kept, receives-same, stations-kept}
 use Rattle.aoe_sim_shelves.proofs.rack.MemoryRack.arrive_at.Goals as goal
 
 pub invariant_of-self : goal.invariant_of-self
@@ -28,7 +29,7 @@ returns-in-Err-clause-full c full s slots reached =
     let stays : c.take_down.new.run ≡ c.args.run.now = c.in-Err.ensures.err in
     let is : c.in-Err.refusal ≡ Full = cc in
     let turn : IsTurn _ _ _ _ c.self.inside.shelf c.receive_slot-heard.new.self _ _ _ _ _ = record {
-      change = c.receive_slot-heard.ensures.receives;
+      change = both-changes c.args.slot _ _ _ _ c.receive_slot-heard.ensures.receives c.receive_slot-heard.ensures.under;
       name = c.id-dev.ensures;
       count = c.self.invariant.count;
       read = c.deref.ensures.0;
@@ -43,7 +44,7 @@ pub returns-clause-comes : goal.returns-clause-comes
 returns-clause-comes c s slots reached =
     let came = c.in-Ok.ensures.ok in
     let turn : IsTurn _ _ _ _ c.self.inside.shelf c.receive_slot-heard.new.self _ _ _ _ _ = record {
-      change = c.receive_slot-heard.ensures.receives;
+      change = both-changes c.args.slot _ _ _ _ c.receive_slot-heard.ensures.receives c.receive_slot-heard.ensures.under;
       name = c.id-dev.ensures;
       count = c.self.invariant.count;
       read = c.deref.ensures.0;
@@ -54,9 +55,9 @@ returns-clause-comes c s slots reached =
 pub returns-in-Err-clause-stations : goal.returns-in-Err-clause-stations
 returns-in-Err-clause-stations c =
     let r = c.receive_slot-heard.ensures in
-    stations-kept c.args.slot _ _ _ r.receives r.receives.change.station ∙ ap (λ (x : MemoryRack). map (λ (t : Mounted Memory Memory). t.station) x.shelf.targets) c.self.view_is
+    stations-kept c.args.slot _ _ _ r.receives r.receives.change.station ∙ ap (λ (x : MemoryRack). map (λ (t : Mounted (AnyStore Memory) Memory). t.station) x.shelf.targets) c.self.view_is
 
 pub returns-clause-stations : goal.returns-clause-stations
 returns-clause-stations c =
     let r = c.receive_slot-heard.ensures in
-    stations-kept c.args.slot _ _ _ r.receives r.receives.change.station ∙ ap (λ (x : MemoryRack). map (λ (t : Mounted Memory Memory). t.station) x.shelf.targets) c.self.view_is
+    stations-kept c.args.slot _ _ _ r.receives r.receives.change.station ∙ ap (λ (x : MemoryRack). map (λ (t : Mounted (AnyStore Memory) Memory). t.station) x.shelf.targets) c.self.view_is

@@ -1,5 +1,6 @@
 use Rattle.std.proofs.Common.{length, map, refl, sym, ap, subst, ◌∙◌}
 use Rattle.std.proofs.lemmas.List.{length-replicate}
+use Rattle.aoe_cache.specs.declared.any.AnyStore.{AnyStore}
 use Rattle.aoe_disk.specs.Memory.{Memory}
 use Rattle.aoe_shelf.specs.Shelf.{Rack}
 use Rattle.aoe_target.specs.Mounted.{Mounted}
@@ -12,7 +13,7 @@ use Rattle.aoe_sim_shelves.proofs.rack.MemoryRack.crash.Goals as goal
 
 pub invariant_of-self : goal.invariant_of-self
 invariant_of-self c = record {
-  number = ap (λ (z : Rack Memory Memory). z.major) c.restart.ensures.rest ∙ c.self.invariant.number;
+  number = ap (λ (z : Rack (AnyStore Memory) Memory). z.major) c.restart.ensures.rest ∙ c.self.invariant.number;
   count = ap length c.no_stops-self-inside.ensures ∙ length-replicate c.count.result _ ∙ c.count.ensures.count;
   targets = subst AreTargets (sym c.restart.ensures.rest) (restart_targets c.args.how c.self.inside.shelf c.restart.new.shelf.targets c.self.invariant.targets c.restart.ensures.restarts);
 }
@@ -34,7 +35,7 @@ returns-clause-err c = on_err c.note_each.result c.note_each.ensures.err (λ e s
 pub returns-clause-stations : goal.returns-clause-stations
 returns-clause-stations c =
     same_stations c.args.how c.self.inside.shelf.targets c.restart.new.shelf.targets c.restart.ensures.restarts
-    ∙ ap (λ (x : MemoryRack). map (λ (t : Mounted Memory Memory). t.station) x.shelf.targets) c.self.view_is
+    ∙ ap (λ (x : MemoryRack). map (λ (t : Mounted (AnyStore Memory) Memory). t.station) x.shelf.targets) c.self.view_is
 
 pub returns-clause-restarts : goal.returns-clause-restarts
 returns-clause-restarts c =
