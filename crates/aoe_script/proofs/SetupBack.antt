@@ -13,7 +13,7 @@ use Rattle.aoe_script.specs.declared.setup.Setup.TheVariants.{Life, Shelf, Slot,
 use Rattle.aoe_script.specs.Classes.{is_name}
 use Rattle.aoe_script.specs.Forms.{said}
 use Rattle.aoe_script.specs.Print.{setup_words}
-use Rattle.aoe_script.specs.Rules.{are_ports, is_limit, is_setup, is_within}
+use Rattle.aoe_script.specs.Rules.{are_ports, is_cache, is_limit, is_setup, is_within}
 use Rattle.aoe_script.specs.Types.{FitsSetup, IsAddress}
 use Rattle.aoe_script.proofs.ListedLemmas.{AddressLaw, macs_word, ports_back}
 use Rattle.aoe_script.proofs.NamedLemmas.{name_back, name_word}
@@ -41,13 +41,21 @@ module _ (law : AddressLaw) where
     few = omega arith;
   }
 
-  slot_is : (shelf : ArrayVec ℕ) (minor sectors : ℕ) → is_name shelf ≡ true → minor < 2 ^ 64 → sectors < 2 ^ 64 → IsSaid (setup_words (Slot shelf minor sectors)) (Declares (Slot shelf minor sectors))
+  slot_is : (shelf : ArrayVec ℕ) (minor sectors : ℕ) (room : Option ℕ) → is_name shelf ≡ true → minor < 2 ^ 64 → sectors < 2 ^ 64 → is_cache room ≡ true
+      → IsSaid (setup_words (Slot shelf minor sectors room)) (Declares (Slot shelf minor sectors room))
   unfolding said
-  slot_is shelf minor sectors named low small = record {
+  slot_is shelf minor sectors None named low small cache = record {
     said_is = rw (name_back shelf named, number_is minor low, number_is sectors small) refl;
     are_words = rw (name_word shelf named, number_word minor low, number_word sectors small) refl;
     few = omega arith;
   }
+  slot_is shelf minor sectors (Some room) named low small cache =
+      let high : room < 2 ^ 64 = most_of 1 65536 room (lit< tt) cache in
+      record {
+        said_is = rw (name_back shelf named, number_is minor low, number_is sectors small, number_is room high) refl;
+        are_words = rw (name_word shelf named, number_word minor low, number_word sectors small, number_word room high) refl;
+        few = omega arith;
+      }
 
   host_is : (name : ArrayVec ℕ) (ports : ArrayVec Mac) → is_name name ≡ true → are_ports ports ≡ true → All IsAddress ports.items
       → IsSaid (setup_words (Host name ports None None)) (Declares (Host name ports None None))
@@ -91,10 +99,11 @@ module _ (law : AddressLaw) where
       let g = and_parts (is_name name && nat_le major 65534) (are_ports ports) h.0 in
       let f = and_parts (is_name name) (nat_le major 65534) g.0 in
       shelf_is name major ports mtu f.0 (small_of 65534 major (lit< tt) f.1) g.1 (most_of 1500 9000 mtu (lit< tt) h.1) fits
-  setup_is (Slot shelf minor sectors) e fits =
-      let h = and_parts (is_name shelf && nat_le minor 254) (is_within 1 65536 sectors) e in
-      let g = and_parts (is_name shelf) (nat_le minor 254) h.0 in
-      slot_is shelf minor sectors g.0 (small_of 254 minor (lit< tt) g.1) (most_of 1 65536 sectors (lit< tt) h.1)
+  setup_is (Slot shelf minor sectors room) e fits =
+      let h = and_parts (is_name shelf && nat_le minor 254 && is_within 1 65536 sectors) (is_cache room) e in
+      let g = and_parts (is_name shelf && nat_le minor 254) (is_within 1 65536 sectors) h.0 in
+      let f = and_parts (is_name shelf) (nat_le minor 254) g.0 in
+      slot_is shelf minor sectors room f.0 (small_of 254 minor (lit< tt) f.1) (most_of 1 65536 sectors (lit< tt) g.1) h.1
   setup_is (Host name ports room dead) e fits =
       let h = and_parts (is_name name && are_ports ports) (is_limit room dead) e in
       let g = and_parts (is_name name) (are_ports ports) h.0 in

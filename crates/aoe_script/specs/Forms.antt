@@ -40,11 +40,11 @@ shelf_of ws =
     option_and_then (λ name. option_and_then (λ major. option_and_then (λ ports. option_map (λ mtu. Shelf name major (record { items = ports }) mtu)
     (number (word_at ws 4))) (ports_of (word_at ws 3))) (number (word_at ws 2))) (name_of (word_at ws 1))
 
--- slot NAME MINOR SECTORS
+-- slot NAME MINOR SECTORS, with or without ROOM
 abbrev pub slot_of : List Text → Option Setup
 slot_of ws =
-    option_and_then (λ shelf. option_and_then (λ minor. option_map (λ sectors. Slot shelf minor sectors)
-    (number (word_at ws 3))) (number (word_at ws 2))) (name_of (word_at ws 1))
+    option_and_then (λ shelf. option_and_then (λ minor. option_and_then (λ sectors. option_map (λ room. Slot shelf minor sectors room)
+    (optional_number ws 4)) (number (word_at ws 3))) (number (word_at ws 2))) (name_of (word_at ws 1))
 
 -- host NAME PORTS, with or without ROOM DEAD
 abbrev pub host_of : List Text → Option Setup
@@ -164,7 +164,7 @@ asks true (Some event) = Asks event
 abbrev pub row_of : Keyword → List Text → Line
 row_of LifeLine ws = declares (length ws == 2) (life_of ws)
 row_of ShelfLine ws = declares (length ws == 5) (shelf_of ws)
-row_of SlotLine ws = declares (length ws == 4) (slot_of ws)
+row_of SlotLine ws = declares (length ws == 4 || length ws == 5) (slot_of ws)
 row_of HostLine ws = declares (length ws == 3 || length ws == 5) (host_of ws)
 row_of AttachLine ws = declares (length ws == 4) (attach_of ws)
 row_of ReadLine ws = asks (length ws == 5) (read_of ws)

@@ -30,6 +30,11 @@ is_limit (Some room) (Some dead) = is_within 1 16384 room && is_within 1 1000000
 is_limit None (Some dead) = false
 is_limit (Some room) None = false
 
+-- how many sectors the cache of a slot holds at most, where it has one
+abbrev pub is_cache : Option ℕ → Bool
+is_cache None = true
+is_cache (Some room) = is_within 1 65536 room
+
 -- a device's name has neither the number of all shelves nor that of all slots
 abbrev pub is_device : TargetId → Bool
 is_device dev = nat_le dev.major 65534 && nat_le dev.minor 254
@@ -38,7 +43,7 @@ is_device dev = nat_le dev.major 65534 && nat_le dev.minor 254
 abbrev pub is_setup : Setup → Bool
 is_setup (Life ms) = nat_le ms 600000
 is_setup (Shelf name major ports mtu) = is_name name && nat_le major 65534 && are_ports ports && is_within 1500 9000 mtu
-is_setup (Slot shelf minor sectors) = is_name shelf && nat_le minor 254 && is_within 1 65536 sectors
+is_setup (Slot shelf minor sectors room) = is_name shelf && nat_le minor 254 && is_within 1 65536 sectors && is_cache room
 is_setup (Host name ports room dead) = is_name name && are_ports ports && is_limit room dead
 is_setup (Attach host shelf minor) = is_name host && is_name shelf && nat_le minor 254
 
@@ -110,16 +115,16 @@ has_port mac _ = false
 
 -- it declares a slot of this shelf, the one of this number
 abbrev pub is_slot_of : ArrayVec ℕ → Setup → Bool
-is_slot_of shelf (Slot other minor sectors) = same other shelf
+is_slot_of shelf (Slot other minor sectors room) = same other shelf
 is_slot_of shelf _ = false
 
 abbrev pub is_slot : ArrayVec ℕ → ℕ → Setup → Bool
-is_slot shelf minor (Slot other number sectors) = number == minor && same other shelf
+is_slot shelf minor (Slot other number sectors room) = number == minor && same other shelf
 is_slot shelf minor _ = false
 
 -- how many sectors it declares
 abbrev pub sectors_of : Setup → ℕ
-sectors_of (Slot shelf minor sectors) = sectors
+sectors_of (Slot shelf minor sectors room) = sectors
 sectors_of _ = 0
 
 -- it attaches this host to this slot
@@ -167,7 +172,7 @@ first_of false false false = None
 abbrev pub declared_why : List Setup → Setup → Option Why
 declared_why setups (Life ms) = first_of (list_any is_life setups) false false
 declared_why setups (Shelf name major ports mtu) = first_of (is_taken setups name ports.items || list_any (has_major major) setups) (is_full is_shelf setups) false
-declared_why setups (Slot shelf minor sectors) =
+declared_why setups (Slot shelf minor sectors room) =
     first_of (list_any (is_slot shelf minor) setups) (is_full (is_slot_of shelf) setups || are_too_many setups sectors) (not (list_any (is_shelf_named shelf) setups))
 declared_why setups (Host name ports room dead) = first_of (is_taken setups name ports.items) (is_full is_host setups) false
 declared_why setups (Attach host shelf minor) =

@@ -38,7 +38,7 @@ pub(crate) fn shelf_of(words: &Words) -> Option<Setup>
     })
 }
 
-/// `slot NAME MINOR SECTORS`
+/// `slot NAME MINOR SECTORS`, or with `ROOM` behind it
 pub(crate) fn slot_of(words: &Words) -> Option<Setup>
     ensures { result ≡ slot_of words.now }
 {
@@ -46,6 +46,7 @@ pub(crate) fn slot_of(words: &Words) -> Option<Setup>
         shelf: name_of(words.at(1))?,
         minor: number(words.at(2))?,
         sectors: number(words.at(3))?,
+        room: optional_number(words, 4)?,
     })
 }
 

@@ -53,6 +53,22 @@ fn put_shelf(
     put_count(out, b"", mtu)
 }
 
+/// Adds `slot`, without its end.
+fn put_slot(
+    out: &mut Vec<u8>,
+    shelf: &Name,
+    minor: u64,
+    sectors: u64,
+    room: Option<u64>,
+) -> Result<(), NoMemory>
+    ensures { OnOk result (out.new.items ≡ out.old.items ++ spelled (setup_words (Setup.Slot shelf.now minor sectors room))) }
+{
+    put_named(out, b"slot", shelf)?;
+    put_count(out, b"", minor)?;
+    put_count(out, b"", sectors)?;
+    put_optional(out, room)
+}
+
 /// Adds `host`, without its end.
 fn put_host(
     out: &mut Vec<u8>,
@@ -86,11 +102,8 @@ fn put_setup(out: &mut Vec<u8>, setup: &Setup) -> Result<(), NoMemory>
             shelf,
             minor,
             sectors,
-        } => {
-            put_named(out, b"slot", shelf)?;
-            put_count(out, b"", *minor)?;
-            put_count(out, b"", *sectors)
-        }
+            room,
+        } => put_slot(out, shelf, *minor, *sectors, *room),
         Setup::Host {
             name,
             ports,

@@ -1,7 +1,7 @@
 //! The ranges of words.
 ghost use Rattle.std.specs.Prelude.{◌≡◌, ◌==◌, nat_le, length, if◌then◌else◌};
 ghost use Rattle.std.specs.List.{list_all};
-ghost use Rattle.aoe_script.specs.Rules.{are_ports, is_asked, is_device, is_event, is_limit, is_setup, is_span, is_within};
+ghost use Rattle.aoe_script.specs.Rules.{are_ports, is_asked, is_cache, is_device, is_event, is_limit, is_setup, is_span, is_within};
 ghost use Rattle.aoe_base.specs.Addresses.{all_unique, is_individual};
 
 use crate::classes::is_name;
@@ -52,6 +52,16 @@ fn is_limit(room: Option<u64>, dead: Option<u64>) -> bool
         (Some(room), Some(dead)) => is_within(1, 16384, room) && is_within(1, 10_000_000, dead),
         (None, Some(_)) => false,
         (Some(_), None) => false,
+    }
+}
+
+/// Whether a slot can have this: a cache with room for so many sectors, or none.
+fn is_cache(room: Option<u64>) -> bool
+    ensures { result ≡ is_cache room }
+{
+    match room {
+        Some(room) => is_within(1, 65536, room),
+        None => true,
     }
 }
 
@@ -121,7 +131,11 @@ impl Setup {
                 shelf,
                 minor,
                 sectors,
-            } => is_name(shelf) && *minor <= LAST_MINOR && is_within(1, 65536, *sectors),
+                room,
+            } => is_name(shelf)
+                && *minor <= LAST_MINOR
+                && is_within(1, 65536, *sectors)
+                && is_cache(*room),
             Setup::Host {
                 name,
                 ports,

@@ -74,6 +74,7 @@ impl Setup {
                 shelf,
                 minor,
                 sectors,
+                ..
             } => slot_why(setups, shelf, *minor, *sectors),
             Setup::Host { name, ports, .. } => first_of(
                 is_taken(setups, name, ports.as_slice()),

@@ -21,11 +21,13 @@ pub enum Setup {
         mtu: u64,
     },
 
-    /// A slot of a shelf, of this many sectors.
+    /// A slot of a shelf, of this many sectors. Where a room is given, its store is a write-behind
+    /// cache that holds so many sectors at most.
     Slot {
         shelf: Name,
         minor: u64,
         sectors: u64,
+        room: Option<u64>,
     },
 
     /// A host with its addresses, and how many commands fly at most and for how long, where that

@@ -55,7 +55,7 @@ fn row_of(alloc: Global, keyword: Keyword, words: &Words) -> Result<Line, NoMemo
     match keyword {
         Keyword::Life => Ok(declares(count == 2, life_of(words))),
         Keyword::Shelf => Ok(declares(count == 5, shelf_of(words))),
-        Keyword::Slot => Ok(declares(count == 4, slot_of(words))),
+        Keyword::Slot => Ok(declares(count == 4 || count == 5, slot_of(words))),
         Keyword::Host => Ok(declares(count == 3 || count == 5, host_of(words))),
         Keyword::Attach => Ok(declares(count == 4, attach_of(words))),
         Keyword::Read => Ok(asks(count == 5, read_of(words))),

@@ -39,7 +39,7 @@ const NOT_IN_GRAMMAR: [&str; 49] = [
     "shelf t 2 02:00:00:00:00:02",
     "shelf t 2 02:00:00:00:00:02 1500 0",
     "slot s 1",
-    "slot s 1 16 8",
+    "slot s 1 16 8 1",
     "host b",
     "host b 02:00:00:00:00:0b 1",
     "host b 02:00:00:00:00:0b 1 2 3",
@@ -92,7 +92,7 @@ fn finds_words_that_the_grammar_lacks(rt: HostRuntime) -> Result<(), Fail> {
 }
 
 /// Lines with a word that is not of its class or range.
-const OUT_OF_RANGE: [&str; 69] = [
+const OUT_OF_RANGE: [&str; 72] = [
     "life x",
     "life 600001",
     "life 000000000000000000001",
@@ -111,6 +111,9 @@ const OUT_OF_RANGE: [&str; 69] = [
     "slot s 1 0",
     "slot s 1 65537",
     "slot S 1 16",
+    "slot s 1 16 0",
+    "slot s 1 16 65537",
+    "slot s 1 16 x",
     "host B 02:00:00:00:00:0b",
     "host b -",
     "host b 02:00:00:00:00:0b 0 1",
@@ -251,7 +254,7 @@ fn counts_what_may_stand(rt: HostRuntime) -> Result<(), Fail> {
 }
 
 /// Lines behind those of the start, and how many setup lines and events the script has.
-const GOOD: [(&str, (usize, usize)); 12] = [
+const GOOD: [(&str, (usize, usize)); 13] = [
     ("", (5, 0)),
     ("\n\n#x\n  # y\n \r\n", (5, 0)),
     ("  tick   00001  \r\n", (5, 1)),
@@ -260,6 +263,7 @@ const GOOD: [(&str, (usize, usize)); 12] = [
         "slot s 1 65536\nhost b 02:00:00:00:00:0b 16384 10000000\nattach b s 1",
         (8, 0),
     ),
+    ("slot s 1 16 8\nslot s 2 1 65536\nslot s 3 65536 1", (8, 0)),
     (
         "read a e1.0 281474976710655 255\nwrite a e01.000 0 0 ff\nflush a e1.0\nidentify a e1.0",
         (5, 4),
@@ -366,7 +370,7 @@ fn takes_so_many_events_and_bytes(rt: HostRuntime) -> Result<(), Fail> {
 fn prints_what_it_read(rt: HostRuntime) -> Result<(), Fail> {
     let alloc = rt.alloc();
     let text =
-        "life 2000\nshelf s 1 02:00:00:00:00:01,02:00:00:00:00:02 1500\nslot s 0 16\nslot s 7 9\nhost a 02:00:00:00:00:0a\nhost b 02:00:00:00:00:0b 5 600\nattach a s 0\n\
+        "life 2000\nshelf s 1 02:00:00:00:00:01,02:00:00:00:00:02 1500\nslot s 0 16\nslot s 7 9 4\nhost a 02:00:00:00:00:0a\nhost b 02:00:00:00:00:0b 5 600\nattach a s 0\n\
         read a e1.0 281474976710655 255\nwrite a e1.0 0 0 5a\nflush a e1.0\nidentify a e1.0\nconfig a e1.0 read\nconfig a e1.0 test -\nconfig a e1.0 force 00ff\n\
         masks a e1.0 read\nmasks a e1.0 edit +02:00:00:00:00:0a,-ff:ff:ff:ff:ff:ff\nreserve a e1.0 read\nreserve a e1.0 set -\nreserve a e1.0 force 02:00:00:00:00:0a,02:00:00:00:00:0b\n\
         tick 1\ndeliver 3 b\npass 10\nskip 1\nagain\ninject ffffffffffff02000000000c88a2\nfail e1.7 store 1000\nstop e1.0 keep 1 mix:18446744073709551615\ncrash s torn\n";
