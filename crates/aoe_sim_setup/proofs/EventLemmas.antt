@@ -49,7 +49,7 @@ attached-shelf lines host dev e = let s = any-passes (has_attached lines host de
     go (Shelf name major ports mtu) k e t =
         let p = and_parts (major == dev.major) (list_any (attaches host name dev.minor) lines) t in
         record { at = k; name = name; ports = ports; mtu = mtu; there = e ∙ ap (λ m. Some (Shelf name m ports mtu)) (eqb-true major dev.major p.0); passes = p.1 }
-    go (Slot shelf minor sectors) k e t = absurd cc
+    go (Slot shelf minor sectors room) k e t = absurd cc
     go (Host name ports room dead) k e t = absurd cc
     go (Attach other shelf minor) k e t = absurd cc
 
@@ -61,7 +61,7 @@ known-shelf lines dev e = let s = any-passes (has_device lines dev) lines e in g
     go (Shelf name major ports mtu) k e t =
         let p = and_parts (major == dev.major) (list_any (is_slot name dev.minor) lines) t in
         record { at = k; name = name; ports = ports; mtu = mtu; there = e ∙ ap (λ m. Some (Shelf name m ports mtu)) (eqb-true major dev.major p.0); passes = p.1 }
-    go (Slot shelf minor sectors) k e t = absurd cc
+    go (Slot shelf minor sectors room) k e t = absurd cc
     go (Host name ports room dead) k e t = absurd cc
     go (Attach other shelf minor) k e t = absurd cc
 
@@ -76,7 +76,7 @@ attach-at lines host shelf minor e = let s = any-passes (attaches host shelf min
     go : (line : Line) (k : ℕ) → slice_get lines k ≡ Some line → attaches host shelf minor line ≡ true → AttachAt lines host shelf minor
     go (Life ms) k e t = absurd cc
     go (Shelf name major ports mtu) k e t = absurd cc
-    go (Slot other number sectors) k e t = absurd cc
+    go (Slot other number sectors room) k e t = absurd cc
     go (Host name ports room dead) k e t = absurd cc
     go (Attach a b number) k e t =
         let p = and_parts ((number == minor) && same a host) (same b shelf) t in
@@ -105,7 +105,7 @@ module _ (lines : List Line) (good : AreGood lines) where
       let g = good.attach a.at host s.name dev.minor a.there in
       let h = host-before lines good host a.at g.host_there in
       let x = slot-line lines good s.name dev.minor a.at g.slot_there in
-      let d = about (slot_with x.major x.ports.items x.mtu dev.minor x.sectors) in
+      let d = about (slot_with x.major x.ports.items x.mtu dev.minor x.sectors x.room) in
       let p = device-at lines good a.at host s.name dev.minor a.there x in
       let id : same_id d.id dev ≡ true
       = and_from (nat_eq x.major dev.major) (nat_eq dev.minor dev.minor) (eq-eqb x.major dev.major (one-shelf s.name dev.minor x s.at dev.major s.ports s.mtu s.there)) (eq-eqb dev.minor dev.minor refl) in
@@ -121,7 +121,7 @@ module _ (lines : List Line) (good : AreGood lines) where
       let known = not-false (is_known lines dev) (unless-none (not (is_known lines dev)) Unknown None e).0 in
       let s = known-shelf lines dev known in
       let x = slot-line-of lines good s.name dev.minor s.passes in
-      let slot = slot_with x.major x.ports.items x.mtu dev.minor x.sectors in
+      let slot = slot_with x.major x.ports.items x.mtu dev.minor x.sectors x.room in
       let m = one-shelf s.name dev.minor x s.at dev.major s.ports s.mtu s.there in
       let id : slot.station.id ≡ dev = ap (λ n. let i : TargetId = record { major = n; minor = dev.minor } in i) m in
       record {

@@ -13,7 +13,7 @@ use Rattle.aoe_script.specs.declared.setup.Setup.{Setup as Line}
 use Rattle.aoe_script.specs.declared.setup.Setup.TheVariants.{Life, Shelf, Slot, Host, Attach}
 use Rattle.aoe_script.specs.Classes.{is_name}
 use Rattle.aoe_script.specs.Lines.{IsScript, ScriptLines}
-use Rattle.aoe_script.specs.Rules.{are_ports, are_too_many, attaches, declared_why, first_of, has_major, has_port, is_full, is_host, is_host_named, is_limit, is_setup, is_shelf, is_shelf_named, is_slot, is_slot_of, is_station_named, is_taken, is_within, setup_why, unless}
+use Rattle.aoe_script.specs.Rules.{are_ports, are_too_many, attaches, declared_why, first_of, has_major, has_port, is_cache, is_full, is_host, is_host_named, is_limit, is_setup, is_shelf, is_shelf_named, is_slot, is_slot_of, is_station_named, is_taken, is_within, setup_why, unless}
 
 -- ---- causes that don't hold
 
@@ -67,10 +67,11 @@ pub record GoodShelf (before : List Line) (name : ArrayVec ℕ) (major : ℕ) (p
   pub new_number : list_any (has_major major) before ≡ false
   pub few : count_by is_shelf before < 16
 
-pub record GoodSlot (before : List Line) (shelf : ArrayVec ℕ) (minor sectors : ℕ) : Type 0 where
+pub record GoodSlot (before : List Line) (shelf : ArrayVec ℕ) (minor sectors : ℕ) (room : Option ℕ) : Type 0 where
   pub number : minor ≤ 254
   pub least : 1 ≤ sectors
   pub most : sectors ≤ 65536
+  pub cache : is_cache room ≡ true
   pub new : list_any (is_slot shelf minor) before ≡ false
   pub few : count_by (is_slot_of shelf) before < 16
   pub shelf_there : list_any (is_shelf_named shelf) before ≡ true
@@ -111,10 +112,12 @@ good-shelf before name major ports mtu e =
       few = fewer is_shelf before f.1;
     }
 
-good-slot : (before : List Line) (shelf : ArrayVec ℕ) (minor sectors : ℕ) → setup_why before false (Slot shelf minor sectors) ≡ None → GoodSlot before shelf minor sectors
-good-slot before shelf minor sectors e =
-    let w = why-parts before (Slot shelf minor sectors) e in
-    let a = and_parts (is_name shelf && nat_le minor 254) (is_within 1 65536 sectors) w.0 in
+good-slot : (before : List Line) (shelf : ArrayVec ℕ) (minor sectors : ℕ) (room : Option ℕ) → setup_why before false (Slot shelf minor sectors room) ≡ None
+    → GoodSlot before shelf minor sectors room
+good-slot before shelf minor sectors room e =
+    let w = why-parts before (Slot shelf minor sectors room) e in
+    let c = and_parts (is_name shelf && nat_le minor 254 && is_within 1 65536 sectors) (is_cache room) w.0 in
+    let a = and_parts (is_name shelf && nat_le minor 254) (is_within 1 65536 sectors) c.0 in
     let b = and_parts (is_name shelf) (nat_le minor 254) a.0 in
     let m = within 1 65536 sectors a.1 in
     let f = first-none (list_any (is_slot shelf minor) before) (is_full (is_slot_of shelf) before || are_too_many before sectors) (not (list_any (is_shelf_named shelf) before)) w.1 in
@@ -123,6 +126,7 @@ good-slot before shelf minor sectors e =
       number = leb-true minor 254 b.1;
       least = m.0;
       most = m.1;
+      cache = c.1;
       new = f.0;
       few = fewer (is_slot_of shelf) before g.0;
       shelf_there = not-false (list_any (is_shelf_named shelf) before) f.2;
@@ -149,7 +153,7 @@ good-attach before host shelf minor e =
 pub record AreGood (lines : List Line) : Type 0 where
   pub life : (k ms : ℕ) → slice_get lines k ≡ Some (Life ms) → ms ≤ 600000
   pub shelf : (k : ℕ) (name : ArrayVec ℕ) (major : ℕ) (ports : ArrayVec Mac) (mtu : ℕ) → slice_get lines k ≡ Some (Shelf name major ports mtu) → GoodShelf (take k lines) name major ports mtu
-  pub slot : (k : ℕ) (shelf : ArrayVec ℕ) (minor sectors : ℕ) → slice_get lines k ≡ Some (Slot shelf minor sectors) → GoodSlot (take k lines) shelf minor sectors
+  pub slot : (k : ℕ) (shelf : ArrayVec ℕ) (minor sectors : ℕ) (room : Option ℕ) → slice_get lines k ≡ Some (Slot shelf minor sectors room) → GoodSlot (take k lines) shelf minor sectors room
   pub host : (k : ℕ) (name : ArrayVec ℕ) (ports : ArrayVec Mac) (room dead : Option ℕ) → slice_get lines k ≡ Some (Host name ports room dead) → GoodHost (take k lines) name ports room dead
   pub attach : (k : ℕ) (host shelf : ArrayVec ℕ) (minor : ℕ) → slice_get lines k ≡ Some (Attach host shelf minor) → GoodAttach (take k lines) host shelf minor
 
@@ -160,7 +164,7 @@ are-good script is =
     record {
       life = λ k ms e. good-life (take k script.setups) ms (why k (Life ms) e);
       shelf = λ k name major ports mtu e. good-shelf (take k script.setups) name major ports mtu (why k (Shelf name major ports mtu) e);
-      slot = λ k shelf minor sectors e. good-slot (take k script.setups) shelf minor sectors (why k (Slot shelf minor sectors) e);
+      slot = λ k shelf minor sectors room e. good-slot (take k script.setups) shelf minor sectors room (why k (Slot shelf minor sectors room) e);
       host = λ k name ports room dead e. good-host (take k script.setups) name ports room dead (why k (Host name ports room dead) e);
       attach = λ k host shelf minor e. good-attach (take k script.setups) host shelf minor (why k (Attach host shelf minor) e);
     }

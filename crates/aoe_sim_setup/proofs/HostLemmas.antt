@@ -33,7 +33,7 @@ pub record IsHostLine (lines : List Line) (line : Line) (host : HostSetup) : Typ
 pub host-line : (lines : List Line) (line : Line) (host : HostSetup) → host_in lines line ≡ Some host → IsHostLine lines line host
 host-line lines (Life ms) host e = absurd (none-some host e)
 host-line lines (Shelf name major ports mtu) host e = absurd (none-some host e)
-host-line lines (Slot shelf minor sectors) host e = absurd (none-some host e)
+host-line lines (Slot shelf minor sectors room) host e = absurd (none-some host e)
 host-line lines (Host name ports room dead) host e =
     record { name = name; ports = ports; room = room; dead = dead; line_is = refl; host_is = same_Some (host_of lines name ports.items room dead) host e }
 host-line lines (Attach other shelf minor) host e = absurd (none-some host e)
@@ -65,7 +65,7 @@ record IsAttachLine (lines : List Line) (host : ArrayVec ℕ) (line : Line) (d :
 attach-line : (lines : List Line) (host : ArrayVec ℕ) (line : Line) (d : Attached) → attached_to lines host line ≡ Some d → IsAttachLine lines host line d
 attach-line lines host (Life ms) d e = absurd (none-some d e)
 attach-line lines host (Shelf name major ports mtu) d e = absurd (none-some d e)
-attach-line lines host (Slot shelf minor sectors) d e = absurd (none-some d e)
+attach-line lines host (Slot shelf minor sectors room) d e = absurd (none-some d e)
 attach-line lines host (Host name ports room dead) d e = absurd (none-some d e)
 attach-line lines host (Attach other shelf minor) d e = go (same other host) refl e
   where
@@ -78,14 +78,14 @@ pub record DeviceFrom (lines : List Line) (d : Attached) : Type 0 where
   pub name : ArrayVec ℕ
   pub minor : ℕ
   pub line : SlotLine lines name minor
-  pub device_is : about (slot_with line.major line.ports.items line.mtu minor line.sectors) ≡ d
+  pub device_is : about (slot_with line.major line.ports.items line.mtu minor line.sectors line.room) ≡ d
 
 module _ (lines : List Line) (good : AreGood lines) where
   by-line : (k : ℕ) (host : ArrayVec ℕ) (line : Line) (d : Attached) → slice_get lines k ≡ Some line → (a : IsAttachLine lines host line d)
-      → (x : SlotLine lines a.shelf a.minor) × (about (slot_with x.major x.ports.items x.mtu a.minor x.sectors) ≡ d)
+      → (x : SlotLine lines a.shelf a.minor) × (about (slot_with x.major x.ports.items x.mtu a.minor x.sectors x.room) ≡ d)
   by-line k host line d e a =
       let x = slot-line lines good a.shelf a.minor k (good.attach k host a.shelf a.minor (e ∙ ap Some a.line_is)).slot_there in
-      (x, same_Some (about (slot_with x.major x.ports.items x.mtu a.minor x.sectors)) d (sym (ap (option_map about) (slot-is lines good a.shelf a.minor x)) ∙ a.names))
+      (x, same_Some (about (slot_with x.major x.ports.items x.mtu a.minor x.sectors x.room)) d (sym (ap (option_map about) (slot-is lines good a.shelf a.minor x)) ∙ a.names))
 
   pub device-from : (host : ArrayVec ℕ) (i : ℕ) (d : Attached) → slice_get (devices_of lines host) i ≡ Some d → DeviceFrom lines d
   device-from host i d e =
@@ -96,9 +96,9 @@ module _ (lines : List Line) (good : AreGood lines) where
 
   -- an attach line gives its host a device
   pub device-at : (k : ℕ) (host shelf : ArrayVec ℕ) (minor : ℕ) → slice_get lines k ≡ Some (Attach host shelf minor) → (x : SlotLine lines shelf minor)
-      → Place (devices_of lines host) (about (slot_with x.major x.ports.items x.mtu minor x.sectors))
+      → Place (devices_of lines host) (about (slot_with x.major x.ports.items x.mtu minor x.sectors x.room))
   device-at k host shelf minor e x =
-      let d = about (slot_with x.major x.ports.items x.mtu minor x.sectors) in
+      let d = about (slot_with x.major x.ports.items x.mtu minor x.sectors x.room) in
       let gives : attached_to lines host (Attach host shelf minor) ≡ Some d
       = ap (λ b. cond b (option_map about (slot_named lines shelf minor)) None) (same-self host) ∙ ap (option_map about) (slot-is lines good shelf minor x) in
       filtered-at (attached_to lines host) lines k (Attach host shelf minor) d e gives
@@ -109,7 +109,7 @@ module _ (lines : List Line) (good : AreGood lines) where
       (λ i j a b lt p q c d x y. go i j a b lt p q c d (attach-line lines host a c x) (attach-line lines host b d y))
     where
       one-shelf : (c d : Attached) (shelf other : ArrayVec ℕ) (m n : ℕ) (x : SlotLine lines shelf m) (y : SlotLine lines other n)
-          → about (slot_with x.major x.ports.items x.mtu m x.sectors) ≡ c → about (slot_with y.major y.ports.items y.mtu n y.sectors) ≡ d → same_id c.id d.id ≡ true
+          → about (slot_with x.major x.ports.items x.mtu m x.sectors x.room) ≡ c → about (slot_with y.major y.ports.items y.mtu n y.sectors y.room) ≡ d → same_id c.id d.id ≡ true
           → (x.major ≡ y.major) × (m ≡ n)
       one-shelf c d shelf other m n x y p q e =
           let t = and_parts (nat_eq c.id.major d.id.major) (nat_eq c.id.minor d.id.minor) e in

@@ -37,7 +37,8 @@ pub record SlotLine (lines : List Line) (shelf : ArrayVec ℕ) (minor : ℕ) : T
   pub shelf_there : slice_get lines at ≡ Some (Shelf shelf major ports mtu)
   pub place : ℕ
   pub sectors : ℕ
-  pub there : slice_get lines place ≡ Some (Slot shelf minor sectors)
+  pub room : Option ℕ
+  pub there : slice_get lines place ≡ Some (Slot shelf minor sectors room)
 
 -- ---- one line behind another
 
@@ -58,7 +59,7 @@ module _ (lines : List Line) (good : AreGood lines) where
       by-earlier : (a : Line) → has_port port a ≡ false → holds (addresses_in a) port ≡ true → ⊥
       by-earlier (Life ms) none x = absurd cc
       by-earlier (Shelf name major ports mtu) none x = absurd cc
-      by-earlier (Slot shelf minor sectors) none x = absurd cc
+      by-earlier (Slot shelf minor sectors room) none x = absurd cc
       by-earlier (Host name ports room dead) none x = absurd cc
       by-earlier (Attach host shelf minor) none x = absurd cc
 
@@ -70,7 +71,7 @@ module _ (lines : List Line) (good : AreGood lines) where
       by-later : (b : Line) → slice_get lines k ≡ Some b → holds (addresses_in b) port ≡ true → ⊥
       by-later (Life ms) q y = absurd cc
       by-later (Shelf name major ports mtu) q y = behind ports.items (good.shelf k name major ports mtu q).new_ports y
-      by-later (Slot shelf minor sectors) q y = absurd cc
+      by-later (Slot shelf minor sectors room) q y = absurd cc
       by-later (Host name ports room dead) q y = behind ports.items (good.host k name ports room dead q).new_ports y
       by-later (Attach host shelf minor) q y = absurd cc
 
@@ -93,10 +94,10 @@ module _ (lines : List Line) (good : AreGood lines) where
   shelf-found k name major ports mtu e =
       find-first (is_shelf_named name) lines k (Shelf name major ports mtu) e (same-self name) (λ i a lt s. (names-behind i k a name lt s (good.shelf k name major ports mtu e).new_name).0)
 
-  pub slot-found : (k : ℕ) (shelf : ArrayVec ℕ) (minor sectors : ℕ) → slice_get lines k ≡ Some (Slot shelf minor sectors) → find (is_slot shelf minor) lines ≡ Some (Slot shelf minor sectors)
-  slot-found k shelf minor sectors e =
-      find-first (is_slot shelf minor) lines k (Slot shelf minor sectors) e (and_from (minor == minor) (same shelf shelf) (eq-eqb minor minor refl) (same-self shelf))
-      (λ i a lt s. none-before (is_slot shelf minor) i k a lt s (good.slot k shelf minor sectors e).new)
+  pub slot-found : (k : ℕ) (shelf : ArrayVec ℕ) (minor sectors : ℕ) (room : Option ℕ) → slice_get lines k ≡ Some (Slot shelf minor sectors room) → find (is_slot shelf minor) lines ≡ Some (Slot shelf minor sectors room)
+  slot-found k shelf minor sectors room e =
+      find-first (is_slot shelf minor) lines k (Slot shelf minor sectors room) e (and_from (minor == minor) (same shelf shelf) (eq-eqb minor minor refl) (same-self shelf))
+      (λ i a lt s. none-before (is_slot shelf minor) i k a lt s (good.slot k shelf minor sectors room e).new)
 
   pub shelf-before : (i k : ℕ) (m n : ℕ) (a b : ArrayVec ℕ) (p q : ArrayVec Mac) (x y : ℕ) → i < k → slice_get lines i ≡ Some (Shelf a m p x) → slice_get lines k ≡ Some (Shelf b n q y) → m ≢ n
   shelf-before i k m n a b p q x y lt s t e =
@@ -118,16 +119,16 @@ module _ (lines : List Line) (good : AreGood lines) where
   shelf-by : (name : ArrayVec ℕ) (a : Line) → is_shelf_named name a ≡ true → (major : ℕ) × (ports : ArrayVec Mac) × (mtu : ℕ) × (a ≡ Shelf name major ports mtu)
   shelf-by name (Life ms) e = absurd cc
   shelf-by name (Shelf other major ports mtu) e = (major, ports, mtu, ap (λ n. Shelf n major ports mtu) (same-is other name e))
-  shelf-by name (Slot shelf minor sectors) e = absurd cc
+  shelf-by name (Slot shelf minor sectors room) e = absurd cc
   shelf-by name (Host other ports room dead) e = absurd cc
   shelf-by name (Attach host shelf minor) e = absurd cc
 
-  slot-by : (shelf : ArrayVec ℕ) (minor : ℕ) (a : Line) → is_slot shelf minor a ≡ true → (sectors : ℕ) × (a ≡ Slot shelf minor sectors)
+  slot-by : (shelf : ArrayVec ℕ) (minor : ℕ) (a : Line) → is_slot shelf minor a ≡ true → (sectors : ℕ) × (room : Option ℕ) × (a ≡ Slot shelf minor sectors room)
   slot-by shelf minor (Life ms) e = absurd cc
   slot-by shelf minor (Shelf other major ports mtu) e = absurd cc
-  slot-by shelf minor (Slot other number sectors) e =
+  slot-by shelf minor (Slot other number sectors room) e =
       let p = and_parts (number == minor) (same other shelf) e in
-      (sectors, ap (λ n. Slot n number sectors) (same-is other shelf p.1) ∙ ap (λ n. Slot shelf n sectors) (eqb-true number minor p.0))
+      (sectors, room, ap (λ n. Slot n number sectors room) (same-is other shelf p.1) ∙ ap (λ n. Slot shelf n sectors room) (eqb-true number minor p.0))
   slot-by shelf minor (Host other ports room dead) e = absurd cc
   slot-by shelf minor (Attach host other number) e = absurd cc
 
@@ -138,18 +139,18 @@ module _ (lines : List Line) (good : AreGood lines) where
       line-at : (line : Line) (i : ℕ) → slice_get lines i ≡ Some line → is_slot shelf minor line ≡ true → SlotLine lines shelf minor
       line-at line i e passes =
           let l = slot-by shelf minor line passes in
-          let there : slice_get lines i ≡ Some (Slot shelf minor l.0) = e ∙ ap Some l.1 in
-          let h = some-before (is_shelf_named shelf) i (good.slot i shelf minor l.0 there).shelf_there in
+          let there : slice_get lines i ≡ Some (Slot shelf minor l.0 l.1) = e ∙ ap Some l.2 in
+          let h = some-before (is_shelf_named shelf) i (good.slot i shelf minor l.0 l.1 there).shelf_there in
           let m = shelf-by shelf h.x h.passes in
-          record { at = h.at; major = m.0; ports = m.1; mtu = m.2; shelf_there = h.there ∙ ap Some m.3; place = i; sectors = l.0; there = there }
+          record { at = h.at; major = m.0; ports = m.1; mtu = m.2; shelf_there = h.there ∙ ap Some m.3; place = i; sectors = l.0; room = l.1; there = there }
 
   pub slot-line : (shelf : ArrayVec ℕ) (minor k : ℕ) → list_any (is_slot shelf minor) (take k lines) ≡ true → SlotLine lines shelf minor
   slot-line shelf minor k any = let s = some-before (is_slot shelf minor) k any in slot-line-of shelf minor (any-from (is_slot shelf minor) lines s.at s.x s.there s.passes)
 
-  pub slot-is : (shelf : ArrayVec ℕ) (minor : ℕ) (x : SlotLine lines shelf minor) → slot_named lines shelf minor ≡ Some (slot_with x.major x.ports.items x.mtu minor x.sectors)
+  pub slot-is : (shelf : ArrayVec ℕ) (minor : ℕ) (x : SlotLine lines shelf minor) → slot_named lines shelf minor ≡ Some (slot_with x.major x.ports.items x.mtu minor x.sectors x.room)
   slot-is shelf minor x =
       ap (λ o. option_and_then (λ (s : Line). option_and_then (slot_by s) (find (is_slot shelf minor) lines)) o) (shelf-found x.at shelf x.major x.ports x.mtu x.shelf_there)
-      ∙ ap (λ o. option_and_then (slot_by (Shelf shelf x.major x.ports x.mtu)) o) (slot-found x.place shelf minor x.sectors x.there)
+      ∙ ap (λ o. option_and_then (slot_by (Shelf shelf x.major x.ports x.mtu)) o) (slot-found x.place shelf minor x.sectors x.room x.there)
 
   -- the shelf line and the host line that these say to be there
   pub shelf-there : (name : ArrayVec ℕ) → list_any (is_shelf_named name) lines ≡ true → (k : ℕ) × (major : ℕ) × (ports : ArrayVec Mac) × (mtu : ℕ) × (slice_get lines k ≡ Some (Shelf name major ports mtu))
@@ -161,7 +162,7 @@ module _ (lines : List Line) (good : AreGood lines) where
   pub host-by : (name : ArrayVec ℕ) (a : Line) → is_host_named name a ≡ true → (ports : ArrayVec Mac) × (room : Option ℕ) × (dead : Option ℕ) × (a ≡ Host name ports room dead)
   host-by name (Life ms) e = absurd cc
   host-by name (Shelf other major ports mtu) e = absurd cc
-  host-by name (Slot shelf minor sectors) e = absurd cc
+  host-by name (Slot shelf minor sectors room) e = absurd cc
   host-by name (Host other ports room dead) e = (ports, room, dead, ap (λ n. Host n ports room dead) (same-is other name e))
   host-by name (Attach host shelf minor) e = absurd cc
 

@@ -15,7 +15,7 @@ IsSix mac = length mac.0 ≡ 6
 line-six : (line : Line) → FitsSetup line → All (λ mac. length mac.0 ≡ 6) (addresses_in line)
 line-six (Life ms) fits = All-nil IsSix
 line-six (Shelf name major ports mtu) fits = λ k d lt. (fits k d lt).six
-line-six (Slot shelf minor sectors) fits = All-nil IsSix
+line-six (Slot shelf minor sectors room) fits = All-nil IsSix
 line-six (Host name ports room dead) fits = λ k d lt. (fits k d lt).six
 line-six (Attach host shelf minor) fits = All-nil IsSix
 

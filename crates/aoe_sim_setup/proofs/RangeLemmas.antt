@@ -1,11 +1,8 @@
 -- The ranges of what good lines declare.
-use Rattle.std.proofs.Common.{length, count_by, take, ℕ, zero, suc, ◌<◌, ◌≤◌, ◌≡◌, true, not, List, [], ◌∷◌, Option, Some, None, get_or, refl, sym, ap, subst, arith}
+use Rattle.std.proofs.Common.{length, count_by, take, ℕ, suc, ◌<◌, ◌≤◌, ◌≡◌, true, List, [], ◌∷◌, Option, Some, None, refl, ap, subst, arith}
 use Rattle.std.specs.Prelude.{slice_get, is_some, option_and_then, unwrap_or}
 use Rattle.std.specs.List.{filter, find}
-use Rattle.std.specs.Str.{bytes_eq}
-use Rattle.std.proofs.lemmas.Bool.{and_parts, not-true}
-use Rattle.std.proofs.lemmas.Option.{slice_get-get_or}
-use Rattle.std.proofs.lemmas.Slice.Eq.{bytes_eq-Decides}
+use Rattle.std.proofs.lemmas.Bool.{and_parts}
 use Rattle.aoe_base.specs.declared.address.Mac.{Mac}
 use Rattle.aoe_base.proofs.AddressLemmas.{all-distinct}
 use Rattle.aoe_initiator.specs.declared.device.Attached.{Attached}
@@ -13,12 +10,12 @@ use Rattle.aoe_initiator.specs.HostLaw.{same_id}
 use Rattle.aoe_history.specs.Setup.{HostSetup, SlotSetup}
 use Rattle.aoe_script.specs.declared.setup.Setup.{Setup as Line}
 use Rattle.aoe_script.specs.declared.setup.Setup.TheVariants.{Life, Shelf, Slot, Host, Attach}
-use Rattle.aoe_script.specs.Rules.{is_host as is_host_line, is_limit, is_within}
+use Rattle.aoe_script.specs.Rules.{is_cache, is_host as is_host_line, is_limit, is_within}
 use Rattle.aoe_sim_setup.specs.Layout.{host_in, default_dead, default_life, default_room, host_of, life_in, setup_of}
-use Rattle.aoe_sim_setup.specs.Stations.{ArePorts, HasRanges, IsDevice, IsHost, IsSlot}
+use Rattle.aoe_sim_setup.specs.Stations.{ArePorts, HasRanges, IsCache, IsDevice, IsHost, IsSlot}
 use Rattle.aoe_sim_setup.proofs.GoodLines.{within, AreGood, GoodPorts}
 use Rattle.aoe_sim_setup.proofs.HostLemmas.{host-line, device-from, devices-apart, host-from, DeviceFrom, HostFrom}
-use Rattle.aoe_sim_setup.proofs.ListLemmas.{few-of, length-filtered, apart-by, none-passes}
+use Rattle.aoe_sim_setup.proofs.ListLemmas.{few-of, length-filtered, apart-by}
 use Rattle.aoe_sim_setup.proofs.SetupLemmas.{most-sectors}
 use Rattle.aoe_sim_setup.proofs.SlotLemmas.{same-turn, slot-from, SlotFrom}
 
@@ -43,6 +40,10 @@ limits (Some room) (Some dead) e =
     let t = within 1 10000000 dead p.1 in
     record { some_room = omega (arith, r.0); most_room = r.1; some_time = omega (arith, t.0); most_time = t.1 }
 
+pub is-cache : (room : Option ℕ) → is_cache room ≡ true → IsCache room
+is-cache None e = tt
+is-cache (Some room) e = within 1 65536 room e
+
 -- ---- the first line that says how long frames live
 
 life-by : (lines : List Line) → ((k ms : ℕ) → slice_get lines k ≡ Some (Life ms) → ms ≤ 600000)
@@ -50,7 +51,7 @@ life-by : (lines : List Line) → ((k ms : ℕ) → slice_get lines k ≡ Some (
 life-by [] few = omega arith
 life-by (Life ms ∷ lines) few = few 0 ms refl
 life-by (Shelf name major ports mtu ∷ lines) few = life-by lines (λ k ms e. few (suc k) ms e)
-life-by (Slot shelf minor sectors ∷ lines) few = life-by lines (λ k ms e. few (suc k) ms e)
+life-by (Slot shelf minor sectors room ∷ lines) few = life-by lines (λ k ms e. few (suc k) ms e)
 life-by (Host name ports room dead ∷ lines) few = life-by lines (λ k ms e. few (suc k) ms e)
 life-by (Attach host shelf minor ∷ lines) few = life-by lines (λ k ms e. few (suc k) ms e)
 
@@ -58,7 +59,7 @@ module _ (lines : List Line) (good : AreGood lines) where
   is-device : (d : Attached) → DeviceFrom lines d → IsDevice d
   is-device d x =
       let g = good.shelf x.line.at x.name x.line.major x.line.ports x.line.mtu x.line.shelf_there in
-      let s = good.slot x.line.place x.name x.minor x.line.sectors x.line.there in
+      let s = good.slot x.line.place x.name x.minor x.line.sectors x.line.room x.line.there in
       let m = most-sectors x.line.mtu g.least g.most in
       subst (λ z. IsDevice z) x.device_is
       (record {
@@ -74,9 +75,9 @@ module _ (lines : List Line) (good : AreGood lines) where
   is-slot : (slot : SlotSetup) → SlotFrom lines slot → IsSlot slot
   is-slot slot x =
       let g = good.shelf x.line.at x.name x.line.major x.line.ports x.line.mtu x.line.shelf_there in
-      let s = good.slot x.line.place x.name x.minor x.line.sectors x.line.there in
+      let s = good.slot x.line.place x.name x.minor x.line.sectors x.line.room x.line.there in
       let m = most-sectors x.line.mtu g.least g.most in
-      subst (λ z. IsSlot z) x.slot_is (record { ports = are-ports x.line.ports.items g.ports_are; sectors = omega (arith, s.least); size = s.most; some = m.0; max = m.1 })
+      subst (λ z. IsSlot z) x.slot_is (record { ports = are-ports x.line.ports.items g.ports_are; sectors = omega (arith, s.least); size = s.most; some = m.0; max = m.1; cache = is-cache x.line.room s.cache })
 
   is-host : (host : HostSetup) → HostFrom lines host → IsHost host
   is-host host h =
@@ -102,7 +103,7 @@ module _ (lines : List Line) (good : AreGood lines) where
       by-kind : (i : ℕ) (x : Line) → slice_get lines i ≡ Some x → is_host_line x ≡ true → count_by is_host_line (take i lines) < 16
       by-kind i (Life ms) e s = absurd cc
       by-kind i (Shelf name major ports mtu) e s = absurd cc
-      by-kind i (Slot shelf minor sectors) e s = absurd cc
+      by-kind i (Slot shelf minor sectors room) e s = absurd cc
       by-kind i (Host name ports room dead) e s = (good.host i name ports room dead e).few
       by-kind i (Attach host shelf minor) e s = absurd cc
 

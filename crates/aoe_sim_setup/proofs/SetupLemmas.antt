@@ -52,7 +52,7 @@ module _ (lines : List Line) (good : AreGood lines) where
 
   attached-to : (d : Attached) → DeviceFrom lines d → IsAttachedTo (setup_of lines) d
   attached-to d x =
-      let slot = slot_with x.line.major x.line.ports.items x.line.mtu x.minor x.line.sectors in
+      let slot = slot_with x.line.major x.line.ports.items x.line.mtu x.minor x.line.sectors x.line.room in
       subst (λ z. IsAttachedTo (setup_of lines) z) x.device_is
       (record { slot = slot; there = slot-found lines good slot (slot-placed lines good x.name x.minor x.line); remotes = refl; total = refl; max = refl })
 
@@ -77,10 +77,10 @@ module _ (lines : List Line) (good : AreGood lines) where
         let g = good.shelf x.line.at x.name x.line.major x.line.ports x.line.mtu x.line.shelf_there in
         subst (λ z. z.station.id.major < 65535) x.slot_is (omega (arith, g.number));
     minors = λ slot c. let x = slot-of slot c in
-        let g = good.slot x.line.place x.name x.minor x.line.sectors x.line.there in
+        let g = good.slot x.line.place x.name x.minor x.line.sectors x.line.room x.line.there in
         subst (λ z. z.station.id.minor < 255) x.slot_is (omega (arith, g.number));
     size = λ slot c. let x = slot-of slot c in
-        let g = good.slot x.line.place x.name x.minor x.line.sectors x.line.there in
+        let g = good.slot x.line.place x.name x.minor x.line.sectors x.line.room x.line.there in
         subst (λ z. z.station.sectors ≤ 281474976710656) x.slot_is (omega (arith, g.most));
     max = λ slot c. let x = slot-of slot c in
         let g = good.shelf x.line.at x.name x.line.major x.line.ports x.line.mtu x.line.shelf_there in

@@ -1,5 +1,5 @@
 -- The slots that good lines declare.
-use Rattle.std.proofs.Common.{Contains, ◌≢◌, ◌⊎◌, inl, inr, ℕ, ◌<◌, ◌≤◌, ◌≡◌, ◌∙◌, cond, Bool, true, false, ◌&&◌, ◌==◌, List, length, take, Some, None, nat_eq, refl, sym, ap, subst, arith, count_by}
+use Rattle.std.proofs.Common.{Contains, ◌≢◌, ◌⊎◌, inl, inr, ℕ, ◌<◌, ◌≤◌, ◌≡◌, ◌∙◌, cond, Bool, true, false, ◌&&◌, ◌==◌, List, length, take, Option, Some, None, nat_eq, refl, sym, ap, subst, arith, count_by}
 use Rattle.std.specs.Prelude.{slice_get}
 use Rattle.std.specs.List.{filter, filter_map}
 use Rattle.std.proofs.lemmas.Bool.{cases_order, and_from, and_left, and_parts, and_right, eq-eqb, eqb-true, ne_eqb}
@@ -22,15 +22,16 @@ use Rattle.aoe_sim_setup.proofs.ListLemmas.{apart-by, contains-at, kept-at, few-
 record Declares (name : ArrayVec ℕ) (major : ℕ) (ports : List Mac) (mtu : ℕ) (line : Line) (slot : SlotSetup) : Type 0 where
   minor : ℕ
   sectors : ℕ
-  line_is : line ≡ Slot name minor sectors
-  slot_is : slot_with major ports mtu minor sectors ≡ slot
+  room : Option ℕ
+  line_is : line ≡ Slot name minor sectors room
+  slot_is : slot_with major ports mtu minor sectors room ≡ slot
 
 declares-by : (name : ArrayVec ℕ) (major : ℕ) (ports : List Mac) (mtu : ℕ) (line : Line) (slot : SlotSetup) → slot_of_shelf name major ports mtu line ≡ Some slot → Declares name major ports mtu line slot
 declares-by name major ports mtu (Life ms) slot e = absurd (none-some slot e)
 declares-by name major ports mtu (Shelf other number list size) slot e = absurd (none-some slot e)
-declares-by name major ports mtu (Slot shelf minor sectors) slot e =
-    let c = cond_some (same shelf name) (slot_with major ports mtu minor sectors) slot e in
-    record { minor = minor; sectors = sectors; line_is = ap (λ n. Slot n minor sectors) (same-is shelf name c.0); slot_is = c.1 }
+declares-by name major ports mtu (Slot shelf minor sectors room) slot e =
+    let c = cond_some (same shelf name) (slot_with major ports mtu minor sectors room) slot e in
+    record { minor = minor; sectors = sectors; room = room; line_is = ap (λ n. Slot n minor sectors room) (same-is shelf name c.0); slot_is = c.1 }
 declares-by name major ports mtu (Host other list room dead) slot e = absurd (none-some slot e)
 declares-by name major ports mtu (Attach host shelf minor) slot e = absurd (none-some slot e)
 
@@ -46,7 +47,7 @@ record HasSlot (lines : List Line) (line : Line) (slot : SlotSetup) : Type 0 whe
 has-slot : (lines : List Line) (line : Line) (slot : SlotSetup) → Place (slots_of_shelf lines line) slot → HasSlot lines line slot
 has-slot lines (Life ms) slot p = absurd (none-some slot p.there)
 has-slot lines (Shelf name major ports mtu) slot p = record { name = name; major = major; ports = ports; mtu = mtu; line_is = refl; inside = p }
-has-slot lines (Slot shelf minor sectors) slot p = absurd (none-some slot p.there)
+has-slot lines (Slot shelf minor sectors room) slot p = absurd (none-some slot p.there)
 has-slot lines (Host name ports room dead) slot p = absurd (none-some slot p.there)
 has-slot lines (Attach host shelf minor) slot p = absurd (none-some slot p.there)
 
@@ -59,7 +60,7 @@ record IsShelfLine (line : Line) (major : ℕ) : Type 0 where
 major-line : (line : Line) (major : ℕ) → major_in line ≡ Some major → IsShelfLine line major
 major-line (Life ms) major e = absurd (none-some major e)
 major-line (Shelf name number ports mtu) major e = record { name = name; ports = ports; mtu = mtu; line_is = ap (λ n. Shelf name n ports mtu) (same_Some number major e) }
-major-line (Slot shelf minor sectors) major e = absurd (none-some major e)
+major-line (Slot shelf minor sectors room) major e = absurd (none-some major e)
 major-line (Host name ports room dead) major e = absurd (none-some major e)
 major-line (Attach host shelf minor) major e = absurd (none-some major e)
 
@@ -71,7 +72,7 @@ pub record SlotFrom (lines : List Line) (slot : SlotSetup) : Type 0 where
   pub name : ArrayVec ℕ
   pub minor : ℕ
   pub line : SlotLine lines name minor
-  pub slot_is : slot_with line.major line.ports.items line.mtu minor line.sectors ≡ slot
+  pub slot_is : slot_with line.major line.ports.items line.mtu minor line.sectors line.room ≡ slot
 
 pub same-same : (id : TargetId) → same_id id id ≡ true
 same-same id = and_from (nat_eq id.major id.major) (nat_eq id.minor id.minor) (eq-eqb id.major id.major refl) (eq-eqb id.minor id.minor refl)
@@ -88,17 +89,17 @@ same-turn a b e = go (same_id b a) refl
 
 module _ (lines : List Line) (good : AreGood lines) where
   -- the slot of two lines stands in the setup
-  pub slot-placed : (name : ArrayVec ℕ) (minor : ℕ) (x : SlotLine lines name minor) → Place (setup_of lines).slots (slot_with x.major x.ports.items x.mtu minor x.sectors)
+  pub slot-placed : (name : ArrayVec ℕ) (minor : ℕ) (x : SlotLine lines name minor) → Place (setup_of lines).slots (slot_with x.major x.ports.items x.mtu minor x.sectors x.room)
   slot-placed name minor x =
-      let slot = slot_with x.major x.ports.items x.mtu minor x.sectors in
-      let gives : slot_of_shelf name x.major x.ports.items x.mtu (Slot name minor x.sectors) ≡ Some slot = ap (λ b. cond b (Some slot) None) (same-self name) in
+      let slot = slot_with x.major x.ports.items x.mtu minor x.sectors x.room in
+      let gives : slot_of_shelf name x.major x.ports.items x.mtu (Slot name minor x.sectors x.room) ≡ Some slot = ap (λ b. cond b (Some slot) None) (same-self name) in
       pieces-at (slots_of_shelf lines) lines x.at (Shelf name x.major x.ports x.mtu) slot x.shelf_there
-      (filtered-at (slot_of_shelf name x.major x.ports.items x.mtu) lines x.place (Slot name minor x.sectors) slot x.there gives)
+      (filtered-at (slot_of_shelf name x.major x.ports.items x.mtu) lines x.place (Slot name minor x.sectors x.room) slot x.there gives)
 
   -- and in its shelf
-  pub slot-inside : (name : ArrayVec ℕ) (minor : ℕ) (x : SlotLine lines name minor) → Contains (shelf_of (setup_of lines) x.major) (slot_with x.major x.ports.items x.mtu minor x.sectors)
+  pub slot-inside : (name : ArrayVec ℕ) (minor : ℕ) (x : SlotLine lines name minor) → Contains (shelf_of (setup_of lines) x.major) (slot_with x.major x.ports.items x.mtu minor x.sectors x.room)
   slot-inside name minor x =
-      let slot = slot_with x.major x.ports.items x.mtu minor x.sectors in
+      let slot = slot_with x.major x.ports.items x.mtu minor x.sectors x.room in
       let p = slot-placed name minor x in
       contains-at (shelf_of (setup_of lines) x.major) slot (kept-at (λ (z : SlotSetup). nat_eq z.station.id.major x.major) (setup_of lines).slots p.at slot p.there (eq-eqb x.major x.major refl))
 
@@ -108,11 +109,11 @@ module _ (lines : List Line) (good : AreGood lines) where
       let h = has-slot lines m.x slot m.inside in
       let f = from-filtered (slot_of_shelf h.name h.major h.ports.items h.mtu) lines h.inside.at slot h.inside.there in
       let d = declares-by h.name h.major h.ports.items h.mtu f.x slot f.gives in
-      let there : slice_get lines f.at ≡ Some (Slot h.name d.minor d.sectors) = at-line lines f.at f.x (Slot h.name d.minor d.sectors) f.there d.line_is in
+      let there : slice_get lines f.at ≡ Some (Slot h.name d.minor d.sectors d.room) = at-line lines f.at f.x (Slot h.name d.minor d.sectors d.room) f.there d.line_is in
       record {
         name = h.name;
         minor = d.minor;
-        line = record { at = m.at; major = h.major; ports = h.ports; mtu = h.mtu; shelf_there = m.there ∙ ap Some h.line_is; place = f.at; sectors = d.sectors; there = there };
+        line = record { at = m.at; major = h.major; ports = h.ports; mtu = h.mtu; shelf_there = m.there ∙ ap Some h.line_is; place = f.at; sectors = d.sectors; room = d.room; there = there };
         slot_is = d.slot_is;
       }
 
@@ -132,12 +133,12 @@ module _ (lines : List Line) (good : AreGood lines) where
           differ : (t : Bool) → (x.minor == y.minor) ≡ t → is_slot c d.station.id ≡ false
           differ true is =
               let f : ((x.minor == y.minor) && same name name) ≡ false
-              = none-before lines good (is_slot_line name y.minor) i j (Slot name x.minor x.sectors) lt (p ∙ ap Some x.line_is) (good.slot j name y.minor y.sectors (q ∙ ap Some y.line_is)).new in
+              = none-before lines good (is_slot_line name y.minor) i j (Slot name x.minor x.sectors x.room) lt (p ∙ ap Some x.line_is) (good.slot j name y.minor y.sectors y.room (q ∙ ap Some y.line_is)).new in
               let g : ((x.minor == y.minor) && same name name) ≡ true = and_from (x.minor == y.minor) (same name name) is (same-self name) in
               absurd cc
           differ false is =
               subst (λ z. is_slot z d.station.id ≡ false) x.slot_is
-              (subst (λ z. is_slot (slot_with major ports mtu x.minor x.sectors) z.station.id ≡ false) y.slot_is (and_right (nat_eq major major) (nat_eq x.minor y.minor) is))
+              (subst (λ z. is_slot (slot_with major ports mtu x.minor x.sectors x.room) z.station.id ≡ false) y.slot_is (and_right (nat_eq major major) (nat_eq x.minor y.minor) is))
 
   pub slots-apart : Ordered (λ a b. is_slot a b.station.id ≡ false) (setup_of lines).slots
   slots-apart =
@@ -147,7 +148,7 @@ module _ (lines : List Line) (good : AreGood lines) where
       each : (x : Line) → Ordered (λ a b. is_slot a b.station.id ≡ false) (slots_of_shelf lines x)
       each (Life ms) = λ i j a b lt p q. absurd (none-some a p)
       each (Shelf name major ports mtu) = of-shelf name major ports.items mtu
-      each (Slot shelf minor sectors) = λ i j a b lt p q. absurd (none-some a p)
+      each (Slot shelf minor sectors room) = λ i j a b lt p q. absurd (none-some a p)
       each (Host name ports room dead) = λ i j a b lt p q. absurd (none-some a p)
       each (Attach host shelf minor) = λ i j a b lt p q. absurd (none-some a p)
 
@@ -188,7 +189,7 @@ module _ (lines : List Line) (good : AreGood lines) where
         by-kind : (i : ℕ) (x : Line) → slice_get lines i ≡ Some x → is_slot_of name x ≡ true → count_by (is_slot_of name) (take i lines) < 16
         by-kind i (Life ms) e s = absurd cc
         by-kind i (Shelf other number list size) e s = absurd cc
-        by-kind i (Slot shelf minor sectors) e s = subst (λ n. count_by (is_slot_of n) (take i lines) < 16) (same-is shelf name s) (good.slot i shelf minor sectors e).few
+        by-kind i (Slot shelf minor sectors room) e s = subst (λ n. count_by (is_slot_of n) (take i lines) < 16) (same-is shelf name s) (good.slot i shelf minor sectors room e).few
         by-kind i (Host other list room dead) e s = absurd cc
         by-kind i (Attach host shelf minor) e s = absurd cc
 
@@ -219,7 +220,7 @@ module _ (lines : List Line) (good : AreGood lines) where
       by-kind : (i : ℕ) (x : Line) → slice_get lines i ≡ Some x → is_shelf x ≡ true → count_by is_shelf (take i lines) < 16
       by-kind i (Life ms) e s = absurd cc
       by-kind i (Shelf name major ports mtu) e s = (good.shelf i name major ports mtu e).few
-      by-kind i (Slot shelf minor sectors) e s = absurd cc
+      by-kind i (Slot shelf minor sectors room) e s = absurd cc
       by-kind i (Host name ports room dead) e s = absurd cc
       by-kind i (Attach host shelf minor) e s = absurd cc
 

@@ -21,7 +21,7 @@ use Rattle.aoe_sim_setup.proofs.ListLemmas.{any-passes, find-by, filtered-at, or
 ports-in : (line : Line) (p : Placed) → placed line ≡ Some p → addresses_in line ≡ p.ports
 ports-in (Life ms) p e = absurd (none-some p e)
 ports-in (Shelf name major ports mtu) p e = ap (λ z. z.ports) (same_Some _ p e)
-ports-in (Slot shelf minor sectors) p e = absurd (none-some p e)
+ports-in (Slot shelf minor sectors room) p e = absurd (none-some p e)
 ports-in (Host name ports room dead) p e = ap (λ z. z.ports) (same_Some _ p e)
 ports-in (Attach host shelf minor) p e = absurd (none-some p e)
 
@@ -31,7 +31,7 @@ apart-name (Life ms) p name e f g s = none-some p e
 apart-name (Shelf other major ports mtu) p name e f g s =
     let t : same other name ≡ true = subst (λ z. same other z ≡ true) (ap (λ z. z.name) (same_Some _ p e) ∙ s) (same-self other) in
     absurd cc
-apart-name (Slot shelf minor sectors) p name e f g s = none-some p e
+apart-name (Slot shelf minor sectors room) p name e f g s = none-some p e
 apart-name (Host other ports room dead) p name e f g s =
     let t : same other name ≡ true = subst (λ z. same other z ≡ true) (ap (λ z. z.name) (same_Some _ p e) ∙ s) (same-self other) in
     absurd cc
@@ -42,7 +42,7 @@ module _ (lines : List Line) (good : AreGood lines) where
   new-name k (Life ms) p e f = absurd (none-some p f)
   new-name k (Shelf name major ports mtu) p e f =
       subst (λ z. list_any (is_station_named z) (take k lines) ≡ false) (ap (λ z. z.name) (same_Some _ p f)) (good.shelf k name major ports mtu e).new_name
-  new-name k (Slot shelf minor sectors) p e f = absurd (none-some p f)
+  new-name k (Slot shelf minor sectors room) p e f = absurd (none-some p f)
   new-name k (Host name ports room dead) p e f =
       subst (λ z. list_any (is_station_named z) (take k lines) ≡ false) (ap (λ z. z.name) (same_Some _ p f)) (good.host k name ports room dead e).new_name
   new-name k (Attach host shelf minor) p e f = absurd (none-some p f)
@@ -120,6 +120,6 @@ module _ (lines : List Line) (good : AreGood lines) where
             | inl is ↦ is-station (Shelf other major ports mtu) k (record { name = other; ports = ports.items; station = ShelfStation major }) e refl (same-is other name is)
             | inr never ↦ absurd cc
           ]
-      go (Slot shelf minor sectors) k e t = absurd cc
+      go (Slot shelf minor sectors room) k e t = absurd cc
       go (Host other ports room dead) k e t = is-station (Host other ports room dead) k (record { name = other; ports = ports.items; station = HostStation other }) e refl (same-is other name t)
       go (Attach host shelf minor) k e t = absurd cc

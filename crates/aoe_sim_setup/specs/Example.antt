@@ -18,7 +18,7 @@ abbrev pub lines : List Line
 lines =
     Host b (one_port 11) None None
     ∷ Shelf shelf_name 1 (one_port 1) 1500
-    ∷ Slot shelf_name 0 16
+    ∷ Slot shelf_name 0 16 None
     ∷ Attach b shelf_name 0
     ∷ Host a (one_port 10) None None
     ∷ Attach a shelf_name 0

@@ -27,17 +27,17 @@ abbrev pub life_in : Line → Option ℕ
 life_in (Life ms) = Some ms
 life_in line = None
 
--- a slot of the shelf with this number, these ports and this mtu
-abbrev pub slot_with : (major : ℕ) → List Mac → (mtu minor sectors : ℕ) → SlotSetup
-slot_with major ports mtu minor sectors = record { station = station_of record { major = major; minor = minor } ports mtu sectors; cache = None }
+-- a slot of the shelf with this number, these ports and this mtu; its store has a cache where its line gives a room
+abbrev pub slot_with : (major : ℕ) → List Mac → (mtu minor sectors : ℕ) → (room : Option ℕ) → SlotSetup
+slot_with major ports mtu minor sectors room = record { station = station_of record { major = major; minor = minor } ports mtu sectors; cache = room }
 
 -- a slot line, where its shelf has this number, these ports and this mtu
 abbrev pub slot_at : ℕ → List Mac → ℕ → Line → Option SlotSetup
-slot_at major ports mtu (Slot shelf minor sectors) = Some (slot_with major ports mtu minor sectors)
+slot_at major ports mtu (Slot shelf minor sectors room) = Some (slot_with major ports mtu minor sectors room)
 slot_at major ports mtu line = None
 
 abbrev pub slot_of_shelf : ArrayVec ℕ → ℕ → List Mac → ℕ → Line → Option SlotSetup
-slot_of_shelf name major ports mtu (Slot shelf minor sectors) = if same shelf name then Some (slot_with major ports mtu minor sectors) else None
+slot_of_shelf name major ports mtu (Slot shelf minor sectors room) = if same shelf name then Some (slot_with major ports mtu minor sectors room) else None
 slot_of_shelf name major ports mtu line = None
 
 -- the slots of a shelf, in the order of their lines

@@ -1,5 +1,5 @@
 -- What holds of the stations that setup lines declare, and of the events behind them.
-use Rattle.std.specs.Prelude.{ℕ, ◌≡◌, ◌≢◌, ◌≤◌, ◌<◌, true, false, List, length, slice_get, Option, Some, Contains, IsSome}
+use Rattle.std.specs.Prelude.{ℕ, ◌≡◌, ◌≢◌, ◌≤◌, ◌<◌, true, false, List, length, slice_get, Option, Some, Contains, IfSome, IsSome}
 use Rattle.arrayvec.specs.ArrayVec.{ArrayVec}
 use Rattle.aoe_base.specs.declared.address.Mac.{Mac}
 use Rattle.aoe_base.specs.declared.address.TargetId.{TargetId}
@@ -66,12 +66,17 @@ pub record IsHost (host : HostSetup) : Type 0 where
   pub devices : (i : ℕ) (d : Attached) → slice_get host.devices i ≡ Some d → IsDevice d
   pub apart : (i j : ℕ) (a b : Attached) → slice_get host.devices i ≡ Some a → slice_get host.devices j ≡ Some b → i ≢ j → same_id a.id b.id ≡ false
 
+-- a cache has room for a sector at least
+abbrev pub IsCache : Option ℕ → Type 0
+IsCache cache = IfSome cache (λ room. (1 ≤ room) × (room ≤ 65536))
+
 pub record IsSlot (slot : SlotSetup) : Type 0 where
   pub ports : ArePorts slot.station.ports.items
   pub sectors : 0 < slot.station.sectors
   pub size : slot.station.sectors ≤ 65536
   pub some : 0 < slot.station.max
   pub max : slot.station.max ≤ 17
+  pub cache : IsCache slot.cache
 
 pub record HasRanges (s : Setup) : Type 0 where
   pub life : s.life ≤ 600000
