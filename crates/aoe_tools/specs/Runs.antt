@@ -38,6 +38,20 @@ pub record Told : Type 0 where
   pub taken : Option (List (List ℕ))
   pub taken' : Option (List (List ℕ))
 
+-- of a clock and a link, by what each tells of itself
+abbrev pub told : {C L : Type 0} → (C → ℕ) → (C → Option (List ℕ)) → (L → ℕ) → (L → Option (List Turn)) → (L → Option (List (List ℕ))) → C → C → L → L → Told
+told least answers turns given taken clock clock' link link' = record {
+  least = least clock;
+  answers = answers clock;
+  answers' = answers clock';
+  turns = turns link;
+  turns' = turns link';
+  given = given link;
+  given' = given link';
+  taken = taken link;
+  taken' = taken link';
+}
+
 -- the first question of a tool to a device, by the clock's first answer
 abbrev pub question : Subject → TargetId → Ask → ℕ → Question
 question s id ask first = record { subject = s; id = Some id; port = ask.port; tag = tag_of first 0 }

@@ -5,7 +5,7 @@ ghost use Rattle.aoe_base.specs.declared.address.Mac.{Mac};
 ghost use Rattle.aoe_base.specs.declared.address.TargetId.{TargetId};
 ghost use Rattle.aoe_tools.specs.declared.course.Course.{Course};
 ghost use Rattle.aoe_tools.specs.declared.end.ToolRefusal.{ToolRefusal as Refused};
-ghost use Rattle.aoe_tools.specs.Runs.{RunsGet, RunsPut};
+ghost use Rattle.aoe_tools.specs.Runs.{RunsGet, RunsPut, told};
 ghost use Rattle.aoe_tools.specs.TransferCopies.{end_of, first_phase, read_by, read_of, write_of, Copies, IsFresh, MayRun, NotBegun, Puts, Writes};
 ghost use Rattle.aoe_tools.specs.TransferInput.{Inputs};
 ghost use Rattle.aoe_tools.specs.TransferRun.{host_of, IsFit};
@@ -190,17 +190,7 @@ pub fn get<L: Link, C: Clock, K: Sink>(
     requires some { 0 < count }
     requires few { count ≤ 32768 }
     ensures run { RunsGet result ask.now id at count
-        record {
-          least = C.least clock.old;
-          answers = C.answers clock.old;
-          answers' = C.answers clock.new;
-          turns = L.turns link.old;
-          turns' = L.turns link.new;
-          given = L.given link.old;
-          given' = L.given link.new;
-          taken = L.taken link.old;
-          taken' = L.taken link.new;
-        }
+        (told C.least C.answers L.turns L.given L.taken clock.old clock.new link.old link.new)
         (K.held sink.old) (K.held sink.new) }
     ensures unread { result ≢ Err CopyRefusal.SourceFault }
     ensures unwritten { IfErr result (λ e. e ≢ CopyRefusal.SinkFault → sink.new ≡ sink.old) }
@@ -236,17 +226,7 @@ pub fn put<L: Link, C: Clock, S: Source>(
     clock: &mut C,
 ) -> Result<(), CopyRefusal>
     ensures run { RunsPut result ask.now id at
-        record {
-          least = C.least clock.old;
-          answers = C.answers clock.old;
-          answers' = C.answers clock.new;
-          turns = L.turns link.old;
-          turns' = L.turns link.new;
-          given = L.given link.old;
-          given' = L.given link.new;
-          taken = L.taken link.old;
-          taken' = L.taken link.new;
-        }
+        (told C.least C.answers L.turns L.given L.taken clock.old clock.new link.old link.new)
         (S.left source.old) (S.left source.new) }
     ensures unwritten { result ≢ Err CopyRefusal.SinkFault }
     ensures count { L.faults link.old ≤ L.faults link.new }

@@ -2,7 +2,7 @@
 ghost use Rattle.std.specs.Prelude.{◌≡◌, ◌≢◌, ◌≤◌, ◌+◌, Err, Ok};
 ghost use Rattle.aoe_base.specs.Faults.{Rose};
 ghost use Rattle.aoe_tools.specs.Discovery.{Discovers, finding_question, finding_request, unless_none};
-ghost use Rattle.aoe_tools.specs.Runs.{RunsDiscovery};
+ghost use Rattle.aoe_tools.specs.Runs.{RunsDiscovery, told};
 
 use crate::asking::listen;
 use crate::end::ToolRefusal;
@@ -95,17 +95,7 @@ pub fn discover<L: Link, C: Clock>(
     clock: &mut C,
 ) -> Result<Found, ToolRefusal>
     ensures run { RunsDiscovery result ask.now
-        record {
-          least = C.least clock.old;
-          answers = C.answers clock.old;
-          answers' = C.answers clock.new;
-          turns = L.turns link.old;
-          turns' = L.turns link.new;
-          given = L.given link.old;
-          given' = L.given link.new;
-          taken = L.taken link.old;
-          taken' = L.taken link.new;
-        } }
+        (told C.least C.answers L.turns L.given L.taken clock.old clock.new link.old link.new) }
     ensures count { L.faults link.old ≤ L.faults link.new }
     ensures cause { result ≡ Err ToolRefusal.LinkFault → Rose (L.faults link.old) (L.faults link.new) }
     ensures no_fault { result ≢ Err ToolRefusal.LinkFault → L.faults link.new ≡ L.faults link.old }

@@ -3,7 +3,7 @@ ghost use Rattle.std.specs.Prelude.{◌≡◌, ◌≢◌, ◌≤◌, ◌+◌, Er
 ghost use Rattle.aoe_base.specs.Faults.{Rose};
 ghost use Rattle.aoe_initiator.specs.Response.{CanFill};
 ghost use Rattle.aoe_tools.specs.One.{AsksOne, args_of, edits_by, mask_refusal, refusal_of, told_len, unless_refused};
-ghost use Rattle.aoe_tools.specs.Runs.{RunsConfig, RunsMasks, RunsReserves};
+ghost use Rattle.aoe_tools.specs.Runs.{RunsConfig, RunsMasks, RunsReserves, told};
 
 use crate::asking::listen;
 use crate::end::{Refusal, ToolRefusal};
@@ -102,17 +102,7 @@ pub fn cfg<L: Link, C: Clock>(
     requires command { ccmd ≤ 4 }
     requires text { length text.now ≤ 1024 }
     ensures run { RunsConfig result ccmd text.now id ask.now
-        record {
-          least = C.least clock.old;
-          answers = C.answers clock.old;
-          answers' = C.answers clock.new;
-          turns = L.turns link.old;
-          turns' = L.turns link.new;
-          given = L.given link.old;
-          given' = L.given link.new;
-          taken = L.taken link.old;
-          taken' = L.taken link.new;
-        } }
+        (told C.least C.answers L.turns L.given L.taken clock.old clock.new link.old link.new) }
     ensures count { L.faults link.old ≤ L.faults link.new }
     ensures cause { result ≡ Err ToolRefusal.LinkFault → Rose (L.faults link.old) (L.faults link.new) }
     ensures no_fault { result ≢ Err ToolRefusal.LinkFault → L.faults link.new ≡ L.faults link.old }
@@ -140,17 +130,7 @@ pub fn mask<L: Link, C: Clock>(
 ) -> Result<Args, ToolRefusal>
     requires { length (edits_by (option_copied dirs)).1 ≤ 64 }
     ensures run { RunsMasks result (option_copied dirs.entry) id ask.now
-        record {
-          least = C.least clock.old;
-          answers = C.answers clock.old;
-          answers' = C.answers clock.new;
-          turns = L.turns link.old;
-          turns' = L.turns link.new;
-          given = L.given link.old;
-          given' = L.given link.new;
-          taken = L.taken link.old;
-          taken' = L.taken link.new;
-        } }
+        (told C.least C.answers L.turns L.given L.taken clock.old clock.new link.old link.new) }
     ensures count { L.faults link.old ≤ L.faults link.new }
     ensures cause { result ≡ Err ToolRefusal.LinkFault → Rose (L.faults link.old) (L.faults link.new) }
     ensures no_fault { result ≢ Err ToolRefusal.LinkFault → L.faults link.new ≡ L.faults link.old }
@@ -183,17 +163,7 @@ pub fn reserve<L: Link, C: Clock>(
     requires command { rcmd ≤ 2 }
     requires few { length list.now ≤ 64 }
     ensures run { RunsReserves result rcmd list.now id ask.now
-        record {
-          least = C.least clock.old;
-          answers = C.answers clock.old;
-          answers' = C.answers clock.new;
-          turns = L.turns link.old;
-          turns' = L.turns link.new;
-          given = L.given link.old;
-          given' = L.given link.new;
-          taken = L.taken link.old;
-          taken' = L.taken link.new;
-        } }
+        (told C.least C.answers L.turns L.given L.taken clock.old clock.new link.old link.new) }
     ensures count { L.faults link.old ≤ L.faults link.new }
     ensures cause { result ≡ Err ToolRefusal.LinkFault → Rose (L.faults link.old) (L.faults link.new) }
     ensures no_fault { result ≢ Err ToolRefusal.LinkFault → L.faults link.new ≡ L.faults link.old }

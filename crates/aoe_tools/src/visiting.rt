@@ -5,7 +5,7 @@ ghost use Rattle.aoe_initiator.specs.Response.{CanFill};
 ghost use Rattle.aoe_initiator.specs.declared.op.Op.TheVariants as op;
 ghost use Rattle.aoe_initiator.specs.Request.{request};
 ghost use Rattle.aoe_tools.specs.Page.{known_by, state_by, total_in};
-ghost use Rattle.aoe_tools.specs.Runs.{RunsStat};
+ghost use Rattle.aoe_tools.specs.Runs.{RunsStat, told};
 ghost use Rattle.aoe_tools.specs.Visits.{AsksPage, VisitsAll, VisitsOne, first_port};
 
 use crate::asking::listen;
@@ -169,17 +169,7 @@ pub fn stat<L: Link, C: Clock>(
     clock: &mut C,
 ) -> Result<Found, ToolRefusal>
     ensures run { RunsStat result ask.now
-        record {
-          least = C.least clock.old;
-          answers = C.answers clock.old;
-          answers' = C.answers clock.new;
-          turns = L.turns link.old;
-          turns' = L.turns link.new;
-          given = L.given link.old;
-          given' = L.given link.new;
-          taken = L.taken link.old;
-          taken' = L.taken link.new;
-        } }
+        (told C.least C.answers L.turns L.given L.taken clock.old clock.new link.old link.new) }
     ensures count { L.faults link.old ≤ L.faults link.new }
     ensures cause { result ≡ Err ToolRefusal.LinkFault → Rose (L.faults link.old) (L.faults link.new) }
     ensures no_fault { result ≢ Err ToolRefusal.LinkFault → L.faults link.new ≡ L.faults link.old }

@@ -2,6 +2,7 @@
 ghost use Rattle.std.specs.Prelude.{◌≡◌, ◌≢◌, ◌≤◌, ◌+◌, ℕ, Err, true, length, option_copied};
 ghost use Rattle.aoe_base.specs.Faults.{Rose};
 ghost use Rattle.aoe_tools.specs.One.{edits_by};
+ghost use Rattle.aoe_tools.specs.Runs.{told};
 ghost use Rattle.aoe_words.specs.Tools.{CanGet};
 ghost use Rattle.aoe_top.specs.Tools.{CanAsk, CopiesIn, CopiesOut, RunsTool, Says, SaysConfig, SaysFound, SaysMasks, SaysReserves, SaysStat, ask_of, copy_status, dirs_of, is_copy_status, is_tool_status, said, tool_status};
 
@@ -55,17 +56,7 @@ fn say_found<L: Link, C: Clock>(
     clock: &mut C,
 ) -> Result<Blob, ToolRefusal>
     ensures run { SaysFound asking result
-        record {
-          least = C.least clock.old;
-          answers = C.answers clock.old;
-          answers' = C.answers clock.new;
-          turns = L.turns link.old;
-          turns' = L.turns link.new;
-          given = L.given link.old;
-          given' = L.given link.new;
-          taken = L.taken link.old;
-          taken' = L.taken link.new;
-        } }
+        (told C.least C.answers L.turns L.given L.taken clock.old clock.new link.old link.new) }
     ensures count { L.faults link.old ≤ L.faults link.new }
     ensures cause { result ≡ Err ToolRefusal.LinkFault → Rose (L.faults link.old) (L.faults link.new) }
     ensures no_fault { result ≢ Err ToolRefusal.LinkFault → L.faults link.new ≡ L.faults link.old }
@@ -83,17 +74,7 @@ fn say_stat<L: Link, C: Clock>(
     clock: &mut C,
 ) -> Result<Blob, ToolRefusal>
     ensures run { SaysStat asking result
-        record {
-          least = C.least clock.old;
-          answers = C.answers clock.old;
-          answers' = C.answers clock.new;
-          turns = L.turns link.old;
-          turns' = L.turns link.new;
-          given = L.given link.old;
-          given' = L.given link.new;
-          taken = L.taken link.old;
-          taken' = L.taken link.new;
-        } }
+        (told C.least C.answers L.turns L.given L.taken clock.old clock.new link.old link.new) }
     ensures count { L.faults link.old ≤ L.faults link.new }
     ensures cause { result ≡ Err ToolRefusal.LinkFault → Rose (L.faults link.old) (L.faults link.new) }
     ensures no_fault { result ≢ Err ToolRefusal.LinkFault → L.faults link.new ≡ L.faults link.old }
@@ -112,17 +93,7 @@ fn say_config<L: Link, C: Clock>(
 ) -> Result<Blob, ToolRefusal>
     requires { asked.now.ccmd ≤ 4 }
     ensures run { SaysConfig asked.now result
-        record {
-          least = C.least clock.old;
-          answers = C.answers clock.old;
-          answers' = C.answers clock.new;
-          turns = L.turns link.old;
-          turns' = L.turns link.new;
-          given = L.given link.old;
-          given' = L.given link.new;
-          taken = L.taken link.old;
-          taken' = L.taken link.new;
-        } }
+        (told C.least C.answers L.turns L.given L.taken clock.old clock.new link.old link.new) }
     ensures count { L.faults link.old ≤ L.faults link.new }
     ensures cause { result ≡ Err ToolRefusal.LinkFault → Rose (L.faults link.old) (L.faults link.new) }
     ensures no_fault { result ≢ Err ToolRefusal.LinkFault → L.faults link.new ≡ L.faults link.old }
@@ -147,17 +118,7 @@ fn say_masks<L: Link, C: Clock>(
     clock: &mut C,
 ) -> Result<Blob, ToolRefusal>
     ensures run { SaysMasks asked.now result
-        record {
-          least = C.least clock.old;
-          answers = C.answers clock.old;
-          answers' = C.answers clock.new;
-          turns = L.turns link.old;
-          turns' = L.turns link.new;
-          given = L.given link.old;
-          given' = L.given link.new;
-          taken = L.taken link.old;
-          taken' = L.taken link.new;
-        } }
+        (told C.least C.answers L.turns L.given L.taken clock.old clock.new link.old link.new) }
     ensures count { L.faults link.old ≤ L.faults link.new }
     ensures cause { result ≡ Err ToolRefusal.LinkFault → Rose (L.faults link.old) (L.faults link.new) }
     ensures no_fault { result ≢ Err ToolRefusal.LinkFault → L.faults link.new ≡ L.faults link.old }
@@ -176,17 +137,7 @@ fn say_reserves<L: Link, C: Clock>(
 ) -> Result<Blob, ToolRefusal>
     requires { asked.now.rcmd ≤ 2 }
     ensures run { SaysReserves asked.now result
-        record {
-          least = C.least clock.old;
-          answers = C.answers clock.old;
-          answers' = C.answers clock.new;
-          turns = L.turns link.old;
-          turns' = L.turns link.new;
-          given = L.given link.old;
-          given' = L.given link.new;
-          taken = L.taken link.old;
-          taken' = L.taken link.new;
-        } }
+        (told C.least C.answers L.turns L.given L.taken clock.old clock.new link.old link.new) }
     ensures count { L.faults link.old ≤ L.faults link.new }
     ensures cause { result ≡ Err ToolRefusal.LinkFault → Rose (L.faults link.old) (L.faults link.new) }
     ensures no_fault { result ≢ Err ToolRefusal.LinkFault → L.faults link.new ≡ L.faults link.old }
@@ -212,17 +163,7 @@ fn say<L: Link, C: Clock>(
 ) -> Result<Blob, ToolRefusal>
     requires { CanAsk tool.now }
     ensures run { Says tool.now result
-        record {
-          least = C.least clock.old;
-          answers = C.answers clock.old;
-          answers' = C.answers clock.new;
-          turns = L.turns link.old;
-          turns' = L.turns link.new;
-          given = L.given link.old;
-          given' = L.given link.new;
-          taken = L.taken link.old;
-          taken' = L.taken link.new;
-        } }
+        (told C.least C.answers L.turns L.given L.taken clock.old clock.new link.old link.new) }
     ensures count { L.faults link.old ≤ L.faults link.new }
     ensures cause { result ≡ Err ToolRefusal.LinkFault → Rose (L.faults link.old) (L.faults link.new) }
     ensures no_fault { result ≢ Err ToolRefusal.LinkFault → L.faults link.new ≡ L.faults link.old }
@@ -259,17 +200,7 @@ pub(crate) fn run_tool<K: Sink, L: Link, C: Clock>(
 ) -> Status
     requires { CanAsk tool.now }
     ensures run { RunsTool tool.now result (K.held sink.old) (K.held sink.new)
-        record {
-          least = C.least clock.old;
-          answers = C.answers clock.old;
-          answers' = C.answers clock.new;
-          turns = L.turns link.old;
-          turns' = L.turns link.new;
-          given = L.given link.old;
-          given' = L.given link.new;
-          taken = L.taken link.old;
-          taken' = L.taken link.new;
-        } }
+        (told C.least C.answers L.turns L.given L.taken clock.old clock.new link.old link.new) }
     ensures leaves { result ≢ Status.Ok → result ≢ Status.SinkFault → sink.new ≡ sink.old }
     ensures status { is_tool_status result ≡ true }
     ensures sink_fault { result ≡ Status.SinkFault → Rose (K.faults sink.old) (K.faults sink.new) }
@@ -312,17 +243,7 @@ pub(crate) fn run_get<K: Sink, L: Link, C: Clock>(
 ) -> Status
     requires { CanGet asked.now }
     ensures run { CopiesOut asked.now result (K.held sink.old) (K.held sink.new)
-        record {
-          least = C.least clock.old;
-          answers = C.answers clock.old;
-          answers' = C.answers clock.new;
-          turns = L.turns link.old;
-          turns' = L.turns link.new;
-          given = L.given link.old;
-          given' = L.given link.new;
-          taken = L.taken link.old;
-          taken' = L.taken link.new;
-        } }
+        (told C.least C.answers L.turns L.given L.taken clock.old clock.new link.old link.new) }
     ensures leaves { result ≢ Status.Ok → result ≢ Status.SinkFault → sink.new ≡ sink.old }
     ensures status { is_copy_status result ≡ true }
     ensures unread { result ≢ Status.SourceFault }
@@ -358,17 +279,7 @@ pub(crate) fn run_put<S: Source, L: Link, C: Clock>(
     clock: &mut C,
 ) -> Status
     ensures run { CopiesIn asked.now result (S.left source.old) (S.left source.new)
-        record {
-          least = C.least clock.old;
-          answers = C.answers clock.old;
-          answers' = C.answers clock.new;
-          turns = L.turns link.old;
-          turns' = L.turns link.new;
-          given = L.given link.old;
-          given' = L.given link.new;
-          taken = L.taken link.old;
-          taken' = L.taken link.new;
-        } }
+        (told C.least C.answers L.turns L.given L.taken clock.old clock.new link.old link.new) }
     ensures status { is_copy_status result ≡ true }
     ensures unwritten { result ≢ Status.SinkFault }
     ensures source_fault { result ≡ Status.SourceFault → Rose (S.faults source.old) (S.faults source.new) }

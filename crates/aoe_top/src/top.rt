@@ -7,6 +7,7 @@ ghost use Rattle.aoe_serve.specs.Exporting.{AtFirst};
 ghost use Rattle.aoe_world.specs.Replay.{IsFaultless};
 ghost use Rattle.aoe_script.specs.Lines.{refusal, script_of};
 ghost use Rattle.aoe_soak.specs.Soak.{soaked};
+ghost use Rattle.aoe_tools.specs.Runs.{told};
 ghost use Rattle.aoe_words.specs.Words.{CanSoak, IsInRange, command, file_count, file_names, link_count, port_words};
 ghost use Rattle.aoe_words.specs.declared.command.Answer.{Answer as Answers};
 ghost use Rattle.aoe_words.specs.declared.command.Serve.{Serve as Serves};
@@ -126,39 +127,9 @@ fn run_command<S: Source, K: Sink, D: Disk + Drop, L: Link, C: Clock>(
     ensures refused { (slot : ℕ) → refused_slot result ≡ Some slot → Refused D.state result slot disks.old disks.new }
     ensures unread { IsSome (refused_slot result) → (source.new ≡ source.old) × (sink.new ≡ sink.old) × (links.new ≡ links.old) }
     ensures memory { result ≡ Status.NoMemory → (reads_input (Some command) ≡ false → source.new ≡ source.old) × (sink.new ≡ sink.old) × (disks.new ≡ disks.old) × (is_tool (Some command) ≡ false → links.new ≡ links.old) }
-    ensures asks { (tool : Tool) → command ≡ Command.Ask tool → Asked K.held (λ a b. record {
-      least = C.least clock.old;
-      answers = C.answers clock.old;
-      answers' = C.answers clock.new;
-      turns = L.turns a;
-      turns' = L.turns b;
-      given = L.given a;
-      given' = L.given b;
-      taken = L.taken a;
-      taken' = L.taken b;
-    }) tool result sink.old sink.new links.old links.new }
-    ensures gets { (asked : Gets) → command ≡ Command.Get asked → IsGot K.held (λ a b. record {
-      least = C.least clock.old;
-      answers = C.answers clock.old;
-      answers' = C.answers clock.new;
-      turns = L.turns a;
-      turns' = L.turns b;
-      given = L.given a;
-      given' = L.given b;
-      taken = L.taken a;
-      taken' = L.taken b;
-    }) asked result sink.old sink.new links.old links.new }
-    ensures puts { (asked : Puts) → command ≡ Command.Put asked → IsPut S.left (λ a b. record {
-      least = C.least clock.old;
-      answers = C.answers clock.old;
-      answers' = C.answers clock.new;
-      turns = L.turns a;
-      turns' = L.turns b;
-      given = L.given a;
-      given' = L.given b;
-      taken = L.taken a;
-      taken' = L.taken b;
-    }) asked result source.old source.new links.old links.new }
+    ensures asks { (tool : Tool) → command ≡ Command.Ask tool → Asked K.held (λ a b. told C.least C.answers L.turns L.given L.taken clock.old clock.new a b) tool result sink.old sink.new links.old links.new }
+    ensures gets { (asked : Gets) → command ≡ Command.Get asked → IsGot K.held (λ a b. told C.least C.answers L.turns L.given L.taken clock.old clock.new a b) asked result sink.old sink.new links.old links.new }
+    ensures puts { (asked : Puts) → command ≡ Command.Put asked → IsPut S.left (λ a b. told C.least C.answers L.turns L.given L.taken clock.old clock.new a b) asked result source.old source.new links.old links.new }
     ensures clock { is_tool (Some command) ≡ false → clock.new ≡ clock.old }
     ensures usage { result ≢ Status.Usage }
     ensures there { All IsSome disks.new }
@@ -270,41 +241,11 @@ pub fn aoe<S: Source, K: Sink, D: Disk + Drop, L: Link, C: Clock>(
 
     // What a tool asks, when it ends and what it says; or there was no memory to read its command.
     ensures asks { (tool : Tool) → command (map string_bytes words.now) ≡ Some (Command.Ask tool) → (result ≡ Status.NoMemory) × (links.new ≡ links.old)
-        ⊎ Asked K.held (λ a b. record {
-          least = C.least clock.old;
-          answers = C.answers clock.old;
-          answers' = C.answers clock.new;
-          turns = L.turns a;
-          turns' = L.turns b;
-          given = L.given a;
-          given' = L.given b;
-          taken = L.taken a;
-          taken' = L.taken b;
-        }) tool result sink.old sink.new links.old links.new }
+        ⊎ Asked K.held (λ a b. told C.least C.answers L.turns L.given L.taken clock.old clock.new a b) tool result sink.old sink.new links.old links.new }
     ensures gets { (asked : Gets) → command (map string_bytes words.now) ≡ Some (Command.Get asked) → (result ≡ Status.NoMemory) × (links.new ≡ links.old)
-        ⊎ IsGot K.held (λ a b. record {
-          least = C.least clock.old;
-          answers = C.answers clock.old;
-          answers' = C.answers clock.new;
-          turns = L.turns a;
-          turns' = L.turns b;
-          given = L.given a;
-          given' = L.given b;
-          taken = L.taken a;
-          taken' = L.taken b;
-        }) asked result sink.old sink.new links.old links.new }
+        ⊎ IsGot K.held (λ a b. told C.least C.answers L.turns L.given L.taken clock.old clock.new a b) asked result sink.old sink.new links.old links.new }
     ensures puts { (asked : Puts) → command (map string_bytes words.now) ≡ Some (Command.Put asked) → (result ≡ Status.NoMemory) × (links.new ≡ links.old)
-        ⊎ IsPut S.left (λ a b. record {
-          least = C.least clock.old;
-          answers = C.answers clock.old;
-          answers' = C.answers clock.new;
-          turns = L.turns a;
-          turns' = L.turns b;
-          given = L.given a;
-          given' = L.given b;
-          taken = L.taken a;
-          taken' = L.taken b;
-        }) asked result source.old source.new links.old links.new }
+        ⊎ IsPut S.left (λ a b. told C.least C.answers L.turns L.given L.taken clock.old clock.new a b) asked result source.old source.new links.old links.new }
     ensures clock { is_tool (command (map string_bytes words.now)) ≡ false → clock.new ≡ clock.old }
 
     // With no fault keeps that hold lists are mounted, and then a stream of frames is answered to its end, and a link is served;
