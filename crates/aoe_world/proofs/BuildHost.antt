@@ -51,9 +51,9 @@ module _ (script : ScriptLines) (is : IsScript script) where
       let g = (are-good script is).shelf (position_or_len (is_shelf_named shelf) script.setups) shelf major ports mtu (sym (find_at (is_shelf_named shelf) script.setups) ∙ e) in
       (g.number, g.least, g.most)
 
-  pub slot-words : (shelf : ArrayVec ℕ) (minor sectors : ℕ) → find (is_slot shelf minor) script.setups ≡ Some (Slot shelf minor sectors) → minor ≤ 254
-  slot-words shelf minor sectors e =
-      ((are-good script is).slot (position_or_len (is_slot shelf minor) script.setups) shelf minor sectors (sym (find_at (is_slot shelf minor) script.setups) ∙ e)).number
+  pub slot-words : (shelf : ArrayVec ℕ) (minor sectors : ℕ) (room : Option ℕ) → find (is_slot shelf minor) script.setups ≡ Some (Slot shelf minor sectors room) → minor ≤ 254
+  slot-words shelf minor sectors room e =
+      ((are-good script is).slot (position_or_len (is_slot shelf minor) script.setups) shelf minor sectors room (sym (find_at (is_slot shelf minor) script.setups) ∙ e)).number
 
 -- ---- a device
 
@@ -61,9 +61,9 @@ pub shelf-here : (lines : List Line) (n : ℕ) (line : Line) (shelf : ArrayVec �
     → find (is_shelf_named shelf) (drop n lines) ≡ find (is_shelf_named shelf) lines → find (is_shelf_named shelf) lines ≡ Some (Shelf shelf major ports mtu)
 shelf-here lines n line shelf major ports mtu at is so = find-here (is_shelf_named shelf) lines n line at (ap (is_shelf_named shelf) is ∙ same-self shelf) so ∙ ap Some is
 
-pub slot-here : (lines : List Line) (n : ℕ) (line : Line) (shelf : ArrayVec ℕ) (minor sectors : ℕ) → slice_get lines n ≡ Some line → line ≡ Slot shelf minor sectors
-    → find (is_slot shelf minor) (drop n lines) ≡ find (is_slot shelf minor) lines → find (is_slot shelf minor) lines ≡ Some (Slot shelf minor sectors)
-slot-here lines n line shelf minor sectors at is so =
+pub slot-here : (lines : List Line) (n : ℕ) (line : Line) (shelf : ArrayVec ℕ) (minor sectors : ℕ) (room : Option ℕ) → slice_get lines n ≡ Some line → line ≡ Slot shelf minor sectors room
+    → find (is_slot shelf minor) (drop n lines) ≡ find (is_slot shelf minor) lines → find (is_slot shelf minor) lines ≡ Some (Slot shelf minor sectors room)
+slot-here lines n line shelf minor sectors room at is so =
     find-here (is_slot shelf minor) lines n line at (ap (is_slot shelf minor) is ∙ and_from (minor == minor) (same shelf shelf) (eq-eqb minor minor refl) (same-self shelf)) so ∙ ap Some is
 
 pub attached-by : (lines : List Line) (host other shelf : ArrayVec ℕ) (minor : ℕ) (line : Line) → line ≡ Attach other shelf minor → same other host ≡ true

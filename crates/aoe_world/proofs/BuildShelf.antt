@@ -9,13 +9,16 @@ use Rattle.arrayvec.specs.ArrayVec.{ArrayVec}
 use Rattle.aoe_base.specs.declared.address.Mac.{Mac}
 use Rattle.aoe_history.specs.Setup.{shelf_of, SlotSetup}
 use Rattle.aoe_sim_setup.specs.Layout.{setup_of, slot_of_shelf, slot_with}
+use Rattle.aoe_sim_setup.specs.Stations.{IsCache}
 use Rattle.aoe_sim_setup.proofs.GoodLines.{are-good}
+use Rattle.aoe_sim_setup.proofs.RangeLemmas.{is-cache}
 use Rattle.aoe_sim_setup.proofs.SlotLemmas.{has-shelves}
 use Rattle.aoe_sim_shelves.specs.Rack.{MemoryRack, Serves}
 use Rattle.aoe_script.specs.declared.setup.Setup.{Setup as Line}
 use Rattle.aoe_script.specs.declared.setup.Setup.TheVariants.{Life, Shelf, Slot, Host, Attach}
 use Rattle.aoe_script.specs.Lines.{IsScript, ScriptLines}
 use Rattle.aoe_script.specs.Rules.{is_slot, same}
+use Rattle.aoe_cache.specs.declared.any.AnyStore.{AnyStore}
 use Rattle.aoe_disk.specs.Memory.{Memory}
 use Rattle.aoe_target.specs.declared.station.Station.{Station}
 use Rattle.aoe_target.specs.Mounted.{Mounted}
@@ -26,12 +29,12 @@ use Rattle.aoe_world.specs.declared.build.SlotLine.{SlotLine}
 -- a shelf with the slots of the first n lines
 pub record ShelfSoFar (lines : List Line) (name : ArrayVec ℕ) (major : ℕ) (ports : ArrayVec Mac) (mtu n : ℕ) (x : MemoryRack) : Type 0 where
   pub words : x.shelf ≡ record { major = major; ports = ports.items; mtu = mtu; targets = x.shelf.targets }
-  pub stations : map (λ (t : Mounted Memory Memory). t.station) x.shelf.targets ≡ map (λ (s : SlotSetup). s.station) (filter_map (slot_of_shelf name major ports.items mtu) (take n lines))
+  pub stations : map (λ (t : Mounted (AnyStore Memory) Memory). t.station) x.shelf.targets ≡ map (λ (s : SlotSetup). s.station) (filter_map (slot_of_shelf name major ports.items mtu) (take n lines))
   pub serves : Serves (filter_map (slot_of_shelf name major ports.items mtu) (take n lines)) [] x
 
 -- the slot that a line declares, as one of this shelf
 abbrev pub slot-given : MemoryRack → Option SlotLine → Option SlotSetup
-slot-given x slot = option_map (λ (z : SlotLine). slot_with x.shelf.major x.shelf.ports x.shelf.mtu z.minor z.sectors) slot
+slot-given x slot = option_map (λ (z : SlotLine). slot_with x.shelf.major x.shelf.ports x.shelf.mtu z.minor z.sectors z.room) slot
 
 -- the minor of a slot is that of its line
 and-true : (b : Bool) → (b && true) ≡ b
@@ -47,10 +50,10 @@ pub minors-are : (name : ArrayVec ℕ) (major : ℕ) (ports : List Mac) (mtu min
 minors-are name major ports mtu minor [] = refl
 minors-are name major ports mtu minor (Life ms ∷ lines) = minors-are name major ports mtu minor lines
 minors-are name major ports mtu minor (Shelf other number list size ∷ lines) = minors-are name major ports mtu minor lines
-minors-are name major ports mtu minor (Slot other number sectors ∷ lines) = go (same other name) (minors-are name major ports mtu minor lines)
+minors-are name major ports mtu minor (Slot other number sectors room ∷ lines) = go (same other name) (minors-are name major ports mtu minor lines)
   where
     go : (b : Bool) → list_any (λ (s : SlotSetup). s.station.id.minor == minor) (filter_map (slot_of_shelf name major ports mtu) lines) ≡ list_any (is_slot name minor) lines
-        → list_any (λ (s : SlotSetup). s.station.id.minor == minor) (cons_option (if b then Some (slot_with major ports mtu number sectors) else None) (filter_map (slot_of_shelf name major ports mtu) lines))
+        → list_any (λ (s : SlotSetup). s.station.id.minor == minor) (cons_option (if b then Some (slot_with major ports mtu number sectors room) else None) (filter_map (slot_of_shelf name major ports mtu) lines))
         ≡ (((number == minor) && b) || list_any (is_slot name minor) lines)
     go true more = ap (λ b. (number == minor) || b) more ∙ ap (λ b. b || list_any (is_slot name minor) lines) (sym (and-true (number == minor)))
     go false more = more ∙ ap (λ b. b || list_any (is_slot name minor) lines) (sym (and-false (number == minor)))
@@ -61,7 +64,7 @@ module _ (lines : List Line) (name : ArrayVec ℕ) (major : ℕ) (ports : ArrayV
   pub shelf-begun : (x : MemoryRack) → x ≡ record { shelf = record { major = major; ports = ports.items; mtu = mtu; targets = [] }; stops = [] } → Serves [] [] x → ShelfSoFar lines name major ports mtu 0 x
   shelf-begun x e serves = record {
     words = ap (λ (z : MemoryRack). z.shelf) e ∙ ap (λ ts. record { major = major; ports = ports.items; mtu = mtu; targets = ts }) (sym (ap (λ (z : MemoryRack). z.shelf.targets) e));
-    stations = ap (λ (z : MemoryRack). map (λ (t : Mounted Memory Memory). t.station) z.shelf.targets) e;
+    stations = ap (λ (z : MemoryRack). map (λ (t : Mounted (AnyStore Memory) Memory). t.station) z.shelf.targets) e;
     serves = serves;
   }
 
@@ -75,7 +78,7 @@ module _ (lines : List Line) (name : ArrayVec ℕ) (major : ℕ) (ports : ArrayV
   module _ (n : ℕ) (line : Line) (x : MemoryRack) (at : slice_get lines n ≡ Some line) (k : ShelfSoFar lines name major ports mtu n x) where
     pub shelf-more : (y : MemoryRack) (given : Option SlotSetup) → slot_of_shelf name x.shelf.major x.shelf.ports x.shelf.mtu line ≡ given
         → ((before : List SlotSetup) → Serves before [] x → Serves (before ++ option_to_list given) [] y)
-        → map (λ (t : Mounted Memory Memory). t.station) y.shelf.targets ≡ map (λ (t : Mounted Memory Memory). t.station) x.shelf.targets ++ map (λ (s : SlotSetup). s.station) (option_to_list given)
+        → map (λ (t : Mounted (AnyStore Memory) Memory). t.station) y.shelf.targets ≡ map (λ (t : Mounted (AnyStore Memory) Memory). t.station) x.shelf.targets ++ map (λ (s : SlotSetup). s.station) (option_to_list given)
         → y.shelf ≡ record x.shelf { targets = y.shelf.targets } → ShelfSoFar lines name major ports mtu (n + 1) y
     shelf-more y given is serves stations rest =
         let more : filter_map (slot_of_shelf name major ports.items mtu) (take n lines) ++ option_to_list given ≡ filter_map (slot_of_shelf name major ports.items mtu) (take (n + 1) lines)
@@ -89,18 +92,19 @@ module _ (lines : List Line) (name : ArrayVec ℕ) (major : ℕ) (ports : ArrayV
           serves = subst (λ z. Serves z [] y) more (serves (filter_map (slot_of_shelf name major ports.items mtu) (take n lines)) k.serves);
         }
 
-    pub shelf-can : (minor sectors : ℕ) → minor ≤ 254 → sectors ≤ 65536 → list_any (is_slot name minor) (take n lines) ≡ false
-        → slot_of_shelf name major ports.items mtu line ≡ Some (slot_with major ports.items mtu minor sectors) → length (filter_map (slot_of_shelf name major ports.items mtu) lines) ≤ 16 → CanAdd minor sectors x
-    shelf-can minor sectors number size new is few =
+    pub shelf-can : (minor sectors : ℕ) (cache : Option ℕ) → minor ≤ 254 → sectors ≤ 65536 → IsCache cache → list_any (is_slot name minor) (take n lines) ≡ false
+        → slot_of_shelf name major ports.items mtu line ≡ Some (slot_with major ports.items mtu minor sectors cache) → length (filter_map (slot_of_shelf name major ports.items mtu) lines) ≤ 16 → CanAdd minor sectors cache x
+    shelf-can minor sectors cache number size room new is few =
         let before = filter_map (slot_of_shelf name major ports.items mtu) (take n lines) in
-        let own = slice_get_within (filter_map (slot_of_shelf name major ports.items mtu) lines) (length before) (slot_with major ports.items mtu minor sectors)
-        (at-own (slot_of_shelf name major ports.items mtu) lines n line (slot_with major ports.items mtu minor sectors) at is) in
+        let own = slice_get_within (filter_map (slot_of_shelf name major ports.items mtu) lines) (length before) (slot_with major ports.items mtu minor sectors cache)
+        (at-own (slot_of_shelf name major ports.items mtu) lines n line (slot_with major ports.items mtu minor sectors cache) at is) in
         let count = k.serves.count in
         record {
           number = omega (arith, number);
           size = omega (arith, size);
-          room = omega (arith, own, few, count);
-          other = any-map (λ (t : Mounted Memory Memory). t.station) (λ (z : Station). z.id.minor == minor) x.shelf.targets
+          cache = room;
+          few = omega (arith, own, few, count);
+          other = any-map (λ (t : Mounted (AnyStore Memory) Memory). t.station) (λ (z : Station). z.id.minor == minor) x.shelf.targets
               ∙ ap (list_any (λ (z : Station). z.id.minor == minor)) k.stations
               ∙ sym (any-map (λ (s : SlotSetup). s.station) (λ (z : Station). z.id.minor == minor) before)
               ∙ minors-are name major ports.items mtu minor (take n lines)
@@ -115,12 +119,12 @@ module _ (script : ScriptLines) (is : IsScript script) (at : ℕ) (name : ArrayV
 
   -- the slot of the next line can be added
   pub slot-can : (n : ℕ) (line : Line) (x : MemoryRack) → slice_get script.setups n ≡ Some line → ShelfSoFar script.setups name major ports mtu n x
-      → (slot : Option SlotLine) → IfSome slot (λ z. line ≡ Slot name z.minor z.sectors)
-      → slot_of_shelf name major ports.items mtu line ≡ option_map (λ (z : SlotLine). slot_with major ports.items mtu z.minor z.sectors) slot → IfSome slot (λ z. CanAdd z.minor z.sectors x)
+      → (slot : Option SlotLine) → IfSome slot (λ z. line ≡ Slot name z.minor z.sectors z.room)
+      → slot_of_shelf name major ports.items mtu line ≡ option_map (λ (z : SlotLine). slot_with major ports.items mtu z.minor z.sectors z.room) slot → IfSome slot (λ z. CanAdd z.minor z.sectors z.room x)
   slot-can n line x here k None line-is given = tt
   slot-can n line x here k (Some z) line-is given =
-      let good = (are-good script is).slot n name z.minor z.sectors (here ∙ ap Some line-is) in
-      shelf-can script.setups name major ports mtu n line x here k z.minor z.sectors good.number good.most good.new given
+      let good = (are-good script is).slot n name z.minor z.sectors z.room (here ∙ ap Some line-is) in
+      shelf-can script.setups name major ports mtu n line x here k z.minor z.sectors z.room good.number good.most (is-cache z.room good.cache) good.new given
       ((has-shelves script.setups (are-good script is)).few at name major ports mtu there)
 
   pub shelf-built : (n : ℕ) (x : MemoryRack) → n ≡ length script.setups → ShelfSoFar script.setups name major ports mtu n x → Serves (shelf_of (setup_of script.setups) major) [] x

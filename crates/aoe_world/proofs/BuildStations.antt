@@ -42,9 +42,9 @@ module _ (lines : List Line) (n : ℕ) (line : Line) (sim : Sim) (places : List 
     places_are = subst (λ ps. Along (IsPlace (setup_of lines) (majors_of lines)) ps places) (grown-none placed lines n line here no-place) k.places_are;
   }
 
-  pub built-past : ((x : ℕ) × (line ≡ Life x)) ⊎ (((x : ArrayVec ℕ) × (y : ℕ) × (z : ℕ) × (line ≡ Slot x y z)) ⊎ ((x : ArrayVec ℕ) × (y : ArrayVec ℕ) × (z : ℕ) × (line ≡ Attach x y z))) → IsBuilt lines (n + 1) sim places
+  pub built-past : ((x : ℕ) × (line ≡ Life x)) ⊎ (((x : ArrayVec ℕ) × (y : ℕ) × (z : ℕ) × (w : Option ℕ) × (line ≡ Slot x y z w)) ⊎ ((x : ArrayVec ℕ) × (y : ArrayVec ℕ) × (z : ℕ) × (line ≡ Attach x y z))) → IsBuilt lines (n + 1) sim places
   built-past (inl (x, e)) = built-on (ap major_in e) (ap (host_in lines) e) (ap placed e)
-  built-past (inr (inl (x, y, z, e))) = built-on (ap major_in e) (ap (host_in lines) e) (ap placed e)
+  built-past (inr (inl (x, y, z, w, e))) = built-on (ap major_in e) (ap (host_in lines) e) (ap placed e)
   built-past (inr (inr (x, y, z, e))) = built-on (ap major_in e) (ap (host_in lines) e) (ap placed e)
 
   module _ (later : Sim) (there : List Place) (run : later.run ≡ sim.run) where

@@ -10,6 +10,7 @@ use Rattle.aoe_base.specs.declared.address.TargetId.{TargetId}
 use Rattle.aoe_base.specs.declared.bytes.Blob.{Blob}
 use Rattle.aoe_base.specs.declared.counted.FrameNo.{FrameNo}
 use Rattle.aoe_disk.specs.declared.loss.Loss.{Loss}
+use Rattle.aoe_cache.specs.declared.any.AnyStore.{AnyStore}
 use Rattle.aoe_disk.specs.Memory.{Memory}
 use Rattle.aoe_history.specs.declared.entry.Entry.{Entry}
 use Rattle.aoe_history.specs.Asks.{submission_in}
@@ -159,10 +160,10 @@ pub gives-arm : (lines : List Line) (places : List Place) (sim : Sim) (dev : Tar
     → Gives lines sim (Arm dev which k mode) p
 gives-arm lines places sim dev i j which k mode p knows is first last ep at_shelf at_slot = go (slice_get sim.shelves.items i) refl at_slot
   where
-    inside : (x : MemoryRack) (t : Mounted Memory Memory) → slice_get sim.shelves.items i ≡ Some x → slice_get x.shelf.targets j ≡ Some t → IfSome (slice_get sim.shelves.items i) (λ x. j < length x.shelf.targets)
+    inside : (x : MemoryRack) (t : Mounted (AnyStore Memory) Memory) → slice_get sim.shelves.items i ≡ Some x → slice_get x.shelf.targets j ≡ Some t → IfSome (slice_get sim.shelves.items i) (λ x. j < length x.shelf.targets)
     inside x t ex et = subst (λ o. IfSome o (λ (y : MemoryRack). j < length y.shelf.targets)) (sym ex) (slice_get_within x.shelf.targets j t et)
 
-    gives : (x : MemoryRack) (t : Mounted Memory Memory) → slice_get sim.shelves.items i ≡ Some x → slice_get x.shelf.targets j ≡ Some t → t.station.id ≡ dev → Gives lines sim (Arm dev which k mode) p
+    gives : (x : MemoryRack) (t : Mounted (AnyStore Memory) Memory) → slice_get sim.shelves.items i ≡ Some x → slice_get x.shelf.targets j ≡ Some t → t.station.id ≡ dev → Gives lines sim (Arm dev which k mode) p
     gives x t ex et is_dev = record {
       act = act.Arm i j which k mode;
       is = ep;
@@ -171,7 +172,7 @@ gives-arm lines places sim dev i j which k mode p knows is first last ep at_shel
       foreign = tt;
     }
 
-    with-target : (x : MemoryRack) → slice_get sim.shelves.items i ≡ Some x → (o : Option (Mounted Memory Memory)) → slice_get x.shelf.targets j ≡ o → IsSomeAnd o (λ t. t.station.id ≡ dev)
+    with-target : (x : MemoryRack) → slice_get sim.shelves.items i ≡ Some x → (o : Option (Mounted (AnyStore Memory) Memory)) → slice_get x.shelf.targets j ≡ o → IsSomeAnd o (λ t. t.station.id ≡ dev)
         → Gives lines sim (Arm dev which k mode) p
     with-target x ex None et is_dev = absurd is_dev
     with-target x ex (Some t) et is_dev = gives x t ex et is_dev

@@ -2,6 +2,7 @@
 use Rattle.std.proofs.Common.{ℕ, ◌≡◌, ◌≢◌, ◌<◌, Bool, true, List, ◌∷◌, Option, Some, None, Result, Ok, Err, refl, sym, ap, subst, inl, ◌∙◌, MatchOption, OnErr, OnOk}
 use Rattle.std.specs.Prelude.{slice_get, slice_set}
 use Rattle.std.proofs.lemmas.Option.{slice_get_within}
+use Rattle.aoe_cache.specs.declared.any.AnyStore.{AnyStore}
 use Rattle.aoe_disk.specs.Memory.{Memory}
 use Rattle.aoe_disk.specs.declared.loss.Loss.{Loss}
 use Rattle.aoe_history.specs.declared.entry.Entry.{Entry}
@@ -59,7 +60,7 @@ module _ (s : Setup) (majors : List ℕ) (i major : ℕ) (x y : MemoryRack) (old
       adds p t = crash-adds p how (shelf_of s major) old.run.entries m (λ j slot lists e. t.crashed j slot lists how e) came
 
   -- a disk of it was armed
-  pub has-armed : (slot : ℕ) (t : Mounted Memory Memory) (which : Which) (n : ℕ) (mode : Option Loss) → Serves (shelf_of s major) old.run.entries x → slice_get x.shelf.targets slot ≡ Some t
+  pub has-armed : (slot : ℕ) (t : Mounted (AnyStore Memory) Memory) (which : Which) (n : ℕ) (mode : Option Loss) → Serves (shelf_of s major) old.run.entries x → slice_get x.shelf.targets slot ≡ Some t
       → m ≡ Armed t.station.id which n mode ∷ old.run.entries → HasCome s majors i y old m
   has-armed slot t which n mode before et is =
       comes-by (λ host. subst (Adds (is_apart_of_host host) old.run.entries) (sym is) (adds_one _ refl adds_none))

@@ -8,6 +8,7 @@ use Rattle.std.proofs.lemmas.List.Quantifiers.{position-Some}
 use Rattle.std.proofs.lemmas.List.Sums.{fails_before_first}
 use Rattle.std.proofs.lemmas.Option.{get_or_from_slice_get, same_Some, slice_get_within}
 use Rattle.aoe_base.specs.declared.address.TargetId.{TargetId}
+use Rattle.aoe_cache.specs.declared.any.AnyStore.{AnyStore}
 use Rattle.aoe_disk.specs.declared.loss.Loss.{Loss}
 use Rattle.aoe_disk.specs.Memory.{Memory}
 use Rattle.aoe_history.specs.Setup.{shelf_of, Setup, SlotSetup}
@@ -76,7 +77,7 @@ module _ (s : Setup) (majors : List ℕ) (sim : Sim) (ready : IsReady s majors s
         let t = there x.shelf.targets p.at (let n = serves.count in omega (arith, w, n)) in
         let k = there x.stops p.at (let n = serves.stops in omega (arith, w, n)) in
         let is = serves.each p.at slot t.0 k.0 p.there t.1 k.1 in
-        let differ : t.0.station.id.minor ≢ dev.minor = subst (λ o. IfSome o (λ (t : Mounted Memory Memory). t.station.id.minor ≢ dev.minor)) t.1 (none p.at) in
+        let differ : t.0.station.id.minor ≢ dev.minor = subst (λ o. IfSome o (λ (t : Mounted (AnyStore Memory) Memory). t.station.id.minor ≢ dev.minor)) t.1 (none p.at) in
         differ (ap (λ st. st.id.minor) is.station ∙ ap (λ (d : TargetId). d.minor) called)
 
   -- the target with its minor is the device
@@ -84,7 +85,7 @@ module _ (s : Setup) (majors : List ℕ) (sim : Sim) (ready : IsReady s majors s
       → IsSomeAnd (slice_get x.shelf.targets j) (λ t. t.station.id ≡ dev)
   is-device x j serves minor = go (slice_get x.shelf.targets j) refl minor
     where
-      go : (o : Option (Mounted Memory Memory)) → slice_get x.shelf.targets j ≡ o → IsSomeAnd o (λ t. t.station.id.minor ≡ dev.minor) → IsSomeAnd o (λ t. t.station.id ≡ dev)
+      go : (o : Option (Mounted (AnyStore Memory) Memory)) → slice_get x.shelf.targets j ≡ o → IsSomeAnd o (λ t. t.station.id.minor ≡ dev.minor) → IsSomeAnd o (λ t. t.station.id ≡ dev)
       go None e h = absurd h
       go (Some t) e h =
           let w = slice_get_within x.shelf.targets j t e in
@@ -114,7 +115,7 @@ module _ (s : Setup) (majors : List ℕ) (sim : Sim) (ready : IsReady s majors s
       not-none (λ (y : MemoryRack). nat_eq y.shelf.major dev.major) sim.shelves.items p.at x.0 x.1 (eq-eqb x.0.shelf.major dev.major number) e
 
 -- the target at a place has the name of its slot
-pub id-at : (s : Setup) (majors : List ℕ) (sim : Sim) → IsReady s majors sim → (i j : ℕ) (x : MemoryRack) (t : Mounted Memory Memory) → slice_get sim.shelves.items i ≡ Some x
+pub id-at : (s : Setup) (majors : List ℕ) (sim : Sim) → IsReady s majors sim → (i j : ℕ) (x : MemoryRack) (t : Mounted (AnyStore Memory) Memory) → slice_get sim.shelves.items i ≡ Some x
     → slice_get x.shelf.targets j ≡ Some t → id_at s majors i j ≡ t.station.id
 id-at s majors sim ready i j x t ex et =
     let w = slice_get_within sim.shelves.items i x ex in
@@ -140,7 +141,7 @@ arm-named r s majors old new ready i j which k mode can entered =
     let at_x : IfSome (slice_get x.0.shelf.targets j) (λ t. IsEntered r s majors (Arm t.station.id which k mode) old new)
     = subst (λ o. IfSome o (λ (y : MemoryRack). IfSome (slice_get y.shelf.targets j) (λ t. IsEntered r s majors (Arm t.station.id which k mode) old new))) x.1 entered in
     let at_t : IsEntered r s majors (Arm t.0.station.id which k mode) old new
-    = subst (λ o. IfSome o (λ (z : Mounted Memory Memory). IsEntered r s majors (Arm z.station.id which k mode) old new)) t.1 at_x in
+    = subst (λ o. IfSome o (λ (z : Mounted (AnyStore Memory) Memory). IsEntered r s majors (Arm z.station.id which k mode) old new)) t.1 at_x in
     subst (λ d. IsEntered r s majors (Arm d which k mode) old new) (sym (id-at s majors old ready i j x.0 t.0 x.1 t.1)) at_t
 
 -- no target of the shelf that is found has the minor

@@ -1,5 +1,5 @@
 -- What of the stations of a script is built, line by line.
-use Rattle.std.specs.Prelude.{ℕ, ◌≡◌, ◌==◌, ◌-◌, ◌^◌, ◌<◌, ◌≤◌, false, List, [], length, take, slice_get, Some, None}
+use Rattle.std.specs.Prelude.{ℕ, ◌≡◌, ◌==◌, ◌-◌, ◌^◌, ◌<◌, ◌≤◌, false, List, [], length, take, slice_get, Option, Some, None}
 use Rattle.std.specs.List.{filter_map, list_any}
 use Rattle.aoe_history.specs.Setup.{shelf_of, HostSetup, Setup}
 use Rattle.aoe_sim_hosts.specs.Host.{IsSettled, NamedHost}
@@ -7,6 +7,7 @@ use Rattle.aoe_initiator.specs.declared.device.Attached.{Attached}
 use Rattle.aoe_initiator.specs.declared.device.Device.{Device}
 use Rattle.aoe_initiator.specs.HostLaw.{attach_refusal}
 use Rattle.aoe_sim_setup.specs.Layout.{host_in, majors_of, setup_of, stations_of, Placed}
+use Rattle.aoe_sim_setup.specs.Stations.{IsCache}
 use Rattle.aoe_base.specs.Addresses.{IsDistinct}
 use Rattle.aoe_sim_shelves.specs.Rack.{MemoryRack, Serves}
 use Rattle.aoe_script.specs.declared.setup.Setup.{Setup as Line}
@@ -23,11 +24,12 @@ pub record CanAttach (d : Attached) (devices : List Device) : Type 0 where
   pub few : length devices < 2 ^ 32 - 1
   pub allowed : attach_refusal d.id d.remotes.items devices ≡ None
 
--- a shelf has room for a slot of this number and this size
-pub record CanAdd (minor sectors : ℕ) (x : MemoryRack) : Type 0 where
+-- a shelf has room for a slot of this number, this size and this cache
+pub record CanAdd (minor sectors : ℕ) (room : Option ℕ) (x : MemoryRack) : Type 0 where
   pub number : minor < 255
   pub size : sectors ≤ 2 ^ 40
-  pub room : length x.shelf.targets < 16
+  pub cache : IsCache room
+  pub few : length x.shelf.targets < 16
   pub other : list_any (λ t. t.station.id.minor == minor) x.shelf.targets ≡ false
 
 -- each element of the second list is what that of the first at the same place says

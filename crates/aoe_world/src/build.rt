@@ -7,6 +7,7 @@ ghost use Rattle.aoe_history.specs.Setup.{shelf_of, SlotSetup};
 ghost use Rattle.aoe_sim_hosts.specs.Host.{IsSettled};
 ghost use Rattle.aoe_initiator.specs.Host.{Matches};
 ghost use Rattle.aoe_initiator.specs.HostLog.{Event as LogEvent};
+ghost use Rattle.aoe_sim_setup.specs.Stations.{IsCache};
 ghost use Rattle.aoe_sim_setup.specs.Layout.{about, attached_to, host_of, life_in, majors_of, setup_of, slot_named, slot_of_shelf, slot_with};
 ghost use Rattle.aoe_sim_shelves.specs.Rack.{Serves};
 ghost use Rattle.aoe_script.specs.Rules.{is_shelf_named, is_slot, same};
@@ -49,6 +50,7 @@ struct ShelfLine {
 struct SlotLine {
     minor: u64,
     sectors: u64,
+    room: Option<u64>,
 }
 
 /// The words of a host line.
@@ -127,18 +129,23 @@ fn shelf_named(script: &Script, wanted: &Name) -> Option<ShelfLine>
     None
 }
 
-/// How many sectors a line gives the slot of a shelf.
-fn sectors_in(line: &Setup, wanted: &Name, number: u64) -> Option<u64>
-    ensures { MatchOption result (is_slot wanted.now number line.now ≡ false) (λ n. line.now ≡ Setup.Slot wanted.now number n) }
+/// What a line says of the slot with a number.
+fn slot_at(line: &Setup, wanted: &Name, number: u64) -> Option<SlotLine>
+    ensures { MatchOption result (is_slot wanted.now number line.now ≡ false) (λ x. line.now ≡ Setup.Slot wanted.now number x.sectors x.room) }
 {
     match line {
         Setup::Slot {
             shelf,
             minor,
             sectors,
+            room,
         } => {
             if *minor == number && same(shelf, wanted) {
-                Some(*sectors)
+                Some(SlotLine {
+                    minor: *minor,
+                    sectors: *sectors,
+                    room: *room,
+                })
             } else {
                 None
             }
@@ -147,14 +154,14 @@ fn sectors_in(line: &Setup, wanted: &Name, number: u64) -> Option<u64>
     }
 }
 
-/// How many sectors the slot of a shelf has.
-fn sectors_of(script: &Script, wanted: &Name, number: u64) -> Option<u64>
-    ensures found { find (is_slot wanted.now number) script.now.setups ≡ option_map (λ n. Setup.Slot wanted.now number n) result }
-    ensures number { IfSome result (λ n. number ≤ 254) }
+/// What the line of a shelf's slot with a number says.
+fn slot_numbered(script: &Script, wanted: &Name, number: u64) -> Option<SlotLine>
+    ensures found { find (is_slot wanted.now number) script.now.setups ≡ option_map (λ x. Setup.Slot wanted.now number x.sectors x.room) result }
+    ensures number { IfSome result (λ x. number ≤ 254) }
 {
     'lines: for i in 0..script.setups() {
-        if let Some(sectors) = sectors_in(script.setup(i), wanted, number) {
-            return Some(sectors);
+        if let Some(slot) = slot_at(script.setup(i), wanted, number) {
+            return Some(slot);
         }
     }
     None
@@ -165,14 +172,14 @@ fn known_of(script: &Script, shelf: &Name, minor: u64) -> Option<Attached>
     ensures { result ≡ option_map about (slot_named script.now.setups shelf.now minor) }
 {
     let line = shelf_named(script, shelf)?;
-    let sectors = sectors_of(script, shelf, minor)?;
+    let slot = slot_numbered(script, shelf, minor)?;
     Some(Attached {
         id: TargetId {
             major: line.major as u16,
             minor: minor as u8,
         },
         remotes: line.ports,
-        total: sectors,
+        total: slot.sectors,
         max: (line.mtu as u32 - 36) / 512,
     })
 }
@@ -239,19 +246,22 @@ fn build_host(alloc: Global, script: &Script, line: HostLine) -> Result<NamedHos
 
 /// What a line says of a slot of the shelf with a name.
 fn slot_in(line: &Setup, wanted: &Name) -> Option<SlotLine>
-    ensures line { IfSome result (λ x. line.now ≡ Setup.Slot wanted.now x.minor x.sectors) }
-    ensures slot { (major : ℕ) (ports : List Mac) (mtu : ℕ) → slot_of_shelf wanted.now major ports mtu line.now ≡ option_map (λ x. slot_with major ports mtu x.minor x.sectors) result }
+    ensures line { IfSome result (λ x. line.now ≡ Setup.Slot wanted.now x.minor x.sectors x.room) }
+    ensures slot { (major : ℕ) (ports : List Mac) (mtu : ℕ) → slot_of_shelf wanted.now major ports mtu line.now
+        ≡ option_map (λ x. slot_with major ports mtu x.minor x.sectors x.room) result }
 {
     match line {
         Setup::Slot {
             shelf,
             minor,
             sectors,
+            room,
         } => {
             if same(shelf, wanted) {
                 Some(SlotLine {
                     minor: *minor,
                     sectors: *sectors,
+                    room: *room,
                 })
             } else {
                 None
@@ -261,17 +271,28 @@ fn slot_in(line: &Setup, wanted: &Name) -> Option<SlotLine>
     }
 }
 
+/// The room of a cache, in 32 bits.
+fn small_room(room: Option<u64>) -> Option<u32>
+    requires { IsCache room }
+    ensures { result ≡ room }
+{
+    match room {
+        Some(room) => Some(room as u32),
+        None => None,
+    }
+}
+
 /// Adds a slot to a shelf, where there is one.
 fn add_slot(shelf: &mut MemoryRack, alloc: Global, slot: Option<SlotLine>) -> Result<(), NoMemory>
-    requires can { IfSome slot (λ x. CanAdd x.minor x.sectors shelf.old) }
+    requires can { IfSome slot (λ x. CanAdd x.minor x.sectors x.room shelf.old) }
     ensures serves { OnOk result ((slots : List SlotSetup) → Serves slots [] shelf.old → Serves (slots
-        ++ option_to_list (option_map (λ x. slot_with shelf.old.shelf.major shelf.old.shelf.ports shelf.old.shelf.mtu x.minor x.sectors) slot)) [] shelf.new) }
+        ++ option_to_list (option_map (λ x. slot_with shelf.old.shelf.major shelf.old.shelf.ports shelf.old.shelf.mtu x.minor x.sectors x.room) slot)) [] shelf.new) }
     ensures stations { OnOk result (map (λ t. t.station) shelf.new.shelf.targets ≡ map (λ t. t.station) shelf.old.shelf.targets
-        ++ map (λ s. s.station) (option_to_list (option_map (λ x. slot_with shelf.old.shelf.major shelf.old.shelf.ports shelf.old.shelf.mtu x.minor x.sectors) slot))) }
+        ++ map (λ s. s.station) (option_to_list (option_map (λ x. slot_with shelf.old.shelf.major shelf.old.shelf.ports shelf.old.shelf.mtu x.minor x.sectors x.room) slot))) }
     ensures rest { OnOk result (shelf.new.shelf ≡ record shelf.old.shelf { targets = shelf.new.shelf.targets }) }
 {
     match slot {
-        Some(x) => shelf.add(alloc, x.minor as u8, x.sectors),
+        Some(x) => shelf.add(alloc, x.minor as u8, x.sectors, small_room(x.room)),
         None => Ok(()),
     }
 }

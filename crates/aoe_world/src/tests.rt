@@ -1,6 +1,7 @@
 //! Whole transcripts of scripts, worked out by hand.
 ghost use Rattle.std.specs.Prelude.{◌≡◌};
 
+mod caches;
 mod crashes;
 mod network;
 mod paths;
