@@ -8,6 +8,137 @@ use arrayvec::ArrayVec;
 use std::alloc::{AllocError, Global};
 use std::test::Fail;
 
+/// Words that spell no command: none, another, or a word before it; beside `replay`; too few, too many, an empty one.
+const NO_COMMAND: [&str; 20] = [
+    // No command, another, or a word before it.
+    "",
+    "reply 1 0 d k",
+    "Answer 1 0 d k",
+    "help",
+    "help answer",
+    "--help",
+    "--mtu 1500 answer 1 0 d k",
+    // Words beside replay.
+    "replay ",
+    "replay script",
+    "replay replay",
+    "replay --mtu 1500",
+    "replay --help",
+    "replay --",
+    "Replay",
+    // Too few words, too many, an empty one.
+    "answer",
+    "answer 1",
+    "answer 1 0 d",
+    "answer 1 0 d k k",
+    "answer 1 0  k",
+    "answer 1 0 d k ",
+];
+
+/// Numbers, options and addresses that `answer` doesn't take.
+const NO_ANSWER: [&str; 35] = [
+    // Numbers.
+    "answer 70000 0 d k",
+    "answer 65535 0 d k",
+    "answer 1 255 d k",
+    "answer -1 0 d k",
+    "answer 1 0x0 d k",
+    "answer 000000000000000000001 0 d k",
+    "answer 1 0 d k --mtu 1499",
+    "answer 1 0 d k --mtu=9001",
+    // Options.
+    "answer 1 0 d k --mtu",
+    "answer 1 0 d k --mtu=",
+    "answer 1 0 d k --mtu ",
+    "answer 1 0 d k --mtu -1500",
+    "answer 1 0 d k --mtu=-1500",
+    "answer 1 0 d k --mtu --port 02:00:00:00:00:01",
+    "answer 1 0 d k --mtu 1500 --mtu 1500",
+    "answer --mtu=1500 1 0 d k --mtu 1500",
+    "answer 1 0 d k --mt 1500",
+    "answer 1 0 d k -m 1500",
+    "answer 1 0 d k --ports 02:00:00:00:00:01",
+    "answer 1 0 d k --help",
+    "answer 1 0 d k --version",
+    "answer 1 0 d -",
+    "answer 1 0 d --",
+    "answer -- 1 0 d k",
+    "answer 1 0 d -k",
+    // Addresses.
+    "answer 1 0 d k --port 03:00:00:00:00:01",
+    "answer 1 0 d k --port ff:ff:ff:ff:ff:ff",
+    "answer 1 0 d k --port 02:00:00:00:00:0A",
+    "answer 1 0 d k --port 02:00:00:00:00:01,02:00:00:00:00:02",
+    "serve 1 d k --local x --peers y --port 02:00:00:00:00:01",
+    "serve 1 d k --local x --peers y --ports 02:00:00:00:00:01,02:00:00:00:00:01",
+    "serve 1 d k --local x --peers y --ports 02:00:00:00:00:01,01:00:00:00:00:02",
+    "serve 1 d k --local x --peers y --ports 02:00:00:00:00:01,",
+    "serve 1 d k --local x --peers y --ports ,02:00:00:00:00:01",
+    "serve 1 d k --local x --peers y --ports 02:00:00:00:00:01,02:00:00:00:00:02,02:00:00:00:00:03,02:00:00:00:00:04,02:00:00:00:00:05",
+];
+
+/// Links, files and numbers that `serve` doesn't take.
+const NO_SERVE: [&str; 13] = [
+    "serve 1 d k --local x",
+    "serve 1 d k --peers y",
+    "serve 1 d k --local= --peers y",
+    "serve 1 d k --local=-x --peers y",
+    "serve 1 --local x --peers y",
+    "serve 1 d --local x --peers y",
+    "serve 1 d k d --local x --peers y",
+    "serve 65535 d k --local x --peers y",
+    "serve 1 d k --local x --peers y --frames 0",
+    "serve 1 d k --local x --peers y --frames 4294967296",
+    "serve 1 d k --local x --peers y --idle 0",
+    "serve 1 d k --local x --peers y --idle 1000001",
+    "serve 1 d k --local x --peers y --mtu 1499",
+];
+
+/// Commands with their files, and with the ends of their links.
+const NAMED: [(&str, &str, &str); 9] = [
+    ("answer 1 --mtu 1500 0 disk keep", "disk keep", ""),
+    (
+        "serve 1 d0 k0 --local 0.0.0.0:1 d1 --peers 10.0.0.1:1 k1",
+        "d0 k0 d1 k1",
+        "0.0.0.0:1>10.0.0.1:1",
+    ),
+    (
+        "discover --local 0.0.0.0:1 --peers 10.0.0.1:1",
+        "",
+        "0.0.0.0:1>10.0.0.1:1",
+    ),
+    (
+        "stat --peers=10.0.0.1:1 --local=0.0.0.0:1",
+        "",
+        "0.0.0.0:1>10.0.0.1:1",
+    ),
+    (
+        "cfg e1.2 set x --local 0.0.0.0:1 --peers 10.0.0.1:1",
+        "",
+        "0.0.0.0:1>10.0.0.1:1",
+    ),
+    (
+        "mask e1.2 read --local 0.0.0.0:1 --peers 10.0.0.1:1",
+        "",
+        "0.0.0.0:1>10.0.0.1:1",
+    ),
+    (
+        "reserve --local 0.0.0.0:1 e1.2 --peers 10.0.0.1:1 release",
+        "",
+        "0.0.0.0:1>10.0.0.1:1",
+    ),
+    (
+        "get e1.2 --local 0.0.0.0:1 --peers 10.0.0.1:1 0 1",
+        "",
+        "0.0.0.0:1>10.0.0.1:1",
+    ),
+    (
+        "put --local 0.0.0.0:1 --peers 10.0.0.1:1 e1.2 0",
+        "",
+        "0.0.0.0:1>10.0.0.1:1",
+    ),
+];
+
 /// The words that single spaces part. Two spaces have an empty word between them.
 fn words_of(alloc: Global, line: &str) -> Result<Vec<String>, AllocError> {
     let mut words = Vec::new(alloc);
@@ -33,6 +164,22 @@ fn files_line(alloc: Global, line: &str) -> Result<String, Fail> {
             joined.push(' ')?;
         }
         joined.push_str(name.as_str())?;
+    }
+    Ok(joined)
+}
+
+/// The links of a line, each as `local>peers`, joined by spaces.
+fn ports_line(alloc: Global, line: &str) -> Result<Vec<u8>, Fail> {
+    let words = words_of(alloc, line)?;
+    let links = ports_of(alloc, words.as_slice())?;
+    let mut joined = Vec::new(alloc);
+    for link in &links {
+        if !joined.is_empty() {
+            joined.push(b' ')?;
+        }
+        joined.extend_from_slice(link.local.bytes())?;
+        joined.push(b'>')?;
+        joined.extend_from_slice(link.peers.bytes())?;
     }
     Ok(joined)
 }
@@ -303,15 +450,11 @@ fn reads_soak(rt: HostRuntime) -> Result<(), Fail> {
         ("soak 7 2000 --turns 1", None),
     ];
     for (line, wanted) in cases {
-        let command = match wanted {
-            Some((seed, count)) => Some(Command::Soak(Soak { seed, count })),
-            None => None,
-        };
+        let command = wanted.map(|(seed, count)| Command::Soak(Soak { seed, count }));
         assert_eq!(rt; read_line(alloc, line)?, command, "{line}");
     }
     assert_eq!(rt; files_line(alloc, "soak 7 2000")?.as_str(), "");
-    let words = words_of(alloc, "soak 7 2000")?;
-    assert!(rt; ports_of(alloc, words.as_slice())?.is_empty());
+    assert!(rt; ports_line(alloc, "soak 7 2000")?.is_empty());
     Ok(())
 }
 
@@ -506,86 +649,10 @@ fn reads_get_and_put(rt: HostRuntime) -> Result<(), Fail> {
 
 #[test]
 fn refuses_words(rt: HostRuntime) -> Result<(), Fail> {
-    let lines = [
-        // No command, another, or a word before it.
-        "",
-        "reply 1 0 d k",
-        "Answer 1 0 d k",
-        "help",
-        "help answer",
-        "--help",
-        "--mtu 1500 answer 1 0 d k",
-        // Too few words, too many, an empty one.
-        "answer",
-        "answer 1",
-        "answer 1 0 d",
-        "answer 1 0 d k k",
-        "answer 1 0  k",
-        "answer 1 0 d k ",
-        // Numbers.
-        "answer 70000 0 d k",
-        "answer 65535 0 d k",
-        "answer 1 255 d k",
-        "answer -1 0 d k",
-        "answer 1 0x0 d k",
-        "answer 000000000000000000001 0 d k",
-        "answer 1 0 d k --mtu 1499",
-        "answer 1 0 d k --mtu=9001",
-        // Options.
-        "answer 1 0 d k --mtu",
-        "answer 1 0 d k --mtu=",
-        "answer 1 0 d k --mtu ",
-        "answer 1 0 d k --mtu -1500",
-        "answer 1 0 d k --mtu=-1500",
-        "answer 1 0 d k --mtu --port 02:00:00:00:00:01",
-        "answer 1 0 d k --mtu 1500 --mtu 1500",
-        "answer --mtu=1500 1 0 d k --mtu 1500",
-        "answer 1 0 d k --mt 1500",
-        "answer 1 0 d k -m 1500",
-        "answer 1 0 d k --ports 02:00:00:00:00:01",
-        "answer 1 0 d k --help",
-        "answer 1 0 d k --version",
-        "answer 1 0 d -",
-        "answer 1 0 d --",
-        "answer -- 1 0 d k",
-        "answer 1 0 d -k",
-        // Addresses.
-        "answer 1 0 d k --port 03:00:00:00:00:01",
-        "answer 1 0 d k --port ff:ff:ff:ff:ff:ff",
-        "answer 1 0 d k --port 02:00:00:00:00:0A",
-        "answer 1 0 d k --port 02:00:00:00:00:01,02:00:00:00:00:02",
-        "serve 1 d k --local x --peers y --port 02:00:00:00:00:01",
-        "serve 1 d k --local x --peers y --ports 02:00:00:00:00:01,02:00:00:00:00:01",
-        "serve 1 d k --local x --peers y --ports 02:00:00:00:00:01,01:00:00:00:00:02",
-        "serve 1 d k --local x --peers y --ports 02:00:00:00:00:01,",
-        "serve 1 d k --local x --peers y --ports ,02:00:00:00:00:01",
-        "serve 1 d k --local x --peers y --ports 02:00:00:00:00:01,02:00:00:00:00:02,02:00:00:00:00:03,02:00:00:00:00:04,02:00:00:00:00:05",
-        // Words beside replay.
-        "replay ",
-        "replay script",
-        "replay replay",
-        "replay --mtu 1500",
-        "replay --help",
-        "replay --",
-        "Replay",
-        // The link, the files and the numbers of serve.
-        "serve 1 d k --local x",
-        "serve 1 d k --peers y",
-        "serve 1 d k --local= --peers y",
-        "serve 1 d k --local=-x --peers y",
-        "serve 1 --local x --peers y",
-        "serve 1 d --local x --peers y",
-        "serve 1 d k d --local x --peers y",
-        "serve 65535 d k --local x --peers y",
-        "serve 1 d k --local x --peers y --frames 0",
-        "serve 1 d k --local x --peers y --frames 4294967296",
-        "serve 1 d k --local x --peers y --idle 0",
-        "serve 1 d k --local x --peers y --idle 1000001",
-        "serve 1 d k --local x --peers y --mtu 1499",
-    ];
-    for line in lines {
+    for line in NO_COMMAND.into_iter().chain(NO_ANSWER).chain(NO_SERVE) {
         assert_eq!(rt; read_line(rt.alloc(), line)?, None, "{line}");
         assert_eq!(rt; files_line(rt.alloc(), line)?.as_str(), "", "{line}");
+        assert!(rt; ports_line(rt.alloc(), line)?.is_empty(), "{line}");
     }
     assert_eq!(rt; read_words(rt.alloc(), &[])?, None);
     for files in [33, 34] {
@@ -608,47 +675,13 @@ fn reads_long_words(rt: HostRuntime) -> Result<(), Fail> {
 #[test]
 fn names_files_and_links(rt: HostRuntime) -> Result<(), Fail> {
     let alloc = rt.alloc();
-    let ends = Some((b"0.0.0.0:1".as_slice(), b"10.0.0.1:1".as_slice()));
-    let cases = [
-        ("answer 1 --mtu 1500 0 disk keep", "disk keep", None),
-        (
-            "serve 1 d0 k0 --local 0.0.0.0:1 d1 --peers 10.0.0.1:1 k1",
-            "d0 k0 d1 k1",
-            ends,
-        ),
-        ("discover --local 0.0.0.0:1 --peers 10.0.0.1:1", "", ends),
-        ("stat --peers=10.0.0.1:1 --local=0.0.0.0:1", "", ends),
-        (
-            "cfg e1.2 set x --local 0.0.0.0:1 --peers 10.0.0.1:1",
-            "",
-            ends,
-        ),
-        (
-            "mask e1.2 read --local 0.0.0.0:1 --peers 10.0.0.1:1",
-            "",
-            ends,
-        ),
-        (
-            "reserve --local 0.0.0.0:1 e1.2 --peers 10.0.0.1:1 release",
-            "",
-            ends,
-        ),
-        (
-            "get e1.2 --local 0.0.0.0:1 --peers 10.0.0.1:1 0 1",
-            "",
-            ends,
-        ),
-        ("put --local 0.0.0.0:1 --peers 10.0.0.1:1 e1.2 0", "", ends),
-    ];
-    for (line, files, ends) in cases {
+    for (line, files, links) in NAMED {
         assert_eq!(rt; files_line(alloc, line)?.as_str(), files, "{line}");
-        let words = words_of(alloc, line)?;
-        let links = ports_of(alloc, words.as_slice())?;
-        let found = match links.as_slice() {
-            [link] => Some((link.local.bytes(), link.peers.bytes())),
-            _ => None,
-        };
-        assert_eq!(rt; found, ends, "{line}");
+        assert_eq!(rt;
+            ports_line(alloc, line)?.as_slice(),
+            links.as_bytes(),
+            "{line}"
+        );
     }
     Ok(())
 }
