@@ -26,6 +26,7 @@ use Rattle.aoe_words.specs.declared.command.Command.TheVariants as command
 use Rattle.aoe_world.specs.Replay.{IsFaultless}
 use Rattle.aoe_top.specs.Ending.{after_syncs, ended_by, file_at, keep_at, refused_as, refused_slot, replayed_as, slot_of_keep}
 use Rattle.aoe_top.specs.Run.{HasLists, IsBad, IsSmall, NothingLoose, OnSlot, Ran, RanFiles, Refused, refused_before}
+use Rattle.aoe_top.specs.Live.{is_live_status}
 use Rattle.aoe_top.specs.Tools.{is_copy_status, is_tool_status}
 use Rattle.aoe_top.specs.declared.status.Status.{Status}
 use Rattle.aoe_top.specs.declared.status.Status.TheVariants as status
@@ -322,6 +323,7 @@ runs-of state (command.Soak asked) t s a b disks disks' count run = over_none co
 runs-of state (command.Ask tool) t s a b disks disks' count run = over_none count (λ disk e. let f = sym (ap is_tool_status e) ∙ run.0 in absurd cc)
 runs-of state (command.Get asked) t s a b disks disks' count run = over_none count (λ disk e. let f = sym (ap is_copy_status e) ∙ run.0 in absurd cc)
 runs-of state (command.Put asked) t s a b disks disks' count run = over_none count (λ disk e. let f = sym (ap is_copy_status e) ∙ run.0 in absurd cc)
+runs-of state (command.Live asked) t s a b disks disks' count run = over_none count (λ disk e. let f = sym (ap is_live_status e) ∙ run.0 in absurd cc)
 
 module _ {D S K L : Type 0} (state : D → DiskState) (command : Command) (t : Tells S K L) (s : Status) (a b : Outside S K L) (disks disks' : List (Option D))
     (run : refused_slot s ≡ None → s ≢ status.NoMemory → Ran state command t s a b disks disks')

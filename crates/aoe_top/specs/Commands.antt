@@ -1,5 +1,5 @@
 -- What each command exports, and how its frames come.
-use Rattle.std.specs.Prelude.{ℕ, ◌+◌, ◌/◌, ◌%◌, ◌<◌, ◌≤◌, ◌≡◌, Bool, true, false, [], ◌∷◌, length, Option, Some}
+use Rattle.std.specs.Prelude.{ℕ, ◌+◌, ◌/◌, ◌%◌, ◌<◌, ◌≤◌, ◌≡◌, ◌||◌, Bool, true, false, [], ◌∷◌, length, Option, Some}
 use Rattle.aoe_target.specs.declared.station.Station.{Station}
 use Rattle.aoe_serve.specs.Exporting.{is_served}
 use Rattle.aoe_serve.specs.Files.{named}
@@ -7,7 +7,7 @@ use Rattle.aoe_serve.specs.declared.over_files.Rack.{Rack}
 use Rattle.aoe_serve.specs.declared.plan.Plan.{Plan}
 use Rattle.aoe_serve.specs.declared.plan.Plan.TheVariants as plan
 use Rattle.aoe_words.specs.declared.command.Command.{Command}
-use Rattle.aoe_words.specs.declared.command.Command.TheVariants.{Ask, Get, Put, Replay}
+use Rattle.aoe_words.specs.declared.command.Command.TheVariants.{Ask, Get, Live, Put, Replay}
 use Rattle.aoe_words.specs.declared.command.Answer.{Answer as Answers}
 use Rattle.aoe_words.specs.declared.command.Serve.{Serve as Serves}
 
@@ -25,6 +25,15 @@ is_tool (Some (Ask tool)) = true
 is_tool (Some (Get asked)) = true
 is_tool (Some (Put asked)) = true
 is_tool command = false
+
+-- it runs over two links
+abbrev pub is_live : Option Command → Bool
+is_live (Some (Live asked)) = true
+is_live command = false
+
+-- it takes frames of links and the clock, and serves nothing
+abbrev pub uses_clock : Option Command → Bool
+uses_clock command = is_tool command || is_live command
 
 -- it reads the source and no frames: a script, or sectors
 abbrev pub reads_input : Option Command → Bool

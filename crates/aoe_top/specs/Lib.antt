@@ -2,3 +2,4 @@ pub mod Commands
 pub mod Ending
 pub mod Run
 pub mod Tools
+pub mod Live

@@ -23,6 +23,7 @@ use Rattle.aoe_words.specs.declared.command.Tool.{Tool}
 use Rattle.aoe_tools.specs.Runs.{Told}
 use Rattle.aoe_top.specs.Commands.{answer_plan, serve_plan, target_of}
 use Rattle.aoe_top.specs.Ending.{file_at, keep_at, refused_as, refused_slot, replayed_as, status_of}
+use Rattle.aoe_top.specs.Live.{is_live_status}
 use Rattle.aoe_top.specs.Tools.{CopiesIn, CopiesOut, RunsTool, is_copy_status, is_tool_status}
 use Rattle.aoe_top.specs.declared.status.Status.{Status}
 use Rattle.aoe_top.specs.declared.status.Status.TheVariants as status
@@ -57,6 +58,7 @@ Ran state (command.Soak asked) t s a b disks disks' = RanSoak t.held asked s a.s
 Ran state (command.Ask tool) t s a b disks disks' = (is_tool_status s ≡ true) × (b.source ≡ a.source) × (disks' ≡ disks)
 Ran state (command.Get asked) t s a b disks disks' = (is_copy_status s ≡ true) × (b.source ≡ a.source) × (disks' ≡ disks)
 Ran state (command.Put asked) t s a b disks disks' = (is_copy_status s ≡ true) × (b.sink ≡ a.sink) × (disks' ≡ disks)
+Ran state (command.Live asked) t s a b disks disks' = (is_live_status s ≡ true) × (b.source ≡ a.source) × (disks' ≡ disks)
 
 -- a tool ran over the first link and a clock, and a sink took what it says
 abbrev pub Asked : {K L : Type 0} → (K → Option (List ℕ)) → (L → L → Told) → Tool → Status → K → K → List L → List L → Type 0

@@ -8,6 +8,7 @@
 //! the text of the status.
 #![tactic(auto)]
 
+mod live;
 mod plan;
 mod status;
 mod tools;

@@ -1,5 +1,6 @@
 ghost use Rattle.std.specs.Prelude.{All, IfOk, IsSome};
 
+mod live;
 mod tools;
 
 use crate::{Status, What, aoe, files_of, ports_of};

@@ -12,13 +12,16 @@ ghost use Rattle.aoe_words.specs.Words.{CanSoak, IsInRange, command, file_count,
 ghost use Rattle.aoe_words.specs.declared.command.Answer.{Answer as Answers};
 ghost use Rattle.aoe_words.specs.declared.command.Serve.{Serve as Serves};
 ghost use Rattle.aoe_words.specs.declared.command.Get.{Get as Gets};
+ghost use Rattle.aoe_words.specs.declared.command.Live.{Live as Lives};
 ghost use Rattle.aoe_words.specs.declared.command.Put.{Put as Puts};
 ghost use Rattle.aoe_words.specs.declared.command.Soak.{Soak as Soaks};
 ghost use Rattle.aoe_words.specs.declared.command.Tool.{Tool};
-ghost use Rattle.aoe_top.specs.Commands.{CanExport, is_tool, reads_input};
+ghost use Rattle.aoe_top.specs.Commands.{CanExport, is_live, reads_input, uses_clock};
+ghost use Rattle.aoe_top.specs.Live.{AreBlamed, AtBoth, RunsLive, ends};
 ghost use Rattle.aoe_top.specs.Ending.{file_at, keep_at, refused_slot};
 ghost use Rattle.aoe_top.specs.Run.{Asked, HasLists, HasReplayed, IsBad, IsGot, IsPut, IsSmall, NothingLoose, OnSlot, Ran, RanFiles, RanScript, RanSoak, Refused};
 
+use crate::live::run_live;
 use crate::plan::{answer_plan, refused_as, replayed_as, serve_plan, status_of};
 use crate::status::Status;
 use crate::tools::{run_get, run_put, run_tool};
@@ -126,22 +129,25 @@ fn run_command<S: Source, K: Sink, D: Disk + Drop, L: Link, C: Clock>(
         disks.old disks.new }
     ensures refused { (slot : ℕ) → refused_slot result ≡ Some slot → Refused D.state result slot disks.old disks.new }
     ensures unread { IsSome (refused_slot result) → (source.new ≡ source.old) × (sink.new ≡ sink.old) × (links.new ≡ links.old) }
-    ensures memory { result ≡ Status.NoMemory → (reads_input (Some command) ≡ false → source.new ≡ source.old) × (sink.new ≡ sink.old) × (disks.new ≡ disks.old) × (is_tool (Some command) ≡ false → links.new ≡ links.old) }
+    ensures memory { result ≡ Status.NoMemory → (reads_input (Some command) ≡ false → source.new ≡ source.old) × (sink.new ≡ sink.old) × (disks.new ≡ disks.old) × (uses_clock (Some command) ≡ false → links.new ≡ links.old) }
     ensures asks { (tool : Tool) → command ≡ Command.Ask tool → Asked K.held (λ a b. told C.least C.answers L.turns L.given L.taken clock.old clock.new a b) tool result sink.old sink.new links.old links.new }
     ensures gets { (asked : Gets) → command ≡ Command.Get asked → IsGot K.held (λ a b. told C.least C.answers L.turns L.given L.taken clock.old clock.new a b) asked result sink.old sink.new links.old links.new }
     ensures puts { (asked : Puts) → command ≡ Command.Put asked → IsPut S.left (λ a b. told C.least C.answers L.turns L.given L.taken clock.old clock.new a b) asked result source.old source.new links.old links.new }
-    ensures clock { is_tool (Some command) ≡ false → clock.new ≡ clock.old }
+    ensures lives { (asked : Lives) → command ≡ Command.Live asked → AtBoth (λ one one' two two'. RunsLive asked result (K.held sink.old) (K.held sink.new)
+        (ends C.answers L.turns L.given L.taken one two clock.old) (ends C.answers L.turns L.given L.taken one' two' clock.new)
+        × AreBlamed result (L.faults one) (L.faults one') (L.faults two) (L.faults two')) links.old links.new }
+    ensures clock { uses_clock (Some command) ≡ false → clock.new ≡ clock.old }
     ensures usage { result ≢ Status.Usage }
     ensures there { All IsSome disks.new }
     ensures source_fault { result ≡ Status.SourceFault → Rose (S.faults source.old) (S.faults source.new) }
     ensures sink_fault { result ≡ Status.SinkFault → Rose (K.faults sink.old) (K.faults sink.new) }
-    ensures link_fault { (link : ℕ) → result ≡ Status.LinkFault link → (link ≡ 0) × AtFirst (λ a b. Rose (L.faults a) (L.faults b)) links.old links.new }
+    ensures link_fault { is_live (Some command) ≡ false → (link : ℕ) → result ≡ Status.LinkFault link → (link ≡ 0) × AtFirst (λ a b. Rose (L.faults a) (L.faults b)) links.old links.new }
     ensures source_no_fault { result ≢ Status.SourceFault → S.faults source.new ≡ S.faults source.old }
     ensures sink_no_fault { result ≢ Status.SinkFault → K.faults sink.new ≡ K.faults sink.old }
-    ensures link_no_fault { result ≢ Status.LinkFault 0 → AtFirst (λ a b. L.faults b ≡ L.faults a) links.old links.new }
+    ensures link_no_fault { is_live (Some command) ≡ false → result ≢ Status.LinkFault 0 → AtFirst (λ a b. L.faults b ≡ L.faults a) links.old links.new }
     ensures source_one_fault { S.faults source.new ≤ S.faults source.old + 1 }
     ensures sink_one_fault { K.faults sink.new ≤ K.faults sink.old + 1 }
-    ensures link_one_fault { AtFirst (λ a b. L.faults b ≤ L.faults a + 1) links.old links.new }
+    ensures link_one_fault { is_live (Some command) ≡ false → AtFirst (λ a b. L.faults b ≤ L.faults a + 1) links.old links.new }
     ensures soaks { (asked : Soaks) → command ≡ Command.Soak asked → IsFaultless (K.faults sink.old) (K.faults sink.new) → HasReplayed (soaked asked.seed asked.count) result }
     ensures replays { (text : List ℕ) → command ≡ Command.Replay → S.left source.old ≡ Some text → refusal text ≡ None
         → IsFaultless (S.faults source.old) (S.faults source.new) → IsFaultless (K.faults sink.old) (K.faults sink.new) → HasReplayed (script_of text) result }
@@ -157,6 +163,10 @@ fn run_command<S: Source, K: Sink, D: Disk + Drop, L: Link, C: Clock>(
         }
         Command::Replay => run_script(alloc, source, sink),
         Command::Soak(asked) => run_soak(alloc, asked, sink),
+        Command::Live(asked) => {
+            let (one, two) = links.split_at_mut(1);
+            run_live(alloc, &asked, sink, &mut one[0], &mut two[0], clock)
+        }
         Command::Ask(tool) => run_tool(alloc, &tool, sink, &mut links[0], clock),
         Command::Get(asked) => run_get(alloc, &asked, sink, &mut links[0], clock),
         Command::Put(asked) => run_put(alloc, &asked, source, &mut links[0], clock),
@@ -223,13 +233,13 @@ pub fn aoe<S: Source, K: Sink, D: Disk + Drop, L: Link, C: Clock>(
     // the first trouble ends the run.
     ensures source_fault { result ≡ Status.SourceFault → Rose (S.faults source.old) (S.faults source.new) }
     ensures sink_fault { result ≡ Status.SinkFault → Rose (K.faults sink.old) (K.faults sink.new) }
-    ensures link_fault { (link : ℕ) → result ≡ Status.LinkFault link → (link ≡ 0) × AtFirst (λ a b. Rose (L.faults a) (L.faults b)) links.old links.new }
+    ensures link_fault { is_live (command (map string_bytes words.now)) ≡ false → (link : ℕ) → result ≡ Status.LinkFault link → (link ≡ 0) × AtFirst (λ a b. Rose (L.faults a) (L.faults b)) links.old links.new }
     ensures source_no_fault { result ≢ Status.SourceFault → S.faults source.new ≡ S.faults source.old }
     ensures sink_no_fault { result ≢ Status.SinkFault → K.faults sink.new ≡ K.faults sink.old }
-    ensures link_no_fault { result ≢ Status.LinkFault 0 → AtFirst (λ a b. L.faults b ≡ L.faults a) links.old links.new }
+    ensures link_no_fault { is_live (command (map string_bytes words.now)) ≡ false → result ≢ Status.LinkFault 0 → AtFirst (λ a b. L.faults b ≡ L.faults a) links.old links.new }
     ensures source_one_fault { S.faults source.new ≤ S.faults source.old + 1 }
     ensures sink_one_fault { K.faults sink.new ≤ K.faults sink.old + 1 }
-    ensures link_one_fault { AtFirst (λ a b. L.faults b ≤ L.faults a + 1) links.old links.new }
+    ensures link_one_fault { is_live (command (map string_bytes words.now)) ≡ false → AtFirst (λ a b. L.faults b ≤ L.faults a + 1) links.old links.new }
     ensures disk_fault { (disk : ℕ) → result ≡ Status.DiskFault disk → disk < length disks.old }
     ensures file_fault { (slot : ℕ) → result ≡ Status.DiskFault (file_at slot) → OnSlot (λ file file' _ _. Rose (D.state file).faults (D.state file').faults) slot disks.old disks.new }
     ensures keep_fault { (slot : ℕ) → result ≡ Status.DiskFault (keep_at slot) → OnSlot (λ _ _ keep keep'. Rose (D.state keep).faults (D.state keep').faults) slot disks.old disks.new }
@@ -237,7 +247,7 @@ pub fn aoe<S: Source, K: Sink, D: Disk + Drop, L: Link, C: Clock>(
     ensures keep_bad { (slot bad : ℕ) → OnSlot (λ _ _ keep _. IfSome (D.state keep).contents (λ c.
         (result ≡ Status.KeepBad (keep_at slot) bad) ↔ IsBad (D.state keep) c result slot bad)) slot disks.old disks.new }
     ensures memory { result ≡ Status.NoMemory → (reads_input (command (map string_bytes words.now)) ≡ false → source.new ≡ source.old)
-        × (sink.new ≡ sink.old) × (disks.new ≡ disks.old) × (is_tool (command (map string_bytes words.now)) ≡ false → links.new ≡ links.old) }
+        × (sink.new ≡ sink.old) × (disks.new ≡ disks.old) × (uses_clock (command (map string_bytes words.now)) ≡ false → links.new ≡ links.old) }
 
     // What a tool asks, when it ends and what it says; or there was no memory to read its command.
     ensures asks { (tool : Tool) → command (map string_bytes words.now) ≡ Some (Command.Ask tool) → (result ≡ Status.NoMemory) × (links.new ≡ links.old)
@@ -246,7 +256,11 @@ pub fn aoe<S: Source, K: Sink, D: Disk + Drop, L: Link, C: Clock>(
         ⊎ IsGot K.held (λ a b. told C.least C.answers L.turns L.given L.taken clock.old clock.new a b) asked result sink.old sink.new links.old links.new }
     ensures puts { (asked : Puts) → command (map string_bytes words.now) ≡ Some (Command.Put asked) → (result ≡ Status.NoMemory) × (links.new ≡ links.old)
         ⊎ IsPut S.left (λ a b. told C.least C.answers L.turns L.given L.taken clock.old clock.new a b) asked result source.old source.new links.old links.new }
-    ensures clock { is_tool (command (map string_bytes words.now)) ≡ false → clock.new ≡ clock.old }
+    ensures lives { (asked : Lives) → command (map string_bytes words.now) ≡ Some (Command.Live asked) → (result ≡ Status.NoMemory) × (links.new ≡ links.old)
+        ⊎ AtBoth (λ one one' two two'. RunsLive asked result (K.held sink.old) (K.held sink.new)
+        (ends C.answers L.turns L.given L.taken one two clock.old) (ends C.answers L.turns L.given L.taken one' two' clock.new)
+        × AreBlamed result (L.faults one) (L.faults one') (L.faults two) (L.faults two')) links.old links.new }
+    ensures clock { uses_clock (command (map string_bytes words.now)) ≡ false → clock.new ≡ clock.old }
 
     // With no fault keeps that hold lists are mounted, and then a stream of frames is answered to its end, and a link is served;
     // and a script with no bad line is run.

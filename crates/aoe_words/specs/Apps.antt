@@ -67,6 +67,14 @@ replay_app = bare (codes "replay")
 abbrev pub soak_app : App
 soak_app = with_rule (with_rule (bare (codes "soak")) (needed (codes "seed"))) (needed (codes "count"))
 
+-- live SECTORS N
+abbrev pub live_front : App
+live_front = with_rule (with_rule (bare (codes "live")) (needed (codes "sectors"))) (needed (codes "count"))
+
+-- with its options
+abbrev pub live_app : App
+live_app = with_rule (with_rule (with_rule live_front (demanded (codes "one"))) (demanded (codes "two"))) (optional (codes "turns"))
+
 -- with the options of a tool
 abbrev pub with_tool_options : App → App
 with_tool_options app = with_rule (with_rule (with_link app) (optional (codes "port"))) (optional (codes "turns"))
@@ -98,10 +106,14 @@ file_commands = let a = bare (codes "aoe") in
 abbrev pub script_commands : App
 script_commands = with_subcommand (with_subcommand file_commands replay_app.top) soak_app.top
 
+-- with the one over two links
+abbrev pub run_commands : App
+run_commands = with_subcommand script_commands live_app.top
+
 -- with the tools that list devices
 abbrev pub listing_commands : App
 listing_commands =
-    with_subcommand (with_subcommand script_commands (plain_tool (codes "discover")).top) (plain_tool (codes "stat")).top
+    with_subcommand (with_subcommand run_commands (plain_tool (codes "discover")).top) (plain_tool (codes "stat")).top
 
 -- with cfg and mask
 abbrev pub mask_commands : App

@@ -5,7 +5,7 @@ use Rattle.std.specs.Option.{option_map_or}
 use Rattle.std.specs.Str.{bytes_eq}
 use Rattle.clap.specs.Lexer.{long_of}
 use Rattle.clap.specs.Walk.{is_empty}
-use Rattle.clap.specs.Words.{Row, Text, all_of, fault_of, subcommand_of}
+use Rattle.clap.specs.Words.{Row, Text, all_of, fault_of, first_of, subcommand_of}
 use Rattle.aoe_base.specs.Decimal.{number_of}
 use Rattle.aoe_base.specs.declared.address.Mac.{Mac}
 use Rattle.aoe_base.specs.declared.address.TargetId.{TargetId}
@@ -16,9 +16,10 @@ use Rattle.aoe_words.specs.Tools.{CanAsk, CanCfg, CanMask, CanReserve, CanGet, C
 use Rattle.aoe_words.specs.declared.command.Answer.{Answer as Answers}
 use Rattle.aoe_words.specs.declared.command.Serve.{Serve as Serves}
 use Rattle.aoe_words.specs.declared.command.Soak.{Soak as Soaks}
+use Rattle.aoe_words.specs.declared.command.Live.{Live as Lives}
 use Rattle.aoe_words.specs.declared.command.PortWords.{PortWords}
 use Rattle.aoe_words.specs.declared.command.Command.{Command}
-use Rattle.aoe_words.specs.declared.command.Command.TheVariants.{Answer, Serve, Replay, Soak, Ask, Get, Put}
+use Rattle.aoe_words.specs.declared.command.Command.TheVariants.{Answer, Serve, Replay, Soak, Live, Ask, Get, Put}
 use Rattle.aoe_words.specs.declared.command.Tool.{Tool}
 use Rattle.aoe_words.specs.declared.command.Tool.TheVariants.{Discover, Stat, Cfg, Mask, Reserve}
 
@@ -89,6 +90,19 @@ soak_of rows =
     option_and_then (λ seed. option_map (λ count. record { seed = seed; count = count })
     (given (codes "count") (number_within 1 16000) rows)) (given (codes "seed") (λ text. number_of text 65535) rows)
 
+-- the two ends of live: the other end is the peer of each
+abbrev pub two_ends : List Row → Option (PortWords × PortWords)
+two_ends rows = option_and_then (λ one. option_map (λ two. (record { local = one; peers = two }, record { local = two; peers = one }))
+    (first_of (codes "two") rows)) (first_of (codes "one") rows)
+
+-- live SECTORS N
+abbrev pub live_of : List Row → Option Lives
+live_of rows =
+    option_and_then (λ ends. option_and_then (λ sectors. option_and_then (λ count. option_map (λ turns.
+    record { sectors = sectors; count = count; turns = turns })
+    (given_or (codes "turns") (number_within 1 1000000) 5000 rows)) (given (codes "count") (number_within 1 10000) rows))
+    (given (codes "sectors") (number_within 1 65536) rows)) (two_ends rows)
+
 -- the tool of this name; discover and stat listen for 50 turns where nothing is said of it
 abbrev pub tool_of : Text → List Row → Option Tool
 tool_of name rows =
@@ -106,6 +120,7 @@ command_of name rows =
     else if bytes_eq name (codes "serve") then option_map Serve (serve_of rows)
     else if bytes_eq name (codes "replay") then Some Replay
     else if bytes_eq name (codes "soak") then option_map Soak (soak_of rows)
+    else if bytes_eq name (codes "live") then option_map Live (live_of rows)
     else if bytes_eq name (codes "get") then option_map Get (get_of rows)
     else if bytes_eq name (codes "put") then option_map Put (put_of rows)
     else option_map Ask (tool_of name rows)
@@ -132,6 +147,7 @@ abbrev pub links_of : Command → List Row → List PortWords
 links_of (Answer answer) rows = []
 links_of Replay rows = []
 links_of (Soak soak) rows = []
+links_of (Live live) rows = option_map_or (λ ends. ends.0 ∷ ends.1 ∷ []) (two_ends rows) []
 links_of _ rows = option_map_or (λ ends. ends ∷ []) (link rows) []
 
 abbrev pub port_words : List Text → List PortWords
@@ -169,6 +185,12 @@ pub record CanSoak (soak : Soaks) : Type 0 where
   pub seed : soak.seed ≤ 65535
   pub count : (1 ≤ soak.count) × (soak.count ≤ 16000)
 
+-- what `live` asks for is possible
+pub record CanLive (live : Lives) : Type 0 where
+  pub sectors : (1 ≤ live.sectors) × (live.sectors ≤ 65536)
+  pub count : (1 ≤ live.count) × (live.count ≤ 10000)
+  pub turns : (1 ≤ live.turns) × (live.turns ≤ 1000000)
+
 -- what a tool asks for is possible
 abbrev pub CanRun : Tool → Type 0
 CanRun (Discover asking) = CanAsk asking
@@ -182,6 +204,7 @@ IsInRange (Answer answer) = CanAnswer answer
 IsInRange (Serve serve) = CanServe serve
 IsInRange Replay = Unit
 IsInRange (Soak soak) = CanSoak soak
+IsInRange (Live live) = CanLive live
 IsInRange (Ask tool) = CanRun tool
 IsInRange (Get get) = CanGet get
 IsInRange (Put put) = CanPut put
@@ -196,6 +219,7 @@ abbrev pub link_count : Command → ℕ
 link_count (Answer answer) = 0
 link_count Replay = 0
 link_count (Soak soak) = 0
+link_count (Live live) = 2
 link_count _ = 1
 
 -- ---- words without options

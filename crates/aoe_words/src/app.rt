@@ -2,7 +2,7 @@
 ghost use Rattle.std.specs.Prelude.{◌≡◌, IfOk, map, string_bytes, false};
 ghost use Rattle.clap.specs.Words.{app_of, rule_of, with_rule, FailsBy, fault_of, HasMatchesOf};
 ghost use Rattle.clap.specs.declared.builder.command.Command.TheViews.{out-Command as fields_of};
-ghost use Rattle.aoe_words.specs.Apps.{needed, several, allowed, allowed_several, demanded, optional, bare, answer_front, answer_app, serve_front, with_link, serve_ports, serve_slots, serve_app, replay_app, soak_app, with_tool_options, plain_tool, list_tool, sector_tool, get_app, put_app, file_commands, script_commands, listing_commands, mask_commands, list_commands, aoe_app};
+ghost use Rattle.aoe_words.specs.Apps.{needed, several, allowed, allowed_several, demanded, optional, bare, answer_front, answer_app, serve_front, with_link, serve_ports, serve_slots, serve_app, replay_app, soak_app, live_front, live_app, with_tool_options, plain_tool, list_tool, sector_tool, get_app, put_app, file_commands, script_commands, run_commands, listing_commands, mask_commands, list_commands, aoe_app};
 
 use clap::{Arg, ArgAction, ArgMatches, Command, Error};
 use std::alloc::{AllocError, Global};
@@ -161,6 +161,25 @@ fn soak<'a>(alloc: Global) -> Result<Command<'a>, AllocError>
     with(command, needed(alloc, "count"))
 }
 
+/// `live SECTORS N`, without its options.
+fn live_front<'a>(alloc: Global) -> Result<Command<'a>, AllocError>
+    ensures app { IfOk result (λ r. app_of r ≡ live_front) }
+    ensures local { IfOk result (λ r. (fields_of r).has_globals ≡ false) }
+{
+    let command = with(bare(alloc, "live"), needed(alloc, "sectors"))?;
+    with(command, needed(alloc, "count"))
+}
+
+/// `live` with its options.
+fn live<'a>(alloc: Global) -> Result<Command<'a>, AllocError>
+    ensures app { IfOk result (λ r. app_of r ≡ live_app) }
+    ensures local { IfOk result (λ r. (fields_of r).has_globals ≡ false) }
+{
+    let command = with(live_front(alloc)?, demanded(alloc, "one"))?;
+    let command = with(command, demanded(alloc, "two"))?;
+    with(command, optional(alloc, "turns"))
+}
+
 /// The command with the options of a tool.
 fn with_tool_options<'a>(alloc: Global, command: Command<'a>) -> Result<Command<'a>, AllocError>
     requires { (fields_of command).has_globals ≡ false }
@@ -239,11 +258,18 @@ fn script_commands<'a>(alloc: Global) -> Result<Command<'a>, AllocError>
         .subcommand(soak(alloc)?)
 }
 
+/// These, and the command over two links.
+fn run_commands<'a>(alloc: Global) -> Result<Command<'a>, AllocError>
+    ensures { IfOk result (λ r. app_of r ≡ run_commands) }
+{
+    script_commands(alloc)?.subcommand(live(alloc)?)
+}
+
 /// These, and the tools that list devices.
 fn listing_commands<'a>(alloc: Global) -> Result<Command<'a>, AllocError>
     ensures { IfOk result (λ r. app_of r ≡ listing_commands) }
 {
-    script_commands(alloc)?
+    run_commands(alloc)?
         .subcommand(plain_tool(alloc, "discover")?)?
         .subcommand(plain_tool(alloc, "stat")?)
 }

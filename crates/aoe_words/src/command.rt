@@ -55,6 +55,20 @@ pub struct Soak {
     pub count: u32,
 }
 
+/// What `live SECTORS N` asks for: to run a shelf and a host over two links, and to print the script
+/// of what happened.
+#[derive(Clone, Copy, Debug, PartialEq, Eq)]
+pub struct Live {
+    /// How many sectors the disk of the shelf has.
+    pub sectors: u32,
+
+    /// How many reads and writes the host submits before its flush.
+    pub count: u32,
+
+    /// How many turns that end no command, one behind the other, end the run.
+    pub turns: u32,
+}
+
 /// Who asks, and how long it listens: what every tool is told.
 #[derive(Clone, Copy, Debug, PartialEq, Eq)]
 pub struct Asking {
@@ -158,6 +172,7 @@ pub enum Command {
     Replay,
 
     Soak(Soak),
+    Live(Live),
     Ask(Tool),
     Get(Get),
     Put(Put),

@@ -22,7 +22,7 @@ mod values;
 mod word;
 
 pub use command::{
-    Answer, Asking, Cfg, Command, Get, Mask, PortWords, Put, Reserve, Serve, Soak, Tool,
+    Answer, Asking, Cfg, Command, Get, Live, Mask, PortWords, Put, Reserve, Serve, Soak, Tool,
 };
 pub use law::plain_words_law;
 pub use read::{files_of, ports_of, read_words};

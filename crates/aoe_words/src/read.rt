@@ -1,18 +1,18 @@
 //! What arguments spell.
-ghost use Rattle.std.specs.Prelude.{◌≡◌, ◌*◌, [], ◌∷◌, length, map, option_map, string_bytes, IfOk, IfSome, IsSome};
+ghost use Rattle.std.specs.Prelude.{◌≡◌, ◌*◌, [], ◌∷◌, ◌++◌, length, map, option_map, string_bytes, IfOk, IfSome, IsSome, OnOk};
 ghost use Rattle.std.specs.List.{list_all};
 ghost use Rattle.clap.specs.Words.{found_of, rows_of};
-ghost use Rattle.aoe_words.specs.Words.{CanAnswer, CanRun, CanServe, CanSoak, IsInRange, answer_of, command, command_of, file_count, file_names, files, files_of, is_word, link_count, links_of, parsed, port_words, serve_of, soak_of, spelled, tool_of};
+ghost use Rattle.aoe_words.specs.Words.{CanAnswer, CanLive, CanRun, CanServe, CanSoak, IsInRange, answer_of, command, command_of, file_count, file_names, files, files_of, is_word, link_count, links_of, live_of, parsed, port_words, serve_of, soak_of, spelled, tool_of, two_ends};
 ghost use Rattle.aoe_words.specs.Values.{link};
 
 use crate::app::matches;
 use crate::tools::{cfg_of, get_of, mask_of, plain_of, put_of, reserve_of};
 use crate::values::{
     DEFAULT_PORT, NumberOption, link, number, number_from, number_or, port_or_default,
-    ports_or_default, texts,
+    ports_or_default, text, texts,
 };
 use crate::word::is_word;
-use crate::{Answer, Command, PortWords, Serve, Soak, Tool};
+use crate::{Answer, Command, Live, PortWords, Serve, Soak, Tool};
 use aoe_base::{Blob, NoMemory, TargetId};
 use clap::ArgMatches;
 use clap::error::ErrorKind;
@@ -63,6 +63,19 @@ const LAST_SEED: u64 = 65535;
 
 /// The most commands of such a script.
 const MOST_COMMANDS: u32 = 16_000;
+
+/// The most sectors of the disk that `live` works on: 32 mebibytes.
+const MOST_LIVE_SECTORS: u32 = 65_536;
+
+/// The most commands of `live`.
+const MOST_LIVE_COMMANDS: u32 = 10_000;
+
+/// How many turns that end no command end `live`.
+const LIVE_TURNS: NumberOption = NumberOption {
+    least: 1,
+    most: 1_000_000,
+    default: 5000,
+};
 
 /// A command that arguments spell, with what clap found for it.
 #[derive(Drop)]
@@ -155,6 +168,28 @@ fn soak_of(found: &ArgMatches) -> Option<Soak>
     })
 }
 
+/// The texts of the two ends of `live`.
+fn two_ends<'a>(found: &ArgMatches<'a>) -> Option<(&'a str, &'a str)>
+    ensures { option_map (λ ends. (record { local = ends.0.now; peers = ends.1.now }, record { local = ends.1.now; peers = ends.0.now })) result
+        ≡ two_ends (rows_of (found_of found.now)) }
+{
+    Some((text(found, "one")?, text(found, "two")?))
+}
+
+/// What the arguments of `live` ask for.
+fn live_of(found: &ArgMatches) -> Option<Live>
+    ensures value { result ≡ live_of (rows_of (found_of found.now)) }
+    ensures range { IfSome result CanLive }
+    ensures links { IfSome result (λ live. IsSome (two_ends (rows_of (found_of found.now)))) }
+{
+    let _ends = two_ends(found)?;
+    Some(Live {
+        sectors: number_from(found, "sectors", 1, MOST_LIVE_SECTORS)?,
+        count: number_from(found, "count", 1, MOST_LIVE_COMMANDS)?,
+        turns: number_or(found, "turns", &LIVE_TURNS)?,
+    })
+}
+
 /// What the arguments of the tool of this name ask for.
 fn tool_of(name: &str, found: &ArgMatches) -> Option<Tool>
     ensures value { result ≡ tool_of name.now (rows_of (found_of found.now)) }
@@ -191,6 +226,8 @@ fn command_of(name: &str, found: &ArgMatches) -> Option<Command>
         Some(Command::Replay)
     } else if name == "soak" {
         Some(Command::Soak(soak_of(found)?))
+    } else if name == "live" {
+        Some(Command::Live(live_of(found)?))
     } else if name == "get" {
         Some(Command::Get(get_of(found)?))
     } else if name == "put" {
@@ -260,26 +297,54 @@ pub fn files_of(alloc: Global, words: &[String]) -> Result<Vec<String>, NoMemory
             Some(texts) => copies(alloc, texts),
             None => Ok(Vec::new(alloc)),
         },
-        Command::Replay | Command::Soak(_) | Command::Ask(_) | Command::Get(_) | Command::Put(_) =>
-            Ok(Vec::new(alloc)),
+        Command::Replay
+        | Command::Soak(_)
+        | Command::Live(_)
+        | Command::Ask(_)
+        | Command::Get(_)
+        | Command::Put(_) => Ok(Vec::new(alloc)),
     }
+}
+
+/// Puts a link behind the others.
+fn add_link(
+    alloc: Global,
+    links: &mut Vec<PortWords>,
+    local: &str,
+    peers: &str,
+) -> Result<(), NoMemory>
+    ensures { OnOk result (links.new.items ≡ links.old.items ++ record { local = local.now; peers = peers.now } ∷ []) }
+{
+    let local = Blob::of(alloc, local.as_bytes())?;
+    let peers = Blob::of(alloc, peers.as_bytes())?;
+    if links.push(PortWords { local, peers }).is_err() {
+        return Err(NoMemory);
+    }
+    Ok(())
 }
 
 /// A list of one link.
 fn one_link(alloc: Global, local: &str, peers: &str) -> Result<Vec<PortWords>, NoMemory>
     ensures { IfOk result (λ links. links.items ≡ record { local = local.now; peers = peers.now } ∷ []) }
 {
-    let local = Blob::of(alloc, local.as_bytes())?;
-    let peers = Blob::of(alloc, peers.as_bytes())?;
     let mut links = Vec::new(alloc);
-    if links.push(PortWords { local, peers }).is_err() {
-        return Err(NoMemory);
-    }
+    add_link(alloc, &mut links, local, peers)?;
     Ok(links)
 }
 
-/// The ends of the links that the command works on: one for `serve` and for each tool, none for the
-/// other commands and where the arguments spell no command.
+/// A list of two links, of which each is the other's peer.
+fn two_links(alloc: Global, one: &str, two: &str) -> Result<Vec<PortWords>, NoMemory>
+    ensures { IfOk result (λ links. links.items
+        ≡ record { local = one.now; peers = two.now } ∷ record { local = two.now; peers = one.now } ∷ []) }
+{
+    let mut links = Vec::new(alloc);
+    add_link(alloc, &mut links, one, two)?;
+    add_link(alloc, &mut links, two, one)?;
+    Ok(links)
+}
+
+/// The ends of the links that the command works on: one for `serve` and for each tool, two for
+/// `live`, none for the other commands and where the arguments spell no command.
 pub fn ports_of(alloc: Global, words: &[String]) -> Result<Vec<PortWords>, NoMemory>
     ensures { IfOk result (λ links. links.items ≡ port_words (map string_bytes words.now)) }
 {
@@ -288,6 +353,10 @@ pub fn ports_of(alloc: Global, words: &[String]) -> Result<Vec<PortWords>, NoMem
     };
     match command {
         Command::Answer(_) | Command::Replay | Command::Soak(_) => Ok(Vec::new(alloc)),
+        Command::Live(_) => match two_ends(&matches) {
+            Some((one, two)) => two_links(alloc, one, two),
+            None => Ok(Vec::new(alloc)),
+        },
         Command::Serve(_) | Command::Ask(_) | Command::Get(_) | Command::Put(_) => match link(
             &matches,
         ) {

@@ -1,6 +1,6 @@
 use crate::{
-    Answer, Asking, Cfg, Command, Get, Mask, Put, Reserve, Serve, Soak, Tool, files_of, ports_of,
-    read_words,
+    Answer, Asking, Cfg, Command, Get, Live, Mask, Put, Reserve, Serve, Soak, Tool, files_of,
+    ports_of, read_words,
 };
 use aoe_base::{Mac, Ports, TargetId};
 use aoe_lists::Dir;
@@ -95,12 +95,17 @@ const NO_SERVE: [&str; 13] = [
 ];
 
 /// Commands with their files, and with the ends of their links.
-const NAMED: [(&str, &str, &str); 9] = [
+const NAMED: [(&str, &str, &str); 10] = [
     ("answer 1 --mtu 1500 0 disk keep", "disk keep", ""),
     (
         "serve 1 d0 k0 --local 0.0.0.0:1 d1 --peers 10.0.0.1:1 k1",
         "d0 k0 d1 k1",
         "0.0.0.0:1>10.0.0.1:1",
+    ),
+    (
+        "live 16 10 --one 127.0.0.1:1 --two 127.0.0.1:2",
+        "",
+        "127.0.0.1:1>127.0.0.1:2 127.0.0.1:2>127.0.0.1:1",
     ),
     (
         "discover --local 0.0.0.0:1 --peers 10.0.0.1:1",
@@ -431,6 +436,39 @@ fn reads_replay(rt: HostRuntime) -> Result<(), Fail> {
     assert_eq!(rt; files_line(alloc, "replay")?.as_str(), "");
     let words = words_of(alloc, "replay")?;
     assert!(rt; ports_of(alloc, words.as_slice())?.is_empty());
+    Ok(())
+}
+
+#[test]
+fn reads_live(rt: HostRuntime) -> Result<(), Fail> {
+    let cases = [
+        ("live 16 10 --one x --two y", Some((16, 10, 5000))),
+        ("live --two y 1 1 --one=x --turns 1", Some((1, 1, 1))),
+        (
+            "live 65536 10000 --one x --two y --turns 1000000",
+            Some((65536, 10000, 1_000_000)),
+        ),
+        ("live 0 1 --one x --two y", None),
+        ("live 65537 1 --one x --two y", None),
+        ("live 1 0 --one x --two y", None),
+        ("live 1 10001 --one x --two y", None),
+        ("live 1 1 --one x", None),
+        ("live 1 1 --two y", None),
+        ("live 1 --one x --two y", None),
+        ("live 1 1 1 --one x --two y", None),
+        ("live 1 1 --one x --two y --turns 0", None),
+        ("live 1 1 --local x --peers y", None),
+    ];
+    for (line, numbers) in cases {
+        let command = numbers.map(|(sectors, count, turns)| {
+            Command::Live(Live {
+                sectors,
+                count,
+                turns,
+            })
+        });
+        assert_eq!(rt; read_line(rt.alloc(), line)?, command, "{line}");
+    }
     Ok(())
 }
 

@@ -1,10 +1,11 @@
-use Rattle.std.proofs.Common.{◌≡◌, ◌∙◌, ℕ, List, [], length, Option, None, Some, arith, inr, refl, sym, subst}
+use Rattle.std.proofs.Common.{◌≡◌, ◌∙◌, ℕ, List, [], length, Option, None, Some, false, ap, arith, inr, refl, sym, subst}
 use Rattle.std.specs.Prelude.{IfSome, map, option_map, string_bytes}
 use Rattle.std.specs.Option.{option_map_or}
 use Rattle.aoe_words.specs.Words.{file_count, files_of, link_count, spelled}
 use Rattle.aoe_words.specs.declared.command.Command.{Command}
 use Rattle.aoe_words.specs.declared.command.Command.TheVariants.{Serve}
 use Rattle.aoe_words.specs.declared.command.Serve.{Serve as Serves}
+use Rattle.aoe_top.specs.Commands.{is_live}
 use Rattle.aoe_top.proofs.Complete.{answers, link-fine, no-fault, serves}
 use Rattle.aoe_top.proofs.OnSlots.{on-none}
 use Rattle.aoe_top.proofs.Refusals.{disk-within, file-fault, keep-bad, keep-fault, keep-small, mounted, ran-as, ran-of, same-command, settled}
@@ -15,6 +16,10 @@ use Rattle.aoe_top.proofs.top.aoe.Goals as goal
 linked : (n : ℕ) (o : Option Command) (asked : Serves) → o ≡ Some (Serve asked) → IfSome o (λ command. n ≡ link_count command) → n ≡ 1
 linked n None asked e count = absurd cc
 linked n (Some command) asked e count = let same : command ≡ Serve asked = cc in subst (λ (x : Command). n ≡ link_count x) same count
+
+-- it runs over one link
+served-alone : (command : Command) (asked : Serves) → command ≡ Serve asked → is_live (Some command) ≡ false
+served-alone command asked e = ap (λ (c : Command). is_live (Some c)) e
 
 -- a command has as many files
 counted : (n : ℕ) (o : Option Command) (command : Command) → o ≡ Some command → IfSome o (λ c. n ≡ file_count c) → n ≡ file_count command
@@ -54,7 +59,8 @@ pub returns-in-Ok-Some-clause-serves : goal.returns-in-Ok-Some-clause-serves
 returns-in-Ok-Some-clause-serves g c asked is unrefused some_memory link fine =
     let r = ran-as _ _ _ _ _ _ _ _ _ _ _ c.in-Ok-Some.field-0-is c.in-Ok-Some.ensures.command is (c.run_command.ensures.run unrefused some_memory) in
     let count = linked _ c.in-Ok-Some.field-0 asked (c.in-Ok-Some.ensures.command ∙ is) c.in-Ok-Some.ensures.links in
-    serves _ _ _ _ _ _ _ fine asked r (λ e. link-fine g.L.Link.faults _ _ link (c.run_command.ensures.link_fault 0 e).1 (omega (arith, c.requires.links, count)))
+    let not-live = served-alone _ asked (same-command _ _ _ _ c.in-Ok-Some.field-0-is c.in-Ok-Some.ensures.command is) in
+    serves _ _ _ _ _ _ _ fine asked r (λ e. link-fine g.L.Link.faults _ _ link (c.run_command.ensures.link_fault not-live 0 e).1 (omega (arith, c.requires.links, count)))
 
 -- words that spell no command name no files
 no-files : {R : Type 0} (names : Command → R → List (List ℕ)) (o : Option (Command × R)) → option_map (λ p. p.0) o ≡ None → length (option_map_or (λ p. names p.0 p.1) o []) ≡ 0
@@ -87,3 +93,7 @@ returns-in-Ok-Some-clause-gets g c asked is =
 pub returns-in-Ok-Some-clause-puts : goal.returns-in-Ok-Some-clause-puts
 returns-in-Ok-Some-clause-puts g c asked is =
     inr (c.run_command.ensures.puts asked (same-command _ _ _ _ c.in-Ok-Some.field-0-is c.in-Ok-Some.ensures.command is))
+
+pub returns-in-Ok-Some-clause-lives : goal.returns-in-Ok-Some-clause-lives
+returns-in-Ok-Some-clause-lives g c asked is =
+    inr (c.run_command.ensures.lives asked (same-command _ _ _ _ c.in-Ok-Some.field-0-is c.in-Ok-Some.ensures.command is))

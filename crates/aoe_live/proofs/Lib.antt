@@ -1,0 +1,13 @@
+mod EntryLemmas
+mod GoodLemmas
+mod GrownLemmas
+mod LineLemmas
+mod NewestLemmas
+mod NumberLemmas
+mod OrderLemmas
+mod PassLemmas
+mod RecordLemmas
+mod RoundLemmas
+mod StopLemmas
+mod TickLemmas
+mod TurnLemmas

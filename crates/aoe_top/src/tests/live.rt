@@ -1,0 +1,95 @@
+//! Runs over two links in the same process.
+use super::{run_over, words_of};
+use crate::{Status, aoe, ports_of};
+use aoe_disk::MemDisk;
+use aoe_io::{JoinedLink, Link, MemLink, MemSink, MemSource, SetClock};
+use std::alloc::Global;
+use std::test::Fail;
+
+/// Runs `live` over two links: its status, and what it wrote.
+fn live<L: Link>(
+    alloc: Global,
+    line: &str,
+    room: usize,
+    links: &mut [L; 2],
+) -> Result<(Status, MemSink), Fail> {
+    let line = format!(in alloc; "live {line} --one x --two y")?;
+    let words = words_of(alloc, line.as_str())?;
+    if ports_of(alloc, words.as_slice())?.len() != 2 {
+        return Err(Fail::from("other links"));
+    }
+    let mut source = MemSource::of(alloc, b"")?;
+    let mut sink = MemSink::new(alloc, room)?;
+    let mut disks: [Option<MemDisk>; 0] = [];
+    let status = aoe(
+        alloc,
+        words.as_slice(),
+        &mut source,
+        &mut sink,
+        &mut disks,
+        links,
+        &mut SetClock::new(0, 10),
+    );
+    Ok((status, sink))
+}
+
+/// Two links that are joined end to end.
+fn joined(alloc: Global) -> Result<[JoinedLink; 2], Fail> {
+    let (one, two) = JoinedLink::pair(alloc, 64)?;
+    Ok([one, two])
+}
+
+/// Two links that give nothing.
+fn quiet(alloc: Global) -> Result<[MemLink; 2], Fail> {
+    Ok([
+        MemLink::of(alloc, Vec::new(alloc), 30)?,
+        MemLink::of(alloc, Vec::new(alloc), 30)?,
+    ])
+}
+
+#[test]
+fn records_a_run(rt: HostRuntime) -> Result<(), Fail> {
+    let alloc = rt.alloc();
+    let (status, script) = live(alloc, "16 10", 10000, &mut joined(alloc)?)?;
+    assert_eq!(rt; status, Status::Ok);
+    let mut source = MemSource::of(alloc, script.bytes())?;
+    let mut sink = MemSink::new(alloc, 100_000)?;
+    let status = run_over(alloc, "replay", &mut source, &mut sink, &mut [], &mut [])?;
+    assert_eq!(rt; status, Status::Ok);
+    let lines = sink.bytes().split(|byte| *byte == b'\n');
+    let done = lines.filter(|line| line.starts_with(b"done ")).count();
+    assert_eq!(rt; done, 11);
+    Ok(())
+}
+
+#[test]
+fn gives_up_where_nothing_comes(rt: HostRuntime) -> Result<(), Fail> {
+    let alloc = rt.alloc();
+    let mut links = quiet(alloc)?;
+    let (status, sink) = live(alloc, "16 1 --turns 20", 10000, &mut links)?;
+    assert_eq!(rt; status, Status::Unanswered { turns: 20 });
+    assert_eq!(rt; status.code(), 9);
+    assert_eq!(rt;
+        status.text(alloc)?.bytes(),
+        b"aoe: no answer in 20 turns".as_slice()
+    );
+    assert!(rt; sink.bytes().is_empty());
+    assert_eq!(rt; (links[0].count(), links[1].count()), (0, 1));
+    Ok(())
+}
+
+#[test]
+fn tells_what_failed(rt: HostRuntime) -> Result<(), Fail> {
+    let alloc = rt.alloc();
+    for link in 0..2 {
+        let mut links = quiet(alloc)?;
+        links[link].fail_at(2);
+        let (status, sink) = live(alloc, "16 1", 10000, &mut links)?;
+        assert_eq!(rt; status, Status::LinkFault { link: link as u32 });
+        assert!(rt; sink.bytes().is_empty());
+    }
+    let (status, sink) = live(alloc, "16 10", 10, &mut joined(alloc)?)?;
+    assert_eq!(rt; status, Status::SinkFault);
+    assert!(rt; sink.bytes().is_empty());
+    Ok(())
+}
