@@ -1,49 +1,33 @@
 -- Sectors in ascending order: how many lie below a sector, and what a write makes of them.
-use Rattle.std.proofs.Common.{◌≡◌, ◌≢◌, ◌≤◌, ◌<◌, ◌+◌, ◌-◌, ◌*◌, ◌++◌, ℕ, zero, suc, true, false, List, [], ◌∷◌, Some, None, length, take, drop, get_or, nat_lt, refl, sym, arith, ◌∙◌, ap, inl, inr, length-append, length-drop, take-append-drop}
-use Rattle.std.specs.List.{AllWithin}
-use Rattle.std.specs.List.Sorted.{IsPartitionedBy}
-use Rattle.std.proofs.lemmas.Bool.{cases_lt, cases_eq, lt-ltb, le-ltb, ltb-true, ltb-false, eq-eqb, ne_eqb}
+use Rattle.std.proofs.Common.{◌≡◌, ◌≢◌, ◌≤◌, ◌<◌, ◌+◌, ◌-◌, ◌*◌, ◌++◌, ℕ, zero, suc, List, [], ◌∷◌, Some, None, length, take, drop, get_or, refl, sym, arith, ◌∙◌, ap, inl, inr, length-append, length-drop, take-append-drop}
+use Rattle.std.proofs.lemmas.Bool.{cases_lt, cases_eq, lt-ltb, le-ltb, eq-eqb, ne_eqb}
 use Rattle.std.proofs.lemmas.List.{length-take-le, drop-drop}
 use Rattle.aoe_disk.specs.State.{sector}
 use Rattle.aoe_cache.specs.declared.place.HeldSector.{HeldSector}
 use Rattle.aoe_cache.specs.Held.{IsAscending, AreBelow, held_for, count_below, sectors_of, with_written}
 
+pub some_bytes : (p q : List ℕ) → Some p ≡ Some q → p ≡ q
+some_bytes p q e = cc
+
+pub sector_is : (x y : HeldSector) → x.at ≡ y.at → x.bytes ≡ y.bytes → x ≡ y
+sector_is x y at bytes = ap (λ (n : ℕ). record { at = n; bytes = x.bytes }) at ∙ ap (λ (b : List ℕ). record { at = y.at; bytes = b }) bytes
+
 -- elements of ascending sectors
 
-ascending_low : (low : ℕ) (hs : List HeldSector) (j : ℕ) (d : HeldSector) → IsAscending low hs → j < length hs → low ≤ (get_or hs j d).at
+pub ascending_low : (low : ℕ) (hs : List HeldSector) (j : ℕ) (d : HeldSector) → IsAscending low hs → j < length hs → low ≤ (get_or hs j d).at
 ascending_low low [] j d order lt = absurd (omega arith)
 ascending_low low (h ∷ hs) zero d order lt = order.0
 ascending_low low (h ∷ hs) (suc j) d order lt =
     let above : h.at + 1 ≤ (get_or hs j d).at = ascending_low (h.at + 1) hs j d order.2 (omega arith) in
     omega (arith, above, order.0)
 
-pub ascending_le : (low : ℕ) (hs : List HeldSector) (i j : ℕ) (d : HeldSector) → IsAscending low hs → i ≤ j → j < length hs → (get_or hs i d).at ≤ (get_or hs j d).at
-ascending_le low [] i j d order le lt = absurd (omega arith)
-ascending_le low (h ∷ hs) zero zero d order le lt = omega arith
-ascending_le low (h ∷ hs) zero (suc j) d order le lt =
-    let above : h.at + 1 ≤ (get_or hs j d).at = ascending_low (h.at + 1) hs j d order.2 (omega arith) in
-    omega (arith, above)
-ascending_le low (h ∷ hs) (suc i) zero d order le lt = absurd (omega arith)
-ascending_le low (h ∷ hs) (suc i) (suc j) d order le lt = ascending_le (h.at + 1) hs i j d order.2 (omega arith) (omega arith)
-
--- what a binary search asks, and what it finds
-
-pub ascending_partitioned : (s : ℕ) (hs : List HeldSector) → IsAscending 0 hs → IsPartitionedBy (λ h. nat_lt h.at s) hs
-ascending_partitioned s hs order i j d le lt is =
-    lt-ltb (get_or hs i d).at s (omega (arith, ascending_le 0 hs i j d order le lt, ltb-true (get_or hs j d).at s is))
+-- how many lie below a sector
 
 pub count_suc : (s : ℕ) (h : HeldSector) (hs : List HeldSector) → h.at < s → count_below s (h ∷ hs) ≡ suc (count_below s hs)
 count_suc s h hs below = rw (lt-ltb h.at s below)
 
 pub count_zero : (s : ℕ) (h : HeldSector) (hs : List HeldSector) → s ≤ h.at → count_below s (h ∷ hs) ≡ 0
 count_zero s h hs above = rw (le-ltb h.at s above)
-
-pub count_below_at : (s i : ℕ) (hs : List HeldSector) → i ≤ length hs → AllWithin (λ h. nat_lt h.at s ≡ true) hs 0 i → AllWithin (λ h. nat_lt h.at s ≡ false) hs i (length hs) → i ≡ count_below s hs
-count_below_at s i [] le below above = omega arith
-count_below_at s zero (h ∷ hs) le below above = sym (count_zero s h hs (ltb-false h.at s (above 0 h (omega arith) (omega arith))))
-count_below_at s (suc i) (h ∷ hs) le below above =
-    let more : i ≡ count_below s hs = count_below_at s i hs (omega arith) (λ k d l u. below (suc k) d (omega arith) (omega arith)) (λ k d l u. above (suc k) d (omega arith) (omega arith)) in
-    ap suc more ∙ sym (count_suc s h hs (ltb-true h.at s (below 0 h (omega arith) (omega arith))))
 
 pub count_le : (s : ℕ) (hs : List HeldSector) → count_below s hs ≤ length hs
 count_le s [] = omega arith
@@ -225,28 +209,6 @@ below_at high [] i d b lt = absurd (omega arith)
 below_at high (h ∷ hs) zero d b lt = b.0
 below_at high (h ∷ hs) (suc i) d b lt = below_at high hs i d b.1 (omega arith)
 
-pub count_past : (low s : ℕ) (hs : List HeldSector) (i : ℕ) (d : HeldSector) → IsAscending low hs → count_below s hs ≤ i → i < length hs → s ≤ (get_or hs i d).at
-count_past low s [] i d order le lt = absurd (omega arith)
-count_past low s (h ∷ hs) zero d order le lt = elim (cases_lt h.at s) [
-  | inl below ↦ absurd (omega (arith, count_suc s h hs below))
-  | inr above ↦ above
-]
-count_past low s (h ∷ hs) (suc i) d order le lt = elim (cases_lt h.at s) [
-  | inl below ↦ count_past (h.at + 1) s hs i d order.2 (omega (arith, count_suc s h hs below)) (omega arith)
-  | inr above ↦ let more : h.at + 1 ≤ (get_or hs i d).at = ascending_low (h.at + 1) hs i d order.2 (omega arith) in omega (arith, more)
-]
-
-pub count_within : (s : ℕ) (hs : List HeldSector) (i : ℕ) (d : HeldSector) → i < count_below s hs → (get_or hs i d).at < s
-count_within s [] i d lt = absurd (omega arith)
-count_within s (h ∷ hs) zero d lt = elim (cases_lt h.at s) [
-  | inl below ↦ below
-  | inr above ↦ absurd (omega (arith, count_zero s h hs above))
-]
-count_within s (h ∷ hs) (suc i) d lt = elim (cases_lt h.at s) [
-  | inl below ↦ count_within s hs i d (omega (arith, count_suc s h hs below))
-  | inr above ↦ absurd (omega (arith, count_zero s h hs above))
-]
-
 -- no more sectors lie in a range than it has
 
 count_upto : (low s : ℕ) (hs : List HeldSector) → IsAscending low hs → count_below s hs ≤ s - low
@@ -270,16 +232,45 @@ whole_at low [] i d order lt = absurd (omega arith)
 whole_at low (h ∷ hs) zero d order lt = order.1
 whole_at low (h ∷ hs) (suc i) d order lt = whole_at (h.at + 1) hs i d order.2 (omega arith)
 
--- a walk over those below a sector, one place on and at its end
+-- what lies below the next sector
 
-pub count_more : (s : ℕ) (hs : List HeldSector) (i : ℕ) (d : HeldSector) → IsAscending 0 hs → i < length hs → i ≤ count_below s hs → (get_or hs i d).at < s → i + 1 ≤ count_below s hs
-count_more s hs i d order lt le below = elim (cases_lt i (count_below s hs)) [
-  | inl more ↦ omega arith
-  | inr past ↦ absurd (omega (arith, count_past 0 s hs i d order past lt))
+pub count_absent : (low s : ℕ) (hs : List HeldSector) → IsAscending low hs → held_for hs s ≡ None → count_below (s + 1) hs ≡ count_below s hs
+count_absent low s [] order none = refl
+count_absent low s (h ∷ hs) order none = elim (cases_eq h.at s) [
+  | inl same ↦ let there : Some h.bytes ≡ None = sym (held_same s h hs same) ∙ none in cc
+  | inr other ↦ elim (cases_lt h.at s) [
+    | inl below ↦ count_suc (s + 1) h hs (omega (arith, below)) ∙ ap suc (count_absent (h.at + 1) s hs order.2 (sym (held_other s h hs other) ∙ none)) ∙ sym (count_suc s h hs below)
+    | inr above ↦ count_zero (s + 1) h hs (omega (arith, above, other)) ∙ sym (count_zero s h hs above)
+  ]
 ]
 
-pub count_end : (s : ℕ) (hs : List HeldSector) (i : ℕ) (d : HeldSector) → i ≤ count_below s hs → s ≤ (get_or hs i d).at → i ≡ count_below s hs
-count_end s hs i d le above = elim (cases_lt i (count_below s hs)) [
-  | inl more ↦ absurd (omega (arith, count_within s hs i d more))
-  | inr past ↦ omega arith
+-- a sector that is held stands behind those below it
+pub record StandsAt (s : ℕ) (b : List ℕ) (hs : List HeldSector) : Type 0 where
+  pub next : count_below (s + 1) hs ≡ count_below s hs + 1
+  pub there : count_below s hs < length hs
+  pub is : (d : HeldSector) → get_or hs (count_below s hs) d ≡ record { at = s; bytes = b }
+
+pub stands_at : (low s : ℕ) (b : List ℕ) (hs : List HeldSector) → IsAscending low hs → held_for hs s ≡ Some b → StandsAt s b hs
+stands_at low s b [] order some = absurd (cc)
+stands_at low s b (h ∷ hs) order some = elim (cases_eq h.at s) [
+  | inl same ↦
+      let first : count_below s (h ∷ hs) ≡ 0 = count_zero s h hs (omega (arith, same)) in
+      let bytes : h.bytes ≡ b = some_bytes h.bytes b (sym (held_same s h hs same) ∙ some) in
+      record {
+        next = omega (arith, first, count_suc (s + 1) h hs (omega (arith, same)), count_upto (h.at + 1) (s + 1) hs order.2, same);
+        there = omega (arith, first);
+        is = λ d. rw first (sector_is h (record { at = s; bytes = b }) same bytes);
+      }
+  | inr other ↦
+      let rest : held_for hs s ≡ Some b = sym (held_other s h hs other) ∙ some in
+      elim (cases_lt h.at s) [
+        | inl below ↦
+            let r : StandsAt s b hs = stands_at (h.at + 1) s b hs order.2 rest in
+            record {
+              next = omega (arith, r.next, count_suc (s + 1) h hs (omega (arith, below)), count_suc s h hs below);
+              there = omega (arith, r.there, count_suc s h hs below);
+              is = λ d. rw (count_suc s h hs below) (r.is d);
+            }
+        | inr above ↦ let wrong : None ≡ Some b = sym (held_low (h.at + 1) s hs order.2 (omega (arith, above, other))) ∙ rest in absurd (cc)
+      ]
 ]

@@ -11,9 +11,9 @@ use Rattle.aoe_disk.proofs.Touching.{sector_outside}
 use Rattle.aoe_disk.proofs.Runs.{run_none, run_then}
 use Rattle.aoe_cache.specs.declared.place.HeldSector.{HeldSector}
 use Rattle.aoe_cache.specs.declared.buffer.Buffer.{Buffer}
-use Rattle.aoe_cache.specs.Held.{IsAscending, AreBelow, held_for, held_of, laid_over, marked, with_written}
+use Rattle.aoe_cache.specs.Held.{IsAscending, AreBelow, held_for, held_of, laid_over, marked, placed, with_written}
 use Rattle.aoe_cache.specs.Down.{IsJoined, WritesRun, WritesRuns, WritesDown, StopsShort, bytes_of, first_of, was_ok}
-use Rattle.aoe_cache.specs.Cache.{IsBuffer, seen_contents}
+use Rattle.aoe_cache.specs.Cache.{HasRoom, IsBuffer, IsIndexed, IsInOrder, seen_contents}
 use Rattle.aoe_cache.proofs.Ascending.{ascending_short, ascending_take, ascending_drop, ascending_written, below_written, below_take, below_drop, below_more}
 use Rattle.aoe_cache.proofs.Laying.{laid_append}
 use Rattle.aoe_cache.proofs.Sectors.{laid_over_same, marked_over_same}
@@ -21,7 +21,18 @@ use Rattle.aoe_cache.proofs.Runs.{length-bytes_of, adjacent_fits, adjacent_held,
 
 -- a buffer of a disk is one of any greater disk
 pub buffer_more : (low high : ℕ) (b : Buffer) → low ≤ high → IsBuffer low b → IsBuffer high b
-buffer_more low high b le is = record { used = is.used; order = is.order; below = below_more low high (held_of b) le is.below }
+buffer_more low high b le is = record { indexed = is.indexed; order = is.order; below = below_more low high (held_of b) le is.below }
+
+pub in_order_more : (low high : ℕ) (b : Buffer) → low ≤ high → IsInOrder low b → IsInOrder high b
+in_order_more low high b le is = record { has = is.has; order = is.order; below = below_more low high (placed b) le is.below }
+
+-- a buffer that holds nothing
+pub buffer_empty : (sectors : ℕ) (b : Buffer) → IsIndexed b → held_of b ≡ [] → IsBuffer sectors b
+buffer_empty sectors b indexed none = record { indexed = indexed; order = subst (IsAscending 0) (sym none) tt; below = subst (AreBelow sectors) (sym none) tt }
+
+-- one whose places were put in order
+pub buffer_sorted : (sectors : ℕ) (b new : Buffer) → IsBuffer sectors b → HasRoom new → placed new ≡ held_of b → IsInOrder sectors new
+buffer_sorted sectors b new is has sorted = record { has = has; order = subst (IsAscending 0) (sym sorted) is.order; below = subst (AreBelow sectors) (sym sorted) is.below }
 
 -- an Ok write of whatever type
 pub as_ok : {T E : Type 0} (at : ℕ) (piece : List ℕ) (result : Result T E) (v : T) (old new : DiskState) → result ≡ Ok v → WritesTo at piece result old new → WritesTo at piece was_ok old new
@@ -162,8 +173,8 @@ down_seen (Err e) held rest old new disk order below down = stops_seen (Err e) h
 
 -- what the buffer keeps, and that there is a place for each sector
 
-pub buffer_after : {f : Bool} (held : List HeldSector) (old new : DiskState) (b : Buffer) → b.held ≤ length b.places.items → AsSeen f held (held_of b) old new → IsBuffer new.sectors b
-buffer_after held old new b used stays = record { used = used; order = stays.order; below = subst (λ (s : ℕ). AreBelow s (held_of b)) (sym stays.run.sectors) stays.below }
+pub buffer_after : {f : Bool} (held : List HeldSector) (old new : DiskState) (b : Buffer) → IsIndexed b → AsSeen f held (held_of b) old new → IsBuffer new.sectors b
+buffer_after held old new b indexed stays = record { indexed = indexed; order = stays.order; below = subst (λ (s : ℕ). AreBelow s (held_of b)) (sym stays.run.sectors) stays.below }
 
 module _ (at : ℕ) (piece : List ℕ) (sectors : ℕ) (b : Buffer) (range : IsRange at (length piece) sectors) (is : IsBuffer sectors b) where
   order_written : IsAscending 0 (with_written at (length piece / 512) piece (held_of b))
@@ -172,8 +183,8 @@ module _ (at : ℕ) (piece : List ℕ) (sectors : ℕ) (b : Buffer) (range : IsR
   below_put : AreBelow sectors (with_written at (length piece / 512) piece (held_of b))
   below_put = below_written at (length piece / 512) piece (held_of b) sectors range.within is.below
 
-  pub put_buffer : (new : Buffer) → new.held ≤ length new.places.items → held_of new ≡ with_written at (length piece / 512) piece (held_of b) → IsBuffer sectors new
-  put_buffer new used held = record { used = used; order = subst (IsAscending 0) (sym held) order_written; below = subst (AreBelow sectors) (sym held) below_put }
+  pub put_buffer : (new : Buffer) → IsIndexed new → held_of new ≡ with_written at (length piece / 512) piece (held_of b) → IsBuffer sectors new
+  put_buffer new indexed held = record { indexed = indexed; order = subst (IsAscending 0) (sym held) order_written; below = subst (AreBelow sectors) (sym held) below_put }
 
   pub put_room : (room : ℕ) → length b.places.items ≡ min room sectors → length (with_written at (length piece / 512) piece (held_of b)) ≤ room → length (with_written at (length piece / 512) piece (held_of b)) ≤ length b.places.items
   put_room room places fits = omega (arith, places, fits, ascending_short 0 sectors (with_written at (length piece / 512) piece (held_of b)) order_written below_put)

@@ -1,11 +1,11 @@
 -- Sectors laid over the bytes of a disk, and over those that were read from it.
-use Rattle.std.proofs.Common.{◌≡◌, ◌≤◌, ◌<◌, ◌+◌, ◌-◌, ◌*◌, ◌++◌, ℕ, zero, suc, List, [], ◌∷◌, length, take, drop, get_or, refl, sym, arith, ◌∙◌, ap, append_assoc, length-append, length-drop, take-append-drop}
+use Rattle.std.proofs.Common.{◌≡◌, ◌≤◌, ◌<◌, ◌+◌, ◌-◌, ◌*◌, ◌++◌, ℕ, zero, suc, List, [], ◌∷◌, Some, None, length, take, drop, get_or, refl, sym, arith, ◌∙◌, ap, append_assoc, length-append, length-drop, take-append-drop}
 use Rattle.std.proofs.lemmas.List.{length-take, length-take-le, drop-take, take-take, take-append-le, drop-append-le, drop-drop, take_more}
 use Rattle.aoe_disk.specs.State.{with_piece}
 use Rattle.aoe_disk.proofs.Pieces.{drop_past-with_piece}
 use Rattle.aoe_cache.specs.declared.place.HeldSector.{HeldSector}
-use Rattle.aoe_cache.specs.Held.{IsAscending, AreBelow, count_below, laid_over}
-use Rattle.aoe_cache.proofs.Ascending.{ascending_take, ascending_count, below_count}
+use Rattle.aoe_cache.specs.Held.{IsAscending, AreBelow, count_below, held_for, laid_over}
+use Rattle.aoe_cache.proofs.Ascending.{StandsAt, ascending_take, ascending_count, below_count, count_absent, sector_is, stands_at, whole_at}
 
 pub laid_append : (bytes : List ℕ) (xs ys : List HeldSector) → laid_over bytes (xs ++ ys) ≡ laid_over (laid_over bytes xs) ys
 laid_append bytes [] ys = refl
@@ -77,7 +77,7 @@ module _ (at n : ℕ) (bytes : List ℕ) (hs : List HeldSector) (fits : 512 * at
   pub lay_first : take (512 * n) (drop (512 * at) bytes) ≡ take (512 * n) (drop (512 * at) (laid_over bytes (take (count_below at hs) hs)))
   lay_first = ap (take (512 * n)) (sym (laid_below 0 at bytes (take (count_below at hs) hs) (ascending_take 0 (count_below at hs) hs order) (below_count at hs) (omega arith)))
 
-  pub lay_more : (i : ℕ) (h : HeldSector) (out : List ℕ) → i < length hs → h ≡ get_or hs i h → at ≤ h.at → h.at < at + n → length h.bytes ≡ 512
+  lay_more : (i : ℕ) (h : HeldSector) (out : List ℕ) → i < length hs → h ≡ get_or hs i h → at ≤ h.at → h.at < at + n → length h.bytes ≡ 512
       → out ≡ take (512 * n) (drop (512 * at) (laid_over bytes (take i hs)))
       → with_piece out (512 * (h.at - at)) h.bytes ≡ take (512 * n) (drop (512 * at) (laid_over bytes (take (i + 1) hs)))
   lay_more i h out lt is low high whole so =
@@ -89,6 +89,21 @@ module _ (at n : ℕ) (bytes : List ℕ) (hs : List HeldSector) (fits : 512 * at
       ∙ sym (piece_within (laid_over bytes (take i hs)) h.bytes (512 * at) (512 * n) (512 * h.at) (omega arith) (omega (arith, whole, high)) far)
       ∙ ap (λ (l : List ℕ). take (512 * n) (drop (512 * at) l)) (sym (laid_append bytes (take i hs) (h ∷ [])))
       ∙ ap (λ (l : List HeldSector). take (512 * n) (drop (512 * at) (laid_over bytes l))) (sym one)
+
+  -- at a sector that is held, and at one that isn't
+  pub lay_next : (i : ℕ) (h : HeldSector) (out : List ℕ) → i < n → h.at ≡ at + i → held_for hs (at + i) ≡ Some h.bytes
+      → out ≡ take (512 * n) (drop (512 * at) (laid_over bytes (take (count_below (at + i) hs) hs)))
+      → with_piece out (512 * (h.at - at)) h.bytes ≡ take (512 * n) (drop (512 * at) (laid_over bytes (take (count_below (at + (i + 1)) hs) hs)))
+  lay_next i h out lt number some so =
+      let there : StandsAt (at + i) h.bytes hs = stands_at 0 (at + i) h.bytes hs order some in
+      let is : h ≡ get_or hs (count_below (at + i) hs) h = sector_is h (record { at = at + i; bytes = h.bytes }) number refl ∙ sym (there.is h) in
+      let whole : length h.bytes ≡ 512 = ap (λ (x : HeldSector). length x.bytes) is ∙ whole_at 0 hs (count_below (at + i) hs) h order there.there in
+      let next : at + i + 1 ≡ at + (i + 1) = omega arith in
+      lay_more (count_below (at + i) hs) h out there.there is (omega (arith, number)) (omega (arith, number, lt)) whole so
+      ∙ ap (λ (k : ℕ). take (512 * n) (drop (512 * at) (laid_over bytes (take k hs)))) (sym there.next ∙ ap (λ (s : ℕ). count_below s hs) next)
+
+  pub lay_none : (i : ℕ) → held_for hs (at + i) ≡ None → count_below (at + i) hs ≡ count_below (at + (i + 1)) hs
+  lay_none i none = let next : at + i + 1 ≡ at + (i + 1) = omega arith in sym (count_absent 0 (at + i) hs order none) ∙ ap (λ (s : ℕ). count_below s hs) next
 
   pub lay_last : take (512 * n) (drop (512 * at) (laid_over bytes (take (count_below (at + n) hs) hs))) ≡ take (512 * n) (drop (512 * at) (laid_over bytes hs))
   lay_last =

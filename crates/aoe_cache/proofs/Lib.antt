@@ -2,6 +2,9 @@ pub mod Ascending
 pub mod Places
 pub mod Laying
 pub mod Sectors
+pub mod Ordered
+pub mod Table
+pub mod Steps
 pub mod Runs
 pub mod Down
 pub mod Seen

@@ -8,7 +8,7 @@ use Rattle.aoe_disk.proofs.Pieces.{length-with_piece, with_piece_outside, length
 use Rattle.aoe_disk.proofs.Touching.{image_same, sector_outside, sector-with_piece, sector-with_sector, sector-with_sector_other}
 use Rattle.aoe_cache.specs.declared.place.HeldSector.{HeldSector}
 use Rattle.aoe_cache.specs.Held.{IsAscending, AreBelow, held_for, with_written, laid_over, marked}
-use Rattle.aoe_cache.proofs.Ascending.{ascending_written, below_written, held_same, held_other, held_low, held_written_below, held_written_above, held_written_inside}
+use Rattle.aoe_cache.proofs.Ascending.{ascending_written, below_written, held_same, held_other, held_low, held_written_below, held_written_above, held_written_inside, some_bytes}
 
 -- sizes
 
@@ -26,9 +26,6 @@ length-marked sectors loose (h ∷ hs) b size = length-marked sectors (with_mark
 pub cases_held : (o : Option (List ℕ)) → (o ≡ None) ⊎ ((p : List ℕ) × (o ≡ Some p))
 cases_held None = inl refl
 cases_held (Some p) = inr (p, refl)
-
-some_bytes : (p q : List ℕ) → Some p ≡ Some q → p ≡ q
-some_bytes p q e = cc
 
 module _ (s : ℕ) where
   pub laid_none : (low sectors : ℕ) (bytes : List ℕ) (hs : List HeldSector) → IsAscending low hs → AreBelow sectors hs → length bytes ≡ 512 * sectors → held_for hs s ≡ None → sector (laid_over bytes hs) s ≡ sector bytes s

@@ -1,5 +1,7 @@
 -- A cached store, and what its calls do to its disk.
-use Rattle.std.specs.Prelude.{◌≡◌, ◌≤◌, ◌<◌, ◌⊎◌, ◌/◌, ℕ, min, false, None, List, [], length, Result, is_err, option_map}
+use Rattle.std.specs.Prelude.{◌≡◌, ◌≤◌, ◌<◌, ◌+◌, ◌⊎◌, ◌/◌, ℕ, nat_eq, min, false, None, List, [], length, Result, is_err, option_map}
+use Rattle.std.specs.List.{All}
+use Rattle.indexmap.specs.IndexSet.{IsUnique, spare}
 use Rattle.aoe_disk.specs.State.{Contents, Schedule, DiskState, IsDisk}
 use Rattle.aoe_disk.specs.Calls.{Reads, WritesTo, SyncsTo}
 use Rattle.aoe_disk.specs.Arming.{ArmsTo}
@@ -7,7 +9,7 @@ use Rattle.aoe_disk.specs.declared.armed.Arm.{Arm}
 use Rattle.aoe_cache.specs.declared.place.HeldSector.{HeldSector}
 use Rattle.aoe_cache.specs.declared.buffer.Buffer.{Buffer}
 use Rattle.aoe_cache.specs.declared.write_behind.WriteBehind.{WriteBehind}
-use Rattle.aoe_cache.specs.Held.{IsAscending, AreBelow, held_of, laid_over, marked, with_written}
+use Rattle.aoe_cache.specs.Held.{IsAscending, AreBelow, held_of, laid_over, marked, numbers_of, placed, with_written}
 use Rattle.aoe_cache.specs.Down.{Empties, StopsShort}
 
 -- its disk, the sectors that were written and aren't there yet, and how many of them it holds at most
@@ -84,11 +86,33 @@ pub record CacheArms {D : Type 0} (state : D → DiskState) (arm : Arm) (old new
   pub room : new.room ≡ old.room
   pub device : ArmsTo arm (state old.disk) (state new.disk)
 
+-- whole sectors
+abbrev pub AreWhole : List HeldSector → Type 0
+AreWhole hs = All (λ (h : HeldSector). length h.bytes ≡ 512) hs
+
+-- a buffer has a place for each of its sectors, and its table room for as many as it has places
+pub record HasRoom (b : Buffer) : Type 0 where
+  pub used : length b.numbers.keys ≤ length b.places.items
+  pub room : length b.places.items ≤ length b.numbers.keys + spare b.numbers
+
+-- its table has the numbers of its sectors, each once, as their places come
+pub record IsIndexed (b : Buffer) : Type 0 where
+  pub has : HasRoom b
+  pub numbers : b.numbers.keys ≡ numbers_of (placed b)
+  pub once : IsUnique nat_eq b.numbers
+  pub whole : AreWhole (placed b)
+
 -- what the buffer keeps for a disk of so many sectors
 pub record IsBuffer (sectors : ℕ) (b : Buffer) : Type 0 where
-  pub used : b.held ≤ length b.places.items
+  pub indexed : IsIndexed b
   pub order : IsAscending 0 (held_of b)
   pub below : AreBelow sectors (held_of b)
+
+-- the same while it is written down: its places are in order, whatever its table says
+pub record IsInOrder (sectors : ℕ) (b : Buffer) : Type 0 where
+  pub has : HasRoom b
+  pub order : IsAscending 0 (placed b)
+  pub below : AreBelow sectors (placed b)
 
 -- what a cached store keeps
 pub record IsWriteBehind {D : Type 0} (state : D → DiskState) (b : WriteBehind D) : Type 0 where

@@ -1,5 +1,5 @@
 -- Sectors that were written and aren't on the disk yet.
-use Rattle.std.specs.Prelude.{◌≡◌, ◌≤◌, ◌<◌, ◌+◌, ◌*◌, ◌==◌, ◌++◌, ℕ, zero, suc, Bool, Option, Some, None, List, [], ◌∷◌, length, take, drop, nat_lt, if◌then◌else◌}
+use Rattle.std.specs.Prelude.{◌≡◌, ◌≤◌, ◌<◌, ◌+◌, ◌*◌, ◌==◌, ◌++◌, ℕ, zero, suc, Bool, Option, Some, None, List, [], ◌∷◌, length, map, take, drop, nat_lt, if◌then◌else◌}
 use Rattle.aoe_disk.specs.State.{with_piece, with_marks}
 use Rattle.aoe_cache.specs.declared.place.HeldSector.{HeldSector}
 use Rattle.aoe_cache.specs.declared.buffer.Buffer.{Buffer}
@@ -43,6 +43,19 @@ abbrev pub marked : List Bool → List HeldSector → List Bool
 marked loose [] = loose
 marked loose (h ∷ hs) = marked (with_marks loose h.at 1) hs
 
--- what stands in a buffer's places
+-- the numbers of sectors
+abbrev pub numbers_of : List HeldSector → List ℕ
+numbers_of hs = map (λ (h : HeldSector). h.at) hs
+
+-- sectors in ascending order: of those with one number, the first
+abbrev pub ordered : List HeldSector → List HeldSector
+ordered [] = []
+ordered (h ∷ hs) = with_written h.at 1 h.bytes (ordered hs)
+
+-- the sectors in a buffer's places, as they stand there
+abbrev pub placed : Buffer → List HeldSector
+placed b = take (length b.numbers.keys) b.places.items
+
+-- what a buffer holds
 abbrev pub held_of : Buffer → List HeldSector
-held_of b = take b.held b.places.items
+held_of b = ordered (placed b)

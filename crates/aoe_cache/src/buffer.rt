@@ -1,35 +1,43 @@
 //! The sectors that a store holds back.
-ghost use Rattle.std.specs.Prelude.{◌≡◌, ◌≤◌, ◌<◌, ◌+◌, ◌*◌, ◌/◌, ◌^◌, ◌++◌, ℕ, List, [], IfOk, length, take, drop};
-ghost use Rattle.aoe_cache.specs.Held.{IsAscending, count_below, sectors_of, with_written, laid_over, held_of};
+ghost use Rattle.std.specs.Prelude.{◌≡◌, ◌≤◌, ◌<◌, ◌+◌, ◌*◌, ◌/◌, ◌^◌, ◌++◌, ◌↔◌, ℕ, List, [], IfOk, IfSome, IsTrue, length, nat_eq, option_map, take, drop};
+ghost use Rattle.std.specs.List.{IsDistinct};
+ghost use Rattle.indexmap.specs.IndexSet.{IsUnique, insert_index, insert_key, spare};
+ghost use Rattle.aoe_cache.specs.Held.{IsAscending, held_for, held_of, laid_over, numbers_of, ordered, placed, with_written};
 ghost use Rattle.aoe_cache.specs.Down.{IsJoined, bytes_of, first_of};
-ghost use Rattle.aoe_cache.specs.Cache.{IsBuffer};
+ghost use Rattle.aoe_cache.specs.Cache.{AreWhole, HasRoom, IsBuffer, IsInOrder, IsIndexed};
 
 use crate::place::{Place, SECTOR};
 use aoe_base::NoMemory;
+use indexmap::IndexSet;
 use std::alloc::Global;
 
 /// The most sectors that are joined in one device write.
 pub const MOST_JOINED: usize = 64;
 
-/// Sectors in ascending order, in room that was taken before.
+/// Sectors, each once, in room that was taken before.
 ///
-/// All its places are there from the beginning: a sector that is put takes one of those that hold
-/// none, and its way to its order moves a pointer for each place behind it.
+/// A table gives the place of a sector by its number. The places come in the order in which their
+/// sectors were first put, until `sort` puts them in the order of the sectors for a writing down:
+/// between it and `forget` the table knows nothing of them.
 #[derive(Drop)]
 pub(crate) struct Buffer {
-    // Those that hold a sector, in the order of the sectors, and behind them those that hold none.
+    // Those that hold a sector, and behind them those that hold none.
     places: Vec<Place>,
 
-    // How many of the places hold a sector.
-    held: usize,
+    // The numbers of the sectors, each at the index of its place.
+    numbers: IndexSet<u64>,
 }
 
 impl Buffer {
     /// An empty buffer with this many places.
     pub(crate) fn new(alloc: Global, places: usize) -> Result<Buffer, NoMemory>
         ensures room { IfOk result (λ buffer. length buffer.places.items ≡ places) }
-        ensures held { IfOk result (λ buffer. buffer.held ≡ 0) }
+        ensures held { IfOk result (λ buffer. held_of buffer ≡ []) }
+        ensures indexed { IfOk result IsIndexed }
     {
+        let Ok(numbers) = IndexSet::with_capacity(alloc, places) else {
+            return Err(NoMemory);
+        };
         let Ok(mut all) = Vec::with_capacity(alloc, places) else {
             return Err(NoMemory);
         };
@@ -40,97 +48,97 @@ impl Buffer {
         }
         Ok(Buffer {
             places: all,
-            held: 0,
+            numbers,
         })
     }
 
-    /// How many sectors stand in it.
+    /// How many sectors it holds.
     pub(crate) fn len(&self) -> usize
-        requires { self.now.held ≤ length self.now.places.items }
-        ensures { result ≡ length (held_of self.now) }
+        ensures { result ≡ length self.now.numbers.keys }
     {
-        self.held
+        self.numbers.len()
     }
 
-    /// How many of its sectors lie below this one: the place where it stands or is to stand.
-    pub(crate) fn position(&self, sector: u64) -> usize
-        requires { IsBuffer (2 ^ 40) self.now }
-        ensures { result ≡ count_below sector (held_of self.now) }
+    // The place of a sector that it holds.
+    fn get(&self, sector: u64) -> Option<&Place>
+        requires { IsIndexed self.now }
+        ensures held { option_map (λ p. p.now.bytes) result ≡ held_for (held_of self.now) sector }
+        ensures number { IfSome result (λ p. p.now.at ≡ sector) }
     {
-        self.places[..self.held].partition_point(|place| place.at() < sector)
+        let index = self.numbers.get_index_of(&sector)?;
+        Some(&self.places[index])
     }
 
-    // The same of a sector that lies above those before place `from`, step by step: a write or a read
-    // has few sectors, and they are looked at next.
-    fn position_from(&self, from: usize, sector: u64) -> usize
+    // How many sectors it holds once `count` sectors from `at` on were put.
+    fn len_with(&self, at: u64, count: usize) -> usize
         requires buffer { IsBuffer (2 ^ 40) self.now }
-        requires from { from ≤ count_below sector (held_of self.now) }
-        ensures { result ≡ count_below sector (held_of self.now) }
-    {
-        let mut place = from;
-        'below: while place < self.held && self.places[place].at() < sector {
-            place += 1;
-        }
-        place
-    }
-
-    /// How many sectors stand in it once `count` sectors from `at` on were put, of which the first has
-    /// the place `first`.
-    pub(crate) fn len_with(&self, first: usize, at: u64, count: usize) -> usize
-        requires buffer { IsBuffer (2 ^ 40) self.now }
-        requires first { first ≡ count_below at (held_of self.now) }
         requires range { at + count ≤ 2 ^ 40 }
         ensures { (piece : List ℕ) → result ≡ length (with_written at count piece (held_of self.now)) }
     {
-        first + count + (self.held - self.position_from(first, at + count as u64))
+        let mut len = self.numbers.len();
+        'sectors: for i in 0..count {
+            if !self.numbers.contains(&(at + i as u64)) {
+                len += 1;
+            }
+        }
+        len
     }
 
-    // Makes `more` of the places that hold no sector stand before the place `behind`.
-    fn make_room(&mut self, behind: usize, more: usize)
-        requires behind { behind ≤ self.old.held }
-        requires room { self.old.held + more ≤ length self.old.places.items }
-        ensures held { self.new.held ≡ self.old.held + more }
-        ensures places { self.new.places.items ≡ take behind self.old.places.items
-            ++ (take more (drop self.old.held self.old.places.items)
-            ++ (drop behind (held_of self.old) ++ drop (self.old.held + more) self.old.places.items)) }
+    /// Whether it holds at most `room` sectors once `count` sectors from `at` on were put.
+    pub(crate) fn fits(&self, at: u64, count: usize, room: usize) -> bool
+        requires buffer { IsBuffer (2 ^ 40) self.now }
+        requires range { at + count ≤ 2 ^ 40 }
+        ensures { (piece : List ℕ) → IsTrue result ↔ (length (with_written at count piece (held_of self.now)) ≤ room) }
     {
-        self.places[behind..self.held + more].rotate_right(more);
-        self.held += more;
+        self.numbers.len() + count <= room || self.len_with(at, count) <= room
     }
 
-    // Puts the sectors of a piece to the places from `first` on.
-    fn fill(&mut self, first: usize, at: u64, piece: &[u8])
-        requires whole { 512 * (length piece.now / 512) ≡ length piece.now }
-        requires range { at + length piece.now / 512 ≤ 2 ^ 40 }
-        requires room { first + length piece.now / 512 ≤ length self.old.places.items }
-        ensures held { self.new.held ≡ self.old.held }
-        ensures places { let n = length piece.now / 512 in
-            self.new.places.items ≡ take first self.old.places.items
-            ++ (sectors_of at n piece.now ++ drop (first + n) self.old.places.items) }
+    // The index of the place for a sector: its own, or the next that holds none.
+    fn place_for(&mut self, at: u64) -> usize
+        requires has { HasRoom self.old }
+        requires once { IsUnique nat_eq self.old.numbers }
+        requires free { length (insert_key nat_eq self.old.numbers.keys at) ≤ length self.old.places.items }
+        ensures index { result ≡ insert_index nat_eq self.old.numbers at }
+        ensures within { result < length self.new.numbers.keys }
+        ensures numbers { self.new.numbers.keys ≡ insert_key nat_eq self.old.numbers.keys at }
+        ensures once { IsUnique nat_eq self.new.numbers }
+        ensures has { HasRoom self.new }
+        ensures places { self.new.places ≡ self.old.places }
     {
-        'sectors: for i in 0..piece.len() / SECTOR {
-            let start = SECTOR * i;
-            self.places[first + i].put(at + i as u64, &piece[start..start + SECTOR]);
+        match self.numbers.get_index_of(&at) {
+            Some(index) => index,
+            None => self.numbers.insert_full(at).unwrap().0,
         }
     }
 
-    /// Puts the sectors of a piece, each in the place of what stood for it before. The first has the
-    /// place `first`.
-    pub(crate) fn put(&mut self, first: usize, at: u64, piece: &[u8])
-        requires buffer { IsBuffer (2 ^ 40) self.old }
-        requires first { first ≡ count_below at (held_of self.old) }
+    // Puts one sector.
+    fn put_one(&mut self, at: u64, bytes: &[u8])
+        requires indexed { IsIndexed self.old }
+        requires whole { length bytes.now ≡ 512 }
+        requires room { length (with_written at 1 bytes.now (held_of self.old)) ≤ length self.old.places.items }
+        ensures indexed { IsIndexed self.new }
+        ensures held { held_of self.new ≡ with_written at 1 bytes.now (held_of self.old) }
+        ensures places { length self.new.places.items ≡ length self.old.places.items }
+    {
+        let index = self.place_for(at);
+        self.places[index].put(at, bytes);
+    }
+
+    /// Puts the sectors of a piece, each in the place of what stood for it before.
+    pub(crate) fn put(&mut self, at: u64, piece: &[u8])
+        requires indexed { IsIndexed self.old }
         requires whole { 512 * (length piece.now / 512) ≡ length piece.now }
         requires range { at + length piece.now / 512 ≤ 2 ^ 40 }
         requires room { length (with_written at (length piece.now / 512) piece.now (held_of self.old))
             ≤ length self.old.places.items }
+        ensures indexed { IsIndexed self.new }
         ensures held { held_of self.new ≡ with_written at (length piece.now / 512) piece.now (held_of self.old) }
-        ensures used { self.new.held ≤ length self.new.places.items }
         ensures places { length self.new.places.items ≡ length self.old.places.items }
     {
-        let count = piece.len() / SECTOR;
-        let behind = self.position_from(first, at + count as u64);
-        self.make_room(behind, count - (behind - first));
-        self.fill(first, at, piece);
+        'sectors: for i in 0..piece.len() / SECTOR {
+            let start = SECTOR * i;
+            self.put_one(at + i as u64, &piece[start..start + SECTOR]);
+        }
     }
 
     /// Lays its sectors over those from `at` on, which were read into `out`.
@@ -142,32 +150,47 @@ impl Buffer {
             → out.old ≡ take (length out.old) (drop (512 * at) bytes)
             → out.new ≡ take (length out.old) (drop (512 * at) (laid_over bytes (held_of self.now))) }
     {
-        let first = self.position(at);
-        let behind = self.position_from(first, at + (out.len() / SECTOR) as u64);
-        'sectors: for i in first..behind {
-            self.places[i].lay_over(at, out);
+        if self.numbers.is_empty() {
+            return;
         }
+        'sectors: for i in 0..out.len() / SECTOR {
+            if let Some(place) = self.get(at + i as u64) {
+                place.lay_over(at, out);
+            }
+        }
+    }
+
+    /// Puts its places in the order of their sectors.
+    pub(crate) fn sort(&mut self)
+        requires { IsIndexed self.old }
+        ensures placed { placed self.new ≡ held_of self.old }
+        ensures has { HasRoom self.new }
+        ensures places { length self.new.places.items ≡ length self.old.places.items }
+    {
+        let held = self.numbers.len();
+        sort_first(&mut self.places, held);
     }
 
     /// The number of the sector at place `from`.
     pub(crate) fn first_from(&self, from: usize) -> u64
-        requires used { self.now.held ≤ length self.now.places.items }
-        requires some { from < self.now.held }
-        ensures { result ≡ first_of (drop from (held_of self.now)) }
+        requires used { length self.now.numbers.keys ≤ length self.now.places.items }
+        requires some { from < length self.now.numbers.keys }
+        ensures { result ≡ first_of (drop from (placed self.now)) }
     {
         self.places[from].at()
     }
 
     /// How many sectors from place `from` on are joined in one device write.
     pub(crate) fn run_from(&self, from: usize) -> usize
-        requires buffer { IsBuffer (2 ^ 40) self.now }
-        requires some { from < self.now.held }
-        ensures { IsJoined result (drop from (held_of self.now)) }
+        requires order { IsInOrder (2 ^ 40) self.now }
+        requires some { from < length self.now.numbers.keys }
+        ensures { IsJoined result (drop from (placed self.now)) }
     {
+        let held = self.numbers.len();
         let first = self.places[from].at();
         let mut count = 1;
         'adjacent: while count < MOST_JOINED
-            && from + count < self.held
+            && from + count < held
             && self.places[from + count].at() == first + count as u64
         {
             count += 1;
@@ -177,10 +200,10 @@ impl Buffer {
 
     /// Joins the bytes of `count` sectors from place `from` on.
     pub(crate) fn gather(&self, from: usize, count: usize, out: &mut [u8])
-        requires used { self.now.held ≤ length self.now.places.items }
-        requires some { from + count ≤ self.now.held }
+        requires used { length self.now.numbers.keys ≤ length self.now.places.items }
+        requires some { from + count ≤ length self.now.numbers.keys }
         requires room { 512 * count ≤ length out.old }
-        ensures { take (512 * count) out.new ≡ bytes_of (take count (drop from (held_of self.now))) }
+        ensures { take (512 * count) out.new ≡ bytes_of (take count (drop from (placed self.now))) }
     {
         'sectors: for i in 0..count {
             let start = SECTOR * i;
@@ -188,26 +211,55 @@ impl Buffer {
         }
     }
 
-    /// Lets go of all its sectors.
-    pub(crate) fn clear(&mut self)
-        ensures held { held_of self.new ≡ [] }
-        ensures none { self.new.held ≡ 0 }
-        ensures places { length self.new.places.items ≡ length self.old.places.items }
+    // Makes the table anew, of the sectors at the first `held` places, which are in order.
+    fn index_first(&mut self, held: usize)
+        requires held { held ≤ length self.old.places.items }
+        requires order { IsAscending 0 (take held self.old.places.items) }
+        requires room { length self.old.places.items ≤ length self.old.numbers.keys + spare self.old.numbers }
+        ensures indexed { IsIndexed self.new }
+        ensures placed { placed self.new ≡ take held self.old.places.items }
+        ensures places { self.new.places ≡ self.old.places }
     {
-        self.held = 0;
+        self.numbers.truncate(0);
+        'places: for i in 0..held {
+            let _ = self.numbers.insert(self.places[i].at()).unwrap();
+        }
     }
 
-    /// Lets go of the first `count` sectors.
+    /// Lets go of the first `count` sectors after `sort`, and makes the table anew of the rest.
     pub(crate) fn forget(&mut self, count: usize)
-        requires used { self.old.held ≤ length self.old.places.items }
-        requires count { count ≤ self.old.held }
-        ensures held { held_of self.new ≡ drop count (held_of self.old) }
-        ensures used { self.new.held ≤ length self.new.places.items }
+        requires has { HasRoom self.old }
+        requires order { IsAscending 0 (placed self.old) }
+        requires count { count ≤ length self.old.numbers.keys }
+        ensures indexed { IsIndexed self.new }
+        ensures held { held_of self.new ≡ drop count (placed self.old) }
         ensures places { length self.new.places.items ≡ length self.old.places.items }
     {
-        release(&mut self.places, self.held, count);
-        self.held -= count;
+        let held = self.numbers.len();
+        release(&mut self.places, held, count);
+        self.index_first(held - count);
     }
+
+    /// Lets go of all its sectors.
+    pub(crate) fn clear(&mut self)
+        requires has { HasRoom self.old }
+        ensures indexed { IsIndexed self.new }
+        ensures held { held_of self.new ≡ [] }
+        ensures places { length self.new.places.items ≡ length self.old.places.items }
+    {
+        self.index_first(0);
+    }
+}
+
+// Puts the first `held` places in the order of their sectors.
+fn sort_first(places: &mut [Place], held: usize)
+    requires held { held ≤ length places.old }
+    requires once { IsDistinct nat_eq (numbers_of (take held places.old)) }
+    requires whole { AreWhole (take held places.old) }
+    ensures first { take held places.new ≡ ordered (take held places.old) }
+    ensures length { length places.new ≡ length places.old }
+{
+    places[..held].sort_unstable_by_key(|place| place.at());
 }
 
 // The first `count` of the places that hold a sector go behind the others that do.

@@ -5,14 +5,19 @@
 //!
 //! 1. [`Cached::mount`] takes a disk and the most sectors that it is to hold back, and all the memory
 //!    that it will ever use. Where that can't be had, it gives the disk back.
-//! 2. `write` puts sectors to the buffer, which is kept in ascending order and holds each sector once,
+//! 2. `write` puts sectors to the buffer, a hash table by their numbers, which holds each sector once,
 //!    as it was last written. As long as they find room this makes no device call. A write that finds
 //!    none first writes the whole buffer down, and a write of more sectors than the room goes to the
 //!    disk after it.
 //! 3. `read` makes one device read and lays what the buffer holds over it.
-//! 4. `sync` writes the buffer down, adjacent sectors joined into device writes of up to 64, and then
-//!    syncs the disk. Only what was synced outlives a loss of power.
-//! 5. [`Cached::close`] gives the disk.
+//! 4. `sync` writes the buffer down, and then syncs the disk. For a writing down the sectors are put in
+//!    ascending order, and adjacent ones joined into device writes of up to 64.
+//! 5. [`Cached::close`] gives the disk. What the buffer holds is lost, so sync before.
+//!
+//! A loss of power takes what the buffer holds. What it leaves of a sector that was written since the
+//! last sync that was Ok is up to the disk, and every other sector is as the store showed it.
+//! [`Cached::crash`] is such a loss over a disk in memory: it gives the store mounted again on what is
+//! left, with nothing in its buffer and with all its room.
 //!
 //! A device write that fails ends the call that made it: its sectors stay in the buffer, and so do
 //! those behind them, while those written before have left it. They are still read, and the next call

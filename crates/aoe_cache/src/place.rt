@@ -9,18 +9,19 @@ use std::marker::Model;
 /// The length of a sector in bytes.
 pub const SECTOR: usize = 512;
 
-/// A sector's number and its bytes.
+/// A sector's number and its bytes, as contracts see a place.
 #[derive(Drop)]
 pub struct HeldSector {
     pub at: u64,
     pub bytes: [u8; 512],
 }
 
-/// Room for one sector in an allocation of its own, so that a buffer moves its places and not the
-/// bytes in them.
+/// A sector's number, and its bytes in an allocation of their own, so that a buffer that is put in
+/// order reads the numbers where they stand and moves none of the bytes.
 #[derive(Drop)]
 pub(crate) struct Place {
-    inner: Box<HeldSector>,
+    at: u64,
+    bytes: Box<[u8; 512]>,
 }
 
 impl Model for Place {
@@ -28,18 +29,14 @@ impl Model for Place {
 
     ghost Value = { HeldSector };
 
-    ghost view = { λ p. p.inner.value };
+    ghost view = { λ p. record { at = p.at; bytes = p.bytes.value } };
 }
 
 impl Place {
     /// A place that no sector was put to.
     pub(crate) fn new(alloc: Global) -> Result<Place, NoMemory> {
-        let empty = HeldSector {
-            at: 0,
-            bytes: [0; 512],
-        };
-        match Box::new(alloc, empty) {
-            Ok(inner) => Ok(Place { inner }),
+        match Box::new(alloc, [0; 512]) {
+            Ok(bytes) => Ok(Place { at: 0, bytes }),
             Err(_) => Err(NoMemory),
         }
     }
@@ -48,7 +45,7 @@ impl Place {
     pub(crate) fn at(&self) -> u64
         ensures { result ≡ self.now.at }
     {
-        self.inner.at
+        self.at
     }
 
     /// The bytes of its sector.
@@ -56,7 +53,7 @@ impl Place {
         ensures value { result.now ≡ self.now.bytes }
         ensures whole { length result.now ≡ 512 }
     {
-        &self.inner.bytes
+        &*self.bytes
     }
 
     /// Lays its sector over those from sector `at` on.
@@ -65,7 +62,7 @@ impl Place {
         requires room { 512 * (self.now.at - at) + 512 ≤ length out.old }
         ensures { out.new ≡ with_piece out.old (512 * (self.now.at - at)) self.now.bytes }
     {
-        let start = SECTOR * (self.at() - at) as usize;
+        let start = SECTOR * (self.at - at) as usize;
         out[start..start + SECTOR].copy_from_slice(self.bytes());
     }
 
@@ -74,7 +71,7 @@ impl Place {
         requires { length bytes.now ≡ 512 }
         ensures { self.new ≡ record { at = at; bytes = bytes.now } }
     {
-        self.inner.at = at;
-        self.inner.bytes.copy_from_slice(bytes);
+        self.at = at;
+        self.bytes.copy_from_slice(bytes);
     }
 }

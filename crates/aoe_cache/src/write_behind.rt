@@ -2,9 +2,9 @@
 ghost use Rattle.std.specs.Prelude.{◌≡◌, ◌≤◌, ◌<◌, ◌⊎◌, ◌/◌, [], length, take, drop, IfOk, IfErr};
 ghost use Rattle.aoe_disk.specs.State.{IsDisk};
 ghost use Rattle.aoe_disk.specs.Calls.{IsRange, Reads, WritesTo};
-ghost use Rattle.aoe_cache.specs.Held.{held_of, with_written};
+ghost use Rattle.aoe_cache.specs.Held.{held_of, placed, with_written};
 ghost use Rattle.aoe_cache.specs.Down.{IsJoined, StopsShort, WritesDown, bytes_of, first_of};
-ghost use Rattle.aoe_cache.specs.Cache.{CacheReads, CacheSyncs, CacheWrites, IsWriteBehind, IsBuffer, WritesAfter, cache_of, state_of};
+ghost use Rattle.aoe_cache.specs.Cache.{CacheReads, CacheSyncs, CacheWrites, IsBuffer, IsInOrder, IsWriteBehind, WritesAfter, cache_of, state_of};
 
 use crate::buffer::{Buffer, MOST_JOINED};
 use crate::place::SECTOR;
@@ -23,12 +23,12 @@ fn write_run<D: Disk>(
     count: usize,
     scratch: &mut [u8],
 ) -> Result<(), Failed>
-    requires buffer { IsBuffer (D.state disk.old).sectors buffer.now }
-    requires joined { IsJoined count (drop from (held_of buffer.now)) }
+    requires buffer { IsInOrder (D.state disk.old).sectors buffer.now }
+    requires joined { IsJoined count (drop from (placed buffer.now)) }
     requires scratch { length scratch.old ≡ 32768 }
     requires disk { IsDisk (D.state disk.old) }
-    ensures { WritesTo (first_of (drop from (held_of buffer.now)))
-        (bytes_of (take count (drop from (held_of buffer.now)))) result (D.state disk.old) (D.state disk.new) }
+    ensures { WritesTo (first_of (drop from (placed buffer.now)))
+        (bytes_of (take count (drop from (placed buffer.now)))) result (D.state disk.old) (D.state disk.new) }
 {
     let length = SECTOR * count;
     buffer.gather(from, count, scratch);
@@ -41,11 +41,11 @@ fn write_runs<D: Disk>(
     buffer: &Buffer,
     scratch: &mut [u8],
 ) -> (usize, Result<(), Failed>)
-    requires buffer { IsBuffer (D.state disk.old).sectors buffer.now }
+    requires buffer { IsInOrder (D.state disk.old).sectors buffer.now }
     requires scratch { length scratch.old ≡ 32768 }
     requires disk { IsDisk (D.state disk.old) }
-    ensures count { result.0 ≤ length (held_of buffer.now) }
-    ensures down { WritesDown result.1 (held_of buffer.now) (drop result.0 (held_of buffer.now))
+    ensures count { result.0 ≤ length (placed buffer.now) }
+    ensures down { WritesDown result.1 (placed buffer.now) (drop result.0 (placed buffer.now))
         (D.state disk.old) (D.state disk.new) }
 {
     let mut done = 0;
@@ -71,6 +71,7 @@ fn write_down<D: Disk>(disk: &mut D, buffer: &mut Buffer, scratch: &mut [u8]) ->
     ensures down { WritesDown result (held_of buffer.old) (held_of buffer.new)
         (D.state disk.old) (D.state disk.new) }
 {
+    buffer.sort();
     let (written, result) = write_runs(disk, buffer, scratch);
     buffer.forget(written);
     result
@@ -141,7 +142,7 @@ impl<D: Disk> WriteBehind<D> {
         if piece.len() / SECTOR > self.room as usize {
             return self.disk.write(at, piece);
         }
-        self.buffer.put(0, at, piece);
+        self.buffer.put(at, piece);
         Ok(())
     }
 
@@ -153,11 +154,11 @@ impl<D: Disk> WriteBehind<D> {
         ensures behind { IsWriteBehind D.state self.new }
         ensures writes { CacheWrites D.state at piece.now result (cache_of self.old) (cache_of self.new) }
     {
-        let first = self.buffer.position(at);
-        if self.buffer.len_with(first, at, piece.len() / SECTOR) > self.room as usize {
+        let room = self.room as usize;
+        if !self.buffer.fits(at, piece.len() / SECTOR, room) {
             return self.write_beyond(at, piece);
         }
-        self.buffer.put(first, at, piece);
+        self.buffer.put(at, piece);
         Ok(())
     }
 

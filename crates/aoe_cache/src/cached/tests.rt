@@ -76,6 +76,25 @@ fn writes_down_when_full(rt: HostRuntime) -> Result<(), Fail> {
 }
 
 #[test]
+fn puts_scattered_sectors_in_order(rt: HostRuntime) -> Result<(), Fail> {
+    // All 128 sectors, each 37 behind the one before: two device writes, and the sync.
+    let mut store = cached(&rt, 128)?;
+    for i in 0..128 {
+        let at = i * 37 % 128;
+        assert!(rt; fill(&mut store, at, at as u8));
+    }
+    assert_eq!(rt; four(&mut store, 66), Some([66, 67, 68, 69]));
+    assert!(rt; fill(&mut store, 67, 1));
+    assert!(rt; store.sync().is_ok());
+    let mut disk = store.close();
+    assert_eq!(rt; disk.calls(), 4);
+    let mut store = Direct::new(disk);
+    assert_eq!(rt; four(&mut store, 62), Some([62, 63, 64, 65]));
+    assert_eq!(rt; four(&mut store, 66), Some([66, 1, 68, 69]));
+    Ok(())
+}
+
+#[test]
 fn joins_up_to_64_sectors(rt: HostRuntime) -> Result<(), Fail> {
     let mut store = cached(&rt, 100)?;
     assert!(rt; put(&mut store, 2, &[1; 512 * 64]));
@@ -117,23 +136,25 @@ fn shows_the_youngest_write(rt: HostRuntime) -> Result<(), Fail> {
 fn keeps_what_could_not_be_written(rt: HostRuntime) -> Result<(), Fail> {
     // The second of three runs fails: the first has left the buffer, and the disk isn't synced.
     let mut store = cached(&rt, 4)?;
-    for at in [0, 2, 3, 5] {
+    for at in [5, 0, 3, 2] {
         assert!(rt; fill(&mut store, at, 8));
     }
     store.arm(Arm::Fail(2));
     assert!(rt; store.sync().is_err());
     assert_eq!(rt; four(&mut store, 2), Some([8, 8, 0, 8]));
+    assert!(rt; fill(&mut store, 3, 7));
+    assert_eq!(rt; four(&mut store, 2), Some([8, 7, 0, 8]));
     assert!(rt; !store.is_out());
 
     // A write that the buffer has no room for fails with the call that makes room, and puts nothing.
     store.arm(Arm::Fail(2));
     assert!(rt; !put(&mut store, 8, &[9; 512 * 2]));
     assert_eq!(rt; four(&mut store, 7), Some([0, 0, 0, 0]));
-    assert_eq!(rt; four(&mut store, 2), Some([8, 8, 0, 8]));
+    assert_eq!(rt; four(&mut store, 2), Some([8, 7, 0, 8]));
     assert!(rt; store.sync().is_ok());
     assert_eq!(rt;
         four(&mut Direct::new(store.close()), 2),
-        Some([8, 8, 0, 8])
+        Some([8, 7, 0, 8])
     );
     Ok(())
 }

@@ -1,15 +1,15 @@
 use Rattle.std.proofs.Common.{◌^◌, take, drop, ◌∙◌}
-use Rattle.aoe_cache.specs.Held.{held_of}
+use Rattle.aoe_cache.specs.Held.{placed}
 use Rattle.aoe_cache.specs.Down.{WritesRun, bytes_of, first_of, was_ok}
-use Rattle.aoe_cache.proofs.Down.{as_ok, buffer_more, runs_step}
+use Rattle.aoe_cache.proofs.Down.{as_ok, in_order_more, runs_step}
 use Rattle.aoe_cache.proofs.write_behind.write_runs.Goals as goal
 
-pub run_from-count-requires-clause-buffer : goal.run_from-count-requires-clause-buffer
-run_from-count-requires-clause-buffer g c = buffer_more (g.D.Disk.state c.args.disk.now).sectors (2 ^ 40) c.args.buffer.now c.requires.disk.bound c.requires.buffer
+pub run_from-count-requires-clause-order : goal.run_from-count-requires-clause-order
+run_from-count-requires-clause-order g c = in_order_more (g.D.Disk.state c.args.disk.now).sectors (2 ^ 40) c.args.buffer.now c.requires.disk.bound c.requires.buffer
 
 pub runs-preserved : goal.runs-preserved
 runs-preserved g c =
-    let held = held_of c.args.buffer.now in
+    let held = placed c.args.buffer.now in
     let left = drop c.runs.done held in
     let run : WritesRun c.run_from-count.result was_ok left (g.D.Disk.state c.runs.disk) (g.D.Disk.state c.write_run.new.disk) = record {
       joined = c.run_from-count.ensures;

@@ -1,9 +1,24 @@
-use Rattle.std.proofs.Common.{◌-◌, take, ap, ◌∙◌}
+use Rattle.std.proofs.Common.{◌-◌, ℕ, List, drop, take, arith, sym, ap, subst, ◌∙◌}
 use Rattle.std.proofs.lemmas.List.{with_items_is}
+use Rattle.aoe_cache.specs.declared.place.HeldSector.{HeldSector}
+use Rattle.aoe_cache.specs.Held.{IsAscending, ordered, placed}
+use Rattle.aoe_cache.proofs.Ascending.{ascending_drop}
+use Rattle.aoe_cache.proofs.Ordered.{ordered_same}
 use Rattle.aoe_cache.proofs.Places.{released}
 use Rattle.aoe_cache.proofs.buffer.Buffer.forget.Goals as goal
 
+pub index_first-requires-clause-order : goal.index_first-requires-clause-order
+index_first-requires-clause-order c =
+    let held : ℕ = c.len-held.result in
+    let items : List HeldSector = c.args.self.now.places.items in
+    let done = released held c.args.count c.args.self.now.places.len items c.deref_mut.result.now c.release.new.places (omega (arith, c.len-held.ensures.len, c.requires.count)) (omega (arith, c.len-held.ensures.len, c.requires.has.used)) c.args.self.now.places.ok.0 c.deref_mut.ensures.value c.release.ensures in
+    let left = ap (take (held - c.args.count)) (with_items_is c.args.self.now.places c.release.new.places done.0) ∙ done.1 ∙ ap (λ (n : ℕ). drop c.args.count (take n items)) c.len-held.ensures.len in
+    subst (IsAscending 0) (sym left) (ascending_drop 0 c.args.count (placed c.args.self.now) c.requires.order)
+
 pub returns-clause-held : goal.returns-clause-held
 returns-clause-held c =
-    let done = released c.args.self.now.held c.args.count c.args.self.now.places.len c.args.self.now.places.items c.deref_mut.result.now c.release.new.places c.requires.count c.requires.used c.args.self.now.places.ok.0 c.deref_mut.ensures.value c.release.ensures in
-    ap (take (c.args.self.now.held - c.args.count)) (with_items_is c.args.self.now.places c.release.new.places done.0) ∙ done.1
+    let held : ℕ = c.len-held.result in
+    let items : List HeldSector = c.args.self.now.places.items in
+    let done = released held c.args.count c.args.self.now.places.len items c.deref_mut.result.now c.release.new.places (omega (arith, c.len-held.ensures.len, c.requires.count)) (omega (arith, c.len-held.ensures.len, c.requires.has.used)) c.args.self.now.places.ok.0 c.deref_mut.ensures.value c.release.ensures in
+    let left = ap (take (held - c.args.count)) (with_items_is c.args.self.now.places c.release.new.places done.0) ∙ done.1 ∙ ap (λ (n : ℕ). drop c.args.count (take n items)) c.len-held.ensures.len in
+    ap ordered (c.index_first.ensures.placed ∙ left) ∙ ordered_same (drop c.args.count (placed c.args.self.now)) (ascending_drop 0 c.args.count (placed c.args.self.now) c.requires.order)

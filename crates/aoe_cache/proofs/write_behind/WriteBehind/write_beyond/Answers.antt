@@ -19,7 +19,7 @@ returns-clause-behind g c =
     let range : IsRange c.args.at (length c.args.piece.now) (g.D.Disk.state c.write_down.new.disk).sectors = subst (IsRange c.args.at (length c.args.piece.now)) (sym c.write_down.ensures.sectors) c.requires.range in
     record {
       disk = c.write_down.ensures.disk;
-      buffer = put_buffer c.args.at c.args.piece.now (g.D.Disk.state c.write_down.new.disk).sectors c.write_down.new.buffer range c.write_down.ensures.buffer c.put.new.self c.put.ensures.used c.put.ensures.held;
+      buffer = put_buffer c.args.at c.args.piece.now (g.D.Disk.state c.write_down.new.disk).sectors c.write_down.new.buffer range c.write_down.ensures.buffer c.put.new.self c.put.ensures.indexed c.put.ensures.held;
       places = c.put.ensures.places ∙ c.write_down.ensures.places ∙ c.requires.behind.places ∙ ap (min c.args.self.now.room) (sym c.write_down.ensures.sectors);
       scratch = scratch_kept c.args.self.now.scratch c.write_down.new.scratch c.requires.behind.scratch (c.write_down.auto.scratch ∙ c.deref_mut.ensures.len);
     }
