@@ -198,6 +198,16 @@ impl Buffer {
         count
     }
 
+    /// The bytes of the sector at place `from`.
+    pub(crate) fn bytes_at(&self, from: usize) -> &[u8]
+        requires used { length self.now.numbers.keys ≤ length self.now.places.items }
+        requires some { from < length self.now.numbers.keys }
+        ensures bytes { result.now ≡ bytes_of (take 1 (drop from (placed self.now))) }
+        ensures whole { length result.now ≡ 512 }
+    {
+        self.places[from].bytes()
+    }
+
     /// Joins the bytes of `count` sectors from place `from` on.
     pub(crate) fn gather(&self, from: usize, count: usize, out: &mut [u8])
         requires used { length self.now.numbers.keys ≤ length self.now.places.items }

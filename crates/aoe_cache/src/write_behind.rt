@@ -30,9 +30,13 @@ fn write_run<D: Disk>(
     ensures { WritesTo (first_of (drop from (placed buffer.now)))
         (bytes_of (take count (drop from (placed buffer.now)))) result (D.state disk.old) (D.state disk.new) }
 {
+    let at = buffer.first_from(from);
+    if count == 1 {
+        return disk.write(at, buffer.bytes_at(from));
+    }
     let length = SECTOR * count;
     buffer.gather(from, count, scratch);
-    disk.write(buffer.first_from(from), &scratch[..length])
+    disk.write(at, &scratch[..length])
 }
 
 // Writes the buffer down from the lowest sector on, and says how many of its sectors were written.
