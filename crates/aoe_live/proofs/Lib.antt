@@ -8,6 +8,6 @@ mod OrderLemmas
 mod PassLemmas
 mod RecordLemmas
 mod RoundLemmas
-mod StopLemmas
+mod StepLemmas
 mod TickLemmas
 mod TurnLemmas

@@ -1,8 +1,8 @@
 -- The commands of a run in their order, and its time.
-use Rattle.std.proofs.Common.{ℕ, zero, suc, ◌≡◌, ◌≢◌, ◌+◌, ◌-◌, ◌*◌, ◌/◌, ◌%◌, ◌^◌, ◌≤◌, ◌<◌, ◌⊎◌, not, Bool, true, false, nat_lt, List, [], ◌∷◌, ◌++◌, length, replicate, Option, Some, None, append_assoc, refl, sym, ap, subst, ◌∙◌, arith, inl, inr, rules}
+use Rattle.std.proofs.Common.{ℕ, zero, suc, ◌≡◌, ◌+◌, ◌-◌, ◌*◌, ◌/◌, ◌%◌, ◌^◌, ◌≤◌, ◌<◌, ◌⊎◌, not, Bool, true, false, nat_lt, List, [], ◌∷◌, ◌++◌, length, replicate, Option, Some, None, append_assoc, refl, sym, ap, subst, ◌∙◌, arith, inl, inr, rules}
 use Rattle.std.specs.Prelude.{◌==◌, ◌&&◌, ◌||◌, if◌then◌else◌}
 use Rattle.std.proofs.Math.Nat.{div-add-mod}
-use Rattle.std.proofs.lemmas.Bool.{and_parts, cases_lt, lt-ltb}
+use Rattle.std.proofs.lemmas.Bool.{and_parts, cases_lt}
 use Rattle.std.proofs.lemmas.Bool.Decides.{nat_tests}
 use Rattle.aoe_base.specs.declared.address.TargetId.{TargetId}
 use Rattle.aoe_initiator.specs.declared.op.Op.{Op}
@@ -22,7 +22,7 @@ use Rattle.aoe_world.specs.Schedule.{Comes}
 use Rattle.aoe_live.specs.declared.frames.Sender.{Sender}
 use Rattle.aoe_live.specs.declared.frames.Sender.TheVariants as sender
 use Rattle.aoe_live.specs.declared.tally.Tally.{Tally}
-use Rattle.aoe_live.specs.Lines.{asking, delivery, handing, receiver, ticks, LinesCome}
+use Rattle.aoe_live.specs.Lines.{asking, delivery, handing, ticks, LinesCome}
 use Rattle.aoe_live.specs.Frames.{newest}
 use Rattle.aoe_live.specs.Rounds.{IsTurn}
 use Rattle.aoe_live.specs.Stations.{command, device, host_a, stations}

@@ -1,5 +1,5 @@
 -- The turns of a run, one after another, and how many there can be.
-use Rattle.std.proofs.Common.{ℕ, ◌≡◌, ◌+◌, ◌-◌, ◌*◌, ◌^◌, ◌≤◌, ◌<◌, not, Bool, true, false, List, [], ◌∷◌, ◌++◌, length, length-append, map, Option, Some, None, refl, sym, ap, subst, ◌∙◌, arith, inl, inr, rules}
+use Rattle.std.proofs.Common.{ℕ, ◌≡◌, ◌+◌, ◌-◌, ◌*◌, ◌^◌, ◌≤◌, ◌<◌, not, Bool, true, false, List, [], ◌∷◌, ◌++◌, length, length-append, map, Option, Some, None, refl, sym, ap, subst, ◌∙◌, arith, inr, rules}
 use Rattle.std.specs.Prelude.{◌==◌, nat_lt, Err, IfSome}
 use Rattle.std.proofs.Math.Nat.{mul-le-mul_left}
 use Rattle.std.proofs.lemmas.Bool.{le-ltb}
@@ -18,10 +18,10 @@ use Rattle.aoe_live.specs.declared.tally.Tally.{Tally}
 use Rattle.aoe_live.specs.Frames.{frames_by}
 use Rattle.aoe_live.specs.Lines.{asking, handing, ticks, LinesCome}
 use Rattle.aoe_live.specs.Order.{InOrder}
-use Rattle.aoe_live.specs.Rounds.{first_now, last_now, or_now, quiet_by, quiet_turns, IsTurn, Round, Taken, TurnEnds, Wire}
+use Rattle.aoe_live.specs.Rounds.{last_now, or_now, quiet_by, quiet_turns, IsTurn, Round, Taken, TurnEnds, Wire}
 use Rattle.aoe_live.specs.Stations.{stations}
 use Rattle.aoe_live.specs.Tally.{is_over, tally_of}
-use Rattle.aoe_live.specs.Whole.{Came, Finished, Lives, Outside}
+use Rattle.aoe_live.specs.Whole.{Came, Finished, Lives, Outside, Unfinished}
 use Rattle.aoe_live.proofs.LineLemmas.{come-then}
 use Rattle.aoe_live.proofs.OrderLemmas.{all-done, all-submitted, order-none, turn-keeps}
 
@@ -75,6 +75,13 @@ begun sectors count turns h events old no_entries no_lines sound =
     }
 
 -- of the same stations and commands
+pub ends-as : (s s' c c' turns ms : ℕ) (r : LiveRefusal) (before : List Event) (h k : List Entry) (one one' two two' : Wire) → s ≡ s' → c ≡ c'
+    → TurnEnds s c turns ms r before h k one one' two two' → TurnEnds s' c' turns ms r before h k one one' two two'
+ends-as s s' c c' turns ms r before h k one one' two two' same same_count x =
+    let P : ℕ → Type 0 = λ n. TurnEnds n c turns ms r before h k one one' two two' in
+    let Q : ℕ → Type 0 = λ n. TurnEnds s' n turns ms r before h k one one' two two' in
+    subst Q same_count (subst P same x)
+
 pub taken-as : (sectors sectors' count count' ms : ℕ) (finishes : Bool) (h m : List Entry) (before events : List Event) (one one' two two' : Wire) → sectors ≡ sectors' → count ≡ count'
     → Taken sectors count ms finishes h m before events one one' two two' → Taken sectors' count' ms finishes h m before events one one' two two'
 taken-as sectors sectors' count count' ms finishes h m before events one one' two two' same same_count t =
@@ -120,10 +127,10 @@ module _ (sectors count turns quiet : ℕ) (last : Option ℕ) (h : List Entry) 
             record { lines = t.lines; turn = subst P (ms_is ∙ ap (λ k. now - k) (g.last_is now)) t.turn; events_are = t.lines_are; finishes = t.finishes_is },
           );
           sound = sound;
-          turned_one = turned-then old.one.turns mid.one.turns new.one.turns old.one.given mid.one.given new.one.given (map (λ (r : Round). r.one) g.rounds) (t.first ∷ []) g.came.turned_one t.turned_one;
-          turned_two = turned-then old.two.turns mid.two.turns new.two.turns old.two.given mid.two.given new.two.given (map (λ (r : Round). r.two) g.rounds) (t.second ∷ []) g.came.turned_two t.turned_two;
-          took_one = t.carries_one old.one.taken g.came.took_one;
-          took_two = t.carries_two old.two.taken g.came.took_two;
+          turned_one = turned-then old.one.turns mid.one.turns new.one.turns old.one.given mid.one.given new.one.given (map (λ (r : Round). r.one) g.rounds) (t.first ∷ []) g.came.turned_one t.over.turned_one;
+          turned_two = turned-then old.two.turns mid.two.turns new.two.turns old.two.given mid.two.given new.two.given (map (λ (r : Round). r.two) g.rounds) (t.second ∷ []) g.came.turned_two t.over.turned_two;
+          took_one = t.over.carries_one old.one.taken g.came.took_one;
+          took_two = t.over.carries_two old.two.taken g.came.took_two;
           told = told-then old.answers mid.answers new.answers (map (λ (r : Round). r.now) g.rounds) now g.came.told asked;
           time = λ n. omega (arith, kept.1, ms_is, g.came.time now, g.last_is now, not_before);
           order = kept.0;
@@ -150,25 +157,34 @@ module _ (sectors count turns quiet : ℕ) (last : Option ℕ) (h : List Entry) 
     }
 
   -- or it broke off in the next turn
-  pub is-refused : (ms : ℕ) → ms ≡ now - or_now last now → (r : LiveRefusal) (k : List Entry) → TurnEnds sectors turns ms r events h k mid.one.taken new.one.taken mid.two.taken new.two.taken
+  pub is-refused : (ms : ℕ) → ms ≡ now - or_now last now → or_now last now ≤ now → (r : LiveRefusal) (k : List Entry) → TurnEnds sectors count turns ms r events h k mid.one new.one mid.two new.two
       → Lives sectors count turns (Err r) old new
-  is-refused ms ms_is r k ends =
-      let P : ℕ → Type 0 = λ n. TurnEnds sectors turns n r events h k mid.one.taken new.one.taken mid.two.taken new.two.taken in
+  is-refused ms ms_is not_before r k ends =
+      let P : ℕ → Type 0 = λ n. TurnEnds sectors count turns n r events h k mid.one new.one mid.two new.two in
       at r (subst P (ms_is ∙ ap (λ l. now - l) (g.last_is now)) ends)
     where
-      at : (r : LiveRefusal) → TurnEnds sectors turns (now - last_now g.rounds now) r events h k mid.one.taken new.one.taken mid.two.taken new.two.taken → Lives sectors count turns (Err r) old new
-      at (live.Unanswered t) x = (x.0, inr (record { rounds = g.rounds; entries = h; events = events; mid = mid; came = g.came; now = now; told = asked; last = k; breaks = x.1 }))
-      at (live.Full frames bytes) x = record { rounds = g.rounds; entries = h; events = events; mid = mid; came = g.came; now = now; told = asked; last = k; breaks = x }
-      at live.TooMany x = record { rounds = g.rounds; entries = h; events = events; mid = mid; came = g.came; now = now; told = asked; last = k; breaks = x }
+      unfinished : {Breaks : List Round → ℕ → List Event → List Entry → List Entry → Outside → Type 0} → Breaks g.rounds now events h k mid → Unfinished sectors count turns Breaks old new
+      unfinished x = record {
+        rounds = g.rounds;
+        entries = h;
+        events = events;
+        mid = mid;
+        came = g.came;
+        goes_on = g.goes_on;
+        few_quiet = let P : ℕ → Type 0 = λ q. q < turns in subst P g.quiet_is below;
+        now = now;
+        later = let P : ℕ → Type 0 = λ n. n ≤ now in subst P (g.last_is now) not_before;
+        told = asked;
+        last = k;
+        breaks = x;
+      }
+
+      at : (r : LiveRefusal) → TurnEnds sectors count turns (now - last_now g.rounds now) r events h k mid.one new.one mid.two new.two → Lives sectors count turns (Err r) old new
+      at (live.Unanswered t) x = (x.0, inr (unfinished x.1))
+      at (live.Full frames bytes) x = unfinished x
+      at live.TooMany x = unfinished x
       at (live.LinkFault link) x = x
       at live.NoMemory x = tt
-
--- too many turns in a row finished no command
-pub is-idle : (sectors count turns quiet : ℕ) (last : Option ℕ) (h : List Entry) (events : List Event) (old now : Outside) → Going sectors count turns quiet last h events old now → turns ≤ quiet
-    → Lives sectors count turns (Err (live.Unanswered turns)) old now
-is-idle sectors count turns quiet last h events old now g over =
-    let P : ℕ → Type 0 = λ q. turns ≤ q in
-    (refl, inl (record { rounds = g.rounds; entries = h; events = events; came = g.came; quiet = subst P g.quiet_is over }))
 
 -- HOW MANY TURNS THERE CAN BE
 

@@ -1,111 +1,258 @@
 -- A turn from its four parts.
-use Rattle.std.proofs.Common.{ℕ, ◌≡◌, not, Bool, false, List, [], ◌∷◌, ◌++◌, Option, append_assoc, sym, ap, subst, ◌∙◌}
-use Rattle.std.specs.Prelude.{◌==◌}
+use Rattle.std.proofs.Common.{ℕ, ◌≡◌, ◌≤◌, not, Bool, true, false, List, [], ◌∷◌, ◌++◌, Option, None, Some, length, append_assoc, append-nil, refl, sym, ap, subst, ◌∙◌, arith, inl, inr, if◌then◌else◌}
+use Rattle.std.specs.Prelude.{◌==◌, ◌&&◌, nat_lt, Result, Err}
 use Rattle.aoe_history.specs.declared.entry.Entry.{Entry}
-use Rattle.aoe_io.specs.Link.{Turn, Turned}
+use Rattle.aoe_io.proofs.LinkLemmas.{turned-by, turned-nothing}
+use Rattle.aoe_io.specs.Link.{came, ended, quiet, turn_of, GaveTurns, Turn}
+use Rattle.aoe_io.specs.Memory.{counted}
+use Rattle.aoe_io.specs.declared.links.Got.{Got}
+use Rattle.aoe_io.specs.declared.links.Got.TheVariants as got
 use Rattle.aoe_script.specs.declared.event.Event.{Event}
+use Rattle.aoe_live.specs.declared.frames.Sender.{Sender}
 use Rattle.aoe_live.specs.declared.frames.Sender.TheVariants as sender
+use Rattle.aoe_live.specs.declared.recorder.Recorder.{Recorder}
 use Rattle.aoe_live.specs.declared.refusal.LiveRefusal.{LiveRefusal}
+use Rattle.aoe_live.specs.declared.refusal.LiveRefusal.TheVariants as live
 use Rattle.aoe_live.specs.declared.tally.Tally.{Tally}
-use Rattle.aoe_live.specs.Lines.{asking, ticks, Carries, LinesCome}
-use Rattle.aoe_live.specs.Rounds.{IsExchange, IsTurn, Stops, Taken, TurnEnds, Wire}
+use Rattle.aoe_live.specs.Frames.{newest}
+use Rattle.aoe_live.specs.Lines.{asking, delivery, handing, ticks, Carries, LinesCome}
+use Rattle.aoe_live.specs.Recorder.{is_limit}
+use Rattle.aoe_live.specs.Rounds.{InTurn, IsExchange, OverLinks, Stopped, Taken, TurnEnds, Wire}
+use Rattle.aoe_live.specs.Stations.{command}
+use Rattle.aoe_live.specs.Steps.{is_of_line, Among, Does, Exchanged, Exchanges, InExchange, Links, Recorded, Steps}
 use Rattle.aoe_live.specs.Tally.{tally_of}
-use Rattle.aoe_live.proofs.LineLemmas.{come-then}
-use Rattle.aoe_live.proofs.PassLemmas.{carries-then}
-use Rattle.aoe_live.proofs.StopLemmas.{ends-stopped, stops-behind}
+use Rattle.aoe_live.proofs.PassLemmas.{carries-none}
+use Rattle.aoe_live.proofs.StepLemmas.{alone, does-behind, fails-behind, recorded-asked, recorded-asks, recorded-then, Moves}
+
+-- THE LINES OF A PART
+
+-- what comes of a frame that a link brought, or of nothing
+pub handing-other : (s : Sender) (g : Got) (bytes : List ℕ) (h : List Entry) → (g ≡ got.Frame → ⊥) → handing s (turn_of g bytes) h ≡ []
+handing-other s got.Frame bytes h other = absurd (other refl)
+handing-other s got.Quiet bytes h other = refl
+handing-other s got.Ended bytes h other = refl
+
+pub handing-frame : (s : Sender) (g : Got) (bytes : List ℕ) (h : List Entry) (number : Option ℕ) → g ≡ got.Frame → number ≡ newest s 2000 h bytes → handing s (turn_of g bytes) h ≡ delivery s number
+handing-frame s g bytes h number is found = ap (λ x. handing s (turn_of x bytes) h) is ∙ ap (delivery s) (sym found)
+
+delivery-short : (s : Sender) (number : Option ℕ) → length (delivery s number) ≤ 1
+delivery-short s None = omega arith
+delivery-short s (Some number) = omega arith
+
+handing-short : (s : Sender) (turn : Turn) (h : List Entry) → length (handing s turn h) ≤ 1
+handing-short s (came bytes) h = delivery-short s (newest s 2000 h bytes)
+handing-short s quiet h = omega arith
+handing-short s ended h = omega arith
+
+one-short : (b : Bool) (e : Event) → length (if b then e ∷ [] else []) ≤ 1
+one-short true e = omega arith
+one-short false e = omega arith
+
+asking-short : (sectors count : ℕ) (t : Tally) → length (asking sectors count t) ≤ 1
+asking-short sectors count t = one-short ((t.ended == t.begun) && not (nat_lt count t.begun)) (command sectors count t.begun)
+
+-- THE TWO PARTS IN THE MIDDLE
 
 abbrev Told : Type 0
 Told = Option (List (List ℕ))
 
--- of the same stations, commands and outcomes
-pub asks-as : (s s' count count' : ℕ) (t t' : Tally) (h m : List Entry) → s ≡ s' → count ≡ count' → t ≡ t' → LinesCome s (asking s count t) h m → LinesCome s' (asking s' count' t') h m
-asks-as s s' count count' t t' h m same same_count same_tally x =
-    let P : ℕ → Type 0 = λ n. LinesCome n (asking n count t) h m in
-    let Q : ℕ → Type 0 = λ n. LinesCome s' (asking s' n t) h m in
-    let R : Tally → Type 0 = λ y. LinesCome s' (asking s' count' y) h m in
-    subst R same_tally (subst Q same_count (subst P same x))
-
-pub asking-as : (s s' count count' : ℕ) (t t' : Tally) (before after : List Event) → s ≡ s' → count ≡ count' → t ≡ t' → after ≡ before ++ asking s count t → after ≡ before ++ asking s' count' t'
-asking-as s s' count count' t t' before after same same_count same_tally x =
-    x ∙ ap (λ n. before ++ asking n count t) same ∙ ap (λ n. before ++ asking s' n t) same_count ∙ ap (λ y. before ++ asking s' count' y) same_tally
-
-pub exchange-as : (s s' : ℕ) (first second : Turn) (h m : List Entry) (lines : List Event) → s ≡ s' → IsExchange s first second h m lines → IsExchange s' first second h m lines
-exchange-as s s' first second h m lines same x = let P : ℕ → Type 0 = λ n. IsExchange n first second h m lines in subst P same x
-
--- a link that was asked between two parts in which it wasn't
-pub record Asked (one one' two two' : Wire) (turn : Turn) : Type 0 where
-  pub turns_before : one'.turns ≡ one.turns
-  pub given_before : one'.given ≡ one.given
-  pub turned : Turned one'.turns two.turns one'.given two.given (turn ∷ [])
-  pub turns_behind : two'.turns ≡ two.turns
-  pub given_behind : two'.given ≡ two.given
-
-asked-turned : (one one' two two' : Wire) (turn : Turn) → Asked one one' two two' turn → Turned one.turns two'.turns one.given two'.given (turn ∷ [])
-asked-turned one one' two two' turn a =
-    let P : ℕ → Type 0 = λ n. Turned n two.turns one'.given two.given (turn ∷ []) in
-    let Q : Option (List Turn) → Type 0 = λ g. Turned one.turns two.turns g two.given (turn ∷ []) in
-    let R : ℕ → Type 0 = λ n. Turned one.turns n one.given two.given (turn ∷ []) in
-    let S : Option (List Turn) → Type 0 = λ g. Turned one.turns two'.turns one.given g (turn ∷ []) in
-    subst S (sym a.given_behind) (subst R (sym a.turns_behind) (subst Q a.given_before (subst P a.turns_before a.turned)))
-
-module _ (sectors count ms : ℕ) (h p : List Entry) (e0 e1 : List Event) (time : LinesCome sectors (ticks ms) h p) (l1 : e1 ≡ e0 ++ ticks ms) (k0 k1 t0 t1 : Told)
-    (carries_one : Carries sender.Shelf h p k0 k1) (carries_two : Carries sender.Host h p t0 t1) where
-  -- what is left undone behind the first part
-  pub ends-behind-time : (turns : ℕ) (r : LiveRefusal) (k : List Entry) (k2 t2 : Told) → Stops sectors r e1 p k k1 k2 t1 t2 → TurnEnds sectors turns ms r e0 h k k0 k2 t0 t2
-  ends-behind-time turns r k k2 t2 s = ends-stopped sectors turns ms r e0 h k k0 k2 t0 t2 (stops-behind sectors e0 e1 (ticks ms) l1 h p k time k0 k1 k2 t0 t1 t2 carries_one carries_two r s)
-
-  module _ (a : List Entry) (first second : Turn) (lines e2 : List Event) (x : IsExchange sectors first second p a lines) (l2 : e2 ≡ e1 ++ lines) (k2 t2 : Told)
-      (carries_one' : Carries sender.Shelf p a k1 k2) (carries_two' : Carries sender.Host p a t1 t2) where
-    both : LinesCome sectors lines p a
-    both =
-        let P : List Event → Type 0 = λ es. LinesCome sectors es p a in
-        subst P (sym x.lines_are) (come-then sectors _ _ p x.asked a x.to_shelf x.to_host)
-
-    -- and behind the third
-    pub ends-behind-exchange : (turns : ℕ) (r : LiveRefusal) (k : List Entry) (k3 t3 : Told) → Stops sectors r e2 a k k2 k3 t2 t3 → TurnEnds sectors turns ms r e0 h k k0 k3 t0 t3
-    ends-behind-exchange turns r k k3 t3 s =
-        ends-behind-time turns r k k3 t3 (stops-behind sectors e1 e2 lines l2 p a k both k1 k2 k3 t1 t2 t3 carries_one' carries_two' r s)
-
-    -- all four parts
-    module _ (goes_on : (tally_of p).gave_up ≡ false) (m : List Entry) (e3 : List Event) (asks : LinesCome sectors (asking sectors count (tally_of a)) a m) (l3 : e3 ≡ e2 ++ asking sectors count (tally_of a))
-        (k3 t3 : Told) (carries_one'' : Carries sender.Shelf a m k2 k3) (carries_two'' : Carries sender.Host a m t2 t3) where
-      abbrev last : List Event
-      last = asking sectors count (tally_of a)
-
-      is-turn : IsTurn sectors count ms first second h m (ticks ms ++ (lines ++ last))
-      is-turn = record {
-        passed = p;
-        asked = x.asked;
-        answered = a;
-        time = time;
-        goes_on = goes_on;
-        to_shelf = x.to_shelf;
-        to_host = x.to_host;
-        asks = asks;
-        lines_are = ap (λ l. ticks ms ++ (l ++ last)) x.lines_are;
+-- a link that is asked, which takes nothing by it
+module _ (h : List Entry) (a b w : Wire) (t : Turn) (gave : GaveTurns b.turns a.given b.given (t ∷ [])) (later : a.turns ≤ b.turns) (turns : b.turns ≡ counted a.turns) (taken : b.taken ≡ a.taken) where
+  pub asked-one : OverLinks (t ∷ []) [] h h a b w w
+  asked-one =
+      let P : Told → Type 0 = λ x. Carries sender.Shelf h h a.taken x in
+      record {
+        turned_one = turned-by a.turns b.turns a.given b.given t gave later turns;
+        turned_two = turned-nothing w.turns w.given;
+        carries_one = subst P (sym taken) (carries-none sender.Shelf h a.taken);
+        carries_two = carries-none sender.Host h w.taken;
       }
 
-      lines-are : e3 ≡ e0 ++ (ticks ms ++ (lines ++ last))
-      lines-are = l3 ∙ ap (λ e. e ++ last) (l2 ∙ ap (λ e. e ++ lines) l1) ∙ append_assoc (e0 ++ ticks ms) lines last ∙ append_assoc e0 (ticks ms) (lines ++ last)
+  pub asked-two : OverLinks [] (t ∷ []) h h w w a b
+  asked-two =
+      let P : Told → Type 0 = λ x. Carries sender.Host h h a.taken x in
+      record {
+        turned_one = turned-nothing w.turns w.given;
+        turned_two = turned-by a.turns b.turns a.given b.given t gave later turns;
+        carries_one = carries-none sender.Shelf h w.taken;
+        carries_two = subst P (sym taken) (carries-none sender.Host h a.taken);
+      }
 
-      pub is-taken : (one one1 one2 one' two two1 two2 two' : Wire) → one.taken ≡ k0 → one'.taken ≡ k3 → two.taken ≡ t0 → two'.taken ≡ t3 → Asked one one1 one2 one' first → Asked two two1 two2 two' second
-          → (finishes : Bool) → finishes ≡ not ((tally_of m).ended == (tally_of h).ended) → Taken sectors count ms finishes h m e0 e3 one one' two two'
-      is-taken one one1 one2 one' two two1 two2 two' from_one to_one from_two to_two asked_one asked_two finishes finishes_is =
-          let all_one = carries-then sender.Shelf h a m k0 k2 k3 (carries-then sender.Shelf h p a k0 k1 k2 carries_one carries_one') carries_one'' in
-          let all_two = carries-then sender.Host h a m t0 t2 t3 (carries-then sender.Host h p a t0 t1 t2 carries_two carries_two') carries_two'' in
-          let P : Told → Type 0 = λ t. Carries sender.Shelf h m t k3 in
-          let Q : Told → Type 0 = λ t. Carries sender.Shelf h m one.taken t in
-          let R : Told → Type 0 = λ t. Carries sender.Host h m t t3 in
-          let S : Told → Type 0 = λ t. Carries sender.Host h m two.taken t in
-          record {
-            first = first;
-            second = second;
-            lines = ticks ms ++ (lines ++ last);
-            turn = is-turn;
-            lines_are = lines-are;
-            turned_one = asked-turned one one1 one2 one' first asked_one;
-            turned_two = asked-turned two two1 two2 two' second asked_two;
-            finishes_is = finishes_is;
-            carries_one = subst Q (sym to_one) (subst P (sym from_one) all_one);
-            carries_two = subst S (sym to_two) (subst R (sym from_two) all_two);
-          }
+-- the frame of the shelf's link found no room
+first-moves : (sectors : ℕ) (one : Turn) (h : List Entry) → Moves sectors (Among (handing sender.Host one h)) (InExchange sectors h) (one ∷ []) [] [] h
+first-moves sectors one h [] [] n lines next come s =
+    let x = alone sectors (handing sender.Host one h) (handing-short sender.Host one h) lines next h n come s in
+    (x.here, x.no_lines, ap (handing sender.Host one) x.here ∙ x.part_is)
+first-moves sectors one h [] (t ∷ second) n lines next come s = absurd s
+first-moves sectors one h (t ∷ first) [] n lines next come s = absurd s
+first-moves sectors one h (t ∷ first) (u ∷ second) n lines next come s = absurd s
+
+-- or that of the host's link
+second-moves : (sectors : ℕ) (one two : Turn) (h m : List Entry) → LinesCome sectors (handing sender.Host one h) h m
+    → Moves sectors (Among (handing sender.Shelf two m)) (InExchange sectors h) (one ∷ []) (two ∷ []) (handing sender.Host one h) m
+second-moves sectors one two h m before [] [] n lines next come s =
+    let x = alone sectors (handing sender.Shelf two m) (handing-short sender.Shelf two m) lines next m n come s in
+    let P : List Entry → Type 0 = λ l. LinesCome sectors (handing sender.Host one h) h l in (
+      subst P (sym x.here) before,
+      ap (λ l. handing sender.Host one h ++ l) x.no_lines ∙ append-nil (handing sender.Host one h),
+      ap (handing sender.Shelf two) x.here ∙ x.part_is,
+    )
+second-moves sectors one two h m before [] (t ∷ second) n lines next come s = absurd s
+second-moves sectors one two h m before (t ∷ first) [] n lines next come s = absurd s
+second-moves sectors one two h m before (t ∷ first) (u ∷ second) n lines next come s = absurd s
+
+module _ (p q : Recorder) (k k' l : Links) (first : Turn) (asked : OverLinks (first ∷ []) [] p.world.entries p.world.entries k.one k'.one k.two k'.two) where
+  pub exchange-fails-first : {T U : Type 0} (x : LiveRefusal) → Steps {T = T} (handing sender.Host first p.world.entries) (Err x) p q k' l → Exchanges {T = U} (Err x) p q k l
+  exchange-fails-first x d =
+      fails-behind (Among (handing sender.Host first p.world.entries)) (InExchange p.sectors p.world.entries) (first ∷ []) [] [] p p q k k' l refl refl (recorded-asked p k k' (first ∷ []) [] asked)
+      (first-moves p.sectors first p.world.entries) _ _ x d
+
+  module _ (one : Recorded [] [] (handing sender.Host first p.world.entries) p q k' l) (same : q.sectors ≡ p.sectors) (same_count : q.commands ≡ p.commands) (r : Recorder) (l' m : Links) (second : Turn)
+      (asked' : OverLinks [] (second ∷ []) q.world.entries q.world.entries l.one l'.one l.two l'.two) where
+    abbrev to_shelf : List Event
+    to_shelf = handing sender.Host first p.world.entries
+
+    abbrev to_host : List Event
+    to_host = handing sender.Shelf second q.world.entries
+
+    so-far : Recorded (first ∷ []) (second ∷ []) to_shelf p q k l'
+    so-far =
+        recorded-asks (first ∷ []) [] [] (second ∷ []) to_shelf p q k l l'
+        (recorded-then (first ∷ []) [] [] [] [] to_shelf p p q k k' l refl (recorded-asked p k k' (first ∷ []) [] asked) one) asked'
+
+    whole : Recorded [] [] to_host q r l' m → Exchanged p r k m
+    whole two =
+        let P : ℕ → Type 0 = λ n. LinesCome n to_host q.world.entries r.world.entries in
+        record {
+          first = first;
+          second = second;
+          lines = to_shelf ++ to_host;
+          exchange = record { asked = q.world.entries; to_shelf = one.come; to_host = subst P same two.come; lines_are = refl };
+          recorded = recorded-then (first ∷ []) (second ∷ []) [] [] to_shelf to_host p q r k l' m same so-far two;
+        }
+
+    pub exchange-does : {T : Type 0} (result : Result T LiveRefusal) → Steps to_host result q r l' m → Exchanges result p r k m
+    exchange-does result d =
+        does-behind (Among to_host) (InExchange p.sectors p.world.entries) (first ∷ []) (second ∷ []) to_shelf p q r k l' m same same_count so-far
+        (second-moves p.sectors first second p.world.entries q.world.entries one.come) _ _ result whole d
+
+-- A WHOLE TURN, OR A PART OF ONE
+
+-- how a turn ends by such a refusal
+ends-by : (sectors count turns ms : ℕ) (r : LiveRefusal) (before : List Event) (h k : List Entry) (a b a2 b2 : Wire) → is_of_line r ≡ true
+    → (is_limit r ≡ true → Stopped sectors (InTurn sectors count ms h) r before h k a b a2 b2) → TurnEnds sectors count turns ms r before h k a b a2 b2
+ends-by sectors count turns ms (live.Full frames bytes) before h k a b a2 b2 why stops = stops refl
+ends-by sectors count turns ms live.TooMany before h k a b a2 b2 why stops = stops refl
+ends-by sectors count turns ms (live.Unanswered t) before h k a b a2 b2 why stops = absurd cc
+ends-by sectors count turns ms (live.LinkFault link) before h k a b a2 b2 why stops = why
+ends-by sectors count turns ms live.NoMemory before h k a b a2 b2 why stops = tt
+
+module _ (sectors sectors' count ms : ℕ) (same : sectors' ≡ sectors) (h m : List Entry) (time : LinesCome sectors (ticks ms) h m) (goes_on : (tally_of m).gave_up ≡ false) where
+  exchange-moves : Moves sectors (InExchange sectors' m) (InTurn sectors count ms h) [] [] (ticks ms) m
+  exchange-moves (one ∷ []) [] n lines next come (here, none, hands) =
+      let P : List Entry → Type 0 = λ l. LinesCome sectors (ticks ms) h l in
+      record {
+        time = subst P (sym here) time;
+        goes_on = ap (λ l. (tally_of l).gave_up) here ∙ goes_on;
+        lines_are = ap (λ l. ticks ms ++ l) none ∙ append-nil (ticks ms);
+        hands = hands;
+      }
+  exchange-moves (one ∷ []) (two ∷ []) n lines next come (to_shelf, is, hands) =
+      let P : ℕ → Type 0 = λ s. LinesCome s (handing sender.Host one m) m n in
+      inl (record { passed = m; time = time; goes_on = goes_on; to_shelf = subst P same to_shelf; lines_are = ap (λ l. ticks ms ++ l) is; hands = hands })
+  exchange-moves [] [] n lines next come s = absurd s
+  exchange-moves [] (t ∷ second) n lines next come s = absurd s
+  exchange-moves (one ∷ []) (two ∷ t ∷ second) n lines next come s = absurd s
+  exchange-moves (one ∷ t ∷ first) [] n lines next come s = absurd s
+  exchange-moves (one ∷ t ∷ first) (two ∷ second) n lines next come s = absurd s
+
+  module _ (one two : Turn) (handed : List Event) (a : List Entry) (exchange : IsExchange sectors one two m a handed) (part : List Event) (part_is : part ≡ asking sectors count (tally_of a)) where
+    asking-moves : Moves sectors (Among part) (InTurn sectors count ms h) (one ∷ []) (two ∷ []) (ticks ms ++ handed) a
+    asking-moves [] [] n lines next come s =
+        let few : length part ≤ 1 = ask-few in
+        let x = alone sectors part few lines next a n come s in
+        let P : List Entry → Type 0 = λ l. IsExchange sectors one two m l handed in
+        inr (record {
+          passed = m;
+          handed = handed;
+          time = time;
+          goes_on = goes_on;
+          exchange = subst P (sym x.here) exchange;
+          lines_are = ap (λ l. (ticks ms ++ handed) ++ l) x.no_lines ∙ append-nil (ticks ms ++ handed);
+          asks = ap (λ l. asking sectors count (tally_of l)) x.here ∙ sym part_is ∙ x.part_is;
+        })
+      where
+        ask-few : length part ≤ 1
+        ask-few = let P : List Event → Type 0 = λ l. length l ≤ 1 in subst P (sym part_is) (asking-short sectors count (tally_of a))
+    asking-moves [] (t ∷ second) n lines next come s = absurd s
+    asking-moves (t ∷ first) [] n lines next come s = absurd s
+    asking-moves (t ∷ first) (u ∷ second) n lines next come s = absurd s
+
+-- of the same stations, commands and outcomes
+asking-as : (s s' count count' : ℕ) (t t' : Tally) → s ≡ s' → count ≡ count' → t ≡ t' → asking s count t ≡ asking s' count' t'
+asking-as s s' count count' t t' same same_count same_tally = ap (λ n. asking n count t) same ∙ ap (λ n. asking s' n t) same_count ∙ ap (asking s' count') same_tally
+
+module _ (turns ms : ℕ) (a b : Recorder) (k l : Links) where
+  abbrev Ends : LiveRefusal → Recorder → Links → Type 0
+  Ends x r m = TurnEnds a.sectors a.commands turns ms x a.script.events a.world.entries r.world.entries k.one m.one k.two m.two
+
+  module _ (time : Recorded [] [] (ticks ms) a b k l) (same : b.sectors ≡ a.sectors) (same_count : b.commands ≡ a.commands) (tally_is : b.tally ≡ tally_of b.world.entries) where
+    module _ (goes_on' : b.tally.gave_up ≡ false) (c : Recorder) (m : Links) where
+      goes_on : (tally_of b.world.entries).gave_up ≡ false
+      goes_on = ap (λ (t : Tally). t.gave_up) (sym tally_is) ∙ goes_on'
+
+      -- in the two in the middle
+      pub exchange-fails : {T : Type 0} (x : LiveRefusal) → Exchanges {T = T} (Err x) b c l m → Ends x c m
+      exchange-fails {T} x d =
+          let e : Does {T = T} (Unit {0}) (InTurn a.sectors a.commands ms a.world.entries) (Err x) a c k m =
+          fails-behind (InExchange b.sectors b.world.entries) (InTurn a.sectors a.commands ms a.world.entries) [] [] (ticks ms) a b c k l m same same_count time
+          (exchange-moves a.sectors b.sectors a.commands ms same a.world.entries b.world.entries time.come goes_on) _ _ x d in
+          ends-by a.sectors a.commands turns ms x a.script.events a.world.entries c.world.entries k.one m.one k.two m.two e.why e.stops
+
+      module _ (x : Exchanged b c l m) (same' : c.sectors ≡ b.sectors) (same_count' : c.commands ≡ b.commands) (tally_is' : c.tally ≡ tally_of c.world.entries) (d : Recorder) (n : Links) where
+        exchange : IsExchange a.sectors x.first x.second b.world.entries c.world.entries x.lines
+        exchange = let P : ℕ → Type 0 = λ s. IsExchange s x.first x.second b.world.entries c.world.entries x.lines in subst P same x.exchange
+
+        abbrev part : List Event
+        part = asking c.sectors c.commands c.tally
+
+        part-is : part ≡ asking a.sectors a.commands (tally_of c.world.entries)
+        part-is = asking-as c.sectors a.sectors c.commands a.commands c.tally (tally_of c.world.entries) (same' ∙ same) (same_count' ∙ same_count) tally_is'
+
+        behind-exchange : Recorded (x.first ∷ []) (x.second ∷ []) (ticks ms ++ x.lines) a c k m
+        behind-exchange = recorded-then [] [] (x.first ∷ []) (x.second ∷ []) (ticks ms) x.lines a b c k l m same time x.recorded
+
+        -- in the last one
+        pub ask-fails : {T : Type 0} (r : LiveRefusal) → Steps {T = T} part (Err r) c d m n → Ends r d n
+        ask-fails {T} r s =
+            let e : Does {T = T} (Unit {0}) (InTurn a.sectors a.commands ms a.world.entries) (Err r) a d k n =
+            fails-behind (Among part) (InTurn a.sectors a.commands ms a.world.entries) (x.first ∷ []) (x.second ∷ []) (ticks ms ++ x.lines) a c d k m n (same' ∙ same) (same_count' ∙ same_count) behind-exchange
+            (asking-moves a.sectors b.sectors a.commands ms same a.world.entries b.world.entries time.come goes_on x.first x.second x.lines c.world.entries exchange part part-is) _ _ r s in
+            ends-by a.sectors a.commands turns ms r a.script.events a.world.entries d.world.entries k.one n.one k.two n.two e.why e.stops
+
+        -- in none of them
+        pub is-taken : Recorded [] [] part c d m n → (finishes : Bool) → finishes ≡ not ((tally_of d.world.entries).ended == (tally_of a.world.entries).ended)
+            → Taken a.sectors a.commands ms finishes a.world.entries d.world.entries a.script.events d.script.events k.one n.one k.two n.two
+        is-taken asks finishes finishes_is =
+            let P : List Event → Type 0 = λ es. LinesCome a.sectors es c.world.entries d.world.entries in
+            let Q : ℕ → Type 0 = λ s. LinesCome s part c.world.entries d.world.entries in
+            let all = recorded-then (x.first ∷ []) (x.second ∷ []) [] [] (ticks ms ++ x.lines) part a c d k m n (same' ∙ same) behind-exchange asks in
+            record {
+              first = x.first;
+              second = x.second;
+              lines = (ticks ms ++ x.lines) ++ part;
+              turn = record {
+                passed = b.world.entries;
+                asked = exchange.asked;
+                answered = c.world.entries;
+                time = time.come;
+                goes_on = goes_on;
+                to_shelf = exchange.to_shelf;
+                to_host = exchange.to_host;
+                asks = subst P part-is (subst Q (same' ∙ same) asks.come);
+                lines_are = append_assoc (ticks ms) x.lines part ∙ ap (λ l. ticks ms ++ (l ++ part)) exchange.lines_are ∙ ap (λ l. ticks ms ++ ((handing sender.Host x.first b.world.entries ++ handing sender.Shelf x.second exchange.asked) ++ l)) part-is;
+              };
+              lines_are = all.lines_are;
+              finishes_is = finishes_is;
+              over = all.over;
+            }

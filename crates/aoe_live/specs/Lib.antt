@@ -5,4 +5,5 @@ pub mod Order
 pub mod Lines
 pub mod Recorder
 pub mod Rounds
+pub mod Steps
 pub mod Whole

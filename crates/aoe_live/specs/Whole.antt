@@ -1,5 +1,5 @@
 -- A whole run, by how it ended.
-use Rattle.std.specs.Prelude.{ℕ, ◌≡◌, ◌≤◌, ◌-◌, ◌⊎◌, true, List, [], ◌∷◌, map, Option, IfSome, Result, Ok, Err, ◌+◌, length}
+use Rattle.std.specs.Prelude.{ℕ, ◌≡◌, ◌≤◌, ◌<◌, ◌-◌, ◌⊎◌, true, false, List, [], ◌∷◌, map, Option, IfSome, Result, Ok, Err, ◌+◌, length}
 use Rattle.aoe_history.specs.declared.entry.Entry.{Entry}
 use Rattle.aoe_history.specs.Frames.{clock}
 use Rattle.aoe_io.specs.Link.{Added, Turned}
@@ -12,7 +12,7 @@ use Rattle.aoe_live.specs.declared.refusal.LiveRefusal.TheVariants as live
 use Rattle.aoe_live.specs.Frames.{frames_by}
 use Rattle.aoe_live.specs.Recorder.{is_link}
 use Rattle.aoe_live.specs.Order.{has_outcome, InOrder}
-use Rattle.aoe_live.specs.Rounds.{first_now, last_now, quiet_turns, AreRounds, GivesUp, Round, Stopped, Wire}
+use Rattle.aoe_live.specs.Rounds.{first_now, last_now, quiet_turns, AreRounds, GivesUp, InTurn, Round, Stopped, Wire}
 use Rattle.aoe_live.specs.Stations.{stations}
 use Rattle.aoe_live.specs.Tally.{submissions, is_over, tally_of}
 
@@ -54,14 +54,17 @@ pub record Idle (sectors count turns : ℕ) (old new : Outside) : Type 0 where
   pub came : Came sectors count turns rounds entries events old new
   pub quiet : turns ≤ quiet_turns rounds
 
--- turns came, and in the next one, at this answer of the clock, something else
+-- turns came, after which a run goes on, and in the next one, at this answer of the clock, something else
 pub record Unfinished (sectors count turns : ℕ) (Breaks : List Round → ℕ → List Event → List Entry → List Entry → Outside → Type 0) (old new : Outside) : Type 0 where
   pub rounds : List Round
   pub entries : List Entry
   pub events : List Event
   pub mid : Outside
   pub came : Came sectors count turns rounds entries events old mid
+  pub goes_on : is_over count (tally_of entries) ≡ false
+  pub few_quiet : quiet_turns rounds < turns
   pub now : ℕ
+  pub later : last_now rounds now ≤ now
   pub told : IfSome new.answers (λ all. Added mid.answers new.answers (now ∷ []))
   pub last : List Entry
   pub breaks : Breaks rounds now events entries last mid
@@ -77,10 +80,12 @@ Lives sectors count turns (Ok events) old new = Finished sectors count turns eve
 Lives sectors count turns (Err (live.Unanswered t)) old new =
     (t ≡ turns)
     × (Idle sectors count turns old new
-    ⊎ Unfinished sectors count turns (λ rounds now events h k mid. GivesUp sectors (now - last_now rounds now) h k mid.one.taken new.one.taken mid.two.taken new.two.taken) old new)
+    ⊎ Unfinished sectors count turns (λ rounds now events h k mid. GivesUp sectors (now - last_now rounds now) h k mid.one new.one mid.two new.two) old new)
 Lives sectors count turns (Err (live.Full frames bytes)) old new =
-    Unfinished sectors count turns (λ rounds now events h k mid. Stopped sectors (live.Full frames bytes) events h k mid.one.taken new.one.taken mid.two.taken new.two.taken) old new
+    Unfinished sectors count turns
+    (λ rounds now events h k mid. Stopped sectors (InTurn sectors count (now - last_now rounds now) h) (live.Full frames bytes) events h k mid.one new.one mid.two new.two) old new
 Lives sectors count turns (Err live.TooMany) old new =
-    Unfinished sectors count turns (λ rounds now events h k mid. Stopped sectors live.TooMany events h k mid.one.taken new.one.taken mid.two.taken new.two.taken) old new
+    Unfinished sectors count turns
+    (λ rounds now events h k mid. Stopped sectors (InTurn sectors count (now - last_now rounds now) h) live.TooMany events h k mid.one new.one mid.two new.two) old new
 Lives sectors count turns (Err (live.LinkFault link)) old new = is_link (live.LinkFault link) ≡ true
 Lives sectors count turns (Err live.NoMemory) old new = Unit {0}

@@ -1,5 +1,5 @@
 //! The frames of a history: who sent them, and which of them a link gives back.
-ghost use Rattle.std.specs.Prelude.{◌≡◌, option_map, IfSome};
+ghost use Rattle.std.specs.Prelude.{◌≡◌, option_map};
 ghost use Rattle.aoe_live.specs.Frames.{frame_by, matching, ms_of, newest, number_of};
 
 use aoe_history::{Entry, Fate, History};

@@ -2,7 +2,9 @@
 //!
 //! [`live`] lets a host write, read and flush a device over two links, until each of its commands
 //! has its outcome, and gives the script of what happened: when a command was submitted, when time
-//! went by, and which frame came to whom. A replay of that script has the same history.
+//! went by, and which frame came to whom. The history of the run follows the lines of that script and
+//! keeps the laws of histories, which is proved. That a replay of the script prints that history, and
+//! no other that follows its lines, isn't: a test shows it.
 //!
 //! ```text
 //!  host -- two ....... links ....... one -- shelf

@@ -1,13 +1,14 @@
 //! A world whose lines are recorded, and whose frames go out on links.
-ghost use Rattle.std.specs.Prelude.{ℕ, ◌≡◌, ◌≤◌, ◌-◌, ◌++◌, ◌∷◌, [], drop, length, option_map, true, Err, IfErr, None, OnErr, OnOk, Ok};
+ghost use Rattle.std.specs.Prelude.{ℕ, ◌≡◌, ◌≤◌, ◌+◌, ◌-◌, ◌++◌, ◌∷◌, [], drop, length, option_map, true, Err, IfErr, None, OnErr, OnOk, Ok};
 ghost use Rattle.std.specs.Option.{option_to_list};
 ghost use Rattle.aoe_base.specs.Faults.{Rose};
 ghost use Rattle.aoe_io.specs.Link.{Added};
 ghost use Rattle.aoe_script.specs.Rules.{event_why};
-ghost use Rattle.aoe_live.specs.Frames.{frame_by, frames_by};
+ghost use Rattle.aoe_live.specs.Frames.{frame_by};
 ghost use Rattle.aoe_live.specs.Lines.{is_recorded, Carries, LineComes};
-ghost use Rattle.aoe_live.specs.Recorder.{is_limit, is_link, refusal_of, Fails, Follows, IsKept};
+ghost use Rattle.aoe_live.specs.Recorder.{is_link, refusal_of, Fails, Follows, IsKept};
 ghost use Rattle.aoe_live.specs.Stations.{stations};
+ghost use Rattle.aoe_live.specs.Steps.{links, Blames, Steps};
 ghost use Rattle.aoe_live.specs.Tally.{tally_of};
 
 use crate::frames::{Sender, frame_by};
@@ -56,6 +57,7 @@ fn send_of<L: Link>(sender: Sender, entry: &Entry, link: &mut L) -> Result<(), F
     ensures count { L.faults link.old ≤ L.faults link.new }
     ensures cause { OnErr result (Rose (L.faults link.old) (L.faults link.new)) }
     ensures no_fault { OnOk result (L.faults link.new ≡ L.faults link.old) }
+    ensures one_fault { L.faults link.new ≤ L.faults link.old + 1 }
 {
     match frame_by(sender, entry) {
         Some(frame) => link.send(frame),
@@ -104,10 +106,8 @@ impl Recorder<'_> {
         ensures given_two { L.given two.new ≡ L.given two.old }
         ensures turns_one { L.turns one.new ≡ L.turns one.old }
         ensures turns_two { L.turns two.new ≡ L.turns two.old }
-        ensures count_one { L.faults one.old ≤ L.faults one.new }
-        ensures count_two { L.faults two.old ≤ L.faults two.new }
-        ensures cause_one { result ≡ Err (LiveRefusal.LinkFault 0) → Rose (L.faults one.old) (L.faults one.new) }
-        ensures cause_two { result ≡ Err (LiveRefusal.LinkFault 1) → Rose (L.faults two.old) (L.faults two.new) }
+        ensures faults_one { Blames result 0 (L.faults one.old) (L.faults one.new) }
+        ensures faults_two { Blames result 1 (L.faults two.old) (L.faults two.new) }
         ensures rest { self.new ≡ record self.old { told = self.new.told; tally = self.new.tally } }
     {
         'entries: for i in self.told..self.world.history().count() {
@@ -137,22 +137,9 @@ impl Recorder<'_> {
         requires good { event_why (stations self.old.sectors) event ≡ None }
         requires recorded { is_recorded event ≡ true }
         ensures kept { OnOk result (IsKept self.new) }
-        ensures comes { OnOk result (LineComes self.old.sectors event self.old.world.entries self.new.world.entries) }
-        ensures line { OnOk result (self.new.script.events ≡ self.old.script.events ++ event ∷ []) }
-        ensures one { OnOk result (Carries Sender.Shelf self.old.world.entries self.new.world.entries (L.taken one.old) (L.taken one.new)) }
-        ensures two { OnOk result (Carries Sender.Host self.old.world.entries self.new.world.entries (L.taken two.old) (L.taken two.new)) }
-        ensures fails { IfErr result (λ refusal. Fails self.old.sectors refusal self.old.script.events event self.old.world.entries self.new.world.entries) }
-        ensures held { IfErr result (λ refusal. is_limit refusal ≡ true → (L.taken one.new ≡ L.taken one.old) × (L.taken two.new ≡ L.taken two.old)) }
-        ensures given_one { L.given one.new ≡ L.given one.old }
-        ensures given_two { L.given two.new ≡ L.given two.old }
-        ensures turns_one { L.turns one.new ≡ L.turns one.old }
-        ensures turns_two { L.turns two.new ≡ L.turns two.old }
-        ensures count_one { L.faults one.old ≤ L.faults one.new }
-        ensures count_two { L.faults two.old ≤ L.faults two.new }
-        ensures cause_one { result ≡ Err (LiveRefusal.LinkFault 0) → Rose (L.faults one.old) (L.faults one.new) }
-        ensures cause_two { result ≡ Err (LiveRefusal.LinkFault 1) → Rose (L.faults two.old) (L.faults two.new) }
-        ensures sectors { self.new.sectors ≡ self.old.sectors }
-        ensures commands { self.new.commands ≡ self.old.commands }
+        ensures steps { Steps (event ∷ []) result self.old self.new (links L.turns L.given L.taken one.old two.old) (links L.turns L.given L.taken one.new two.new) }
+        ensures faults_one { Blames result 0 (L.faults one.old) (L.faults one.new) }
+        ensures faults_two { Blames result 1 (L.faults two.old) (L.faults two.new) }
     {
         match self.record(event) {
             Ok(()) => {}

@@ -1,12 +1,11 @@
 //! The turns of a run, and the four parts of each.
-ghost use Rattle.std.specs.Prelude.{ℕ, ◌≡◌, ◌≤◌, ◌<◌, ◌-◌, ◌^◌, ◌++◌, ◌∷◌, [], List, Err, IfErr, IfOk, IfSome, OnOk};
-ghost use Rattle.aoe_base.specs.Faults.{Rose};
-ghost use Rattle.aoe_io.specs.Link.{turn_of, Turn, Turned};
-ghost use Rattle.aoe_script.specs.declared.event.Event.{Event as Line};
-ghost use Rattle.aoe_live.specs.Lines.{asking, handing, ticks, Carries, LinesCome};
+ghost use Rattle.std.specs.Prelude.{◌≡◌, ◌≤◌, ◌<◌, ◌-◌, ◌^◌, IfErr, IfOk, IfSome, OnOk};
+ghost use Rattle.aoe_io.specs.Link.{turn_of};
+ghost use Rattle.aoe_live.specs.Lines.{asking, handing, ticks};
 ghost use Rattle.aoe_live.specs.Recorder.{IsFresh, IsKept};
-ghost use Rattle.aoe_live.specs.Rounds.{or_now, quiet_by, wire, IsExchange, Stops, Taken, TurnEnds};
+ghost use Rattle.aoe_live.specs.Rounds.{or_now, quiet_by, wire, Taken, TurnEnds};
 ghost use Rattle.aoe_live.specs.Stations.{stations};
+ghost use Rattle.aoe_live.specs.Steps.{links, Blames, Exchanges, Steps};
 ghost use Rattle.aoe_live.specs.Tally.{is_over};
 ghost use Rattle.aoe_live.specs.Whole.{outside, with_lines, Lives};
 
@@ -15,7 +14,6 @@ use crate::frames::{Sender, newest};
 use crate::recorder::Recorder;
 use crate::refusal::LiveRefusal;
 use crate::stations::named;
-use aoe_base::Failed;
 use aoe_frame::Frame;
 use aoe_io::{Clock, Got, Link};
 use aoe_script::Event;
@@ -47,21 +45,9 @@ impl Recorder<'_> {
     fn pass_time<L: Link>(&mut self, ms: u64, one: &mut L, two: &mut L) -> Result<(), LiveRefusal>
         requires kept { IsKept self.old }
         ensures kept { OnOk result (IsKept self.new) }
-        ensures come { OnOk result (LinesCome self.old.sectors (ticks ms) self.old.world.entries self.new.world.entries) }
-        ensures lines { OnOk result (self.new.script.events ≡ self.old.script.events ++ (ticks ms)) }
-        ensures one { OnOk result (Carries Sender.Shelf self.old.world.entries self.new.world.entries (L.taken one.old) (L.taken one.new)) }
-        ensures two { OnOk result (Carries Sender.Host self.old.world.entries self.new.world.entries (L.taken two.old) (L.taken two.new)) }
-        ensures stops { IfErr result (λ refusal. Stops self.old.sectors refusal self.old.script.events self.old.world.entries self.new.world.entries (L.taken one.old) (L.taken one.new) (L.taken two.old) (L.taken two.new)) }
-        ensures given_one { L.given one.new ≡ L.given one.old }
-        ensures given_two { L.given two.new ≡ L.given two.old }
-        ensures turns_one { L.turns one.new ≡ L.turns one.old }
-        ensures turns_two { L.turns two.new ≡ L.turns two.old }
-        ensures count_one { L.faults one.old ≤ L.faults one.new }
-        ensures count_two { L.faults two.old ≤ L.faults two.new }
-        ensures cause_one { result ≡ Err (LiveRefusal.LinkFault 0) → Rose (L.faults one.old) (L.faults one.new) }
-        ensures cause_two { result ≡ Err (LiveRefusal.LinkFault 1) → Rose (L.faults two.old) (L.faults two.new) }
-        ensures sectors { self.new.sectors ≡ self.old.sectors }
-        ensures commands { self.new.commands ≡ self.old.commands }
+        ensures steps { Steps (ticks ms) result self.old self.new (links L.turns L.given L.taken one.old two.old) (links L.turns L.given L.taken one.new two.new) }
+        ensures faults_one { Blames result 0 (L.faults one.old) (L.faults one.new) }
+        ensures faults_two { Blames result 1 (L.faults two.old) (L.faults two.new) }
     {
         'ticks: for _ in 0..ms / MOST {
             match self.line(Event::Tick { ms: MOST }, one, two) {
@@ -87,21 +73,9 @@ impl Recorder<'_> {
     ) -> Result<(), LiveRefusal>
         requires kept { IsKept self.old }
         ensures kept { OnOk result (IsKept self.new) }
-        ensures come { OnOk result (LinesCome self.old.sectors (handing sender (turn_of got frame.now) self.old.world.entries) self.old.world.entries self.new.world.entries) }
-        ensures lines { OnOk result (self.new.script.events ≡ self.old.script.events ++ (handing sender (turn_of got frame.now) self.old.world.entries)) }
-        ensures one { OnOk result (Carries Sender.Shelf self.old.world.entries self.new.world.entries (L.taken one.old) (L.taken one.new)) }
-        ensures two { OnOk result (Carries Sender.Host self.old.world.entries self.new.world.entries (L.taken two.old) (L.taken two.new)) }
-        ensures stops { IfErr result (λ refusal. Stops self.old.sectors refusal self.old.script.events self.old.world.entries self.new.world.entries (L.taken one.old) (L.taken one.new) (L.taken two.old) (L.taken two.new)) }
-        ensures given_one { L.given one.new ≡ L.given one.old }
-        ensures given_two { L.given two.new ≡ L.given two.old }
-        ensures turns_one { L.turns one.new ≡ L.turns one.old }
-        ensures turns_two { L.turns two.new ≡ L.turns two.old }
-        ensures count_one { L.faults one.old ≤ L.faults one.new }
-        ensures count_two { L.faults two.old ≤ L.faults two.new }
-        ensures cause_one { result ≡ Err (LiveRefusal.LinkFault 0) → Rose (L.faults one.old) (L.faults one.new) }
-        ensures cause_two { result ≡ Err (LiveRefusal.LinkFault 1) → Rose (L.faults two.old) (L.faults two.new) }
-        ensures sectors { self.new.sectors ≡ self.old.sectors }
-        ensures commands { self.new.commands ≡ self.old.commands }
+        ensures steps { Steps (handing sender (turn_of got frame.now) self.old.world.entries) result self.old self.new (links L.turns L.given L.taken one.old two.old) (links L.turns L.given L.taken one.new two.new) }
+        ensures faults_one { Blames result 0 (L.faults one.old) (L.faults one.new) }
+        ensures faults_two { Blames result 1 (L.faults two.old) (L.faults two.new) }
     {
         if got != Got::Frame {
             return Ok(());
@@ -120,21 +94,9 @@ impl Recorder<'_> {
     fn ask<L: Link>(&mut self, one: &mut L, two: &mut L) -> Result<(), LiveRefusal>
         requires kept { IsKept self.old }
         ensures kept { OnOk result (IsKept self.new) }
-        ensures come { OnOk result (LinesCome self.old.sectors (asking self.old.sectors self.old.commands self.old.tally) self.old.world.entries self.new.world.entries) }
-        ensures lines { OnOk result (self.new.script.events ≡ self.old.script.events ++ (asking self.old.sectors self.old.commands self.old.tally)) }
-        ensures one { OnOk result (Carries Sender.Shelf self.old.world.entries self.new.world.entries (L.taken one.old) (L.taken one.new)) }
-        ensures two { OnOk result (Carries Sender.Host self.old.world.entries self.new.world.entries (L.taken two.old) (L.taken two.new)) }
-        ensures stops { IfErr result (λ refusal. Stops self.old.sectors refusal self.old.script.events self.old.world.entries self.new.world.entries (L.taken one.old) (L.taken one.new) (L.taken two.old) (L.taken two.new)) }
-        ensures given_one { L.given one.new ≡ L.given one.old }
-        ensures given_two { L.given two.new ≡ L.given two.old }
-        ensures turns_one { L.turns one.new ≡ L.turns one.old }
-        ensures turns_two { L.turns two.new ≡ L.turns two.old }
-        ensures count_one { L.faults one.old ≤ L.faults one.new }
-        ensures count_two { L.faults two.old ≤ L.faults two.new }
-        ensures cause_one { result ≡ Err (LiveRefusal.LinkFault 0) → Rose (L.faults one.old) (L.faults one.new) }
-        ensures cause_two { result ≡ Err (LiveRefusal.LinkFault 1) → Rose (L.faults two.old) (L.faults two.new) }
-        ensures sectors { self.new.sectors ≡ self.old.sectors }
-        ensures commands { self.new.commands ≡ self.old.commands }
+        ensures steps { Steps (asking self.old.sectors self.old.commands self.old.tally) result self.old self.new (links L.turns L.given L.taken one.old two.old) (links L.turns L.given L.taken one.new two.new) }
+        ensures faults_one { Blames result 0 (L.faults one.old) (L.faults one.new) }
+        ensures faults_two { Blames result 1 (L.faults two.old) (L.faults two.new) }
     {
         let next = self.tally.begun;
         if self.tally.ended != next || next > u64::from(self.commands) {
@@ -152,19 +114,9 @@ impl Recorder<'_> {
     ) -> Result<(), LiveRefusal>
         requires kept { IsKept self.old }
         ensures kept { OnOk result (IsKept self.new) }
-        ensures exchanges { OnOk result ((first : Turn) × (second : Turn) × (lines : List Line) × IsExchange self.old.sectors first second self.old.world.entries self.new.world.entries lines
-            × (self.new.script.events ≡ self.old.script.events ++ lines)
-            × Turned (L.turns one.old) (L.turns one.new) (L.given one.old) (L.given one.new) (first ∷ [])
-            × Turned (L.turns two.old) (L.turns two.new) (L.given two.old) (L.given two.new) (second ∷ [])) }
-        ensures one { OnOk result (Carries Sender.Shelf self.old.world.entries self.new.world.entries (L.taken one.old) (L.taken one.new)) }
-        ensures two { OnOk result (Carries Sender.Host self.old.world.entries self.new.world.entries (L.taken two.old) (L.taken two.new)) }
-        ensures stops { IfErr result (λ refusal. Stops self.old.sectors refusal self.old.script.events self.old.world.entries self.new.world.entries (L.taken one.old) (L.taken one.new) (L.taken two.old) (L.taken two.new)) }
-        ensures count_one { L.faults one.old ≤ L.faults one.new }
-        ensures count_two { L.faults two.old ≤ L.faults two.new }
-        ensures cause_one { result ≡ Err (LiveRefusal.LinkFault 0) → Rose (L.faults one.old) (L.faults one.new) }
-        ensures cause_two { result ≡ Err (LiveRefusal.LinkFault 1) → Rose (L.faults two.old) (L.faults two.new) }
-        ensures sectors { self.new.sectors ≡ self.old.sectors }
-        ensures commands { self.new.commands ≡ self.old.commands }
+        ensures exchanges { Exchanges result self.old self.new (links L.turns L.given L.taken one.old two.old) (links L.turns L.given L.taken one.new two.new) }
+        ensures faults_one { Blames result 0 (L.faults one.old) (L.faults one.new) }
+        ensures faults_two { Blames result 1 (L.faults two.old) (L.faults two.new) }
     {
         let Ok(got) = one.recv(frame) else {
             return Err(LiveRefusal::LinkFault { link: 0 });
@@ -193,11 +145,11 @@ impl Recorder<'_> {
         ensures taken { IfOk result (λ finishes. Taken self.old.sectors self.old.commands ms finishes self.old.world.entries self.new.world.entries self.old.script.events self.new.script.events
             (wire (L.turns one.old) (L.given one.old) (L.taken one.old)) (wire (L.turns one.new) (L.given one.new) (L.taken one.new))
             (wire (L.turns two.old) (L.given two.old) (L.taken two.old)) (wire (L.turns two.new) (L.given two.new) (L.taken two.new))) }
-        ensures ends { IfErr result (λ refusal. TurnEnds self.old.sectors turns ms refusal self.old.script.events self.old.world.entries self.new.world.entries (L.taken one.old) (L.taken one.new) (L.taken two.old) (L.taken two.new)) }
-        ensures count_one { L.faults one.old ≤ L.faults one.new }
-        ensures count_two { L.faults two.old ≤ L.faults two.new }
-        ensures cause_one { result ≡ Err (LiveRefusal.LinkFault 0) → Rose (L.faults one.old) (L.faults one.new) }
-        ensures cause_two { result ≡ Err (LiveRefusal.LinkFault 1) → Rose (L.faults two.old) (L.faults two.new) }
+        ensures ends { IfErr result (λ refusal. TurnEnds self.old.sectors self.old.commands turns ms refusal self.old.script.events self.old.world.entries self.new.world.entries
+            (wire (L.turns one.old) (L.given one.old) (L.taken one.old)) (wire (L.turns one.new) (L.given one.new) (L.taken one.new))
+            (wire (L.turns two.old) (L.given two.old) (L.taken two.old)) (wire (L.turns two.new) (L.given two.new) (L.taken two.new))) }
+        ensures faults_one { Blames result 0 (L.faults one.old) (L.faults one.new) }
+        ensures faults_two { Blames result 1 (L.faults two.old) (L.faults two.new) }
         ensures sectors { self.new.sectors ≡ self.old.sectors }
         ensures commands { self.new.commands ≡ self.old.commands }
     {
@@ -242,10 +194,8 @@ impl Recorder<'_> {
             (outside (wire (L.turns one.old) (L.given one.old) (L.taken one.old)) (wire (L.turns two.old) (L.given two.old) (L.taken two.old)) (C.answers clock.old))
             (outside (wire (L.turns one.new) (L.given one.new) (L.taken one.new)) (wire (L.turns two.new) (L.given two.new) (L.taken two.new)) (C.answers clock.new)) }
         ensures setups { OnOk result (self.new.script.setups ≡ stations self.old.sectors) }
-        ensures count_one { L.faults one.old ≤ L.faults one.new }
-        ensures count_two { L.faults two.old ≤ L.faults two.new }
-        ensures cause_one { result ≡ Err (LiveRefusal.LinkFault 0) → Rose (L.faults one.old) (L.faults one.new) }
-        ensures cause_two { result ≡ Err (LiveRefusal.LinkFault 1) → Rose (L.faults two.old) (L.faults two.new) }
+        ensures faults_one { Blames result 0 (L.faults one.old) (L.faults one.new) }
+        ensures faults_two { Blames result 1 (L.faults two.old) (L.faults two.new) }
     {
         let mut frame = Frame::new();
         let mut last = None;

@@ -1,5 +1,5 @@
 //! A whole run.
-ghost use Rattle.std.specs.Prelude.{◌≡◌, ◌≤◌, [], Err, IfErr, IfOk, List, Ok};
+ghost use Rattle.std.specs.Prelude.{◌≡◌, ◌≢◌, ◌≤◌, ◌+◌, [], Err, IfErr, IfOk, List, Ok};
 ghost use Rattle.aoe_base.specs.Faults.{Rose};
 ghost use Rattle.aoe_script.specs.declared.event.Event.{Event};
 ghost use Rattle.aoe_script.specs.Lines.{script_of};
@@ -69,6 +69,10 @@ pub fn live<L: Link, C: Clock>(
     ensures count_two { L.faults two.old ≤ L.faults two.new }
     ensures cause_one { result ≡ Err (LiveRefusal.LinkFault 0) → Rose (L.faults one.old) (L.faults one.new) }
     ensures cause_two { result ≡ Err (LiveRefusal.LinkFault 1) → Rose (L.faults two.old) (L.faults two.new) }
+    ensures no_fault_one { result ≢ Err (LiveRefusal.LinkFault 0) → L.faults one.new ≡ L.faults one.old }
+    ensures no_fault_two { result ≢ Err (LiveRefusal.LinkFault 1) → L.faults two.new ≡ L.faults two.old }
+    ensures one_fault_one { L.faults one.new ≤ L.faults one.old + 1 }
+    ensures one_fault_two { L.faults two.new ≤ L.faults two.old + 1 }
 {
     let Ok(setup) = stations(alloc, sectors) else {
         return Err(LiveRefusal::NoMemory);

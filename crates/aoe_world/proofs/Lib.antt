@@ -1,11 +1,11 @@
 mod ActLemmas
-mod AddsLemmas
+pub mod AddsLemmas
 mod BuildHost
 mod BuildLists
 mod BuildShelf
 mod BuildStations
 mod EventLemmas
-mod GroupLemmas
+pub mod GroupLemmas
 mod GroupSome
 mod HostActLemmas
 mod PassLemmas

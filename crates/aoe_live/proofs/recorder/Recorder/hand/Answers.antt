@@ -1,12 +1,17 @@
-use Rattle.std.proofs.Common.{◌∙◌, ◌∷◌, [], ap, arith, sym}
+use Rattle.std.proofs.Common.{rules, ◌≡◌, ◌∙◌, ◌∷◌, [], Some, ap, arith, sym}
 use Rattle.aoe_script.specs.declared.event.Event.TheVariants.{Deliver}
 use Rattle.aoe_script.specs.Rules.{event_why}
 use Rattle.aoe_sim_setup.specs.Layout.{setup_of}
+use Rattle.aoe_io.specs.Link.{turn_of}
+use Rattle.aoe_io.specs.declared.links.Got.TheVariants as got
 use Rattle.aoe_live.specs.Frames.{newest}
+use Rattle.aoe_live.specs.Lines.{handing, receiver}
 use Rattle.aoe_live.specs.Stations.{stations}
+use Rattle.aoe_live.specs.Steps.{links}
 use Rattle.aoe_live.proofs.GoodLemmas.{host-good, shelf-good}
 use Rattle.aoe_live.proofs.NumberLemmas.{newest-one}
-use Rattle.aoe_live.proofs.StopLemmas.{stops-line}
+use Rattle.aoe_live.proofs.StepLemmas.{steps-as}
+use Rattle.aoe_live.proofs.TurnLemmas.{handing-frame}
 use Rattle.aoe_live.proofs.recorder.Recorder.hand.Goals.{in-Host, in-Shelf}
 use Rattle.aoe_live.proofs.recorder.Recorder.hand.Goals as goal
 
@@ -27,6 +32,18 @@ line-requires-clause-good g c =
           ∙ host-good sectors c.in-Some.frame one.0 (omega (arith, one.1, most))
     ]
 
-pub returns-clause-stops : goal.returns-clause-stops
-returns-clause-stops g c =
-    stops-line c.line.result c.args.self.now.sectors c.args.self.now.script.events (Deliver c.in-Some.frame c.named-station.result) c.args.self.now.world.entries _ _ _ _ _ c.line.ensures.fails c.line.ensures.held
+pub returns-clause-steps : goal.returns-clause-steps
+returns-clause-steps g c =
+    let s = c.args.sender in
+    let h = c.args.self.now.world.entries in
+    let found = sym c.in-Some.is ∙ c.newest.ensures ∙ ap (λ l. newest s 2000 l c.args.frame.now) c.history.ensures.history in
+    let is_frame : c.args.got ≡ got.Frame = search rules in
+    let part = handing-frame s c.args.got c.args.frame.now h (Some c.in-Some.frame) is_frame found in
+    let station : c.named-station.result ≡ receiver s =
+    elim c.match-sender.branch [
+      | in-Host w ↦ c.named-station.ensures ∙ ap (λ letter. record { items = letter ∷ [] }) w.named-is ∙ sym (ap receiver w.in-Host.is)
+      | in-Shelf w ↦ c.named-station.ensures ∙ ap (λ letter. record { items = letter ∷ [] }) w.named-is ∙ sym (ap receiver w.in-Shelf.is)
+    ] in
+    steps-as c.line.result (Deliver c.in-Some.frame c.named-station.result ∷ []) (handing s (turn_of c.args.got c.args.frame.now) h) c.args.self.now c.line.new.self
+    (links g.L.Link.turns g.L.Link.given g.L.Link.taken c.args.one.now c.args.two.now) (links g.L.Link.turns g.L.Link.given g.L.Link.taken c.line.new.one c.line.new.two)
+    (ap (λ x. Deliver c.in-Some.frame x ∷ []) station ∙ sym part) c.line.ensures.steps

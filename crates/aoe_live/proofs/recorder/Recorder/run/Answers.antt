@@ -2,8 +2,7 @@ use Rattle.std.proofs.Common.{◌∙◌, refl, arith}
 use Rattle.aoe_live.specs.Rounds.{wire}
 use Rattle.aoe_live.specs.Tally.{tally_of}
 use Rattle.aoe_live.specs.Whole.{outside}
-use Rattle.aoe_live.proofs.RoundLemmas.{begun, goes-on, is-finished, is-refused, not-before, over-as, quiet-within, sound-as, taken-as, turn-smaller}
-use Rattle.aoe_live.proofs.StopLemmas.{ends-as}
+use Rattle.aoe_live.proofs.RoundLemmas.{begun, ends-as, goes-on, is-finished, is-refused, not-before, over-as, quiet-within, sound-as, taken-as, turn-smaller}
 use Rattle.aoe_live.proofs.recorder.Recorder.run.Goals as goal
 
 pub turns-init : goal.turns-init
@@ -18,8 +17,8 @@ turns-init g c =
       later = tt;
       sectors = refl;
       commands = refl;
-      count_one = omega arith;
-      count_two = omega arith;
+      faults_one = refl;
+      faults_two = refl;
     }
 
 pub returns-in-Err-clause-lives : goal.returns-in-Err-clause-lives
@@ -28,9 +27,9 @@ returns-in-Err-clause-lives g c =
     is-refused c.args.self.now.sectors c.args.self.now.commands c.args.turns c.turns.quiet c.turns.last c.turns.self.world.entries c.turns.self.script.events
     (outside (wire (g.L.Link.turns c.args.one.now) (g.L.Link.given c.args.one.now) (g.L.Link.taken c.args.one.now)) (wire (g.L.Link.turns c.args.two.now) (g.L.Link.given c.args.two.now) (g.L.Link.taken c.args.two.now)) (g.C.Clock.answers c.args.clock.now)) (outside (wire (g.L.Link.turns c.turns.one) (g.L.Link.given c.turns.one) (g.L.Link.taken c.turns.one)) (wire (g.L.Link.turns c.turns.two) (g.L.Link.given c.turns.two) (g.L.Link.taken c.turns.two)) (g.C.Clock.answers c.turns.clock)) (outside (wire (g.L.Link.turns c.turn.new.one) (g.L.Link.given c.turn.new.one) (g.L.Link.taken c.turn.new.one)) (wire (g.L.Link.turns c.turn.new.two) (g.L.Link.given c.turn.new.two) (g.L.Link.taken c.turn.new.two)) (g.C.Clock.answers c.now-now.new.self))
     i.going (omega (arith, c.turns-test.true)) c.now-now.result c.now-now.ensures.told
-    c.since-ms.result c.since-ms.ensures c.in-Err.refusal c.turn.new.self.world.entries
-    (ends-as c.turns.self.sectors c.args.self.now.sectors c.args.turns c.since-ms.result c.in-Err.refusal c.turns.self.script.events c.turns.self.world.entries c.turn.new.self.world.entries
-    (g.L.Link.taken c.turns.one) (g.L.Link.taken c.turn.new.one) (g.L.Link.taken c.turns.two) (g.L.Link.taken c.turn.new.two) i.sectors c.in-Err.ensures.ends)
+    c.since-ms.result c.since-ms.ensures (not-before c.turns.last (g.C.Clock.least c.turns.clock) c.now-now.result i.later c.now-now.ensures.least) c.in-Err.refusal c.turn.new.self.world.entries
+    (ends-as c.turns.self.sectors c.args.self.now.sectors c.turns.self.commands c.args.self.now.commands c.args.turns c.since-ms.result c.in-Err.refusal c.turns.self.script.events c.turns.self.world.entries c.turn.new.self.world.entries
+    (wire (g.L.Link.turns c.turns.one) (g.L.Link.given c.turns.one) (g.L.Link.taken c.turns.one)) (wire (g.L.Link.turns c.turn.new.one) (g.L.Link.given c.turn.new.one) (g.L.Link.taken c.turn.new.one)) (wire (g.L.Link.turns c.turns.two) (g.L.Link.given c.turns.two) (g.L.Link.taken c.turns.two)) (wire (g.L.Link.turns c.turn.new.two) (g.L.Link.given c.turn.new.two) (g.L.Link.taken c.turn.new.two)) i.sectors i.commands c.in-Err.ensures.ends)
 
 pub returns-then-is_over-clause-lives : goal.returns-then-is_over-clause-lives
 returns-then-is_over-clause-lives g c =
@@ -72,6 +71,6 @@ turns-preserved g c =
       later = c.now-now.ensures.later;
       sectors = c.in-Ok.ensures.sectors ∙ i.sectors;
       commands = c.in-Ok.ensures.commands ∙ i.commands;
-      count_one = omega (arith, c.in-Ok.ensures.count_one, i.count_one);
-      count_two = omega (arith, c.in-Ok.ensures.count_two, i.count_two);
+      faults_one = c.in-Ok.ensures.faults_one.no_fault (λ e. absurd cc) ∙ i.faults_one;
+      faults_two = c.in-Ok.ensures.faults_two.no_fault (λ e. absurd cc) ∙ i.faults_two;
     }

@@ -16,8 +16,8 @@ invariant-turns g l = record {
   later : IfSome l.last (λ last. last ≤ g.C.Clock.least l.clock);
   sectors : l.self.sectors ≡ l.fn.self.sectors;
   commands : l.self.commands ≡ l.fn.self.commands;
-  count_one : g.L.Link.faults l.fn.one ≤ g.L.Link.faults l.one;
-  count_two : g.L.Link.faults l.fn.two ≤ g.L.Link.faults l.two;
+  faults_one : g.L.Link.faults l.one ≡ g.L.Link.faults l.fn.one;
+  faults_two : g.L.Link.faults l.two ≡ g.L.Link.faults l.fn.two;
 }
 
 abbrev pub decreases-turns : goal.decreases-turns
