@@ -1,5 +1,5 @@
 -- What a run over two links is, and how it ends.
-use Rattle.std.specs.Prelude.{ℕ, ◌≡◌, Bool, true, false, List, [], ◌∷◌, Option, Result, Ok, Err, IfOk, nat_le, if◌then◌else◌}
+use Rattle.std.specs.Prelude.{ℕ, ◌≡◌, ◌≢◌, ◌≤◌, ◌+◌, Bool, true, false, List, [], ◌∷◌, Option, Result, Ok, Err, IfOk, nat_le, if◌then◌else◌}
 use Rattle.aoe_base.specs.Faults.{Rose}
 use Rattle.aoe_io.specs.Bytes.{Took, TookSome}
 use Rattle.aoe_io.specs.Link.{Turn}
@@ -71,7 +71,11 @@ abbrev pub AtBoth : {L : Type 0} → (L → L → L → L → Type 0) → List L
 AtBoth R (one ∷ two ∷ []) (one' ∷ two' ∷ []) = R one one' two two'
 AtBoth R links links' = ⊥
 
--- the link that is told to have failed did, by the counts of both
+-- each of the two links failed at most once, by its count, and just where the status says so
 pub record AreBlamed (s : Status) (one one' two two' : ℕ) : Type 0 where
   pub first : s ≡ status.LinkFault 0 → Rose one one'
   pub second : s ≡ status.LinkFault 1 → Rose two two'
+  pub first_no_fault : s ≢ status.LinkFault 0 → one' ≡ one
+  pub second_no_fault : s ≢ status.LinkFault 1 → two' ≡ two
+  pub first_one_fault : one' ≤ one + 1
+  pub second_one_fault : two' ≤ two + 1
