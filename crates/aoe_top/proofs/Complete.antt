@@ -1,7 +1,7 @@
 -- A stream of frames is answered to its end, and a link is served.
 use Rattle.std.proofs.Common.{◌≡◌, ◌≢◌, ◌≤◌, ◌<◌, ℕ, List, [], ◌∷◌, ◌++◌, length, length-append, drop, Option, Some, None, refl, sym, ap, subst, ◌∙◌, append-nil, append_assoc, arith, add-one}
 use Rattle.std.proofs.lemmas.Grind.{flat_map-append}
-use Rattle.std.specs.Prelude.{All, IfSome}
+use Rattle.std.specs.Prelude.{All, IfSome, ◌↔◌}
 use Rattle.std.proofs.lemmas.List.{length-drop, drop-drop, get_or_append_left, get_or_at}
 use Rattle.std.proofs.lemmas.List.Elements.{All-drop}
 use Rattle.aoe_base.specs.Faults.{Rose}
@@ -16,7 +16,6 @@ use Rattle.aoe_serve.specs.declared.over_stream.AnswerEnd.{AnswerEnd}
 use Rattle.aoe_serve.specs.declared.over_stream.AnswerEnd.TheVariants as answer
 use Rattle.aoe_serve.specs.declared.over_link.ServeEnd.TheVariants as serve
 use Rattle.aoe_serve.specs.Exporting.{AtFirst, HasRun, Outside, Tells}
-use Rattle.aoe_serve.specs.declared.plan.Exported.{Exported}
 use Rattle.aoe_serve.specs.declared.plan.Plan.TheVariants as plan
 use Rattle.aoe_serve.specs.declared.plan.RunEnd.{RunEnd}
 use Rattle.aoe_serve.specs.declared.plan.RunEnd.TheVariants as end
@@ -24,7 +23,7 @@ use Rattle.aoe_words.specs.declared.command.Answer.{Answer as Answers}
 use Rattle.aoe_words.specs.declared.command.Serve.{Serve as Serves}
 use Rattle.aoe_words.specs.declared.command.Command.TheVariants.{Answer, Serve}
 use Rattle.aoe_world.specs.Replay.{IsFaultless}
-use Rattle.aoe_top.specs.Ending.{after_syncs, ended_by, status_of}
+use Rattle.aoe_top.specs.Ending.{after_syncs, ended_by}
 use Rattle.aoe_top.specs.Run.{OnSlot, Ran}
 use Rattle.aoe_top.specs.declared.status.Status.{Status}
 use Rattle.aoe_top.specs.declared.status.Status.TheVariants as status
@@ -139,12 +138,13 @@ link-fine faults [] links' fine rose some = omega (arith, some)
 link-fine faults (l ∷ links) [] fine rose some = fine
 link-fine faults (l ∷ links) (l' ∷ links') fine rose some = no-fault (faults l) (faults l') fine.0 rose.0
 
--- a fault that ends the frames is told, whatever the last syncs did
-pub source-told : (e : Exported) → e.end ≡ end.Answered answer.SourceFault → status_of e ≡ status.SourceFault
-source-told e is = ap (λ (x : RunEnd). after_syncs (ended_by x) e.unsynced) is
+-- a fault is told just where it ended the frames, whatever the last syncs did
+module _ {s : Status} (x : RunEnd) (unsynced : Option ℕ) (is : s ≡ after_syncs (ended_by x) unsynced) where
+  pub source-told : (s ≡ status.SourceFault) ↔ (x ≡ end.Answered answer.SourceFault)
+  source-told = (λ told. grind (arith, is, told), λ ended. is ∙ ap (λ (y : RunEnd). after_syncs (ended_by y) unsynced) ended)
 
-pub sink-told : (e : Exported) → e.end ≡ end.Answered answer.SinkFault → status_of e ≡ status.SinkFault
-sink-told e is = ap (λ (x : RunEnd). after_syncs (ended_by x) e.unsynced) is
+  pub sink-told : (s ≡ status.SinkFault) ↔ (x ≡ end.Answered answer.SinkFault)
+  sink-told = (λ told. grind (arith, is, told), λ ended. is ∙ ap (λ (y : RunEnd). after_syncs (ended_by y) unsynced) ended)
 
-pub link-told : (e : Exported) → e.end ≡ end.Served serve.LinkFault → status_of e ≡ status.LinkFault 0
-link-told e is = ap (λ (x : RunEnd). after_syncs (ended_by x) e.unsynced) is
+  pub link-told : (s ≡ status.LinkFault 0) ↔ (x ≡ end.Served serve.LinkFault)
+  link-told = (λ told. grind (arith, is, told), λ ended. is ∙ ap (λ (y : RunEnd). after_syncs (ended_by y) unsynced) ended)

@@ -1,3 +1,4 @@
+mod Blame
 mod Complete
 mod Exits
 mod OnSlots

@@ -1,6 +1,5 @@
 -- What a run over two links is, and how it ends.
-use Rattle.std.specs.Prelude.{ℕ, ◌≡◌, ◌≢◌, ◌≤◌, ◌+◌, Bool, true, false, List, [], ◌∷◌, Option, Result, Ok, Err, IfOk, nat_le, if◌then◌else◌}
-use Rattle.aoe_base.specs.Faults.{Rose}
+use Rattle.std.specs.Prelude.{ℕ, ◌≡◌, Bool, true, false, List, [], ◌∷◌, Option, Result, Ok, Err, IfOk, nat_le, if◌then◌else◌}
 use Rattle.aoe_io.specs.Bytes.{Took, TookSome}
 use Rattle.aoe_io.specs.Link.{Turn}
 use Rattle.aoe_live.specs.Stations.{stations}
@@ -12,6 +11,7 @@ use Rattle.aoe_script.specs.Lines.{script_of}
 use Rattle.aoe_script.specs.Print.{script_text}
 use Rattle.aoe_script.specs.declared.event.Event.{Event}
 use Rattle.aoe_words.specs.declared.command.Live.{Live}
+use Rattle.aoe_top.specs.Blame.{Blamed}
 use Rattle.aoe_top.specs.declared.status.Status.{Status}
 use Rattle.aoe_top.specs.declared.status.Status.TheVariants as status
 use Rattle.aoe_top.specs.declared.status.What.{What}
@@ -73,9 +73,5 @@ AtBoth R links links' = ⊥
 
 -- each of the two links failed at most once, by its count, and just where the status says so
 pub record AreBlamed (s : Status) (one one' two two' : ℕ) : Type 0 where
-  pub first : s ≡ status.LinkFault 0 → Rose one one'
-  pub second : s ≡ status.LinkFault 1 → Rose two two'
-  pub first_no_fault : s ≢ status.LinkFault 0 → one' ≡ one
-  pub second_no_fault : s ≢ status.LinkFault 1 → two' ≡ two
-  pub first_one_fault : one' ≤ one + 1
-  pub second_one_fault : two' ≤ two + 1
+  pub first : Blamed (s ≡ status.LinkFault 0) one one'
+  pub second : Blamed (s ≡ status.LinkFault 1) two two'

@@ -1,5 +1,5 @@
 -- What a run takes, gives and leaves, by its status.
-use Rattle.std.specs.Prelude.{ℕ, ◌<◌, ◌≤◌, ◌≡◌, ◌≢◌, ◌⊎◌, Bool, true, false, List, Option, Some, None, Ok, Err, nat_lt, slice_get}
+use Rattle.std.specs.Prelude.{ℕ, ◌<◌, ◌≤◌, ◌≡◌, ◌≢◌, Bool, true, false, List, Option, Some, Ok, Err, nat_lt, slice_get}
 use Rattle.std.specs.Option.{option_map_or}
 use Rattle.aoe_disk.specs.State.{Contents, DiskState, is_loose}
 use Rattle.aoe_keep.specs.Found.{found}

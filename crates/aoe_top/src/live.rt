@@ -1,7 +1,7 @@
 //! A run over two links: its script on the sink.
-ghost use Rattle.std.specs.Prelude.{◌≡◌, ◌≢◌, ◌≤◌, ◌+◌, true};
-ghost use Rattle.aoe_base.specs.Faults.{Rose};
+ghost use Rattle.std.specs.Prelude.{◌≡◌, ◌≢◌, true};
 ghost use Rattle.aoe_words.specs.Words.{CanLive};
+ghost use Rattle.aoe_top.specs.Blame.{Blamed};
 ghost use Rattle.aoe_top.specs.Live.{AreBlamed, RunsLive, ends, full, is_live_status, live_status};
 
 use crate::{Status, What};
@@ -50,10 +50,8 @@ pub(crate) fn run_live<K: Sink, L: Link, C: Clock>(
         (ends C.answers L.turns L.given L.taken one.old two.old clock.old) (ends C.answers L.turns L.given L.taken one.new two.new clock.new) }
     ensures leaves { result ≢ Status.Ok → result ≢ Status.SinkFault → sink.new ≡ sink.old }
     ensures status { is_live_status result ≡ true }
-    ensures blamed { AreBlamed result (L.faults one.old) (L.faults one.new) (L.faults two.old) (L.faults two.new) }
-    ensures sink_fault { result ≡ Status.SinkFault → Rose (K.faults sink.old) (K.faults sink.new) }
-    ensures sink_no_fault { result ≢ Status.SinkFault → K.faults sink.new ≡ K.faults sink.old }
-    ensures sink_one_fault { K.faults sink.new ≤ K.faults sink.old + 1 }
+    ensures links { AreBlamed result (L.faults one.old) (L.faults one.new) (L.faults two.old) (L.faults two.new) }
+    ensures sink { Blamed (result ≡ Status.SinkFault) (K.faults sink.old) (K.faults sink.new) }
 {
     let sectors = u64::from(asked.sectors);
     let text = match live(alloc, sectors, asked.count, asked.turns, one, two, clock) {

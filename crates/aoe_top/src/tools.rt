@@ -1,9 +1,9 @@
 //! The tools: what each says over a link and a clock, and what becomes of it.
-ghost use Rattle.std.specs.Prelude.{◌≡◌, ◌≢◌, ◌≤◌, ◌+◌, ℕ, Err, true, length, option_copied};
-ghost use Rattle.aoe_base.specs.Faults.{Rose};
+ghost use Rattle.std.specs.Prelude.{◌≡◌, ◌≢◌, ◌≤◌, ℕ, Err, true, length, option_copied};
 ghost use Rattle.aoe_tools.specs.One.{edits_by};
 ghost use Rattle.aoe_tools.specs.Runs.{told};
 ghost use Rattle.aoe_words.specs.Tools.{CanGet};
+ghost use Rattle.aoe_top.specs.Blame.{Blamed};
 ghost use Rattle.aoe_top.specs.Tools.{CanAsk, CopiesIn, CopiesOut, RunsTool, Says, SaysConfig, SaysFound, SaysMasks, SaysReserves, SaysStat, ask_of, copy_status, dirs_of, is_copy_status, is_tool_status, said, tool_status};
 
 use crate::{Status, What};
@@ -57,10 +57,7 @@ fn say_found<L: Link, C: Clock>(
 ) -> Result<Blob, ToolRefusal>
     ensures run { SaysFound asking result
         (told C.least C.answers L.turns L.given L.taken clock.old clock.new link.old link.new) }
-    ensures count { L.faults link.old ≤ L.faults link.new }
-    ensures cause { result ≡ Err ToolRefusal.LinkFault → Rose (L.faults link.old) (L.faults link.new) }
-    ensures no_fault { result ≢ Err ToolRefusal.LinkFault → L.faults link.new ≡ L.faults link.old }
-    ensures one_fault { L.faults link.new ≤ L.faults link.old + 1 }
+    ensures link { Blamed (result ≡ Err ToolRefusal.LinkFault) (L.faults link.old) (L.faults link.new) }
 {
     let given = discover(alloc, &ask_of(asking), link, clock)?;
     said(print_found(alloc, &given))
@@ -75,10 +72,7 @@ fn say_stat<L: Link, C: Clock>(
 ) -> Result<Blob, ToolRefusal>
     ensures run { SaysStat asking result
         (told C.least C.answers L.turns L.given L.taken clock.old clock.new link.old link.new) }
-    ensures count { L.faults link.old ≤ L.faults link.new }
-    ensures cause { result ≡ Err ToolRefusal.LinkFault → Rose (L.faults link.old) (L.faults link.new) }
-    ensures no_fault { result ≢ Err ToolRefusal.LinkFault → L.faults link.new ≡ L.faults link.old }
-    ensures one_fault { L.faults link.new ≤ L.faults link.old + 1 }
+    ensures link { Blamed (result ≡ Err ToolRefusal.LinkFault) (L.faults link.old) (L.faults link.new) }
 {
     let given = stat(alloc, &ask_of(asking), link, clock)?;
     said(print_stat(alloc, &given))
@@ -94,10 +88,7 @@ fn say_config<L: Link, C: Clock>(
     requires { asked.now.ccmd ≤ 4 }
     ensures run { SaysConfig asked.now result
         (told C.least C.answers L.turns L.given L.taken clock.old clock.new link.old link.new) }
-    ensures count { L.faults link.old ≤ L.faults link.new }
-    ensures cause { result ≡ Err ToolRefusal.LinkFault → Rose (L.faults link.old) (L.faults link.new) }
-    ensures no_fault { result ≢ Err ToolRefusal.LinkFault → L.faults link.new ≡ L.faults link.old }
-    ensures one_fault { L.faults link.new ≤ L.faults link.old + 1 }
+    ensures link { Blamed (result ≡ Err ToolRefusal.LinkFault) (L.faults link.old) (L.faults link.new) }
 {
     let given = cfg(
         &ask_of(asked.asking),
@@ -119,10 +110,7 @@ fn say_masks<L: Link, C: Clock>(
 ) -> Result<Blob, ToolRefusal>
     ensures run { SaysMasks asked.now result
         (told C.least C.answers L.turns L.given L.taken clock.old clock.new link.old link.new) }
-    ensures count { L.faults link.old ≤ L.faults link.new }
-    ensures cause { result ≡ Err ToolRefusal.LinkFault → Rose (L.faults link.old) (L.faults link.new) }
-    ensures no_fault { result ≢ Err ToolRefusal.LinkFault → L.faults link.new ≡ L.faults link.old }
-    ensures one_fault { L.faults link.new ≤ L.faults link.old + 1 }
+    ensures link { Blamed (result ≡ Err ToolRefusal.LinkFault) (L.faults link.old) (L.faults link.new) }
 {
     let given = mask(&ask_of(asked.asking), asked.id, dirs_of(asked), link, clock)?;
     said(print_masks(alloc, &given))
@@ -138,10 +126,7 @@ fn say_reserves<L: Link, C: Clock>(
     requires { asked.now.rcmd ≤ 2 }
     ensures run { SaysReserves asked.now result
         (told C.least C.answers L.turns L.given L.taken clock.old clock.new link.old link.new) }
-    ensures count { L.faults link.old ≤ L.faults link.new }
-    ensures cause { result ≡ Err ToolRefusal.LinkFault → Rose (L.faults link.old) (L.faults link.new) }
-    ensures no_fault { result ≢ Err ToolRefusal.LinkFault → L.faults link.new ≡ L.faults link.old }
-    ensures one_fault { L.faults link.new ≤ L.faults link.old + 1 }
+    ensures link { Blamed (result ≡ Err ToolRefusal.LinkFault) (L.faults link.old) (L.faults link.new) }
 {
     let given = reserve(
         &ask_of(asked.asking),
@@ -164,10 +149,7 @@ fn say<L: Link, C: Clock>(
     requires { CanAsk tool.now }
     ensures run { Says tool.now result
         (told C.least C.answers L.turns L.given L.taken clock.old clock.new link.old link.new) }
-    ensures count { L.faults link.old ≤ L.faults link.new }
-    ensures cause { result ≡ Err ToolRefusal.LinkFault → Rose (L.faults link.old) (L.faults link.new) }
-    ensures no_fault { result ≢ Err ToolRefusal.LinkFault → L.faults link.new ≡ L.faults link.old }
-    ensures one_fault { L.faults link.new ≤ L.faults link.old + 1 }
+    ensures link { Blamed (result ≡ Err ToolRefusal.LinkFault) (L.faults link.old) (L.faults link.new) }
 {
     match tool {
         Tool::Discover(asking) => say_found(alloc, *asking, link, clock),
@@ -203,12 +185,9 @@ pub(crate) fn run_tool<K: Sink, L: Link, C: Clock>(
         (told C.least C.answers L.turns L.given L.taken clock.old clock.new link.old link.new) }
     ensures leaves { result ≢ Status.Ok → result ≢ Status.SinkFault → sink.new ≡ sink.old }
     ensures status { is_tool_status result ≡ true }
-    ensures sink_fault { result ≡ Status.SinkFault → Rose (K.faults sink.old) (K.faults sink.new) }
-    ensures link_fault { (port : ℕ) → result ≡ Status.LinkFault port → (port ≡ 0) × Rose (L.faults link.old) (L.faults link.new) }
-    ensures sink_no_fault { result ≢ Status.SinkFault → K.faults sink.new ≡ K.faults sink.old }
-    ensures link_no_fault { result ≢ Status.LinkFault 0 → L.faults link.new ≡ L.faults link.old }
-    ensures sink_one_fault { K.faults sink.new ≤ K.faults sink.old + 1 }
-    ensures link_one_fault { L.faults link.new ≤ L.faults link.old + 1 }
+    ensures sink { Blamed (result ≡ Status.SinkFault) (K.faults sink.old) (K.faults sink.new) }
+    ensures link { Blamed (result ≡ Status.LinkFault 0) (L.faults link.old) (L.faults link.new) }
+    ensures alone { (port : ℕ) → result ≡ Status.LinkFault port → port ≡ 0 }
 {
     let text = match say(alloc, tool, link, clock) {
         Ok(text) => text,
@@ -247,12 +226,9 @@ pub(crate) fn run_get<K: Sink, L: Link, C: Clock>(
     ensures leaves { result ≢ Status.Ok → result ≢ Status.SinkFault → sink.new ≡ sink.old }
     ensures status { is_copy_status result ≡ true }
     ensures unread { result ≢ Status.SourceFault }
-    ensures sink_fault { result ≡ Status.SinkFault → Rose (K.faults sink.old) (K.faults sink.new) }
-    ensures link_fault { (port : ℕ) → result ≡ Status.LinkFault port → (port ≡ 0) × Rose (L.faults link.old) (L.faults link.new) }
-    ensures sink_no_fault { result ≢ Status.SinkFault → K.faults sink.new ≡ K.faults sink.old }
-    ensures link_no_fault { result ≢ Status.LinkFault 0 → L.faults link.new ≡ L.faults link.old }
-    ensures sink_one_fault { K.faults sink.new ≤ K.faults sink.old + 1 }
-    ensures link_one_fault { L.faults link.new ≤ L.faults link.old + 1 }
+    ensures sink { Blamed (result ≡ Status.SinkFault) (K.faults sink.old) (K.faults sink.new) }
+    ensures link { Blamed (result ≡ Status.LinkFault 0) (L.faults link.old) (L.faults link.new) }
+    ensures alone { (port : ℕ) → result ≡ Status.LinkFault port → port ≡ 0 }
 {
     let ask = ask_of(asked.asking);
     match get(
@@ -282,12 +258,9 @@ pub(crate) fn run_put<S: Source, L: Link, C: Clock>(
         (told C.least C.answers L.turns L.given L.taken clock.old clock.new link.old link.new) }
     ensures status { is_copy_status result ≡ true }
     ensures unwritten { result ≢ Status.SinkFault }
-    ensures source_fault { result ≡ Status.SourceFault → Rose (S.faults source.old) (S.faults source.new) }
-    ensures link_fault { (port : ℕ) → result ≡ Status.LinkFault port → (port ≡ 0) × Rose (L.faults link.old) (L.faults link.new) }
-    ensures source_no_fault { result ≢ Status.SourceFault → S.faults source.new ≡ S.faults source.old }
-    ensures link_no_fault { result ≢ Status.LinkFault 0 → L.faults link.new ≡ L.faults link.old }
-    ensures source_one_fault { S.faults source.new ≤ S.faults source.old + 1 }
-    ensures link_one_fault { L.faults link.new ≤ L.faults link.old + 1 }
+    ensures source { Blamed (result ≡ Status.SourceFault) (S.faults source.old) (S.faults source.new) }
+    ensures link { Blamed (result ≡ Status.LinkFault 0) (L.faults link.old) (L.faults link.new) }
+    ensures alone { (port : ℕ) → result ≡ Status.LinkFault port → port ≡ 0 }
 {
     let ask = ask_of(asked.asking);
     match put(alloc, &ask, asked.id, asked.at, source, link, clock) {

@@ -16,6 +16,7 @@ ghost use Rattle.aoe_words.specs.declared.command.Live.{Live as Lives};
 ghost use Rattle.aoe_words.specs.declared.command.Put.{Put as Puts};
 ghost use Rattle.aoe_words.specs.declared.command.Soak.{Soak as Soaks};
 ghost use Rattle.aoe_words.specs.declared.command.Tool.{Tool};
+ghost use Rattle.aoe_top.specs.Blame.{Blamed};
 ghost use Rattle.aoe_top.specs.Commands.{CanExport, is_live, reads_input, uses_clock};
 ghost use Rattle.aoe_top.specs.Live.{AreBlamed, AtBoth, RunsLive, ends};
 ghost use Rattle.aoe_top.specs.Ending.{file_at, keep_at, refused_slot};
@@ -54,15 +55,10 @@ fn run_files<S: Source, K: Sink, D: Disk + Drop, L: Link>(
     ensures memory { result ≡ Status.NoMemory → (source.new ≡ source.old) × (sink.new ≡ sink.old) × (disks.new ≡ disks.old) × (links.new ≡ links.old) }
     ensures usage { result ≢ Status.Usage }
     ensures there { All IsSome disks.new }
-    ensures source_fault { result ≡ Status.SourceFault → Rose (S.faults source.old) (S.faults source.new) }
-    ensures sink_fault { result ≡ Status.SinkFault → Rose (K.faults sink.old) (K.faults sink.new) }
-    ensures link_fault { (link : ℕ) → result ≡ Status.LinkFault link → (link ≡ 0) × AtFirst (λ a b. Rose (L.faults a) (L.faults b)) links.old links.new }
-    ensures source_no_fault { result ≢ Status.SourceFault → S.faults source.new ≡ S.faults source.old }
-    ensures sink_no_fault { result ≢ Status.SinkFault → K.faults sink.new ≡ K.faults sink.old }
-    ensures link_no_fault { result ≢ Status.LinkFault 0 → AtFirst (λ a b. L.faults b ≡ L.faults a) links.old links.new }
-    ensures source_one_fault { S.faults source.new ≤ S.faults source.old + 1 }
-    ensures sink_one_fault { K.faults sink.new ≤ K.faults sink.old + 1 }
-    ensures link_one_fault { AtFirst (λ a b. L.faults b ≤ L.faults a + 1) links.old links.new }
+    ensures source { Blamed (result ≡ Status.SourceFault) (S.faults source.old) (S.faults source.new) }
+    ensures sink { Blamed (result ≡ Status.SinkFault) (K.faults sink.old) (K.faults sink.new) }
+    ensures first { AtFirst (λ a b. Blamed (result ≡ Status.LinkFault 0) (L.faults a) (L.faults b)) links.old links.new }
+    ensures alone { (link : ℕ) → result ≡ Status.LinkFault link → link ≡ 0 }
 {
     match export(alloc, rack, plan, source, sink, disks, links) {
         Ok(exported) => status_of(exported),
@@ -79,12 +75,8 @@ fn run_script<S: Source, K: Sink>(alloc: Global, source: &mut S, sink: &mut K) -
     ensures links { (link : ℕ) → result ≢ Status.LinkFault link }
     ensures usage { result ≢ Status.Usage }
     ensures memory { result ≡ Status.NoMemory → sink.new ≡ sink.old }
-    ensures source_fault { result ≡ Status.SourceFault → Rose (S.faults source.old) (S.faults source.new) }
-    ensures sink_fault { result ≡ Status.SinkFault → Rose (K.faults sink.old) (K.faults sink.new) }
-    ensures source_no_fault { result ≢ Status.SourceFault → S.faults source.new ≡ S.faults source.old }
-    ensures sink_no_fault { result ≢ Status.SinkFault → K.faults sink.new ≡ K.faults sink.old }
-    ensures source_one_fault { S.faults source.new ≤ S.faults source.old + 1 }
-    ensures sink_one_fault { K.faults sink.new ≤ K.faults sink.old + 1 }
+    ensures source { Blamed (result ≡ Status.SourceFault) (S.faults source.old) (S.faults source.new) }
+    ensures sink { Blamed (result ≡ Status.SinkFault) (K.faults sink.old) (K.faults sink.new) }
     ensures replays { (text : List ℕ) → S.left source.old ≡ Some text → refusal text ≡ None
         → IsFaultless (S.faults source.old) (S.faults source.new) → IsFaultless (K.faults sink.old) (K.faults sink.new) → HasReplayed (script_of text) result }
 {
@@ -101,9 +93,7 @@ fn run_soak<K: Sink>(alloc: Global, asked: Soak, sink: &mut K) -> Status
     ensures usage { result ≢ Status.Usage }
     ensures source { result ≢ Status.SourceFault }
     ensures memory { result ≡ Status.NoMemory → sink.new ≡ sink.old }
-    ensures sink_fault { result ≡ Status.SinkFault → Rose (K.faults sink.old) (K.faults sink.new) }
-    ensures sink_no_fault { result ≢ Status.SinkFault → K.faults sink.new ≡ K.faults sink.old }
-    ensures sink_one_fault { K.faults sink.new ≤ K.faults sink.old + 1 }
+    ensures sink { Blamed (result ≡ Status.SinkFault) (K.faults sink.old) (K.faults sink.new) }
     ensures soaks { IsFaultless (K.faults sink.old) (K.faults sink.new) → HasReplayed (soaked asked.seed asked.count) result }
 {
     replayed_as(soak(alloc, asked.seed, asked.count, sink))
@@ -139,15 +129,10 @@ fn run_command<S: Source, K: Sink, D: Disk + Drop, L: Link, C: Clock>(
     ensures clock { uses_clock (Some command) ≡ false → clock.new ≡ clock.old }
     ensures usage { result ≢ Status.Usage }
     ensures there { All IsSome disks.new }
-    ensures source_fault { result ≡ Status.SourceFault → Rose (S.faults source.old) (S.faults source.new) }
-    ensures sink_fault { result ≡ Status.SinkFault → Rose (K.faults sink.old) (K.faults sink.new) }
-    ensures link_fault { is_live (Some command) ≡ false → (link : ℕ) → result ≡ Status.LinkFault link → (link ≡ 0) × AtFirst (λ a b. Rose (L.faults a) (L.faults b)) links.old links.new }
-    ensures source_no_fault { result ≢ Status.SourceFault → S.faults source.new ≡ S.faults source.old }
-    ensures sink_no_fault { result ≢ Status.SinkFault → K.faults sink.new ≡ K.faults sink.old }
-    ensures link_no_fault { is_live (Some command) ≡ false → result ≢ Status.LinkFault 0 → AtFirst (λ a b. L.faults b ≡ L.faults a) links.old links.new }
-    ensures source_one_fault { S.faults source.new ≤ S.faults source.old + 1 }
-    ensures sink_one_fault { K.faults sink.new ≤ K.faults sink.old + 1 }
-    ensures link_one_fault { is_live (Some command) ≡ false → AtFirst (λ a b. L.faults b ≤ L.faults a + 1) links.old links.new }
+    ensures source { Blamed (result ≡ Status.SourceFault) (S.faults source.old) (S.faults source.new) }
+    ensures sink { Blamed (result ≡ Status.SinkFault) (K.faults sink.old) (K.faults sink.new) }
+    ensures first { is_live (Some command) ≡ false → AtFirst (λ a b. Blamed (result ≡ Status.LinkFault 0) (L.faults a) (L.faults b)) links.old links.new }
+    ensures alone { is_live (Some command) ≡ false → (link : ℕ) → result ≡ Status.LinkFault link → link ≡ 0 }
     ensures soaks { (asked : Soaks) → command ≡ Command.Soak asked → IsFaultless (K.faults sink.old) (K.faults sink.new) → HasReplayed (soaked asked.seed asked.count) result }
     ensures replays { (text : List ℕ) → command ≡ Command.Replay → S.left source.old ≡ Some text → refusal text ≡ None
         → IsFaultless (S.faults source.old) (S.faults source.new) → IsFaultless (K.faults sink.old) (K.faults sink.new) → HasReplayed (script_of text) result }

@@ -1,6 +1,5 @@
-use Rattle.std.proofs.Common.{◌≡◌, ◌≤◌, ◌+◌, ◌∙◌, ℕ, List, Option, Result, Ok, Err, refl, sym, ap, subst, arith}
-use Rattle.std.specs.Prelude.{◌≢◌}
-use Rattle.aoe_base.specs.Faults.{Rose}
+use Rattle.std.proofs.Common.{◌≡◌, ◌∙◌, ℕ, List, Option, Result, Ok, Err, refl, sym, ap, subst, arith}
+use Rattle.std.specs.Prelude.{◌↔◌}
 use Rattle.aoe_io.specs.Bytes.{Took, TookSome}
 use Rattle.aoe_live.specs.Stations.{stations}
 use Rattle.aoe_live.specs.Whole.{Lives, Outside}
@@ -8,9 +7,10 @@ use Rattle.aoe_live.specs.declared.refusal.LiveRefusal.{LiveRefusal}
 use Rattle.aoe_live.specs.declared.refusal.LiveRefusal.TheVariants as refusal
 use Rattle.aoe_script.specs.Lines.{script_of}
 use Rattle.aoe_script.specs.declared.event.Event.{Event}
-use Rattle.aoe_top.specs.Live.{ends, live_status, recorded, AreBlamed, ReadsBack, WritesScript}
+use Rattle.aoe_top.specs.Live.{ends, live_status, recorded, ReadsBack, WritesScript}
 use Rattle.aoe_top.specs.declared.status.Status.{Status}
 use Rattle.aoe_top.specs.declared.status.Status.TheVariants as status
+use Rattle.aoe_top.proofs.Blame.{blamed}
 use Rattle.aoe_top.proofs.live.run_live.Goals as goal
 
 -- a run over as many sectors
@@ -31,44 +31,8 @@ unwritten sectors (refusal.Full frames bytes) held = (refl, refl)
 unwritten sectors refusal.TooMany held = (refl, refl)
 
 -- the status tells of a link what the refusal told
-status-tells : (r : LiveRefusal) (link : ℕ) → live_status r ≡ status.LinkFault link → r ≡ refusal.LinkFault link
-status-tells refusal.NoMemory link e = absurd cc
-status-tells (refusal.LinkFault l) link e = let same : l ≡ link = cc in ap (λ k. refusal.LinkFault k) same
-status-tells (refusal.Unanswered turns) link e = absurd cc
-status-tells (refusal.Full frames bytes) link e = absurd cc
-status-tells refusal.TooMany link e = absurd cc
-
-module _ {T : Type 0} (result : Result T LiveRefusal) (r : LiveRefusal) (is : result ≡ Err r) where
-  refusal-is : (link : ℕ) → result ≡ Err (refusal.LinkFault link) → live_status r ≡ status.LinkFault link
-  refusal-is link e = let same : r ≡ refusal.LinkFault link = cc in ap live_status same
-
-  blamed : (s : Status) (one one' two two' : ℕ) → s ≡ live_status r → (result ≡ Err (refusal.LinkFault 0) → Rose one one') → (result ≡ Err (refusal.LinkFault 1) → Rose two two')
-      → (result ≢ Err (refusal.LinkFault 0) → one' ≡ one) → (result ≢ Err (refusal.LinkFault 1) → two' ≡ two) → one' ≤ one + 1 → two' ≤ two + 1 → AreBlamed s one one' two two'
-  blamed s one one' two two' s_is cause_one cause_two none_one none_two at_most_one at_most_two = record {
-    first = λ e. cause_one (is ∙ ap (λ x. Err x) (status-tells r 0 (sym s_is ∙ e)));
-    second = λ e. cause_two (is ∙ ap (λ x. Err x) (status-tells r 1 (sym s_is ∙ e)));
-    first_no_fault = λ other. none_one (λ e. other (s_is ∙ refusal-is 0 e));
-    second_no_fault = λ other. none_two (λ e. other (s_is ∙ refusal-is 1 e));
-    first_one_fault = at_most_one;
-    second_one_fault = at_most_two;
-  }
-
--- no link failed
-unblamed : (s : Status) (one one' two two' : ℕ) → (s ≡ status.LinkFault 0 → ⊥) → (s ≡ status.LinkFault 1 → ⊥) → one' ≡ one → two' ≡ two → AreBlamed s one one' two two'
-unblamed s one one' two two' not_one not_two same_one same_two = record {
-  first = λ e. absurd (not_one e);
-  second = λ e. absurd (not_two e);
-  first_no_fault = λ other. same_one;
-  second_no_fault = λ other. same_two;
-  first_one_fault = omega (arith, same_one);
-  second_one_fault = omega (arith, same_two);
-}
-
-pub returns-in-Err-clause-blamed : goal.returns-in-Err-clause-blamed
-returns-in-Err-clause-blamed g c =
-    let e = c.in-Err.ensures in
-    blamed (Err c.in-Err.refusal) c.in-Err.refusal refl c.live_status.result (g.L.Link.faults c.args.one.now) (g.L.Link.faults c.live.new.one) (g.L.Link.faults c.args.two.now) (g.L.Link.faults c.live.new.two)
-    c.live_status.ensures e.cause_one e.cause_two e.no_fault_one e.no_fault_two e.one_fault_one e.one_fault_two
+told : {T : Type 0} (s : Status) (r : LiveRefusal) (link : ℕ) → s ≡ live_status r → (s ≡ status.LinkFault link) ↔ ((let o : Result T LiveRefusal = Err r in o) ≡ Err (refusal.LinkFault link))
+told s r link is = (λ e. grind (arith, is, e), λ e. grind (arith, is, e))
 
 pub returns-in-Err-clause-run : goal.returns-in-Err-clause-run
 returns-in-Err-clause-run g c =
@@ -109,8 +73,11 @@ returns-clause-run g c =
           (c.bytes.ensures ∙ s.1 ∙ ap (λ (n : ℕ). recorded n s.0) c.from-sectors.ensures) c.in-Err-give_all.ensures.some;
     }
 
-pub returns-in-Ok-give_all-clause-blamed : goal.returns-in-Ok-give_all-clause-blamed
-returns-in-Ok-give_all-clause-blamed g c = unblamed _ _ _ _ _ (λ e. absurd cc) (λ e. absurd cc) (c.in-Ok.ensures.no_fault_one (λ e. absurd cc)) (c.in-Ok.ensures.no_fault_two (λ e. absurd cc))
-
-pub returns-clause-blamed : goal.returns-clause-blamed
-returns-clause-blamed g c = unblamed _ _ _ _ _ (λ e. absurd cc) (λ e. absurd cc) (c.in-Ok.ensures.no_fault_one (λ e. absurd cc)) (c.in-Ok.ensures.no_fault_two (λ e. absurd cc))
+pub returns-in-Err-clause-links : goal.returns-in-Err-clause-links
+returns-in-Err-clause-links g c =
+    let e = c.in-Err.ensures in
+    let is = c.live_status.ensures in
+    record {
+      first = blamed _ _ (told _ c.in-Err.refusal 0 is) _ _ e.cause_one e.no_fault_one e.one_fault_one;
+      second = blamed _ _ (told _ c.in-Err.refusal 1 is) _ _ e.cause_two e.no_fault_two e.one_fault_two;
+    }

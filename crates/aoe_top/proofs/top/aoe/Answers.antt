@@ -6,9 +6,11 @@ use Rattle.aoe_words.specs.declared.command.Command.{Command}
 use Rattle.aoe_words.specs.declared.command.Command.TheVariants.{Serve}
 use Rattle.aoe_words.specs.declared.command.Serve.{Serve as Serves}
 use Rattle.aoe_top.specs.Commands.{is_live}
+use Rattle.aoe_top.proofs.Blame.{at-first}
 use Rattle.aoe_top.proofs.Complete.{answers, link-fine, no-fault, serves}
 use Rattle.aoe_top.proofs.OnSlots.{on-none}
 use Rattle.aoe_top.proofs.Refusals.{disk-within, file-fault, keep-bad, keep-fault, keep-small, mounted, ran-as, ran-of, same-command, settled}
+use Rattle.aoe_top.specs.declared.status.Status.TheVariants as status
 use Rattle.aoe_world.specs.declared.end.ReplayEnd.TheVariants as replay
 use Rattle.aoe_top.proofs.top.aoe.Goals as goal
 
@@ -28,6 +30,24 @@ counted n (Some c) command e count = let same : c ≡ command = cc in subst (λ 
 
 pub returns-in-Ok-Some-clause-run : goal.returns-in-Ok-Some-clause-run
 returns-in-Ok-Some-clause-run g c = ran-of _ _ _ _ _ _ _ _ _ _ c.in-Ok-Some.field-0-is c.in-Ok-Some.ensures.command c.run_command.ensures.run
+
+-- whether it runs over two links
+same-live : (o o' : Option Command) (command : Command) → o ≡ Some command → o ≡ o' → is_live o' ≡ false → is_live (Some command) ≡ false
+same-live o o' command is same e = ap is_live (sym is ∙ same) ∙ e
+
+pub returns-in-Ok-Some-clause-link_fault : goal.returns-in-Ok-Some-clause-link_fault
+returns-in-Ok-Some-clause-link_fault g c alone link e =
+    let one = same-live _ _ _ c.in-Ok-Some.field-0-is c.in-Ok-Some.ensures.command alone in
+    let first : link ≡ 0 = c.run_command.ensures.alone one link e in
+    (first, at-first _ _ _ _ (λ a b blamed. blamed.cause (e ∙ ap (λ n. status.LinkFault n) first)) (c.run_command.ensures.first one))
+
+pub returns-in-Ok-Some-clause-link_no_fault : goal.returns-in-Ok-Some-clause-link_no_fault
+returns-in-Ok-Some-clause-link_no_fault g c alone untold =
+    at-first _ _ _ _ (λ a b blamed. blamed.no_fault untold) (c.run_command.ensures.first (same-live _ _ _ c.in-Ok-Some.field-0-is c.in-Ok-Some.ensures.command alone))
+
+pub returns-in-Ok-Some-clause-link_one_fault : goal.returns-in-Ok-Some-clause-link_one_fault
+returns-in-Ok-Some-clause-link_one_fault g c alone =
+    at-first _ _ _ _ (λ a b blamed. blamed.one_fault) (c.run_command.ensures.first (same-live _ _ _ c.in-Ok-Some.field-0-is c.in-Ok-Some.ensures.command alone))
 
 pub returns-in-Ok-Some-clause-settled : goal.returns-in-Ok-Some-clause-settled
 returns-in-Ok-Some-clause-settled g c slot e = settled _ _ _ _ _ _ _ _ c.run_command.ensures.run c.run_command.ensures.refused (c.requires.count ∙ counted _ _ _ c.in-Ok-Some.field-0-is c.in-Ok-Some.ensures.files) slot e
@@ -53,14 +73,14 @@ returns-in-Ok-Some-clause-mounted g c slot lists = mounted _ _ _ _ _ _ _ _ c.run
 pub returns-in-Ok-Some-clause-answers : goal.returns-in-Ok-Some-clause-answers
 returns-in-Ok-Some-clause-answers g c asked fs is unrefused some_memory left_is all few source sink fine =
     let r = ran-as _ _ _ _ _ _ _ _ _ _ _ c.in-Ok-Some.field-0-is c.in-Ok-Some.ensures.command is (c.run_command.ensures.run unrefused some_memory) in
-    answers _ _ _ _ _ _ _ fine asked fs r left_is all few (λ e. no-fault _ _ source (c.run_command.ensures.source_fault e)) (λ e. no-fault _ _ sink (c.run_command.ensures.sink_fault e))
+    answers _ _ _ _ _ _ _ fine asked fs r left_is all few (λ e. no-fault _ _ source (c.run_command.ensures.source.cause e)) (λ e. no-fault _ _ sink (c.run_command.ensures.sink.cause e))
 
 pub returns-in-Ok-Some-clause-serves : goal.returns-in-Ok-Some-clause-serves
 returns-in-Ok-Some-clause-serves g c asked is unrefused some_memory link fine =
     let r = ran-as _ _ _ _ _ _ _ _ _ _ _ c.in-Ok-Some.field-0-is c.in-Ok-Some.ensures.command is (c.run_command.ensures.run unrefused some_memory) in
     let count = linked _ c.in-Ok-Some.field-0 asked (c.in-Ok-Some.ensures.command ∙ is) c.in-Ok-Some.ensures.links in
     let not-live = served-alone _ asked (same-command _ _ _ _ c.in-Ok-Some.field-0-is c.in-Ok-Some.ensures.command is) in
-    serves _ _ _ _ _ _ _ fine asked r (λ e. link-fine g.L.Link.faults _ _ link (c.run_command.ensures.link_fault not-live 0 e).1 (omega (arith, c.requires.links, count)))
+    serves _ _ _ _ _ _ _ fine asked r (λ e. link-fine g.L.Link.faults _ _ link (at-first _ _ _ _ (λ a b blamed. blamed.cause e) (c.run_command.ensures.first not-live)) (omega (arith, c.requires.links, count)))
 
 -- words that spell no command name no files
 no-files : {R : Type 0} (names : Command → R → List (List ℕ)) (o : Option (Command × R)) → option_map (λ p. p.0) o ≡ None → length (option_map_or (λ p. names p.0 p.1) o []) ≡ 0

@@ -1,6 +1,7 @@
-use Rattle.std.proofs.Common.{◌≡◌, ◌≤◌, ◌<◌, ◌+◌, ◌∙◌, ℕ, Option, None, Some, Err, arith, refl, ap}
+use Rattle.std.proofs.Common.{◌≡◌, ◌≤◌, ◌<◌, ◌+◌, ℕ, Option, None, Some, Err, arith, refl, ap}
 use Rattle.std.specs.Prelude.{IfSome}
 use Rattle.aoe_top.specs.Ending.{file_at}
+use Rattle.aoe_top.proofs.Blame.{blamed, first-blamed}
 use Rattle.aoe_top.proofs.Complete.{link-told, sink-told, source-told}
 use Rattle.aoe_top.proofs.Exits.{unsynced-within}
 use Rattle.aoe_top.proofs.Refusals.{backed}
@@ -19,11 +20,17 @@ refused_as-requires g c =
     let back = c.in-Err-Keep.ensures.refused c.in-Err-Keep.slot c.in-Err-Keep.refusal (ap Err c.in-Err-Keep.field-0-is) in
     omega (arith, (backed _ _ _ _ _ back).within, c.requires.possible.room)
 
-pub returns-in-Ok-clause-source_no_fault : goal.returns-in-Ok-clause-source_no_fault
-returns-in-Ok-clause-source_no_fault g c untold = c.in-Ok.ensures.source_no_fault (λ e. untold (c.status_of.ensures ∙ source-told c.in-Ok.exported e))
+pub returns-in-Ok-clause-source : goal.returns-in-Ok-clause-source
+returns-in-Ok-clause-source g c =
+    let e = c.in-Ok.ensures in
+    blamed _ _ (source-told c.in-Ok.exported.end c.in-Ok.exported.unsynced c.status_of.ensures) _ _ e.source_fault e.source_no_fault e.source_one_fault
 
-pub returns-in-Ok-clause-sink_no_fault : goal.returns-in-Ok-clause-sink_no_fault
-returns-in-Ok-clause-sink_no_fault g c untold = c.in-Ok.ensures.sink_no_fault (λ e. untold (c.status_of.ensures ∙ sink-told c.in-Ok.exported e))
+pub returns-in-Ok-clause-sink : goal.returns-in-Ok-clause-sink
+returns-in-Ok-clause-sink g c =
+    let e = c.in-Ok.ensures in
+    blamed _ _ (sink-told c.in-Ok.exported.end c.in-Ok.exported.unsynced c.status_of.ensures) _ _ e.sink_fault e.sink_no_fault e.sink_one_fault
 
-pub returns-in-Ok-clause-link_no_fault : goal.returns-in-Ok-clause-link_no_fault
-returns-in-Ok-clause-link_no_fault g c untold = c.in-Ok.ensures.link_no_fault (λ e. untold (c.status_of.ensures ∙ link-told c.in-Ok.exported e))
+pub returns-in-Ok-clause-first : goal.returns-in-Ok-clause-first
+returns-in-Ok-clause-first g c =
+    let e = c.in-Ok.ensures in
+    first-blamed _ _ (link-told c.in-Ok.exported.end c.in-Ok.exported.unsynced c.status_of.ensures) g.L.Link.faults _ _ e.link_fault e.link_no_fault e.link_one_fault
