@@ -11,7 +11,7 @@ use Rattle.aoe_block.specs.declared.stage.Stage.{Stage}
 use Rattle.aoe_block.specs.declared.stage.Stage.TheVariants.{Pending, Ended, Failed}
 use Rattle.aoe_block.specs.declared.took.Took.TheVariants.{More, Whole, Part as PartTook}
 use Rattle.aoe_block.specs.Calls.{are_ended, is_success, next_part, op_of, part_of, settle, took, took_as}
-use Rattle.aoe_block.specs.Fields.{laid, parts_of, IsSound}
+use Rattle.aoe_block.specs.Fields.{laid, parts_of, AreParts}
 use Rattle.aoe_block.specs.Parts.{Part, Transfer}
 use Rattle.aoe_block.specs.Stages.{is_handed, stage_at}
 use Rattle.aoe_block.proofs.PartLemmas.{nth, nth_is}
@@ -23,7 +23,7 @@ take_cap n m l e = elim (cases_lt (length l) n) [
   | inr long ↦ let same : m ≡ n = omega arith in ap (λ (i : ℕ). take i l) same
 ]
 
-module _ (total max at count : ℕ) (bytes : List ℕ) (stages : List Stage) (first next left : ℕ) (s : IsSound total max at count bytes stages first next left) (write : Bool) where
+module _ (total max at count : ℕ) (bytes : List ℕ) (stages : List Stage) (first next left : ℕ) (s : AreParts total max at count bytes stages first next left) (write : Bool) where
   module _ (lt : next < length stages) (span : Span) (span_is : span ≡ record { at = at + next * max; count = min max (count - next * max) }) where
     next_is : next_part (parts_of max at count stages bytes) ≡ Some (record { at = at + next * max; count = min max (count - next * max); bytes = take (512 * max) (drop (512 * max * next) bytes); stage = Pending })
     next_is = next_pending total max at count bytes stages first next left s lt ∙ ap Some (nth_is max at count bytes next Pending (place total max at count bytes stages first next left s next lt))
@@ -45,7 +45,7 @@ module _ (total max at count : ℕ) (bytes : List ℕ) (stages : List Stage) (fi
 admits : (about : Attached) (at n : ℕ) → 0 < n → n ≤ about.max → at + n ≤ about.total → span_refusal about at n ≡ None
 admits about at n some short range = rw (ne_eqb n 0 (λ e. omega arith), le-ltb about.max n short, le-ltb about.total (at + n) range) refl
 
-module _ (total max at count : ℕ) (bytes : List ℕ) (stages : List Stage) (first next left : ℕ) (s : IsSound total max at count bytes stages first next left) (lt : next < length stages)
+module _ (total max at count : ℕ) (bytes : List ℕ) (stages : List Stage) (first next left : ℕ) (s : AreParts total max at count bytes stages first next left) (lt : next < length stages)
     (span : Span) (span_is : span ≡ record { at = at + next * max; count = min max (count - next * max) }) where
   pub span_within : (0 < span.count) × (span.count ≤ max) × (span.at + span.count ≤ total)
   span_within =
@@ -76,7 +76,7 @@ module _ (total max at count : ℕ) (bytes : List ℕ) (stages : List Stage) (fi
 
 -- the command that ended is the k-th part, and whether that was read or written
 pub record TakesPart (total max at count : ℕ) (bytes : List ℕ) (stages : List Stage) (first next left : ℕ) (write : Bool) (done : Done) (k : ℕ) (answered : Bool) : Type 0 where
-  pub sound : IsSound total max at count bytes stages first next left
+  pub sound : AreParts total max at count bytes stages first next left
   pub handed : is_handed done.ticket.0 (stage_at stages k) ≡ true
   pub answer : is_success write (min max (count - k * max)) done.outcome ≡ answered
 
@@ -97,7 +97,7 @@ module _ (total max at count : ℕ) (bytes : List ℕ) (stages : List Stage) (fi
   failed_settle out new e =
       rw e (ap (λ (ps : List Part). record { write = write; total = total; max = max; parts = ps }) (sym (failed_parts total max at count bytes stages first next left t.sound write done k t.handed (t.answer ∙ out))))
 
-  pub failed_keeps : (new : List Stage) → new ≡ set stages k Failed → IsSound total max at count bytes new first next left
+  pub failed_keeps : (new : List Stage) → new ≡ set stages k Failed → AreParts total max at count bytes new first next left
   failed_keeps new e = rw e (failed_sound total max at count bytes stages first next left t.sound write done k t.handed)
 
   pub part_left : left ≡ left - 1 + 1
@@ -114,5 +114,5 @@ module _ (total max at count : ℕ) (bytes : List ℕ) (stages : List Stage) (fi
   ended_settle is new read e f =
       rw (e, f) (ap (λ (ps : List Part). record { write = write; total = total; max = max; parts = ps }) (sym (ended_parts total max at count bytes stages first next left t.sound write done k t.handed (t.answer ∙ is))))
 
-  pub ended_keeps : answered ≡ true → (new : List Stage) (read : List ℕ) → new ≡ set stages k Ended → read ≡ laid bytes (512 * max * k) done.outcome → IsSound total max at count read new first next (left - 1)
+  pub ended_keeps : answered ≡ true → (new : List Stage) (read : List ℕ) → new ≡ set stages k Ended → read ≡ laid bytes (512 * max * k) done.outcome → AreParts total max at count read new first next (left - 1)
   ended_keeps is new read e f = rw (e, f) (ended_sound total max at count bytes stages first next left t.sound write done k t.handed (t.answer ∙ is) (left - 1) (sym part_left))

@@ -10,7 +10,7 @@ use Rattle.aoe_initiator.specs.declared.outcome.Outcome.TheVariants.{Read, Writt
 use Rattle.aoe_block.specs.declared.stage.Stage.{Stage}
 use Rattle.aoe_block.specs.declared.stage.Stage.TheVariants.{Pending, Handed, Ended, Failed}
 use Rattle.aoe_block.specs.Calls.{after_done, are_ended, bytes_after, hand, is_success, next_part, part_of}
-use Rattle.aoe_block.specs.Fields.{count_left, laid, parts_of, put, CanLay, IsSound, NoneBefore}
+use Rattle.aoe_block.specs.Fields.{count_left, laid, parts_of, put, CanLay, AreParts, NoneBefore}
 use Rattle.aoe_block.specs.Parts.{Part}
 use Rattle.aoe_block.specs.Stages.{is_ended, is_handed, is_pending, is_under_way, stage_at}
 use Rattle.aoe_block.proofs.PartLemmas.{are_ended-parts_of, find_none, find_nth, hand-parts_of, map_none, map_piece, map_stage, nth, nth_is}
@@ -18,7 +18,7 @@ use Rattle.aoe_block.proofs.PlaceLemmas.{length-put}
 use Rattle.aoe_block.proofs.StageLemmas.{all_pending, count_left-end, count_left-pending, count_left-set, none_left, stage_at-set, under_way, within-pending}
 
 pub sound_new : (total max at count : ℕ) (bytes : List ℕ) (n : ℕ) → 0 < max → max ≤ 17 → at + count ≤ total → total < 2 ^ 64 → count ≤ 32768 → length bytes ≡ 512 * count → count ≤ n * max → n * max < count + max
-    → IsSound total max at count bytes (replicate n Pending) 0 0 n
+    → AreParts total max at count bytes (replicate n Pending) 0 0 n
 sound_new total max at count bytes n some few range device short size enough needed =
     let len : length (replicate n Pending) ≡ n = length-replicate n Pending in
     record {
@@ -70,8 +70,8 @@ none_handed ticket max at count (stage ∷ stages) bytes none k =
         let e : part_of ticket (head ∷ tail) ≡ part_of ticket tail = rw is refl in
         at_place k is (rest (sym e ∙ none))
 
-module _ (total max at count : ℕ) (bytes : List ℕ) (stages : List Stage) (first next left : ℕ) (s : IsSound total max at count bytes stages first next left) where
-  pub sound_first : (f : ℕ) → NoneBefore stages f → f ≤ next → IsSound total max at count bytes stages f next left
+module _ (total max at count : ℕ) (bytes : List ℕ) (stages : List Stage) (first next left : ℕ) (s : AreParts total max at count bytes stages first next left) where
+  pub sound_first : (f : ℕ) → NoneBefore stages f → f ≤ next → AreParts total max at count bytes stages f next left
   sound_first f past ordered = record {
     some = s.some;
     few = s.few;
@@ -115,7 +115,7 @@ module _ (total max at count : ℕ) (bytes : List ℕ) (stages : List Stage) (fi
   pub handed_parts : (ticket : Ticket) → next < length stages → hand ticket (parts_of max at count stages bytes) ≡ parts_of max at count (set stages next (Handed ticket)) bytes
   handed_parts ticket lt = hand-parts_of ticket max at count stages bytes next lt s.given (ap is_pending (s.waiting next (omega arith)))
 
-  pub handed_sound : (ticket : Ticket) → next < length stages → ((k : ℕ) → is_handed ticket.0 (stage_at stages k) ≡ false) → IsSound total max at count bytes (set stages next (Handed ticket)) first (next + 1) left
+  pub handed_sound : (ticket : Ticket) → next < length stages → ((k : ℕ) → is_handed ticket.0 (stage_at stages k) ≡ false) → AreParts total max at count bytes (set stages next (Handed ticket)) first (next + 1) left
   handed_sound ticket lt fresh =
       let is : stage_at stages next ≡ Pending = s.waiting next (omega arith) in
       let len : length (set stages next (Handed ticket)) ≡ length stages = length-set stages next (Handed ticket) in
@@ -180,7 +180,7 @@ module _ (total max at count : ℕ) (bytes : List ℕ) (stages : List Stage) (fi
 
     -- the k-th part is not under way any more
     settled : (stage : Stage) (new : List ℕ) (less : ℕ) → length new ≡ length bytes → is_pending stage ≡ false → is_under_way stage ≡ false → ((t : ℕ) → is_handed t stage ≡ false)
-        → less ≡ count_left (set stages k stage) → IsSound total max at count new (set stages k stage) first next less
+        → less ≡ count_left (set stages k stage) → AreParts total max at count new (set stages k stage) first next less
     settled stage new less size given past none counted =
         let len : length (set stages k stage) ≡ length stages = length-set stages k stage in
         let h = here_within in
@@ -220,7 +220,7 @@ module _ (total max at count : ℕ) (bytes : List ℕ) (stages : List Stage) (fi
     was_open : is_ended (stage_at stages k) ≡ false
     was_open = (under_way done.ticket.0 (stage_at stages k) is).2
 
-    pub failed_sound : IsSound total max at count bytes (set stages k Failed) first next left
+    pub failed_sound : AreParts total max at count bytes (set stages k Failed) first next left
     failed_sound = settled Failed bytes left refl refl refl (λ t. refl) (s.counted ∙ sym (count_left-set stages k Failed here_within was_open refl))
 
     pub some_left : left ≡ count_left (set stages k Ended) + 1
@@ -270,7 +270,7 @@ module _ (total max at count : ℕ) (bytes : List ℕ) (stages : List Stage) (fi
           at_outcome (AoeError error) can = refl
           at_outcome (GaveUp from now) can = refl
 
-      pub ended_sound : (less : ℕ) → less + 1 ≡ left → IsSound total max at count (laid bytes (512 * max * k) done.outcome) (set stages k Ended) first next less
+      pub ended_sound : (less : ℕ) → less + 1 ≡ left → AreParts total max at count (laid bytes (512 * max * k) done.outcome) (set stages k Ended) first next less
       ended_sound less e = settled Ended (laid bytes (512 * max * k) done.outcome) less length-laid refl refl (λ t. refl) (let h = some_left in omega arith)
 
       pub ended_all : (less : ℕ) (new : List ℕ) → less + 1 ≡ left → are_ended (parts_of max at count (set stages k Ended) new) ≡ (less == 0)

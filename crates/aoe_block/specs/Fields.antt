@@ -53,7 +53,7 @@ count_left (stage ∷ stages) = cond (is_ended stage) 0 1 + count_left stages
 
 -- as many parts as the sectors need, handed in order, each under way with a ticket of its own; none before
 -- `first` is under way, and so many weren't read or written
-pub record IsSound (total max at count : ℕ) (bytes : List ℕ) (stages : List Stage) (first next left : ℕ) : Type 0 where
+pub record AreParts (total max at count : ℕ) (bytes : List ℕ) (stages : List Stage) (first next left : ℕ) : Type 0 where
   pub some : 0 < max
   pub few : max ≤ 17
   pub range : at + count ≤ total

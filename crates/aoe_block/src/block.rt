@@ -58,14 +58,14 @@ pub struct Block {
 }
 
 impl Model for Block {
-    ghost use Rattle.aoe_block.specs.Fields.{parts_of, IsSound};
+    ghost use Rattle.aoe_block.specs.Fields.{parts_of, AreParts};
     ghost use Rattle.aoe_block.specs.Parts.{Transfer};
 
     ghost Value = { Transfer };
 
     ghost view = { λ b. record { write = b.write; total = b.total; max = b.max; parts = parts_of b.max b.at b.count b.stages.items b.bytes } };
 
-    ghost invariant = { λ b. IsSound b.total b.max b.at b.count b.bytes b.stages.items b.first b.next b.left };
+    ghost invariant = { λ b. AreParts b.total b.max b.at b.count b.bytes b.stages.items b.first b.next b.left };
 }
 
 impl Block {

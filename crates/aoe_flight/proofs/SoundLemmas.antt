@@ -9,7 +9,7 @@ use Rattle.std.proofs.lemmas.List.Elements.{All-cons, filter_passes}
 use Rattle.std.proofs.lemmas.List.Sorted.{All-permutation, length_permutation, list_any-IsPermutation, sum_by-IsPermutation}
 use Rattle.std.proofs.lemmas.List.Sums.{sum_by-cons}
 use Rattle.aoe_flight.specs.declared.outstanding.Outstanding.{Outstanding}
-use Rattle.aoe_flight.specs.FlightTable.{at_time, FlightTable, IsSound}
+use Rattle.aoe_flight.specs.FlightTable.{at_time, FlightTable, FitsRoom}
 use Rattle.aoe_flight.specs.Outstanding.{change_of, flies_as, has_tag, is_over, is_taken, live, tag_count}
 use Rattle.aoe_flight.proofs.LiveLemmas.{live-changed, live-live}
 use Rattle.aoe_flight.proofs.SlotLemmas.{live-shorter}
@@ -43,7 +43,7 @@ count-changed ticket change (c ∷ commands) tag keeps =
     let two = sum_by-cons (λ (d : Outstanding). cond (has_tag tag d) 1 0) c commands in
     one ∙ rw (tag-kept ticket change c keeps, count-changed ticket change commands tag keeps) (sym two)
 
-pub sound-live : (room capacity rest now : ℕ) (commands after : List Outstanding) (new_capacity : ℕ) → after ≡ live rest now commands → new_capacity ≡ capacity → IsSound room capacity commands → IsSound room new_capacity after
+pub sound-live : (room capacity rest now : ℕ) (commands after : List Outstanding) (new_capacity : ℕ) → after ≡ live rest now commands → new_capacity ≡ capacity → FitsRoom room capacity commands → FitsRoom room new_capacity after
 sound-live room capacity rest now commands after new_capacity is same sound = record {
   fits = rw is (omega (arith, sound.fits, live-shorter rest now commands));
   reserved = rw same sound.reserved;
@@ -52,7 +52,7 @@ sound-live room capacity rest now commands after new_capacity is same sound = re
 }
 
 pub sound-changed : (room capacity ticket : ℕ) (change : Outstanding → Outstanding) (commands after : List Outstanding) (new_capacity : ℕ) → KeepsTag change → after ≡ map (change_of ticket change) commands → new_capacity ≡ capacity
-    → IsSound room capacity commands → IsSound room new_capacity after
+    → FitsRoom room capacity commands → FitsRoom room new_capacity after
 sound-changed room capacity ticket change commands after new_capacity keeps is same sound = record {
   fits = rw (is, length-map commands (change_of ticket change)) sound.fits;
   reserved = rw same sound.reserved;
@@ -83,7 +83,7 @@ count-new commands c tag free once = at (nat_eq c.flying.tag tag) refl
         omega (arith, once, sum)
 
 pub sound-new : (room capacity : ℕ) (c : Outstanding) (commands after : List Outstanding) (new_capacity : ℕ) → IsPermutation (c ∷ commands) after → is_taken commands c.flying.tag ≡ false → new_capacity ≡ capacity → length commands < room
-    → IsSound room capacity commands → IsSound room new_capacity after
+    → FitsRoom room capacity commands → FitsRoom room new_capacity after
 sound-new room capacity c commands after new_capacity is free same more sound = record {
   fits = omega (arith, length_permutation (c ∷ commands) after is, more);
   reserved = rw same sound.reserved;

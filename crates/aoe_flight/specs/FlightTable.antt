@@ -48,7 +48,7 @@ abbrev pub Recalls : FlightTable → List Outstanding → Type 0
 Recalls table sent = SameCommands table.commands (live table.rest table.latest sent)
 
 -- all fit in the room and in the memory, and no two have one tag
-pub record IsSound (room capacity : ℕ) (commands : List Outstanding) : Type 0 where
+pub record FitsRoom (room capacity : ℕ) (commands : List Outstanding) : Type 0 where
   pub fits : length commands ≤ room
   pub reserved : room ≤ capacity
   pub few : room ≤ 16384

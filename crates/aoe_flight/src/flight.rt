@@ -45,7 +45,7 @@ pub struct Flight {
 impl Model for Flight {
     ghost use Rattle.std.specs.Prelude.{◌≤◌, All};
     ghost use Rattle.slab.specs.Slab.{values};
-    ghost use Rattle.aoe_flight.specs.FlightTable.{FlightTable, IsSound};
+    ghost use Rattle.aoe_flight.specs.FlightTable.{FlightTable, FitsRoom};
     ghost use Rattle.aoe_flight.specs.Outstanding.{live};
 
     ghost Value = { FlightTable };
@@ -60,7 +60,7 @@ impl Model for Flight {
     } };
 
     ghost invariant = { λ flight.
-        IsSound flight.room flight.commands.capacity (values flight.commands)
+        FitsRoom flight.room flight.commands.capacity (values flight.commands)
         × All (λ c. c.flying.last.0 ≤ flight.latest.0) (values flight.commands) };
 }
 

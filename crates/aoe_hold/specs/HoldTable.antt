@@ -62,8 +62,8 @@ is_up_to None (c ∷ commands) = false
 is_up_to (Some greatest) commands = list_all (λ c. nat_le c.ticket.0 greatest) commands
 
 -- the commands stand in order up to the greatest ticket, and those that were never sent are counted
-abbrev pub IsSound : Option ℕ → ℕ → List Command → Type 0
-IsSound greatest unsent commands =
+abbrev pub StandInOrder : Option ℕ → ℕ → List Command → Type 0
+StandInOrder greatest unsent commands =
     (is_ascending commands ≡ true) × (is_up_to greatest commands ≡ true) × (unsent ≡ unsent_count commands)
 
 -- before this time none of the commands is past

@@ -324,7 +324,7 @@ pub struct Holds {
 impl Model for Holds {
     ghost use Rattle.std.specs.Prelude.{map, option_map};
     ghost use Rattle.aoe_hold.specs.Extents.{Covers};
-    ghost use Rattle.aoe_hold.specs.HoldTable.{ArePast, HoldTable, IsSound, NonePastBefore};
+    ghost use Rattle.aoe_hold.specs.HoldTable.{ArePast, HoldTable, StandInOrder, NonePastBefore};
     ghost use Rattle.aoe_hold.specs.Queue.{ticket_of, AreHeld, IsIndex};
 
     ghost Value = { HoldTable };
@@ -338,7 +338,7 @@ impl Model for Holds {
     } };
 
     ghost invariant = { λ holds.
-        IsSound (option_map (λ t. t.0) holds.greatest) holds.unsent holds.commands.items
+        StandInOrder (option_map (λ t. t.0) holds.greatest) holds.unsent holds.commands.items
         × IsIndex holds.life.0 holds.latest.0 holds.unsent holds.commands.items holds.timed holds.ready
         × NonePastBefore holds.life.0 holds.past_from holds.commands.items
         × AreHeld holds.unsent holds.commands.items holds.timed holds.ready holds.blocked

@@ -16,7 +16,7 @@ use Rattle.aoe_initiator.specs.declared.device.Device.{Device}
 use Rattle.aoe_initiator.specs.declared.outcome.Done.{Done}
 use Rattle.aoe_initiator.specs.declared.pending.Pending.{Pending}
 use Rattle.aoe_initiator.specs.Devices.{change_at, device_at, device_finished, device_sent}
-use Rattle.aoe_initiator.specs.Host.{IsAttached, IsInOrder, IsReady, IsSound}
+use Rattle.aoe_initiator.specs.Host.{IsAttached, IsInOrder, IsSendable, IsConsistent}
 use Rattle.aoe_initiator.proofs.DeviceLemmas.{device_entered, length-change_at, All-change_at}
 use Rattle.aoe_initiator.proofs.ListLemmas.{All-remove}
 
@@ -53,9 +53,9 @@ attached-entered now last c d below a = record {
 pub times-of : (now last : ℕ) (devices : List Device) → All (IsAttached now last) devices → All (λ d. d.holds.latest ≤ now) devices
 times-of now last devices all = All-weaker (IsAttached now last) (λ d. d.holds.latest ≤ now) (λ d a. a.time) devices all
 
-ready-more : (n m : ℕ) (pending : List Pending) → n ≤ m → All (IsReady n) pending → All (IsReady m) pending
+ready-more : (n m : ℕ) (pending : List Pending) → n ≤ m → All (IsSendable n) pending → All (IsSendable m) pending
 ready-more n m pending more all =
-    All-weaker (IsReady n) (IsReady m) (λ p ready. record { inside = omega (arith, ready.inside, more); spelled = ready.spelled; room = ready.room }) pending all
+    All-weaker (IsSendable n) (IsSendable m) (λ p ready. record { inside = omega (arith, ready.inside, more); spelled = ready.spelled; room = ready.room }) pending all
 
 pub length-remove : (xs : List Pending) (i : ℕ) → i < length xs → length (remove xs i) + 1 ≡ length xs
 length-remove [] i inside = absurd (omega (arith, inside))
@@ -78,9 +78,9 @@ ordered-push (x ∷ xs) p last order given new =
     )
 
 pub sound-sent : (ports : List Mac) (last n : ℕ) (now : Millis) (t : Ticket) (missed : Option PathNo) (path : PathNo) (flight after : FlightTable) (devices changed : List Device) (pending : List Pending) (waiting : List Done) (capacity : ℕ)
-    → after.latest ≤ now.0 → changed ≡ change_at n (device_sent t now missed path) devices → IsSound ports now.0 last flight devices pending waiting capacity → IsSound ports now.0 last after changed pending waiting capacity
+    → after.latest ≤ now.0 → changed ≡ change_at n (device_sent t now missed path) devices → IsConsistent ports now.0 last flight devices pending waiting capacity → IsConsistent ports now.0 last after changed pending waiting capacity
 sound-sent ports last n now t missed path flight after devices changed pending waiting capacity time is s =
-    let P : List Device → Type 0 = λ l. IsSound ports now.0 last after l pending waiting capacity in
+    let P : List Device → Type 0 = λ l. IsConsistent ports now.0 last after l pending waiting capacity in
     let same : length (change_at n (device_sent t now missed path) devices) ≡ length devices = length-change_at n (device_sent t now missed path) devices in
     subst P (sym is) (record {
       port = s.port;
@@ -94,9 +94,9 @@ sound-sent ports last n now t missed path flight after devices changed pending w
     })
 
 pub sound-cleared : (ports : List Mac) (now last : ℕ) (flight : FlightTable) (devices changed : List Device) (pending : List Pending) (waiting : List Done) (capacity : ℕ)
-    → changed ≡ map (device_at now) devices → IsSound ports now last flight devices pending waiting capacity → IsSound ports now last flight changed pending waiting capacity
+    → changed ≡ map (device_at now) devices → IsConsistent ports now last flight devices pending waiting capacity → IsConsistent ports now last flight changed pending waiting capacity
 sound-cleared ports now last flight devices changed pending waiting capacity is s =
-    let P : List Device → Type 0 = λ l. IsSound ports now last flight l pending waiting capacity in
+    let P : List Device → Type 0 = λ l. IsConsistent ports now last flight l pending waiting capacity in
     let same : length (map (device_at now) devices) ≡ length devices = length-map devices (device_at now) in
     subst P (sym is) (record {
       port = s.port;
@@ -111,17 +111,17 @@ sound-cleared ports now last flight devices changed pending waiting capacity is 
 
 pub sound-closed : (ports : List Mac) (now last n at : ℕ) (t : Ticket) (came : Option Arrival) (flight after : FlightTable) (devices changed : List Device) (pending left : List Pending) (waiting more : List Done) (done : Done) (capacity capacity_after : ℕ)
     → after.latest ≤ now → changed ≡ change_at n (device_finished t came) devices → left ≡ remove pending at → more ≡ waiting ++ done ∷ [] → capacity_after ≡ capacity → at < length pending
-    → IsSound ports now last flight devices pending waiting capacity → IsSound ports now last after changed left more capacity_after
+    → IsConsistent ports now last flight devices pending waiting capacity → IsConsistent ports now last after changed left more capacity_after
 sound-closed ports now last n at t came flight after devices changed pending left waiting more done capacity capacity_after time is left_is more_is same_capacity inside s =
-    let P : List Device → List Pending → List Done → ℕ → Type 0 = λ ds ps ws c. IsSound ports now last after ds ps ws c in
+    let P : List Device → List Pending → List Done → ℕ → Type 0 = λ ds ps ws c. IsConsistent ports now last after ds ps ws c in
     let same : length (change_at n (device_finished t came) devices) ≡ length devices = length-change_at n (device_finished t came) devices in
     let one_more : length (waiting ++ done ∷ []) ≡ length waiting + 1 = length-append waiting (done ∷ []) in
-    let whole : IsSound ports now last after (change_at n (device_finished t came) devices) (remove pending at) (waiting ++ done ∷ []) capacity = record {
+    let whole : IsConsistent ports now last after (change_at n (device_finished t came) devices) (remove pending at) (waiting ++ done ∷ []) capacity = record {
       port = s.port;
       differ = s.differ;
       time = time;
       attached = All-change_at (IsAttached now last) n (device_finished t came) devices (attached-finished now last t came) s.attached;
-      ready = ready-more (length devices) (length (change_at n (device_finished t came) devices)) (remove pending at) (omega (arith, same)) (All-remove (IsReady (length devices)) pending at inside s.ready);
+      ready = ready-more (length devices) (length (change_at n (device_finished t came) devices)) (remove pending at) (omega (arith, same)) (All-remove (IsSendable (length devices)) pending at inside s.ready);
       order = ordered-remove pending at inside s.order;
       given = All-remove (λ p. p.ticket.0 ≤ last) pending at inside s.given;
       reserved = omega (arith, s.reserved, length-remove pending at inside, one_more);
@@ -130,13 +130,13 @@ sound-closed ports now last n at t came flight after devices changed pending lef
 
 -- there is room for the outcome of a pending command
 pub room-for-one : (ports : List Mac) (now last at : ℕ) (flight : FlightTable) (devices : List Device) (pending : List Pending) (waiting : List Done) (capacity : ℕ) → at < length pending
-    → IsSound ports now last flight devices pending waiting capacity → length waiting < capacity
+    → IsConsistent ports now last flight devices pending waiting capacity → length waiting < capacity
 room-for-one ports now last at flight devices pending waiting capacity inside s = omega (arith, inside, s.reserved)
 
 pub sound-attached : (ports : List Mac) (now last : ℕ) (flight : FlightTable) (devices more : List Device) (d : Device) (pending : List Pending) (waiting : List Done) (capacity : ℕ)
-    → more ≡ devices ++ d ∷ [] → IsAttached now last d → IsSound ports now last flight devices pending waiting capacity → IsSound ports now last flight more pending waiting capacity
+    → more ≡ devices ++ d ∷ [] → IsAttached now last d → IsConsistent ports now last flight devices pending waiting capacity → IsConsistent ports now last flight more pending waiting capacity
 sound-attached ports now last flight devices more d pending waiting capacity is new s =
-    let P : List Device → Type 0 = λ l. IsSound ports now last flight l pending waiting capacity in
+    let P : List Device → Type 0 = λ l. IsConsistent ports now last flight l pending waiting capacity in
     let one_more : length (devices ++ d ∷ []) ≡ length devices + 1 = length-append devices (d ∷ []) in
     subst P (sym is) (record {
       port = s.port;
@@ -150,18 +150,18 @@ sound-attached ports now last flight devices more d pending waiting capacity is 
     })
 
 pub sound-submitted : (ports : List Mac) (now last next n : ℕ) (flight : FlightTable) (devices changed : List Device) (c : Command) (pending more : List Pending) (p : Pending) (waiting same_waiting : List Done) (capacity capacity_after : ℕ)
-    → next ≡ last + 1 → c.ticket.0 ≡ next → changed ≡ change_at n (device_entered c) devices → more ≡ pending ++ p ∷ [] → same_waiting ≡ waiting → length waiting + length pending + 1 ≤ capacity_after → p.ticket.0 ≡ next → IsReady (length devices) p
-    → IsSound ports now last flight devices pending waiting capacity → IsSound ports now next flight changed more same_waiting capacity_after
+    → next ≡ last + 1 → c.ticket.0 ≡ next → changed ≡ change_at n (device_entered c) devices → more ≡ pending ++ p ∷ [] → same_waiting ≡ waiting → length waiting + length pending + 1 ≤ capacity_after → p.ticket.0 ≡ next → IsSendable (length devices) p
+    → IsConsistent ports now last flight devices pending waiting capacity → IsConsistent ports now next flight changed more same_waiting capacity_after
 sound-submitted ports now last next n flight devices changed c pending more p waiting same_waiting capacity capacity_after next_is ticket_is is more_is waiting_is room new ready s =
     let same : length (change_at n (device_entered c) devices) ≡ length devices = length-change_at n (device_entered c) devices in
     let one_more : length (pending ++ p ∷ []) ≡ length pending + 1 = length-append pending (p ∷ []) in
     let later : All (IsAttached now next) devices = All-weaker (IsAttached now last) (IsAttached now next) (λ d a. attached-later now last now next d (omega arith) (omega (arith, next_is)) a) devices s.attached in
-    let whole : IsSound ports now next flight (change_at n (device_entered c) devices) (pending ++ p ∷ []) waiting capacity_after = record {
+    let whole : IsConsistent ports now next flight (change_at n (device_entered c) devices) (pending ++ p ∷ []) waiting capacity_after = record {
       port = s.port;
       differ = s.differ;
       time = s.time;
       attached = All-change_at (IsAttached now next) n (device_entered c) devices (λ d a. attached-entered now next c d (omega (arith, ticket_is)) a) later;
-      ready = All-push (IsReady (length (change_at n (device_entered c) devices))) pending p
+      ready = All-push (IsSendable (length (change_at n (device_entered c) devices))) pending p
           (ready-more (length devices) (length (change_at n (device_entered c) devices)) pending (omega (arith, same)) s.ready)
           (record { inside = omega (arith, ready.inside, same); spelled = ready.spelled; room = ready.room });
       order = ordered-push pending p last s.order s.given (omega (arith, next_is, new));
@@ -171,7 +171,7 @@ sound-submitted ports now last next n flight devices changed c pending more p wa
     rw (is, more_is, waiting_is) whole
 
 pub sound-advanced : (ports : List Mac) (now later last : ℕ) (flight : FlightTable) (devices : List Device) (pending : List Pending) (waiting : List Done) (capacity : ℕ) → now ≤ later
-    → IsSound ports now last flight devices pending waiting capacity → IsSound ports later last flight devices pending waiting capacity
+    → IsConsistent ports now last flight devices pending waiting capacity → IsConsistent ports later last flight devices pending waiting capacity
 sound-advanced ports now later last flight devices pending waiting capacity more s = record {
   port = s.port;
   differ = s.differ;

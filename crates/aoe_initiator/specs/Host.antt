@@ -83,7 +83,7 @@ pub record Matches (log : List Event) (host : Host) : Type 0 where
   pub paths : (n : ℕ) → IfSome (slice_get host.devices n) (HasPaths host.ports (path_log log n))
 
 -- a command that waits has its device, an operation that a frame has room for, and room for its data
-pub record IsReady (devices : ℕ) (p : Pending) : Type 0 where
+pub record IsSendable (devices : ℕ) (p : Pending) : Type 0 where
   pub inside : p.device.0 < devices
   pub spelled : CanSpell p.op
   pub room : length p.room ≡ data_len p.op
@@ -102,12 +102,12 @@ IsInOrder [] = Unit {0}
 IsInOrder (p ∷ pending) = All (λ later. p.ticket.0 < later.ticket.0) pending × IsInOrder pending
 
 -- what is true of what a host keeps at all times; `capacity` is the room for outcomes
-pub record IsSound (ports : List Mac) (now last : ℕ) (flight : FlightTable) (devices : List Device) (pending : List Pending) (waiting : List Done) (capacity : ℕ) : Type 0 where
+pub record IsConsistent (ports : List Mac) (now last : ℕ) (flight : FlightTable) (devices : List Device) (pending : List Pending) (waiting : List Done) (capacity : ℕ) : Type 0 where
   pub port : 0 < length ports
   pub differ : IsDistinct ports
   pub time : flight.latest ≤ now
   pub attached : All (IsAttached now last) devices
-  pub ready : All (IsReady (length devices)) pending
+  pub ready : All (IsSendable (length devices)) pending
   pub order : IsInOrder pending
   pub given : All (λ p. p.ticket.0 ≤ last) pending
   pub reserved : length pending + length waiting ≤ capacity

@@ -83,7 +83,7 @@ pub struct Initiator {
 
 impl Model for Initiator {
     ghost use Rattle.std.specs.VecDeque.{deque_capacity};
-    ghost use Rattle.aoe_initiator.specs.Host.{Host, IsSound};
+    ghost use Rattle.aoe_initiator.specs.Host.{Host, IsConsistent};
 
     ghost Value = { Host };
 
@@ -100,7 +100,7 @@ impl Model for Initiator {
       waiting = i.done.items;
     } };
 
-    ghost invariant = { λ i. IsSound i.ports.items i.clock.0 i.last_ticket.0 i.flight i.devices.items i.pending.items i.done.items (deque_capacity i.done) };
+    ghost invariant = { λ i. IsConsistent i.ports.items i.clock.0 i.last_ticket.0 i.flight i.devices.items i.pending.items i.done.items (deque_capacity i.done) };
 }
 
 /// A response to a pending command.

@@ -8,7 +8,7 @@ use Rattle.aoe_disk.specs.Sectors.{Touches, Calms}
 use Rattle.aoe_disk.proofs.Touching.{settles_calm, settles_kept}
 use Rattle.aoe_keep.specs.Body.{decode}
 use Rattle.aoe_keep.specs.Found.{body, is_open, next_turn, CanFind, Finds, IsOffered}
-use Rattle.aoe_keep.specs.Stages.{NoneLoose, StaysBody, StaysOpen, spare, turn_after, is_unplaced, next_place, IsSteady, IsOtherTurn, IsReady, IsSpare, IsKept, IsCleared, IsStaged, IsOpened, IsInterrupted, IsReplaced}
+use Rattle.aoe_keep.specs.Stages.{NoneLoose, StaysBody, StaysOpen, spare, turn_after, is_unplaced, next_place, IsSteady, IsOtherTurn, IsChoosable, IsSpare, IsKept, IsCleared, IsStaged, IsOpened, IsInterrupted, IsReplaced}
 use Rattle.aoe_keep.specs.declared.place.Place.{Place}
 use Rattle.aoe_keep.proofs.Slots.{outcome, spare_small, found_by, open_after}
 use Rattle.aoe_keep.proofs.Steps.{IsWithin, closed_touch, body_touch, steady_touch, gate_calm, closed_calm, body_calm, steady_calm, kept_calm, finds_calm, finds_closed, finds_ready, could, weaker, kept_finds}
@@ -60,7 +60,7 @@ module _ (place : Option Place) (lists next : Settings) where
   }
 
   module _ (sectors : ℕ) (room : 16 ≤ sectors) (c d : Contents) (shape : HasShape sectors c) (kept : IsKept place false lists c) (touch : Touches (8 * spare place) 1 c d) where
-    ready : IsReady place d kept.spare.0
+    ready : IsChoosable place d kept.spare.0
     ready = record { body = body_touch (8 * spare place) 1 c d touch (spare place) kept.spare.0 (λ s l h. inr (omega arith)) kept.spare.1.body; turn = kept.spare.1.turn }
 
     steady : IsSteady place lists d
@@ -116,7 +116,7 @@ module _ (place : Option Place) (lists next : Settings) where
 
   half_open : (before d : Contents) → IsSteady place lists d → StaysBody d (spare place) (turn_after place, next) → (is_loose d.loose (8 * spare place) ≡ true) ⊎ (is_open d.bytes (spare place) ≡ true) → IsInterrupted place false lists next before d
   half_open before d steady has gate =
-      let ready : IsReady place d (turn_after place, next) = record { body = has; turn = other_turn place lists d steady } in
+      let ready : IsChoosable place d (turn_after place, next) = record { body = has; turn = other_turn place lists d steady } in
       record {
         kept = record { steady = steady; spare = ((turn_after place, next), ready, gate) };
         finds = weaker _ _ d

@@ -6,7 +6,7 @@ use Rattle.aoe_disk.specs.State.{Contents, CanLeave, HasShape, sector, is_loose}
 use Rattle.aoe_disk.specs.Sectors.{Touches, IsOutside, Calms}
 use Rattle.aoe_keep.specs.Body.{decode}
 use Rattle.aoe_keep.specs.Found.{body, is_open, CanFind, Finds}
-use Rattle.aoe_keep.specs.Stages.{NoneLoose, StaysClosed, StaysBody, spare, IsSteady, IsReady, IsKept}
+use Rattle.aoe_keep.specs.Stages.{NoneLoose, StaysClosed, StaysBody, spare, IsSteady, IsChoosable, IsKept}
 use Rattle.aoe_keep.specs.declared.place.Place.{Place}
 use Rattle.aoe_keep.proofs.Slots.{Agree, gate_same, body_same, closed_after, body_after, outcome, found_by, spare_small, reopened}
 
@@ -101,13 +101,13 @@ module _ (place : Option Place) (lists : Settings) (c : Contents) (steady : IsSt
   pub finds_closed : StaysClosed c (spare place) → Finds (λ l. l ≡ lists) c
   finds_closed closed = λ image left. (lists, found_by place lists c image None steady left (closed_after c (spare place) image closed left) tt, refl)
 
-  pub finds_ready : (b : ℕ × Settings) → IsReady place c b → Finds (λ l. (l ≡ lists) ⊎ (l ≡ outcome place lists (Some b))) c
+  pub finds_ready : (b : ℕ × Settings) → IsChoosable place c b → Finds (λ l. (l ≡ lists) ⊎ (l ≡ outcome place lists (Some b))) c
   finds_ready b ready = λ image left. elim (body_after c (spare place) b image ready.body left) [
     | inl closed ↦ (lists, found_by place lists c image None steady left closed tt, inl refl)
     | inr opened ↦ (outcome place lists (Some b), found_by place lists c image (Some b) steady left opened ready.turn, inr refl)
   ]
 
-  pub could : (sectors : ℕ) (b : ℕ × Settings) → HasShape sectors c → 16 ≤ sectors → IsReady place c b → (is_loose c.loose (8 * spare place) ≡ true) ⊎ (is_open c.bytes (spare place) ≡ true) → CanFind c (outcome place lists (Some b))
+  pub could : (sectors : ℕ) (b : ℕ × Settings) → HasShape sectors c → 16 ≤ sectors → IsChoosable place c b → (is_loose c.loose (8 * spare place) ≡ true) ⊎ (is_open c.bytes (spare place) ≡ true) → CanFind c (outcome place lists (Some b))
   could sectors b shape room ready gate =
       let again = reopened c (spare place) sectors b shape room (spare_small place) ready.body gate in
       record { image = again.0; left = again.1; is = found_by place lists c again.0 (Some b) steady again.1 again.2 ready.turn }

@@ -25,7 +25,7 @@ pub record KeepsOthers (old new : DiskState) : Type 0 where
   pub contents : BothTell (Touches 0 16) old.contents new.contents
 
 -- what a keep knows of its disk between two replacements
-pub record IsMounted {D : Type 0} (state : D → DiskState) (k : Mounted D) : Type 0 where
+pub record IsAtRest {D : Type 0} (state : D → DiskState) (k : Mounted D) : Type 0 where
   pub room : 16 ≤ (state k.disk).sectors
   pub disk : IfSome (state k.disk).contents (IsKept k.place k.is_closed k.lists)
 
@@ -50,7 +50,7 @@ pub record HasHalfOpened {D : Type 0} (state : D → DiskState) (next : Settings
 -- the next lists are the keep's, and every crash finds them
 pub record HasReplaced {D : Type 0} (state : D → DiskState) (next : Settings) (k : Mounted D) : Type 0 where
   pub lists : k.lists ≡ next
-  pub mounted : IsMounted state k
+  pub mounted : IsAtRest state k
   pub finds : AlwaysFinds (state k.disk) next
 
 -- a call of the disk failed on the way to the next lists
@@ -71,6 +71,11 @@ pub record Mounts (old new : DiskState) (lists : Settings) : Type 0 where
   pub room : 16 ≤ new.sectors
   pub stands : BothTell (λ a b. (found a.bytes ≡ Ok lists) × Settles a b) old.contents new.contents
   pub run : RunsBetween 3 5 false old new
+
+-- a keep that was mounted: these lists stand on its disk, and every crash finds them
+pub record HasMounted (before after : DiskState) (lists : Settings) : Type 0 where
+  pub mounts : Mounts before after lists
+  pub finds : AlwaysFinds after lists
 
 -- a mounting that was refused
 abbrev pub IsRefused : {D : Type 0} → (D → DiskState) → D → MountRefusal → D → Type 0

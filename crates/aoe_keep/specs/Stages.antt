@@ -48,15 +48,15 @@ IsOtherTurn None turn = Unit {0}
 IsOtherTurn (Some p) turn = (turn < 3) × (turn ≢ p.turn)
 
 -- a body in the spare slot that can be chosen or passed over, and is never bad
-pub record IsReady (place : Option Place) (c : Contents) (b : ℕ × Settings) : Type 0 where
+pub record IsChoosable (place : Option Place) (c : Contents) (b : ℕ × Settings) : Type 0 where
   pub body : StaysBody c (spare place) b
   pub turn : IsOtherTurn place b.0
 
 -- the spare slot. Where its gate is known to be closed it is closed now, and a crash leaves it so or opens it before a ready
 -- body. Else it has a ready body, behind a gate that is open or that a crash can open
 abbrev pub IsSpare : Option Place → Bool → Contents → Type 0
-IsSpare place true c = (is_open c.bytes (spare place) ≡ false) × (StaysClosed c (spare place) ⊎ ((b : ℕ × Settings) × IsReady place c b))
-IsSpare place false c = (b : ℕ × Settings) × IsReady place c b × ((is_loose c.loose (8 * spare place) ≡ true) ⊎ (is_open c.bytes (spare place) ≡ true))
+IsSpare place true c = (is_open c.bytes (spare place) ≡ false) × (StaysClosed c (spare place) ⊎ ((b : ℕ × Settings) × IsChoosable place c b))
+IsSpare place false c = (b : ℕ × Settings) × IsChoosable place c b × ((is_loose c.loose (8 * spare place) ≡ true) ⊎ (is_open c.bytes (spare place) ≡ true))
 
 -- between two replacements
 pub record IsKept (place : Option Place) (is_closed : Bool) (lists : Settings) (c : Contents) : Type 0 where

@@ -20,7 +20,7 @@ pub struct Keep<D: Disk> {
 }
 
 impl<D: Disk> Model for Keep<D> {
-    ghost use Rattle.aoe_keep.specs.Keep.{Kept, IsMounted};
+    ghost use Rattle.aoe_keep.specs.Keep.{Kept, IsAtRest};
 
     ghost Value = { Kept D };
 
@@ -31,7 +31,7 @@ impl<D: Disk> Model for Keep<D> {
       is_closed = k.mounted.is_closed;
     } };
 
-    ghost invariant = { λ k. IsMounted D.state k.mounted };
+    ghost invariant = { λ k. IsAtRest D.state k.mounted };
 }
 
 impl<D: Disk> Keep<D> {

@@ -6,7 +6,7 @@ ghost use Rattle.aoe_disk.specs.Calls.{IsRun, Settles};
 ghost use Rattle.aoe_disk.specs.Sectors.{Calms};
 ghost use Rattle.aoe_keep.specs.Found.{slot, choice};
 ghost use Rattle.aoe_keep.specs.Stages.{placement};
-ghost use Rattle.aoe_keep.specs.Keep.{IsMounted, Mounts, IsRefused, RunsBetween, ReadsSlots};
+ghost use Rattle.aoe_keep.specs.Keep.{IsAtRest, Mounts, IsRefused, RunsBetween, ReadsSlots};
 ghost use Rattle.aoe_keep.specs.Calls.{MountsBy, ReadsSlot, RefusesBy};
 
 use crate::MountRefusal;
@@ -122,7 +122,7 @@ fn read_slots<D: Disk>(disk: &mut D) -> Result<Result<Present, u8>, Failed>
 
 /// A disk with the lists that stand on it.
 pub(crate) fn mount<D: Disk>(disk: D) -> Result<Mounted<D>, (MountRefusal, D)>
-    ensures mounted { IfOk result (λ k. IsMounted D.state k) }
+    ensures mounted { IfOk result (λ k. IsAtRest D.state k) }
     ensures ok { IfOk result (λ k. Mounts (D.state disk) (D.state k.disk) k.lists) }
     ensures stands { IfOk result (λ k. IfSome (D.state disk).contents
         (λ c. placement (slot c.bytes 0) (slot c.bytes 1) ≡ (k.place, k.is_closed))) }

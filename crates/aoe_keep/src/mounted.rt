@@ -4,7 +4,7 @@ ghost use Rattle.aoe_disk.specs.State.{BothTell, Write, Sync};
 ghost use Rattle.aoe_disk.specs.Calls.{IsRun, Logs, Makes};
 ghost use Rattle.aoe_keep.specs.Calls as calls;
 ghost use Rattle.aoe_keep.specs.Stages.{WritesGate, WritesBody};
-ghost use Rattle.aoe_keep.specs.Keep.{IsMounted, HasCleared, HasStaged, HasOpened, HasHalfOpened, HasReplaced, HasFailed, KeepsOthers};
+ghost use Rattle.aoe_keep.specs.Keep.{IsAtRest, HasCleared, HasStaged, HasOpened, HasHalfOpened, HasReplaced, HasFailed, KeepsOthers};
 
 use crate::body::spell;
 use crate::place::{Place, spare_slot, spare_turn};
@@ -71,7 +71,7 @@ impl<D: Disk> Mounted<D> {
     // Call 1: closes the gate of the spare slot. Where it is known to be closed, a sync stands in
     // the place of the write.
     fn close_gate(&mut self, next: &Lists) -> Result<(), Failed>
-        requires { IsMounted D.state self.old }
+        requires { IsAtRest D.state self.old }
         ensures closed { OnOk result (self.new.is_closed ≡ true) }
         ensures kept { HasFailed D.state next.now self.old self.new }
         ensures place { self.new.place ≡ self.old.place }
@@ -91,7 +91,7 @@ impl<D: Disk> Mounted<D> {
 
     // Calls 1 and 2: the spare slot stays closed.
     fn clear(&mut self, next: &Lists) -> Result<(), Failed>
-        requires { IsMounted D.state self.old }
+        requires { IsAtRest D.state self.old }
         ensures ok { OnOk result (HasCleared D.state self.new) }
         ensures err { OnErr result (HasFailed D.state next.now self.old self.new) }
         ensures lists { self.new.lists ≡ self.old.lists }
@@ -142,7 +142,7 @@ impl<D: Disk> Mounted<D> {
 
     /// The lists become `next`. Where a device call fails no later one is made, and they stay.
     pub(crate) fn replace(&mut self, next: &Lists) -> Result<(), Failed>
-        requires { IsMounted D.state self.old }
+        requires { IsAtRest D.state self.old }
         ensures ok { OnOk result (HasReplaced D.state next.now self.new) }
         ensures err { OnErr result (HasFailed D.state next.now self.old self.new) }
         ensures others { KeepsOthers (D.state self.old.disk) (D.state self.new.disk) }

@@ -10,15 +10,15 @@ use Rattle.aoe_lists.specs.Masks.{after_directive}
 use Rattle.aoe_lists.proofs.AddressLemmas.{all_unique-append, all_unique-without}
 
 -- where a list is left, no address stands twice in it
-abbrev IsSound : Result (List Mac) MaskError → Type 0
-IsSound (Ok list) = all_unique list ≡ true
-IsSound (Err e) = Unit {0}
+abbrev AllUnique : Result (List Mac) MaskError → Type 0
+AllUnique (Ok list) = all_unique list ≡ true
+AllUnique (Err e) = Unit {0}
 
-after_directive-sound : (masks : List Mac) (d : Directive) → all_unique masks ≡ true → IsSound (after_directive masks d)
+after_directive-sound : (masks : List Mac) (d : Directive) → all_unique masks ≡ true → AllUnique (after_directive masks d)
 after_directive-sound masks Nothing once = once
 after_directive-sound masks (Add a) once = at (holds masks a) refl (length masks == 64)
   where
-    at : (there : Bool) → holds masks a ≡ there → (full : Bool) → IsSound (cond there (Ok masks) (cond full (Err ListFull) (Ok (masks ++ a ∷ []))))
+    at : (there : Bool) → holds masks a ≡ there → (full : Bool) → AllUnique (cond there (Ok masks) (cond full (Err ListFull) (Ok (masks ++ a ∷ []))))
     at true e full = once
     at false e true = tt
     at false e false = all_unique-append masks a once e
@@ -27,4 +27,4 @@ after_directive-sound masks Unknown once = tt
 
 -- one directive that is applied
 pub all_unique-after_directive : (masks list : List Mac) (d : Directive) → after_directive masks d ≡ Ok list → all_unique masks ≡ true → all_unique list ≡ true
-all_unique-after_directive masks list d e once = subst IsSound e (after_directive-sound masks d once)
+all_unique-after_directive masks list d e once = subst AllUnique e (after_directive-sound masks d once)

@@ -6,7 +6,7 @@ use Rattle.aoe_base.specs.declared.address.Mac.{Mac}
 use Rattle.aoe_cache.specs.Any.{any_disk, any_state}
 use Rattle.aoe_cache.specs.declared.any.AnyStore.{AnyStore}
 use Rattle.aoe_disk.specs.State.{DiskState}
-use Rattle.aoe_keep.specs.Keep.{IsRefused}
+use Rattle.aoe_keep.specs.Keep.{HasMounted, IsRefused}
 use Rattle.aoe_keep.specs.declared.refusal.MountRefusal.{MountRefusal}
 use Rattle.aoe_serve.specs.Backing.{over}
 use Rattle.aoe_serve.specs.Slots.{slot_of, slots_of}
@@ -14,7 +14,7 @@ use Rattle.aoe_shelf.specs.Shelf.{has_minor, refusal_of}
 use Rattle.aoe_target.specs.Mounted.{Mounted}
 use Rattle.aoe_target.specs.declared.station.Station.{Station}
 use Rattle.aoe_serve.specs.Exporting.{AtFirst, HasRun, IsExported, HasRunAndSynced, Outside, Tells}
-use Rattle.aoe_serve.specs.Files.{AreBack, AreGivenBack, AreSeated, GivesBack, HasMounted, IsLeft, IsSeated, IsSeatedOn, Leaves, OverFiles, named}
+use Rattle.aoe_serve.specs.Files.{AreBack, AreGivenBack, AreSeated, GivesBack, IsLeft, IsSeated, IsSeatedOn, Leaves, OverFiles, named}
 use Rattle.aoe_serve.proofs.BackingLemmas.{over-disk, over-sectors, over-state}
 use Rattle.aoe_serve.proofs.EndLemmas.{over_finds, run_ends, served_in}
 use Rattle.std.proofs.lemmas.List.{length-map}

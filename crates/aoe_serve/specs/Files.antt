@@ -7,8 +7,7 @@ use Rattle.aoe_cache.specs.Free.{KeepsSettled}
 use Rattle.aoe_cache.specs.declared.any.AnyStore.{AnyStore}
 use Rattle.aoe_cache.specs.declared.place.HeldSector.{HeldSector}
 use Rattle.aoe_disk.specs.State.{BothTell, DiskState}
-use Rattle.aoe_keep.specs.Found.{AlwaysFinds}
-use Rattle.aoe_keep.specs.Keep.{Mounts, IsRefused}
+use Rattle.aoe_keep.specs.Keep.{HasMounted, IsRefused}
 use Rattle.aoe_keep.specs.declared.refusal.MountRefusal.{MountRefusal}
 use Rattle.aoe_lists.specs.Settings.{Settings}
 use Rattle.aoe_serve.specs.Backing.{over}
@@ -35,11 +34,6 @@ pub record IsUnder (most : ℕ) (disk store : DiskState) : Type 0 where
   pub few : length held ≤ most
   pub is : shown most held disk ≡ store
   pub kept : BothTell KeepsSettled store.contents disk.contents
-
--- a keep that was mounted: these lists stand on its disk, and every crash finds them
-pub record HasMounted (before after : DiskState) (lists : Settings) : Type 0 where
-  pub mounts : Mounts before after lists
-  pub finds : AlwaysFinds after lists
 
 -- A slot over a file and a keep, from the mounting to the giving back: the disks as they were given, the slot at its beginning and its
 -- end, and the disks as they are given back. Its store holds back up to so many sectors of the file, and none at its beginning.

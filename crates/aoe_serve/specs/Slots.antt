@@ -3,7 +3,7 @@ use Rattle.std.specs.Prelude.{ℕ, ◌≡◌, ◌≤◌, List, map, length, slic
 use Rattle.aoe_base.specs.Faults.{Rose}
 use Rattle.aoe_disk.specs.State.{DiskState}
 use Rattle.aoe_target.specs.Device.{Device, State, Holds}
-use Rattle.aoe_target.specs.History.{Met, IsLawful, IsCounted, count_failed, is_cut, keep_failed, left_by, store_failed}
+use Rattle.aoe_target.specs.History.{Met, AllAllowed, IsCounted, count_failed, is_cut, keep_failed, left_by, store_failed}
 use Rattle.aoe_target.specs.Law.{Fate, IsStep}
 use Rattle.aoe_target.specs.Mounted.{Mounted, device_of}
 use Rattle.aoe_target.specs.declared.station.Station.{Station}
@@ -40,7 +40,7 @@ pub record Meets (a b : Slot) (frame : List ℕ) (fate : Fate) : Type 0 where
 -- is one that its disk counted
 pub record IsServed (a b : Slot) (h : List Met) : Type 0 where
   pub station : b.station ≡ a.station
-  pub lawful : (k : State) → Holds a.device k → IsLawful a.station k h
+  pub lawful : (k : State) → Holds a.device k → AllAllowed a.station k h
   pub holds : (k : State) → Holds a.device k → Holds b.device (left_by a.station k h)
   pub store_faults : IsCounted (count_failed store_failed h) a.device.store b.device.store
   pub keep_faults : IsCounted (count_failed keep_failed h) a.device.keep b.device.keep

@@ -19,7 +19,7 @@ use Rattle.aoe_target.specs.declared.heard.Effect.TheVariants as effect
 use Rattle.aoe_target.specs.declared.station.Station.{Station}
 use Rattle.aoe_target.specs.Law.{after_ata, after_cut, after_effect, after_read, cut, ignored, replied, silent, AllowsAta, Fate}
 use Rattle.aoe_target.specs.Reply.{data_of}
-use Rattle.aoe_target.specs.Sectors.{in_span, learns, puts, sectors_of, settles, spoiled, spoils, value_in, Agrees, Sectors, Tells}
+use Rattle.aoe_target.specs.Sectors.{in_span, learns, puts, sectors_of, settles, left_by_fault, spoils, value_in, Agrees, Sectors, Tells}
 use Rattle.aoe_target.proofs.SectorLemmas.{agrees_self}
 use Rattle.aoe_sim_shelves.specs.Rack.{AgreesWithin, SameWithin}
 use Rattle.aoe_sim_shelves.proofs.WithinLemmas.{ata_exact, ata_within, same_then, spoils_within}
@@ -61,7 +61,7 @@ put_value : (t : Bool) (v : List ℕ) (p q : Option (List ℕ)) → IfSome q (λ
 put_value true v p q k = refl
 put_value false v p q k = k
 
-spoiled_value : (x t first y : Bool) (p q : Option (List ℕ)) → x ≡ false → IfSome q (λ u. p ≡ Some u) → IfSome (if t then spoiled x first q else q) (λ u. (if t then spoiled y first p else p) ≡ Some u)
+spoiled_value : (x t first y : Bool) (p q : Option (List ℕ)) → x ≡ false → IfSome q (λ u. p ≡ Some u) → IfSome (if t then left_by_fault x first q else q) (λ u. (if t then left_by_fault y first p else p) ≡ Some u)
 spoiled_value true t first y p q e k = absurd (cc)
 spoiled_value false true first y p q e k = tt
 spoiled_value false false first y p q e k = k

@@ -19,7 +19,7 @@ use Rattle.aoe_disk.specs.declared.loss.Loss.{Loss}
 use Rattle.aoe_disk.proofs.Pieces.{is_loose-replicate}
 use Rattle.aoe_keep.specs.Body.{decode}
 use Rattle.aoe_keep.specs.Found.{body, choice, found, is_open, slot}
-use Rattle.aoe_keep.specs.Keep.{Kept}
+use Rattle.aoe_keep.specs.Keep.{HasMounted, Kept}
 use Rattle.aoe_lists.specs.Settings.{empty_settings, Settings}
 use Rattle.aoe_shelf.specs.Shelf.{has_minor, refusal_of, Rack}
 use Rattle.aoe_shelf.specs.declared.refusal.ShelfRefusal.TheVariants.{Full, Repeated}
@@ -30,7 +30,7 @@ use Rattle.aoe_target.proofs.DeviceLemmas.{first_state}
 use Rattle.aoe_history.specs.Setup.{SlotSetup}
 use Rattle.aoe_history.specs.Slots.{all_settled, is_cached_whole, new_slot, zero_sector}
 use Rattle.aoe_sim_shelves.specs.declared.rack.Stops.{Stops}
-use Rattle.aoe_sim_shelves.specs.Crash.{IsMounted, Loses, LosesStore, Restarts}
+use Rattle.aoe_sim_shelves.specs.Crash.{Loses, LosesStore, Restarts}
 use Rattle.aoe_sim_shelves.specs.Rack.{over, AgreesWithin, IsBelow, IsServing, IsStoreDue, IsTargetOf, IsUnder, MemoryRack, SameWithin, Serves}
 use Rattle.aoe_sim_shelves.proofs.AgreeLemmas.{same_agrees}
 use Rattle.aoe_sim_shelves.proofs.Apart.{if-false}
@@ -50,7 +50,7 @@ not_refused ts minor room other =
 abbrev pub seated : ℕ → List Mac → ℕ → ℕ → AnyStore Memory → Kept Memory → Mounted (AnyStore Memory) Memory
 seated major ports mtu minor store keep = record { station = station_of (record { major = major; minor = minor }) ports mtu (any_state state_of store).sectors; keep = keep; store = store }
 
-pub seated_target : (major : ℕ) (ports : List Mac) (mtu minor : ℕ) (store : AnyStore Memory) (disk : Memory) (keep : Kept Memory) → minor < 255 → 16 ≤ length disk.loose → IsMounted disk keep → IsTargetOf major ports mtu (seated major ports mtu minor store keep)
+pub seated_target : (major : ℕ) (ports : List Mac) (mtu minor : ℕ) (store : AnyStore Memory) (disk : Memory) (keep : Kept Memory) → minor < 255 → 16 ≤ length disk.loose → HasMounted (state_of disk) (state_of keep.disk) keep.lists → IsTargetOf major ports mtu (seated major ports mtu minor store keep)
 seated_target major ports mtu minor store disk keep low room m = record {
   minor = low;
   station = refl;
@@ -78,7 +78,7 @@ lost_sectors how (Cached a) (Direct b) l = absurd l
 lost_sectors how (Cached a) (Cached b) l = l.disk.sectors
 
 pub seated_again : (how : Loss) (shelf r : Rack (AnyStore Memory) Memory) (t : Mounted (AnyStore Memory) Memory) (minor : ℕ) (store : AnyStore Memory) (disk : Memory) (keep : Kept Memory) → IsTargetOf shelf.major shelf.ports shelf.mtu t → r ≡ record shelf { targets = r.targets }
-    → minor ≡ t.station.id.minor → LosesStore how t.store store → Loses how t.keep.disk disk → IsMounted disk keep → Restarts how t (seated r.major r.ports r.mtu minor store keep)
+    → minor ≡ t.station.id.minor → LosesStore how t.store store → Loses how t.keep.disk disk → HasMounted (state_of disk) (state_of keep.disk) keep.lists → Restarts how t (seated r.major r.ports r.mtu minor store keep)
 seated_again how shelf r t minor store disk keep k rest name lost lost_keep mounted = record {
   station =
       ap (λ (z : Rack (AnyStore Memory) Memory). station_of (record { major = z.major; minor = minor }) z.ports z.mtu (any_state state_of store).sectors) rest
@@ -178,7 +178,7 @@ module _ (n : ℕ) (slot : SlotSetup) (store : Memory) (zeros : store ≡ fresh 
 
 -- A NEW SLOT
 
-module _ (major : ℕ) (ports : List Mac) (mtu minor n m : ℕ) (cache : Option ℕ) (store disk : Memory) (keep : Kept Memory) (zeros : store ≡ fresh (replicate (512 * n) 0)) (lists : disk ≡ fresh (replicate m 0)) (mounted : IsMounted disk keep) where
+module _ (major : ℕ) (ports : List Mac) (mtu minor n m : ℕ) (cache : Option ℕ) (store disk : Memory) (keep : Kept Memory) (zeros : store ≡ fresh (replicate (512 * n) 0)) (lists : disk ≡ fresh (replicate m 0)) (mounted : HasMounted (state_of disk) (state_of keep.disk) keep.lists) where
   abbrev new_setup : SlotSetup
   new_setup = record { station = station_of (record { major = major; minor = minor }) ports mtu n; cache = cache }
 

@@ -22,7 +22,7 @@ use Rattle.aoe_target.specs.declared.verdict.Verdict.{Verdict}
 use Rattle.aoe_target.specs.declared.verdict.Verdict.TheVariants as verdict
 use Rattle.aoe_target.specs.Law.{after_ata, after_cut, after_effect, after_read, cut, ignored, replied, silent, Fate}
 use Rattle.aoe_target.specs.Reply.{data_of}
-use Rattle.aoe_target.specs.Sectors.{in_span, learns, puts, settles, spoiled, spoils, value_in, Same, Sectors}
+use Rattle.aoe_target.specs.Sectors.{in_span, learns, puts, settles, left_by_fault, spoils, value_in, Same, Sectors}
 use Rattle.aoe_target.specs.Verdict.{ata_verdict, decided, is_heard, judged}
 use Rattle.aoe_target.specs.Verdict as judge
 use Rattle.aoe_sim_shelves.specs.Rack.{SameWithin}
@@ -49,8 +49,8 @@ module _ (n : ℕ) (a b : Sectors) (ab : SameWithin n a b) where
   pub spoils_within : (span : Span) → SameWithin n (spoils span a) (spoils span b)
   spoils_within span = record {
     known = λ s l.
-        ap (λ (t : Bool). cond (in_span span s) (spoiled t (s == span.at) (a.known s)) (a.known s)) ab.exact
-        ∙ ap (λ (o : Option (List ℕ)). cond (in_span span s) (spoiled b.exact (s == span.at) o) o) (ab.known s l);
+        ap (λ (t : Bool). cond (in_span span s) (left_by_fault t (s == span.at) (a.known s)) (a.known s)) ab.exact
+        ∙ ap (λ (o : Option (List ℕ)). cond (in_span span s) (left_by_fault b.exact (s == span.at) o) o) (ab.known s l);
     marks = λ s l. ap (λ (t : Bool). in_span span s || t) (ab.marks s l);
     settled = ab.settled;
     exact = ab.exact;

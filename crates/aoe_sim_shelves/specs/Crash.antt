@@ -8,8 +8,7 @@ use Rattle.aoe_disk.specs.Loss.{IsLeft}
 use Rattle.aoe_disk.specs.Memory.{contents_of, fresh, state_of, Memory}
 use Rattle.aoe_disk.specs.State.{CanLeave}
 use Rattle.aoe_disk.specs.declared.loss.Loss.{Loss}
-use Rattle.aoe_keep.specs.Found.{AlwaysFinds}
-use Rattle.aoe_keep.specs.Keep.{Kept, Mounts}
+use Rattle.aoe_keep.specs.Keep.{HasMounted}
 use Rattle.aoe_target.specs.Mounted.{Mounted}
 use Rattle.aoe_history.specs.declared.entry.Entry.{Entry}
 use Rattle.aoe_history.specs.declared.entry.Entry.TheVariants.{Crashed}
@@ -34,18 +33,13 @@ LosesStore how (Direct old) (Cached new) = ⊥
 LosesStore how (Cached old) (Direct new) = ⊥
 LosesStore how (Cached old) (Cached new) = LosesCache how old new
 
--- the lists that stand on a disk of which no call fails
-pub record IsMounted (disk : Memory) (k : Kept Memory) : Type 0 where
-  pub mounts : Mounts (state_of disk) (state_of k.disk) k.lists
-  pub finds : AlwaysFinds (state_of k.disk) k.lists
-
 -- a target that lost its power and was mounted again
 pub record Restarts (how : Loss) (old new : Mounted (AnyStore Memory) Memory) : Type 0 where
   pub station : new.station ≡ old.station
   pub store : LosesStore how old.store new.store
   pub disk : Memory
   pub keep : Loses how old.keep.disk disk
-  pub mounted : IsMounted disk new.keep
+  pub mounted : HasMounted (state_of disk) (state_of new.keep.disk) new.keep.lists
 
 -- and each of a shelf
 pub record RestartEach (how : Loss) (old new : List (Mounted (AnyStore Memory) Memory)) : Type 0 where

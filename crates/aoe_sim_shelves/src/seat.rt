@@ -3,8 +3,8 @@ ghost use Rattle.std.specs.Prelude.{ℕ, ◌≡◌, ◌≤◌, ◌<◌, ◌++◌
 ghost use Rattle.aoe_cache.specs.Any.{any_state};
 ghost use Rattle.aoe_disk.specs.Memory.{state_of};
 ghost use Rattle.aoe_keep.specs.Found.{found};
+ghost use Rattle.aoe_keep.specs.Keep.{HasMounted};
 ghost use Rattle.aoe_lists.specs.Settings.{Settings};
-ghost use Rattle.aoe_sim_shelves.specs.Crash.{IsMounted};
 ghost use Rattle.aoe_sim_shelves.specs.Rack.{over};
 ghost use Rattle.aoe_shelf.specs.Shelf.{refusal_of};
 ghost use Rattle.aoe_target.specs.Mounted.{station_of};
@@ -43,7 +43,7 @@ pub(crate) fn mount(disk: MemDisk) -> Keep<MemDisk>
     requires room { 16 ≤ length disk.loose }
     requires lists { (lists : Settings) × (found disk.bytes ≡ Ok lists) }
     requires unarmed { disk.arming ≡ None }
-    ensures { IsMounted disk result }
+    ensures { HasMounted (state_of disk) (state_of result.disk) result.lists }
 {
     match Keep::mount(disk) {
         Ok(keep) => keep,

@@ -13,7 +13,7 @@ use Rattle.aoe_target.specs.declared.station.Station.{Station}
 use Rattle.aoe_target.specs.declared.heard.Effect.{Effect}
 use Rattle.aoe_target.specs.declared.heard.Effect.TheVariants as effect
 use Rattle.aoe_target.specs.Reply.{data_of}
-use Rattle.aoe_target.specs.Sectors.{Sectors, Same, Agrees, Tells, in_span, value_in, puts, spoils, spoiled, learns, settles}
+use Rattle.aoe_target.specs.Sectors.{Sectors, Same, Agrees, Tells, in_span, value_in, puts, spoils, left_by_fault, learns, settles}
 use Rattle.aoe_target.specs.Law.{Fate, ignored, silent, cut, replied, AllowsAta, Gives, after_ata, after_effect, after_read, after_cut}
 use Rattle.aoe_target.proofs.SectorLemmas.{agrees_same, agrees_self, by_span}
 
@@ -63,8 +63,8 @@ puts_agree span bytes a b ab = record {
 spoils_same : (span : Span) (a b : Sectors) → Same a b → Same (spoils span a) (spoils span b)
 spoils_same span a b same = record {
   known = λ s.
-      ap (λ (t : Bool). cond (in_span span s) (spoiled t (s == span.at) (a.known s)) (a.known s)) same.exact
-      ∙ ap (λ (o : Option (List ℕ)). cond (in_span span s) (spoiled b.exact (s == span.at) o) o) (same.known s);
+      ap (λ (t : Bool). cond (in_span span s) (left_by_fault t (s == span.at) (a.known s)) (a.known s)) same.exact
+      ∙ ap (λ (o : Option (List ℕ)). cond (in_span span s) (left_by_fault b.exact (s == span.at) o) o) (same.known s);
   marks = λ s. ap (λ (t : Bool). in_span span s || t) (same.marks s);
   settled = same.settled;
   exact = same.exact;
@@ -73,7 +73,7 @@ spoils_same span a b same = record {
 pub spoils_agree : (span : Span) (a b : Sectors) → Agrees a b → Agrees (spoils span a) (spoils span b)
 spoils_agree span a b ab = at b.exact refl
   where
-    unknown : (t first : Bool) (x y : Option (List ℕ)) (own : Option (List ℕ)) → IfSome y (λ v. x ≡ Some v) → IfSome (cond t (spoiled false first y) y) (λ v. cond t own x ≡ Some v)
+    unknown : (t first : Bool) (x y : Option (List ℕ)) (own : Option (List ℕ)) → IfSome y (λ v. x ≡ Some v) → IfSome (cond t (left_by_fault false first y) y) (λ v. cond t own x ≡ Some v)
     unknown true true x y own g = tt
     unknown true false x y own g = tt
     unknown false first x y own g = g
@@ -82,8 +82,8 @@ spoils_agree span a b ab = at b.exact refl
     at true e = agrees_same (spoils span a) (spoils span b) (spoils_same span a b (ab.exact e))
     at false e = record {
       known = λ s.
-          let own : Option (List ℕ) = spoiled a.exact (s == span.at) (a.known s) in
-          let P : Bool → Type 0 = λ t. IfSome (cond (in_span span s) (spoiled t (s == span.at) (b.known s)) (b.known s)) (λ v. cond (in_span span s) own (a.known s) ≡ Some v) in
+          let own : Option (List ℕ) = left_by_fault a.exact (s == span.at) (a.known s) in
+          let P : Bool → Type 0 = λ t. IfSome (cond (in_span span s) (left_by_fault t (s == span.at) (b.known s)) (b.known s)) (λ v. cond (in_span span s) own (a.known s) ≡ Some v) in
           subst P (sym e) (unknown (in_span span s) (s == span.at) (a.known s) (b.known s) own (ab.known s));
       marks = λ s f. or_false (in_span span s) (a.marks s) (b.marks s) (ab.marks s) f;
       exact = λ f. absurd (let no : true ≡ false → ⊥ = λ q. (cc) in no (sym f ∙ e));

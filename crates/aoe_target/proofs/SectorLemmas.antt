@@ -12,7 +12,7 @@ use Rattle.aoe_disk.proofs.Pieces.{is_loose-with_marks_inside, is_loose-with_mar
 use Rattle.aoe_disk.proofs.Touching.{sector-with_piece, sector-with_sector, sector-with_sector_other, puts_touch, settles_kept}
 use Rattle.aoe_store.specs.Store.{MaySpoil}
 use Rattle.aoe_store.proofs.Spoiling.{may_spoil_touch}
-use Rattle.aoe_target.specs.Sectors.{Sectors, Same, Agrees, in_span, value_in, sectors_of, puts, spoils, spoiled, learns, settles}
+use Rattle.aoe_target.specs.Sectors.{Sectors, Same, Agrees, in_span, value_in, sectors_of, puts, spoils, left_by_fault, learns, settles}
 
 before_span : (at n s : ℕ) → s < at → (nat_le at s && nat_lt s (at + n)) ≡ false
 before_span at n s h = grind (arith, nat_tests)
@@ -94,9 +94,9 @@ spoil_same span n old new sectors size some end shape told may =
     let exact : Spoils span.at n old new = may.exact told in
     let touch : Touches span.at (n / 512) old new = may_spoil_touch span.at n old new sectors (is_range span.at n span.count sectors size some end) may in
     record {
-      known = λ s. by_span span s (λ t. Some (sector new.bytes s) ≡ cond t (spoiled (is_some old.settled) (s == span.at) (Some (sector old.bytes s))) (Some (sector old.bytes s)))
+      known = λ s. by_span span s (λ t. Some (sector new.bytes s) ≡ cond t (left_by_fault (is_some old.settled) (s == span.at) (Some (sector old.bytes s))) (Some (sector old.bytes s)))
           (λ low high.
-          let P : Bool → Type 0 = λ t. Some (sector new.bytes s) ≡ spoiled t (s == span.at) (Some (sector old.bytes s)) in
+          let P : Bool → Type 0 = λ t. Some (sector new.bytes s) ≡ left_by_fault t (s == span.at) (Some (sector old.bytes s)) in
           subst P (sym told) (first span old new s (omega (arith, shape.bytes)) (exact.exact told)))
           (λ out. let Q : ℕ → Type 0 = λ k. IsOutside span.at k s in ap Some (touch.same s (subst Q (sym m) out)));
       marks = marked old.loose new.loose span (n / 512) m exact.loose (omega (arith, shape.marks));
@@ -105,16 +105,16 @@ spoil_same span n old new sectors size some end shape told may =
     }
   where
     first : (span : Span) (old new : Contents) (s : ℕ) → 512 * span.at + 512 ≤ length old.bytes → new.bytes ≡ with_piece old.bytes (512 * span.at) spoiled_sector
-        → Some (sector new.bytes s) ≡ spoiled true (s == span.at) (Some (sector old.bytes s))
+        → Some (sector new.bytes s) ≡ left_by_fault true (s == span.at) (Some (sector old.bytes s))
     first span old new s fits e = elim (cases_eq s span.at) [
       | inl here ↦
           let yes : (s == span.at) ≡ true = grind (arith, nat_tests) in
-          let P : Bool → Type 0 = λ t. Some (sector new.bytes s) ≡ spoiled true t (Some (sector old.bytes s)) in
+          let P : Bool → Type 0 = λ t. Some (sector new.bytes s) ≡ left_by_fault true t (Some (sector old.bytes s)) in
           let Q : ℕ → Type 0 = λ i. sector (with_piece old.bytes (512 * span.at) spoiled_sector) i ≡ spoiled_sector in
           subst P (sym yes) (ap Some (ap (λ (l : List ℕ). sector l s) e ∙ subst Q (sym here) (sector-with_sector old.bytes spoiled_sector span.at length-spoiled_sector fits)))
       | inr other ↦
           let no : (s == span.at) ≡ false = grind (arith, nat_tests) in
-          let P : Bool → Type 0 = λ t. Some (sector new.bytes s) ≡ spoiled true t (Some (sector old.bytes s)) in
+          let P : Bool → Type 0 = λ t. Some (sector new.bytes s) ≡ left_by_fault true t (Some (sector old.bytes s)) in
           subst P (sym no) (ap Some (ap (λ (l : List ℕ). sector l s) e ∙ sector-with_sector_other old.bytes spoiled_sector span.at s length-spoiled_sector fits other))
     ]
 
@@ -135,9 +135,9 @@ spoil_agrees span n old new sectors size some end shape may = at (is_some old.se
     at : (t : Bool) → is_some old.settled ≡ t → Agrees (sectors_of new) (spoils span (sectors_of old))
     at true told = agrees_same (sectors_of new) (spoils span (sectors_of old)) (spoil_same span n old new sectors size some end shape told may)
     at false untold = record {
-      known = λ s. by_span span s (λ t. IfSome (cond t (spoiled (is_some old.settled) (s == span.at) (Some (sector old.bytes s))) (Some (sector old.bytes s))) (λ v. Some (sector new.bytes s) ≡ Some v))
+      known = λ s. by_span span s (λ t. IfSome (cond t (left_by_fault (is_some old.settled) (s == span.at) (Some (sector old.bytes s))) (Some (sector old.bytes s))) (λ v. Some (sector new.bytes s) ≡ Some v))
           (λ low high.
-          let P : Bool → Type 0 = λ t. IfSome (spoiled t (s == span.at) (Some (sector old.bytes s))) (λ v. Some (sector new.bytes s) ≡ Some v) in
+          let P : Bool → Type 0 = λ t. IfSome (left_by_fault t (s == span.at) (Some (sector old.bytes s))) (λ v. Some (sector new.bytes s) ≡ Some v) in
           subst P (sym untold) (unknown (s == span.at) s))
           (λ out. ap Some (touch.same s (outside s out)));
       marks = λ s. by_span span s (λ t. (t || is_loose old.loose s) ≡ false → is_loose new.loose s ≡ false)
@@ -146,7 +146,7 @@ spoil_agrees span n old new sectors size some end shape may = at (is_some old.se
       exact = λ e. absurd (no_truth (sym e ∙ untold));
     }
       where
-        unknown : (t : Bool) (s : ℕ) → IfSome (spoiled false t (Some (sector old.bytes s))) (λ v. Some (sector new.bytes s) ≡ Some v)
+        unknown : (t : Bool) (s : ℕ) → IfSome (left_by_fault false t (Some (sector old.bytes s))) (λ v. Some (sector new.bytes s) ≡ Some v)
         unknown true s = tt
         unknown false s = tt
 

@@ -18,11 +18,11 @@ left_by station k [] = k
 left_by station k (m ∷ h) = let before = left_by station k h in after station m.frame (verdict station before.lists m.frame) m.fate before
 
 -- what became of each frame is what the shelf law allows after those before it
-abbrev pub IsLawful : Station → State → List Met → Type 0
-IsLawful station k [] = Unit {0}
-IsLawful station k (m ∷ h) =
+abbrev pub AllAllowed : Station → State → List Met → Type 0
+AllAllowed station k [] = Unit {0}
+AllAllowed station k (m ∷ h) =
     let before = left_by station k h in
-    Allows station before m.frame (verdict station before.lists m.frame) m.fate × IsLawful station k h
+    Allows station before m.frame (verdict station before.lists m.frame) m.fate × AllAllowed station k h
 
 -- the power was lost
 abbrev pub is_cut : Fate → Bool

@@ -54,16 +54,16 @@ Verifies station h args effect.ReadFault reply = reply ≡ ata_reply station h a
 Verifies station h args e reply = ⊥
 
 -- a write: done, or ABRT
-abbrev pub Writes : Station → Header → AtaArgs → Span → Effect → List ℕ → Type 0
-Writes station h args span (effect.Wrote s) reply = (s ≡ span) × (reply ≡ ata_reply station h args Done)
-Writes station h args span (effect.WriteFault s) reply = (s ≡ span) × (reply ≡ ata_reply station h args Aborted)
-Writes station h args span e reply = ⊥
+abbrev pub AnswersWrite : Station → Header → AtaArgs → Span → Effect → List ℕ → Type 0
+AnswersWrite station h args span (effect.Wrote s) reply = (s ≡ span) × (reply ≡ ata_reply station h args Done)
+AnswersWrite station h args span (effect.WriteFault s) reply = (s ≡ span) × (reply ≡ ata_reply station h args Aborted)
+AnswersWrite station h args span e reply = ⊥
 
 -- a sync: done, or ABRT
-abbrev pub Syncs : Station → Header → AtaArgs → Effect → List ℕ → Type 0
-Syncs station h args effect.Synced reply = reply ≡ ata_reply station h args Done
-Syncs station h args effect.SyncFault reply = reply ≡ ata_reply station h args Aborted
-Syncs station h args e reply = ⊥
+abbrev pub AnswersSync : Station → Header → AtaArgs → Effect → List ℕ → Type 0
+AnswersSync station h args effect.Synced reply = reply ≡ ata_reply station h args Done
+AnswersSync station h args effect.SyncFault reply = reply ≡ ata_reply station h args Aborted
+AnswersSync station h args e reply = ⊥
 
 -- what the device is told to do
 abbrev pub AllowsAta : Station → Option Sectors → Header → AtaArgs → AtaAnswer → Fate → Type 0
@@ -73,8 +73,8 @@ AllowsAta station k h args Page fate = fate ≡ replied effect.None (data_reply 
 AllowsAta station k h args Mode fate = fate ≡ replied effect.None (ata_reply station h args Active)
 AllowsAta station k h args (Give span) fate = RepliesOrCut (Gives station k h args span) fate
 AllowsAta station k h args (Verify span) fate = RepliesOrCut (Verifies station h args) fate
-AllowsAta station k h args (Put span) fate = RepliesOrCut (Writes station h args span) fate
-AllowsAta station k h args Sync fate = RepliesOrCut (Syncs station h args) fate
+AllowsAta station k h args (Put span) fate = RepliesOrCut (AnswersWrite station h args span) fate
+AllowsAta station k h args Sync fate = RepliesOrCut (AnswersSync station h args) fate
 
 -- a change of the lists: done, or the error "device unavailable"
 abbrev pub Edits : Station → List ℕ → List ℕ → Effect → List ℕ → Type 0

@@ -23,7 +23,7 @@ abbrev pub station_of : TargetId → List Mac → ℕ → ℕ → Station
 station_of id ports mtu sectors = record { id = id; ports = record { items = ports }; max = (mtu - 36) / 512; sectors = sectors }
 
 -- what holds of the fields of a target
-pub record IsMounted (station : Station) (disk : DiskState) : Type 0 where
+pub record FitsStore (station : Station) (disk : DiskState) : Type 0 where
   pub size : station.sectors ≡ disk.sectors
   pub bound : station.sectors ≤ 2 ^ 40
   pub room : station.max ≤ 17

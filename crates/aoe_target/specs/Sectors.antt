@@ -38,15 +38,15 @@ puts span bytes k = record k {
 }
 
 -- what a failed write leaves in a sector of its span
-abbrev pub spoiled : Bool → Bool → Option (List ℕ) → Option (List ℕ)
-spoiled true true before = Some spoiled_sector
-spoiled true false before = before
-spoiled false is_first before = None
+abbrev pub left_by_fault : Bool → Bool → Option (List ℕ) → Option (List ℕ)
+left_by_fault true true before = Some spoiled_sector
+left_by_fault true false before = before
+left_by_fault false is_first before = None
 
 -- a failed write
 abbrev pub spoils : Span → Sectors → Sectors
 spoils span k = record k {
-  known = λ s. if in_span span s then spoiled k.exact (s == span.at) (k.known s) else k.known s;
+  known = λ s. if in_span span s then left_by_fault k.exact (s == span.at) (k.known s) else k.known s;
   marks = λ s. in_span span s || k.marks s;
 }
 

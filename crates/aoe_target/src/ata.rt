@@ -12,9 +12,9 @@ ghost use Rattle.aoe_ata.specs.Reply.{reply_of};
 ghost use Rattle.aoe_ata.specs.declared.decision.AtaAnswer.{AtaAnswer};
 ghost use Rattle.aoe_target.specs.Reply.{reply_head};
 ghost use Rattle.aoe_target.specs.Sectors.{sectors_of};
-ghost use Rattle.aoe_target.specs.Law.{AllowsAta, Gives, Syncs, Verifies, Writes, replied};
+ghost use Rattle.aoe_target.specs.Law.{AllowsAta, Gives, AnswersSync, Verifies, AnswersWrite, replied};
 ghost use Rattle.aoe_target.specs.Receive.{Leaves, TurnsUnder, ata_calls, calls_for, is_fault};
-ghost use Rattle.aoe_target.specs.Mounted.{IsMounted};
+ghost use Rattle.aoe_target.specs.Mounted.{FitsStore};
 
 use crate::reply::{DATA_AT, ata_front, reply_ata, reply_page};
 use crate::verdict::args_of;
@@ -61,7 +61,7 @@ fn give<S: Store>(
     span: Span,
     out: &mut Frame,
 ) -> Effect
-    requires mounted { IsMounted station.now (S.state store.old) }
+    requires mounted { FitsStore station.now (S.state store.old) }
     requires range { InRange station.now.sectors station.now.max span }
     ensures gives { Gives station.now (option_map sectors_of (S.state store.old).contents) header.now args.now span
         result out.new.items }
@@ -92,7 +92,7 @@ fn verify<S: Store>(
     span: Span,
     out: &mut Frame,
 ) -> Effect
-    requires mounted { IsMounted station.now (S.state store.old) }
+    requires mounted { FitsStore station.now (S.state store.old) }
     requires range { InRange station.now.sectors station.now.max span }
     ensures verifies { Verifies station.now header.now args.now result out.new.items }
     ensures same { (S.state store.new).contents ≡ (S.state store.old).contents }
@@ -113,7 +113,7 @@ fn verify<S: Store>(
     }
 }
 
-/// Writes the data of a frame.
+/// AnswersWrite the data of a frame.
 fn put<S: Store>(
     store: &mut S,
     station: &Station,
@@ -123,11 +123,11 @@ fn put<S: Store>(
     span: Span,
     out: &mut Frame,
 ) -> Effect
-    requires mounted { IsMounted station.now (S.state store.old) }
+    requires mounted { FitsStore station.now (S.state store.old) }
     requires range { InRange station.now.sectors station.now.max span }
     requires data { 12 + 512 * span.count ≤ length (drop 24 frame.now) }
     requires len { 24 ≤ length frame.now }
-    ensures writes { Writes station.now header.now args.now span result out.new.items }
+    ensures writes { AnswersWrite station.now header.now args.now span result out.new.items }
     ensures leaves { Leaves frame.now (AtaAnswer.Put span) result out.new.items
         (S.state store.old).contents (S.state store.new).contents }
     ensures call { IsRun 1 (is_fault result) (S.state store.old) (S.state store.new) }
@@ -146,7 +146,7 @@ fn put<S: Store>(
     }
 }
 
-/// Syncs the store.
+/// AnswersSync the store.
 fn sync<S: Store>(
     store: &mut S,
     station: &Station,
@@ -155,7 +155,7 @@ fn sync<S: Store>(
     args: &AtaArgs,
     out: &mut Frame,
 ) -> Effect
-    ensures syncs { Syncs station.now header.now args.now result out.new.items }
+    ensures syncs { AnswersSync station.now header.now args.now result out.new.items }
     ensures leaves { Leaves frame.now AtaAnswer.Sync result out.new.items
         (S.state store.old).contents (S.state store.new).contents }
     ensures call { IsRun 1 (is_fault result) (S.state store.old) (S.state store.new) }
@@ -183,7 +183,7 @@ pub(crate) fn serve<S: Store>(
     decision: AtaDecision,
     out: &mut Frame,
 ) -> Effect
-    requires mounted { IsMounted station.now (S.state store.old) }
+    requires mounted { FitsStore station.now (S.state store.old) }
     requires range { CanServe station.now.sectors station.now.max (drop 24 frame.now) decision.answer }
     requires len { 24 ≤ length frame.now }
     ensures allowed { AllowsAta station.now (option_map sectors_of (S.state store.old).contents) header.now

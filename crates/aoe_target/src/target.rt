@@ -33,13 +33,13 @@ pub struct Target<S: Store, D: Disk> {
 }
 
 impl<S: Store, D: Disk> Model for Target<S, D> {
-    ghost use Rattle.aoe_target.specs.Mounted.{Mounted, IsMounted};
+    ghost use Rattle.aoe_target.specs.Mounted.{Mounted, FitsStore};
 
     ghost Value = { Mounted S D };
 
     ghost view = { λ t. record { station = t.station; keep = t.keep; store = t.store } };
 
-    ghost invariant = { λ t. IsMounted t.station (S.state t.store) };
+    ghost invariant = { λ t. FitsStore t.station (S.state t.store) };
 }
 
 /// Does what a request comes to that reads or changes the lists.

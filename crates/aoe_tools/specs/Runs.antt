@@ -14,7 +14,7 @@ use Rattle.aoe_tools.specs.Discovery.{Discovers, finding_question, finding_reque
 use Rattle.aoe_tools.specs.One.{AsksOne, edits_by}
 use Rattle.aoe_tools.specs.Stat.{Stats}
 use Rattle.aoe_tools.specs.TransferAsks.{LinkState}
-use Rattle.aoe_tools.specs.TransferCopies.{Copies, Puts, Writes, read_by, read_of}
+use Rattle.aoe_tools.specs.TransferCopies.{Copies, Puts, TakesRead, read_by, read_of}
 use Rattle.aoe_tools.specs.TransferInput.{Inputs}
 use Rattle.aoe_tools.specs.declared.course.Course.{Course}
 use Rattle.aoe_tools.specs.declared.end.CopyRefusal.{CopyRefusal}
@@ -93,7 +93,7 @@ after t = record { turns = t.turns'; given = t.given'; taken = t.taken' }
 -- sectors of the device were read, and a sink took them, or a front of them where it failed
 abbrev pub RunsGet : Result Unit CopyRefusal → Ask → TargetId → ℕ → ℕ → Told → Option (List ℕ) → Option (List ℕ) → Type 0
 RunsGet result ask id at count t held held' = (copied : Result Course ToolRefusal)
-    × Copies copied ask id (read_of at count) t.least (before t) (after t) t.answers t.answers' × Writes (read_by copied) result held held'
+    × Copies copied ask id (read_of at count) t.least (before t) (after t) t.answers t.answers' × TakesRead (read_by copied) result held held'
 
 -- what a source gave was written to sectors of the device, and flushed
 abbrev pub RunsPut : Result Unit CopyRefusal → Ask → TargetId → ℕ → Told → Option (List ℕ) → Option (List ℕ) → Type 0

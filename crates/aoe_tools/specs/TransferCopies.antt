@@ -100,11 +100,11 @@ pub record Copies (result : Result Course ToolRefusal) (ask : Ask) (id : TargetI
   pub copies : CopiesAt found result ask id range mid after later answers'
 
 -- the sink takes what was read, and nothing where nothing was
-abbrev pub Writes : Result (List ℕ) ToolRefusal → Result Unit CopyRefusal → Option (List ℕ) → Option (List ℕ) → Type 0
-Writes (Ok bytes) (Ok done) before after = Took before after bytes
-Writes (Ok bytes) (Err copy.SinkFault) before after = TookSome before after bytes
-Writes (Ok bytes) (Err e) before after = ⊥
-Writes (Err e) result before after = (result ≡ Err (copy.Tool e)) × (after ≡ before)
+abbrev pub TakesRead : Result (List ℕ) ToolRefusal → Result Unit CopyRefusal → Option (List ℕ) → Option (List ℕ) → Type 0
+TakesRead (Ok bytes) (Ok done) before after = Took before after bytes
+TakesRead (Ok bytes) (Err copy.SinkFault) before after = TookSome before after bytes
+TakesRead (Ok bytes) (Err e) before after = ⊥
+TakesRead (Err e) result before after = (result ≡ Err (copy.Tool e)) × (after ≡ before)
 
 -- the input is written and flushed; where none came, nothing is done
 abbrev pub Puts : Result (List ℕ) CopyRefusal → Result Unit CopyRefusal → Ask → TargetId → ℕ → ℕ → LinkState → LinkState → Option (List ℕ) → Option (List ℕ) → Type 0

@@ -6,7 +6,7 @@ ghost use Rattle.aoe_base.specs.declared.address.TargetId.{TargetId};
 ghost use Rattle.aoe_tools.specs.declared.course.Course.{Course};
 ghost use Rattle.aoe_tools.specs.declared.end.ToolRefusal.{ToolRefusal as Refused};
 ghost use Rattle.aoe_tools.specs.Runs.{RunsGet, RunsPut, told};
-ghost use Rattle.aoe_tools.specs.TransferCopies.{end_of, first_phase, read_by, read_of, write_of, Copies, IsFresh, MayRun, NotBegun, Puts, Writes};
+ghost use Rattle.aoe_tools.specs.TransferCopies.{end_of, first_phase, read_by, read_of, write_of, Copies, IsFresh, MayRun, NotBegun, Puts, TakesRead};
 ghost use Rattle.aoe_tools.specs.TransferInput.{Inputs};
 ghost use Rattle.aoe_tools.specs.TransferRun.{host_of, IsFit};
 
@@ -146,7 +146,7 @@ fn read_all<L: Link, C: Clock>(
     }
 }
 
-/// Writes the sectors of a device and flushes it, once it is found.
+/// TakesRead the sectors of a device and flushes it, once it is found.
 fn write_all<L: Link, C: Clock>(
     alloc: Global,
     ask: &Ask,
@@ -214,7 +214,7 @@ pub fn get<L: Link, C: Clock, K: Sink>(
     }
 }
 
-/// Writes what the source gives up to its end to the sectors of a device from `at` on, and flushes
+/// TakesRead what the source gives up to its end to the sectors of a device from `at` on, and flushes
 /// the device. The source is read before anything is sent.
 pub fn put<L: Link, C: Clock, S: Source>(
     alloc: Global,

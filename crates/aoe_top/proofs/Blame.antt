@@ -1,9 +1,8 @@
 -- What one answer tells of an object, another tells.
 use Rattle.std.proofs.Common.{◌≡◌, ◌≤◌, ◌+◌, ℕ, List, [], ◌∷◌}
 use Rattle.std.specs.Prelude.{◌↔◌}
-use Rattle.aoe_base.specs.Faults.{Rose}
 use Rattle.aoe_serve.specs.Exporting.{AtFirst}
-use Rattle.aoe_top.specs.Blame.{Blamed}
+use Rattle.aoe_base.specs.Faults.{Blamed, Rose}
 
 module _ (told was : Type 0) (is : told ↔ was) where
   pub blamed : (a b : ℕ) → (was → Rose a b) → ((was → ⊥) → b ≡ a) → b ≤ a + 1 → Blamed told a b

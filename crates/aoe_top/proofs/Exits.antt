@@ -15,7 +15,8 @@ use Rattle.aoe_serve.specs.Slots.{IsServed, Slot}
 use Rattle.aoe_target.specs.History.{count_failed, store_failed}
 use Rattle.aoe_target.specs.declared.station.Station.{Station}
 use Rattle.aoe_serve.specs.Exporting.{IsExported, Outside, Tells, arrivals_in, first_failed}
-use Rattle.aoe_serve.specs.Files.{HasMounted, IsOver, OverFiles}
+use Rattle.aoe_keep.specs.Keep.{HasMounted}
+use Rattle.aoe_serve.specs.Files.{IsOver, OverFiles}
 use Rattle.aoe_serve.specs.declared.plan.Exported.{Exported}
 use Rattle.aoe_serve.specs.declared.plan.Plan.{Plan}
 use Rattle.aoe_serve.proofs.BackingLemmas.{shown-faults}

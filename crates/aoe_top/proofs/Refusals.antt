@@ -6,12 +6,12 @@ use Rattle.aoe_base.specs.Faults.{Rose}
 use Rattle.aoe_disk.specs.State.{Contents, DiskState, BothTell}
 use Rattle.aoe_disk.specs.Calls.{Settles}
 use Rattle.aoe_keep.specs.Found.{found}
-use Rattle.aoe_keep.specs.Keep.{IsRefused}
+use Rattle.aoe_keep.specs.Keep.{HasMounted, IsRefused}
 use Rattle.aoe_keep.specs.declared.refusal.MountRefusal.{MountRefusal}
 use Rattle.aoe_keep.specs.declared.refusal.MountRefusal.TheVariants as refusal
 use Rattle.aoe_lists.specs.Settings.{Settings}
 use Rattle.aoe_serve.specs.Exporting.{Outside, Tells}
-use Rattle.aoe_serve.specs.Files.{GivesBack, HasMounted}
+use Rattle.aoe_serve.specs.Files.{GivesBack}
 use Rattle.aoe_serve.specs.declared.over_files.Rack.{Rack}
 use Rattle.aoe_serve.specs.declared.plan.Plan.{Plan}
 use Rattle.aoe_serve.specs.declared.plan.RunEnd.{RunEnd}

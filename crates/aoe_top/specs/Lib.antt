@@ -1,4 +1,3 @@
-pub mod Blame
 pub mod Commands
 pub mod Ending
 pub mod Run

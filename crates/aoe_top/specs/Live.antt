@@ -11,7 +11,7 @@ use Rattle.aoe_script.specs.Lines.{script_of}
 use Rattle.aoe_script.specs.Print.{script_text}
 use Rattle.aoe_script.specs.declared.event.Event.{Event}
 use Rattle.aoe_words.specs.declared.command.Live.{Live}
-use Rattle.aoe_top.specs.Blame.{Blamed}
+use Rattle.aoe_base.specs.Faults.{Blamed}
 use Rattle.aoe_top.specs.declared.status.Status.{Status}
 use Rattle.aoe_top.specs.declared.status.Status.TheVariants as status
 use Rattle.aoe_top.specs.declared.status.What.{What}

@@ -100,17 +100,17 @@ is_tool_status (status.Refused r) = true
 is_tool_status s = false
 
 -- what becomes of what is said: a text is written, whole or where the sink fails a front of it; a refusal is the status
-abbrev pub Writes : Status → Result (List ℕ) ToolRefusal → Option (List ℕ) → Option (List ℕ) → Type 0
-Writes status.Ok (Ok text) held held' = Took held held' text
-Writes status.SinkFault (Ok text) held held' = TookSome held held' text
-Writes s (Ok text) held held' = ⊥
-Writes s (Err r) held held' = (s ≡ tool_status r) × (held' ≡ held)
+abbrev pub TakesSaid : Status → Result (List ℕ) ToolRefusal → Option (List ℕ) → Option (List ℕ) → Type 0
+TakesSaid status.Ok (Ok text) held held' = Took held held' text
+TakesSaid status.SinkFault (Ok text) held held' = TookSome held held' text
+TakesSaid s (Ok text) held held' = ⊥
+TakesSaid s (Err r) held held' = (s ≡ tool_status r) × (held' ≡ held)
 
 -- a run of a tool over a link and a clock: it ended so, and a sink took what it says
 pub record RunsTool (tool : Tool) (s : Status) (held held' : Option (List ℕ)) (t : Told) : Type 0 where
   pub said : Result (List ℕ) ToolRefusal
   pub says : Says tool said t
-  pub writes : Writes s said held held'
+  pub writes : TakesSaid s said held held'
 
 -- the status of a tool that ended without having copied sectors
 abbrev pub copy_status : CopyRefusal → Status

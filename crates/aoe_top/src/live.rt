@@ -1,7 +1,7 @@
 //! A run over two links: its script on the sink.
 ghost use Rattle.std.specs.Prelude.{◌≡◌, ◌≢◌, true};
 ghost use Rattle.aoe_words.specs.Words.{CanLive};
-ghost use Rattle.aoe_top.specs.Blame.{Blamed};
+ghost use Rattle.aoe_base.specs.Faults.{Blamed};
 ghost use Rattle.aoe_top.specs.Live.{AreBlamed, RunsLive, ends, full, is_live_status, live_status};
 
 use crate::{Status, What};

@@ -3,7 +3,7 @@ ghost use Rattle.std.specs.Prelude.{◌≡◌, ◌≢◌, ◌≤◌, ℕ, Err, t
 ghost use Rattle.aoe_tools.specs.One.{edits_by};
 ghost use Rattle.aoe_tools.specs.Runs.{told};
 ghost use Rattle.aoe_words.specs.Tools.{CanGet};
-ghost use Rattle.aoe_top.specs.Blame.{Blamed};
+ghost use Rattle.aoe_base.specs.Faults.{Blamed};
 ghost use Rattle.aoe_top.specs.Tools.{CanAsk, CopiesIn, CopiesOut, RunsTool, Says, SaysConfig, SaysFound, SaysMasks, SaysReserves, SaysStat, ask_of, copy_status, dirs_of, is_copy_status, is_tool_status, said, tool_status};
 
 use crate::{Status, What};

@@ -1,6 +1,5 @@
 //! The call that the program makes.
 ghost use Rattle.std.specs.Prelude.{◌≡◌, ◌≢◌, ◌≤◌, ◌<◌, ◌+◌, ◌↔◌, ◌⊎◌, List, ℕ, false, All, length, map, string_bytes, IfSome, IsSome, None, Some};
-ghost use Rattle.aoe_base.specs.Faults.{Rose};
 ghost use Rattle.aoe_io.specs.Stream.{stream, IsFrame};
 ghost use Rattle.aoe_lists.specs.Settings.{Settings};
 ghost use Rattle.aoe_serve.specs.Exporting.{AtFirst};
@@ -16,7 +15,7 @@ ghost use Rattle.aoe_words.specs.declared.command.Live.{Live as Lives};
 ghost use Rattle.aoe_words.specs.declared.command.Put.{Put as Puts};
 ghost use Rattle.aoe_words.specs.declared.command.Soak.{Soak as Soaks};
 ghost use Rattle.aoe_words.specs.declared.command.Tool.{Tool};
-ghost use Rattle.aoe_top.specs.Blame.{Blamed};
+ghost use Rattle.aoe_base.specs.Faults.{Blamed, Rose};
 ghost use Rattle.aoe_top.specs.Commands.{CanExport, is_live, reads_input, uses_clock};
 ghost use Rattle.aoe_top.specs.Live.{AreBlamed, AtBoth, RunsLive, ends};
 ghost use Rattle.aoe_top.specs.Ending.{file_at, keep_at, refused_slot};

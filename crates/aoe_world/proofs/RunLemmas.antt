@@ -13,7 +13,7 @@ use Rattle.aoe_world.specs.declared.part.Part.{Part}
 use Rattle.aoe_world.specs.declared.end.ReplayEnd.{ReplayEnd}
 use Rattle.aoe_world.specs.declared.end.ReplayEnd.TheVariants.{Ended, SourceFault, SinkFault, NoMemory, Script, Limit}
 use Rattle.aoe_world.specs.declared.end.ReplayLimit.TheVariants.{ScriptBytes, Events, Frames, FrameBytes}
-use Rattle.aoe_world.specs.Replay.{GaveAll, IsFaultless, IsRead, IsRefusedAs, IsSound, HasRun, LeavesSink, Played, Plays, Refuses, Replayed, Runs, RunsTo, Spells, Stops, Unread, Writes, part_text, text_of}
+use Rattle.aoe_world.specs.Replay.{GaveAll, IsFaultless, IsRead, IsRefusedAs, IsSound, HasRun, LeavesSink, Played, Plays, Refuses, Replayed, Runs, RunsTo, Spells, Stops, Unread, TakesText, part_text, text_of}
 use Rattle.aoe_world.proofs.TextLemmas.{short_none}
 
 pub left_alone : {T : Type 0} (end : ReplayEnd) (a : T) → LeavesSink end a a
@@ -26,7 +26,7 @@ left_alone NoMemory a = refl
 
 -- ---- the run of a script
 
-pub finished : (part : Part) (end : ReplayEnd) (script : ScriptLines) (held held' : Option (List ℕ)) (run : Played script) → Writes end held held' (text_of part script run)
+pub finished : (part : Part) (end : ReplayEnd) (script : ScriptLines) (held held' : Option (List ℕ)) (run : Played script) → TakesText end held held' (text_of part script run)
     → RunsTo part end script held held'
 finished part Ended script held held' run writes = (run, writes)
 finished part SinkFault script held held' run writes = (run, writes)
@@ -39,11 +39,11 @@ finished part SourceFault script held held' run writes = absurd writes
 pub finished_in : (part : Part) (end : ReplayEnd) (script : ScriptLines) (held held' : Option (List ℕ)) (world : Stepped) (count : ℕ) (entries : List Entry)
     → world.lines ≡ script.setups → Plays (setup_of script.setups) script.setups script.events 1 [] world.cursor world.entries
     → IsSound (setup_of world.lines) world.entries
-    → count ≡ length script.events → entries ≡ world.entries → Writes end held held' (part_text part count entries) → RunsTo part end script held held'
+    → count ≡ length script.events → entries ≡ world.entries → TakesText end held held' (part_text part count entries) → RunsTo part end script held held'
 finished_in part end script held held' world count entries lines plays sound counted same writes =
     let P : List Line → Type 0 = λ l. IsSound (setup_of l) world.entries in
-    let R : ℕ → Type 0 = λ k. Writes end held held' (part_text part k world.entries) in
-    let S : List Entry → Type 0 = λ l. Writes end held held' (part_text part count l) in
+    let R : ℕ → Type 0 = λ k. TakesText end held held' (part_text part k world.entries) in
+    let S : List Entry → Type 0 = λ l. TakesText end held held' (part_text part count l) in
     finished part end script held held' record {
       entries = world.entries;
       cursor = world.cursor;

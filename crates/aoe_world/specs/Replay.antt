@@ -185,13 +185,13 @@ IsRefusedAs SourceFault text = ⊥
 IsRefusedAs SinkFault text = ⊥
 
 -- what the sink took of a text
-abbrev pub Writes : ReplayEnd → Option (List ℕ) → Option (List ℕ) → List ℕ → Type 0
-Writes Ended held held' text = Took held held' text
-Writes SinkFault held held' text = TookSome held held' text
-Writes NoMemory held held' text = held' ≡ held
-Writes (Limit limit) held held' text = ⊥
-Writes (Script line why) held held' text = ⊥
-Writes SourceFault held held' text = ⊥
+abbrev pub TakesText : ReplayEnd → Option (List ℕ) → Option (List ℕ) → List ℕ → Type 0
+TakesText Ended held held' text = Took held held' text
+TakesText SinkFault held held' text = TookSome held held' text
+TakesText NoMemory held held' text = held' ≡ held
+TakesText (Limit limit) held held' text = ⊥
+TakesText (Script line why) held held' text = ⊥
+TakesText SourceFault held held' text = ⊥
 
 -- how a replay ends whose world goes no further
 abbrev pub end_of : WorldRefusal → ReplayEnd

@@ -2,7 +2,7 @@
 //! last line.
 ghost use Rattle.std.specs.Prelude.{ℕ, ◌≡◌, ◌≢◌, ◌≤◌, ◌+◌, All, List, None, Some};
 ghost use Rattle.aoe_base.specs.Faults.{Rose};
-ghost use Rattle.aoe_world.specs.Replay.{HasRun, IsFaultless, LeavesSink, Replayed, RunsTo, Sums, Writes, part_text};
+ghost use Rattle.aoe_world.specs.Replay.{HasRun, IsFaultless, LeavesSink, Replayed, RunsTo, Sums, TakesText, part_text};
 ghost use Rattle.aoe_script.specs.Lines.{refusal, script_of};
 ghost use Rattle.aoe_soak.specs.Soak.{soaked};
 ghost use Rattle.aoe_transcript.specs.Print.{CanPrint};
@@ -18,7 +18,7 @@ use aoe_io::{Sink, Source, give_all};
 use aoe_script::Script;
 use std::alloc::Global;
 
-/// Writes this part of the text of the run of a script of `script_events` events.
+/// TakesText this part of the text of the run of a script of `script_events` events.
 fn write_run<K: Sink>(
     alloc: Global,
     part: Part,
@@ -27,7 +27,7 @@ fn write_run<K: Sink>(
     sink: &mut K,
 ) -> ReplayEnd
     requires { All CanPrint history.now }
-    ensures writes { Writes result (K.held sink.old) (K.held sink.new) (part_text part script_events history.now) }
+    ensures writes { TakesText result (K.held sink.old) (K.held sink.new) (part_text part script_events history.now) }
     ensures leaves { LeavesSink result sink.old sink.new }
     ensures count { K.faults sink.old ≤ K.faults sink.new }
     ensures sink_fault { result ≡ ReplayEnd.SinkFault → Rose (K.faults sink.old) (K.faults sink.new) }

@@ -16,7 +16,7 @@ use Rattle.aoe_history.specs.Commands.{path_of, submission, tickets, Submission}
 use Rattle.aoe_history.specs.CommandView.{device_in, in_conflict, is_live, op_in, sends_of, timeout_at, was_done}
 use Rattle.aoe_history.specs.Frames.{clock}
 use Rattle.aoe_history.specs.Setup.{is_called, HostSetup}
-use Rattle.aoe_history.proofs.hosts.ReadyLemmas.{IsReady}
+use Rattle.aoe_history.proofs.hosts.ReadyLemmas.{MayBeSent}
 
 pub record Base (life : ℕ) (host : HostSetup) (h : List Entry) : Type 0 where
   pub bounds : (c : ℕ) (x : Sending) → sends_of host h c ≡ Some x → (0 < c) × (c ≤ tickets host h)
@@ -104,7 +104,7 @@ finished-done (Some s) false e = absurd (cc)
 abbrev pub more : HostSetup → List Entry → ℕ → List ℕ → ℕ → Sending
 more host h c f d = one_more (fields f).tag (record { 0 = clock h }) (path_of host (submission host h c) f) (timeout_at host h d c f) (sends_of host h d)
 
-module _ (life : ℕ) (host : HostSetup) (h : List Entry) (name : ArrayVec ℕ) (c number : ℕ) (f : List ℕ) (mine : is_called host name ≡ true) (r : IsReady life host h c f) (reads : (fields f).tag ≡ r.tag) where
+module _ (life : ℕ) (host : HostSetup) (h : List Entry) (name : ArrayVec ℕ) (c number : ℕ) (f : List ℕ) (mine : is_called host name ≡ true) (r : MayBeSent life host h c f) (reads : (fields f).tag ≡ r.tag) where
   abbrev pub after : List Entry
   after = Sent name c number f ∷ h
 

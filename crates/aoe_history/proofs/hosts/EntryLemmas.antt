@@ -28,7 +28,7 @@ use Rattle.aoe_history.specs.HostLaw.{IsDone}
 use Rattle.aoe_history.specs.Reading as reading
 use Rattle.aoe_history.specs.Setup.{host_called, is_called, HostSetup, Setup}
 use Rattle.aoe_history.proofs.hosts.BaseLemmas.{Base, Keeps}
-use Rattle.aoe_history.proofs.hosts.ReadyLemmas.{IsReady}
+use Rattle.aoe_history.proofs.hosts.ReadyLemmas.{MayBeSent}
 use Rattle.aoe_history.proofs.hosts.BaseLemmas as base
 use Rattle.aoe_history.proofs.hosts.CommandLemmas.{sent-of-there, viewed, IsNamed, Known}
 use Rattle.aoe_history.proofs.hosts.SendLemmas.{and-parts, not-true}
@@ -182,7 +182,7 @@ foreign-frame host h g fs foreign all number f e from = elim (numbered-cases g f
   | inr q ↦ all number f q from
 ]
 
-module _ (life : ℕ) (host : HostSetup) (h : List Entry) (name : ArrayVec ℕ) (c number : ℕ) (f : List ℕ) (mine : is_called host name ≡ true) (r : IsReady life host h c f) (reads : (fields f).tag ≡ r.tag) where
+module _ (life : ℕ) (host : HostSetup) (h : List Entry) (name : ArrayVec ℕ) (c number : ℕ) (f : List ℕ) (mine : is_called host name ≡ true) (r : MayBeSent life host h c f) (reads : (fields f).tag ≡ r.tag) where
   still-sent : Base life host h → (g : SentFrame) → IsSentFor host h g → IsSentFor host (Sent name c number f ∷ h) g
   still-sent b g x = go (is_called host name && nat_eq c x.ticket) refl
     where

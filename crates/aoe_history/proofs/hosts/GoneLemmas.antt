@@ -12,7 +12,7 @@ use Rattle.aoe_history.specs.CommandView.{in_conflict, op_in, sends_of, view, wa
 use Rattle.aoe_history.specs.Frames.{clock}
 use Rattle.aoe_history.specs.Setup.{is_called, HostSetup}
 use Rattle.aoe_history.proofs.hosts.BaseLemmas.{same-conflict, sent-cases, Base, Keeps}
-use Rattle.aoe_history.proofs.hosts.ReadyLemmas.{IsReady}
+use Rattle.aoe_history.proofs.hosts.ReadyLemmas.{MayBeSent}
 
 abbrev pub AreGone : ℕ → HostSetup → List Entry → Type 0
 AreGone life host h = (c d : ℕ) (x y : Sending) → sends_of host h c ≡ Some x → sends_of host h d ≡ Some y → 0 < d → d < c → in_conflict host h d c ≡ true
@@ -42,7 +42,7 @@ some-is : (o : Option Sending) → o ≡ None → is_some o ≡ true → ⊥
 some-is None p e = cc
 some-is (Some x) p e = cc
 
-module _ (life : ℕ) (host : HostSetup) (h : List Entry) (name : ArrayVec ℕ) (c number : ℕ) (f : List ℕ) (mine : is_called host name ≡ true) (r : IsReady life host h c f) (reads : (fields f).tag ≡ r.tag) (b : Base life host h) (g : AreGone life host h) where
+module _ (life : ℕ) (host : HostSetup) (h : List Entry) (name : ArrayVec ℕ) (c number : ℕ) (f : List ℕ) (mine : is_called host name ≡ true) (r : MayBeSent life host h c f) (reads : (fields f).tag ≡ r.tag) (b : Base life host h) (g : AreGone life host h) where
   -- an earlier command in conflict isn't sent any more
   not-again : (e : ℕ) (x : Sending) → sends_of host h e ≡ Some x → 0 < c → c < e → in_conflict host h c e ≡ true → ⊥
   not-again e x s above lt co =

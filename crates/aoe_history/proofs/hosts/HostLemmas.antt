@@ -17,7 +17,7 @@ use Rattle.aoe_history.proofs.hosts.BaseLemmas.{keeps-base, sent-base, Base, Kee
 use Rattle.aoe_history.proofs.hosts.CommandLemmas.{known, some-and, IsNamed, Known}
 use Rattle.aoe_history.proofs.hosts.EntryLemmas.{done-flies, done-keeps, foreign-frame, keeps-frames, named, sent-frames, sent-keeps, submitted-keeps, AreSentFor}
 use Rattle.aoe_history.proofs.hosts.GoneLemmas.{keeps-gone, sent-gone, AreGone}
-use Rattle.aoe_history.proofs.hosts.ReadyLemmas.{ready, IsReady}
+use Rattle.aoe_history.proofs.hosts.ReadyLemmas.{ready, MayBeSent}
 use Rattle.aoe_history.proofs.hosts.SentLemmas.{found, host-there, request-header}
 use Rattle.aoe_history.proofs.hosts.SourceLemmas.{foreign-source, replied-source, request-source, some-such}
 
@@ -35,7 +35,7 @@ module _ (s : Setup) (host : HostSetup) (mine : IsNamed s host) (ok : IsSetup s)
     gone = keeps-gone s.life host h n k x.base x.gone;
   }
 
-  tag-read : (h : List Entry) (c : ℕ) (f : List ℕ) (r : IsReady s.life host h c f) → (fields f).tag ≡ r.tag
+  tag-read : (h : List Entry) (c : ℕ) (f : List ℕ) (r : MayBeSent s.life host h c f) → (fields f).tag ≡ r.tag
   tag-read h c f r = ap (λ (x : Header). x.tag) (request-header s host (view host h c).device (view host h c).op r.tag f ok there r.request)
 
   sent : (h : List Entry) (name : ArrayVec ℕ) (c number : ℕ) (f : List ℕ) → IsLawful s h → IsSomeAnd (host_called s name) (λ o. IsSent s o h c number f) → (b : Bool) → is_called host name ≡ b → Holds s host h → Holds s host (Sent name c number f ∷ h)

@@ -33,7 +33,7 @@ pub record IsRepeatSend (host : HostSetup) (h : List Entry) (c tag : ℕ) : Type
   pub flying : was_done host h c ≡ false
   pub same : before.tag ≡ tag
 
-pub record IsReady (life : ℕ) (host : HostSetup) (h : List Entry) (c : ℕ) (f : List ℕ) : Type 0 where
+pub record MayBeSent (life : ℕ) (host : HostSetup) (h : List Entry) (c : ℕ) (f : List ℕ) : Type 0 where
   pub tag : ℕ
   pub above : 0 < c
   pub submitted : c ≤ tickets host h
@@ -130,7 +130,7 @@ repeat-send s host h c sent k ticket may =
       same = ap (λ (o : Outstanding). o.flying.tag) y.2 ∙ may.tag;
     }
 
-pub ready : (s : Setup) (host : HostSetup) (h : List Entry) (c number : ℕ) (f : List ℕ) → Known host h → IsSent s host h c number f → IsReady s.life host h c f
+pub ready : (s : Setup) (host : HostSetup) (h : List Entry) (c number : ℕ) (f : List ℕ) → Known host h → IsSent s host h c number f → MayBeSent s.life host h c f
 ready s host h c number f k x = record {
   tag = x.sent.tag;
   above = above;

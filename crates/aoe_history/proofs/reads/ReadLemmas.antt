@@ -35,7 +35,7 @@ use Rattle.aoe_history.proofs.reads.EndLemmas.{response-true, Truth}
 use Rattle.aoe_history.proofs.hosts.EntryLemmas.{named, sent-keeps, submitted-keeps}
 use Rattle.aoe_history.proofs.hosts.HostLemmas.{holds-of, known-of}
 use Rattle.aoe_history.proofs.reads.PassLemmas.{arrived-passes, crashed-at, crashed-passes, sent-passes}
-use Rattle.aoe_history.proofs.hosts.ReadyLemmas.{ready, IsReady}
+use Rattle.aoe_history.proofs.hosts.ReadyLemmas.{ready, MayBeSent}
 use Rattle.aoe_history.proofs.sectors.SectorLemmas.{Sector}
 use Rattle.aoe_history.proofs.hosts.SendLemmas.{or-parts}
 use Rattle.aoe_history.proofs.hosts.SentLemmas.{host-there, request-header, spelled-request}
@@ -73,7 +73,7 @@ module _ (s : Setup) (host : HostSetup) (slot : SlotSetup) (ok : IsSetup s) (own
   sent-own : (h : List Entry) (name : ArrayVec ℕ) (c number : ℕ) (f : List ℕ) → (l : IsLawful s (Sent name c number f ∷ h)) → is_called host name ≡ true → Kept s host slot h sct → At s.life host slot (Sent name c number f ∷ h) sct
   sent-own h name c number f l own x =
       let b = run h l.1 in
-      let r : IsReady s.life host h c f = ready s host h c number f (known-of s host h b) (some-and (λ o. IsSent s o h c number f) (host_called s name) host (named s own_name host called name own) l.0) in
+      let r : MayBeSent s.life host h c f = ready s host h c number f (known-of s host h b) (some-and (λ o. IsSent s o h c number f) (host_called s name) host (named s own_name host called name own) l.0) in
       let reads : (fields f).tag ≡ r.tag = ap (λ (z : Header). z.tag) (request-header s host (view host h c).device (view host h c).op r.tag f ok (host-there s own_name host called).0 r.request) in
       let later = holds-of s host (Sent name c number f ∷ h) (run (Sent name c number f ∷ h) l) in
       sent-at s.life host slot h sct name c number f own r reads (holds-of s host h b).base later.base later.gone x.at (is_first (is_called host name) (was_sent host h c)) (wr host slot h sct c) refl refl

@@ -15,7 +15,7 @@ use Rattle.aoe_history.proofs.hosts.ApartLemmas.{one-write}
 use Rattle.aoe_history.proofs.hosts.BaseLemmas.{live-by, now-sent, sent-cases, Base, Keeps}
 use Rattle.aoe_history.proofs.hosts.BaseLemmas as base
 use Rattle.aoe_history.proofs.hosts.GoneLemmas.{AreGone}
-use Rattle.aoe_history.proofs.hosts.ReadyLemmas.{IsReady}
+use Rattle.aoe_history.proofs.hosts.ReadyLemmas.{MayBeSent}
 use Rattle.aoe_history.proofs.sectors.SectorLemmas.{begins, weaken, Sector}
 
 -- a command flies; it is under way
@@ -132,7 +132,7 @@ own-first true false true e p = refl
 own-first true false false e p = absurd (cc)
 own-first false b t e p = absurd (cc)
 
-module _ (life : ℕ) (host : HostSetup) (slot : SlotSetup) (h : List Entry) (s : ℕ) (name : ArrayVec ℕ) (c number : ℕ) (f : List ℕ) (mine : is_called host name ≡ true) (r : IsReady life host h c f) (reads : (fields f).tag ≡ r.tag)
+module _ (life : ℕ) (host : HostSetup) (slot : SlotSetup) (h : List Entry) (s : ℕ) (name : ArrayVec ℕ) (c number : ℕ) (f : List ℕ) (mine : is_called host name ≡ true) (r : MayBeSent life host h c f) (reads : (fields f).tag ≡ r.tag)
     (b : Base life host h) (b2 : Base life host (Sent name c number f ∷ h)) (g2 : AreGone life host (Sent name c number f ∷ h)) (x : At life host slot h s) where
   abbrev n : List Entry
   n = Sent name c number f ∷ h

@@ -3,7 +3,7 @@ use Rattle.std.specs.Prelude.{option_map}
 use Rattle.aoe_hold.specs.declared.command.Command.{Command}
 use Rattle.aoe_hold.specs.Commands.{is_past, live, unsent_count}
 use Rattle.aoe_hold.specs.declared.queue.Waiter.{Waiter}
-use Rattle.aoe_hold.specs.HoldTable.{is_ascending, new_command, ArePast, IsSound, NonePastBefore}
+use Rattle.aoe_hold.specs.HoldTable.{is_ascending, new_command, ArePast, StandInOrder, NonePastBefore}
 use Rattle.aoe_hold.specs.Queue.{AreHeld, IsIndex}
 use Rattle.aoe_hold.specs.Extents.{Covers}
 use Rattle.aoe_hold.specs.Extents.{key_of}
@@ -39,7 +39,7 @@ make_room-requires-clause-blocked c =
 pub invariant_of-self : goal.invariant_of-self
 invariant_of-self c =
     let index = index-reserved c.self.inside.life.0 c.self.inside.latest.0 c.self.inside.unsent c.self.inside.commands.items c.self.inside.timed c.self.inside.ready c.make_room.new.timed c.make_room.new.ready c.make_room.ensures.timed c.make_room.ensures.ready c.make_room.ensures.timed_more c.make_room.ensures.ready_more c.self.invariant.1 in
-    let P : List Command → Type 0 = λ l. IsSound (option_map (λ t. t.0) c.self.inside.greatest) c.self.inside.unsent l × IsIndex c.self.inside.life.0 c.self.inside.latest.0 c.self.inside.unsent l c.make_room.new.timed c.make_room.new.ready × NonePastBefore c.self.inside.life.0 c.self.inside.past_from l
+    let P : List Command → Type 0 = λ l. StandInOrder (option_map (λ t. t.0) c.self.inside.greatest) c.self.inside.unsent l × IsIndex c.self.inside.life.0 c.self.inside.latest.0 c.self.inside.unsent l c.make_room.new.timed c.make_room.new.ready × NonePastBefore c.self.inside.life.0 c.self.inside.past_from l
     × AreHeld c.self.inside.unsent l c.make_room.new.timed c.make_room.new.ready c.make_room.new.blocked × ArePast c.self.inside.life.0 c.self.inside.latest.0 c.self.inside.gone l × Covers c.self.inside.extent c.make_room.new.keys l in
     let reserved = held-reserved c.self.inside.unsent c.self.inside.commands.items c.self.inside.timed c.self.inside.ready c.self.inside.blocked c.make_room.new.timed c.make_room.new.ready c.make_room.new.blocked
     c.make_room.ensures.timed c.make_room.ensures.ready c.make_room.ensures.blocked c.make_room.ensures.blocked_more c.self.invariant.3 in

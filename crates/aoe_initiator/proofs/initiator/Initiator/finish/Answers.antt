@@ -6,7 +6,7 @@ use Rattle.aoe_initiator.specs.declared.device.Arrival.{Arrival}
 use Rattle.aoe_initiator.specs.declared.outcome.Done.{Done}
 use Rattle.aoe_initiator.specs.declared.outcome.Outcome.{Outcome}
 use Rattle.aoe_initiator.specs.declared.pending.Pending.{Pending}
-use Rattle.aoe_initiator.specs.Host.{Host, IsReady}
+use Rattle.aoe_initiator.specs.Host.{Host, IsSendable}
 use Rattle.aoe_initiator.specs.Op.{data_len}
 use Rattle.aoe_initiator.specs.Response.{outcome_of, CanFill}
 use Rattle.aoe_initiator.specs.Steps.{place}
@@ -23,7 +23,7 @@ into_outcome-requires c =
     let there : slice_get c.self.inside.pending.items c.args.heard.at ≡ Some p = slice_get_read c.self.inside.pending.items (length c.self.inside.pending.items) c.args.heard.at p refl inside c.close-command.ensures.command in
     let F : Host → Type 0 = λ h. IfSome (slice_get h.pending c.args.heard.at) (λ (q : Pending). CanFill c.args.heard.answer c.args.args.now (data_len q.op)) in
     let Q : Option Pending → Type 0 = λ o. IfSome o (λ (q : Pending). CanFill c.args.heard.answer c.args.args.now (data_len q.op)) in
-    let R : Pending → Type 0 = λ q. IsReady (length c.self.inside.devices.items) q in
+    let R : Pending → Type 0 = λ q. IsSendable (length c.self.inside.devices.items) q in
     let ready = subst R (sym c.close-command.ensures.command) (c.self.invariant.ready c.args.heard.at p inside) in
     let C : ℕ → Type 0 = λ n. CanFill c.args.heard.answer c.args.args.now n in
     subst C (sym ready.room) (subst Q there (subst F (sym c.self.view_is) c.requires.fills))
