@@ -1,0 +1,5 @@
+mod Blame
+mod Complete
+mod Exits
+mod OnSlots
+mod Refusals

@@ -1,0 +1,5 @@
+pub mod Commands
+pub mod Ending
+pub mod Run
+pub mod Tools
+pub mod Live

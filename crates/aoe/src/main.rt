@@ -1,27 +1,40 @@
-//! The program: it opens the files and sockets that its arguments name, runs the command over them, and
-//! ends with its status.
+//! The program: its commands, from their arguments to their status.
 //!
-//! In order: `files_of` and `ports_of` of `aoe_top` say what to open; files are opened and locked, and
-//! then sockets; `aoe` runs the command; the text of its status goes to standard error. What a file, a
-//! socket, a stream and a clock do is in adapters (`files`, `aoe_udp`, `streams`, `clock`), which tell the
-//! proofs nothing of content. It catches no signal and starts no thread.
+//! In order: [`files_of`] and [`ports_of`] of `aoe_words` say what to open; files are opened and locked,
+//! and then sockets; [`aoe`] runs the command over them, the standard streams and a clock; the text of its
+//! [`Status`] goes to standard error.
+//!
+//! `aoe` (`top`, with `plan`, `tools` and `live`) opens nothing and says no status; its contract is what
+//! the program promises. What a file, a socket, a stream and a clock do is in adapters (`files`,
+//! `aoe_udp`, `streams`, `clock`), which tell the proofs nothing of content. The program catches no signal
+//! and starts no thread.
 #![tactic(auto)]
 
 ghost use Rattle.std.specs.Prelude.{◌≡◌, All, IfOk, IsSome, length};
 
 mod clock;
 mod files;
+mod live;
+mod plan;
+mod status;
 mod streams;
+mod tools;
+mod top;
 
-use aoe_top::{PortWords, Status, aoe, files_of, ports_of};
 use aoe_udp::{OpenRefusal, UdpLink};
+use aoe_words::{PortWords, files_of, ports_of};
 use clock::SystemClock;
 use files::{FileDisk, FileRefusal};
+use status::Status;
 use std::fs::File;
 use std::io::{BufReader, ErrorKind};
 use std::process::ExitCode;
 use std::{env, io};
 use streams::{Input, Output};
+use top::aoe;
+
+#[cfg(test)]
+mod tests;
 
 /// How much of standard input is read at a time, in bytes.
 const READ_AHEAD: usize = 65536;

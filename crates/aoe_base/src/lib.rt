@@ -1,7 +1,7 @@
 //! What every layer names its things by: addresses, device names, the errors of replies, spans of
 //! sectors, times, numbers of things, byte strings and decimal numbers.
 //!
-//! [`read_mac`], [`read_device`] and [`read_number`] read texts; [`Mac`], [`TargetId`], [`Span`],
+//! [`read_mac`], [`read_device`] and [`read_number`] read texts, and [`put_macs`] and its like print them; [`Mac`], [`TargetId`], [`Span`],
 //! [`Millis`], [`Ticket`] and the other numbers are values. A [`Blob`] is a byte string on the
 //! heap, which contracts see as the list of its bytes. [`Failed`] and [`NoMemory`] are the answers
 //! of calls that did nothing else wrong. [`Steps`] counts steps for contracts, and costs nothing
@@ -19,6 +19,7 @@ mod names;
 mod refusal;
 mod sectors;
 mod steps;
+mod text;
 
 pub use address::{BROADCAST, Mac, Ports, TargetId, all_unique, read_device, read_mac};
 pub use bytes::{Blob, append, copy_of};
@@ -29,3 +30,4 @@ pub use names::{broadcast_law, device_law, mac_reads_back, mac_spelling_is_one};
 pub use refusal::AoeError;
 pub use sectors::Span;
 pub use steps::Steps;
+pub use text::{pair, put, put_between, put_macs, put_pair, put_pairs};

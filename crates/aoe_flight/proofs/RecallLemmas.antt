@@ -12,7 +12,8 @@ use Rattle.aoe_flight.specs.declared.outstanding.Flying.{Flying}
 use Rattle.aoe_flight.specs.declared.outstanding.Outstanding.{Outstanding}
 use Rattle.aoe_flight.specs.FlightTable.{after_change, at_time, live_at, FlightTable, Recalls, SameCommands}
 use Rattle.aoe_flight.specs.Outstanding.{change_of, flies_with, is_over, is_taken, has_tag, live, tag_count, IsFirst}
-use Rattle.aoe_flight.proofs.CountLemmas.{all-none, count-cons, count-filter, count-map, count-yes, counted-some, none-all, some-counted}
+use Rattle.aoe_base.proofs.CountLemmas.{all-none, count-cons, count-filter, count-map, count-yes, none-all}
+use Rattle.aoe_flight.proofs.CountLemmas.{counted-some, some-counted}
 use Rattle.aoe_flight.proofs.LiveLemmas.{live-changed, live-live, Contains-live}
 
 pub same-filter : (p : Outstanding → Bool) (xs ys : List Outstanding) → SameCommands xs ys → SameCommands (filter p xs) (filter p ys)

@@ -12,7 +12,7 @@ use Rattle.aoe_hold.specs.declared.queue.Keeper.TheVariants.{Blocker, Clear}
 use Rattle.aoe_hold.specs.HoldTable.{is_ascending}
 use Rattle.aoe_hold.specs.Commands.{conflict}
 use Rattle.aoe_hold.specs.Queue.{blocks, is_blocked, lingers, IsFree, IsKeeperOf, Knows}
-use Rattle.aoe_hold.proofs.CountLemmas.{none-all}
+use Rattle.aoe_base.proofs.CountLemmas.{none-all}
 use Rattle.aoe_hold.proofs.ExtentLemmas.{no-block, no-linger}
 use Rattle.aoe_hold.proofs.HeldLemmas.{any-weaker}
 use Rattle.aoe_hold.proofs.PlaceLemmas.{missing-none}

@@ -11,7 +11,7 @@ use Rattle.aoe_hold.specs.declared.command.Stage.TheVariants.{Unsent, Flying, Fi
 use Rattle.aoe_hold.specs.declared.queue.Waiter.{Waiter}
 use Rattle.aoe_hold.specs.Commands.{after_stage, comes_first, finished, is_past, is_unsent, live, stage_finished, stage_sent, unsent, unsent_count, with_stage}
 use Rattle.aoe_hold.specs.Queue.{blocks, is_blocked, waited_for, waits, IsHeldBy}
-use Rattle.aoe_hold.proofs.CountLemmas.{all-none, count-agree, count-alike, count-filter, count-map}
+use Rattle.aoe_base.proofs.CountLemmas.{all-none, count-agree, count-alike, count-filter, count-map}
 use Rattle.aoe_hold.proofs.IndexLemmas.{and-join, bit, blocks-sent, keeps, past-blocks, sent-unsent, HasWaiters}
 use Rattle.aoe_hold.proofs.ListLemmas.{count_by-filter, list_any-filter}
 use Rattle.aoe_hold.proofs.LiveLemmas.{past-finished}

@@ -11,7 +11,7 @@ use Rattle.aoe_hold.specs.declared.queue.Waiter.{Waiter}
 use Rattle.aoe_hold.specs.Commands.{after_stage, clear_tickets, live, stage_sent, unsent_count}
 use Rattle.aoe_hold.specs.HoldTable.{is_ascending, is_up_to}
 use Rattle.aoe_hold.specs.Queue.{is_blocked, ticket_of, waited_for, AreHeld, IsHeldBy, IsInOrder, IsIndex, Knows, Moved, QueueTable, Released}
-use Rattle.aoe_hold.proofs.CountLemmas.{all-none, count-all, none-all}
+use Rattle.aoe_base.proofs.CountLemmas.{all-none, count-all, none-all}
 use Rattle.aoe_hold.proofs.HeldLemmas.{all-sent, free-ended, held-blocked, held-ended, held-live, held-pushed, held-sent, unsent-all, unsent-ended, unsent-entered, waiters-all, HasAll}
 use Rattle.aoe_hold.proofs.IndexLemmas.{bit, entered-waits, keeps, knows-entered, knows-live, knows-sent, sent-waits, waiters-few, waiters-free}
 use Rattle.aoe_hold.proofs.ReleaseLemmas.{ends, knows-ended, Ended}

@@ -7,7 +7,7 @@ use Rattle.std.proofs.lemmas.Bool.{and_parts, le-ltb, leb-true, not-false}
 use Rattle.std.proofs.lemmas.List.Elements.{All-cons}
 use Rattle.std.proofs.lemmas.List.Sums.{sum_by_push}
 use Rattle.aoe_base.specs.declared.counted.Millis.{Millis}
-use Rattle.aoe_hold.proofs.CountLemmas.{all-none, count-agree, count-alike, count-all, count-filter, count-map, count-split, none-all}
+use Rattle.aoe_base.proofs.CountLemmas.{all-none, count-agree, count-alike, count-all, count-filter, count-map, count-split, none-all}
 use Rattle.aoe_hold.specs.declared.command.Command.{Command}
 use Rattle.aoe_hold.specs.declared.command.Stage.{Stage}
 use Rattle.aoe_hold.specs.declared.command.Stage.TheVariants.{Unsent, Flying, Finished}

@@ -1,5 +1,4 @@
 mod ClearLemmas
-mod CountLemmas
 mod ExtentLemmas
 mod FreeLemmas
 mod HeldLemmas

@@ -6,7 +6,7 @@ use Rattle.std.specs.List.Sorted.{IsPermutation}
 use Rattle.std.proofs.lemmas.Bool.{cases_lt, eq-eqb, le-leb, leb-false, leb-true, lt-leb, ne_eqb, true≢false}
 use Rattle.std.proofs.lemmas.List.Elements.{All-cons, All-head, All-tail}
 use Rattle.std.proofs.lemmas.List.Sorted.{All-permutation, length_permutation, sum_by-IsPermutation}
-use Rattle.aoe_hold.proofs.CountLemmas.{count-all, count-cons}
+use Rattle.aoe_base.proofs.CountLemmas.{count-all, count-cons}
 use Rattle.aoe_hold.specs.declared.command.Command.{Command}
 use Rattle.aoe_hold.specs.declared.command.Kind.TheVariants.{Read}
 use Rattle.aoe_hold.specs.declared.command.Stage.TheVariants.{Unsent}

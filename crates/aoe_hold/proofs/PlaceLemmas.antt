@@ -11,7 +11,7 @@ use Rattle.aoe_hold.specs.declared.queue.Waiter.{Waiter}
 use Rattle.aoe_hold.specs.Commands.{is_unsent}
 use Rattle.aoe_hold.specs.HoldTable.{is_ascending}
 use Rattle.aoe_hold.specs.Queue.{has_ticket}
-use Rattle.aoe_hold.proofs.CountLemmas.{all-none, count-cons, none-all}
+use Rattle.aoe_base.proofs.CountLemmas.{all-none, count-cons, none-all}
 use Rattle.aoe_hold.proofs.HeldLemmas.{HasAll}
 use Rattle.aoe_hold.proofs.IndexLemmas.{bit, keeps}
 use Rattle.aoe_hold.proofs.ReleaseLemmas.{none-any, one-at}

@@ -7,7 +7,7 @@ use Rattle.std.proofs.lemmas.List.Sorted.{All-permutation, sum_by-IsPermutation}
 use Rattle.aoe_hold.specs.declared.command.Command.{Command}
 use Rattle.aoe_hold.specs.declared.queue.Waiter.{Waiter}
 use Rattle.aoe_hold.specs.Queue.{blocks, is_blocked, waited_for, IsHeldBy, Knows, Queued, QueueTable}
-use Rattle.aoe_hold.proofs.CountLemmas.{count-cons}
+use Rattle.aoe_base.proofs.CountLemmas.{count-cons}
 use Rattle.aoe_hold.proofs.HeldLemmas.{any-weaker}
 use Rattle.aoe_hold.proofs.IndexLemmas.{bit}
 use Rattle.aoe_hold.proofs.MoveLemmas.{not-waited}

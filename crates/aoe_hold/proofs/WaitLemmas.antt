@@ -5,7 +5,7 @@ use Rattle.std.specs.List.{count_by, filter, find, list_all, list_any}
 use Rattle.std.proofs.lemmas.Bool.{and_parts, le-leb, le-ltb, lt-leb, ltb-false, ltb-true}
 use Rattle.std.proofs.lemmas.List.Elements.{All-cons, All-head, All-map, All-nil, All-tail, All-weaker}
 use Rattle.aoe_base.specs.declared.counted.Ticket.{Ticket}
-use Rattle.aoe_hold.proofs.CountLemmas.{all-none, count-agree, count-all, count-cons, count-filter, count-map, none-all}
+use Rattle.aoe_base.proofs.CountLemmas.{all-none, count-agree, count-all, count-cons, count-filter, count-map, none-all}
 use Rattle.aoe_hold.proofs.QueueLemmas.{not-before}
 use Rattle.aoe_hold.specs.declared.command.Command.{Command}
 use Rattle.aoe_hold.specs.declared.queue.Waiter.{Waiter}

@@ -17,7 +17,7 @@ use Rattle.aoe_hold.specs.HoldTable.{new_command}
 use Rattle.aoe_flight.specs.declared.outstanding.Outstanding.{Outstanding}
 use Rattle.aoe_flight.specs.FlightTable.{SameCommands}
 use Rattle.aoe_flight.specs.Outstanding.{after_finish, after_repeat, change_of, launched}
-use Rattle.aoe_flight.proofs.CountLemmas.{count-cons}
+use Rattle.aoe_base.proofs.CountLemmas.{count-cons}
 use Rattle.aoe_initiator.specs.declared.op.Op.{Op}
 use Rattle.aoe_initiator.specs.Host.{unfinished, Ascends, Waiting}
 use Rattle.aoe_initiator.specs.HostLog.{after_end, after_send, as_entered, as_sent, at_ticket, entered_at, is_at, one_more, outstanding, sent_of, stage, submitted, wait_of, HostCommand, Sending}

@@ -4,8 +4,8 @@ ghost use Rattle.aoe_script.specs.Lines.{FailsFor, ScriptLines};
 ghost use Rattle.aoe_script.specs.Print.{script_text};
 ghost use Rattle.aoe_live.specs.Stations.{stations};
 
-use aoe_base::{NoMemory, TargetId};
-use aoe_script::spelling::{put, put_count};
+use aoe_base::{NoMemory, TargetId, put};
+use aoe_script::spelling::put_count;
 use aoe_script::{Name, Script, ScriptRefusal, printed_script_reads_back, read_script};
 use std::alloc::Global;
 

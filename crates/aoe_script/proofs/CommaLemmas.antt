@@ -10,9 +10,11 @@ use Rattle.std.specs.List.{slice_split}
 use Rattle.std.specs.Slice.Iter.{split_callee, split_done, split_rest, split_steps}
 use Rattle.std.specs.declared.slice.Split.{Split}
 use denote.Param.Members.{Mut}
-use Rattle.aoe_script.specs.Classes.{at_most, each}
+use Rattle.aoe_base.specs.Texts.{each}
+use Rattle.aoe_script.specs.Classes.{at_most}
 use Rattle.aoe_script.specs.Words.{Text}
-use Rattle.aoe_script.proofs.PartLemmas.{AreRead, all_read, none_at, one_more, one_too_many}
+use Rattle.aoe_base.proofs.EachLemmas.{AreRead, none_at, one_more}
+use Rattle.aoe_script.proofs.PartLemmas.{all_read, one_too_many}
 
 abbrev pub commas : Text → List Text
 commas = slice_split (λ c. c == 44)

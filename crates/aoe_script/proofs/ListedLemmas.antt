@@ -10,8 +10,10 @@ use Rattle.std.proofs.lemmas.List.Elements.{recursion_from_All}
 use Rattle.aoe_base.specs.declared.address.Mac.{Mac}
 use Rattle.aoe_base.specs.Names.{mac_of, mac_text, pair_text}
 use Rattle.aoe_lists.specs.declared.dir.Dir.{Dir}
-use Rattle.aoe_script.specs.Classes.{at_most, dir_of, dirs_of, each, list_of, macs_of, ports_of}
-use Rattle.aoe_script.specs.Print.{dir_text, dirs_text, list_text, macs_text}
+use Rattle.aoe_base.specs.Texts.{each}
+use Rattle.aoe_script.specs.Classes.{at_most, dir_of, dirs_of, list_of, macs_of, ports_of}
+use Rattle.aoe_base.specs.Texts.{macs_text}
+use Rattle.aoe_script.specs.Print.{dir_text, dirs_text, list_text}
 use Rattle.aoe_script.specs.Types.{IsAddress, IsByte}
 use Rattle.aoe_script.specs.Words.{Text}
 use Rattle.aoe_script.proofs.PlainLemmas.{all_joined, all_weaker, is_part, is_plain, is_word, lacks, parts_back}

@@ -12,7 +12,8 @@ use Rattle.std.proofs.lemmas.Str.Parse.{IsNumeralModel, numerals_by_weight}
 use Rattle.aoe_base.specs.Decimal.{decimal_value, number_of}
 use Rattle.aoe_base.specs.Names.{pair_text}
 use Rattle.aoe_base.proofs.MacLemmas.{digit-is}
-use Rattle.aoe_script.specs.Classes.{at_most, byte_of, bytes_of, each, number, pair, pairs}
+use Rattle.aoe_base.specs.Texts.{each}
+use Rattle.aoe_script.specs.Classes.{at_most, byte_of, bytes_of, number, pair, pairs}
 use Rattle.aoe_script.specs.Print.{bytes_text}
 use Rattle.aoe_script.proofs.PlainLemmas.{all_append, all_weaker, is_part, is_plain, is_word}
 

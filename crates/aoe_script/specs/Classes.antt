@@ -8,6 +8,7 @@ use Rattle.arrayvec.specs.ArrayVec.{ArrayVec}
 use Rattle.aoe_base.specs.Decimal.{number_of}
 use Rattle.aoe_base.specs.Names.{is_hex_digit, mac_of}
 use Rattle.aoe_base.specs.declared.address.Mac.{Mac}
+use Rattle.aoe_base.specs.Texts.{each}
 use Rattle.aoe_disk.specs.declared.loss.Loss.{Loss}
 use Rattle.aoe_disk.specs.declared.loss.Loss.TheVariants.{Keep as Kept, Old, Torn, Mix}
 use Rattle.aoe_lists.specs.declared.dir.Dir.{Dir}
@@ -56,11 +57,6 @@ unfoldable pub bytes_of : Text → Option (List ℕ)
 bytes_of text = if bytes_eq text (codes "-") then Some [] else pairs text
 
 -- ---- addresses, joined by commas (44)
-
--- what each part spells, or nothing where one spells nothing
-abbrev pub each : {T : Type 0} → (Text → Option T) → List Text → Option (List T)
-each read [] = Some []
-each read (part ∷ parts) = option_and_then (λ x. option_map (λ xs. x ∷ xs) (each read parts)) (read part)
 
 -- where they are so many at most
 abbrev pub at_most : {T : Type 0} → ℕ → Option (List T) → Option (List T)

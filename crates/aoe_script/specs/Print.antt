@@ -3,6 +3,7 @@ use Rattle.std.specs.Prelude.{ℕ, Bool, true, false, ◌==◌, List, [], ◌∷
 use Rattle.std.specs.List.{flat_map, join_with_byte}
 use Rattle.aoe_base.specs.Names.{device_text, mac_text, pair_text}
 use Rattle.aoe_base.specs.declared.address.Mac.{Mac}
+use Rattle.aoe_base.specs.Texts.{macs_text}
 use Rattle.aoe_disk.specs.declared.loss.Loss.{Loss}
 use Rattle.aoe_disk.specs.declared.loss.Loss.TheVariants.{Keep as Kept, Old, Torn, Mix}
 use Rattle.aoe_lists.specs.declared.dir.Dir.{Dir}
@@ -16,14 +17,6 @@ use Rattle.aoe_script.specs.Lines.{ScriptLines}
 use Rattle.aoe_script.specs.Words.{Text}
 
 -- ---- words
-
--- what stands before the part at a place: nothing before the first
-abbrev pub between : ℕ → ℕ → Text
-between byte i = if i == 0 then [] else byte ∷ []
-
--- addresses, joined by commas (44)
-abbrev pub macs_text : List Mac → Text
-macs_text macs = join_with_byte 44 (map mac_text macs)
 
 abbrev pub list_text : List Mac → Text
 list_text macs = if length macs == 0 then codes "-" else macs_text macs

@@ -3,7 +3,8 @@ ghost use Rattle.std.specs.Prelude.{◌≡◌, ◌==◌, ◌≤◌, [], List, �
 ghost use Rattle.std.specs.List.{slice_split};
 ghost use Rattle.std.specs.Str.{bytes_eq};
 ghost use Rattle.aoe_base.specs.Names.{mac_of};
-ghost use Rattle.aoe_script.specs.Classes.{at_most, dir_of, dirs_of, each, list_of, macs_of, ports_of};
+ghost use Rattle.aoe_base.specs.Texts.{each};
+ghost use Rattle.aoe_script.specs.Classes.{at_most, dir_of, dirs_of, list_of, macs_of, ports_of};
 
 use crate::cuts::from;
 use aoe_base::{Mac, Ports, read_mac};

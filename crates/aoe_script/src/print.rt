@@ -9,10 +9,10 @@ use crate::laws::printed_script_reads_back;
 use crate::script::Script;
 use crate::setup::{Name, Setup};
 use crate::spelling::{
-    put, put_bytes, put_config_words, put_count, put_device, put_macs, put_masks_words, put_mode,
-    put_named, put_pair, put_reserve_words, put_which,
+    put_bytes, put_config_words, put_count, put_device, put_masks_words, put_mode, put_named,
+    put_reserve_words, put_which,
 };
-use aoe_base::{Blob, Mac, NoMemory, Ports, TargetId};
+use aoe_base::{Blob, Mac, NoMemory, Ports, TargetId, put, put_macs, put_pair};
 use aoe_lists::{Dir, MAX_DIRS};
 use arrayvec::ArrayVec;
 use std::alloc::Global;

@@ -1,27 +1,15 @@
 //! How words are spelled: each of these adds to a text.
-ghost use Rattle.std.specs.Prelude.{◌≡◌, ◌++◌, ◌∷◌, ◌<◌, decimal, map, OnOk};
-ghost use Rattle.std.specs.List.{join_with_byte};
-ghost use Rattle.std.specs.Char.{digit_char};
-ghost use Rattle.aoe_base.specs.Names.{device_text, mac_text, pair_text};
-ghost use Rattle.aoe_script.specs.Print.{between, bytes_text, ccmd_text, config_words, dir_text, dirs_text, list_text, macs_text, masks_words, mode_text, rcmd_text, reserve_words, spaced, which_text};
+ghost use Rattle.std.specs.Prelude.{◌≡◌, ◌++◌, ◌∷◌, ◌<◌, decimal, OnOk};
+ghost use Rattle.aoe_base.specs.Names.{device_text};
+ghost use Rattle.aoe_script.specs.Print.{bytes_text, ccmd_text, config_words, dir_text, dirs_text, list_text, masks_words, mode_text, rcmd_text, reserve_words, spaced, which_text};
 
 use crate::event::Which;
 use crate::setup::Name;
-use aoe_base::{Blob, Mac, NoMemory, TargetId};
+use aoe_base::{Blob, Mac, NoMemory, TargetId, put, put_between, put_macs, put_pair};
 use aoe_disk::Loss;
 use aoe_lists::{Dir, MAX_DIRS};
 use arrayvec::ArrayVec;
 use itoa::Buffer;
-
-/// Adds bytes.
-pub fn put(out: &mut Vec<u8>, bytes: &[u8]) -> Result<(), NoMemory>
-    ensures { OnOk result (out.new.items ≡ out.old.items ++ bytes.now) }
-{
-    match out.extend_from_slice(bytes) {
-        Ok(()) => Ok(()),
-        Err(_) => Err(NoMemory),
-    }
-}
 
 /// Adds a number without leading zeros.
 pub fn put_number(out: &mut Vec<u8>, n: u64) -> Result<(), NoMemory>
@@ -47,61 +35,6 @@ pub fn put_named(out: &mut Vec<u8>, word: &[u8], name: &Name) -> Result<(), NoMe
     put(out, word)?;
     put(out, b" ")?;
     put(out, name.as_slice())
-}
-
-/// The hexadecimal digit of a value.
-fn digit(value: u8) -> u8
-    requires { value < 16 }
-    ensures { result ≡ digit_char value }
-{
-    if value < 10 {
-        b'0' + value
-    } else {
-        b'a' + value - 10
-    }
-}
-
-/// Adds a byte as two digits.
-pub fn put_pair(out: &mut Vec<u8>, byte: u8) -> Result<(), NoMemory>
-    ensures { OnOk result (out.new.items ≡ out.old.items ++ pair_text byte) }
-{
-    put(out, &[digit(byte / 16), digit(byte % 16)])
-}
-
-/// Adds what stands before the part at a place: nothing before the first.
-pub fn put_between(out: &mut Vec<u8>, i: usize, byte: u8) -> Result<(), NoMemory>
-    ensures { OnOk result (out.new.items ≡ out.old.items ++ between byte i) }
-{
-    if i == 0 { Ok(()) } else { put(out, &[byte]) }
-}
-
-/// Adds bytes as pairs of digits, joined by colons.
-fn put_pairs(out: &mut Vec<u8>, bytes: &[u8]) -> Result<(), NoMemory>
-    ensures { OnOk result (out.new.items ≡ out.old.items ++ join_with_byte 58 (map pair_text bytes.now)) }
-{
-    'pairs: for (i, byte) in bytes.iter().enumerate() {
-        put_between(out, i, b':')?;
-        put_pair(out, *byte)?;
-    }
-    Ok(())
-}
-
-/// Adds an address.
-fn put_mac(out: &mut Vec<u8>, mac: &Mac) -> Result<(), NoMemory>
-    ensures { OnOk result (out.new.items ≡ out.old.items ++ mac_text mac.now) }
-{
-    put_pairs(out, &mac.0)
-}
-
-/// Adds addresses, joined by commas.
-pub(crate) fn put_macs(out: &mut Vec<u8>, macs: &[Mac]) -> Result<(), NoMemory>
-    ensures { OnOk result (out.new.items ≡ out.old.items ++ macs_text macs.now) }
-{
-    'macs: for (i, mac) in macs.iter().enumerate() {
-        put_between(out, i, b',')?;
-        put_mac(out, mac)?;
-    }
-    Ok(())
 }
 
 /// Adds addresses, or a hyphen for none.

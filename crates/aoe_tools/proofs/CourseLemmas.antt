@@ -10,7 +10,7 @@ use Rattle.aoe_block.specs.declared.stage.Stage.{Stage}
 use Rattle.aoe_block.specs.declared.stage.Stage.TheVariants.{Pending, Handed, Ended, Failed}
 use Rattle.aoe_block.specs.declared.took.Took.{Took}
 use Rattle.aoe_block.specs.declared.took.Took.TheVariants as took_as
-use Rattle.aoe_flight.proofs.CountLemmas.{count-cons}
+use Rattle.aoe_base.proofs.CountLemmas.{count-cons}
 use Rattle.aoe_initiator.specs.declared.op.Op.{Op}
 use Rattle.aoe_initiator.specs.declared.outcome.Done.{Done}
 use Rattle.aoe_tools.specs.declared.course.Course.{Course}

@@ -7,7 +7,7 @@ use Rattle.std.proofs.Math.Nat.{mul-le-mul_left}
 use Rattle.std.proofs.lemmas.Bool.{and_parts}
 use Rattle.std.proofs.lemmas.List.{length-map}
 use Rattle.aoe_base.specs.declared.counted.Ticket.{Ticket}
-use Rattle.aoe_flight.proofs.CountLemmas.{count-alike, count-cons, count-map}
+use Rattle.aoe_base.proofs.CountLemmas.{count-alike, count-cons, count-map}
 use Rattle.aoe_frame.specs.Header.{head}
 use Rattle.aoe_frame.specs.declared.header.Header.{Header}
 use Rattle.aoe_initiator.specs.declared.outcome.Done.{Done}

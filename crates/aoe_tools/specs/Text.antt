@@ -1,21 +1,13 @@
 -- What the tools print.
-use Rattle.std.specs.Prelude.{ℕ, ◌*◌, ◌/◌, ◌%◌, ◌^◌, ◌==◌, List, [], ◌∷◌, ◌++◌, map, drop, length, Option, Some, None, codes, decimal, if◌then◌else◌}
+use Rattle.std.specs.Prelude.{ℕ, ◌*◌, ◌/◌, ◌%◌, ◌^◌, List, [], ◌∷◌, ◌++◌, drop, length, Option, Some, None, codes, decimal}
 use Rattle.std.specs.Char.{digit_char}
-use Rattle.std.specs.List.{flat_map, join_with_byte}
+use Rattle.std.specs.List.{flat_map}
 use Rattle.std.specs.Simd.{first_chunks}
 use Rattle.aoe_base.specs.Names.{device_text, mac_text}
-use Rattle.aoe_base.specs.declared.address.Mac.{Mac}
+use Rattle.aoe_base.specs.Texts.{macs_text}
 use Rattle.aoe_tools.specs.declared.found.Seen.{Seen}
 use Rattle.aoe_tools.specs.declared.found.State.{State}
 use Rattle.aoe_tools.specs.declared.found.State.TheVariants as state
-
--- what stands before the part at a place: nothing before the first
-abbrev pub between : ℕ → ℕ → List ℕ
-between byte i = if i == 0 then [] else byte ∷ []
-
--- addresses, joined by commas (44)
-abbrev pub macs_text : List Mac → List ℕ
-macs_text macs = join_with_byte 44 (map mac_text macs)
 
 -- a device that was found: its name, a space, its ports, a line feed
 abbrev pub device_line : Seen → List ℕ

@@ -1,10 +1,8 @@
 //! How a tool ends without its answer.
 ghost use Rattle.std.specs.Prelude.{◌≡◌, ◌<◌, IfOk};
-ghost use Rattle.std.specs.Char.{digit_char};
-ghost use Rattle.aoe_base.specs.Names.{pair_text};
 ghost use Rattle.aoe_tools.specs.Ending.{code_of, copy_code, copy_text, refusal_text, text_of};
 
-use aoe_base::{Blob, NoMemory, append};
+use aoe_base::{Blob, NoMemory, append, pair};
 use arrayvec::ArrayVec;
 use std::alloc::Global;
 
@@ -153,25 +151,6 @@ fn aoe_text(alloc: Global, error: u8) -> Result<Blob, NoMemory>
         Ok(text) => Blob::of(alloc, text.as_bytes()),
         Err(_) => Err(NoMemory),
     }
-}
-
-/// The hexadecimal digit of a value.
-fn digit(value: u8) -> u8
-    requires { value < 16 }
-    ensures { result ≡ digit_char value }
-{
-    if value < 10 {
-        b'0' + value
-    } else {
-        b'a' + value - 10
-    }
-}
-
-/// A byte as two hexadecimal digits.
-pub(crate) fn pair(byte: u8) -> [u8; 2]
-    ensures { result ≡ pair_text byte }
-{
-    [digit(byte / 16), digit(byte % 16)]
 }
 
 /// The text for the registers of an ATA command that failed, in hexadecimal.

@@ -1,67 +1,12 @@
 //! What the tools print.
-ghost use Rattle.std.specs.Prelude.{◌≡◌, ◌<◌, ◌++◌, IfOk, OnOk, drop, map};
-ghost use Rattle.std.specs.List.{join_with_byte};
-ghost use Rattle.aoe_base.specs.Names.{device_text, mac_text, pair_text};
-ghost use Rattle.aoe_tools.specs.Text.{between, config_text, device_line, digit_of, found_text, mac_line, macs_text, masks_text, pieces, reserves_text, size_text, stat_head, stat_line, stat_tail, stat_text, state_text, thousandths_text};
+ghost use Rattle.std.specs.Prelude.{◌≡◌, ◌<◌, ◌++◌, IfOk, OnOk, drop};
+ghost use Rattle.aoe_base.specs.Names.{device_text};
+ghost use Rattle.aoe_tools.specs.Text.{config_text, device_line, digit_of, found_text, mac_line, masks_text, pieces, reserves_text, size_text, stat_head, stat_line, stat_tail, stat_text, state_text, thousandths_text};
 
-use crate::end::pair;
 use crate::found::{Found, Seen, State};
-use aoe_base::{Blob, Mac, NoMemory, TargetId};
+use aoe_base::{Blob, Mac, NoMemory, TargetId, put, put_macs, put_pairs};
 use aoe_lists::Args;
 use std::alloc::Global;
-
-/// Adds bytes.
-fn put(out: &mut Vec<u8>, bytes: &[u8]) -> Result<(), NoMemory>
-    ensures { OnOk result (out.new.items ≡ out.old.items ++ bytes.now) }
-{
-    match out.extend_from_slice(bytes) {
-        Ok(()) => Ok(()),
-        Err(_) => Err(NoMemory),
-    }
-}
-
-/// Adds what stands before the part at a place: nothing before the first.
-fn put_between(out: &mut Vec<u8>, i: usize, byte: u8) -> Result<(), NoMemory>
-    ensures { OnOk result (out.new.items ≡ out.old.items ++ between byte i) }
-{
-    if i == 0 { Ok(()) } else { put(out, &[byte]) }
-}
-
-/// Adds a byte as two hexadecimal digits.
-fn put_pair(out: &mut Vec<u8>, byte: u8) -> Result<(), NoMemory>
-    ensures { OnOk result (out.new.items ≡ out.old.items ++ pair_text byte) }
-{
-    put(out, &pair(byte))
-}
-
-/// Adds bytes as pairs of hexadecimal digits, joined by colons.
-fn put_pairs(out: &mut Vec<u8>, bytes: &[u8]) -> Result<(), NoMemory>
-    ensures { OnOk result (out.new.items ≡ out.old.items ++ join_with_byte 58 (map pair_text bytes.now)) }
-{
-    'pairs: for (i, byte) in bytes.iter().enumerate() {
-        put_between(out, i, b':')?;
-        put_pair(out, *byte)?;
-    }
-    Ok(())
-}
-
-/// Adds an address.
-fn put_mac(out: &mut Vec<u8>, mac: &Mac) -> Result<(), NoMemory>
-    ensures { OnOk result (out.new.items ≡ out.old.items ++ mac_text mac.now) }
-{
-    put_pairs(out, &mac.0)
-}
-
-/// Adds addresses, joined by commas.
-fn put_macs(out: &mut Vec<u8>, macs: &[Mac]) -> Result<(), NoMemory>
-    ensures { OnOk result (out.new.items ≡ out.old.items ++ macs_text macs.now) }
-{
-    'macs: for (i, mac) in macs.iter().enumerate() {
-        put_between(out, i, b',')?;
-        put_mac(out, mac)?;
-    }
-    Ok(())
-}
 
 /// Adds the name of a device.
 fn put_device(alloc: Global, out: &mut Vec<u8>, id: TargetId) -> Result<(), NoMemory>

@@ -5,10 +5,10 @@ ghost use Rattle.aoe_script.specs.Print.{spaced};
 ghost use Rattle.aoe_transcript.specs.Print.{effect_words, fate_words, outcome_words};
 
 use crate::runs::put_runs;
-use aoe_base::{NoMemory, Span};
+use aoe_base::{NoMemory, Span, put, put_pair};
 use aoe_history::Fate;
 use aoe_initiator::Outcome;
-use aoe_script::spelling::{put, put_bytes, put_count, put_pair};
+use aoe_script::spelling::{put_bytes, put_count};
 use aoe_target::Effect;
 
 /// Adds a word and sectors.

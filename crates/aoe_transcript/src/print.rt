@@ -6,13 +6,11 @@ ghost use Rattle.aoe_transcript.specs.Print.{addresses_text, armed_text, entry_t
 
 use crate::outcome::{put_fate, put_outcome};
 use crate::submission::{put_refusal, put_submitted};
-use aoe_base::{Blob, Mac, NoMemory, TargetId};
+use aoe_base::{Blob, Mac, NoMemory, TargetId, put, put_between};
 use aoe_history::{Entry, Fate};
 use aoe_initiator::{Outcome, SubmitRefusal};
 use aoe_lists::Lists;
-use aoe_script::spelling::{
-    put, put_between, put_bytes, put_count, put_device, put_named, put_which,
-};
+use aoe_script::spelling::{put_bytes, put_count, put_device, put_named, put_which};
 use aoe_script::{Name, Which};
 use std::alloc::Global;
 

@@ -3,9 +3,9 @@ ghost use Rattle.std.specs.Prelude.{◌≡◌, ◌++◌, ◌<◌, [], ◌∷◌,
 ghost use Rattle.aoe_transcript.specs.Print.{repeated_text, runs_text};
 ghost use Rattle.aoe_transcript.specs.Runs.{longest_runs};
 
-use aoe_base::NoMemory;
+use aoe_base::{NoMemory, put, put_pair};
 use aoe_script::cuts::{from, run};
-use aoe_script::spelling::{put, put_number, put_pair};
+use aoe_script::spelling::put_number;
 
 /// The first run, and what stands behind it.
 fn next_run(bytes: &[u8]) -> Option<(u8, usize, &[u8])>

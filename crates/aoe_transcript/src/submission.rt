@@ -4,12 +4,11 @@ ghost use Rattle.aoe_base.specs.Names.{device_text, pair_text};
 ghost use Rattle.aoe_script.specs.Print.{event_words, spaced, spelled};
 ghost use Rattle.aoe_transcript.specs.Print.{asking, refusal_words, submit_words, HasCause};
 
-use aoe_base::{Blob, NoMemory, Span, TargetId};
+use aoe_base::{Blob, NoMemory, Span, TargetId, put, put_pair};
 use aoe_initiator::{Op, SubmitRefusal};
 use aoe_script::Name;
 use aoe_script::spelling::{
-    put, put_config_words, put_count, put_device, put_masks_words, put_named, put_pair,
-    put_reserve_words,
+    put_config_words, put_count, put_device, put_masks_words, put_named, put_reserve_words,
 };
 
 /// How many bytes a sector has.

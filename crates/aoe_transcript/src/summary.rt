@@ -3,8 +3,8 @@ ghost use Rattle.std.specs.Prelude.{◌≡◌, ◌++◌, IfOk, OnOk};
 ghost use Rattle.aoe_script.specs.Print.{spaced};
 ghost use Rattle.aoe_transcript.specs.Summary.{end_words, frame_words, summary_text};
 
-use aoe_base::{Blob, NoMemory};
-use aoe_script::spelling::{put, put_count};
+use aoe_base::{Blob, NoMemory, put};
+use aoe_script::spelling::put_count;
 use std::alloc::Global;
 
 /// How much happened in a run.

@@ -1,5 +1,4 @@
 mod AppLemmas
-mod EachLemmas
 mod ListedLemmas
 mod ParsedLemmas
 mod PlaceLemmas

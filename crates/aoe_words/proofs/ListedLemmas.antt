@@ -3,9 +3,9 @@ use Rattle.std.proofs.Common.{◌≡◌, ◌∙◌, ◌+◌, ◌<◌, ℕ, Bool,
 use Rattle.std.proofs.lemmas.List.{get_or-map, length-map}
 use Rattle.std.specs.Borrow.{Bor}
 use Rattle.clap.specs.Words.{Text}
-use Rattle.aoe_words.specs.Values.{each}
+use Rattle.aoe_base.specs.Texts.{each}
 use Rattle.aoe_words.specs.Tools.{is_list, listed}
-use Rattle.aoe_words.proofs.EachLemmas.{AreRead, none_at, one_more}
+use Rattle.aoe_base.proofs.EachLemmas.{AreRead, none_at, one_more}
 
 module _ {T : Type 0} (read : Text → Option T) (words : List (Bor Text)) (n : ℕ) (xs : List T) (h : AreRead read (map (λ word. word.now) words) n xs)
     (default : Bor Text) (within : n < length words) (text : Text) (is : text ≡ (get_or words n default).now) where

@@ -9,8 +9,9 @@ use Rattle.clap.specs.Words.{Text}
 use Rattle.aoe_base.specs.declared.address.Mac.{Mac}
 use Rattle.aoe_base.specs.Names.{mac_of}
 use Rattle.aoe_base.specs.Addresses.{all_unique, is_individual}
-use Rattle.aoe_words.proofs.EachLemmas.{AreRead, one_more, each_read}
-use Rattle.aoe_words.specs.Values.{each, port_of, up_to_four}
+use Rattle.aoe_base.proofs.EachLemmas.{AreRead, one_more, each_read}
+use Rattle.aoe_base.specs.Texts.{each}
+use Rattle.aoe_words.specs.Values.{port_of, up_to_four}
 use Rattle.aoe_words.specs.Words.{ArePorts}
 
 -- more than four

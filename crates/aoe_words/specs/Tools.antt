@@ -9,7 +9,8 @@ use Rattle.aoe_base.specs.Addresses.{is_individual}
 use Rattle.aoe_base.specs.Names.{device_of, mac_of}
 use Rattle.arrayvec.specs.ArrayVec.{ArrayVec}
 use Rattle.aoe_lists.specs.declared.dir.Dir.{Dir}
-use Rattle.aoe_words.specs.Values.{each, given, given_or, link, number_within, port_of, tool_port}
+use Rattle.aoe_base.specs.Texts.{each}
+use Rattle.aoe_words.specs.Values.{given, given_or, link, number_within, port_of, tool_port}
 use Rattle.aoe_words.specs.declared.command.Asking.{Asking}
 use Rattle.aoe_words.specs.declared.command.Cfg.{Cfg as Cfgs}
 use Rattle.aoe_words.specs.declared.command.Get.{Get as Gets}

@@ -7,6 +7,7 @@ use Rattle.aoe_base.specs.Decimal.{number_of}
 use Rattle.aoe_base.specs.declared.address.Mac.{Mac}
 use Rattle.aoe_base.specs.Addresses.{all_unique, is_individual}
 use Rattle.aoe_base.specs.Names.{mac_of}
+use Rattle.aoe_base.specs.Texts.{each}
 use Rattle.aoe_words.specs.declared.command.PortWords.{PortWords}
 
 -- what a required word makes, or nothing
@@ -31,11 +32,6 @@ tool_port = record { 0 = 2 ∷ 0 ∷ 0 ∷ 0 ∷ 0 ∷ 10 ∷ [] }
 -- the address of a port that a text spells, or nothing
 abbrev pub port_of : Text → Option Mac
 port_of text = option_and_then (λ mac. if is_individual mac then Some mac else None) (mac_of text)
-
--- what each text spells, or nothing where one spells nothing
-abbrev pub each : {T : Type 0} → (Text → Option T) → List Text → Option (List T)
-each read [] = Some []
-each read (text ∷ texts) = option_and_then (λ x. option_map (λ xs. x ∷ xs) (each read texts)) (read text)
 
 -- as many as a station has at most
 abbrev pub up_to_four : Option (List Mac) → Option (List Mac)

@@ -1,7 +1,8 @@
 //! Lists of ports as text.
 ghost use Rattle.std.specs.Prelude.{◌≡◌, ◌==◌, option_map, true, IfSome};
 ghost use Rattle.std.specs.List.{slice_split};
-ghost use Rattle.aoe_words.specs.Values.{each, port_of, ports_of, up_to_four};
+ghost use Rattle.aoe_base.specs.Texts.{each};
+ghost use Rattle.aoe_words.specs.Values.{port_of, ports_of, up_to_four};
 ghost use Rattle.aoe_words.specs.Words.{ArePorts};
 ghost use Rattle.aoe_base.specs.Addresses.{all_unique, is_individual};
 

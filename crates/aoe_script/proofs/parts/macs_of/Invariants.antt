@@ -1,7 +1,7 @@
 use Rattle.std.proofs.Common.{◌≤◌, length}
 use Rattle.aoe_base.specs.Names.{mac_of}
 use Rattle.aoe_script.proofs.CommaLemmas.{commas}
-use Rattle.aoe_script.proofs.PartLemmas.{AreRead}
+use Rattle.aoe_base.proofs.EachLemmas.{AreRead}
 use Rattle.aoe_script.proofs.parts.macs_of.Given as goal
 
 abbrev pub invariant-parts : goal.invariant-parts

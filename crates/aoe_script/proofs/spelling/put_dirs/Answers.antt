@@ -1,5 +1,5 @@
 use Rattle.aoe_script.specs.Print.{dir_text}
-use Rattle.aoe_script.proofs.JoinLemmas.{joined}
+use Rattle.aoe_base.proofs.JoinLemmas.{joined}
 use Rattle.aoe_script.proofs.spelling.put_dirs.Goals as goal
 
 pub dirs-preserved : goal.dirs-preserved

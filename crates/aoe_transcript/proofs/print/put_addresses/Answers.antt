@@ -1,4 +1,4 @@
-use Rattle.aoe_script.proofs.JoinLemmas.{joined}
+use Rattle.aoe_base.proofs.JoinLemmas.{joined}
 use Rattle.aoe_transcript.specs.Print.{digits_text}
 use Rattle.aoe_transcript.proofs.print.put_addresses.Goals as goal
 

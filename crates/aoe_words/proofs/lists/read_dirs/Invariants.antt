@@ -1,6 +1,6 @@
 use Rattle.std.proofs.Common.{map}
 use Rattle.aoe_words.specs.Tools.{dir_of}
-use Rattle.aoe_words.proofs.EachLemmas.{AreRead}
+use Rattle.aoe_base.proofs.EachLemmas.{AreRead}
 use Rattle.aoe_words.proofs.lists.read_dirs.Given as goal
 
 abbrev pub invariant-words : goal.invariant-words

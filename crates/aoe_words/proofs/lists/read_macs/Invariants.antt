@@ -1,6 +1,6 @@
 use Rattle.std.proofs.Common.{map}
 use Rattle.aoe_base.specs.Names.{mac_of}
-use Rattle.aoe_words.proofs.EachLemmas.{AreRead}
+use Rattle.aoe_base.proofs.EachLemmas.{AreRead}
 use Rattle.aoe_words.proofs.lists.read_macs.Given as goal
 
 abbrev pub invariant-words : goal.invariant-words

@@ -3,7 +3,7 @@ use Rattle.std.proofs.Common.{◌==◌, ap, rules}
 use Rattle.std.proofs.lemmas.Iterator.Consumers.{YieldsList-turn, YieldsList-end}
 use Rattle.std.proofs.lemmas.Iterator.Splits.{YieldsList-from_slice_split}
 use Rattle.std.proofs.lemmas.List.{length_push}
-use Rattle.aoe_words.proofs.EachLemmas.{none_at, one_more}
+use Rattle.aoe_base.proofs.EachLemmas.{none_at, one_more}
 use Rattle.aoe_words.proofs.PortLemmas.{fifth, all_read}
 use Rattle.aoe_words.specs.Values.{port_of, up_to_four}
 use Rattle.aoe_words.proofs.ports.each_port.Goals as goal

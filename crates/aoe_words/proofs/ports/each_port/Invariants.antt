@@ -1,6 +1,6 @@
 use Rattle.std.proofs.Common.{◌==◌, ◌≤◌, length}
 use Rattle.std.specs.List.{slice_split}
-use Rattle.aoe_words.proofs.EachLemmas.{AreRead}
+use Rattle.aoe_base.proofs.EachLemmas.{AreRead}
 use Rattle.aoe_words.specs.Values.{port_of}
 use Rattle.aoe_words.proofs.ports.each_port.Given as goal
 

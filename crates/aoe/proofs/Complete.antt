@@ -1,0 +1,150 @@
+-- A stream of frames is answered to its end, and a link is served.
+use Rattle.std.proofs.Common.{◌≡◌, ◌≢◌, ◌≤◌, ◌<◌, ℕ, List, [], ◌∷◌, ◌++◌, length, length-append, drop, Option, Some, None, refl, sym, ap, subst, ◌∙◌, append-nil, append_assoc, arith, add-one}
+use Rattle.std.proofs.lemmas.Grind.{flat_map-append}
+use Rattle.std.specs.Prelude.{All, IfSome, ◌↔◌}
+use Rattle.std.proofs.lemmas.List.{length-drop, drop-drop, get_or_append_left, get_or_at}
+use Rattle.std.proofs.lemmas.List.Elements.{All-drop}
+use Rattle.aoe_base.specs.Faults.{Rose}
+use Rattle.aoe_disk.specs.State.{DiskState}
+use Rattle.aoe_io.proofs.StreamLemmas.{First, first-frame, stream-whole}
+use Rattle.aoe_io.specs.Bytes.{Gave}
+use Rattle.aoe_io.specs.Stream.{framed, stream, IsFrame, IsBroken}
+use Rattle.aoe_serve.specs.Arrivals.{Arrived, frames}
+use Rattle.aoe_serve.specs.Answering.{Answered}
+use Rattle.aoe_serve.specs.Slots.{Slot}
+use Rattle.aoe_serve.specs.declared.over_stream.AnswerEnd.{AnswerEnd}
+use Rattle.aoe_serve.specs.declared.over_stream.AnswerEnd.TheVariants as answer
+use Rattle.aoe_serve.specs.declared.over_link.ServeEnd.TheVariants as serve
+use Rattle.aoe_serve.specs.Exporting.{AtFirst, HasRun, Outside, Tells}
+use Rattle.aoe_serve.specs.declared.plan.Plan.TheVariants as plan
+use Rattle.aoe_serve.specs.declared.plan.RunEnd.{RunEnd}
+use Rattle.aoe_serve.specs.declared.plan.RunEnd.TheVariants as end
+use Rattle.aoe_words.specs.declared.command.Answer.{Answer as Answers}
+use Rattle.aoe_words.specs.declared.command.Serve.{Serve as Serves}
+use Rattle.aoe_words.specs.declared.command.Command.TheVariants.{Answer, Serve}
+use Rattle.aoe_world.specs.Replay.{IsFaultless}
+use Rattle.aoe.specs.Ending.{after_syncs, ended_by}
+use Rattle.aoe.specs.Run.{OnSlot, Ran}
+use Rattle.aoe.specs.declared.status.Status.{Status}
+use Rattle.aoe.specs.declared.status.Status.TheVariants as status
+use Rattle.aoe.proofs.Exits.{all-synced}
+
+-- one frame more on a stream
+stream-frame : (fs : List (List ℕ)) (f : List ℕ) → stream (fs ++ f ∷ []) ≡ stream fs ++ framed f
+stream-frame fs f = flat_map-append framed fs (f ∷ []) ∙ ap (λ (t : List ℕ). stream fs ++ t) (append-nil (framed f))
+
+-- the first frames are frames, and the last is
+all-front : (fs : List (List ℕ)) (f : List ℕ) → All IsFrame (fs ++ f ∷ []) → All IsFrame fs
+all-front fs f all k d below = subst IsFrame (get_or_append_left fs (f ∷ []) d k below) (all k d (omega (arith, below, length-append fs (f ∷ []))))
+
+all-last : (fs : List (List ℕ)) (f : List ℕ) → All IsFrame (fs ++ f ∷ []) → IsFrame f
+all-last fs f all = subst IsFrame (get_or_at fs f [] [] (length fs) refl) (all (length fs) [] (omega (arith, length-append fs (f ∷ []))))
+
+-- behind n frames of a stream its other frames stand
+record Behind (n : ℕ) (fs : List (List ℕ)) (rest : List ℕ) : Type 0 where
+  few : n ≤ length fs
+  is : rest ≡ stream (drop n fs)
+
+behind-frames : (h : List Arrived) (fs : List (List ℕ)) (rest : List ℕ)
+    → All IsFrame (frames h) → All IsFrame fs → stream fs ≡ stream (frames h) ++ rest → Behind (length h) fs rest
+behind-frames [] fs rest came all e = record { few = omega arith; is = sym e }
+behind-frames (a ∷ h) fs rest came all e =
+    let before : Behind (length h) fs (framed a.frame ++ rest) = behind-frames h fs (framed a.frame ++ rest) (all-front (frames h) a.frame came) all
+    (e ∙ ap (λ (t : List ℕ). t ++ rest) (stream-frame (frames h) a.frame) ∙ append_assoc (stream (frames h)) (framed a.frame) rest) in
+    let first : First rest (drop (length h) fs) = first-frame a.frame rest (drop (length h) fs) (all-last (frames h) a.frame came) (All-drop IsFrame (length h) fs all) before.is in
+    record {
+      few = omega (arith, first.some, length-drop (length h) fs);
+      is = first.behind ∙ ap stream (drop-drop 1 (length h) fs ∙ ap (λ (n : ℕ). drop n fs) (add-one (length h)));
+    }
+
+-- what stood behind the frames of a run whose source was a stream
+record Left (n : ℕ) (fs : List (List ℕ)) (behind : Option (List ℕ)) : Type 0 where
+  rest : List ℕ
+  is : behind ≡ Some rest
+  stands : Behind n fs rest
+
+left : (h : List Arrived) (fs : List (List ℕ)) (behind : Option (List ℕ))
+    → All IsFrame (frames h) → All IsFrame fs → Gave (Some (stream fs)) behind (stream (frames h)) → Left (length h) fs behind
+left h fs None came all gave = absurd (cc)
+left h fs (Some rest) came all gave =
+    let whole : stream fs ≡ stream (frames h) ++ rest = cc in
+    record { rest = rest; is = refl; stands = behind-frames h fs rest came all whole }
+
+answered-whole : (e : AnswerEnd) (left' held held' : Option (List ℕ)) (old new : List Slot) (fs : List (List ℕ))
+    → Answered e (Some (stream fs)) left' held held' old new → All IsFrame fs → length fs < 4294967295
+    → (ended_by (end.Answered e) ≡ status.SourceFault → ⊥) → (ended_by (end.Answered e) ≡ status.SinkFault → ⊥) → ended_by (end.Answered e) ≡ status.Ok
+answered-whole answer.Ended left' held held' old new fs r all few source sink = refl
+answered-whole answer.SourceFault left' held held' old new fs r all few source sink = absurd (source refl)
+answered-whole answer.SinkFault left' held held' old new fs r all few source sink = absurd (sink refl)
+answered-whole answer.Limit left' held held' old new fs r all few source sink =
+    let l = left r.arrivals fs r.behind r.whole all r.gave in
+    absurd (omega (arith, r.stops.0, l.stands.few))
+answered-whole (answer.Stream at) left' held held' old new fs r all few source sink =
+    let l = left r.arrivals fs r.behind r.whole all r.gave in
+    let P : Option (List ℕ) → Type 0 = λ o. IfSome o IsBroken in
+    let broken : IsBroken l.rest = subst P l.is r.stops.2 in
+    let other = drop (length r.arrivals) fs in
+    absurd (stream-whole other (All-drop IsFrame (length r.arrivals) fs all) (subst IsBroken l.stands.is broken))
+
+-- where each slot was synced the end of the frames is told
+all-synced-same : (s : Status) (unsynced : Option ℕ) → unsynced ≡ None → after_syncs s unsynced ≡ s
+all-synced-same s (Some slot) e = absurd cc
+all-synced-same status.Ok None e = refl
+all-synced-same status.Usage None e = refl
+all-synced-same status.SourceFault None e = refl
+all-synced-same status.SinkFault None e = refl
+all-synced-same (status.DiskFault disk) None e = refl
+all-synced-same (status.LinkFault link) None e = refl
+all-synced-same status.NoMemory None e = refl
+all-synced-same (status.KeepSmall disk sectors) None e = refl
+all-synced-same (status.KeepBad disk slot) None e = refl
+all-synced-same (status.Unanswered turns) None e = refl
+all-synced-same (status.Refused r) None e = refl
+all-synced-same (status.Stream offset) None e = refl
+all-synced-same (status.Limit excess) None e = refl
+all-synced-same (status.Script line cause) None e = refl
+
+pub no-fault : (before after : ℕ) → IsFaultless before after → Rose before after → ⊥
+no-fault before after fine rose = let more = rose fine.room in omega (arith, fine.same, more)
+
+module _ {D S K L : Type 0} (state : D → DiskState) (t : Tells S K L) (s : Status) (a b : Outside S K L) (disks disks' : List (Option D))
+    (fine : (slot : ℕ) → OnSlot (λ file file' _ _. IsFaultless (state file).faults (state file').faults) slot disks disks') where
+  answers-by : (e : RunEnd) (old new : List Slot) (fs : List (List ℕ)) → HasRun t plan.Answer e a b old new → s ≡ ended_by e → t.left a.source ≡ Some (stream fs) → All IsFrame fs → length fs < 4294967295
+      → s ≢ status.SourceFault → s ≢ status.SinkFault → s ≡ status.Ok
+  answers-by (end.Served e) old new fs ran is left_is all few source sink = absurd ran
+  answers-by (end.Answered e) old new fs ran is left_is all few source sink =
+      let P : Option (List ℕ) → Type 0 = λ l. Answered e l (t.left b.source) (t.held a.sink) (t.held b.sink) old new in
+      is ∙ answered-whole e (t.left b.source) (t.held a.sink) (t.held b.sink) old new fs (subst P left_is ran.answered) all few (λ x. source (is ∙ x)) (λ x. sink (is ∙ x))
+
+  pub answers : (asked : Answers) (fs : List (List ℕ)) → Ran state (Answer asked) t s a b disks disks' → t.left a.source ≡ Some (stream fs) → All IsFrame fs → length fs < 4294967295
+      → s ≢ status.SourceFault → s ≢ status.SinkFault → s ≡ status.Ok
+  answers asked fs r left_is all few source sink =
+      let synced = all-synced state _ _ _ t plan.Answer r.exported a b disks disks' r.run fine in
+      answers-by r.exported.end r.run.first r.run.run.middle fs r.run.run.ran (r.ends ∙ all-synced-same (ended_by r.exported.end) r.exported.unsynced synced) left_is all few source sink
+
+  serves-by : (e : RunEnd) (limit idle : ℕ) (old new : List Slot) → HasRun t (plan.Serve limit idle) e a b old new → s ≡ ended_by e → s ≢ status.LinkFault 0 → s ≡ status.Ok
+  serves-by (end.Answered e) limit idle old new ran is link = absurd ran
+  serves-by (end.Served serve.Ended) limit idle old new ran is link = is
+  serves-by (end.Served serve.LinkFault) limit idle old new ran is link = absurd (link is)
+
+  pub serves : (asked : Serves) → Ran state (Serve asked) t s a b disks disks' → s ≢ status.LinkFault 0 → s ≡ status.Ok
+  serves asked r link =
+      let synced = all-synced state _ _ _ t (plan.Serve asked.frames asked.idle) r.exported a b disks disks' r.run fine in
+      serves-by r.exported.end asked.frames asked.idle r.run.first r.run.run.middle r.run.run.ran (r.ends ∙ all-synced-same (ended_by r.exported.end) r.exported.unsynced synced) link
+
+-- a link that didn't fail isn't told as one that did
+pub link-fine : {L : Type 0} (faults : L → ℕ) (links links' : List L) → AtFirst (λ a b. IsFaultless (faults a) (faults b)) links links' → AtFirst (λ a b. Rose (faults a) (faults b)) links links' → 0 < length links → ⊥
+link-fine faults [] links' fine rose some = omega (arith, some)
+link-fine faults (l ∷ links) [] fine rose some = fine
+link-fine faults (l ∷ links) (l' ∷ links') fine rose some = no-fault (faults l) (faults l') fine.0 rose.0
+
+-- a fault is told just where it ended the frames, whatever the last syncs did
+module _ {s : Status} (x : RunEnd) (unsynced : Option ℕ) (is : s ≡ after_syncs (ended_by x) unsynced) where
+  pub source-told : (s ≡ status.SourceFault) ↔ (x ≡ end.Answered answer.SourceFault)
+  source-told = (λ told. grind (arith, is, told), λ ended. is ∙ ap (λ (y : RunEnd). after_syncs (ended_by y) unsynced) ended)
+
+  pub sink-told : (s ≡ status.SinkFault) ↔ (x ≡ end.Answered answer.SinkFault)
+  sink-told = (λ told. grind (arith, is, told), λ ended. is ∙ ap (λ (y : RunEnd). after_syncs (ended_by y) unsynced) ended)
+
+  pub link-told : (s ≡ status.LinkFault 0) ↔ (x ≡ end.Served serve.LinkFault)
+  link-told = (λ told. grind (arith, is, told), λ ended. is ∙ ap (λ (y : RunEnd). after_syncs (ended_by y) unsynced) ended)

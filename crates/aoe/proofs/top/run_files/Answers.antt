@@ -1,0 +1,36 @@
+use Rattle.std.proofs.Common.{◌≡◌, ◌≤◌, ◌<◌, ◌+◌, ℕ, Option, None, Some, Err, arith, refl, ap}
+use Rattle.std.specs.Prelude.{IfSome}
+use Rattle.aoe.specs.Ending.{file_at}
+use Rattle.aoe.proofs.Blame.{blamed, first-blamed}
+use Rattle.aoe.proofs.Complete.{link-told, sink-told, source-told}
+use Rattle.aoe.proofs.Exits.{unsynced-within}
+use Rattle.aoe.proofs.Refusals.{backed}
+use Rattle.aoe.proofs.top.run_files.Goals as goal
+
+few-slots : (unsynced : Option ℕ) (n : ℕ) → ((slot : ℕ) → unsynced ≡ Some slot → file_at slot + 1 < n) → n ≤ 32 → IfSome unsynced (λ slot. slot ≤ 15)
+few-slots None n within few = tt
+few-slots (Some slot) n within few = omega (arith, within slot refl, few)
+
+pub status_of-requires : goal.status_of-requires
+status_of-requires g c =
+    few-slots c.in-Ok.exported.unsynced _ (λ slot is. unsynced-within _ _ _ _ _ _ _ _ _ _ _ c.in-Ok.ensures.ran slot is) c.requires.possible.room
+
+pub refused_as-requires : goal.refused_as-requires
+refused_as-requires g c =
+    let back = c.in-Err-Keep.ensures.refused c.in-Err-Keep.slot c.in-Err-Keep.refusal (ap Err c.in-Err-Keep.field-0-is) in
+    omega (arith, (backed _ _ _ _ _ back).within, c.requires.possible.room)
+
+pub returns-in-Ok-clause-source : goal.returns-in-Ok-clause-source
+returns-in-Ok-clause-source g c =
+    let e = c.in-Ok.ensures in
+    blamed _ _ (source-told c.in-Ok.exported.end c.in-Ok.exported.unsynced c.status_of.ensures) _ _ e.source_fault e.source_no_fault e.source_one_fault
+
+pub returns-in-Ok-clause-sink : goal.returns-in-Ok-clause-sink
+returns-in-Ok-clause-sink g c =
+    let e = c.in-Ok.ensures in
+    blamed _ _ (sink-told c.in-Ok.exported.end c.in-Ok.exported.unsynced c.status_of.ensures) _ _ e.sink_fault e.sink_no_fault e.sink_one_fault
+
+pub returns-in-Ok-clause-first : goal.returns-in-Ok-clause-first
+returns-in-Ok-clause-first g c =
+    let e = c.in-Ok.ensures in
+    first-blamed _ _ (link-told c.in-Ok.exported.end c.in-Ok.exported.unsynced c.status_of.ensures) g.L.Link.faults _ _ e.link_fault e.link_no_fault e.link_one_fault

@@ -1,0 +1,130 @@
+-- The exit status and the text of each way that a run ends.
+use Rattle.std.specs.Prelude.{ℕ, ◌+◌, ◌*◌, ◌/◌, ◌%◌, List, [], ◌++◌, ◌==◌, Option, Some, None, if◌then◌else◌, codes}
+use Rattle.std.specs.Fmt.{decimal}
+use Rattle.aoe_keep.specs.declared.refusal.MountRefusal.{MountRefusal}
+use Rattle.aoe_keep.specs.declared.refusal.MountRefusal.TheVariants as refusal
+use Rattle.aoe_serve.specs.declared.over_stream.AnswerEnd.TheVariants as answer
+use Rattle.aoe_serve.specs.declared.over_link.ServeEnd.TheVariants as serve
+use Rattle.aoe_serve.specs.declared.plan.Exported.{Exported}
+use Rattle.aoe_serve.specs.declared.plan.RunEnd.{RunEnd}
+use Rattle.aoe_serve.specs.declared.plan.RunEnd.TheVariants.{Answered, Served}
+use Rattle.aoe_world.specs.declared.end.ReplayEnd.{ReplayEnd}
+use Rattle.aoe_world.specs.declared.end.ReplayEnd.TheVariants as replay
+use Rattle.aoe_world.specs.declared.end.ReplayLimit.{ReplayLimit}
+use Rattle.aoe_world.specs.declared.end.ReplayLimit.TheVariants as limit
+use Rattle.aoe_script.specs.declared.refusal.Why.{Why}
+use Rattle.aoe_script.specs.declared.refusal.Why.TheVariants as why
+use Rattle.aoe_tools.specs.Ending.{text_of as tool_text}
+use Rattle.aoe_tools.specs.declared.end.ToolRefusal.TheVariants as tool
+use Rattle.aoe.specs.declared.status.What.{What}
+use Rattle.aoe.specs.declared.status.What.TheVariants as what
+use Rattle.aoe.specs.declared.status.Status.{Status}
+use Rattle.aoe.specs.declared.status.Status.TheVariants as status
+
+abbrev pub code_of : Status → ℕ
+code_of status.Ok = 0
+code_of status.Usage = 1
+code_of (status.Script line cause) = 2
+code_of status.SourceFault = 3
+code_of status.SinkFault = 4
+code_of (status.DiskFault disk) = 5
+code_of (status.LinkFault link) = 6
+code_of status.NoMemory = 7
+code_of (status.KeepSmall disk sectors) = 8
+code_of (status.KeepBad disk slot) = 8
+code_of (status.Unanswered turns) = 9
+code_of (status.Refused r) = 10
+code_of (status.Stream offset) = 11
+code_of (status.Limit excess) = 12
+
+-- what is wrong with a line of a script, in a word
+abbrev pub word_of : Why → List ℕ
+word_of why.Word = codes "word"
+word_of why.Value = codes "value"
+word_of why.Place = codes "place"
+word_of why.Repeat = codes "repeat"
+word_of why.Size = codes "size"
+word_of why.Unknown = codes "unknown"
+word_of why.Station = codes "station"
+
+-- what there was too much of
+abbrev pub limit_text : What → List ℕ
+limit_text what.Events = codes "aoe: limit: events"
+limit_text what.ScriptBytes = codes "aoe: limit: script bytes"
+limit_text what.Frames = codes "aoe: limit: frames"
+limit_text what.FrameBytes = codes "aoe: limit: frame bytes"
+limit_text what.InputBytes = codes "aoe: limit: input bytes"
+
+abbrev pub text_of : Status → List ℕ
+text_of status.Ok = []
+text_of status.Usage = codes "aoe: usage"
+text_of (status.Script line cause) = codes "aoe: script line " ++ (decimal line ++ (codes ": " ++ word_of cause))
+text_of status.SourceFault = codes "aoe: source fault"
+text_of status.SinkFault = codes "aoe: sink fault"
+text_of (status.DiskFault disk) = codes "aoe: disk fault on file " ++ decimal disk
+text_of (status.LinkFault link) = codes "aoe: link fault on port " ++ decimal link
+text_of status.NoMemory = codes "aoe: no memory"
+text_of (status.KeepSmall disk sectors) = codes "aoe: keep " ++ (decimal disk ++ (codes ": " ++ (decimal sectors ++ codes " sectors, 16 needed")))
+text_of (status.KeepBad disk slot) = codes "aoe: keep " ++ (decimal disk ++ (codes ": slot " ++ (decimal slot ++ codes " holds no lists")))
+text_of (status.Unanswered turns) = tool_text (tool.Unanswered turns)
+text_of (status.Refused r) = tool_text (tool.Refused r)
+text_of (status.Stream offset) = codes "aoe: bad stream at byte " ++ decimal offset
+text_of (status.Limit excess) = limit_text excess
+
+-- the numbers of a slot's disks, in the order of the files' names
+abbrev pub file_at : ℕ → ℕ
+file_at slot = 2 * slot
+
+abbrev pub keep_at : ℕ → ℕ
+keep_at slot = 2 * slot + 1
+
+-- the status of a run whose slot's keep was refused
+abbrev pub refused_as : ℕ → MountRefusal → Status
+refused_as slot refusal.Failed = status.DiskFault (keep_at slot)
+refused_as slot (refusal.TooSmall sectors) = status.KeepSmall (keep_at slot) sectors
+refused_as slot (refusal.BadKeep k) = status.KeepBad (keep_at slot) k
+
+-- the status of a run whose frames ended so
+abbrev pub ended_by : RunEnd → Status
+ended_by (Answered answer.Ended) = status.Ok
+ended_by (Answered answer.SourceFault) = status.SourceFault
+ended_by (Answered answer.SinkFault) = status.SinkFault
+ended_by (Answered (answer.Stream offset)) = status.Stream offset
+ended_by (Answered answer.Limit) = status.Limit what.Frames
+ended_by (Served serve.Ended) = status.Ok
+ended_by (Served serve.LinkFault) = status.LinkFault 0
+
+-- the status of a replay that ended so
+abbrev pub excess_of : ReplayLimit → What
+excess_of limit.ScriptBytes = what.ScriptBytes
+excess_of limit.Events = what.Events
+excess_of limit.Frames = what.Frames
+excess_of limit.FrameBytes = what.FrameBytes
+
+abbrev pub replayed_as : ReplayEnd → Status
+replayed_as replay.Ended = status.Ok
+replayed_as replay.SourceFault = status.SourceFault
+replayed_as replay.SinkFault = status.SinkFault
+replayed_as replay.NoMemory = status.NoMemory
+replayed_as (replay.Script line cause) = status.Script line cause
+replayed_as (replay.Limit excess) = status.Limit (excess_of excess)
+
+-- after the last syncs: the first slot that wasn't synced is told where nothing else is
+abbrev pub after_syncs : Status → Option ℕ → Status
+after_syncs status.Ok (Some slot) = status.DiskFault (file_at slot)
+after_syncs s unsynced = s
+
+-- the status of a run that ended so
+abbrev pub status_of : Exported → Status
+status_of e = after_syncs (ended_by e.end) e.unsynced
+
+-- the slot of a disk that is a keep
+abbrev pub slot_of_keep : ℕ → Option ℕ
+slot_of_keep disk = if disk % 2 == 1 then Some (disk / 2) else None
+
+-- the slot whose keep was refused, where the status tells of one
+abbrev pub refused_slot : Status → Option ℕ
+refused_slot (status.DiskFault disk) = slot_of_keep disk
+refused_slot (status.KeepSmall disk sectors) = slot_of_keep disk
+refused_slot (status.KeepBad disk slot) = slot_of_keep disk
+refused_slot s = None

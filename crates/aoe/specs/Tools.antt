@@ -1,0 +1,144 @@
+-- What the tools ask and say, and how they end.
+use Rattle.std.specs.Prelude.{ℕ, ◌≡◌, ◌≤◌, Bool, true, false, List, Option, Result, Ok, Err, option_map}
+use Rattle.arrayvec.specs.ArrayVec.{ArrayVec}
+use Rattle.aoe_base.specs.declared.failure.NoMemory.{NoMemory}
+use Rattle.aoe_io.specs.Bytes.{Took, TookSome}
+use Rattle.aoe_lists.specs.declared.dir.Dir.{Dir}
+use Rattle.aoe_tools.specs.Runs.{RunsConfig, RunsDiscovery, RunsGet, RunsMasks, RunsPut, RunsReserves, RunsStat, Told}
+use Rattle.aoe_tools.specs.Text.{config_text, found_text, masks_text, reserves_text, stat_text}
+use Rattle.aoe_tools.specs.declared.end.CopyRefusal.{CopyRefusal}
+use Rattle.aoe_tools.specs.declared.end.CopyRefusal.TheVariants as copy
+use Rattle.aoe_tools.specs.declared.end.ToolRefusal.{ToolRefusal}
+use Rattle.aoe_tools.specs.declared.end.ToolRefusal.TheVariants as refusal
+use Rattle.aoe_tools.specs.declared.found.Seen.{Seen}
+use Rattle.aoe_tools.specs.declared.question.Ask.{Ask}
+use Rattle.aoe_words.specs.declared.command.Asking.{Asking}
+use Rattle.aoe_words.specs.declared.command.Cfg.{Cfg}
+use Rattle.aoe_words.specs.declared.command.Get.{Get}
+use Rattle.aoe_words.specs.declared.command.Mask.{Mask}
+use Rattle.aoe_words.specs.declared.command.Put.{Put}
+use Rattle.aoe_words.specs.declared.command.Reserve.{Reserve}
+use Rattle.aoe_words.specs.declared.command.Tool.{Tool}
+use Rattle.aoe_words.specs.declared.command.Tool.TheVariants as tool
+use Rattle.aoe.specs.declared.status.Status.{Status}
+use Rattle.aoe.specs.declared.status.Status.TheVariants as status
+use Rattle.aoe.specs.declared.status.What.TheVariants as what
+
+-- who asks, and how long it listens
+abbrev pub ask_of : Asking → Ask
+ask_of asking = record { port = asking.port; turns = asking.turns }
+
+-- the directives of an edit
+abbrev pub dirs_of : Mask → Option (List Dir)
+dirs_of asked = option_map (λ dirs. dirs.items) asked.dirs
+
+-- a text, or that there is no memory for it
+abbrev pub said : Result (List ℕ) NoMemory → Result (List ℕ) ToolRefusal
+said (Ok text) = Ok text
+said (Err none) = Err refusal.NoMemory
+
+-- what is said of what a tool gave: its text, unless there is no memory for it; or the refusal
+abbrev pub IsSaid : {T : Type 0} → (T → List ℕ) → Result T ToolRefusal → Result (List ℕ) ToolRefusal → Type 0
+IsSaid text (Ok given) (Ok said) = said ≡ text given
+IsSaid text (Ok given) (Err r) = r ≡ refusal.NoMemory
+IsSaid text (Err r) said = said ≡ Err r
+
+-- `discover` ran, and says this of the devices
+abbrev pub SaysFound : Asking → Result (List ℕ) ToolRefusal → Told → Type 0
+SaysFound asking said t = (given : Result (List Seen) ToolRefusal) × RunsDiscovery given (ask_of asking) t × IsSaid found_text given said
+
+-- `stat` ran, and says this of them
+abbrev pub SaysStat : Asking → Result (List ℕ) ToolRefusal → Told → Type 0
+SaysStat asking said t = (given : Result (List Seen) ToolRefusal) × RunsStat given (ask_of asking) t × IsSaid stat_text given said
+
+-- `cfg` ran, and says this of the string
+abbrev pub SaysConfig : Cfg → Result (List ℕ) ToolRefusal → Told → Type 0
+SaysConfig asked said t = (given : Result (ArrayVec ℕ) ToolRefusal)
+    × RunsConfig given asked.ccmd asked.text.items asked.id (ask_of asked.asking) t × IsSaid (λ args. config_text args.items) given said
+
+-- `mask` ran, and says this of the mask list
+abbrev pub SaysMasks : Mask → Result (List ℕ) ToolRefusal → Told → Type 0
+SaysMasks asked said t =
+    (given : Result (ArrayVec ℕ) ToolRefusal) × RunsMasks given (dirs_of asked) asked.id (ask_of asked.asking) t × IsSaid (λ args. masks_text args.items) given said
+
+-- `reserve` ran, and says this of the reserve list
+abbrev pub SaysReserves : Reserve → Result (List ℕ) ToolRefusal → Told → Type 0
+SaysReserves asked said t = (given : Result (ArrayVec ℕ) ToolRefusal)
+    × RunsReserves given asked.rcmd asked.list.items asked.id (ask_of asked.asking) t × IsSaid (λ args. reserves_text args.items) given said
+
+-- a tool ran, and says this
+abbrev pub Says : Tool → Result (List ℕ) ToolRefusal → Told → Type 0
+Says (tool.Discover asking) said t = SaysFound asking said t
+Says (tool.Stat asking) said t = SaysStat asking said t
+Says (tool.Cfg asked) said t = SaysConfig asked said t
+Says (tool.Mask asked) said t = SaysMasks asked said t
+Says (tool.Reserve asked) said t = SaysReserves asked said t
+
+-- what a tool has to be given
+abbrev pub CanAsk : Tool → Type 0
+CanAsk (tool.Discover asking) = Unit {0}
+CanAsk (tool.Stat asking) = Unit {0}
+CanAsk (tool.Cfg asked) = asked.ccmd ≤ 4
+CanAsk (tool.Mask asked) = Unit {0}
+CanAsk (tool.Reserve asked) = asked.rcmd ≤ 2
+
+-- the status of a tool that ended without its answer
+abbrev pub tool_status : ToolRefusal → Status
+tool_status refusal.LinkFault = status.LinkFault 0
+tool_status refusal.NoMemory = status.NoMemory
+tool_status (refusal.Unanswered turns) = status.Unanswered turns
+tool_status (refusal.Refused r) = status.Refused r
+
+-- the statuses that a tool can end with
+abbrev pub is_tool_status : Status → Bool
+is_tool_status status.Ok = true
+is_tool_status status.SinkFault = true
+is_tool_status (status.LinkFault link) = true
+is_tool_status status.NoMemory = true
+is_tool_status (status.Unanswered turns) = true
+is_tool_status (status.Refused r) = true
+is_tool_status s = false
+
+-- what becomes of what is said: a text is written, whole or where the sink fails a front of it; a refusal is the status
+abbrev pub TakesSaid : Status → Result (List ℕ) ToolRefusal → Option (List ℕ) → Option (List ℕ) → Type 0
+TakesSaid status.Ok (Ok text) held held' = Took held held' text
+TakesSaid status.SinkFault (Ok text) held held' = TookSome held held' text
+TakesSaid s (Ok text) held held' = ⊥
+TakesSaid s (Err r) held held' = (s ≡ tool_status r) × (held' ≡ held)
+
+-- a run of a tool over a link and a clock: it ended so, and a sink took what it says
+pub record RunsTool (tool : Tool) (s : Status) (held held' : Option (List ℕ)) (t : Told) : Type 0 where
+  pub said : Result (List ℕ) ToolRefusal
+  pub says : Says tool said t
+  pub writes : TakesSaid s said held held'
+
+-- the status of a tool that ended without having copied sectors
+abbrev pub copy_status : CopyRefusal → Status
+copy_status (copy.Tool r) = tool_status r
+copy_status (copy.Stream offset) = status.Stream offset
+copy_status copy.Limit = status.Limit what.InputBytes
+copy_status copy.SourceFault = status.SourceFault
+copy_status copy.SinkFault = status.SinkFault
+
+abbrev pub copied : Result Unit CopyRefusal → Status
+copied (Ok done) = status.Ok
+copied (Err r) = copy_status r
+
+-- the statuses that it can end with
+abbrev pub is_copy_status : Status → Bool
+is_copy_status (status.Stream offset) = true
+is_copy_status (status.Limit excess) = true
+is_copy_status status.SourceFault = true
+is_copy_status s = is_tool_status s
+
+-- `get` ran over a link and a clock, a sink took what it read, and the status tells how it ended
+pub record CopiesOut (asked : Get) (s : Status) (held held' : Option (List ℕ)) (t : Told) : Type 0 where
+  pub result : Result Unit CopyRefusal
+  pub runs : RunsGet result (ask_of asked.asking) asked.id asked.at asked.count t held held'
+  pub ends : s ≡ copied result
+
+-- `put` ran over a source, a link and a clock, and the status tells how it ended
+pub record CopiesIn (asked : Put) (s : Status) (left left' : Option (List ℕ)) (t : Told) : Type 0 where
+  pub result : Result Unit CopyRefusal
+  pub runs : RunsPut result (ask_of asked.asking) asked.id asked.at t left left'
+  pub ends : s ≡ copied result

@@ -1,0 +1,122 @@
+//! What each command exports, and the status of a run that ended.
+ghost use Rattle.std.specs.Prelude.{◌≡◌, ◌≤◌, ◌*◌, [], ◌∷◌, IfSome};
+ghost use Rattle.aoe_words.specs.Words.{CanAnswer, CanServe};
+ghost use Rattle.aoe.specs.Commands.{CanExport, answer_plan, serve_plan};
+ghost use Rattle.aoe.specs.Ending.{after_syncs, ended_by, excess_of, refused_as, replayed_as, status_of};
+
+use crate::status::{Status, What};
+use aoe_base::{Mac, Ports, TargetId};
+use aoe_keep::MountRefusal;
+use aoe_serve::{AnswerEnd, Exported, Plan, Rack, RunEnd, ServeEnd};
+use aoe_words::{Answer, Serve};
+use aoe_world::{ReplayEnd, ReplayLimit};
+
+/// A list of one port.
+fn one_port(port: Mac) -> Ports
+    ensures { result.items ≡ port ∷ [] }
+{
+    let mut ports = Ports::new();
+    ports.push(port);
+    ports
+}
+
+/// The slot of `answer`, and what is done with it.
+pub(crate) fn answer_plan(answer: Answer) -> (Rack, Plan)
+    requires { CanAnswer answer }
+    ensures plan { result ≡ answer_plan answer }
+    ensures possible { CanExport result.0 result.1 2 0 }
+{
+    let rack = Rack {
+        first: answer.id,
+        ports: one_port(answer.port),
+        mtu: answer.mtu,
+        cache: answer.cache,
+    };
+    (rack, Plan::Answer)
+}
+
+/// The slots of `serve`, and what is done with them.
+pub(crate) fn serve_plan(serve: Serve) -> (Rack, Plan)
+    requires { CanServe serve }
+    ensures plan { result ≡ serve_plan serve }
+    ensures possible { CanExport result.0 result.1 (2 * serve.slots) 1 }
+{
+    let rack = Rack {
+        first: TargetId {
+            major: serve.shelf,
+            minor: 0,
+        },
+        ports: serve.ports,
+        mtu: serve.mtu,
+        cache: serve.cache,
+    };
+    let plan = Plan::Serve {
+        frames: serve.frames,
+        idle: serve.idle,
+    };
+    (rack, plan)
+}
+
+/// The status of a run whose slot's keep was refused.
+pub(crate) fn refused_as(slot: u32, refusal: MountRefusal) -> Status
+    requires { slot ≤ 15 }
+    ensures { result ≡ refused_as slot refusal }
+{
+    let disk = 2 * slot + 1;
+    match refusal {
+        MountRefusal::Failed => Status::DiskFault { disk },
+        MountRefusal::TooSmall { sectors } => Status::KeepSmall { disk, sectors },
+        MountRefusal::BadKeep { slot } => Status::KeepBad { disk, slot },
+    }
+}
+
+/// The status of a run whose frames ended so.
+fn ended_by(end: RunEnd) -> Status
+    ensures { result ≡ ended_by end }
+{
+    match end {
+        RunEnd::Answered(AnswerEnd::Ended) | RunEnd::Served(ServeEnd::Ended) => Status::Ok,
+        RunEnd::Answered(AnswerEnd::SourceFault) => Status::SourceFault,
+        RunEnd::Answered(AnswerEnd::SinkFault) => Status::SinkFault,
+        RunEnd::Answered(AnswerEnd::Stream { offset }) => Status::Stream { offset },
+        RunEnd::Answered(AnswerEnd::Limit) => Status::Limit(What::Frames),
+        RunEnd::Served(ServeEnd::LinkFault) => Status::LinkFault { link: 0 },
+    }
+}
+
+/// The limit that a replay exceeded.
+fn excess_of(limit: ReplayLimit) -> What
+    ensures { result ≡ excess_of limit }
+{
+    match limit {
+        ReplayLimit::ScriptBytes => What::ScriptBytes,
+        ReplayLimit::Events => What::Events,
+        ReplayLimit::Frames => What::Frames,
+        ReplayLimit::FrameBytes => What::FrameBytes,
+    }
+}
+
+/// The status of a replay that ended so.
+pub(crate) fn replayed_as(end: ReplayEnd) -> Status
+    ensures { result ≡ replayed_as end }
+{
+    match end {
+        ReplayEnd::Ended => Status::Ok,
+        ReplayEnd::SourceFault => Status::SourceFault,
+        ReplayEnd::SinkFault => Status::SinkFault,
+        ReplayEnd::NoMemory => Status::NoMemory,
+        ReplayEnd::Script { line, why } => Status::Script { line, why },
+        ReplayEnd::Limit(limit) => Status::Limit(excess_of(limit)),
+    }
+}
+
+/// The status of a run that ended so.
+pub(crate) fn status_of(exported: Exported) -> Status
+    requires { IfSome exported.unsynced (λ slot. slot ≤ 15) }
+    ensures { result ≡ status_of exported }
+{
+    match (ended_by(exported.end), exported.unsynced) {
+        (Status::Ok, Some(slot)) => Status::DiskFault { disk: 2 * slot },
+        (status, _) => status,
+    }
+}

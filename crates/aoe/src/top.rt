@@ -1,0 +1,272 @@
+//! The call that the program makes.
+ghost use Rattle.std.specs.Prelude.{◌≡◌, ◌≢◌, ◌≤◌, ◌<◌, ◌+◌, ◌↔◌, ◌⊎◌, List, ℕ, false, All, length, map, string_bytes, IfSome, IsSome, None, Some};
+ghost use Rattle.aoe_io.specs.Stream.{stream, IsFrame};
+ghost use Rattle.aoe_lists.specs.Settings.{Settings};
+ghost use Rattle.aoe_serve.specs.Exporting.{AtFirst};
+ghost use Rattle.aoe_world.specs.Replay.{IsFaultless};
+ghost use Rattle.aoe_script.specs.Lines.{refusal, script_of};
+ghost use Rattle.aoe_soak.specs.Soak.{soaked};
+ghost use Rattle.aoe_tools.specs.Runs.{told};
+ghost use Rattle.aoe_words.specs.Words.{CanSoak, IsInRange, command, file_count, file_names, link_count, port_words};
+ghost use Rattle.aoe_words.specs.declared.command.Answer.{Answer as Answers};
+ghost use Rattle.aoe_words.specs.declared.command.Serve.{Serve as Serves};
+ghost use Rattle.aoe_words.specs.declared.command.Get.{Get as Gets};
+ghost use Rattle.aoe_words.specs.declared.command.Live.{Live as Lives};
+ghost use Rattle.aoe_words.specs.declared.command.Put.{Put as Puts};
+ghost use Rattle.aoe_words.specs.declared.command.Soak.{Soak as Soaks};
+ghost use Rattle.aoe_words.specs.declared.command.Tool.{Tool};
+ghost use Rattle.aoe_base.specs.Faults.{Blamed, Rose};
+ghost use Rattle.aoe.specs.Commands.{CanExport, is_live, reads_input, uses_clock};
+ghost use Rattle.aoe.specs.Live.{AreBlamed, AtBoth, RunsLive, ends};
+ghost use Rattle.aoe.specs.Ending.{file_at, keep_at, refused_slot};
+ghost use Rattle.aoe.specs.Run.{Asked, HasLists, HasReplayed, IsBad, IsGot, IsPut, IsSmall, NothingLoose, OnSlot, Ran, RanFiles, RanScript, RanSoak, Refused};
+
+use crate::live::run_live;
+use crate::plan::{answer_plan, refused_as, replayed_as, serve_plan, status_of};
+use crate::status::Status;
+use crate::tools::{run_get, run_put, run_tool};
+use aoe_base::NoMemory;
+use aoe_disk::Disk;
+use aoe_io::{Clock, Link, Sink, Source};
+use aoe_serve::{ExportRefusal, Plan, Rack, export};
+use aoe_words::{Command, Soak, read_words};
+use aoe_world::{replay, soak};
+use std::alloc::Global;
+
+/// Runs a plan over files and links.
+fn run_files<S: Source, K: Sink, D: Disk + Drop, L: Link>(
+    alloc: Global,
+    rack: Rack,
+    plan: Plan,
+    source: &mut S,
+    sink: &mut K,
+    disks: &mut [Option<D>],
+    links: &mut [L],
+) -> Status
+    requires possible { CanExport rack plan (length disks.old) (length links.old) }
+    requires there { All IsSome disks.old }
+    ensures run { refused_slot result ≡ None → result ≢ Status.NoMemory → RanFiles D.state rack plan
+        record { left = S.left; held = K.held; turns = L.turns; given = L.given; taken = L.taken } result
+        record { source = source.old; sink = sink.old; links = links.old } record { source = source.new; sink = sink.new; links = links.new }
+        disks.old disks.new }
+    ensures refused { (slot : ℕ) → refused_slot result ≡ Some slot → Refused D.state result slot disks.old disks.new }
+    ensures unread { IsSome (refused_slot result) → (source.new ≡ source.old) × (sink.new ≡ sink.old) × (links.new ≡ links.old) }
+    ensures memory { result ≡ Status.NoMemory → (source.new ≡ source.old) × (sink.new ≡ sink.old) × (disks.new ≡ disks.old) × (links.new ≡ links.old) }
+    ensures usage { result ≢ Status.Usage }
+    ensures there { All IsSome disks.new }
+    ensures source { Blamed (result ≡ Status.SourceFault) (S.faults source.old) (S.faults source.new) }
+    ensures sink { Blamed (result ≡ Status.SinkFault) (K.faults sink.old) (K.faults sink.new) }
+    ensures first { AtFirst (λ a b. Blamed (result ≡ Status.LinkFault 0) (L.faults a) (L.faults b)) links.old links.new }
+    ensures alone { (link : ℕ) → result ≡ Status.LinkFault link → link ≡ 0 }
+{
+    match export(alloc, rack, plan, source, sink, disks, links) {
+        Ok(exported) => status_of(exported),
+        Err(ExportRefusal::NoMemory) => Status::NoMemory,
+        Err(ExportRefusal::Keep { slot, refusal }) => refused_as(slot, refusal),
+    }
+}
+
+/// Runs the script that the source gives.
+fn run_script<S: Source, K: Sink>(alloc: Global, source: &mut S, sink: &mut K) -> Status
+    ensures run { RanScript S.left K.held result source.old source.new sink.old sink.new }
+    ensures unrefused { refused_slot result ≡ None }
+    ensures disks { (disk : ℕ) → result ≢ Status.DiskFault disk }
+    ensures links { (link : ℕ) → result ≢ Status.LinkFault link }
+    ensures usage { result ≢ Status.Usage }
+    ensures memory { result ≡ Status.NoMemory → sink.new ≡ sink.old }
+    ensures source { Blamed (result ≡ Status.SourceFault) (S.faults source.old) (S.faults source.new) }
+    ensures sink { Blamed (result ≡ Status.SinkFault) (K.faults sink.old) (K.faults sink.new) }
+    ensures replays { (text : List ℕ) → S.left source.old ≡ Some text → refusal text ≡ None
+        → IsFaultless (S.faults source.old) (S.faults source.new) → IsFaultless (K.faults sink.old) (K.faults sink.new) → HasReplayed (script_of text) result }
+{
+    replayed_as(replay(alloc, source, sink))
+}
+
+/// Runs the script that a number makes.
+fn run_soak<K: Sink>(alloc: Global, asked: Soak, sink: &mut K) -> Status
+    requires { CanSoak asked }
+    ensures run { RanSoak K.held asked result sink.old sink.new }
+    ensures unrefused { refused_slot result ≡ None }
+    ensures disks { (disk : ℕ) → result ≢ Status.DiskFault disk }
+    ensures links { (link : ℕ) → result ≢ Status.LinkFault link }
+    ensures usage { result ≢ Status.Usage }
+    ensures source { result ≢ Status.SourceFault }
+    ensures memory { result ≡ Status.NoMemory → sink.new ≡ sink.old }
+    ensures sink { Blamed (result ≡ Status.SinkFault) (K.faults sink.old) (K.faults sink.new) }
+    ensures soaks { IsFaultless (K.faults sink.old) (K.faults sink.new) → HasReplayed (soaked asked.seed asked.count) result }
+{
+    replayed_as(soak(alloc, asked.seed, asked.count, sink))
+}
+
+/// Runs a command: over its files and links, or the script that the source gives.
+fn run_command<S: Source, K: Sink, D: Disk + Drop, L: Link, C: Clock>(
+    alloc: Global,
+    command: Command,
+    source: &mut S,
+    sink: &mut K,
+    disks: &mut [Option<D>],
+    links: &mut [L],
+    clock: &mut C,
+) -> Status
+    requires range { IsInRange command }
+    requires count { length disks.old ≡ file_count command }
+    requires there { All IsSome disks.old }
+    requires links { length links.old ≡ link_count command }
+    ensures run { refused_slot result ≡ None → result ≢ Status.NoMemory → Ran D.state command
+        record { left = S.left; held = K.held; turns = L.turns; given = L.given; taken = L.taken } result
+        record { source = source.old; sink = sink.old; links = links.old } record { source = source.new; sink = sink.new; links = links.new }
+        disks.old disks.new }
+    ensures refused { (slot : ℕ) → refused_slot result ≡ Some slot → Refused D.state result slot disks.old disks.new }
+    ensures unread { IsSome (refused_slot result) → (source.new ≡ source.old) × (sink.new ≡ sink.old) × (links.new ≡ links.old) }
+    ensures memory { result ≡ Status.NoMemory → (reads_input (Some command) ≡ false → source.new ≡ source.old) × (sink.new ≡ sink.old) × (disks.new ≡ disks.old) × (uses_clock (Some command) ≡ false → links.new ≡ links.old) }
+    ensures asks { (tool : Tool) → command ≡ Command.Ask tool → Asked K.held (λ a b. told C.least C.answers L.turns L.given L.taken clock.old clock.new a b) tool result sink.old sink.new links.old links.new }
+    ensures gets { (asked : Gets) → command ≡ Command.Get asked → IsGot K.held (λ a b. told C.least C.answers L.turns L.given L.taken clock.old clock.new a b) asked result sink.old sink.new links.old links.new }
+    ensures puts { (asked : Puts) → command ≡ Command.Put asked → IsPut S.left (λ a b. told C.least C.answers L.turns L.given L.taken clock.old clock.new a b) asked result source.old source.new links.old links.new }
+    ensures lives { (asked : Lives) → command ≡ Command.Live asked → AtBoth (λ one one' two two'. RunsLive asked result (K.held sink.old) (K.held sink.new)
+        (ends C.answers L.turns L.given L.taken one two clock.old) (ends C.answers L.turns L.given L.taken one' two' clock.new)
+        × AreBlamed result (L.faults one) (L.faults one') (L.faults two) (L.faults two')) links.old links.new }
+    ensures clock { uses_clock (Some command) ≡ false → clock.new ≡ clock.old }
+    ensures usage { result ≢ Status.Usage }
+    ensures there { All IsSome disks.new }
+    ensures source { Blamed (result ≡ Status.SourceFault) (S.faults source.old) (S.faults source.new) }
+    ensures sink { Blamed (result ≡ Status.SinkFault) (K.faults sink.old) (K.faults sink.new) }
+    ensures first { is_live (Some command) ≡ false → AtFirst (λ a b. Blamed (result ≡ Status.LinkFault 0) (L.faults a) (L.faults b)) links.old links.new }
+    ensures alone { is_live (Some command) ≡ false → (link : ℕ) → result ≡ Status.LinkFault link → link ≡ 0 }
+    ensures soaks { (asked : Soaks) → command ≡ Command.Soak asked → IsFaultless (K.faults sink.old) (K.faults sink.new) → HasReplayed (soaked asked.seed asked.count) result }
+    ensures replays { (text : List ℕ) → command ≡ Command.Replay → S.left source.old ≡ Some text → refusal text ≡ None
+        → IsFaultless (S.faults source.old) (S.faults source.new) → IsFaultless (K.faults sink.old) (K.faults sink.new) → HasReplayed (script_of text) result }
+{
+    match command {
+        Command::Answer(answer) => {
+            let (rack, plan) = answer_plan(answer);
+            run_files(alloc, rack, plan, source, sink, disks, links)
+        }
+        Command::Serve(serve) => {
+            let (rack, plan) = serve_plan(serve);
+            run_files(alloc, rack, plan, source, sink, disks, links)
+        }
+        Command::Replay => run_script(alloc, source, sink),
+        Command::Soak(asked) => run_soak(alloc, asked, sink),
+        Command::Live(asked) => {
+            let (one, two) = links.split_at_mut(1);
+            run_live(alloc, &asked, sink, &mut one[0], &mut two[0], clock)
+        }
+        Command::Ask(tool) => run_tool(alloc, &tool, sink, &mut links[0], clock),
+        Command::Get(asked) => run_get(alloc, &asked, sink, &mut links[0], clock),
+        Command::Put(asked) => run_put(alloc, &asked, source, &mut links[0], clock),
+    }
+}
+
+/// Runs the command that the arguments behind the program's name spell.
+///
+/// `answer SHELF SLOT FILE KEEP` answers each frame that the source's stream brings, as the target
+/// SHELF.SLOT over the first disk and behind the port that `--port` names, with at most one frame on
+/// the sink's stream. `serve SHELF FILE KEEP ..` answers each frame that the first link brings, as
+/// the targets SHELF.0, SHELF.1 and so on over the pairs of disks and behind the ports that `--ports`
+/// names, until `--frames` frames came or `--idle` consecutive turns brought none. A frame carries as
+/// much as `--mtu` says. Each target holds back as many sectors that were written as `--cache` says,
+/// until it has no room or its store is synced.
+///
+/// The tools ask over the first link and the clock: `discover` and `stat` which targets there are, with
+/// their sizes and states, `cfg`, `mask` and `reserve` one target for a list or a change of it; what they
+/// are told goes to the sink as text. `get` copies sectors of a target to the sink, and `put` what the
+/// source gives to sectors. `--port` is who asks, and `--turns` how long each listens.
+///
+/// `replay` reads the source to its end as a script, runs the events of the script through shelves
+/// and hosts in memory, and puts the text of what happened on the sink. Whatever a schedule loses,
+/// repeats, delays within the frame lifetime, injects, fails or crashes, in the printed history a
+/// source outside a nonempty mask list gets silence and changes nothing, ATA commands from outside a
+/// nonempty reserve list get error 6 and change nothing, other requests get the written answer, and a
+/// host alone in its range reads only what its writes, their acknowledgements, flushes, faults and
+/// crashes allow. Nothing is written before the last event is done, and where the run doesn't come to
+/// it, nothing is. `soak SEED N` does so with a script that it makes, and puts the last line of the text
+/// on the sink.
+///
+/// The second disk of each pair is the keep of the target's lists. All keeps are mounted first, and
+/// where one is refused nothing is read, written or sent. At the end each store is synced, however
+/// the run ended. There are as many disks as `files_of` names, and as many links as `ports_of`.
+///
+/// Memory is taken while the arguments are read, and for the shelf and its stores before the first keep is
+/// mounted; then no more. A replay takes memory until its text is written, and so does a tool.
+pub fn aoe<S: Source, K: Sink, D: Disk + Drop, L: Link, C: Clock>(
+    alloc: Global,
+    words: &[String],
+    source: &mut S,
+    sink: &mut K,
+    disks: &mut [Option<D>],
+    links: &mut [L],
+    clock: &mut C,
+) -> Status
+    requires count { length disks.old ≡ length (file_names (map string_bytes words.now)) }
+    requires there { All IsSome disks.old }
+    requires links { length links.old ≡ length (port_words (map string_bytes words.now)) }
+    ensures usage { (result ≡ Status.Usage) ↔ (command (map string_bytes words.now) ≡ None) × (result ≢ Status.NoMemory) }
+    ensures unchanged { result ≡ Status.Usage → (source.new ≡ source.old) × (sink.new ≡ sink.old) × (disks.new ≡ disks.old) × (links.new ≡ links.old) }
+
+    // A keep is refused, or the run is one of the shelf law, or the history of a script is lawful and read as was written.
+    ensures refused { (slot : ℕ) → refused_slot result ≡ Some slot → Refused D.state result slot disks.old disks.new }
+    ensures unread { IsSome (refused_slot result) → (source.new ≡ source.old) × (sink.new ≡ sink.old) × (links.new ≡ links.old) }
+    ensures run { IfSome (command (map string_bytes words.now)) (λ asked. refused_slot result ≡ None → result ≢ Status.NoMemory → Ran D.state asked
+        record { left = S.left; held = K.held; turns = L.turns; given = L.given; taken = L.taken } result
+        record { source = source.old; sink = sink.old; links = links.old } record { source = source.new; sink = sink.new; links = links.new }
+        disks.old disks.new) }
+    ensures settled { (slot : ℕ) → result ≡ Status.Ok → OnSlot (λ _ file' _ _. IfSome (D.state file').contents NothingLoose) slot disks.old disks.new }
+    ensures there { All IsSome disks.new }
+
+    // When a fault is told, and when a keep is refused. An object whose fault isn't told had none, and one whose fault is told had one:
+    // the first trouble ends the run.
+    ensures source_fault { result ≡ Status.SourceFault → Rose (S.faults source.old) (S.faults source.new) }
+    ensures sink_fault { result ≡ Status.SinkFault → Rose (K.faults sink.old) (K.faults sink.new) }
+    ensures link_fault { is_live (command (map string_bytes words.now)) ≡ false → (link : ℕ) → result ≡ Status.LinkFault link → (link ≡ 0) × AtFirst (λ a b. Rose (L.faults a) (L.faults b)) links.old links.new }
+    ensures source_no_fault { result ≢ Status.SourceFault → S.faults source.new ≡ S.faults source.old }
+    ensures sink_no_fault { result ≢ Status.SinkFault → K.faults sink.new ≡ K.faults sink.old }
+    ensures link_no_fault { is_live (command (map string_bytes words.now)) ≡ false → result ≢ Status.LinkFault 0 → AtFirst (λ a b. L.faults b ≡ L.faults a) links.old links.new }
+    ensures source_one_fault { S.faults source.new ≤ S.faults source.old + 1 }
+    ensures sink_one_fault { K.faults sink.new ≤ K.faults sink.old + 1 }
+    ensures link_one_fault { is_live (command (map string_bytes words.now)) ≡ false → AtFirst (λ a b. L.faults b ≤ L.faults a + 1) links.old links.new }
+    ensures disk_fault { (disk : ℕ) → result ≡ Status.DiskFault disk → disk < length disks.old }
+    ensures file_fault { (slot : ℕ) → result ≡ Status.DiskFault (file_at slot) → OnSlot (λ file file' _ _. Rose (D.state file).faults (D.state file').faults) slot disks.old disks.new }
+    ensures keep_fault { (slot : ℕ) → result ≡ Status.DiskFault (keep_at slot) → OnSlot (λ _ _ keep keep'. Rose (D.state keep).faults (D.state keep').faults) slot disks.old disks.new }
+    ensures keep_small { (slot sectors : ℕ) → OnSlot (λ _ _ keep _. (result ≡ Status.KeepSmall (keep_at slot) sectors) ↔ IsSmall (D.state keep) result slot sectors) slot disks.old disks.new }
+    ensures keep_bad { (slot bad : ℕ) → OnSlot (λ _ _ keep _. IfSome (D.state keep).contents (λ c.
+        (result ≡ Status.KeepBad (keep_at slot) bad) ↔ IsBad (D.state keep) c result slot bad)) slot disks.old disks.new }
+    ensures memory { result ≡ Status.NoMemory → (reads_input (command (map string_bytes words.now)) ≡ false → source.new ≡ source.old)
+        × (sink.new ≡ sink.old) × (disks.new ≡ disks.old) × (uses_clock (command (map string_bytes words.now)) ≡ false → links.new ≡ links.old) }
+
+    // What a tool asks, when it ends and what it says; or there was no memory to read its command.
+    ensures asks { (tool : Tool) → command (map string_bytes words.now) ≡ Some (Command.Ask tool) → (result ≡ Status.NoMemory) × (links.new ≡ links.old)
+        ⊎ Asked K.held (λ a b. told C.least C.answers L.turns L.given L.taken clock.old clock.new a b) tool result sink.old sink.new links.old links.new }
+    ensures gets { (asked : Gets) → command (map string_bytes words.now) ≡ Some (Command.Get asked) → (result ≡ Status.NoMemory) × (links.new ≡ links.old)
+        ⊎ IsGot K.held (λ a b. told C.least C.answers L.turns L.given L.taken clock.old clock.new a b) asked result sink.old sink.new links.old links.new }
+    ensures puts { (asked : Puts) → command (map string_bytes words.now) ≡ Some (Command.Put asked) → (result ≡ Status.NoMemory) × (links.new ≡ links.old)
+        ⊎ IsPut S.left (λ a b. told C.least C.answers L.turns L.given L.taken clock.old clock.new a b) asked result source.old source.new links.old links.new }
+    ensures lives { (asked : Lives) → command (map string_bytes words.now) ≡ Some (Command.Live asked) → (result ≡ Status.NoMemory) × (links.new ≡ links.old)
+        ⊎ AtBoth (λ one one' two two'. RunsLive asked result (K.held sink.old) (K.held sink.new)
+        (ends C.answers L.turns L.given L.taken one two clock.old) (ends C.answers L.turns L.given L.taken one' two' clock.new)
+        × AreBlamed result (L.faults one) (L.faults one') (L.faults two) (L.faults two')) links.old links.new }
+    ensures clock { uses_clock (command (map string_bytes words.now)) ≡ false → clock.new ≡ clock.old }
+
+    // With no fault keeps that hold lists are mounted, and then a stream of frames is answered to its end, and a link is served;
+    // and a script with no bad line is run.
+    ensures mounted { (slot : ℕ) (lists : Settings) → OnSlot (λ _ _ keep keep'. HasLists (D.state keep) lists
+        → IsFaultless (D.state keep).faults (D.state keep').faults → refused_slot result ≢ Some slot) slot disks.old disks.new }
+    ensures answers { (asked : Answers) (frames : List (List ℕ)) → command (map string_bytes words.now) ≡ Some (Command.Answer asked) → refused_slot result ≡ None → result ≢ Status.NoMemory
+        → S.left source.old ≡ Some (stream frames) → All IsFrame frames → length frames < 4294967295
+        → IsFaultless (S.faults source.old) (S.faults source.new) → IsFaultless (K.faults sink.old) (K.faults sink.new)
+        → ((slot : ℕ) → OnSlot (λ file file' _ _. IsFaultless (D.state file).faults (D.state file').faults) slot disks.old disks.new)
+        → result ≡ Status.Ok }
+    ensures serves { (asked : Serves) → command (map string_bytes words.now) ≡ Some (Command.Serve asked) → refused_slot result ≡ None → result ≢ Status.NoMemory
+        → AtFirst (λ a b. IsFaultless (L.faults a) (L.faults b)) links.old links.new
+        → ((slot : ℕ) → OnSlot (λ file file' _ _. IsFaultless (D.state file).faults (D.state file').faults) slot disks.old disks.new)
+        → result ≡ Status.Ok }
+    ensures soaks { (asked : Soaks) → command (map string_bytes words.now) ≡ Some (Command.Soak asked)
+        → IsFaultless (K.faults sink.old) (K.faults sink.new) → HasReplayed (soaked asked.seed asked.count) result }
+    ensures replays { (text : List ℕ) → command (map string_bytes words.now) ≡ Some Command.Replay → S.left source.old ≡ Some text → refusal text ≡ None
+        → IsFaultless (S.faults source.old) (S.faults source.new) → IsFaultless (K.faults sink.old) (K.faults sink.new) → HasReplayed (script_of text) result }
+{
+    match read_words(alloc, words) {
+        Ok(Some(command)) => { run_command(alloc, command, source, sink, disks, links, clock) }
+        Ok(None) => Status::Usage,
+        Err(NoMemory) => Status::NoMemory,
+    }
+}

@@ -1,5 +1,0 @@
-mod Blame
-mod Complete
-mod Exits
-mod OnSlots
-mod Refusals
