@@ -1,4 +1,5 @@
 pub mod Bytes
+pub mod Input
 pub mod Joined
 pub mod Link
 pub mod LinkMemory

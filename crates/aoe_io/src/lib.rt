@@ -7,12 +7,13 @@
 //! a test says. [`JoinedLink`] is one of two links in memory that give each other's frames.
 //!
 //! On a stream each frame is preceded by its length: [`next_frame`] takes one and [`give_frame`]
-//! gives one. [`give_all`] writes bytes to their end.
+//! gives one. [`give_all`] writes bytes to their end, and [`read_up_to`] reads a source to its end.
 //!
 //! Nothing here is buffered, and no call is made again after a failure.
 #![tactic(auto)]
 
 mod clocks;
+mod input;
 mod joined_link;
 mod links;
 mod mem_link;
@@ -21,6 +22,7 @@ mod outside;
 mod stream;
 
 pub use clocks::{Clock, SetClock};
+pub use input::{InputRefusal, read_up_to};
 pub use joined_link::JoinedLink;
 pub use links::{Got, Link};
 pub use mem_link::MemLink;

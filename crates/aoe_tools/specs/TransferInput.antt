@@ -1,14 +1,10 @@
 -- The sectors that a source gives up to its end.
 use Rattle.std.specs.Prelude.{ℕ, ◌≡◌, ◌≢◌, ◌-◌, ◌%◌, ◌<◌, ◌≤◌, List, length, Option, Result, Ok, Err}
-use Rattle.aoe_io.specs.Bytes.{Gave, GaveSome, IsEnded}
+use Rattle.aoe_io.specs.Bytes.{GaveSome}
+use Rattle.aoe_io.specs.Input.{IsReadUpTo}
 use Rattle.aoe_tools.specs.declared.end.CopyRefusal.{CopyRefusal}
 use Rattle.aoe_tools.specs.declared.end.CopyRefusal.TheVariants as copy
 use Rattle.aoe_tools.specs.declared.end.ToolRefusal.TheVariants as tool
-
--- what was read of a source: all of it where that isn't more than an input has
-pub record IsInput (left left' : Option (List ℕ)) (bytes : List ℕ) : Type 0 where
-  pub gave : Gave left left' bytes
-  pub ended : length bytes ≤ 16777216 → IsEnded left'
 
 -- why no input came
 abbrev pub Unread : CopyRefusal → Option (List ℕ) → Option (List ℕ) → Type 0
@@ -21,8 +17,8 @@ Unread copy.SinkFault left left' = ⊥
 
 -- what the source gave, to its end: whole sectors, and not too many; or why not
 abbrev pub Inputs : Result (List ℕ) CopyRefusal → Option (List ℕ) → Option (List ℕ) → Type 0
-Inputs (Ok bytes) left left' = IsInput left left' bytes × (length bytes ≤ 16777216) × (length bytes % 512 ≡ 0)
-Inputs (Err copy.Limit) left left' = (bytes : List ℕ) × IsInput left left' bytes × (16777216 < length bytes)
+Inputs (Ok bytes) left left' = IsReadUpTo 16777216 left left' bytes × (length bytes ≤ 16777216) × (length bytes % 512 ≡ 0)
+Inputs (Err copy.Limit) left left' = (bytes : List ℕ) × IsReadUpTo 16777216 left left' bytes × (16777216 < length bytes)
 Inputs (Err (copy.Stream offset)) left left' =
-    (bytes : List ℕ) × IsInput left left' bytes × (length bytes ≤ 16777216) × (length bytes % 512 ≢ 0) × (offset ≡ length bytes - length bytes % 512)
+    (bytes : List ℕ) × IsReadUpTo 16777216 left left' bytes × (length bytes ≤ 16777216) × (length bytes % 512 ≢ 0) × (offset ≡ length bytes - length bytes % 512)
 Inputs (Err refusal) left left' = Unread refusal left left'

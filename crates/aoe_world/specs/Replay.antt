@@ -1,6 +1,7 @@
 -- What a replay takes, gives and leaves, by how it ended.
 use Rattle.std.specs.Prelude.{ℕ, ◌+◌, ◌-◌, ◌^◌, ◌<◌, ◌≤◌, ◌≡◌, ◌⊎◌, if◌then◌else◌, nat_le, List, [], ◌∷◌, length, take, slice_get, Option, Some, None}
 use Rattle.aoe_io.specs.Bytes.{Gave, GaveSome, Took, TookSome, IsEnded}
+use Rattle.aoe_io.specs.Input.{IsReadUpTo}
 use Rattle.aoe_history.specs.declared.entry.Entry.{Entry}
 use Rattle.aoe_history.specs.Frames.{frames}
 use Rattle.aoe_history.specs.Lawful.{IsLawful}
@@ -167,10 +168,8 @@ Unread Ended left left' = ⊥
 Unread SinkFault left left' = ⊥
 
 -- what was read of a source: all of it where that isn't more than a script has
-pub record IsRead (left left' : Option (List ℕ)) (text : List ℕ) : Type 0 where
-  pub gave : Gave left left' text
-  pub ended : length text ≤ 16777216 → IsEnded left'
-  pub within : length text ≤ 16777216 + 65536
+abbrev pub IsRead : Option (List ℕ) → Option (List ℕ) → List ℕ → Type 0
+IsRead left left' text = IsReadUpTo 16777216 left left' text
 
 -- why a text spells no script
 abbrev pub IsRefusedAs : ReplayEnd → List ℕ → Type 0

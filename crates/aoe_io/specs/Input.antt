@@ -1,0 +1,9 @@
+-- A source that is read to its end.
+use Rattle.std.specs.Prelude.{ℕ, ◌+◌, ◌≤◌, List, length, Option}
+use Rattle.aoe_io.specs.Bytes.{Gave, IsEnded}
+
+-- what was read of a source: all of it where that isn't more than so many bytes, and else at most a piece more
+pub record IsReadUpTo (most : ℕ) (left left' : Option (List ℕ)) (bytes : List ℕ) : Type 0 where
+  pub gave : Gave left left' bytes
+  pub ended : length bytes ≤ most → IsEnded left'
+  pub within : length bytes ≤ most + 65536
