@@ -30,4 +30,4 @@ pub use names::{broadcast_law, device_law, mac_reads_back, mac_spelling_is_one};
 pub use refusal::AoeError;
 pub use sectors::Span;
 pub use steps::Steps;
-pub use text::{pair, put, put_between, put_macs, put_pair, put_pairs};
+pub use text::{pair, put, put_between, put_mac, put_macs, put_pair, put_pairs};

@@ -62,7 +62,7 @@ pub fn put_pairs(out: &mut Vec<u8>, bytes: &[u8]) -> Result<(), NoMemory>
 }
 
 /// Adds an address.
-fn put_mac(out: &mut Vec<u8>, mac: &Mac) -> Result<(), NoMemory>
+pub fn put_mac(out: &mut Vec<u8>, mac: &Mac) -> Result<(), NoMemory>
     ensures { OnOk result (out.new.items ≡ out.old.items ++ mac_text mac.now) }
 {
     put_pairs(out, &mac.0)

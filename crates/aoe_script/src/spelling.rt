@@ -5,7 +5,7 @@ ghost use Rattle.aoe_script.specs.Print.{bytes_text, ccmd_text, config_words, di
 
 use crate::event::Which;
 use crate::setup::Name;
-use aoe_base::{Blob, Mac, NoMemory, TargetId, put, put_between, put_macs, put_pair};
+use aoe_base::{Blob, Mac, NoMemory, TargetId, put, put_between, put_mac, put_macs, put_pair};
 use aoe_disk::Loss;
 use aoe_lists::{Dir, MAX_DIRS};
 use arrayvec::ArrayVec;
