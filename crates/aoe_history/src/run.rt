@@ -2,13 +2,15 @@
 ghost use Rattle.std.specs.Prelude.{◌≡◌, ◌+◌, ◌<◌, ◌≤◌, ◌^◌, List, [], ◌∷◌, length, option_map, true, IfOk, IfSome, IsOkUnless, OnErr, OnOk, Err};
 ghost use Rattle.aoe_net.specs.Network.{total_bytes, IsFull};
 ghost use Rattle.aoe_history.specs.declared.entry.Entry.{Entry};
-ghost use Rattle.aoe_history.specs.declared.entry.Entry.TheVariants.{Sent, Injected, Arrived, Ticked};
+ghost use Rattle.aoe_history.specs.declared.entry.Entry.TheVariants.{Sent, Injected, Arrived, Crashed, Ticked};
 ghost use Rattle.aoe_history.specs.declared.entry.Fate.TheVariants.{Replied};
 ghost use Rattle.aoe_history.specs.Frames.{arriving, clock, frames, next_number};
 ghost use Rattle.aoe_history.specs.Run.{is_plain, network_of, with_entry, IsWithin};
 
-use crate::{Entry, Fate, History};
+use crate::{Boxed, Entry, Fate, History};
 use aoe_base::{FrameNo, Millis, NoMemory, TargetId, Ticket};
+use aoe_disk::Loss;
+use aoe_lists::Lists;
 use aoe_net::{FrameBytes, Net, NetRefusal};
 use aoe_script::Name;
 use aoe_target::Effect;
@@ -71,11 +73,6 @@ impl Run {
         }
     }
 
-    /// The allocator of its history.
-    pub fn alloc(&self) -> Global {
-        self.alloc
-    }
-
     /// What happened.
     pub fn history(&self) -> &History
         ensures history { result.now ≡ self.now.entries }
@@ -121,6 +118,15 @@ impl Run {
         ensures err { OnErr result (self.new ≡ self.old) }
     {
         self.history.push(entry)
+    }
+
+    /// Records that a device lost its power, with the lists that stood on its keep.
+    pub fn note_crash(&mut self, dev: TargetId, lists: Lists, mode: Loss) -> Result<(), NoMemory>
+        ensures ok { OnOk result (self.new ≡ with_entry self.old (Crashed dev lists mode)) }
+        ensures err { OnErr result (self.new ≡ self.old) }
+    {
+        let lists = Boxed::new(self.alloc, lists)?;
+        self.note(Entry::Crashed { dev, lists, mode })
     }
 
     /// Some milliseconds go by.

@@ -14,7 +14,7 @@ use crate::{MemoryRack, Stops};
 use aoe_base::NoMemory;
 use aoe_cache::AnyStore;
 use aoe_disk::{Disk, Loss, MemDisk};
-use aoe_history::{Boxed, Entry, Run};
+use aoe_history::Run;
 use aoe_store::Direct;
 use arrayvec::ArrayVec;
 
@@ -65,12 +65,7 @@ fn note(run: &mut Run, shelf: &MemShelf, slot: usize, how: Loss) -> Result<(), N
         (λ t. run.new ≡ with_entry run.old (Crashed t.station.id t.keep.lists how))) }
     ensures err { OnErr result (run.new ≡ run.old) }
 {
-    let lists = Boxed::new(run.alloc(), shelf.lists(slot).copy())?;
-    run.note(Entry::Crashed {
-        dev: shelf.id(slot),
-        lists,
-        mode: how,
-    })
+    run.note_crash(shelf.id(slot), shelf.lists(slot).copy(), how)
 }
 
 /// Records that each target lost its power, as far as there is memory.
