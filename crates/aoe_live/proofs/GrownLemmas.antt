@@ -8,23 +8,16 @@ use Rattle.aoe_history.specs.declared.entry.Entry.{Entry}
 use Rattle.aoe_history.specs.declared.entry.Entry.TheVariants.{Submitted, Refused, Sent, Injected, Arrived, Took, Done, Ticked, Lost, Armed, Crashed}
 use Rattle.aoe_history.specs.Commands.{tickets}
 use Rattle.aoe_history.specs.Frames.{clock}
-use Rattle.aoe_history.specs.Groups.{submit_entry, submitted_as, Follows, Got, Station, Turns}
+use Rattle.aoe_history.specs.Groups.{submit_entry, submitted_as, Follows, Station, Turns}
 use Rattle.aoe_history.specs.Groups.Act.{Hand, Submit, Tick}
 use Rattle.aoe_history.specs.Setup.{HostSetup, Setup}
-use Rattle.aoe_world.proofs.AddsLemmas.{adds-keep, adds-more, turn-adds, Adds}
-use Rattle.aoe_world.proofs.GroupLemmas.{enters-adds, is_aside}
+use Rattle.aoe_world.proofs.AddsLemmas.{adds-keep, adds-more, Adds}
+use Rattle.aoe_world.proofs.GroupLemmas.{enters-adds, is_aside, turns-add}
 use Rattle.aoe_live.specs.Tally.{submissions}
 
 -- entries came that submit nothing and take no time
 abbrev pub Aside : List Entry → List Entry → Type 0
 Aside h m = Adds is_aside h m
-
-turns-aside : (s : Setup) (hosts : List HostSetup) (got : Option Got) (h m : List Entry) → Turns s hosts got h m → Aside h m
-turns-aside s [] got h m is = subst (Adds is_aside h) (sym is) Adds.adds_none
-turns-aside s (host ∷ hosts) got h m (n, turn, rest) =
-    adds-more is_aside h n m
-    (turn-adds is_aside s host got h n (record { done = λ name ticket outcome called. refl; sent = λ name ticket number bytes called. refl }) turn)
-    (turns-aside s hosts got n m rest)
 
 -- LINES
 
@@ -32,13 +25,13 @@ turns-aside s (host ∷ hosts) got h m (n, turn, rest) =
 pub handed : (s : Setup) (frame : ℕ) (station : Station) (h m : List Entry) → Follows s (Hand frame station ∷ []) h m → Aside h m
 handed s frame station h m (n, group, is) =
     subst (Adds is_aside h) (sym is)
-    (adds-more is_aside h group.entered n (enters-adds s h (Hand frame station) group.got group.entered tt group.enters) (turns-aside s s.hosts group.got group.entered n group.turns))
+    (adds-more is_aside h group.entered n (enters-adds s h (Hand frame station) group.got group.entered tt group.enters) (turns-add s s.hosts group.got group.entered n group.turns))
 
 -- time that goes by
 pub ticked : (s : Setup) (ms : ℕ) (h m : List Entry) → Follows s (Tick ms ∷ []) h m → Aside (Ticked ms ∷ h) m
 ticked s ms h m (n, group, is) =
     let P : List Entry → Type 0 = λ k. Turns s s.hosts group.got k n in
-    subst (Adds is_aside (Ticked ms ∷ h)) (sym is) (turns-aside s s.hosts group.got (Ticked ms ∷ h) n (subst P group.enters.1 group.turns))
+    subst (Adds is_aside (Ticked ms ∷ h)) (sym is) (turns-add s s.hosts group.got (Ticked ms ∷ h) n (subst P group.enters.1 group.turns))
 
 -- a command that is submitted, or refused
 pub record Asked (dev : TargetId) (op : Op) (h m : List Entry) : Type 0 where
@@ -59,7 +52,7 @@ asked s name dev op h m (n, group, is) =
     let e = submitted_as s host h name dev op in
     record {
       entry = e;
-      aside = subst (Adds is_aside (e ∷ h)) (sym is) (turns-aside s s.hosts group.got (e ∷ h) n (subst P group.enters.1.2 group.turns));
+      aside = subst (Adds is_aside (e ∷ h)) (sym is) (turns-add s s.hosts group.got (e ∷ h) n (subst P group.enters.1.2 group.turns));
       is = submitted-is s host h name dev op _;
     }
 

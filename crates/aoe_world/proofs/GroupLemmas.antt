@@ -121,7 +121,7 @@ enters-adds s h (Crash major how) got m aside (none, crash) = crash-adds is_asid
 enters-adds s h (Hand frame station) got m aside x = hand-adds s frame (arriving s.life h frame) station h got m x
 enters-adds s h (Lose frame) got m aside (none, is) = one-adds (Lost frame) h m refl is
 
-turns-add : (s : Setup) (hosts : List HostSetup) (got : Option Got) (h m : List Entry) → Turns s hosts got h m → Adds is_aside h m
+pub turns-add : (s : Setup) (hosts : List HostSetup) (got : Option Got) (h m : List Entry) → Turns s hosts got h m → Adds is_aside h m
 turns-add s [] got h m is = subst (Adds is_aside h) (sym is) Adds.adds_none
 turns-add s (host ∷ hosts) got h m (n, turn, rest) =
     adds-more is_aside h n m
