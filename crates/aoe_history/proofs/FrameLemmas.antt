@@ -4,6 +4,7 @@ use Rattle.std.proofs.lemmas.Bool.Decides.{nat_tests}
 use Rattle.std.specs.Option.{option_and_then, option_map_or}
 use Rattle.aoe_net.specs.Network.{fresh_bytes, numbered, SentFrame}
 use Rattle.aoe_history.specs.declared.entry.Entry.{Entry}
+use Rattle.aoe_history.proofs.LogicLemmas.{if-false}
 use Rattle.aoe_history.specs.Frames.{arriving, bytes_of, clock, frames, network}
 
 -- when the frame with a number was sent
@@ -47,3 +48,22 @@ arrives life h k f e = go (numbered (frames h) k) refl e
           there = number-within (frames h) k g q;
           fresh = rw q (omega arith);
         }
+
+-- a frame has its number after one frame more
+pub numbered-later : (g : SentFrame) (fs : List SentFrame) (k : ℕ) (f : SentFrame) → numbered fs k ≡ Some f → numbered (g ∷ fs) k ≡ Some f
+numbered-later g fs k f is = if-false (k == suc (length fs)) (Some g) (numbered fs k) (not-above k (length fs) (number-within fs k f is)) ∙ is
+  where
+    not-above : (k n : ℕ) → k ≤ n → (k == suc n) ≡ false
+    not-above k n le = grind (arith, nat_tests)
+
+-- a frame that can be handed over has its bytes
+pub bytes-arriving : (life : ℕ) (h : List Entry) (k : ℕ) (f : List ℕ) → arriving life h k ≡ Some f → bytes_of h k ≡ f
+bytes-arriving life h k f e = go (numbered (frames h) k) refl e
+  where
+    young : (b : Bool) (a : List ℕ) → (if b then Some a else None) ≡ Some f → a ≡ f
+    young true a e = cc
+    young false a e = absurd (cc)
+
+    go : (o : Option SentFrame) → numbered (frames h) k ≡ o → option_and_then (fresh_bytes (network life h) (clock h)) o ≡ Some f → bytes_of h k ≡ f
+    go None q e = absurd (cc)
+    go (Some g) q e = ap (λ (o : Option SentFrame). option_map_or (λ (x : SentFrame). x.bytes) o []) q ∙ young (nat_le (clock h - g.birth) life) g.bytes e

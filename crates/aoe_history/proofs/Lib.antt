@@ -1,3 +1,4 @@
+pub mod LogicLemmas
 pub mod FrameLemmas
 mod RunLemmas
 pub mod FullLemmas

@@ -1,8 +1,8 @@
 mod AnswerLemmas
 mod DeviceLemmas
-mod ListLemmas
+pub mod ListLemmas
 mod LogLemmas
-mod MatchLemmas
+pub mod MatchLemmas
 mod NextLemmas
 mod PathLemmas
 mod PlaceLemmas

@@ -14,6 +14,7 @@ use Rattle.aoe_history.specs.Setup.{host_called, slot_of, HostSetup, Setup, Slot
 use Rattle.aoe_live.specs.declared.frames.Sender.{Sender}
 use Rattle.aoe_live.specs.declared.frames.Sender.TheVariants as sender
 use Rattle.aoe_live.specs.Frames.{frame_by, matching, ms_of, newest, Numbered}
+use Rattle.aoe_world.proofs.ScheduleKeeps.{frames-grow}
 
 matching-number : (f : List ℕ) (x : Numbered) (n : ℕ) → matching f (Some x) ≡ Some n → x.number ≡ n
 matching-number f x n = go (bytes_eq x.bytes f)
@@ -73,28 +74,12 @@ by : (x : Sender) (s : Setup) (e : Entry) (h : List Entry) (f : List ℕ) (n : �
 by sender.Host s e h f n may is = by-host s e h f n may is
 by sender.Shelf s e h f n may is = by-shelf s e h f n may is
 
-frames-more : (e : Entry) (h : List Entry) → length (frames h) ≤ length (frames (e ∷ h))
-frames-more (Sent host ticket number bytes) h = omega arith
-frames-more (Injected number b) h = omega arith
-frames-more (Arrived dev frame (Replied effect number bytes)) h = omega arith
-frames-more (Arrived dev frame Ignored) h = omega arith
-frames-more (Arrived dev frame Silent) h = omega arith
-frames-more (Arrived dev frame Cut) h = omega arith
-frames-more (Submitted host ticket dev op) h = omega arith
-frames-more (Refused host refusal) h = omega arith
-frames-more (Took host frame stale) h = omega arith
-frames-more (Done host ticket outcome) h = omega arith
-frames-more (Ticked ms) h = omega arith
-frames-more (Lost frame) h = omega arith
-frames-more (Armed dev which k mode) h = omega arith
-frames-more (Crashed dev lists mode) h = omega arith
-
 pub newest-one : (x : Sender) (s : Setup) (age : ℕ) (h : List Entry) (f : List ℕ) (n : ℕ) → IsLawful s h → newest x age h f ≡ Some n → (1 ≤ n) × (n ≤ length (frames h))
 newest-one x s age [] f n lawful is = absurd cc
 newest-one x s age (e ∷ h) f n lawful is = at (matching f (frame_by x e)) refl (newest-one x s (age - ms_of e) h f n lawful.1) is
   where
     later : IsOne n h → IsOne n (e ∷ h)
-    later one = let more = frames-more e h in (one.0, omega (arith, one.1, more))
+    later one = let more = frames-grow e h in (one.0, omega (arith, one.1, more))
 
     old : (b : Bool) → (newest x (age - ms_of e) h f ≡ Some n → IsOne n h) → (if b then None else newest x (age - ms_of e) h f) ≡ Some n → IsOne n (e ∷ h)
     old true before is = absurd cc

@@ -11,12 +11,13 @@ use Rattle.aoe_history.specs.HostLaw.{IsAnswered, IsResponse}
 use Rattle.aoe_history.specs.Setup.{HostSetup, Setup}
 use Rattle.aoe_sim_hosts.specs.Host.{is_apart, is_told, log_with, Awaits, IsHost, IsSettled, NamedHost, TellsSame}
 use Rattle.aoe_sim_hosts.proofs.Commands.{answer-later}
-use Rattle.aoe_sim_hosts.proofs.Leaves.{leaves, path-left, unless, Leaves}
+use Rattle.aoe_sim_hosts.proofs.Leaves.{leaves, path-left, Leaves}
 use Rattle.aoe_sim_hosts.proofs.Same.{advanced, tells-same}
 use Rattle.aoe_initiator.specs.declared.outcome.Outcome.{Outcome}
 use Rattle.aoe_initiator.specs.Host.{Matches}
 use Rattle.aoe_initiator.specs.HostLog.{commands, Event}
 use Rattle.aoe_initiator.specs.HostLog.Event.{Advances, Ends}
+use Rattle.aoe_history.proofs.LogicLemmas.{if-false}
 
 settled-left : (s : Setup) (host : HostSetup) (h n : List Entry) (x : NamedHost) → Leaves host h n → IsSettled s host h x → IsSettled s host n x
 settled-left s host h n x l y = record {
@@ -99,9 +100,9 @@ awaits-other s host got h x other y = record {
   log = log_of host h;
   matches = y.matches;
   same = subst (λ (b : List Event). TellsSame (Advances (record { 0 = clock h }) ∷ log_of host h) b)
-      (sym (unless (is_told host got) (Ends (record { 0 = got.ticket }) (path_ended host h got.ticket got.outcome) ∷ log_of host h) (log_of host h) other))
+      (sym (if-false (is_told host got) (Ends (record { 0 = got.ticket }) (path_ended host h got.ticket got.outcome) ∷ log_of host h) (log_of host h) other))
       (advanced (log_of host h) (clock h) (sym y.matches.time ∙ y.time));
-  waiting = y.waiting ∙ sym (unless (is_told host got) (record { ticket = record { 0 = got.ticket }; outcome = got.outcome } ∷ []) [] other);
+  waiting = y.waiting ∙ sym (if-false (is_told host got) (record { ticket = record { 0 = got.ticket }; outcome = got.outcome } ∷ []) [] other);
   response = λ told. absurd (let a = told in let b = other in cc);
 }
 

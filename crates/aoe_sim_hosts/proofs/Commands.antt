@@ -1,8 +1,7 @@
 -- What the host law says of a host by its history, and what a host keeps of it.
 use Rattle.std.proofs.Common.{ℕ, zero, suc, ◌+◌, ◌≤◌, ◌<◌, ◌≡◌, inl, inr, if◌then◌else◌, nat_eq, Bool, true, false, not, ◌&&◌, List, [], ◌∷◌, ◌++◌, length, map, Option, Some, None, refl, sym, subst, ap, ◌∙◌, arith, add-zero, zero-add, Contains}
-use Rattle.std.specs.Prelude.{◌⊎◌, drop, option_map, slice_get, slice_index_or}
+use Rattle.std.specs.Prelude.{drop, option_map, slice_get}
 use Rattle.std.specs.Option.{option_and_then, option_map_or}
-use Rattle.std.proofs.lemmas.Bool.Decides.{nat_tests}
 use Rattle.std.proofs.lemmas.List.Elements.{Contains-push_cases}
 use Rattle.std.proofs.lemmas.Option.{slice_get-map}
 use Rattle.arrayvec.specs.ArrayVec.{ArrayVec}
@@ -22,7 +21,7 @@ use Rattle.aoe_history.specs.Lawful.{IsLawful}
 use Rattle.aoe_history.specs.Setup.{device_no, host_called, is_called, HostSetup, Setup}
 use Rattle.aoe_sim_hosts.specs.Host.{is_apart, IsHost, NamedHost}
 use Rattle.aoe_sim_hosts.proofs.Called.{for-called, named}
-use Rattle.aoe_sim_hosts.proofs.Leaves.{leaves, unless, when}
+use Rattle.aoe_sim_hosts.proofs.Leaves.{leaves}
 use Rattle.aoe_initiator.specs.declared.device.Attached.{Attached}
 use Rattle.aoe_initiator.specs.declared.device.Device.{Device}
 use Rattle.aoe_initiator.specs.declared.op.Op.{Op}
@@ -33,6 +32,8 @@ use Rattle.aoe_initiator.specs.HostLog.Event.{Ends, Sends, Submits}
 use Rattle.aoe_initiator.specs.Op.{command_of}
 use Rattle.aoe_initiator.specs.Response.{answer, has_flag}
 use Rattle.aoe_paths.specs.PathLog.{timeout_on}
+use Rattle.aoe_history.proofs.LogicLemmas.{if-false, if-true, other-number, own-number}
+use Rattle.aoe_initiator.proofs.ListLemmas.{Contains-map_from}
 
 -- ---- the devices of a host
 
@@ -116,23 +117,6 @@ keeps-submission host h n c y ticket device op more same x = record {
   op = op ∙ x.op;
 }
 
-contains-cons : {X : Type 0} (y x : X) (xs : List X) → Contains xs x → Contains (y ∷ xs) x
-contains-cons y x xs p = (suc p.0, omega (arith, p.1), p.2)
-
-contains-cases : {X : Type 0} (y x : X) (xs : List X) → Contains (y ∷ xs) x → (y ≡ x) ⊎ Contains xs x
-contains-cases {X} y x xs p = go p.0 p.1 p.2
-  where
-    go : (k : ℕ) → k < length (y ∷ xs) → slice_index_or (y ∷ xs) k x ≡ x → (y ≡ x) ⊎ Contains xs x
-    go zero below is = inl is
-    go (suc k) below is = inr (k, omega (arith, below), is)
-
-mapped-from : {X Y : Type 0} (f : X → Y) (xs : List X) (y : Y) → Contains (map f xs) y → (x : X) × Contains xs x × (f x ≡ y)
-mapped-from f [] y there = absurd (omega (arith, there.1))
-mapped-from f (x ∷ xs) y there = elim (contains-cases (f x) y (map f xs) there) [
-  | inl same ↦ (x, (0, omega arith, refl), same)
-  | inr behind ↦ let r = mapped-from f xs y behind in (r.0, contains-cons x r.0 xs r.1, r.2)
-]
-
 -- a change of a command leaves what it asks
 abbrev Asks : HostCommand → HostCommand → Type 0
 Asks y c = (y.ticket ≡ c.ticket) × (y.device ≡ c.device) × (y.op ≡ c.op)
@@ -148,7 +132,7 @@ changed : (host : HostSetup) (h n : List Entry) (change : HostCommand → HostCo
     → tickets host n ≡ tickets host h → ((c : ℕ) → submission host n c ≡ submission host h c) → ((c : HostCommand) → Contains (commands_of host h) c → IsSubmission host h c)
     → (c : HostCommand) → Contains (commands_of host n) c → IsSubmission host n c
 changed host h n change each is count same before y there =
-    let of = mapped-from change (commands_of host h) y (subst (λ (cs : List HostCommand). Contains cs y) is there) in
+    let of = Contains-map_from change (commands_of host h) y (subst (λ (cs : List HostCommand). Contains cs y) is there) in
     let e = each of.0 in
     keeps-submission host h n of.0 y (ap (λ (z : HostCommand). z.ticket) (sym of.2) ∙ e.0) (ap (λ (z : HostCommand). z.device) (sym of.2) ∙ e.1) (ap (λ (z : HostCommand). z.op) (sym of.2) ∙ e.2) (omega arith) (same of.0.ticket.0) (before of.0 of.1)
 
@@ -158,14 +142,6 @@ same-commands : (host : HostSetup) (h n : List Entry) → commands_of host n ≡
 same-commands host h n is count same before c there =
     keeps-submission host h n c c refl refl refl (omega arith) (same c.ticket.0) (before c (subst (λ (cs : List HostCommand). Contains cs c) is there))
 
-not-next : (b : Bool) (n c : ℕ) → c ≤ n → (b && nat_eq (suc n) c) ≡ false
-not-next true n c le = grind (arith, nat_tests)
-not-next false n c le = refl
-
-just-now : (b : Bool) (n : ℕ) → b ≡ true → (b && nat_eq n n) ≡ true
-just-now true n e = grind (arith, nat_tests)
-just-now false n e = absurd (cc)
-
 submitted-now : (host : HostSetup) (h : List Entry) (name : ArrayVec ℕ) (t : ℕ) (dev : TargetId) (op : Op) → is_called host name ≡ true → t ≡ suc (tickets host h)
     → ((c : HostCommand) → Contains (commands_of host h) c → IsSubmission host h c)
     → (c : HostCommand) → Contains (commands_of host (Submitted name t dev op ∷ h)) c → IsSubmission host (Submitted name t dev op ∷ h) c
@@ -173,23 +149,23 @@ submitted-now host h name t dev op own next before c there = elim (Contains-push
   | inl old ↦
       let x = before c old in
       let b = x.bound in
-      let away : (is_called host name && nat_eq t c.ticket.0) ≡ false = ap (λ (n : ℕ). is_called host name && nat_eq n c.ticket.0) next ∙ not-next (is_called host name) (tickets host h) c.ticket.0 b in
+      let away : (is_called host name && nat_eq t c.ticket.0) ≡ false = ap (λ (n : ℕ). is_called host name && nat_eq n c.ticket.0) next ∙ other-number (is_called host name) (tickets host h) c.ticket.0 b in
       keeps-submission host h (Submitted name t dev op ∷ h) c c refl refl refl (let e = count in omega arith)
-      (unless (is_of host c.ticket.0 name t) (Some (record { dev = dev; op = op })) (submission host h c.ticket.0) away) x
+      (if-false (is_of host c.ticket.0 name t) (Some (record { dev = dev; op = op })) (submission host h c.ticket.0) away) x
   | inr same ↦ subst (λ (z : HostCommand). IsSubmission host (Submitted name t dev op ∷ h) z) same (record {
     bound = let e = count in let n = next in omega arith;
     asked = record { dev = dev; op = op };
-    there = when (is_of host t name t) (Some (record { dev = dev; op = op })) (submission host h t) (just-now (is_called host name) t own);
+    there = if-true (is_of host t name t) (Some (record { dev = dev; op = op })) (submission host h t) (own-number (is_called host name) t own);
     device = refl;
     op = refl;
   })
 ]
   where
     in_list : Contains (commands_of host h ++ submitted (record { 0 = t }) (device_no host dev) op ∷ []) c
-    in_list = subst (λ (cs : List HostCommand). Contains cs c) (ap commands (when (is_called host name) (Submits (record { 0 = t }) (device_no host dev) op ∷ log_of host h) (log_of host h) own)) there
+    in_list = subst (λ (cs : List HostCommand). Contains cs c) (ap commands (if-true (is_called host name) (Submits (record { 0 = t }) (device_no host dev) op ∷ log_of host h) (log_of host h) own)) there
 
     count : tickets host (Submitted name t dev op ∷ h) ≡ suc (tickets host h)
-    count = when (is_called host name) (suc (tickets host h)) (tickets host h) own
+    count = if-true (is_called host name) (suc (tickets host h)) (tickets host h) own
 
 own-of : (b : Bool) → not b ≡ false → b ≡ true
 own-of true e = refl
@@ -207,7 +183,7 @@ module _ (s : Setup) (host : HostSetup) (name : ArrayVec ℕ) (called : host_cal
       changed host h (Sent other t number bytes ∷ h)
       (at_ticket (record { 0 = t }) (after_send (fields bytes).tag (record { 0 = log_clock (log_of host h) }) (path_of host (submission host h t) bytes) (λ n. timeout_on (path_log (log_of host h) n) (path_of host (submission host h t) bytes).0)))
       (asks-at (record { 0 = t }) (after_send (fields bytes).tag (record { 0 = log_clock (log_of host h) }) (path_of host (submission host h t) bytes) (λ n. timeout_on (path_log (log_of host h) n) (path_of host (submission host h t) bytes).0)) (λ c. (refl, refl, refl)))
-      (ap commands (when (is_called host other) (Sends (record { 0 = t }) (fields bytes).tag (path_of host (submission host h t) bytes) ∷ log_of host h) (log_of host h) mine))
+      (ap commands (if-true (is_called host other) (Sends (record { 0 = t }) (fields bytes).tag (path_of host (submission host h t) bytes) ∷ log_of host h) (log_of host h) mine))
       refl (λ c. refl) before
   own h (Injected number bytes) near l before = absurd (cc)
   own h (Arrived dev frame fate) near l before = absurd (cc)
@@ -215,7 +191,7 @@ module _ (s : Setup) (host : HostSetup) (name : ArrayVec ℕ) (called : host_cal
   own h (Done other t outcome) near l before =
       let mine = own-of (is_called host other) near in
       changed host h (Done other t outcome ∷ h) (at_ticket (record { 0 = t }) after_end) (asks-at (record { 0 = t }) after_end (λ c. (refl, refl, refl)))
-      (ap commands (when (is_called host other) (Ends (record { 0 = t }) (path_ended host h t outcome) ∷ log_of host h) (log_of host h) mine))
+      (ap commands (if-true (is_called host other) (Ends (record { 0 = t }) (path_ended host h t outcome) ∷ log_of host h) (log_of host h) mine))
       refl (λ c. refl) before
   own h (Ticked ms) near l before = same-commands host h (Ticked ms ∷ h) refl refl (λ c. refl) before
   own h (Lost frame) near l before = absurd (cc)

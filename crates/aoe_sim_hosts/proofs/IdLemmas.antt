@@ -8,8 +8,9 @@ use Rattle.aoe_sim_hosts.specs.Ids.{AreIds}
 use Rattle.aoe_initiator.specs.declared.device.Attached.{Attached}
 use Rattle.aoe_initiator.specs.declared.device.Device.{Device}
 use Rattle.aoe_initiator.specs.HostLaw.{same_id}
+use Rattle.aoe_history.proofs.LogicLemmas.{map-map}
 
-place-map : {X Y : Type 0} (f : X → Y) (p : Y → Bool) (xs : List X) → position_or_len p (map f xs) ≡ position_or_len (λ x. p (f x)) xs
+pub place-map : {X Y : Type 0} (f : X → Y) (p : Y → Bool) (xs : List X) → position_or_len p (map f xs) ≡ position_or_len (λ x. p (f x)) xs
 place-map f p [] = refl
 place-map f p (x ∷ xs) = ap (λ (n : ℕ). cond (not (p (f x))) (1 + n) 0) (place-map f p xs)
 
@@ -29,10 +30,6 @@ place-about devices abouts dev e = ap (λ (l : List Attached). position (λ (d :
 pub some-given : (o : Option ℕ) → is_some o ≡ true → o ≡ Some (unwrap_or o 0)
 some-given None e = absurd (cc)
 some-given (Some n) e = refl
-
-map-map : {X Y Z : Type 0} (f : Y → Z) (g : X → Y) (xs : List X) → map f (map g xs) ≡ map (λ x. f (g x)) xs
-map-map f g [] = refl
-map-map f g (x ∷ xs) = ap (λ l. f (g x) ∷ l) (map-map f g xs)
 
 ids-about : (devices : List Device) → map (λ (d : Device). d.about.id) devices ≡ map (λ (a : Attached). a.id) (map (λ (d : Device). d.about) devices)
 ids-about devices = sym (map-map (λ (a : Attached). a.id) (λ (d : Device). d.about) devices)

@@ -1,6 +1,6 @@
 -- An entry that says nothing of a host leaves what the history says of it.
-use Rattle.std.proofs.Common.{ℕ, suc, ◌-◌, ◌≤◌, ◌≡◌, if◌then◌else◌, nat_eq, nat_le, ◌==◌, Bool, true, false, not, ◌&&◌, List, [], ◌∷◌, length, Option, Some, None, refl, ap, ◌∙◌, arith}
-use Rattle.std.specs.Option.{option_and_then, option_map_or}
+use Rattle.std.proofs.Common.{ℕ, suc, ◌-◌, ◌≤◌, ◌≡◌, if◌then◌else◌, nat_eq, nat_le, ◌==◌, true, false, not, ◌&&◌, List, ◌∷◌, Option, Some, None, refl, ap, ◌∙◌, arith}
+use Rattle.std.specs.Option.{option_and_then}
 use Rattle.std.proofs.lemmas.Bool.Decides.{nat_tests}
 use Rattle.aoe_net.specs.Network.{fresh_bytes, numbered, SentFrame}
 use Rattle.aoe_frame.specs.Header.{fields}
@@ -10,11 +10,12 @@ use Rattle.aoe_history.specs.declared.entry.Fate.TheVariants.{Ignored, Silent, C
 use Rattle.aoe_history.specs.Commands.{is_of, last_response, log_of, path_ended, path_of, submission, tickets}
 use Rattle.aoe_history.specs.Frames.{arriving, bytes_of, clock, frames, network}
 use Rattle.aoe_history.specs.Setup.{device_no, is_called, HostSetup}
-use Rattle.aoe_history.proofs.FrameLemmas.{number-within}
+use Rattle.aoe_history.proofs.FrameLemmas.{numbered-later}
 use Rattle.aoe_sim_hosts.specs.Host.{is_apart}
 use Rattle.aoe_initiator.specs.HostLog.Event.{Ends, Sends, Submits}
 use Rattle.aoe_initiator.specs.declared.outcome.Outcome.{Outcome}
 use Rattle.aoe_initiator.specs.declared.outcome.Outcome.TheVariants.{Read as ReadOutcome, Written as WrittenOutcome, Flushed as FlushedOutcome, Told as ToldOutcome, AtaError as AtaErrorOutcome, AoeError as AoeErrorOutcome, GaveUp}
+use Rattle.aoe_history.proofs.LogicLemmas.{and-false, if-false, not-true}
 
 pub record Leaves (host : HostSetup) (h n : List Entry) : Type 0 where
   pub count : tickets host n ≡ tickets host h
@@ -29,17 +30,6 @@ pub record Leaves (host : HostSetup) (h n : List Entry) : Type 0 where
 not-above : (k n : ℕ) → k ≤ n → (k == suc n) ≡ false
 not-above k n le = grind (arith, nat_tests)
 
-pub unless : {X : Type 0} (b : Bool) (x y : X) → b ≡ false → (if b then x else y) ≡ y
-unless true x y e = absurd (cc)
-unless false x y e = refl
-
-pub when : {X : Type 0} (b : Bool) (x y : X) → b ≡ true → (if b then x else y) ≡ x
-when true x y e = refl
-when false x y e = absurd (cc)
-
-numbered-later : (g : SentFrame) (fs : List SentFrame) (k : ℕ) (f : SentFrame) → numbered fs k ≡ Some f → numbered (g ∷ fs) k ≡ Some f
-numbered-later g fs k f is = unless (k == suc (length fs)) (Some g) (numbered fs k) (not-above k (length fs) (number-within fs k f is)) ∙ is
-
 -- a frame more leaves those that are there
 pub arrives-later : (h n : List Entry) (g : SentFrame) → frames n ≡ g ∷ frames h → clock n ≡ clock h → (life k : ℕ) (f : List ℕ) → arriving life h k ≡ Some f → arriving life n k ≡ Some f
 arrives-later h n g more time life k f e = go (numbered (frames h) k) refl e
@@ -51,18 +41,6 @@ arrives-later h n g more time life k f e = go (numbered (frames h) k) refl e
         ap (λ (o : Option SentFrame). option_and_then (fresh_bytes (network life n) (clock n)) o) later
         ∙ ap (λ (now : ℕ). if nat_le (now - z.birth) life then Some z.bytes else None) time
         ∙ e
-
--- a frame that can be handed over has its bytes
-pub bytes-arriving : (life : ℕ) (h : List Entry) (k : ℕ) (f : List ℕ) → arriving life h k ≡ Some f → bytes_of h k ≡ f
-bytes-arriving life h k f e = go (numbered (frames h) k) refl e
-  where
-    young : (b : Bool) (a : List ℕ) → (if b then Some a else None) ≡ Some f → a ≡ f
-    young true a e = cc
-    young false a e = absurd (cc)
-
-    go : (o : Option SentFrame) → numbered (frames h) k ≡ o → option_and_then (fresh_bytes (network life h) (clock h)) o ≡ Some f → bytes_of h k ≡ f
-    go None q e = absurd (cc)
-    go (Some g) q e = ap (λ (o : Option SentFrame). option_map_or (λ (x : SentFrame). x.bytes) o []) q ∙ young (nat_le (clock h - g.birth) life) g.bytes e
 
 -- ---- the path of a response
 
@@ -77,28 +55,20 @@ path-left host h n t (GaveUp first now) a b = refl
 
 -- ---- entries of others
 
-other-of : (b : Bool) → not b ≡ true → b ≡ false
-other-of true e = absurd (cc)
-other-of false e = refl
-
-other-test : (b c : Bool) → b ≡ false → (b && c) ≡ false
-other-test true c e = absurd (cc)
-other-test false c e = refl
-
 pub leaves : (host : HostSetup) (h : List Entry) (e : Entry) → is_apart host e ≡ true → Leaves host h (e ∷ h)
-leaves host h (Submitted name t dev op) away = let other = other-of (is_called host name) away in record {
-  count = unless (is_called host name) (suc (tickets host h)) (tickets host h) other;
+leaves host h (Submitted name t dev op) away = let other = not-true (is_called host name) away in record {
+  count = if-false (is_called host name) (suc (tickets host h)) (tickets host h) other;
   time = refl;
-  log = unless (is_called host name) (Submits (record { 0 = t }) (device_no host dev) op ∷ log_of host h) (log_of host h) other;
-  submissions = λ c. unless (is_of host c name t) (Some (record { dev = dev; op = op })) (submission host h c) (other-test (is_called host name) (nat_eq t c) other);
+  log = if-false (is_called host name) (Submits (record { 0 = t }) (device_no host dev) op ∷ log_of host h) (log_of host h) other;
+  submissions = λ c. if-false (is_of host c name t) (Some (record { dev = dev; op = op })) (submission host h c) (and-false (is_called host name) (nat_eq t c) other);
   response = refl;
   arrives = λ life k f e. e;
 }
 leaves host h (Refused name refusal) away = record { count = refl; time = refl; log = refl; submissions = λ c. refl; response = refl; arrives = λ life k f e. e }
-leaves host h (Sent name t number bytes) away = let other = other-of (is_called host name) away in record {
+leaves host h (Sent name t number bytes) away = let other = not-true (is_called host name) away in record {
   count = refl;
   time = refl;
-  log = unless (is_called host name) (Sends (record { 0 = t }) (fields bytes).tag (path_of host (submission host h t) bytes) ∷ log_of host h) (log_of host h) other;
+  log = if-false (is_called host name) (Sends (record { 0 = t }) (fields bytes).tag (path_of host (submission host h t) bytes) ∷ log_of host h) (log_of host h) other;
   submissions = λ c. refl;
   response = refl;
   arrives = arrives-later h (Sent name t number bytes ∷ h) (record { bytes = bytes; birth = clock h }) refl refl;
@@ -122,18 +92,18 @@ leaves host h (Arrived dev frame (Replied effect number bytes)) away = record {
   response = refl;
   arrives = arrives-later h (Arrived dev frame (Replied effect number bytes) ∷ h) (record { bytes = bytes; birth = clock h }) refl refl;
 }
-leaves host h (Took name number stale) away = let other = other-of (is_called host name) away in record {
+leaves host h (Took name number stale) away = let other = not-true (is_called host name) away in record {
   count = refl;
   time = refl;
   log = refl;
   submissions = λ c. refl;
-  response = unless (is_called host name && not stale) (Some (bytes_of h number)) (last_response host h) (other-test (is_called host name) (not stale) other);
+  response = if-false (is_called host name && not stale) (Some (bytes_of h number)) (last_response host h) (and-false (is_called host name) (not stale) other);
   arrives = λ life k f e. e;
 }
-leaves host h (Done name t outcome) away = let other = other-of (is_called host name) away in record {
+leaves host h (Done name t outcome) away = let other = not-true (is_called host name) away in record {
   count = refl;
   time = refl;
-  log = unless (is_called host name) (Ends (record { 0 = t }) (path_ended host h t outcome) ∷ log_of host h) (log_of host h) other;
+  log = if-false (is_called host name) (Ends (record { 0 = t }) (path_ended host h t outcome) ∷ log_of host h) (log_of host h) other;
   submissions = λ c. refl;
   response = refl;
   arrives = λ life k f e. e;

@@ -3,7 +3,7 @@ pub mod Apart
 pub mod Called
 pub mod Commands
 mod HostAlike
-mod IdLemmas
+pub mod IdLemmas
 pub mod Leaves
 pub mod PathNo
 pub mod Same

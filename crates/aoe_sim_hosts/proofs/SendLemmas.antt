@@ -1,7 +1,7 @@
 -- A host sends a frame: the request of the command that is next, which bears its tag and goes on its path.
-use Rattle.std.proofs.Common.{ℕ, ◌-◌, ◌≡◌, ◌<◌, List, [], ◌∷◌, ◌++◌, length, get_or, Option, Some, None, refl, sym, subst, ap, ◌∙◌, append_assoc}
+use Rattle.std.proofs.Common.{ℕ, ◌-◌, ◌≡◌, ◌<◌, List, [], ◌∷◌, ◌++◌, length, get_or, Option, Some, refl, sym, subst, ap, ◌∙◌, append_assoc}
 use Rattle.std.specs.Prelude.{replicate, slice_get, All}
-use Rattle.std.specs.Option.{option_and_then, option_map, option_map_or}
+use Rattle.std.specs.Option.{option_map, option_map_or}
 use Rattle.std.proofs.lemmas.Nat.{from_be_bytes-to_be_bytes_4}
 use Rattle.std.proofs.lemmas.Option.{get_or_from_slice_get, slice_get-map, slice_get_within}
 use Rattle.arrayvec.specs.ArrayVec.{ArrayVec}
@@ -41,9 +41,9 @@ use Rattle.aoe_sim_hosts.proofs.HostAlike.{alike, frame-alike, next-alike, path-
 use Rattle.aoe_sim_hosts.proofs.PathNo.{path-given}
 use Rattle.aoe_sim_hosts.proofs.Called.{is-called, of-called}
 use Rattle.aoe_sim_hosts.proofs.Commands.{submitted-of}
-use Rattle.aoe_sim_hosts.proofs.Leaves.{when}
 use Rattle.aoe_sim_hosts.proofs.Same.{host-same}
 use Rattle.aoe_history.specs.Run.{MeetsFull}
+use Rattle.aoe_history.proofs.LogicLemmas.{if-true, some-mapped, some-then}
 
 -- HEADERS
 
@@ -78,14 +78,6 @@ request-bears op id remote local tag d s small =
 
 all-at : {X : Type 0} (P : X → Type 0) (xs : List X) (k : ℕ) (x : X) → All P xs → slice_get xs k ≡ Some x → P x
 all-at P xs k x all at = subst P (get_or_from_slice_get xs k x x at) (all k x (slice_get_within xs k x at))
-
-some-mapped : {X Y : Type 0} (f : X → Y) (o : Option X) (y : Y) → option_map f o ≡ Some y → (x : X) × (o ≡ Some x) × (f x ≡ y)
-some-mapped f None y e = absurd (cc)
-some-mapped f (Some x) y e = (x, refl, cc)
-
-some-then : {X Y : Type 0} (f : X → Option Y) (o : Option X) (y : Y) → option_and_then f o ≡ Some y → (x : X) × (o ≡ Some x) × (f x ≡ Some y)
-some-then f None y e = absurd (cc)
-some-then f (Some x) y e = (x, refl, e)
 
 -- a frame is the request to a device of a host, between the ports that a path joins
 pub record IsRequest (host : HostSetup) (op : Op) (device : DeviceNo) (path : PathNo) (tag : ℕ) (f : List ℕ) : Type 0 where
@@ -150,7 +142,7 @@ module _ (s : Setup) (host : HostSetup) (h : List Entry) (x : NamedHost) (settle
   -- the history says of the frame what the host did
   pub log-sent : log_of host (Sent x.name sent.ticket.0 (next_number h) f ∷ h) ≡ Sends sent.ticket sent.tag sent.path ∷ log_of host h
   log-sent =
-      when (is_called host x.name) (Sends sent.ticket (fields f).tag (path_of host (submission host h sent.ticket.0) f) ∷ log_of host h) (log_of host h) (is-called s x.name host settled.is.called)
+      if-true (is_called host x.name) (Sends sent.ticket (fields f).tag (path_of host (submission host h sent.ticket.0) f) ∷ log_of host h) (log_of host h) (is-called s x.name host settled.is.called)
       ∙ ap (λ (tag : ℕ). Sends sent.ticket tag (path_of host (submission host h sent.ticket.0) f) ∷ log_of host h) tag-back
       ∙ ap (λ (path : PathNo). Sends sent.ticket sent.tag path ∷ log_of host h) path-back
 

@@ -21,7 +21,6 @@ use Rattle.aoe_sim_hosts.proofs.Apart.{awaits-settled, settled-apart}
 use Rattle.aoe_sim_hosts.proofs.Called.{is-called, of-called}
 use Rattle.aoe_sim_hosts.proofs.Commands.{about, about-after, about-kept, unsent-after}
 use Rattle.aoe_sim_hosts.proofs.IdLemmas.{place-about}
-use Rattle.aoe_sim_hosts.proofs.Leaves.{when}
 use Rattle.aoe_sim_hosts.proofs.Same.{host-same}
 use Rattle.aoe_initiator.specs.declared.device.Attached.{Attached}
 use Rattle.aoe_initiator.specs.declared.device.Device.{Device}
@@ -33,6 +32,7 @@ use Rattle.aoe_initiator.specs.HostLaw.{held_at, op_refusal, or_backlog, same_id
 use Rattle.aoe_initiator.specs.HostLog.{commands, entered_at, Event}
 use Rattle.aoe_initiator.specs.HostLog.Event.{Submits}
 use Rattle.aoe_initiator.specs.Op.{CanSubmit}
+use Rattle.aoe_history.proofs.LogicLemmas.{if-true}
 
 -- as many commands are held at a device as were submitted to it and never sent
 abbrev pub IsHeldLaw : Type 0
@@ -89,7 +89,7 @@ module _ (s : Setup) (host : HostSetup) (h : List Entry) (x : NamedHost) (dev : 
     (of-called (λ a. IsSubmitted s a h ticket.0 dev op) (host_called s x.name) host y.is.called (record { device = device.0; attached = at; can = can; taken = answer None fine; next = is_next }), lawful),
     record {
       is = host-same s host x z name same y.is;
-      last = last ∙ is_next ∙ sym (when (is_called host x.name) (suc (tickets host h)) (tickets host h) mine);
+      last = last ∙ is_next ∙ sym (if-true (is_called host x.name) (suc (tickets host h)) (tickets host h) mine);
       time = clock ∙ y.time;
       matches = subst (λ (log : List Event). Matches log z.core) (sym log_is) (matches (log_of host h) y.matches);
       waiting = waiting ∙ y.waiting;
@@ -103,7 +103,7 @@ module _ (s : Setup) (host : HostSetup) (h : List Entry) (x : NamedHost) (dev : 
       is_next = next ∙ add-one x.core.last_ticket ∙ ap suc y.last
 
       log_is : log_of host (Submitted x.name ticket.0 dev op ∷ h) ≡ Submits ticket device op ∷ log_of host h
-      log_is = when (is_called host x.name) (Submits (record { 0 = ticket.0 }) (device_no host dev) op ∷ log_of host h) (log_of host h) mine
+      log_is = if-true (is_called host x.name) (Submits (record { 0 = ticket.0 }) (device_no host dev) op ∷ log_of host h) (log_of host h) mine
           ∙ ap (λ (d : DeviceNo). Submits ticket d op ∷ log_of host h) number
 
   -- a command is refused

@@ -24,7 +24,6 @@ use Rattle.aoe_sim_hosts.specs.Host.{is_told, log_with, Awaits, IsHost, IsSettle
 use Rattle.aoe_sim_hosts.proofs.Apart.{awaits-settled}
 use Rattle.aoe_sim_hosts.proofs.Called.{is-called, of-called}
 use Rattle.aoe_sim_hosts.proofs.Commands.{about, about-kept, answer-after, submitted-of}
-use Rattle.aoe_sim_hosts.proofs.Leaves.{bytes-arriving, when}
 use Rattle.aoe_sim_hosts.proofs.PathNo.{path-given}
 use Rattle.aoe_sim_hosts.proofs.Same.{advanced, host-same}
 use Rattle.aoe_initiator.specs.declared.device.Attached.{Attached}
@@ -42,6 +41,8 @@ use Rattle.aoe_initiator.specs.HostLog.{Event, HostCommand}
 use Rattle.aoe_initiator.specs.HostLog.Event.{Advances, Ends}
 use Rattle.aoe_initiator.specs.Response.{outcome_of}
 use Rattle.aoe_paths.specs.PathTable.{pair_at}
+use Rattle.aoe_history.proofs.LogicLemmas.{if-true}
+use Rattle.aoe_history.proofs.FrameLemmas.{bytes-arriving}
 
 -- ---- the path of a response
 
@@ -90,7 +91,7 @@ and-true b e = ap (λ (c : Bool). c && true) e
 took-last : (host : HostSetup) (h : List Entry) (name : ArrayVec ℕ) (life number : ℕ) (f : List ℕ) → is_called host name ≡ true → arriving life h number ≡ Some f
     → last_response host (Took name number false ∷ h) ≡ Some f
 took-last host h name life number f mine fresh =
-    when (is_called host name && not false) (Some (bytes_of h number)) (last_response host h) (and-true (is_called host name) mine) ∙ ap (λ (bytes : List ℕ). Some bytes) (bytes-arriving life h number f fresh)
+    if-true (is_called host name && not false) (Some (bytes_of h number)) (last_response host h) (and-true (is_called host name) mine) ∙ ap (λ (bytes : List ℕ). Some bytes) (bytes-arriving life h number f fresh)
 
 -- ---- the steps
 
@@ -123,7 +124,7 @@ module _ (s : Setup) (host : HostSetup) (h : List Entry) (x z : NamedHost) (numb
         ∙ ap (λ (p : PathNo). Some p) (came-back s host h x c f path y.is lawful there came)
 
     log_is : log_with host (Some got) now ≡ Ends c.ticket (Some path) ∷ log_of host h
-    log_is = when (is_told host got) (Ends (record { 0 = c.ticket.0 }) (path_ended host now c.ticket.0 outcome) ∷ log_of host now) (log_of host now) told
+    log_is = if-true (is_told host got) (Ends (record { 0 = c.ticket.0 }) (path_ended host now c.ticket.0 outcome) ∷ log_of host now) (log_of host now) told
         ∙ ap (λ (p : Option PathNo). Ends c.ticket p ∷ log_of host h) path_is
 
     awaits : Awaits s host (Some got) now z
@@ -136,7 +137,7 @@ module _ (s : Setup) (host : HostSetup) (h : List Entry) (x z : NamedHost) (numb
       same = subst (λ (b : List Event). TellsSame (Advances (record { 0 = clock h }) ∷ Ends c.ticket (Some path) ∷ log_of host h) b) (sym log_is)
           (advanced (Ends c.ticket (Some path) ∷ log_of host h) (clock h) (sym matches.time ∙ time ∙ y.time));
       waiting = waiting ∙ ap (λ (w : List Done). w ++ record { ticket = c.ticket; outcome = outcome } ∷ []) y.waiting
-          ∙ sym (when (is_told host got) (record { ticket = record { 0 = c.ticket.0 }; outcome = outcome } ∷ []) [] told);
+          ∙ sym (if-true (is_told host got) (record { ticket = record { 0 = c.ticket.0 }; outcome = outcome } ∷ []) [] told);
       response = λ _. record {
         number = number;
         bytes = f;

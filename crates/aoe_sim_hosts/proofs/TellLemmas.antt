@@ -1,6 +1,6 @@
 -- A host tells its outcomes: that of the response, then the commands that it gives up.
 use Rattle.std.proofs.Common.{ℕ, suc, ◌+◌, ◌≡◌, ◌≤◌, ◌⊎◌, inl, inr, max, if◌then◌else◌, Bool, true, false, List, [], ◌∷◌, ◌++◌, length, map, reverse, Option, Some, None, refl, sym, subst, ap, ◌∙◌, arith, append_assoc}
-use Rattle.std.specs.Prelude.{All, IfSome, Result, Ok, Err, OnErr, OnOk}
+use Rattle.std.specs.Prelude.{All, IfSome}
 use Rattle.std.proofs.lemmas.List.{reverse-append, reverse-reverse, length-append}
 use Rattle.arrayvec.specs.ArrayVec.{ArrayVec}
 use Rattle.aoe_base.specs.declared.counted.Millis.{Millis}
@@ -26,8 +26,9 @@ use Rattle.aoe_history.specs.Setup.{host_called, is_called, HostSetup, Setup}
 use Rattle.aoe_sim_hosts.specs.Host.{is_told, log_with, told_of, Awaits, NamedHost, TellsSame}
 use Rattle.aoe_sim_hosts.specs.Turns.{noted, HasBegun, HasTold, Notes}
 use Rattle.aoe_sim_hosts.proofs.Called.{is-called, of-called}
-use Rattle.aoe_sim_hosts.proofs.Leaves.{when}
 use Rattle.aoe_sim_hosts.proofs.Same.{host-same, matches-same}
+use Rattle.aoe_history.proofs.LogicLemmas.{if-true}
+use Rattle.aoe_initiator.proofs.MatchLemmas.{matches-taken}
 
 -- LOGS
 
@@ -43,23 +44,6 @@ tells-end a b ticket path same = record {
 pub tells-ended : (a b : List Event) (dones : List Done) → TellsSame a b → TellsSame (ended dones a) (ended dones b)
 tells-ended a b [] same = same
 tells-ended a b (d ∷ dones) same = tells-end (ended dones a) (ended dones b) d.ticket None (tells-ended a b dones same)
-
--- the outcomes that wait are no part of it
-pub matches-waiting : (log : List Event) (x : Host) (waiting : List Done) → Matches log x → Matches log (record x { waiting = waiting })
-matches-waiting log x waiting m = record {
-  time = m.time;
-  tickets = m.tickets;
-  last = m.last;
-  attached = m.attached;
-  flew = m.flew;
-  pending = m.pending;
-  rest = m.rest;
-  room = m.room;
-  dead = m.dead;
-  sent = m.sent;
-  entered = m.entered;
-  paths = m.paths;
-}
 
 -- THE COMMANDS THAT ARE GIVEN UP
 
@@ -91,7 +75,7 @@ gave-up s host name h log now (d ∷ dones) called own lawful time same given =
       gives = ap (λ (e : Done). e.outcome) is ∙ ap (λ (t : ℕ). (given_up t o).outcome) still;
     }) in
     let log_given : log_of host (Finished name (given_up now o).ticket.0 (given_up now o).outcome ∷ m) ≡ Ends o.ticket None ∷ log_of host m
-    = when (is_called host name) (Ends o.ticket None ∷ log_of host m) (log_of host m) own in
+    = if-true (is_called host name) (Ends o.ticket None ∷ log_of host m) (log_of host m) own in
     record {
       gives = subst (λ (e : Done). GivesUp name h (Finished name e.ticket.0 e.outcome ∷ m)) (sym is) (gives_one o.ticket.0 o.flying.first (record { 0 = now }) before.gives);
       lawful = (of-called (λ z. IsDone s z m d.ticket.0 d.outcome) (host_called s name) host called may, before.lawful);
@@ -116,7 +100,7 @@ module _ (s : Setup) (host : HostSetup) (name : ArrayVec ℕ) (h : List Entry) (
   lawful-by false lawful answered = lawful
 
   log-by : (b : Bool) → log_of host (if b then Finished name ticket outcome ∷ h else h) ≡ (if b then Ends (record { 0 = ticket }) (path_ended host h ticket outcome) ∷ log_of host h else log_of host h)
-  log-by true = when (is_called host name) (Ends (record { 0 = ticket }) (path_ended host h ticket outcome) ∷ log_of host h) (log_of host h) own
+  log-by true = if-true (is_called host name) (Ends (record { 0 = ticket }) (path_ended host h ticket outcome) ∷ log_of host h) (log_of host h) own
   log-by false = refl
 
   time-by : (b : Bool) → clock (if b then Finished name ticket outcome ∷ h else h) ≡ clock h
@@ -295,7 +279,7 @@ module _ (s : Setup) (host : HostSetup) (got : Option Got) (h : List Entry) (x :
           is = host-same s host x z refl kept a.is;
           last = went.last ∙ a.last ∙ sym (n.tickets_are ∙ first.tickets_are);
           time = time ∙ sym now;
-          matches = matches-waiting (log_of host e) core [] matches;
+          matches = matches-taken (log_of host e) core [] matches;
           waiting = refl;
         };
       } in
@@ -316,10 +300,3 @@ told-same before x name core new is same step =
     ap (λ (c : Host). let z : NamedHost = record { name = name; core = c } in z) step
     ∙ ap (λ (v : NamedHost). let z : NamedHost = record { name = v.name; core = record v.core { waiting = new.waiting } } in z) (is ∙ same)
 
-pub by-ok : {T E P Q : Type 0} (r : Result T E) → OnOk r P → (P → Q) → OnOk r Q
-by-ok (Ok x) p f = f p
-by-ok (Err e) p f = tt
-
-pub by-err : {T E P Q : Type 0} (r : Result T E) → OnErr r P → (P → Q) → OnErr r Q
-by-err (Ok x) p f = tt
-by-err (Err e) p f = f p

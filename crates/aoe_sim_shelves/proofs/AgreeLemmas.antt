@@ -20,7 +20,7 @@ use Rattle.aoe_target.specs.declared.station.Station.{Station}
 use Rattle.aoe_target.specs.Law.{after_ata, after_cut, after_effect, after_read, cut, ignored, replied, silent, AllowsAta, Fate}
 use Rattle.aoe_target.specs.Reply.{data_of}
 use Rattle.aoe_target.specs.Sectors.{in_span, learns, puts, sectors_of, settles, left_by_fault, spoils, value_in, Agrees, Sectors, Tells}
-use Rattle.aoe_target.proofs.SectorLemmas.{agrees_self}
+use Rattle.aoe_target.proofs.SectorLemmas.{known_same}
 use Rattle.aoe_sim_shelves.specs.Rack.{AgreesWithin, SameWithin}
 use Rattle.aoe_sim_shelves.proofs.WithinLemmas.{ata_exact, ata_within, same_then, spoils_within}
 
@@ -34,14 +34,10 @@ pub pass : (p q : Option (List ℕ)) (Q : List ℕ → Type 0) → IfSome q (λ 
 pass p None Q k t = tt
 pass p (Some v) Q k t = subst (λ (o : Option (List ℕ)). IfSome o Q) k t
 
-pub from_same : (p q : Option (List ℕ)) → p ≡ q → IfSome q (λ v. p ≡ Some v)
-from_same p None e = tt
-from_same p (Some v) e = e
-
 -- who says the same agrees
 pub same_agrees : (n : ℕ) (a b : Sectors) → SameWithin n a b → AgreesWithin n a b
 same_agrees n a b same = record {
-  known = λ s l. from_same (a.known s) (b.known s) (same.known s l);
+  known = λ s l. known_same (a.known s) (b.known s) (same.known s l);
   marks = λ s l e. same.marks s l ∙ e;
   same = λ e. same;
   exact = same.exact;
@@ -101,7 +97,7 @@ module _ (n : ℕ) (a b : Sectors) (ab : AgreesWithin n a b) where
   spoils_known span = record { known = λ s l. go b.exact refl s l; marks = λ s l. kept_marks (in_span span s) (a.marks s) (b.marks s) (ab.marks s l) }
     where
       go : (x : Bool) → b.exact ≡ x → (s : ℕ) → s < n → IfSome ((spoils span b).known s) (λ u. (spoils span a).known s ≡ Some u)
-      go true e s l = from_same ((spoils span a).known s) ((spoils span b).known s) ((spoils_within n a b (ab.same e) span).known s l)
+      go true e s l = known_same ((spoils span a).known s) ((spoils span b).known s) ((spoils_within n a b (ab.same e) span).known s l)
       go false e s l = spoiled_value b.exact (in_span span s) (s == span.at) a.exact (a.known s) (b.known s) e (ab.known s l)
 
   learns_known : (span : Span) (bytes : List ℕ) → Tells span bytes a → Knows n (learns span bytes a) (learns span bytes b)
@@ -174,10 +170,6 @@ agrees_then n x y z e xy yz = record {
 abbrev pub told_exact : Option Sectors → Bool
 told_exact None = false
 told_exact (Some a) = a.exact
-
-pub both_self : (o : Option Sectors) → BothTell Agrees o o
-both_self None = tt
-both_self (Some a) = agrees_self a
 
 pub both_then : (n : ℕ) (x y z : Option Sectors) → told_exact x ≡ told_exact y → BothTell Agrees x y → BothTell (AgreesWithin n) y z → BothTell (AgreesWithin n) x z
 both_then n None None None e p q = tt

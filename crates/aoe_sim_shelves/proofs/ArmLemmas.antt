@@ -34,11 +34,13 @@ use Rattle.aoe_script.specs.declared.event.Which.TheVariants.{Store, Keep}
 use Rattle.aoe_sim_shelves.specs.declared.rack.Stops.{Stops}
 use Rattle.aoe_sim_shelves.specs.Arming.{arm_of, with_stop, ArmsDisk}
 use Rattle.aoe_sim_shelves.specs.Rack.{calls_per, stop_in, AgreesWithin, IsDue, IsOnceDue, IsRack, IsServing, IsStoreDue, MemoryRack, Serves}
-use Rattle.aoe_sim_shelves.proofs.Apart.{if-false, if-true, says-armed, serves-still, there}
+use Rattle.aoe_sim_shelves.proofs.Apart.{says-armed, serves-still}
 use Rattle.aoe_sim_shelves.proofs.ArrivalLemmas.{at-place, same-or}
 use Rattle.aoe_sim_shelves.proofs.RackLemmas.{rack-kept, IsSameTarget}
 use Rattle.aoe_sim_shelves.proofs.SlotLemmas.{same-self}
 use Rattle.aoe_sim_shelves.proofs.UnderLemmas.{armed-under, settled-self, under-same}
+use Rattle.aoe_history.proofs.LogicLemmas.{if-false, if-true}
+use Rattle.aoe_initiator.proofs.ListLemmas.{get-there as there}
 
 -- the stretch of a disk that was just armed
 abbrev pub begun : ℕ → Option Loss → Stretch

@@ -1,10 +1,9 @@
 -- A frame that comes to one slot of a shelf, and to one after the other.
-use Rattle.std.proofs.Common.{◌≡◌, ◌≢◌, ◌<◌, ◌≤◌, ◌==◌, ◌⊎◌, inl, inr, ℕ, zero, suc, Bool, true, false, if◌then◌else◌, List, [], ◌∷◌, length, get_or, drop, Option, Some, None, refl, sym, ap, subst, ◌∙◌, arith}
-use Rattle.std.proofs.lemmas.Bool.Decides.{nat_tests}
+use Rattle.std.proofs.Common.{◌≡◌, ◌≢◌, ◌≤◌, ◌⊎◌, inl, inr, ℕ, zero, suc, Bool, true, false, if◌then◌else◌, List, [], ◌∷◌, length, get_or, drop, Option, Some, None, refl, sym, ap, subst, ◌∙◌, arith}
 use Rattle.std.proofs.lemmas.List.{drop_all}
 use Rattle.std.proofs.lemmas.Option.{same_Some, slice_get-get_or, slice_get_within}
 use Rattle.std.specs.Prelude.{slice_get, IsSomeAnd}
-use Rattle.std.specs.Option.{option_and_then, option_map_or}
+use Rattle.std.specs.Option.{option_and_then}
 use Rattle.aoe_cache.specs.declared.any.AnyStore.{AnyStore}
 use Rattle.aoe_base.specs.declared.address.TargetId.{TargetId}
 use Rattle.aoe_disk.specs.Memory.{Memory}
@@ -21,40 +20,27 @@ use Rattle.aoe_history.specs.declared.entry.Entry.{Entry}
 use Rattle.aoe_history.specs.declared.entry.Entry.TheVariants.{Arrived}
 use Rattle.aoe_history.specs.declared.entry.Fate.{Fate}
 use Rattle.aoe_history.specs.declared.entry.Fate.TheVariants.{Cut, Ignored, Replied, Silent}
-use Rattle.aoe_history.specs.Frames.{arriving, bytes_of, clock, frames, network, next_number}
+use Rattle.aoe_history.specs.Frames.{arriving, clock, frames, network, next_number}
 use Rattle.aoe_history.specs.Groups.{ArriveAtEach, ArriveAtSome, CrashEach, CrashSome}
 use Rattle.aoe_history.specs.Lawful.{IsArrival, IsNumbered, MayCome}
 use Rattle.aoe_history.specs.Setup.{AreApart, Setup, SlotSetup}
 use Rattle.aoe_history.specs.ShelfLaw.{KeepsArming, KeepsShelfLaw}
-use Rattle.aoe_history.proofs.FrameLemmas.{number-within}
+use Rattle.aoe_history.proofs.FrameLemmas.{bytes-arriving, numbered-later}
 use Rattle.aoe_history.specs.Run.{MeetsFull}
 use Rattle.aoe_history.proofs.FullLemmas.{full-more}
 use Rattle.aoe_sim_shelves.specs.declared.rack.Stops.{Stops}
 use Rattle.aoe_sim_shelves.specs.Arrival.{noted, stop_at, ComesToSlot, GoesOn, IsCut, IsReached, IsReplyFull}
 use Rattle.aoe_sim_shelves.specs.Rack.{IsServing, IsStanding, MemoryRack, Serves, Stands}
-use Rattle.aoe_sim_shelves.proofs.Apart.{if-false, says-arrived, serves-stands, serves-still, serving-stands, stands-still, there, SaysSame}
+use Rattle.aoe_sim_shelves.proofs.Apart.{says-arrived, serves-stands, serves-still, serving-stands, stands-still, SaysSame}
 use Rattle.aoe_sim_shelves.proofs.FateLemmas.{noted-uncut, runs-on, stop-of}
 use Rattle.aoe_sim_shelves.proofs.SlotLemmas.{breaks, continues, follows, takes, Breaks, Continues, Meets, Takes}
+use Rattle.aoe_initiator.proofs.ListLemmas.{get-there as there}
 
 -- THE FRAME
 
 age-within : (b : Bool) (f g : List ℕ) → (if b then Some f else None) ≡ Some g → f ≡ g
 age-within true f g e = cc
 age-within false f g e = absurd (cc)
-
-pub bytes-arriving : (life : ℕ) (h : List Entry) (number : ℕ) (f : List ℕ) → arriving life h number ≡ Some f → bytes_of h number ≡ f
-bytes-arriving life h number f e = go (numbered (frames h) number) e
-  where
-    go : (o : Option SentFrame) → option_and_then (fresh_bytes (network life h) (clock h)) o ≡ Some f → option_map_or (λ (x : SentFrame). x.bytes) o [] ≡ f
-    go None e = absurd (cc)
-    go (Some g) e = age-within _ g.bytes f e
-
--- a frame has its number after one frame more
-still-numbered : (g : SentFrame) (fs : List SentFrame) (number : ℕ) (x : SentFrame) → numbered fs number ≡ Some x → numbered (g ∷ fs) number ≡ Some x
-still-numbered g fs number x e = if-false (number == suc (length fs)) (Some g) (numbered fs number) (other number (suc (length fs)) (omega (arith, number-within fs number x e))) ∙ e
-  where
-    other : (a b : ℕ) → a < b → (a == b) ≡ false
-    other a b lt = grind (arith, nat_tests)
 
 -- a frame can be handed over after another frame came to a shelf
 pub still-arriving : (life : ℕ) (h : List Entry) (number : ℕ) (f : List ℕ) (dev : TargetId) (frame : ℕ) (fate : Fate) → arriving life h number ≡ Some f → arriving life (Arrived dev frame fate ∷ h) number ≡ Some f
@@ -66,7 +52,7 @@ still-arriving life h number f dev frame (Replied effect n bytes) e = go (number
     go : (o : Option SentFrame) → numbered (frames h) number ≡ o → option_and_then (fresh_bytes (network life h) (clock h)) o ≡ Some f
         → option_and_then (fresh_bytes (network life h) (clock h)) (numbered (record { bytes = bytes; birth = clock h } ∷ frames h) number) ≡ Some f
     go None q e = absurd (cc)
-    go (Some x) q e = ap (option_and_then (fresh_bytes (network life h) (clock h))) (still-numbered (record { bytes = bytes; birth = clock h }) (frames h) number x q) ∙ e
+    go (Some x) q e = ap (option_and_then (fresh_bytes (network life h) (clock h))) (numbered-later (record { bytes = bytes; birth = clock h }) (frames h) number x q) ∙ e
 
 noted-number : (stop : Option Loss) (x : Heard) (next : ℕ) (out : List ℕ) → IsNumbered next (noted stop x next out)
 noted-number (Some how) x next out = tt

@@ -11,8 +11,8 @@ use Rattle.aoe_target.specs.Mounted.{Mounted}
 use Rattle.aoe_target.specs.declared.station.Station.{Station}
 use Rattle.aoe_sim_shelves.specs.Crash.{RestartEach, Restarts}
 use Rattle.aoe_sim_shelves.specs.Rack.{AreTargets, IsTargetOf}
-use Rattle.aoe_sim_shelves.proofs.Apart.{there}
 use Rattle.aoe_sim_shelves.proofs.CrashLemmas.{restarted_target}
+use Rattle.aoe_initiator.proofs.ListLemmas.{get-there as there}
 
 -- THE FRONT OF A LIST
 

@@ -1,6 +1,6 @@
 -- What a history says of slots that lost their power.
 use Rattle.std.proofs.Common.{◌≡◌, ◌≢◌, ◌≤◌, ◌+◌, inl, inr, ℕ, zero, suc, true, false, List, [], ◌∷◌, ◌++◌, length, take, replicate, Option, Some, None, refl, sym, ap, subst, ◌∙◌, arith}
-use Rattle.std.specs.Prelude.{slice_get, Err, IsSomeAnd, Ok, OnErr, OnOk, Result}
+use Rattle.std.specs.Prelude.{slice_get, IsSomeAnd}
 use Rattle.std.proofs.lemmas.List.{length-take, take_more}
 use Rattle.std.proofs.lemmas.Option.{get_or_from_slice_get, same_Some, slice_get_within}
 use Rattle.std.specs.Option.{option_map}
@@ -26,10 +26,12 @@ use Rattle.aoe_script.specs.declared.event.Which.TheVariants.{Store, Keep}
 use Rattle.aoe_sim_shelves.specs.declared.rack.Stops.{Stops}
 use Rattle.aoe_sim_shelves.specs.Crash.{with_crashes, RestartEach}
 use Rattle.aoe_sim_shelves.specs.Rack.{stop_in, HoldsWithin, IsDue, IsServing, IsStoreDue, IsUnder, MemoryRack, Serves, Stands}
-use Rattle.aoe_sim_shelves.proofs.Apart.{if-true, says-crashed, there, SaysSame}
+use Rattle.aoe_sim_shelves.proofs.Apart.{says-crashed, SaysSame}
 use Rattle.aoe_sim_shelves.proofs.CrashLemmas.{keep_unarmed, restarted_holds, restarted_lists, restarted_under, store_unarmed}
 use Rattle.aoe_sim_shelves.proofs.FrontLemmas.{get_replicate, get_take}
 use Rattle.aoe_sim_shelves.proofs.SlotLemmas.{same-self}
+use Rattle.aoe_history.proofs.LogicLemmas.{if-true}
+use Rattle.aoe_initiator.proofs.ListLemmas.{get-there as there}
 
 -- ONE SLOT
 
@@ -190,14 +192,6 @@ crash_noted how ts i first old new so_far p = go (slice_get ts i) refl p
         p ∙ ap (λ (z : Recorded). with_entry z (Crashed t.station.id t.keep.lists how)) so_far
         ∙ ap (λ (m : List Entry). record first { entries = m })
         (sym (ap (λ (l : List (Mounted (AnyStore Memory) Memory)). with_crashes how l first.entries) more ∙ with_crashes_more how (take i ts) t first.entries))
-
-pub on_ok : {T E A B : Type 0} (r : Result T E) → OnOk r A → (A → B) → OnOk r B
-on_ok (Ok x) p f = f p
-on_ok (Err e) p f = tt
-
-pub on_err : {T E A B : Type 0} (r : Result T E) → OnErr r A → (A → B) → OnErr r B
-on_err (Ok x) p f = tt
-on_err (Err e) p f = f p
 
 module _ (s : Setup) (slots : List SlotSetup) (h : List Entry) (how : Loss) (x : MemoryRack) (ys : List (Mounted (AnyStore Memory) Memory)) (are : AreSlots s slots) (k : Stands slots h x) (lawful : IsLawful s h) (r : RestartEach how x.shelf.targets ys) where
   pub all_noted : (y : MemoryRack) → y.shelf.targets ≡ ys → (n : ℕ) → y.stops ≡ replicate n (record { store = None; keep = None }) → length y.stops ≡ length ys → (m : List Entry) → m ≡ with_crashes how ys h

@@ -17,14 +17,12 @@ use Rattle.aoe_script.specs.declared.event.Which.{Which}
 use Rattle.aoe_script.specs.declared.event.Which.TheVariants.{Store}
 use Rattle.aoe_sim_shelves.specs.Rack.{stop_in, IsOnce, IsStoreDue, IsUnder}
 use Rattle.aoe_sim_shelves.proofs.DueLemmas.{due-then, if-none, met, moved, none-not, none-of, IsMet}
+use Rattle.aoe_history.proofs.LogicLemmas.{not-both}
 
 pub struck-in-turn : (which : Which) (x : Option Stretch) (fate : Fate) (failed : Bool) → IsMet which x failed → is_struck fate ≡ failed → (failed ≡ true → (z : Stretch) → x ≡ Some z → IsStrike z fate)
     → IsStruckInTurn which x fate
 struck-in-turn which None fate failed met is strike = is ∙ met
 struck-in-turn which (Some z) fate failed met is strike = (is ∙ met, OnTrue_from (is_struck fate) (IsStrike z fate) (λ e. strike (sym is ∙ e) z refl))
-
-pub not-both : (b : Bool) → b ≡ true → b ≡ false → ⊥
-not-both b p q = absurd (let no : true ≡ false → ⊥ = λ z. (cc) in no (sym p ∙ q))
 
 -- THE DEVICE CALLS OF ONE FRAME
 

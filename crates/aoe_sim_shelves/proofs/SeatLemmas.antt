@@ -33,9 +33,9 @@ use Rattle.aoe_sim_shelves.specs.declared.rack.Stops.{Stops}
 use Rattle.aoe_sim_shelves.specs.Crash.{Loses, LosesStore, Restarts}
 use Rattle.aoe_sim_shelves.specs.Rack.{over, AgreesWithin, IsBelow, IsServing, IsStoreDue, IsTargetOf, IsUnder, MemoryRack, SameWithin, Serves}
 use Rattle.aoe_sim_shelves.proofs.AgreeLemmas.{same_agrees}
-use Rattle.aoe_sim_shelves.proofs.Apart.{if-false}
 use Rattle.aoe_sim_shelves.proofs.CrashLemmas.{idle, opened_free}
 use Rattle.aoe_sim_shelves.proofs.FrontLemmas.{get_last, get_split, length_last}
+use Rattle.aoe_history.proofs.LogicLemmas.{if-false}
 
 -- a target that has its room and a minor of its own isn't refused
 pub not_refused : (ts : List (Mounted (AnyStore Memory) Memory)) (minor : ℕ) → length ts < 16 → has_minor ts minor ≡ false → refusal_of ts minor ≡ None

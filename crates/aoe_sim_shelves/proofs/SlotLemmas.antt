@@ -41,12 +41,12 @@ use Rattle.aoe_sim_shelves.specs.declared.rack.Stops.{Stops}
 use Rattle.aoe_sim_shelves.specs.Arrival.{noted}
 use Rattle.aoe_sim_shelves.specs.Rack.{stop_in, HoldsWithin, IsDue, IsServing, IsStanding, IsStoreDue, IsUnder}
 use Rattle.aoe_sim_shelves.proofs.AgreeLemmas.{same_kind}
-use Rattle.aoe_sim_shelves.proofs.Apart.{if-true}
 use Rattle.aoe_sim_shelves.proofs.DueLemmas.{due-then, met, IsMet}
 use Rattle.aoe_sim_shelves.proofs.FateLemmas.{faulty-calls, keep-loss, noted-fate, noted-struck, of_keep, of_store, one-disk, store-loss, unkept-calls, IsLoss, Runs, StopOf}
-use Rattle.aoe_sim_shelves.proofs.OnceLemmas.{due-store-then, not-both, struck-in-turn, struck-store}
+use Rattle.aoe_sim_shelves.proofs.OnceLemmas.{due-store-then, struck-in-turn, struck-store}
 use Rattle.aoe_sim_shelves.proofs.StepLemmas.{held, known_in, stepped, StepsWithin}
 use Rattle.aoe_sim_shelves.proofs.UnderLemmas.{called-room, moves-calls, under-failed, under-idle, under-noted}
+use Rattle.aoe_history.proofs.LogicLemmas.{if-true, not-both, untrue}
 
 -- A SLOT AFTER AN ARRIVAL
 
@@ -155,10 +155,6 @@ or-false : (a : Bool) → (a || false) ≡ a
 or-false true = refl
 or-false false = refl
 
-not-true : (b : Bool) → (b ≡ true → ⊥) → b ≡ false
-not-true true p = absurd (p refl)
-not-true false p = refl
-
 -- the slot goes on
 pub record Continues (slot : SlotSetup) (h : List Entry) (f : List ℕ) (fate : Fate) (n : List Entry) (u : Mounted (AnyStore Memory) Memory) (stops : Stops) : Type 0 where
   pub law : KeepsShelfLaw slot h f fate
@@ -185,10 +181,10 @@ module _ (slot : SlotSetup) (h : List Entry) (f : List ℕ) (x : Heard) (out : L
   no-edit c = one-disk slot.station (state_after slot h) f (verdict_after slot h f) c
 
   kept : calls Store slot h f ≡ true → is_unkept x ≡ false
-  kept c = not-true (is_unkept x) (λ e. not-both (calls Keep slot h f) (unkept-calls slot.station (state_after slot h) f (verdict_after slot h f) x out e z.allowed) (no-edit c))
+  kept c = untrue (is_unkept x) (λ e. not-both (calls Keep slot h f) (unkept-calls slot.station (state_after slot h) f (verdict_after slot h f) x out e z.allowed) (no-edit c))
 
   unfaulty : calls Keep slot h f ≡ true → is_faulty x ≡ false
-  unfaulty c = not-true (is_faulty x) (λ e. not-both (calls Keep slot h f) c (no-edit (faulty-calls slot.station (state_after slot h) f (verdict_after slot h f) x out e z.allowed)))
+  unfaulty c = untrue (is_faulty x) (λ e. not-both (calls Keep slot h f) c (no-edit (faulty-calls slot.station (state_after slot h) f (verdict_after slot h f) x out e z.allowed)))
 
   -- no call failed in a stop
   module _ (r : Runs stops x) (fresh : ℕ) (n : List Entry) (flow : Follows slot h f (noted None x fresh out) n) where

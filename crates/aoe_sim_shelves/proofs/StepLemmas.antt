@@ -26,8 +26,9 @@ use Rattle.aoe_target.specs.Reply.{data_of}
 use Rattle.aoe_target.specs.Sectors.{sectors_of, Sectors, Tells}
 use Rattle.aoe_target.specs.Verdict as judge
 use Rattle.aoe_sim_shelves.specs.Rack.{AgreesWithin, HoldsWithin}
-use Rattle.aoe_sim_shelves.proofs.AgreeLemmas.{both_ata, both_self, both_then, exact_kept, pass, told_exact}
+use Rattle.aoe_sim_shelves.proofs.AgreeLemmas.{both_ata, both_then, exact_kept, pass, told_exact}
 use Rattle.aoe_sim_shelves.proofs.WithinLemmas.{verdict_end, InEnd, Ranged}
+use Rattle.aoe_target.proofs.LawLemmas.{both_self}
 
 -- WHAT MAY BECOME OF IT
 

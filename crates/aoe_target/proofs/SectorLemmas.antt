@@ -33,7 +33,7 @@ by_span span s P inside outside = elim (cases_lt s span.at) [
   ]
 ]
 
-known_same : (x y : Option (List ℕ)) → x ≡ y → IfSome y (λ v. x ≡ Some v)
+pub known_same : (x y : Option (List ℕ)) → x ≡ y → IfSome y (λ v. x ≡ Some v)
 known_same x None e = tt
 known_same x (Some v) e = e
 

@@ -1,6 +1,6 @@
 -- What a transfer has copied, turn by turn.
 use Rattle.aoe_base.specs.declared.counted.Ticket.{Ticket}
-use Rattle.std.proofs.Common.{ℕ, zero, suc, ◌≡◌, ◌+◌, ◌-◌, ◌*◌, ◌/◌, ◌<◌, ◌⊎◌, cond, get_or, not, nat_eq, Bool, true, false, List, [], ◌∷◌, ◌++◌, length, map, reverse, replicate, Option, Some, None, refl, sym, ap, subst, ◌∙◌, arith, inl, inr}
+use Rattle.std.proofs.Common.{ℕ, ◌≡◌, ◌+◌, ◌-◌, ◌*◌, ◌/◌, ◌<◌, ◌⊎◌, cond, not, nat_eq, Bool, true, false, List, [], ◌∷◌, ◌++◌, length, map, reverse, replicate, Option, Some, None, refl, sym, ap, subst, ◌∙◌, arith, inl, inr}
 use Rattle.std.specs.Prelude.{Ok, option_map, All, Contains}
 use Rattle.std.proofs.lemmas.Bool.{and_parts, eqb-true}
 use Rattle.std.proofs.lemmas.List.{get_or-reverse, length-append, length-replicate, length-reverse}
@@ -28,36 +28,27 @@ use Rattle.aoe_tools.specs.declared.lookup.Device.{Device}
 use Rattle.aoe_tools.specs.declared.question.Ask.{Ask}
 use Rattle.aoe_base.specs.declared.address.TargetId.{TargetId}
 use Rattle.aoe_tools.specs.TransferRun.{course_of, dones, host_of, log_of, told, told_by, AreRounds, EndsBy, Round}
+use Rattle.aoe_initiator.proofs.ListLemmas.{Contains-cons, Contains-cons_cases}
 
 abbrev Into : {X : Type 0} → List X → List X → Type 0
 Into {X} xs ys = (x : X) → Contains xs x → Contains ys x
 
-cons-in : {X : Type 0} (head x : X) (rest : List X) → Contains rest x → Contains (head ∷ rest) x
-cons-in head x rest p = (suc p.0, omega (arith, p.1), p.2)
-
-cons-cases : {X : Type 0} (head x : X) (rest : List X) → Contains (head ∷ rest) x → (head ≡ x) ⊎ Contains rest x
-cons-cases {X} head x rest p = by_index p.0 p.1 p.2
-  where
-    by_index : (k : ℕ) → k < length (head ∷ rest) → get_or (head ∷ rest) k x ≡ x → (head ≡ x) ⊎ Contains rest x
-    by_index zero below is = inl is
-    by_index (suc k) below is = inr (k, omega (arith, below), is)
-
 in-left : {X : Type 0} (xs ys : List X) (x : X) → Contains xs x → Contains (xs ++ ys) x
 in-left [] ys x p = absurd (omega (arith, p.1))
-in-left (y ∷ xs) ys x p = elim (cons-cases y x xs p) [
+in-left (y ∷ xs) ys x p = elim (Contains-cons_cases y x xs p) [
   | inl same ↦ (0, omega arith, same)
-  | inr behind ↦ cons-in y x (xs ++ ys) (in-left xs ys x behind)
+  | inr behind ↦ Contains-cons y x (xs ++ ys) (in-left xs ys x behind)
 ]
 
 in-right : {X : Type 0} (xs ys : List X) (x : X) → Contains ys x → Contains (xs ++ ys) x
 in-right [] ys x p = p
-in-right (y ∷ xs) ys x p = cons-in y x (xs ++ ys) (in-right xs ys x p)
+in-right (y ∷ xs) ys x p = Contains-cons y x (xs ++ ys) (in-right xs ys x p)
 
 in-either : {X : Type 0} (xs ys : List X) (x : X) → Contains (xs ++ ys) x → Contains xs x ⊎ Contains ys x
 in-either [] ys x p = inr p
-in-either (y ∷ xs) ys x p = elim (cons-cases y x (xs ++ ys) p) [
+in-either (y ∷ xs) ys x p = elim (Contains-cons_cases y x (xs ++ ys) p) [
   | inl same ↦ inl (0, omega arith, same)
-  | inr behind ↦ elim (in-either xs ys x behind) [ inl left ↦ inl (cons-in y x xs left) | inr right ↦ inr right ]
+  | inr behind ↦ elim (in-either xs ys x behind) [ inl left ↦ inl (Contains-cons y x xs left) | inr right ↦ inr right ]
 ]
 
 in-reverse : {X : Type 0} (xs : List X) (x : X) → Contains (reverse xs) x → Contains xs x
@@ -102,7 +93,7 @@ module _ (w : Bool) (at count : ℕ) (bytes : List ℕ) where
   handed-so S D c s e x = by c.phase refl e x.phase_is
     where
       into : Into S (s ∷ S)
-      into y there = cons-in s y S there
+      into y there = Contains-cons s y S there
 
       some-part : (b : Bool) (o : Option Part) → option_map (op_of b) o ≡ Some s.op → (q : Part) × (o ≡ Some q) × (op_of b q ≡ s.op)
       some-part b None e = absurd cc
@@ -132,7 +123,7 @@ module _ (w : Bool) (at count : ℕ) (bytes : List ℕ) where
   done-so S D c d x = by c.phase refl
     where
       into : Into D (d ∷ D)
-      into y there = cons-in d y D there
+      into y there = Contains-cons d y D there
 
       block' : Transfer
       block' = settle c.block d
@@ -188,10 +179,10 @@ module _ (w : Bool) (at count : ℕ) (bytes : List ℕ) where
 
   dones-so : (turns : ℕ) (S : List Submission) (D all : List Done) (c : Course) (ds : List Done) → Into D all → Into ds all → IsSo w at count bytes S D c → IsSo w at count bytes S all (after_dones turns c ds)
   dones-so turns S D all c [] into these x = more-so S S D all c (λ s there. there) into x
-  dones-so turns S D all c (d ∷ ds) into these x = by (ending turns c d) (dones-so turns S (d ∷ D) all (after_done d c) ds next (λ y there. these y (cons-in d y ds there)) (done-so S D c d x))
+  dones-so turns S D all c (d ∷ ds) into these x = by (ending turns c d) (dones-so turns S (d ∷ D) all (after_done d c) ds next (λ y there. these y (Contains-cons d y ds there)) (done-so S D c d x))
     where
       next : Into (d ∷ D) all
-      next y there = elim (cons-cases d y D there) [
+      next y there = elim (Contains-cons_cases d y D there) [
         | inl same ↦ these y (0, omega arith, same)
         | inr behind ↦ into y behind
       ]
@@ -357,10 +348,10 @@ module _ (w : Bool) (at count : ℕ) (bytes : List ℕ) where
 
   over-so : (turns : ℕ) (S : List Submission) (D all : List Done) (c : Course) (ds : List Done) → Into D all → Into ds all → end_by turns c ds ≡ Some (Ok record {}) → IsSo w at count bytes S D c → Over all (after_dones turns c ds)
   over-so turns S D all c [] into these e x = absurd cc
-  over-so turns S D all c (d ∷ ds) into these e x = by (ending turns c d) refl e (λ later. over-so turns S (d ∷ D) all (after_done d c) ds next (λ y there. these y (cons-in d y ds there)) later (done-so S D c d x))
+  over-so turns S D all c (d ∷ ds) into these e x = by (ending turns c d) refl e (λ later. over-so turns S (d ∷ D) all (after_done d c) ds next (λ y there. these y (Contains-cons d y ds there)) later (done-so S D c d x))
     where
       next : Into (d ∷ D) all
-      next y there = elim (cons-cases d y D there) [
+      next y there = elim (Contains-cons_cases d y D there) [
         | inl same ↦ these y (0, omega arith, same)
         | inr behind ↦ into y behind
       ]

@@ -1,5 +1,5 @@
 -- What a transfer has read or written, and by which responses.
-use Rattle.std.proofs.Common.{ℕ, suc, ◌≡◌, ◌+◌, ◌*◌, cond, Bool, true, false, List, [], ◌∷◌, ◌++◌, length, map, Some, refl, sym, ap, subst, ◌∙◌, arith, length-append}
+use Rattle.std.proofs.Common.{ℕ, ◌≡◌, ◌+◌, ◌*◌, cond, Bool, true, false, List, [], ◌∷◌, ◌++◌, length, map, Some, refl, sym, ap, subst, ◌∙◌, arith, length-append}
 use Rattle.std.specs.Prelude.{All, Contains}
 use Rattle.std.proofs.lemmas.Bool.{and_parts, eqb-true}
 use Rattle.std.proofs.lemmas.List.Elements.{All-cons, All-head, All-nil, All-tail}
@@ -15,9 +15,7 @@ use Rattle.aoe_initiator.specs.declared.outcome.Outcome.{Outcome}
 use Rattle.aoe_initiator.specs.declared.outcome.Outcome.TheVariants as outcome
 use Rattle.aoe_tools.specs.TransferCourse.{Submission}
 use Rattle.aoe_tools.specs.TransferData.{success_of, IsCopied}
-
-cons-in : {X : Type 0} (head x : X) (rest : List X) → Contains rest x → Contains (head ∷ rest) x
-cons-in head x rest p = (suc p.0, omega (arith, p.1), p.2)
+use Rattle.aoe_initiator.proofs.ListLemmas.{Contains-cons}
 
 head-in : {X : Type 0} (x : X) (rest : List X) → Contains (x ∷ rest) x
 head-in x rest = (0, omega arith, refl)
@@ -60,7 +58,7 @@ so-handed w S D ticket at [] q e x = absurd cc
 so-handed w S D ticket at (p ∷ parts) q e x = by (is_pending p.stage) refl e (so-handed w S D ticket (at + p.count) parts q)
   where
     more : AreSo w (record { ticket = ticket; op = op_of w q } ∷ S) D (at + p.count) parts
-    more = so-more w S (record { ticket = ticket; op = op_of w q } ∷ S) D D (λ s there. cons-in (record { ticket = ticket; op = op_of w q }) s S there) (λ d there. there) (at + p.count) parts x.3
+    more = so-more w S (record { ticket = ticket; op = op_of w q } ∷ S) D D (λ s there. Contains-cons (record { ticket = ticket; op = op_of w q }) s S there) (λ d there. there) (at + p.count) parts x.3
 
     op-same : (b : Bool) (r : Part) → op_of b (record r { stage = Handed ticket }) ≡ op_of b r
     op-same true r = refl
@@ -73,7 +71,7 @@ so-handed w S D ticket at (p ∷ parts) q e x = by (is_pending p.stage) refl e (
         let P : Op → Type 0 = λ o. Contains (record { ticket = ticket; op = op_of w q } ∷ S) (record { ticket = ticket; op = o }) in
         (x.0, x.1, subst P (sym (ap (op_of w) same) ∙ sym (op-same w p)) (head-in (record { ticket = ticket; op = op_of w q }) S), more)
     by false is found rest =
-        (x.0, x.1, stage-more w S (record { ticket = ticket; op = op_of w q } ∷ S) D D (λ s there. cons-in (record { ticket = ticket; op = op_of w q }) s S there) (λ d there. there) p p.stage x.2, rest found x.3)
+        (x.0, x.1, stage-more w S (record { ticket = ticket; op = op_of w q } ∷ S) D D (λ s there. Contains-cons (record { ticket = ticket; op = op_of w q }) s S there) (λ d there. there) p p.stage x.2, rest found x.3)
 
 -- a part has its outcome
 module _ (w : Bool) (S : List Submission) (D : List Done) (d : Done) (p : Part) where
@@ -126,7 +124,7 @@ module _ (w : Bool) (S : List Submission) (D : List Done) (d : Done) (p : Part) 
 
       at : (b : Bool) → is_handed d.ticket.0 p.stage ≡ b → ((abbrev-of b).at ≡ p.at) × ((abbrev-of b).count ≡ p.count) × (length (abbrev-of b).bytes ≡ 512 * p.count) × StageIs w S (d ∷ D) (abbrev-of b) (abbrev-of b).stage
       at true is = ended (is_success w p.count d.outcome) refl (handed-is p.stage is x)
-      at false is = (refl, refl, size, stage-more w S S D (d ∷ D) (λ s there. there) (λ e there. cons-in d e D there) p p.stage x)
+      at false is = (refl, refl, size, stage-more w S S D (d ∷ D) (λ s there. there) (λ e there. Contains-cons d e D there) p p.stage x)
 
 pub so-settled : (w : Bool) (S : List Submission) (D : List Done) (d : Done) (at : ℕ) (parts : List Part) → AreSo w S D at parts → AreSo w S (d ∷ D) at (map (part_after w d) parts)
 so-settled w S D d at [] x = x

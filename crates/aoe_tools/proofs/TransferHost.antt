@@ -1,5 +1,5 @@
 -- The host of a transfer: what never changes of it, and how many of its commands can still be sent or answered.
-use Rattle.std.proofs.Common.{ℕ, zero, suc, ◌≡◌, ◌≤◌, ◌<◌, ◌+◌, ◌*◌, ◌-◌, ◌^◌, ◌&&◌, ◌⊎◌, cond, get_or, not, Bool, true, false, nat_eq, nat_le, List, [], ◌∷◌, length, map, Option, Some, None, refl, sym, ap, subst, ◌∙◌, arith, inl, inr, rules}
+use Rattle.std.proofs.Common.{ℕ, ◌≡◌, ◌≤◌, ◌<◌, ◌+◌, ◌*◌, ◌-◌, ◌^◌, ◌&&◌, cond, not, Bool, true, false, nat_eq, nat_le, List, [], ◌∷◌, length, map, Option, Some, None, refl, sym, ap, subst, ◌∙◌, arith, inl, inr, rules}
 use Rattle.std.specs.Prelude.{option_map, All, Contains}
 use Rattle.std.specs.List.{count_by, list_any}
 use Rattle.std.proofs.Math.Nat.{mul-le-mul_left}
@@ -20,16 +20,7 @@ use Rattle.aoe_initiator.specs.HostLog.Event.{Sends}
 use Rattle.aoe_hold.specs.Commands.{unsent}
 use Rattle.aoe_paths.specs.PathLog.{timeout_on, trips_on}
 use Rattle.aoe_paths.specs.Timeout.{greatest, last_trips, timeout_of}
-
-Contains-cons : {X : Type 0} (head x : X) (rest : List X) → Contains rest x → Contains (head ∷ rest) x
-Contains-cons head x rest p = (suc p.0, omega (arith, p.1), p.2)
-
-Contains-cons_cases : {X : Type 0} (head x : X) (rest : List X) → Contains (head ∷ rest) x → (head ≡ x) ⊎ Contains rest x
-Contains-cons_cases {X} head x rest p = by_index p.0 p.1 p.2
-  where
-    by_index : (k : ℕ) → k < length (head ∷ rest) → get_or (head ∷ rest) k x ≡ x → (head ≡ x) ⊎ Contains rest x
-    by_index zero below is = inl is
-    by_index (suc k) below is = inr (k, omega (arith, below), is)
+use Rattle.aoe_initiator.proofs.ListLemmas.{Contains-cons, Contains-cons_cases}
 
 pub same-then : (a b c : Host) → IsSame a b → IsSame b c → IsSame a c
 same-then a b c one two = record {

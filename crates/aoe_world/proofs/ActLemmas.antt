@@ -26,9 +26,10 @@ use Rattle.aoe_sim_shelves.specs.Rack.{is_apart as is_apart_of_slots, MemoryRack
 use Rattle.aoe_history.specs.Run.{network_of, with_entry, MeetsFull, Recorded}
 use Rattle.aoe_history.proofs.FullLemmas.{full-more}
 use Rattle.aoe_world.proofs.AddsLemmas.{adds_none, adds_one, Adds, SpeaksOf}
-use Rattle.aoe_world.proofs.TurnLemmas.{get-set, length-set, serves-adds, set-get, settled-adds, there-is}
+use Rattle.aoe_world.proofs.TurnLemmas.{get-set, length-set, serves-adds, set-get, settled-adds}
 use Rattle.aoe_world.specs.declared.sim.Sim.{Sim}
 use Rattle.aoe_world.specs.Sim.{AllServe, AllSettled, Does, HadTurns, IsEntered, IsLeft, IsNetwork, IsReady, IsTurning, Settles}
+use Rattle.aoe_initiator.proofs.ListLemmas.{get-there as there-is}
 
 -- WHAT CAME OF AN ACT
 

@@ -12,7 +12,7 @@ mod PassLemmas
 mod PlaceLemmas
 mod PlanLemmas
 mod RunLemmas
-mod ScheduleKeeps
+pub mod ScheduleKeeps
 mod ScheduleLemmas
 mod ShelfActLemmas
 mod SlotLemmas

@@ -19,7 +19,7 @@ use Rattle.aoe_world.specs.Acts.{major_at, name_at, station_at}
 use Rattle.aoe_world.specs.Schedule.{station_called}
 use Rattle.aoe_world.specs.Sim.{ArePlaces, IsAt, IsInside, IsReady}
 use Rattle.aoe_world.proofs.HostActLemmas.{one-name}
-use Rattle.aoe_world.proofs.TurnLemmas.{there-is as there}
+use Rattle.aoe_initiator.proofs.ListLemmas.{get-there as there}
 
 -- PLACES BY NAME
 

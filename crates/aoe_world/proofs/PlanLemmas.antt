@@ -1,8 +1,6 @@
 -- The acts that event lines come to.
-use Rattle.std.proofs.Common.{ℕ, suc, ◌≡◌, ◌≤◌, ◌<◌, ◌+◌, ◌-◌, ◌*◌, ◌^◌, ◌⊎◌, ◌∙◌, replicate, Bool, true, List, [], ◌∷◌, length, map, Option, Some, None, Result, Ok, Err, refl, sym, ap, subst, arith, inl, inr, cond, not, OnOk, MatchOption, ◌≢◌}
-use Rattle.std.specs.Prelude.{is_some, nat_eq, nat_lt, option_map, position, slice_get, IfOk, IfSome, IsSomeAnd}
-use Rattle.std.specs.List.{position_or_len}
-use Rattle.std.proofs.lemmas.List.{length-map}
+use Rattle.std.proofs.Common.{ℕ, suc, ◌≡◌, ◌≤◌, ◌<◌, ◌-◌, ◌*◌, ◌^◌, ◌⊎◌, ◌∙◌, replicate, Bool, true, List, [], ◌∷◌, length, Option, Some, None, Result, Ok, Err, refl, sym, ap, subst, arith, inl, inr, OnOk, MatchOption, ◌≢◌}
+use Rattle.std.specs.Prelude.{is_some, nat_eq, option_map, position, slice_get, IfOk, IfSome, IsSomeAnd}
 use Rattle.std.proofs.lemmas.Option.{same_Some, slice_get_within}
 use Rattle.arrayvec.specs.ArrayVec.{ArrayVec}
 use Rattle.aoe_base.specs.declared.address.Mac.{Mac}
@@ -56,19 +54,11 @@ use Rattle.aoe_world.proofs.HostActLemmas.{one-name}
 use Rattle.aoe_world.proofs.PlaceLemmas.{at-of, major-is, name-called, station-is, station-only}
 use Rattle.aoe_world.proofs.ScheduleKeeps.{follows-grow}
 use Rattle.aoe_world.proofs.ScheduleLemmas.{at-inside, does-all}
-use Rattle.aoe_world.proofs.TurnLemmas.{there-is as there}
 use Rattle.aoe_world.proofs.SlotLemmas.{id-at, is-device, one-is, serves-slots, shelf-inside, shelf-there, some-shelf}
+use Rattle.aoe_initiator.proofs.ListLemmas.{get-there as there}
+use Rattle.aoe_sim_hosts.proofs.IdLemmas.{position-map}
 
 -- THE HOST OF A SUBMISSION
-
-place-map : {X Y : Type 0} (f : X → Y) (p : Y → Bool) (xs : List X) → position_or_len p (map f xs) ≡ position_or_len (λ x. p (f x)) xs
-place-map f p [] = refl
-place-map f p (x ∷ xs) = ap (λ (n : ℕ). cond (not (p (f x))) (1 + n) 0) (place-map f p xs)
-
-position-map : {X Y : Type 0} (f : X → Y) (p : Y → Bool) (xs : List X) → position p (map f xs) ≡ position (λ x. p (f x)) xs
-position-map f p xs =
-    ap (λ (n : ℕ). cond (nat_lt n (length (map f xs))) (Some n) None) (place-map f p xs)
-    ∙ ap (λ (n : ℕ). cond (nat_lt (position_or_len (λ x. p (f x)) xs) n) (Some (position_or_len (λ x. p (f x)) xs)) None) (length-map xs f)
 
 module _ (s : Setup) (majors : List ℕ) (net : IsNetwork s majors) (sim : Sim) (ready : IsReady s majors sim) (i : ℕ) (name : ArrayVec ℕ) (host : HostSetup) (at_i : slice_get s.hosts i ≡ Some host) (called : is_called host name ≡ true) where
   pub few-host : ((x : HostSetup) → tickets x sim.run.entries < 2 ^ 64 - 1) → IfSome (slice_get sim.hosts.items i) (λ x. x.core.last_ticket < 2 ^ 64 - 1)

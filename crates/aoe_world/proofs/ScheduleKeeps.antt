@@ -12,6 +12,7 @@ use Rattle.aoe_history.specs.Groups.Act.{Arm, Crash, Hand, Inject, Lose, Submit,
 use Rattle.aoe_history.specs.Groups.Station.{Shelf as ShelfStation, Host as HostStation}
 use Rattle.aoe_history.specs.Setup.{shelf_of, HostSetup, Setup}
 use Rattle.aoe_world.proofs.AddsLemmas.{adds-keep, adds-more, arrive-adds, crash-adds, turn-adds, Adds}
+use Rattle.aoe_history.proofs.FrameLemmas.{number-within}
 
 -- no time goes by
 abbrev pub is_timeless : Entry → Bool
@@ -40,15 +41,6 @@ pub adds-grow : (p : Entry → Bool) (h m : List Entry) → Adds p h m → lengt
 adds-grow p h m a =
     adds-keep p (λ n. length (frames h) ≤ length (frames n)) (λ e n t le. let more = frames-grow e n in omega (arith, le, more)) h m a (omega arith)
 
-numbered-within : (fs : List SentFrame) (number : ℕ) (x : SentFrame) → numbered fs number ≡ Some x → number ≤ length fs
-numbered-within [] number x e = absurd (cc)
-numbered-within (f ∷ fs) number x e = go (number == suc (length fs)) refl (numbered-within fs number x) e
-  where
-    go : (b : Bool) → (number == suc (length fs)) ≡ b → (numbered fs number ≡ Some x → number ≤ length fs)
-        → cond b (Some f) (numbered fs number) ≡ Some x → number ≤ suc (length fs)
-    go true is earlier e = grind (arith, nat_tests)
-    go false is earlier e = let le = earlier e in omega (arith, le)
-
 numbered-more : (f : SentFrame) (fs : List SentFrame) (number : ℕ) → number ≤ length fs → numbered (f ∷ fs) number ≡ numbered fs number
 numbered-more f fs number le = go (number == suc (length fs)) refl
   where
@@ -63,7 +55,7 @@ fresh-more life now g x fs number f e = go (numbered fs number) refl e
   where
     go : (o : Option SentFrame) → numbered fs number ≡ o → option_and_then g o ≡ Some f → option_and_then g (numbered (x ∷ fs) number) ≡ Some f
     go None is e = absurd (cc)
-    go (Some y) is e = ap (option_and_then g) (numbered-more x fs number (numbered-within fs number y is) ∙ is) ∙ e
+    go (Some y) is e = ap (option_and_then g) (numbered-more x fs number (number-within fs number y is) ∙ is) ∙ e
 
 module _ (life number : ℕ) (f : List ℕ) where
   more : (h : List Entry) (bytes : List ℕ) → arriving life h number ≡ Some f

@@ -22,7 +22,9 @@ use Rattle.aoe_world.specs.Schedule.{addressees, gets, hand_each, handings, is_f
 use Rattle.aoe_world.proofs.ActLemmas.{left-more}
 use Rattle.aoe_world.specs.Sim.{ArePlaces, Does, DoesAll, IsAt, IsInside, IsLeft, IsReady}
 use Rattle.aoe_world.proofs.ScheduleKeeps.{hand-fresh}
-use Rattle.aoe_world.proofs.TurnLemmas.{take-all, there-is as there}
+use Rattle.aoe_world.proofs.TurnLemmas.{take-all}
+use Rattle.aoe_history.proofs.LogicLemmas.{map-append}
+use Rattle.aoe_initiator.proofs.ListLemmas.{get-there as there}
 
 -- ACTS ONE AFTER ANOTHER
 
@@ -34,10 +36,6 @@ pub follows-begun : (s : Setup) (acts : List Act) (act : Act) (more : List Act) 
     → FollowsSome s (acts ++ act ∷ more) h m
 follows-begun s [] act more h n m e b = inl (subst (λ k. IsBegun s k act m) e b)
 follows-begun s (a ∷ acts) act more h n m (k, first, rest) b = inr (k, first, follows-begun s acts act more k n m rest b)
-
-map-append : {X Y : Type 0} (f : X → Y) (xs ys : List X) → map f (xs ++ ys) ≡ map f xs ++ map f ys
-map-append f [] ys = refl
-map-append f (x ∷ xs) ys = ap (λ zs. f x ∷ zs) (map-append f xs ys)
 
 -- ADDRESSEES
 

@@ -17,7 +17,6 @@ use Rattle.aoe_history.specs.Setup.{shelf_of, AreSlots, HostSetup, Setup, SlotSe
 use Rattle.aoe_net.specs.declared.refusal.NetRefusal.{NetRefusal}
 use Rattle.aoe_net.specs.declared.refusal.NetRefusal.TheVariants.{Full}
 use Rattle.aoe_sim_hosts.specs.Host.{is_apart as is_apart_of_host}
-use Rattle.aoe_sim_shelves.proofs.Apart.{there}
 use Rattle.aoe_sim_shelves.specs.Rack.{is_apart as is_apart_of_slots, MemoryRack, Serves}
 use Rattle.aoe_script.specs.declared.event.Which.{Which}
 use Rattle.aoe_target.specs.declared.station.Station.{Station}
@@ -26,6 +25,7 @@ use Rattle.aoe_world.proofs.ActLemmas.{armed-apart, hosts-after, left-more, one-
 use Rattle.aoe_world.proofs.AddsLemmas.{adds_none, adds_one, arrive-adds, crash-adds, Adds, SpeaksOf}
 use Rattle.aoe_world.specs.declared.sim.Sim.{Sim}
 use Rattle.aoe_world.specs.Sim.{AllServe, HadTurns, IsEntered, IsNetwork, IsReady}
+use Rattle.aoe_initiator.proofs.ListLemmas.{get-there as there}
 
 -- what came of one shelf
 pub record HasCome (s : Setup) (majors : List ℕ) (i : ℕ) (y : MemoryRack) (old : Sim) (m : List Entry) : Type 0 where

@@ -1,9 +1,9 @@
 -- The slot of a device: its shelf by the number, and in it the target by the minor.
 use Rattle.std.proofs.Common.{ℕ, zero, suc, ◌≡◌, ◌≢◌, ◌<◌, ◌∙◌, Bool, true, false, List, [], ◌∷◌, length, Option, Some, None, Result, refl, sym, ap, subst, arith, inl, inr, cond, get_or, MatchOption}
-use Rattle.std.specs.Prelude.{filter, nat_eq, nat_lt, position, slice_get, Contains, IfSome, IsSomeAnd}
+use Rattle.std.specs.Prelude.{filter, nat_eq, position, slice_get, Contains, IfSome, IsSomeAnd}
 use Rattle.std.specs.List.{position_or_len}
 use Rattle.std.specs.Option.{option_map_or}
-use Rattle.std.proofs.lemmas.Bool.{cases_Bool, cases_lt, eq-eqb, eqb-true, lt-ltb, ltb-true}
+use Rattle.std.proofs.lemmas.Bool.{cases_lt, eq-eqb, eqb-true, lt-ltb}
 use Rattle.std.proofs.lemmas.List.Quantifiers.{position-Some}
 use Rattle.std.proofs.lemmas.List.Sums.{fails_before_first}
 use Rattle.std.proofs.lemmas.Option.{get_or_from_slice_get, same_Some, slice_get_within}
@@ -22,16 +22,7 @@ use Rattle.aoe_world.specs.declared.sim.Sim.{Sim}
 use Rattle.aoe_world.specs.Acts.{id_at, CanArm}
 use Rattle.aoe_world.specs.Sim.{IsEntered, IsReady}
 use Rattle.aoe_world.proofs.PlaceLemmas.{major-is}
-use Rattle.aoe_world.proofs.TurnLemmas.{there-is as there}
-
-pub position-within : {X : Type 0} (p : X → Bool) (xs : List X) (i : ℕ) → position p xs ≡ Some i → i < length xs
-position-within p xs i found = elim (cases_Bool (nat_lt (position_or_len p xs) (length xs))) [
-  | inl below ↦
-      let is : Some (position_or_len p xs) ≡ Some i = rw below at found in
-      let same : position_or_len p xs ≡ i = cc in
-      omega (arith, same, ltb-true (position_or_len p xs) (length xs) below)
-  | inr past ↦ let impossible = rw past at found in absurd cc
-]
+use Rattle.aoe_initiator.proofs.ListLemmas.{get-there as there, placed-inside}
 
 not-none : {X : Type 0} (p : X → Bool) (xs : List X) (i : ℕ) (x : X) → slice_get xs i ≡ Some x → p x ≡ true → position p xs ≡ None → ⊥
 not-none p xs i x at_i passes missing = elim (cases_lt (position_or_len p xs) (length xs)) [
@@ -104,7 +95,7 @@ module _ (s : Setup) (majors : List ℕ) (sim : Sim) (ready : IsReady s majors s
       (subst (λ (y : MemoryRack). nat_eq y.shelf.major dev.major ≡ true) (get_or_from_slice_get sim.shelves.items i x x at_i) found.1)
 
   pub shelf-inside : (i : ℕ) → position (λ (y : MemoryRack). nat_eq y.shelf.major dev.major) sim.shelves.items ≡ Some i → i < length sim.shelves.items
-  shelf-inside i e = position-within (λ (y : MemoryRack). nat_eq y.shelf.major dev.major) sim.shelves.items i e
+  shelf-inside i e = placed-inside (λ (y : MemoryRack). nat_eq y.shelf.major dev.major) sim.shelves.items i e
 
   pub some-shelf : Contains majors dev.major → position (λ (y : MemoryRack). nat_eq y.shelf.major dev.major) sim.shelves.items ≡ None → ⊥
   some-shelf inside e =

@@ -18,13 +18,9 @@ use Rattle.aoe_history.proofs.FullLemmas.{full-more}
 use Rattle.aoe_world.proofs.AddsLemmas.{adds-keep, turn-adds, Adds, TellsOf}
 use Rattle.aoe_world.specs.declared.sim.Sim.{Sim}
 use Rattle.aoe_world.specs.Sim.{AllServe, AllSettled, HadTurns, IsLeft, IsNetwork, IsReady, IsTurning}
+use Rattle.aoe_initiator.proofs.ListLemmas.{get-there as there-is}
 
 -- LISTS
-
-pub there-is : {X : Type 0} (xs : List X) (i : ℕ) → i < length xs → (x : X) × (slice_get xs i ≡ Some x)
-there-is [] i lt = absurd (omega (arith, lt))
-there-is (x ∷ xs) zero lt = (x, refl)
-there-is (x ∷ xs) (suc i) lt = there-is xs i (omega (arith, lt))
 
 pub get-set : {X : Type 0} (xs : List X) (i j : ℕ) (y : X) → j ≢ i → slice_get (slice_set xs i y) j ≡ slice_get xs j
 get-set [] i j y apart = refl

@@ -21,6 +21,7 @@ use Rattle.aoe_history.proofs.hosts.BaseLemmas.{by-submissions, clash, Base}
 use Rattle.aoe_history.proofs.FrameLemmas.{birth_of, arrives}
 use Rattle.aoe_history.proofs.hosts.GoneLemmas.{AreGone}
 use Rattle.std.specs.Option.{option_map_or}
+use Rattle.aoe_history.proofs.LogicLemmas.{not-both}
 
 pub record WritesTo (slot : SlotSetup) (o : Option Submission) (s : ℕ) (v : List ℕ) : Type 0 where
   pub at : ℕ
@@ -117,10 +118,6 @@ inactive false gone p q e = cc
 
 order-of : (c d : ℕ) → (c < d) ⊎ ((c ≡ d) ⊎ (d < c))
 order-of c d = grind arith
-
-not-both : (b : Bool) → b ≡ true → b ≡ false → ⊥
-not-both true p q = cc
-not-both false p q = cc
 
 no-write : (o : Option Submission) (slot : SlotSetup) (op : Op) (s : ℕ) (v : List ℕ) → (op_writes op s ≡ None) → AsksAt slot o op → writes slot o s ≡ Some v → ⊥
 no-write o slot op s v none p w =

@@ -8,7 +8,6 @@ use Rattle.std.proofs.lemmas.Option.{slice_get-get_or}
 use Rattle.arrayvec.specs.ArrayVec.{ArrayVec}
 use Rattle.aoe_base.specs.declared.address.Mac.{Mac}
 use Rattle.aoe_base.specs.declared.address.TargetId.{TargetId}
-use Rattle.std.specs.Str.{bytes_eq}
 use Rattle.aoe_base.specs.Addresses.{broadcast, holds, same_address}
 use Rattle.aoe_frame.specs.declared.header.Header.{Header}
 use Rattle.aoe_frame.specs.Header.{Fits}
@@ -38,10 +37,12 @@ use Rattle.aoe_history.specs.Frames.{clock}
 use Rattle.aoe_history.specs.HostLaw.{IsSubmitted}
 use Rattle.aoe_history.specs.Lawful.{HasHost, IsLawful}
 use Rattle.aoe_history.specs.Setup.{device_no, host_called, is_called, is_slot, HostSetup, IsAttachedTo, IsSetup, Setup, SlotSetup}
-use Rattle.aoe_history.proofs.hosts.CommandLemmas.{some-and, IsNamed}
+use Rattle.aoe_history.proofs.hosts.CommandLemmas.{IsNamed}
 use Rattle.aoe_history.proofs.hosts.EntryLemmas.{named}
 use Rattle.aoe_history.proofs.replies.RequestLemmas.{comes-of, request-asks, request-head, request-writes}
-use Rattle.aoe_history.proofs.hosts.SentLemmas.{contains-at, found, host-there, request-fits}
+use Rattle.aoe_history.proofs.hosts.SentLemmas.{found, host-there, request-fits}
+use Rattle.aoe_history.proofs.LogicLemmas.{some-and}
+use Rattle.aoe_initiator.proofs.ListLemmas.{Contains-get}
 
 -- DEVICES
 
@@ -110,7 +111,7 @@ askable s host h c dev op ok mine x =
     let d = device-there host.ports s.life (clock h) 0 (commands_of host h) host.devices x.device a.0 a.1 in
     let none = no-backlog (held_at (host_after s host h) x.device) (option_and_then (λ (z : Device). op_refusal z.about op) (slice_get (host_after s host h).devices x.device)) x.taken in
     let free : op_refusal a.0 op ≡ None = ap (λ (z : Attached). op_refusal z op) (sym d.2) ∙ ap (λ o. option_and_then (λ (z : Device). op_refusal z.about op) o) (sym d.1) ∙ none in
-    let at : IsAttachedTo s a.0 = ok.attached host a.0 mine (contains-at host.devices x.device a.0 a.1) in
+    let at : IsAttachedTo s a.0 = ok.attached host a.0 mine (Contains-get host.devices x.device a.0 a.1) in
     let there = found (λ slot. is_slot slot a.0.id) s.slots at.slot at.there in
     let both = askable-op a.0 op (let m = ok.max at.slot there.0 in let e = at.max in omega arith) (let m = ok.size at.slot there.0 in let e = at.total in omega arith) x.can free in
     record {
@@ -214,7 +215,7 @@ module _ (s : Setup) (host : HostSetup) (h : List Entry) (run : HasHost s host h
       let fits = request-fits s host (device_no host x.dev) x.op sent.sending.tag frame.bytes run.setup mine r in
       let w : verdict slot.station lists (request x.op r.about.id r.remote r.local sent.sending.tag) ≡ Ata d = subst (λ f. verdict slot.station lists f ≡ Ata d) r.is v in
       let c = comes-of slot.station lists (request x.op r.about.id r.remote r.local sent.sending.tag) (request_header x.op r.about.id r.remote r.local sent.sending.tag) d (request-head x.op r.about.id r.remote r.local sent.sending.tag fits) w in
-      let at : IsAttachedTo s r.about = run.setup.attached host r.about mine (contains-at host.devices (device_no host x.dev).0 r.about r.there) in
+      let at : IsAttachedTo s r.about = run.setup.attached host r.about mine (Contains-get host.devices (device_no host x.dev).0 r.about r.there) in
       let its = found (λ z. is_slot z r.about.id) s.slots at.slot at.there in
       let eq : at.slot.station.id ≡ r.about.id = ids-same at.slot.station.id r.about.id its.1 in
       let major : r.about.id.major < 65535 = subst (λ (z : TargetId). z.major < 65535) eq (run.setup.majors at.slot its.0) in

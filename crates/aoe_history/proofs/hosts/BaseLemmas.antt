@@ -17,6 +17,7 @@ use Rattle.aoe_history.specs.CommandView.{device_in, in_conflict, is_live, op_in
 use Rattle.aoe_history.specs.Frames.{clock}
 use Rattle.aoe_history.specs.Setup.{is_called, HostSetup}
 use Rattle.aoe_history.proofs.hosts.ReadyLemmas.{MayBeSent}
+use Rattle.aoe_history.proofs.LogicLemmas.{own-number}
 
 pub record Base (life : ℕ) (host : HostSetup) (h : List Entry) : Type 0 where
   pub bounds : (c : ℕ) (x : Sending) → sends_of host h c ≡ Some x → (0 < c) × (c ≤ tickets host h)
@@ -82,10 +83,6 @@ first-tag tag now path t (Some y) e = absurd (cc)
 is-number : (b : Bool) (c d : ℕ) → (b && nat_eq c d) ≡ true → d ≡ c
 is-number true c d e = grind (arith, nat_tests)
 is-number false c d e = absurd (cc)
-
-own-number : (b : Bool) (c : ℕ) → b ≡ true → (b && nat_eq c c) ≡ true
-own-number true c e = grind (arith, nat_tests)
-own-number false c e = absurd (cc)
 
 some-if : (b : Bool) (x y : Sending) (o : Option Sending) → (if b then Some x else o) ≡ Some y → ((b ≡ true) × (x ≡ y)) ⊎ (o ≡ Some y)
 some-if true x y o e = inl (refl, (let s : x ≡ y = cc in s))

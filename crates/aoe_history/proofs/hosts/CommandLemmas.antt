@@ -1,5 +1,5 @@
 -- A host's commands, each by what the history says of it.
-use Rattle.std.proofs.Common.{ℕ, zero, suc, ◌+◌, ◌<◌, ◌≤◌, ◌≡◌, inl, inr, if◌then◌else◌, max, nat_eq, Bool, true, false, ◌&&◌, ◌||◌, List, [], ◌∷◌, ◌++◌, map, Option, Some, None, refl, sym, subst, ap, ◌∙◌, arith, Contains, IsSomeAnd}
+use Rattle.std.proofs.Common.{ℕ, zero, suc, ◌+◌, ◌<◌, ◌≤◌, ◌≡◌, inl, inr, if◌then◌else◌, max, nat_eq, Bool, true, false, ◌&&◌, ◌||◌, List, [], ◌∷◌, ◌++◌, map, Option, Some, None, refl, sym, subst, ap, ◌∙◌, arith, Contains}
 use Rattle.std.proofs.lemmas.Bool.Decides.{nat_tests}
 use Rattle.std.proofs.lemmas.List.Elements.{Contains-append_cases, Contains-append_right}
 use Rattle.std.specs.List.{cons_option}
@@ -24,18 +24,12 @@ use Rattle.aoe_history.specs.Frames.{clock}
 use Rattle.aoe_history.specs.HostLaw.{IsDone, IsSent, IsSubmitted}
 use Rattle.aoe_history.specs.Lawful.{IsLawful}
 use Rattle.aoe_history.specs.Setup.{device_no, host_called, is_called, HostSetup, Setup}
+use Rattle.aoe_history.proofs.LogicLemmas.{if-false, if-true, map-append, map-map, other-number, own-number, some-and}
+use Rattle.aoe_initiator.proofs.ListLemmas.{Contains-map_from}
 
 pub map-same : {X Y : Type 0} (f g : X → Y) (xs : List X) → ((x : X) → f x ≡ g x) → map f xs ≡ map g xs
 map-same f g [] e = refl
 map-same f g (x ∷ xs) e = let a = e x in let b = map-same f g xs e in cc
-
-pub map-map : {X Y Z : Type 0} (f : Y → Z) (g : X → Y) (xs : List X) → map f (map g xs) ≡ map (λ x. f (g x)) xs
-map-map f g [] = refl
-map-map f g (x ∷ xs) = ap (λ l. f (g x) ∷ l) (map-map f g xs)
-
-pub map-append : {X Y : Type 0} (f : X → Y) (xs ys : List X) → map f (xs ++ ys) ≡ map f xs ++ map f ys
-map-append f [] ys = refl
-map-append f (x ∷ xs) ys = ap (λ l. f x ∷ l) (map-append f xs ys)
 
 same-number : (n c : ℕ) → nat_eq n c ≡ nat_eq c n
 same-number n c = grind (arith, nat_tests)
@@ -60,14 +54,6 @@ pub record Known (host : HostSetup) (h : List Entry) : Type 0 where
   pub unsubmitted : (c : ℕ) → tickets host h < c → submission host h c ≡ None
   pub unsent : (c : ℕ) → tickets host h < c → sends_of host h c ≡ None
   pub undone : (c : ℕ) → tickets host h < c → was_done host h c ≡ false
-
-when : {X : Type 0} (b : Bool) (x y : X) → b ≡ true → (if b then x else y) ≡ x
-when true x y e = refl
-when false x y e = absurd (cc)
-
-unless : {X : Type 0} (b : Bool) (x y : X) → b ≡ false → (if b then x else y) ≡ y
-unless true x y e = absurd (cc)
-unless false x y e = refl
 
 own-test : (b : Bool) (n c : ℕ) → b ≡ true → (b && nat_eq c n) ≡ nat_eq c n
 own-test true n c e = refl
@@ -100,19 +86,19 @@ sent-list host h name c number bytes e k =
 pub sent-known : (host : HostSetup) (h : List Entry) (name : ArrayVec ℕ) (c number : ℕ) (bytes : List ℕ) → (b : Bool) → is_called host name ≡ b → (b ≡ true → c ≤ tickets host h) → Known host h
     → Known host (Sent name c number bytes ∷ h)
 sent-known host h name c number bytes true e le k = record {
-  list = ap commands (when (is_called host name) (log.Sends (record { 0 = c }) (fields bytes).tag (path_of host (submission host h c) bytes) ∷ log_of host h) (log_of host h) e) ∙ sent-list host h name c number bytes e k;
-  time = ap log.clock (when (is_called host name) (log.Sends (record { 0 = c }) (fields bytes).tag (path_of host (submission host h c) bytes) ∷ log_of host h) (log_of host h) e) ∙ k.time;
+  list = ap commands (if-true (is_called host name) (log.Sends (record { 0 = c }) (fields bytes).tag (path_of host (submission host h c) bytes) ∷ log_of host h) (log_of host h) e) ∙ sent-list host h name c number bytes e k;
+  time = ap log.clock (if-true (is_called host name) (log.Sends (record { 0 = c }) (fields bytes).tag (path_of host (submission host h c) bytes) ∷ log_of host h) (log_of host h) e) ∙ k.time;
   unsubmitted = k.unsubmitted;
-  unsent = λ d lt. unless (is_called host name && nat_eq c d) (Some (one_more (fields bytes).tag (record { 0 = clock h }) (path_of host (submission host h c) bytes) (timeout_at host h d c bytes) (sends_of host h d))) (sends_of host h d) (above-test (is_called host name) d c (tickets host h) (le refl) lt) ∙ k.unsent d lt;
+  unsent = λ d lt. if-false (is_called host name && nat_eq c d) (Some (one_more (fields bytes).tag (record { 0 = clock h }) (path_of host (submission host h c) bytes) (timeout_at host h d c bytes) (sends_of host h d))) (sends_of host h d) (above-test (is_called host name) d c (tickets host h) (le refl) lt) ∙ k.unsent d lt;
   undone = k.undone;
 }
 sent-known host h name c number bytes false e le k = record {
-  list = ap commands (unless (is_called host name) (log.Sends (record { 0 = c }) (fields bytes).tag (path_of host (submission host h c) bytes) ∷ log_of host h) (log_of host h) e) ∙ k.list
+  list = ap commands (if-false (is_called host name) (log.Sends (record { 0 = c }) (fields bytes).tag (path_of host (submission host h c) bytes) ∷ log_of host h) (log_of host h) e) ∙ k.list
       ∙ map-same (view host h) (view host (Sent name c number bytes ∷ h)) (upto (tickets host h)) (λ n. ap (λ o. record { ticket = record { 0 = n }; device = device_in host (submission host h n); op = op_in (submission host h n); sends = o; done = was_done host h n })
-      (sym (unless (is_called host name && nat_eq c n) (Some (one_more (fields bytes).tag (record { 0 = clock h }) (path_of host (submission host h c) bytes) (timeout_at host h n c bytes) (sends_of host h n))) (sends_of host h n) (other-test (is_called host name) (nat_eq c n) e))));
-  time = ap log.clock (unless (is_called host name) (log.Sends (record { 0 = c }) (fields bytes).tag (path_of host (submission host h c) bytes) ∷ log_of host h) (log_of host h) e) ∙ k.time;
+      (sym (if-false (is_called host name && nat_eq c n) (Some (one_more (fields bytes).tag (record { 0 = clock h }) (path_of host (submission host h c) bytes) (timeout_at host h n c bytes) (sends_of host h n))) (sends_of host h n) (other-test (is_called host name) (nat_eq c n) e))));
+  time = ap log.clock (if-false (is_called host name) (log.Sends (record { 0 = c }) (fields bytes).tag (path_of host (submission host h c) bytes) ∷ log_of host h) (log_of host h) e) ∙ k.time;
   unsubmitted = k.unsubmitted;
-  unsent = λ d lt. unless (is_called host name && nat_eq c d) (Some (one_more (fields bytes).tag (record { 0 = clock h }) (path_of host (submission host h c) bytes) (timeout_at host h d c bytes) (sends_of host h d))) (sends_of host h d) (other-test (is_called host name) (nat_eq c d) e) ∙ k.unsent d lt;
+  unsent = λ d lt. if-false (is_called host name && nat_eq c d) (Some (one_more (fields bytes).tag (record { 0 = clock h }) (path_of host (submission host h c) bytes) (timeout_at host h d c bytes) (sends_of host h d))) (sends_of host h d) (other-test (is_called host name) (nat_eq c d) e) ∙ k.unsent d lt;
   undone = k.undone;
 }
 
@@ -132,17 +118,17 @@ or-none false c e = refl
 pub done-known : (host : HostSetup) (h : List Entry) (name : ArrayVec ℕ) (c : ℕ) (outcome : Outcome) → (b : Bool) → is_called host name ≡ b → (b ≡ true → c ≤ tickets host h) → Known host h
     → Known host (Done name c outcome ∷ h)
 done-known host h name c outcome true e le k = record {
-  list = ap commands (when (is_called host name) (log.Ends (record { 0 = c }) (path_ended host h c outcome) ∷ log_of host h) (log_of host h) e) ∙ done-list host h name c outcome e k;
-  time = ap log.clock (when (is_called host name) (log.Ends (record { 0 = c }) (path_ended host h c outcome) ∷ log_of host h) (log_of host h) e) ∙ k.time;
+  list = ap commands (if-true (is_called host name) (log.Ends (record { 0 = c }) (path_ended host h c outcome) ∷ log_of host h) (log_of host h) e) ∙ done-list host h name c outcome e k;
+  time = ap log.clock (if-true (is_called host name) (log.Ends (record { 0 = c }) (path_ended host h c outcome) ∷ log_of host h) (log_of host h) e) ∙ k.time;
   unsubmitted = k.unsubmitted;
   unsent = k.unsent;
   undone = λ d lt. or-none (is_called host name && nat_eq c d) (was_done host h d) (above-test (is_called host name) d c (tickets host h) (le refl) lt) ∙ k.undone d lt;
 }
 done-known host h name c outcome false e le k = record {
-  list = ap commands (unless (is_called host name) (log.Ends (record { 0 = c }) (path_ended host h c outcome) ∷ log_of host h) (log_of host h) e) ∙ k.list
+  list = ap commands (if-false (is_called host name) (log.Ends (record { 0 = c }) (path_ended host h c outcome) ∷ log_of host h) (log_of host h) e) ∙ k.list
       ∙ map-same (view host h) (view host (Done name c outcome ∷ h)) (upto (tickets host h)) (λ n. ap (λ o. record { ticket = record { 0 = n }; device = device_in host (submission host h n); op = op_in (submission host h n); sends = sends_of host h n; done = o })
       (sym (or-none (is_called host name && nat_eq c n) (was_done host h n) (other-test (is_called host name) (nat_eq c n) e))));
-  time = ap log.clock (unless (is_called host name) (log.Ends (record { 0 = c }) (path_ended host h c outcome) ∷ log_of host h) (log_of host h) e) ∙ k.time;
+  time = ap log.clock (if-false (is_called host name) (log.Ends (record { 0 = c }) (path_ended host h c outcome) ∷ log_of host h) (log_of host h) e) ∙ k.time;
   unsubmitted = k.unsubmitted;
   unsent = k.unsent;
   undone = λ d lt. or-none (is_called host name && nat_eq c d) (was_done host h d) (other-test (is_called host name) (nat_eq c d) e) ∙ k.undone d lt;
@@ -155,23 +141,15 @@ map-upto f g (suc n) e =
     map-append f (upto n) (suc n ∷ []) ∙ ap (λ l. l ++ f (suc n) ∷ []) (map-upto f g n (λ k le. e k (omega arith))) ∙ ap (λ y. map g (upto n) ++ y ∷ []) (e (suc n) (omega arith))
     ∙ sym (map-append g (upto n) (suc n ∷ []))
 
-next-test : (b : Bool) (n k : ℕ) → k ≤ n → (b && nat_eq (suc n) k) ≡ false
-next-test true n k le = grind (arith, nat_tests)
-next-test false n k le = refl
-
 self-test : (n : ℕ) → nat_eq n n ≡ true
 self-test n = grind (arith, nat_tests)
-
-own-self : (b : Bool) (n : ℕ) → b ≡ true → (b && nat_eq n n) ≡ true
-own-self true n e = self-test n
-own-self false n e = absurd (cc)
 
 later-test : (b : Bool) (n k : ℕ) → suc n < k → (b && nat_eq (suc n) k) ≡ false
 later-test true n k lt = grind (arith, nat_tests)
 later-test false n k lt = refl
 
 submitted-tickets : (host : HostSetup) (h : List Entry) (name : ArrayVec ℕ) (c : ℕ) (dev : TargetId) (op : Op) → is_called host name ≡ true → tickets host (Submitted name c dev op ∷ h) ≡ suc (tickets host h)
-submitted-tickets host h name c dev op e = when (is_called host name) (suc (tickets host h)) (tickets host h) e
+submitted-tickets host h name c dev op e = if-true (is_called host name) (suc (tickets host h)) (tickets host h) e
 
 view-by : (host : HostSetup) (n : ℕ) (x : Option Submission) (sends : Option Sending) (done : Bool) → HostCommand
 view-by host n x sends done = record { ticket = record { 0 = n }; device = device_in host x; op = op_in x; sends = sends; done = done }
@@ -183,16 +161,16 @@ submitted-known host h name c dev op true e next k =
     let n = tickets host h in
     let c-is : c ≡ suc (tickets host h) = next refl in
     record {
-      list = ap commands (when (is_called host name) (log.Submits (record { 0 = c }) (device_no host dev) op ∷ log_of host h) (log_of host h) e)
+      list = ap commands (if-true (is_called host name) (log.Submits (record { 0 = c }) (device_no host dev) op ∷ log_of host h) (log_of host h) e)
           ∙ ap (λ l. l ++ submitted (record { 0 = c }) (device_no host dev) op ∷ []) k.list
           ∙ ap (λ l. l ++ submitted (record { 0 = c }) (device_no host dev) op ∷ []) (map-upto (view host h) (view host (Submitted name c dev op ∷ h)) (tickets host h)
-          (λ j le. ap (λ x. view-by host j x (sends_of host h j) (was_done host h j)) (sym (unless (is_called host name && nat_eq c j) (Some (record { dev = dev; op = op })) (submission host h j) (subst (λ m. (is_called host name && nat_eq m j) ≡ false) (sym c-is) (next-test (is_called host name) (tickets host h) j le))))))
+          (λ j le. ap (λ x. view-by host j x (sends_of host h j) (was_done host h j)) (sym (if-false (is_called host name && nat_eq c j) (Some (record { dev = dev; op = op })) (submission host h j) (subst (λ m. (is_called host name && nat_eq m j) ≡ false) (sym c-is) (other-number (is_called host name) (tickets host h) j le))))))
           ∙ ap (λ y. map (view host (Submitted name c dev op ∷ h)) (upto (tickets host h)) ++ y ∷ []) (newest c-is)
           ∙ sym (map-append (view host (Submitted name c dev op ∷ h)) (upto (tickets host h)) (suc (tickets host h) ∷ []))
           ∙ ap (λ m. map (view host (Submitted name c dev op ∷ h)) (upto m)) (sym (submitted-tickets host h name c dev op e));
-      time = ap log.clock (when (is_called host name) (log.Submits (record { 0 = c }) (device_no host dev) op ∷ log_of host h) (log_of host h) e) ∙ k.time;
+      time = ap log.clock (if-true (is_called host name) (log.Submits (record { 0 = c }) (device_no host dev) op ∷ log_of host h) (log_of host h) e) ∙ k.time;
       unsubmitted = λ d lt. let later : suc (tickets host h) < d = subst (λ m. m < d) (submitted-tickets host h name c dev op e) lt in
-          unless (is_called host name && nat_eq c d) (Some (record { dev = dev; op = op })) (submission host h d) (subst (λ m. (is_called host name && nat_eq m d) ≡ false) (sym c-is) (later-test (is_called host name) (tickets host h) d later)) ∙ k.unsubmitted d (omega arith);
+          if-false (is_called host name && nat_eq c d) (Some (record { dev = dev; op = op })) (submission host h d) (subst (λ m. (is_called host name && nat_eq m d) ≡ false) (sym c-is) (later-test (is_called host name) (tickets host h) d later)) ∙ k.unsubmitted d (omega arith);
       unsent = λ d lt. let later : suc (tickets host h) < d = subst (λ m. m < d) (submitted-tickets host h name c dev op e) lt in k.unsent d (omega arith);
       undone = λ d lt. let later : suc (tickets host h) < d = subst (λ m. m < d) (submitted-tickets host h name c dev op e) lt in k.undone d (omega arith);
     }
@@ -200,25 +178,25 @@ submitted-known host h name c dev op true e next k =
     newest : c ≡ suc (tickets host h) → submitted (record { 0 = c }) (device_no host dev) op ≡ view host (Submitted name c dev op ∷ h) (suc (tickets host h))
     newest p =
         ap (λ m. submitted (record { 0 = m }) (device_no host dev) op) p
-        ∙ ap (λ x. view-by host (suc (tickets host h)) x None false) (sym (when (is_called host name && nat_eq c (suc (tickets host h))) (Some (record { dev = dev; op = op })) (submission host h (suc (tickets host h)))
-        (subst (λ m. (is_called host name && nat_eq m (suc (tickets host h))) ≡ true) (sym p) (own-self (is_called host name) (suc (tickets host h)) e))))
+        ∙ ap (λ x. view-by host (suc (tickets host h)) x None false) (sym (if-true (is_called host name && nat_eq c (suc (tickets host h))) (Some (record { dev = dev; op = op })) (submission host h (suc (tickets host h)))
+        (subst (λ m. (is_called host name && nat_eq m (suc (tickets host h))) ≡ true) (sym p) (own-number (is_called host name) (suc (tickets host h)) e))))
         ∙ ap (λ o. view-by host (suc (tickets host h)) (submission host (Submitted name c dev op ∷ h) (suc (tickets host h))) o false) (sym (k.unsent (suc (tickets host h)) (omega arith)))
         ∙ ap (λ o. view-by host (suc (tickets host h)) (submission host (Submitted name c dev op ∷ h) (suc (tickets host h))) (sends_of host h (suc (tickets host h))) o) (sym (k.undone (suc (tickets host h)) (omega arith)))
 submitted-known host h name c dev op false e next k = record {
-  list = ap commands (unless (is_called host name) (log.Submits (record { 0 = c }) (device_no host dev) op ∷ log_of host h) (log_of host h) e) ∙ k.list
+  list = ap commands (if-false (is_called host name) (log.Submits (record { 0 = c }) (device_no host dev) op ∷ log_of host h) (log_of host h) e) ∙ k.list
       ∙ map-same (view host h) (view host (Submitted name c dev op ∷ h)) (upto (tickets host h)) (λ n. ap (λ x. view-by host n x (sends_of host h n) (was_done host h n)) (sym (same n)))
-      ∙ ap (λ m. map (view host (Submitted name c dev op ∷ h)) (upto m)) (sym (unless (is_called host name) (suc (tickets host h)) (tickets host h) e));
-  time = ap log.clock (unless (is_called host name) (log.Submits (record { 0 = c }) (device_no host dev) op ∷ log_of host h) (log_of host h) e) ∙ k.time;
+      ∙ ap (λ m. map (view host (Submitted name c dev op ∷ h)) (upto m)) (sym (if-false (is_called host name) (suc (tickets host h)) (tickets host h) e));
+  time = ap log.clock (if-false (is_called host name) (log.Submits (record { 0 = c }) (device_no host dev) op ∷ log_of host h) (log_of host h) e) ∙ k.time;
   unsubmitted = λ d lt. same d ∙ k.unsubmitted d (lower d lt);
   unsent = λ d lt. k.unsent d (lower d lt);
   undone = λ d lt. k.undone d (lower d lt);
 }
   where
     same : (n : ℕ) → submission host (Submitted name c dev op ∷ h) n ≡ submission host h n
-    same n = unless (is_called host name && nat_eq c n) (Some (record { dev = dev; op = op })) (submission host h n) (other-test (is_called host name) (nat_eq c n) e)
+    same n = if-false (is_called host name && nat_eq c n) (Some (record { dev = dev; op = op })) (submission host h n) (other-test (is_called host name) (nat_eq c n) e)
 
     lower : (d : ℕ) → tickets host (Submitted name c dev op ∷ h) < d → tickets host h < d
-    lower d lt = subst (λ m. m < d) (unless (is_called host name) (suc (tickets host h)) (tickets host h) e) lt
+    lower d lt = subst (λ m. m < d) (if-false (is_called host name) (suc (tickets host h)) (tickets host h) e) lt
 
 -- time
 later : (m n ms : ℕ) → m ≡ n → max m (n + ms) ≡ n + ms
@@ -239,16 +217,6 @@ in-upto (suc n) c there = elim (Contains-append_cases (upto n) (suc n ∷ []) c 
     only-one : (m c : ℕ) → Contains (m ∷ []) c → c ≡ m
     only-one m c x = let z : x.0 ≡ 0 = (let lt = x.1 in omega arith) in sym (rw z at x.2)
 
-Contains-map_from : {X Y : Type 0} (f : X → Y) (xs : List X) (y : Y) → Contains (map f xs) y → (x : X) × Contains xs x × (f x ≡ y)
-Contains-map_from f [] y c = let lt = c.1 in absurd (omega arith)
-Contains-map_from f (x ∷ xs) y c = elim (Contains-append_cases (f x ∷ []) (map f xs) y c) [
-  | inl z ↦ (x, (0, omega arith, refl), only-one (f x) y z)
-  | inr r ↦ (let q = Contains-map_from f xs y r in (q.0, Contains-append_right (x ∷ []) xs q.0 q.1, q.2))
-]
-  where
-    only-one : {Z : Type 0} (m c : Z) → Contains (m ∷ []) c → m ≡ c
-    only-one m c x = let z : x.0 ≡ 0 = (let lt = x.1 in omega arith) in rw z at x.2
-
 -- a command of the host's, by its ticket
 pub record IsView (host : HostSetup) (h : List Entry) (x : HostCommand) : Type 0 where
   pub ticket : ℕ
@@ -261,9 +229,6 @@ viewed host h x k there =
     let c = Contains-map_from (view host h) (upto (tickets host h)) x (subst (λ l. Contains l x) k.list there) in
     let u = in-upto (tickets host h) c.0 c.1 in
     record { ticket = c.0; above = u.0; submitted = u.1; is = c.2 }
-
-pub some-and : {X : Type 0} (P : X → Type 0) (o : Option X) (x : X) → o ≡ Some x → IsSomeAnd o P → P x
-some-and P o x e a = subst (λ z. IsSomeAnd z P) e a
 
 -- the host is the one that its name names
 abbrev pub IsNamed : Setup → HostSetup → Type 0

@@ -31,10 +31,11 @@ use Rattle.aoe_history.proofs.hosts.BaseLemmas.{Base, Keeps}
 use Rattle.aoe_history.proofs.hosts.ReadyLemmas.{MayBeSent}
 use Rattle.aoe_history.proofs.hosts.BaseLemmas as base
 use Rattle.aoe_history.proofs.hosts.CommandLemmas.{sent-of-there, viewed, IsNamed, Known}
-use Rattle.aoe_history.proofs.hosts.SendLemmas.{and-parts, not-true}
-use Rattle.aoe_history.proofs.hosts.SentLemmas.{host-there, some-mapped}
+use Rattle.aoe_history.proofs.hosts.SendLemmas.{and-parts}
+use Rattle.aoe_history.proofs.hosts.SentLemmas.{host-there}
 use Rattle.aoe_base.specs.declared.counted.Millis.{Millis}
 use Rattle.std.specs.Prelude.{slice_get}
+use Rattle.aoe_history.proofs.LogicLemmas.{and-false, if-false, not-true, or-right, other-number, some-mapped}
 
 -- a host is the one that its name names
 pub named : (s : Setup) (name : ArrayVec ℕ) (host : HostSetup) → host_called s name ≡ Some host → IsNamed s host
@@ -45,24 +46,12 @@ named s name host e other mine =
 
 -- SUBMISSIONS, SENDS AND OUTCOMES
 
-other-ticket : (b : Bool) (n c : ℕ) → c ≤ n → (b && nat_eq (suc n) c) ≡ false
-other-ticket true n c le = grind (arith, nat_tests)
-other-ticket false n c le = refl
-
-unless : {X : Type 0} (b : Bool) (x y : X) → b ≡ false → (if b then x else y) ≡ y
-unless true x y e = absurd (cc)
-unless false x y e = refl
-
-not-own : (b c : Bool) → b ≡ false → (b && c) ≡ false
-not-own true c e = absurd (cc)
-not-own false c e = refl
-
 more-tickets : (b : Bool) (n : ℕ) → n ≤ (if b then suc n else n)
 more-tickets true n = omega arith
 more-tickets false n = omega arith
 
 not-submitted : (b : Bool) (c n d : ℕ) → (b ≡ true → c ≡ suc n) → d ≤ n → (b && nat_eq c d) ≡ false
-not-submitted true c n d new le = subst (λ m. (true && nat_eq m d) ≡ false) (sym (new refl)) (other-ticket true n d le)
+not-submitted true c n d new le = subst (λ m. (true && nat_eq m d) ≡ false) (sym (new refl)) (other-number true n d le)
 not-submitted false c n d new le = refl
 
 pub submitted-keeps : (host : HostSetup) (h : List Entry) (name : ArrayVec ℕ) (c : ℕ) (dev : TargetId) (op : Op) → (is_called host name ≡ true → c ≡ suc (tickets host h)) → Keeps host h (Submitted name c dev op ∷ h)
@@ -72,22 +61,18 @@ submitted-keeps host h name c dev op new = record {
   ended = λ d e. inl e;
   time = omega arith;
   count = more-tickets (is_called host name) (tickets host h);
-  submissions = λ d le. unless (is_called host name && nat_eq c d) (Some (record { dev = dev; op = op })) (submission host h d) (not-submitted (is_called host name) c (tickets host h) d new le);
+  submissions = λ d le. if-false (is_called host name && nat_eq c d) (Some (record { dev = dev; op = op })) (submission host h d) (not-submitted (is_called host name) c (tickets host h) d new le);
 }
 
 pub sent-keeps : (host : HostSetup) (h : List Entry) (name : ArrayVec ℕ) (c number : ℕ) (f : List ℕ) → is_called host name ≡ false → Keeps host h (Sent name c number f ∷ h)
 sent-keeps host h name c number f other = record {
-  sends = λ d. unless (is_called host name && nat_eq c d) (Some (base.more host h c f d)) (sends_of host h d) (not-own (is_called host name) (nat_eq c d) other);
+  sends = λ d. if-false (is_called host name && nat_eq c d) (Some (base.more host h c f d)) (sends_of host h d) (and-false (is_called host name) (nat_eq c d) other);
   done = λ d e. e;
   ended = λ d e. inl e;
   time = omega arith;
   count = omega arith;
   submissions = λ d le. refl;
 }
-
-or-true : (b c : Bool) → c ≡ true → (b || c) ≡ true
-or-true true c e = refl
-or-true false c e = e
 
 or-cases : (b c : Bool) → (b || c) ≡ true → (b ≡ true) ⊎ (c ≡ true)
 or-cases true c e = inl refl
@@ -100,7 +85,7 @@ number-of false c d e = absurd (cc)
 pub done-keeps : (host : HostSetup) (h : List Entry) (name : ArrayVec ℕ) (c : ℕ) (outcome : Outcome) → (is_called host name ≡ true → is_some (sends_of host h c) ≡ true) → Keeps host h (Done name c outcome ∷ h)
 done-keeps host h name c outcome sent = record {
   sends = λ d. refl;
-  done = λ d e. or-true (is_called host name && nat_eq c d) (was_done host h d) e;
+  done = λ d e. or-right (is_called host name && nat_eq c d) (was_done host h d) e;
   ended = λ d e. elim (or-cases (is_called host name && nat_eq c d) (was_done host h d) e) [
     | inl own ↦ (let p = number-of (is_called host name) c d own in inr (subst (λ k. is_some (sends_of host h k) ≡ true) p.1 (sent p.0)))
     | inr before ↦ inl before
@@ -208,7 +193,7 @@ module _ (life : ℕ) (host : HostSetup) (h : List Entry) (name : ArrayVec ℕ) 
       go false e = record {
         ticket = x.ticket;
         sending = x.sending;
-        sent = unless (is_called host name && nat_eq c x.ticket) (Some (base.more host h c f x.ticket)) (sends_of host h x.ticket) e ∙ x.sent;
+        sent = if-false (is_called host name && nat_eq c x.ticket) (Some (base.more host h c f x.ticket)) (sends_of host h x.ticket) e ∙ x.sent;
         request = x.request;
         time = x.time;
       }

@@ -14,12 +14,13 @@ use Rattle.aoe_history.specs.HostLaw.{IsDone, IsSent, IsSubmitted}
 use Rattle.aoe_history.specs.Lawful.{HasHost, IsArrival, IsLawful}
 use Rattle.aoe_history.specs.Setup.{host_called, is_called, slot_of, is_slot, HostSetup, IsSetup, Setup}
 use Rattle.aoe_history.proofs.hosts.BaseLemmas.{keeps-base, sent-base, Base, Keeps}
-use Rattle.aoe_history.proofs.hosts.CommandLemmas.{known, some-and, IsNamed, Known}
+use Rattle.aoe_history.proofs.hosts.CommandLemmas.{known, IsNamed, Known}
 use Rattle.aoe_history.proofs.hosts.EntryLemmas.{done-flies, done-keeps, foreign-frame, keeps-frames, named, sent-frames, sent-keeps, submitted-keeps, AreSentFor}
 use Rattle.aoe_history.proofs.hosts.GoneLemmas.{keeps-gone, sent-gone, AreGone}
 use Rattle.aoe_history.proofs.hosts.ReadyLemmas.{ready, MayBeSent}
 use Rattle.aoe_history.proofs.hosts.SentLemmas.{found, host-there, request-header}
 use Rattle.aoe_history.proofs.hosts.SourceLemmas.{foreign-source, replied-source, request-source, some-such}
+use Rattle.aoe_history.proofs.LogicLemmas.{some-and}
 
 pub record Holds (s : Setup) (host : HostSetup) (h : List Entry) : Type 0 where
   pub base : Base s.life host h

@@ -1,5 +1,5 @@
 -- When a command is sent: for the first time, once it is clear, with a tag of its own; or again, with its tag.
-use Rattle.std.proofs.Common.{ℕ, zero, suc, ◌-◌, ◌<◌, ◌≤◌, ◌≡◌, ◌≢◌, ◌⊎◌, inl, inr, cond, nat_eq, nat_le, Bool, true, false, not, List, [], ◌∷◌, ◌++◌, map, Option, Some, None, refl, sym, subst, ap, ◌∙◌, arith, Contains}
+use Rattle.std.proofs.Common.{ℕ, zero, suc, ◌-◌, ◌<◌, ◌≤◌, ◌≡◌, ◌≢◌, ◌⊎◌, inl, inr, cond, nat_eq, nat_le, Bool, true, false, not, List, [], ◌∷◌, ◌++◌, Option, Some, None, refl, sym, subst, ap, ◌∙◌, arith, Contains}
 use Rattle.std.specs.List.{cons_option, filter, list_any}
 use Rattle.std.proofs.lemmas.Bool.Decides.{nat_tests}
 use Rattle.std.proofs.lemmas.List.Elements.{Contains-append_cases, Contains-append_left, Contains-append_right, Contains-push}
@@ -16,9 +16,11 @@ use Rattle.aoe_history.specs.Frames.{clock}
 use Rattle.aoe_history.specs.HostLaw.{IsSent}
 use Rattle.aoe_history.specs.Setup.{HostSetup, Setup}
 use Rattle.aoe_history.proofs.hosts.CommandLemmas.{sent-of-there, viewed, IsView, Known}
-use Rattle.aoe_history.proofs.hosts.SendLemmas.{and-parts, clear-past, clear-unsent, not-true, only-one, or-parts, IsPast}
-use Rattle.aoe_history.proofs.hosts.SentLemmas.{some-mapped, spelled-request}
+use Rattle.aoe_history.proofs.hosts.SendLemmas.{and-parts, clear-past, clear-unsent, only-one, or-parts, IsPast}
+use Rattle.aoe_history.proofs.hosts.SentLemmas.{spelled-request}
 use Rattle.std.specs.Option.{option_map}
+use Rattle.aoe_history.proofs.LogicLemmas.{not-true, some-mapped}
+use Rattle.aoe_initiator.proofs.ListLemmas.{Contains-map}
 
 -- a command is sent for the first time
 pub record IsFirstSend (life : ℕ) (host : HostSetup) (h : List Entry) (c tag : ℕ) : Type 0 where
@@ -56,16 +58,9 @@ contains-upto (suc n) d above le = go (nat_eq d (suc n)) refl (λ m. contains-up
     go true e more = subst (λ m. Contains (upto n ++ suc n ∷ []) m) (is d (suc n) e) (Contains-push (upto n) (suc n))
     go false e more = Contains-append_left (upto n) (suc n ∷ []) d (more (less d n e le))
 
-contains-map : {X Y : Type 0} (f : X → Y) (xs : List X) (x : X) → Contains xs x → Contains (map f xs) (f x)
-contains-map f [] x c = let lt = c.1 in absurd (omega arith)
-contains-map f (y ∷ xs) x c = elim (Contains-append_cases (y ∷ []) xs x c) [
-  | inl z ↦ (0, omega arith, ap f (only-one y x z))
-  | inr r ↦ Contains-append_right (f y ∷ []) (map f xs) (f x) (contains-map f xs x r)
-]
-
 -- each command that was submitted is there
 pub view-there : (host : HostSetup) (h : List Entry) (d : ℕ) → Known host h → 0 < d → d ≤ tickets host h → Contains (commands_of host h) (view host h d)
-view-there host h d k above le = subst (λ l. Contains l (view host h d)) (sym k.list) (contains-map (view host h) (upto (tickets host h)) d (contains-upto (tickets host h) d above le))
+view-there host h d k above le = subst (λ l. Contains l (view host h d)) (sym k.list) (Contains-map (view host h) (upto (tickets host h)) d (contains-upto (tickets host h) d above le))
 
 sent-there : (cs : List HostCommand) (x : HostCommand) (o : Outstanding) → Contains cs x → as_sent x ≡ Some o → Contains (sent_of cs) o
 sent-there [] x o c e = let lt = c.1 in absurd (omega arith)

@@ -7,6 +7,7 @@ use Rattle.aoe_hold.specs.declared.command.Command.{Command}
 use Rattle.aoe_hold.specs.Commands.{all_gone, conflict, finished, has_effect, is_unsent, keeps_back, rests_on_effects}
 use Rattle.aoe_initiator.specs.HostLaw.{is_clear_at}
 use Rattle.aoe_initiator.specs.HostLog.{as_entered, entered_at, is_at, HostCommand}
+use Rattle.aoe_history.proofs.LogicLemmas.{not-true}
 
 pub only-one : {Z : Type 0} (m c : Z) → Contains (m ∷ []) c → m ≡ c
 only-one m c x = let z : x.0 ≡ 0 = (let lt = x.1 in omega arith) in rw z at x.2
@@ -30,10 +31,6 @@ any-none p f q (y ∷ xs) x e there t = go (q y) refl e (λ r g. any-none p f q 
 pub and-parts : (a b : Bool) → (a && b) ≡ true → (a ≡ true) × (b ≡ true)
 and-parts true b e = (refl, e)
 and-parts false b e = absurd (cc)
-
-pub not-true : (b : Bool) → not b ≡ true → b ≡ false
-not-true true e = absurd (cc)
-not-true false e = refl
 
 -- an earlier command in conflict is finished, and its frames are gone where they matter
 pub record IsPast (life now : ℕ) (earlier later : Command) : Type 0 where

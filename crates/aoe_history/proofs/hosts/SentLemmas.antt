@@ -1,17 +1,16 @@
 -- What a host sends: the request of a command that is next, with its tag.
-use Rattle.std.proofs.Common.{ℕ, zero, suc, ◌+◌, ◌/◌, ◌%◌, ◌<◌, ◌≡◌, inl, cond, Bool, true, false, ◌||◌, List, [], ◌∷◌, length, Option, Some, None, refl, sym, subst, ap, ◌∙◌, arith, Contains}
+use Rattle.std.proofs.Common.{ℕ, zero, suc, ◌+◌, ◌/◌, ◌%◌, ◌<◌, ◌≡◌, inl, cond, Bool, true, false, List, [], ◌∷◌, length, Option, Some, None, refl, sym, subst, ap, ◌∙◌, arith, Contains}
 use Rattle.std.specs.Prelude.{slice_get}
 use Rattle.std.specs.List.{find}
 use Rattle.std.specs.Option.{option_and_then, option_map}
 use Rattle.std.proofs.lemmas.Bool.Decides.{nat_tests}
 use Rattle.std.proofs.lemmas.List.Elements.{Contains-append_right}
-use Rattle.std.proofs.lemmas.Slice.Eq.{bytes_eq-Decides}
 use Rattle.arrayvec.specs.ArrayVec.{ArrayVec}
 use Rattle.aoe_base.specs.declared.address.Mac.{Mac}
 use Rattle.aoe_base.specs.declared.address.TargetId.{TargetId}
 use Rattle.aoe_base.specs.declared.counted.DeviceNo.{DeviceNo}
 use Rattle.aoe_base.specs.declared.counted.PathNo.{PathNo}
-use Rattle.aoe_base.specs.Addresses.{holds, same_address}
+use Rattle.aoe_base.specs.Addresses.{holds}
 use Rattle.aoe_base.proofs.AddressLemmas.{holds-at}
 use Rattle.aoe_frame.specs.Header.{fields, Fits}
 use Rattle.aoe_initiator.specs.declared.device.Attached.{Attached}
@@ -27,13 +26,10 @@ use Rattle.aoe_history.specs.CommandView.{IsRequest}
 use Rattle.aoe_history.specs.Frames.{clock}
 use Rattle.aoe_history.specs.Setup.{host_called, is_called, is_slot, HostSetup, IsAttachedTo, IsSetup, Setup}
 use Rattle.aoe_history.proofs.replies.RequestLemmas.{fields-are, request-head}
+use Rattle.aoe_history.proofs.LogicLemmas.{some-mapped, some-then}
+use Rattle.aoe_initiator.proofs.ListLemmas.{Contains-get}
 
 -- LISTS
-
-pub contains-at : {X : Type 0} (xs : List X) (k : ℕ) (x : X) → slice_get xs k ≡ Some x → Contains xs x
-contains-at [] k x e = absurd (cc)
-contains-at (y ∷ xs) zero x e = (0, omega arith, (let q : y ≡ x = cc in q))
-contains-at (y ∷ xs) (suc k) x e = Contains-append_right (y ∷ []) xs x (contains-at xs k x e)
 
 pub found : {X : Type 0} (p : X → Bool) (xs : List X) (x : X) → find p xs ≡ Some x → Contains xs x × (p x ≡ true)
 found p [] x e = absurd (cc)
@@ -62,14 +58,6 @@ pair-split (Some l) (Some r) pair e =
     let same : found_pair ≡ pair = cc in
     (ap (λ (p : Mac × Mac). Some p.0) same, ap (λ (p : Mac × Mac). Some p.1) same)
 
-pub some-mapped : {X Y : Type 0} (f : X → Y) (o : Option X) (y : Y) → option_map f o ≡ Some y → (x : X) × (o ≡ Some x) × (f x ≡ y)
-some-mapped f None y e = absurd (cc)
-some-mapped f (Some x) y e = (x, refl, cc)
-
-some-then : {X Y : Type 0} (f : X → Option Y) (o : Option X) (y : Y) → option_and_then f o ≡ Some y → (x : X) × (o ≡ Some x) × (f x ≡ Some y)
-some-then f None y e = absurd (cc)
-some-then f (Some x) y e = (x, refl, e)
-
 -- what is spelled for a command is its request
 pub spelled-request : (s : Setup) (host : HostSetup) (h : List Entry) (op : Op) (device : DeviceNo) (path : PathNo) (tag : ℕ) (f : List ℕ) → tag < 4294967296 → spelled_for (host_after s host h) op device path tag ≡ Some f → IsRequest host device op tag f
 spelled-request s host h op device path tag f small e =
@@ -97,7 +85,7 @@ same-id a b e = (grind (arith, nat_tests), grind (arith, nat_tests))
 pub request-fits : (s : Setup) (host : HostSetup) (device : DeviceNo) (op : Op) (tag : ℕ) (f : List ℕ) → IsSetup s → Contains s.hosts host → (r : IsRequest host device op tag f)
     → Fits (request_header op r.about.id r.remote r.local tag)
 request-fits s host device op tag f ok mine r =
-    let a : IsAttachedTo s r.about = ok.attached host r.about mine (contains-at host.devices device.0 r.about r.there) in
+    let a : IsAttachedTo s r.about = ok.attached host r.about mine (Contains-get host.devices device.0 r.about r.there) in
     let there = found (λ slot. is_slot slot r.about.id) s.slots a.slot a.there in
     let port : holds a.slot.station.ports.items r.remote ≡ true = subst (λ (z : ArrayVec Mac). holds z.items r.remote ≡ true) a.remotes r.other in
     let id = same-id a.slot.station.id r.about.id there.1 in

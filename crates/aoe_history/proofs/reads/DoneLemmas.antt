@@ -26,13 +26,13 @@ use Rattle.aoe_history.specs.Slots.{known_after, marked_after}
 use Rattle.aoe_history.proofs.hosts.ApartLemmas.{none-beside-flush, none-beside-read, one-write, writes-to, WritesTo}
 use Rattle.aoe_history.proofs.sectors.AtLemmas.{active-before, flying-active, flying-before, landed, quiet, wr, At, IsFlying, IsUnderWay}
 use Rattle.aoe_history.proofs.hosts.BaseLemmas.{Keeps}
-use Rattle.aoe_history.proofs.hosts.CommandLemmas.{some-and}
 use Rattle.aoe_history.proofs.reads.EndLemmas.{response-true}
 use Rattle.aoe_history.proofs.hosts.EntryLemmas.{done-flies, done-keeps, named}
 use Rattle.aoe_history.proofs.hosts.HostLemmas.{holds-of, known-of}
 use Rattle.aoe_history.proofs.sectors.SectorLemmas.{flushes, settles, Sector}
-use Rattle.aoe_history.proofs.hosts.SendLemmas.{and-parts, not-true}
+use Rattle.aoe_history.proofs.hosts.SendLemmas.{and-parts}
 use Rattle.aoe_history.proofs.reads.TrueLemmas.{keeps-passes, AreTrue, Passes, SaysOf}
+use Rattle.aoe_history.proofs.LogicLemmas.{not-true, some-and}
 
 -- ANSWERS AND OUTCOMES
 

@@ -35,10 +35,12 @@ use Rattle.aoe_history.proofs.hosts.CommandLemmas.{viewed}
 use Rattle.aoe_history.proofs.FrameLemmas.{arrives, birth_of}
 use Rattle.aoe_history.proofs.hosts.HostLemmas.{holds-of, known-of}
 use Rattle.aoe_history.proofs.replies.RequestLemmas.{fields-are}
-use Rattle.aoe_history.proofs.hosts.SendLemmas.{and-parts, not-true}
-use Rattle.aoe_history.proofs.hosts.SentLemmas.{contains-at, device-at, host-there}
+use Rattle.aoe_history.proofs.hosts.SendLemmas.{and-parts}
+use Rattle.aoe_history.proofs.hosts.SentLemmas.{device-at, host-there}
 use Rattle.aoe_history.proofs.reads.TrueLemmas.{AreTrue, IsReplyTo, IsTrue, SaysOf}
 use Rattle.aoe_net.specs.Network.{SentFrame}
+use Rattle.aoe_history.proofs.LogicLemmas.{not-true}
+use Rattle.aoe_initiator.proofs.ListLemmas.{Contains-get}
 
 -- what a response to a command is
 pub record IsAnswerTo (host : Host) (c : HostCommand) (f : List ℕ) (a : Answer) : Type 0 where
@@ -125,7 +127,7 @@ response-true s host h run slot there sct c x outcome true_ones sub is ans =
     let k = asked-of s host h run c x sub in
     let same : p.device.about ≡ k.about = by-some p.device.about k.about (slice_get host.devices (device_no host x.dev).0) place k.place in
     let id : p.device.about.id ≡ x.dev = ap (λ (z : Attached). z.id) same ∙ k.id in
-    let at : IsAttachedTo s p.device.about = run.setup.attached host p.device.about mine (contains-at host.devices (device_no host x.dev).0 p.device.about place) in
+    let at : IsAttachedTo s p.device.about = run.setup.attached host p.device.about mine (Contains-get host.devices (device_no host x.dev).0 p.device.about place) in
     let its : at.slot ≡ slot = slot-is s slot at.slot p.device.about.id run.setup there at.there (subst (λ z. is_slot slot z ≡ true) (sym id) is) in
     let ports : p.device.about.remotes ≡ slot.station.ports = at.remotes ∙ ap (λ (z : SlotSetup). z.station.ports) its in
     let g = arriving-frame s.life h ans.number ans.bytes ans.fresh in

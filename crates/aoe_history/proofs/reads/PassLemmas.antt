@@ -32,18 +32,7 @@ use Rattle.aoe_history.proofs.sectors.SectorLemmas.{allowed-also, crashes, Secto
 use Rattle.aoe_history.proofs.hosts.SourceLemmas.{some-such}
 use Rattle.aoe_history.proofs.reads.TrueLemmas.{Passes}
 use Rattle.std.specs.Prelude.{is_some}
-
-unless : {X : Type 0} (b : Bool) (x y : X) → b ≡ false → (if b then x else y) ≡ y
-unless true x y e = absurd (cc)
-unless false x y e = refl
-
-pub when : {X : Type 0} (b : Bool) (x y : X) → b ≡ true → (if b then x else y) ≡ x
-when true x y e = refl
-when false x y e = absurd (cc)
-
-pub or-true : (b c : Bool) → c ≡ true → (b || c) ≡ true
-or-true true c e = refl
-or-true false c e = e
+use Rattle.aoe_history.proofs.LogicLemmas.{if-false, if-true, or-right}
 
 -- ARRIVALS
 
@@ -85,7 +74,7 @@ module _ (s : Setup) (host : HostSetup) (h : List Entry) (run : HasHost s host h
       by-act f bytes fresh is (synced p q a b) = q
 
       go : (t : Bool) → is_slot slot dev ≡ t → marked_after slot (Arrived dev k fate ∷ h) sct ≡ false
-      go false e = ap (λ (z : Slot). marked_in z.state.sectors sct) (unless (is_slot slot dev) (after_frame slot (bytes_of h k) fate (slot_after slot h)) (slot_after slot h) e) ∙ m was.0
+      go false e = ap (λ (z : Slot). marked_in z.state.sectors sct) (if-false (is_slot slot dev) (after_frame slot (bytes_of h k) fate (slot_after slot h)) (slot_after slot h) e) ∙ m was.0
       go true e =
           let o = some-such (λ z. IsArrival s z h k fate) (slot_of s dev) law in
           let same : o.0 ≡ slot = slot-is s slot o.0 dev run.setup there o.1 e in
@@ -98,7 +87,7 @@ module _ (s : Setup) (host : HostSetup) (h : List Entry) (run : HasHost s host h
     sent = λ c x e. (x, e, refl, omega arith);
     flying = λ c d. d;
     asked = λ c x e. refl;
-    stored = λ c l. or-true (is_slot slot dev && stores fate sct && is_some (sends_of host h c)) (landed host slot h sct c) l;
+    stored = λ c l. or-right (is_slot slot dev && stores fate sct && is_some (sends_of host h c)) (landed host slot h sct c) l;
     marks = λ c fl d asks m al. marks-after dev k fate c law fl asks m al;
     reads = λ c span fl d asks i v m al.
         allowed-unless (is_slot slot dev && breaks (verdict_after slot h (bytes_of h k)) fate sct) v (allowed host slot h sct)
@@ -174,8 +163,8 @@ sent-passes life host slot h name c number f s b = record {
         let l = b.last d x e in
         let n : (base.more host h c f d).last.0 ≡ clock h = ap (λ (m : Millis). m.0) (base.more-last (fields f).tag (record { 0 = clock h }) (path_of host (submission host h c) f) (timeout_at host h d c f) (sends_of host h d)) in (
           base.more host h c f d,
-          when (is_called host name && nat_eq c d) (Some (base.more host h c f d)) (sends_of host h d) q,
+          if-true (is_called host name && nat_eq c d) (Some (base.more host h c f d)) (sends_of host h d) q,
           base.more-tag (fields f).tag (record { 0 = clock h }) (path_of host (submission host h c) f) (timeout_at host h d c f) x (sends_of host h d) e,
           omega arith,
         )
-    again d x e false q = (x, unless (is_called host name && nat_eq c d) (Some (base.more host h c f d)) (sends_of host h d) q ∙ e, refl, omega arith)
+    again d x e false q = (x, if-false (is_called host name && nat_eq c d) (Some (base.more host h c f d)) (sends_of host h d) q ∙ e, refl, omega arith)

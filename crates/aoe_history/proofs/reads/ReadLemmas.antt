@@ -29,7 +29,6 @@ use Rattle.aoe_history.specs.Slots.{known_after, marked_after}
 use Rattle.aoe_history.proofs.sectors.ArriveLemmas.{arrived-at}
 use Rattle.aoe_history.proofs.sectors.AtLemmas.{landed, quiet, sent-at, wr, At, IsFlying, IsUnderWay}
 use Rattle.aoe_history.proofs.hosts.BaseLemmas.{Keeps}
-use Rattle.aoe_history.proofs.hosts.CommandLemmas.{some-and}
 use Rattle.aoe_history.proofs.reads.DoneLemmas.{done-passes, flushed-at, plain-at, written-at, written-passes}
 use Rattle.aoe_history.proofs.reads.EndLemmas.{response-true, Truth}
 use Rattle.aoe_history.proofs.hosts.EntryLemmas.{named, sent-keeps, submitted-keeps}
@@ -42,6 +41,7 @@ use Rattle.aoe_history.proofs.hosts.SentLemmas.{host-there, request-header, spel
 use Rattle.aoe_history.proofs.hosts.SourceLemmas.{none-there, some-such}
 use Rattle.aoe_history.proofs.reads.ToldLemmas.{new-reply}
 use Rattle.aoe_history.proofs.reads.TrueLemmas.{all-pass, keeps-passes, one-more, AreTrue, IsReplyTo, SaysOf}
+use Rattle.aoe_history.proofs.LogicLemmas.{some-and}
 
 pub record Kept (s : Setup) (host : HostSetup) (slot : SlotSetup) (h : List Entry) (sct : ℕ) : Type 0 where
   pub at : At s.life host slot h sct

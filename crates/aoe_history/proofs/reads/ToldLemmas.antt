@@ -46,7 +46,7 @@ use Rattle.aoe_history.proofs.sectors.AtLemmas.{landed, At}
 use Rattle.aoe_history.proofs.replies.ConversationLemmas.{response-tells}
 use Rattle.aoe_history.proofs.FrameLemmas.{arrives, birth_of}
 use Rattle.aoe_history.proofs.hosts.HostLemmas.{holds-of}
-use Rattle.aoe_history.proofs.reads.PassLemmas.{allowed-unless, alone-is, when}
+use Rattle.aoe_history.proofs.reads.PassLemmas.{allowed-unless, alone-is}
 use Rattle.aoe_history.proofs.replies.ReplyLemmas.{reply-fits, reply-read, replying}
 use Rattle.aoe_history.proofs.sectors.SectorLemmas.{none-allowed}
 use Rattle.aoe_history.proofs.hosts.SentLemmas.{found, host-there, request-fits, request-header}
@@ -54,6 +54,7 @@ use Rattle.aoe_history.proofs.hosts.SourceLemmas.{has-head, is-long, port-holds,
 use Rattle.aoe_history.proofs.reads.TrueLemmas.{IsReplyTo, IsTrue, SaysOf}
 use Rattle.std.specs.Option.{option_map, option_map_or, option_and_then}
 use Rattle.aoe_net.specs.Network.{SentFrame}
+use Rattle.aoe_history.proofs.LogicLemmas.{if-true}
 
 -- the destination of a frame with this header
 destination-is : (h : Header) (args : List ℕ) → length h.dst.0 ≡ 6 → (fields (padded (header_bytes h ++ args))).dst ≡ h.dst
@@ -113,7 +114,7 @@ module _ (s : Setup) (host : HostSetup) (h : List Entry) (run : HasHost s host h
 
   clean : (f : List ℕ) → is_slot slot dev ≡ true → bytes_of h k ≡ f → Allows slot.station (state_after slot h) f (verdict_after slot h f) (replied e r) → e ≡ effect.Synced → marked_after slot n sct ≡ false
   clean f is bytes law q =
-      let after_it : slot_after slot n ≡ after_frame slot f (Replied e number r) (slot_after slot h) = when (is_slot slot dev) (after_frame slot (bytes_of h k) (Replied e number r) (slot_after slot h)) (slot_after slot h) is ∙ ap (λ z. after_frame slot z (Replied e number r) (slot_after slot h)) bytes in
+      let after_it : slot_after slot n ≡ after_frame slot f (Replied e number r) (slot_after slot h) = if-true (is_slot slot dev) (after_frame slot (bytes_of h k) (Replied e number r) (slot_after slot h)) (slot_after slot h) is ∙ ap (λ z. after_frame slot z (Replied e number r) (slot_after slot h)) bytes in
       ap (λ (z : Slot). marked_in z.state.sectors sct) after_it
       ∙ ap (λ z. marked_in (after slot.station f (verdict_after slot h f) (replied z r) (state_after slot h)).sectors sct) q
       ∙ synced-clean slot.station (state_after slot h) f r (verdict_after slot h f) sct (subst (λ z. Allows slot.station (state_after slot h) f (verdict_after slot h f) (replied z r)) q law)

@@ -17,6 +17,7 @@ use Rattle.aoe_history.proofs.hosts.BaseLemmas as base
 use Rattle.aoe_history.proofs.hosts.GoneLemmas.{AreGone}
 use Rattle.aoe_history.proofs.hosts.ReadyLemmas.{MayBeSent}
 use Rattle.aoe_history.proofs.sectors.SectorLemmas.{begins, weaken, Sector}
+use Rattle.aoe_history.proofs.LogicLemmas.{not-both, untrue}
 
 -- a command flies; it is under way
 abbrev pub IsFlying : HostSetup → List Entry → ℕ → Type 0
@@ -117,14 +118,6 @@ none-some : (o : Option Sending) → o ≡ None → is_some o ≡ false
 none-some None e = refl
 none-some (Some x) e = absurd (cc)
 
-clash-of : (b : Bool) → b ≡ true → b ≡ false → ⊥
-clash-of true p q = cc
-clash-of false p q = cc
-
-not-bool : (b : Bool) → (b ≡ true → ⊥) → b ≡ false
-not-bool true f = absurd (f refl)
-not-bool false f = refl
-
 own-first : (a b t : Bool) → a ≡ true → (a && not b) ≡ t → b ≡ not t
 own-first true true true e p = absurd (cc)
 own-first true true false e p = refl
@@ -146,18 +139,18 @@ module _ (life : ℕ) (host : HostSetup) (slot : SlotSetup) (h : List Entry) (s 
   -- a repeat is of a command that flew
   flew : was_sent host h c ≡ true → IsFlying host h c
   flew e = elim r.may [
-    | inl first ↦ absurd (clash-of (is_some (sends_of host h c)) (sym (sent-same host h c) ∙ e) (none-some (sends_of host h c) first.unsent))
+    | inl first ↦ absurd (not-both (is_some (sends_of host h c)) (sym (sent-same host h c) ∙ e) (none-some (sends_of host h c) first.unsent))
     | inr again ↦ (again.before, again.sent, again.flying)
   ]
 
   unsent-done : was_sent host h c ≡ false → was_done host h c ≡ false
-  unsent-done e = not-bool (was_done host h c) (λ d. clash-of (is_some (sends_of host h c)) (b.done c d) (sym (sent-same host h c) ∙ e))
+  unsent-done e = untrue (was_done host h c) (λ d. not-both (is_some (sends_of host h c)) (b.done c d) (sym (sent-same host h c) ∙ e))
 
   now-flying : was_sent host h c ≡ false → IsFlying host n c
   now-flying e = (base.more host h c f c, now-sent life host h name c number f mine r reads, unsent-done e)
 
   none-landed : was_sent host h c ≡ false → (d : ℕ) → d ≡ c → landed host slot h s d ≡ false
-  none-landed e d p = subst (λ k. landed host slot h s k ≡ false) (sym p) (not-bool (landed host slot h s c) (λ l. clash-of (is_some (sends_of host h c)) (landed-sent host slot h s c l) (sym (sent-same host h c) ∙ e)))
+  none-landed e d p = subst (λ k. landed host slot h s k ≡ false) (sym p) (untrue (landed host slot h s c) (λ l. not-both (is_some (sends_of host h c)) (landed-sent host slot h s c l) (sym (sent-same host h c) ∙ e)))
 
   one : was_sent host h c ≡ false → (d : ℕ) (v w : List ℕ) → IsFlying host n d → wr host slot h s c ≡ Some v → wr host slot h s d ≡ Some w → d ≡ c
   one e d v w fl wc wd =

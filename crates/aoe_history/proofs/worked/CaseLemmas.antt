@@ -26,6 +26,7 @@ use Rattle.aoe_history.specs.HostLaw.{IsGivenUp, IsResponse, IsSent, IsStale}
 use Rattle.aoe_history.specs.Setup.{is_called, HostSetup, Setup, SlotSetup}
 use Rattle.aoe_history.specs.ShelfLaw.{calls, stretch, IsStruckBy, KeepsArming}
 use Rattle.aoe_history.specs.Slots.{is_struck}
+use Rattle.aoe_history.proofs.LogicLemmas.{not-true}
 
 abbrev nobody : HostCommand
 nobody = submitted (record { 0 = 0 }) (record { 0 = 0 }) Flush
@@ -33,10 +34,6 @@ nobody = submitted (record { 0 = 0 }) (record { 0 = 0 }) Flush
 -- the command at a place
 abbrev pub nth : List HostCommand → ℕ → HostCommand
 nth cs k = slice_index_or cs k nobody
-
-not-true : (b : Bool) → not b ≡ true → b ≡ false
-not-true true e = absurd (cc)
-not-true false e = refl
 
 all-fail : {X : Type 0} (p : X → Bool) (xs : List X) → list_all (λ x. not (p x)) xs ≡ true → All (λ x. p x ≡ false) xs
 all-fail p xs e = λ k d lt. not-true (p (slice_index_or xs k d)) (AllPass-from_list_all (λ x. not (p x)) xs e k d lt)

@@ -1,9 +1,9 @@
-use Rattle.aoe_sim_hosts.proofs.TellLemmas.{by-ok}
 use Rattle.aoe_sim_hosts.proofs.TurnLemmas.{at-err, turn-full, turn-over, turn-sends, turn-tells}
 use Rattle.aoe_sim_hosts.proofs.host.NamedHost.turn.Goals as goal
+use Rattle.aoe_history.proofs.LogicLemmas.{on-ok}
 
 pub returns-in-Ok-clause-ok : goal.returns-in-Ok-clause-ok
-returns-in-Ok-clause-ok c = by-ok c.send_all.result c.send_all.ensures.ok (λ over s host got waits lawful.
+returns-in-Ok-clause-ok c = on-ok c.send_all.result c.send_all.ensures.ok (λ over s host got waits lawful.
     let tells = c.in-Ok.ensures.ok s host got waits lawful in
     let sent = c.send_all.ensures.some s host tells.settled tells.lawful in
     let rest = over s host tells.settled tells.lawful in

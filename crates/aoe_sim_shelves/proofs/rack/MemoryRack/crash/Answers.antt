@@ -8,8 +8,9 @@ use Rattle.aoe_history.specs.Run.{Recorded}
 use Rattle.aoe_sim_shelves.specs.Crash.{RestartEach}
 use Rattle.aoe_sim_shelves.specs.Rack.{AreTargets, MemoryRack, Stands}
 use Rattle.aoe_sim_shelves.proofs.FrontLemmas.{restart_targets, same_stations}
-use Rattle.aoe_sim_shelves.proofs.HistoryLemmas.{all_noted, on_err, on_ok, some_noted}
+use Rattle.aoe_sim_shelves.proofs.HistoryLemmas.{all_noted, some_noted}
 use Rattle.aoe_sim_shelves.proofs.rack.MemoryRack.crash.Goals as goal
+use Rattle.aoe_history.proofs.LogicLemmas.{on-err, on-ok}
 
 pub invariant_of-self : goal.invariant_of-self
 invariant_of-self c = record {
@@ -19,7 +20,7 @@ invariant_of-self c = record {
 }
 
 pub returns-clause-ok : goal.returns-clause-ok
-returns-clause-ok c = on_ok c.note_each.result c.note_each.ensures.ok (λ e s slots are k lawful.
+returns-clause-ok c = on-ok c.note_each.result c.note_each.ensures.ok (λ e s slots are k lawful.
     all_noted s slots c.args.run.now.entries c.args.how (record { shelf = c.self.inside.shelf; stops = c.self.inside.stops.items }) c.restart.new.shelf.targets are
     (subst (λ (x : MemoryRack). Stands slots c.args.run.now.entries x) (sym c.self.view_is) k) lawful c.restart.ensures.restarts
     (record { shelf = c.restart.new.shelf; stops = c.no_stops-self-inside.result.items }) refl c.count.result c.no_stops-self-inside.ensures
@@ -27,7 +28,7 @@ returns-clause-ok c = on_ok c.note_each.result c.note_each.ensures.ok (λ e s sl
     c.note_each.new.run.entries (ap (λ (r : Recorded). r.entries) e))
 
 pub returns-clause-err : goal.returns-clause-err
-returns-clause-err c = on_err c.note_each.result c.note_each.ensures.err (λ e s slots are k lawful.
+returns-clause-err c = on-err c.note_each.result c.note_each.ensures.err (λ e s slots are k lawful.
     some_noted s slots c.args.run.now.entries c.args.how (record { shelf = c.self.inside.shelf; stops = c.self.inside.stops.items }) c.restart.new.shelf.targets are
     (subst (λ (x : MemoryRack). Stands slots c.args.run.now.entries x) (sym c.self.view_is) k) lawful c.restart.ensures.restarts
     e.0 c.note_each.new.run.entries (ap (λ (r : Recorded). r.entries) e.1))
@@ -42,4 +43,4 @@ returns-clause-restarts c =
     subst (λ (x : MemoryRack). RestartEach c.args.how x.shelf.targets c.restart.new.shelf.targets) c.self.view_is c.restart.ensures.restarts
 
 pub returns-clause-found : goal.returns-clause-found
-returns-clause-found c = on_ok c.note_each.result c.note_each.ensures.ok (λ e. ap (λ (r : Recorded). r.entries) e)
+returns-clause-found c = on-ok c.note_each.result c.note_each.ensures.ok (λ e. ap (λ (r : Recorded). r.entries) e)

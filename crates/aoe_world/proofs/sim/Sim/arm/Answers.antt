@@ -1,4 +1,4 @@
-use Rattle.std.proofs.Common.{refl, ap, arith, length, sym, subst, ◌∙◌, ◌≡◌, Option, Some, None, IfSome, IsSomeAnd}
+use Rattle.std.proofs.Common.{refl, ap, arith, length, sym, subst, ◌∙◌, ◌≡◌, Option, Some, None, IfSome}
 use Rattle.std.specs.Prelude.{slice_get}
 use Rattle.std.proofs.lemmas.Option.{slice_get_read, slice_get_within, same_Some}
 use Rattle.aoe_history.specs.declared.entry.Entry.TheVariants.{Armed}
@@ -9,15 +9,13 @@ use Rattle.aoe_sim_shelves.specs.Rack.{MemoryRack}
 use Rattle.aoe_history.specs.Run.{with_entry, Recorded}
 use Rattle.aoe_world.proofs.ActLemmas.{none-came}
 use Rattle.aoe_world.proofs.ShelfActLemmas.{has-armed}
-use Rattle.aoe_world.proofs.TurnLemmas.{there-is}
 use Rattle.aoe_world.proofs.sim.Sim.arm.Goals as goal
+use Rattle.aoe_history.proofs.LogicLemmas.{some-and}
+use Rattle.aoe_initiator.proofs.ListLemmas.{get-there as there-is}
 
 each : {X : Type 0} (Q : X → Type 0) (o : Option X) → ((x : X) → o ≡ Some x → Q x) → IfSome o Q
 each Q None f = tt
 each Q (Some x) f = f x refl
-
-of-and : {X : Type 0} (P : X → Type 0) (o : Option X) (x : X) → o ≡ Some x → IsSomeAnd o P → P x
-of-and P o x e p = subst (λ z. IsSomeAnd z P) e p
 
 pub returns-in-Ok : goal.returns-in-Ok
 returns-in-Ok c s majors net k =
@@ -31,7 +29,7 @@ returns-in-Ok c s majors net k =
     each _ (slice_get old.shelves.items c.args.shelf) (λ x ex. each _ (slice_get x.shelf.targets c.args.slot) (λ t et.
     let is : x ≡ r = same_Some x r (sym ex ∙ there) in
     let et2 : slice_get r.shelf.targets c.args.slot ≡ Some t = subst (λ (z : MemoryRack). slice_get z.shelf.targets c.args.slot ≡ Some t) is et in
-    let run = of-and (λ u. c.arm.new.run ≡ with_entry old.run (Armed u.station.id c.args.which c.args.k c.args.mode)) (slice_get r.shelf.targets c.args.slot) t et2 c.in-Ok.ensures.ok in
+    let run = some-and (λ u. c.arm.new.run ≡ with_entry old.run (Armed u.station.id c.args.which c.args.k c.args.mode)) (slice_get r.shelf.targets c.args.slot) t et2 c.in-Ok.ensures.ok in
     let came = has-armed s majors c.args.shelf major.0 r c.arm.new.self old c.arm.new.run.entries net k major.1 there after c.in-Ok.ensures.major c.args.slot t c.args.which c.args.k c.args.mode
     serves et2 (ap (λ q. q.entries) run) in (
       None,
