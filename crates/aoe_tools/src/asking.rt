@@ -1,6 +1,6 @@
 //! The loop of every request: it is sent, and a response is waited for.
-ghost use Rattle.std.specs.Prelude.{◌≡◌, ◌≤◌, ◌+◌, IfOk, IfSome, OnErr, OnOk};
-ghost use Rattle.aoe_base.specs.Faults.{Rose};
+ghost use Rattle.std.specs.Prelude.{◌≡◌, ◌≤◌, IfOk, IfSome, OnErr, OnOk, is_err, true};
+ghost use Rattle.aoe_base.specs.Faults.{Blamed};
 ghost use Rattle.aoe_tools.specs.Asking.{asked_at, CanRead};
 ghost use Rattle.aoe_tools.specs.Listening.{Listens, TakesTurn};
 ghost use Rattle.aoe_io.specs.Link.{Added};
@@ -21,9 +21,7 @@ fn send_due<L: Link>(request: &Frame, passed: u32, link: &mut L) -> Result<(), F
     ensures given { L.given link.new ≡ L.given link.old }
     ensures turns { L.turns link.new ≡ L.turns link.old }
     ensures count { L.faults link.old ≤ L.faults link.new }
-    ensures cause { OnErr result (Rose (L.faults link.old) (L.faults link.new)) }
-    ensures no_fault { OnOk result (L.faults link.new ≡ L.faults link.old) }
-    ensures one_fault { L.faults link.new ≤ L.faults link.old + 1 }
+    ensures link { Blamed (is_err result ≡ true) (L.faults link.old) (L.faults link.new) }
 {
     if passed % TURNS_BETWEEN != 0 {
         return Ok(());
@@ -43,9 +41,7 @@ fn take_turn<L: Link>(
     ensures turn { TakesTurn result question.now request.now.items passed frame.new.items (L.turns link.old) (L.turns link.new) (L.given link.old) (L.given link.new) (L.taken link.old) (L.taken link.new) }
     ensures here { IfOk result (λ reply. IfSome reply (λ r. CanRead r.answer frame.new.items)) }
     ensures count { L.faults link.old ≤ L.faults link.new }
-    ensures cause { OnErr result (Rose (L.faults link.old) (L.faults link.new)) }
-    ensures no_fault { OnOk result (L.faults link.new ≡ L.faults link.old) }
-    ensures one_fault { L.faults link.new ≤ L.faults link.old + 1 }
+    ensures link { Blamed (is_err result ≡ true) (L.faults link.old) (L.faults link.new) }
 {
     match send_due(request, passed, link) {
         Ok(()) => {}
@@ -74,9 +70,7 @@ pub(crate) fn listen<L: Link>(
     ensures here { IfOk result (λ reply. IfSome reply (λ r. CanRead r.answer frame.new.items)) }
     ensures within { passed.new ≤ limit }
     ensures count { L.faults link.old ≤ L.faults link.new }
-    ensures cause { OnErr result (Rose (L.faults link.old) (L.faults link.new)) }
-    ensures no_fault { OnOk result (L.faults link.new ≡ L.faults link.old) }
-    ensures one_fault { L.faults link.new ≤ L.faults link.old + 1 }
+    ensures link { Blamed (is_err result ≡ true) (L.faults link.old) (L.faults link.new) }
 {
     'turns: while *passed < limit {
         match take_turn(question, request, *passed, link, frame) {

@@ -1,6 +1,6 @@
 //! The tools that copy sectors out of a device, and into it.
-ghost use Rattle.std.specs.Prelude.{◌≡◌, ◌≢◌, ◌≤◌, ◌<◌, ◌+◌, ◌*◌, ◌%◌, ◌^◌, ℕ, List, Err, IfErr, IfOk, Result, length, true};
-ghost use Rattle.aoe_base.specs.Faults.{Rose};
+ghost use Rattle.std.specs.Prelude.{◌≡◌, ◌≢◌, ◌≤◌, ◌<◌, ◌%◌, ◌^◌, Err, IfErr, IfOk, length, true};
+ghost use Rattle.aoe_base.specs.Faults.{Blamed};
 ghost use Rattle.aoe_base.specs.declared.address.Mac.{Mac};
 ghost use Rattle.aoe_base.specs.declared.address.TargetId.{TargetId};
 ghost use Rattle.aoe_tools.specs.declared.course.Course.{Course};
@@ -104,9 +104,7 @@ fn run_all<L: Link, C: Clock>(
     requires fit { (port : Mac) (id : TargetId) → IsFit (host_of port id device.now) course }
     ensures runs { MayRun result ask.now id device.now course (record { turns = L.turns link.old; given = L.given link.old; taken = L.taken link.old }) (record { turns = L.turns link.new; given = L.given link.new; taken = L.taken link.new }) (C.answers clock.old) (C.answers clock.new) }
     ensures count { L.faults link.old ≤ L.faults link.new }
-    ensures cause { result ≡ Err ToolRefusal.LinkFault → Rose (L.faults link.old) (L.faults link.new) }
-    ensures no_fault { result ≢ Err ToolRefusal.LinkFault → L.faults link.new ≡ L.faults link.old }
-    ensures one_fault { L.faults link.new ≤ L.faults link.old + 1 }
+    ensures link { Blamed (result ≡ Err ToolRefusal.LinkFault) (L.faults link.old) (L.faults link.new) }
 {
     let mut transfer = match Transfer::new(alloc, ask.port, id, device, course) {
         Ok(transfer) => transfer,
@@ -131,9 +129,7 @@ fn read_all<L: Link, C: Clock>(
     requires { count ≤ 32768 }
     ensures copies { Copies result ask.now id (read_of at count) (C.least clock.old) (record { turns = L.turns link.old; given = L.given link.old; taken = L.taken link.old }) (record { turns = L.turns link.new; given = L.given link.new; taken = L.taken link.new }) (C.answers clock.old) (C.answers clock.new) }
     ensures count { L.faults link.old ≤ L.faults link.new }
-    ensures cause { result ≡ Err ToolRefusal.LinkFault → Rose (L.faults link.old) (L.faults link.new) }
-    ensures no_fault { result ≢ Err ToolRefusal.LinkFault → L.faults link.new ≡ L.faults link.old }
-    ensures one_fault { L.faults link.new ≤ L.faults link.old + 1 }
+    ensures link { Blamed (result ≡ Err ToolRefusal.LinkFault) (L.faults link.old) (L.faults link.new) }
 {
     let first = clock.now();
     let device = match look_up(ask, id, first, link) {
@@ -160,9 +156,7 @@ fn write_all<L: Link, C: Clock>(
     requires few { length bytes ≤ 16777216 }
     ensures copies { Copies result ask.now id (write_of at bytes) (C.least clock.old) (record { turns = L.turns link.old; given = L.given link.old; taken = L.taken link.old }) (record { turns = L.turns link.new; given = L.given link.new; taken = L.taken link.new }) (C.answers clock.old) (C.answers clock.new) }
     ensures count { L.faults link.old ≤ L.faults link.new }
-    ensures cause { result ≡ Err ToolRefusal.LinkFault → Rose (L.faults link.old) (L.faults link.new) }
-    ensures no_fault { result ≢ Err ToolRefusal.LinkFault → L.faults link.new ≡ L.faults link.old }
-    ensures one_fault { L.faults link.new ≤ L.faults link.old + 1 }
+    ensures link { Blamed (result ≡ Err ToolRefusal.LinkFault) (L.faults link.old) (L.faults link.new) }
 {
     let first = clock.now();
     let device = match look_up(ask, id, first, link) {
@@ -195,13 +189,9 @@ pub fn get<L: Link, C: Clock, K: Sink>(
     ensures unread { result ≢ Err CopyRefusal.SourceFault }
     ensures unwritten { IfErr result (λ e. e ≢ CopyRefusal.SinkFault → sink.new ≡ sink.old) }
     ensures count { L.faults link.old ≤ L.faults link.new }
-    ensures cause { result ≡ Err (CopyRefusal.Tool ToolRefusal.LinkFault) → Rose (L.faults link.old) (L.faults link.new) }
-    ensures no_fault { result ≢ Err (CopyRefusal.Tool ToolRefusal.LinkFault) → L.faults link.new ≡ L.faults link.old }
-    ensures one_fault { L.faults link.new ≤ L.faults link.old + 1 }
+    ensures link { Blamed (result ≡ Err (CopyRefusal.Tool ToolRefusal.LinkFault)) (L.faults link.old) (L.faults link.new) }
     ensures sink_count { K.faults sink.old ≤ K.faults sink.new }
-    ensures sink_cause { result ≡ Err CopyRefusal.SinkFault → Rose (K.faults sink.old) (K.faults sink.new) }
-    ensures sink_no_fault { result ≢ Err CopyRefusal.SinkFault → K.faults sink.new ≡ K.faults sink.old }
-    ensures sink_one_fault { K.faults sink.new ≤ K.faults sink.old + 1 }
+    ensures sink { Blamed (result ≡ Err CopyRefusal.SinkFault) (K.faults sink.old) (K.faults sink.new) }
 {
     let course = match read_all(alloc, ask, id, at, count, link, clock) {
         Ok(course) => course,
@@ -230,13 +220,9 @@ pub fn put<L: Link, C: Clock, S: Source>(
         (S.left source.old) (S.left source.new) }
     ensures unwritten { result ≢ Err CopyRefusal.SinkFault }
     ensures count { L.faults link.old ≤ L.faults link.new }
-    ensures cause { result ≡ Err (CopyRefusal.Tool ToolRefusal.LinkFault) → Rose (L.faults link.old) (L.faults link.new) }
-    ensures no_fault { result ≢ Err (CopyRefusal.Tool ToolRefusal.LinkFault) → L.faults link.new ≡ L.faults link.old }
-    ensures one_fault { L.faults link.new ≤ L.faults link.old + 1 }
+    ensures link { Blamed (result ≡ Err (CopyRefusal.Tool ToolRefusal.LinkFault)) (L.faults link.old) (L.faults link.new) }
     ensures source_count { S.faults source.old ≤ S.faults source.new }
-    ensures source_cause { result ≡ Err CopyRefusal.SourceFault → Rose (S.faults source.old) (S.faults source.new) }
-    ensures source_no_fault { result ≢ Err CopyRefusal.SourceFault → S.faults source.new ≡ S.faults source.old }
-    ensures source_one_fault { S.faults source.new ≤ S.faults source.old + 1 }
+    ensures source { Blamed (result ≡ Err CopyRefusal.SourceFault) (S.faults source.old) (S.faults source.new) }
 {
     let sectors = match read_sectors(alloc, source) {
         Ok(sectors) => sectors,

@@ -1,6 +1,6 @@
 //! The sectors that a source gives up to its end.
-ghost use Rattle.std.specs.Prelude.{◌≡◌, ◌≢◌, ◌≤◌, ◌+◌, Err};
-ghost use Rattle.aoe_base.specs.Faults.{Rose};
+ghost use Rattle.std.specs.Prelude.{◌≡◌, ◌≤◌, Err};
+ghost use Rattle.aoe_base.specs.Faults.{Blamed};
 ghost use Rattle.aoe_tools.specs.TransferInput.{Inputs};
 
 use crate::end::{CopyRefusal, ToolRefusal};
@@ -18,9 +18,7 @@ const SECTOR_LEN: usize = 512;
 pub(crate) fn read_sectors<S: Source>(alloc: Global, source: &mut S) -> Result<Blob, CopyRefusal>
     ensures inputs { Inputs result (S.left source.old) (S.left source.new) }
     ensures count { S.faults source.old ≤ S.faults source.new }
-    ensures cause { result ≡ Err CopyRefusal.SourceFault → Rose (S.faults source.old) (S.faults source.new) }
-    ensures no_fault { result ≢ Err CopyRefusal.SourceFault → S.faults source.new ≡ S.faults source.old }
-    ensures one_fault { S.faults source.new ≤ S.faults source.old + 1 }
+    ensures source { Blamed (result ≡ Err CopyRefusal.SourceFault) (S.faults source.old) (S.faults source.new) }
 {
     let input = match read_up_to(alloc, source, LONGEST_INPUT) {
         Ok(input) => input,

@@ -1,6 +1,6 @@
 //! The tools that ask one device for a list, or change it.
-ghost use Rattle.std.specs.Prelude.{◌≡◌, ◌≢◌, ◌≤◌, ◌+◌, Err, length, option_copied};
-ghost use Rattle.aoe_base.specs.Faults.{Rose};
+ghost use Rattle.std.specs.Prelude.{◌≡◌, ◌≤◌, Err, length, option_copied};
+ghost use Rattle.aoe_base.specs.Faults.{Blamed};
 ghost use Rattle.aoe_initiator.specs.Response.{CanFill};
 ghost use Rattle.aoe_tools.specs.One.{AsksOne, args_of, edits_by, mask_refusal, refusal_of, told_len, unless_refused};
 ghost use Rattle.aoe_tools.specs.Runs.{RunsConfig, RunsMasks, RunsReserves, told};
@@ -76,9 +76,7 @@ fn ask_one<L: Link>(
 ) -> Result<Args, ToolRefusal>
     ensures run { AsksOne result question.now request.now.items turns (L.turns link.old) (L.turns link.new) (L.given link.old) (L.given link.new) (L.taken link.old) (L.taken link.new) }
     ensures count { L.faults link.old ≤ L.faults link.new }
-    ensures cause { result ≡ Err ToolRefusal.LinkFault → Rose (L.faults link.old) (L.faults link.new) }
-    ensures no_fault { result ≢ Err ToolRefusal.LinkFault → L.faults link.new ≡ L.faults link.old }
-    ensures one_fault { L.faults link.new ≤ L.faults link.old + 1 }
+    ensures link { Blamed (result ≡ Err ToolRefusal.LinkFault) (L.faults link.old) (L.faults link.new) }
 {
     let mut frame = Frame::new();
     let mut passed = 0;
@@ -104,9 +102,7 @@ pub fn cfg<L: Link, C: Clock>(
     ensures run { RunsConfig result ccmd text.now id ask.now
         (told C.least C.answers L.turns L.given L.taken clock.old clock.new link.old link.new) }
     ensures count { L.faults link.old ≤ L.faults link.new }
-    ensures cause { result ≡ Err ToolRefusal.LinkFault → Rose (L.faults link.old) (L.faults link.new) }
-    ensures no_fault { result ≢ Err ToolRefusal.LinkFault → L.faults link.new ≡ L.faults link.old }
-    ensures one_fault { L.faults link.new ≤ L.faults link.old + 1 }
+    ensures link { Blamed (result ≡ Err ToolRefusal.LinkFault) (L.faults link.old) (L.faults link.new) }
 {
     let tag = tag_of(clock.now(), 0);
     let question = Question {
@@ -132,9 +128,7 @@ pub fn mask<L: Link, C: Clock>(
     ensures run { RunsMasks result (option_copied dirs.entry) id ask.now
         (told C.least C.answers L.turns L.given L.taken clock.old clock.new link.old link.new) }
     ensures count { L.faults link.old ≤ L.faults link.new }
-    ensures cause { result ≡ Err ToolRefusal.LinkFault → Rose (L.faults link.old) (L.faults link.new) }
-    ensures no_fault { result ≢ Err ToolRefusal.LinkFault → L.faults link.new ≡ L.faults link.old }
-    ensures one_fault { L.faults link.new ≤ L.faults link.old + 1 }
+    ensures link { Blamed (result ≡ Err ToolRefusal.LinkFault) (L.faults link.old) (L.faults link.new) }
 {
     let tag = tag_of(clock.now(), 0);
     let question = Question {
@@ -165,9 +159,7 @@ pub fn reserve<L: Link, C: Clock>(
     ensures run { RunsReserves result rcmd list.now id ask.now
         (told C.least C.answers L.turns L.given L.taken clock.old clock.new link.old link.new) }
     ensures count { L.faults link.old ≤ L.faults link.new }
-    ensures cause { result ≡ Err ToolRefusal.LinkFault → Rose (L.faults link.old) (L.faults link.new) }
-    ensures no_fault { result ≢ Err ToolRefusal.LinkFault → L.faults link.new ≡ L.faults link.old }
-    ensures one_fault { L.faults link.new ≤ L.faults link.old + 1 }
+    ensures link { Blamed (result ≡ Err ToolRefusal.LinkFault) (L.faults link.old) (L.faults link.new) }
 {
     let tag = tag_of(clock.now(), 0);
     let question = Question {

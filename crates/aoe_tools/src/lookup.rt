@@ -1,6 +1,6 @@
 //! The device that a transfer goes to: where it is, and how long it is.
-ghost use Rattle.std.specs.Prelude.{◌≡◌, ◌≢◌, ◌≤◌, ◌<◌, ◌+◌, ◌^◌, drop, Err, IfErr, IfOk, None, Ok, Result};
-ghost use Rattle.aoe_base.specs.Faults.{Rose};
+ghost use Rattle.std.specs.Prelude.{◌≡◌, ◌≢◌, ◌≤◌, ◌<◌, ◌^◌, Err, IfErr, IfOk, None, Result};
+ghost use Rattle.aoe_base.specs.Faults.{Blamed};
 ghost use Rattle.aoe_initiator.specs.Response.{CanFill};
 ghost use Rattle.aoe_tools.specs.Asking.{CanRead, Response};
 ghost use Rattle.aoe_tools.specs.One.{refusal_of};
@@ -54,9 +54,7 @@ fn ask<L: Link>(
     ensures asks { Asks (with_args frame.new.items result) question.now request.now.items turns (record { turns = L.turns link.old; given = L.given link.old; taken = L.taken link.old }) (record { turns = L.turns link.new; given = L.given link.new; taken = L.taken link.new }) }
     ensures here { IfOk result (λ r. CanRead r.answer frame.new.items) }
     ensures count { L.faults link.old ≤ L.faults link.new }
-    ensures cause { result ≡ Err ToolRefusal.LinkFault → Rose (L.faults link.old) (L.faults link.new) }
-    ensures no_fault { result ≢ Err ToolRefusal.LinkFault → L.faults link.new ≡ L.faults link.old }
-    ensures one_fault { L.faults link.new ≤ L.faults link.old + 1 }
+    ensures link { Blamed (result ≡ Err ToolRefusal.LinkFault) (L.faults link.old) (L.faults link.new) }
 {
     let mut passed = 0;
     match listen(question, request, turns, &mut passed, link, frame) {
@@ -109,9 +107,7 @@ fn find_port<L: Link>(
         × (result ≡ port_in r) }
     ensures max { IfOk result (λ found. (0 < found.1) × (found.1 ≤ 2)) }
     ensures count { L.faults link.old ≤ L.faults link.new }
-    ensures cause { result ≡ Err ToolRefusal.LinkFault → Rose (L.faults link.old) (L.faults link.new) }
-    ensures no_fault { result ≢ Err ToolRefusal.LinkFault → L.faults link.new ≡ L.faults link.old }
-    ensures one_fault { L.faults link.new ≤ L.faults link.old + 1 }
+    ensures link { Blamed (result ≡ Err ToolRefusal.LinkFault) (L.faults link.old) (L.faults link.new) }
 {
     let question = Question {
         subject: Subject::Config,
@@ -140,9 +136,7 @@ fn find_total<L: Link>(
         × (result ≡ total_in r) }
     ensures bound { IfOk result (λ total. total < 2 ^ 48) }
     ensures count { L.faults link.old ≤ L.faults link.new }
-    ensures cause { result ≡ Err ToolRefusal.LinkFault → Rose (L.faults link.old) (L.faults link.new) }
-    ensures no_fault { result ≢ Err ToolRefusal.LinkFault → L.faults link.new ≡ L.faults link.old }
-    ensures one_fault { L.faults link.new ≤ L.faults link.old + 1 }
+    ensures link { Blamed (result ≡ Err ToolRefusal.LinkFault) (L.faults link.old) (L.faults link.new) }
 {
     let question = Question {
         subject: Subject::Page,
@@ -177,9 +171,7 @@ pub(crate) fn look_up<L: Link>(
     ensures max { IfOk result (λ d. (0 < d.max) × (d.max ≤ 2)) }
     ensures total { IfOk result (λ d. d.total < 2 ^ 48) }
     ensures count { L.faults link.old ≤ L.faults link.new }
-    ensures cause { result ≡ Err ToolRefusal.LinkFault → Rose (L.faults link.old) (L.faults link.new) }
-    ensures no_fault { result ≢ Err ToolRefusal.LinkFault → L.faults link.new ≡ L.faults link.old }
-    ensures one_fault { L.faults link.new ≤ L.faults link.old + 1 }
+    ensures link { Blamed (result ≡ Err ToolRefusal.LinkFault) (L.faults link.old) (L.faults link.new) }
 {
     let (port, max) = match find_port(ask_by, id, first, link) {
         Ok(found) => found,

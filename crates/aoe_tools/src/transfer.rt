@@ -1,6 +1,6 @@
 //! The host of a transfer, turn by turn.
-ghost use Rattle.std.specs.Prelude.{◌≡◌, ◌≢◌, ◌<◌, ◌≤◌, ◌+◌, ◌^◌, ◌∷◌, ℕ, List, [], Ok, Err, IfOk, IfNone, OnErr, OnOk, false, length, true};
-ghost use Rattle.aoe_base.specs.Faults.{Rose};
+ghost use Rattle.std.specs.Prelude.{◌≡◌, ◌≢◌, ◌<◌, ◌≤◌, ◌^◌, ◌∷◌, List, [], Ok, Err, IfOk, IfNone, OnErr, OnOk, false, true, is_err};
+ghost use Rattle.aoe_base.specs.Faults.{Blamed};
 ghost use Rattle.aoe_initiator.specs.Host.{new_device, new_host, with_device, Host, IsSame, Matches};
 ghost use Rattle.aoe_initiator.specs.HostLog.{Event};
 ghost use Rattle.aoe_tools.specs.declared.course.Course.{Course};
@@ -151,9 +151,7 @@ impl Transfer {
         ensures given { L.given link.new ≡ L.given link.old }
         ensures turns { L.turns link.new ≡ L.turns link.old }
         ensures count { L.faults link.old ≤ L.faults link.new }
-        ensures cause { OnErr result (Rose (L.faults link.old) (L.faults link.new)) }
-        ensures no_fault { OnOk result (L.faults link.new ≡ L.faults link.old) }
-        ensures one_fault { L.faults link.new ≤ L.faults link.old + 1 }
+        ensures link { Blamed (is_err result ≡ true) (L.faults link.old) (L.faults link.new) }
     {
         for _ in 0..MOST_COMMANDS {
             if self.host.pull(frame).is_none() {
@@ -174,9 +172,7 @@ impl Transfer {
         ensures taken { L.taken link.new ≡ L.taken link.old }
         ensures err { OnErr result (IsUnused (L.turns link.old) (L.turns link.new) (L.given link.old) (L.given link.new)) }
         ensures count { L.faults link.old ≤ L.faults link.new }
-        ensures cause { OnErr result (Rose (L.faults link.old) (L.faults link.new)) }
-        ensures no_fault { OnOk result (L.faults link.new ≡ L.faults link.old) }
-        ensures one_fault { L.faults link.new ≤ L.faults link.old + 1 }
+        ensures link { Blamed (is_err result ≡ true) (L.faults link.old) (L.faults link.new) }
     {
         match link.recv(frame) {
             Ok(Got::Frame) => match self.host.receive(frame.as_slice()) {
@@ -196,9 +192,7 @@ impl Transfer {
         ensures exchanges { (base : Host) (log : List Event) → IsSame base self.old.host → Matches log self.old.host
             → Exchanges result base log self.old.course self.new.course self.new.host (L.turns link.old) (L.turns link.new) (L.given link.old) (L.given link.new) (L.taken link.old) (L.taken link.new) }
         ensures count { L.faults link.old ≤ L.faults link.new }
-        ensures cause { result ≡ Err ToolRefusal.LinkFault → Rose (L.faults link.old) (L.faults link.new) }
-        ensures no_fault { result ≢ Err ToolRefusal.LinkFault → L.faults link.new ≡ L.faults link.old }
-        ensures one_fault { L.faults link.new ≤ L.faults link.old + 1 }
+        ensures link { Blamed (result ≡ Err ToolRefusal.LinkFault) (L.faults link.old) (L.faults link.new) }
     {
         match self.submit_all() {
             Ok(()) => {}
@@ -227,9 +221,7 @@ impl Transfer {
         ensures turn { (base : Host) (start : Course) (rounds : List Round) → Running base turns start rounds self.old.host self.old.course → quiet_turns rounds < turns
             → Turns result base turns start rounds now self.new.host self.old.course self.new.course (L.turns link.old) (L.turns link.new) (L.given link.old) (L.given link.new) (L.taken link.old) (L.taken link.new) }
         ensures count { L.faults link.old ≤ L.faults link.new }
-        ensures cause { result ≡ Err ToolRefusal.LinkFault → Rose (L.faults link.old) (L.faults link.new) }
-        ensures no_fault { result ≢ Err ToolRefusal.LinkFault → L.faults link.new ≡ L.faults link.old }
-        ensures one_fault { L.faults link.new ≤ L.faults link.old + 1 }
+        ensures link { Blamed (result ≡ Err ToolRefusal.LinkFault) (L.faults link.old) (L.faults link.new) }
     {
         ticket_law();
         self.host.advance(Millis(now));
@@ -252,9 +244,7 @@ impl Transfer {
         requires waiting { self.old.host.waiting ≡ [] }
         ensures run { Runs result self.old.host turns self.old.course self.new.course (L.turns link.old) (L.turns link.new) (L.given link.old) (L.given link.new) (L.taken link.old) (L.taken link.new) (C.answers clock.old) (C.answers clock.new) }
         ensures count { L.faults link.old ≤ L.faults link.new }
-        ensures cause { result ≡ Err ToolRefusal.LinkFault → Rose (L.faults link.old) (L.faults link.new) }
-        ensures no_fault { result ≢ Err ToolRefusal.LinkFault → L.faults link.new ≡ L.faults link.old }
-        ensures one_fault { L.faults link.new ≤ L.faults link.old + 1 }
+        ensures link { Blamed (result ≡ Err ToolRefusal.LinkFault) (L.faults link.old) (L.faults link.new) }
     {
         let mut frame = Frame::new();
         let mut quiet = 0;

@@ -1,6 +1,6 @@
 //! The tool that finds the devices and asks them for their pages.
-ghost use Rattle.std.specs.Prelude.{◌≡◌, ◌≢◌, ◌≤◌, ◌<◌, ◌+◌, ◌-◌, ◌^◌, ℕ, Err, OnOk, OnErr, length};
-ghost use Rattle.aoe_base.specs.Faults.{Rose};
+ghost use Rattle.std.specs.Prelude.{◌≡◌, ◌≤◌, ◌<◌, ◌-◌, ◌^◌, Err, length, is_err, true};
+ghost use Rattle.aoe_base.specs.Faults.{Blamed};
 ghost use Rattle.aoe_initiator.specs.Response.{CanFill};
 ghost use Rattle.aoe_initiator.specs.declared.op.Op.TheVariants as op;
 ghost use Rattle.aoe_initiator.specs.Request.{request};
@@ -92,9 +92,7 @@ fn ask_page<L: Link>(
 ) -> Result<Known, Failed>
     ensures run { AsksPage result question.now request.now.items turns (L.turns link.old) (L.turns link.new) (L.given link.old) (L.given link.new) (L.taken link.old) (L.taken link.new) }
     ensures count { L.faults link.old ≤ L.faults link.new }
-    ensures cause { OnErr result (Rose (L.faults link.old) (L.faults link.new)) }
-    ensures no_fault { OnOk result (L.faults link.new ≡ L.faults link.old) }
-    ensures one_fault { L.faults link.new ≤ L.faults link.old + 1 }
+    ensures link { Blamed (is_err result ≡ true) (L.faults link.old) (L.faults link.new) }
 {
     let mut frame = Frame::new();
     let mut passed = 0;
@@ -120,9 +118,7 @@ fn visit<L: Link>(
     requires number { i < 2 ^ 64 - 1 }
     ensures run { VisitsOne result first ask.now.port ask.now.turns i found.old found.new (L.turns link.old) (L.turns link.new) (L.given link.old) (L.given link.new) (L.taken link.old) (L.taken link.new) }
     ensures count { L.faults link.old ≤ L.faults link.new }
-    ensures cause { OnErr result (Rose (L.faults link.old) (L.faults link.new)) }
-    ensures no_fault { OnOk result (L.faults link.new ≡ L.faults link.old) }
-    ensures one_fault { L.faults link.new ≤ L.faults link.old + 1 }
+    ensures link { Blamed (is_err result ≡ true) (L.faults link.old) (L.faults link.new) }
 {
     let seen = found.device(i);
     let tag = tag_of(first, i as u64 + 1);
@@ -147,9 +143,7 @@ fn visit<L: Link>(
 fn visit_all<L: Link>(first: u64, ask: &Ask, found: &mut Found, link: &mut L) -> Result<(), Failed>
     ensures run { VisitsAll result first ask.now.port ask.now.turns found.old found.new (L.turns link.old) (L.turns link.new) (L.given link.old) (L.given link.new) (L.taken link.old) (L.taken link.new) }
     ensures count { L.faults link.old ≤ L.faults link.new }
-    ensures cause { OnErr result (Rose (L.faults link.old) (L.faults link.new)) }
-    ensures no_fault { OnOk result (L.faults link.new ≡ L.faults link.old) }
-    ensures one_fault { L.faults link.new ≤ L.faults link.old + 1 }
+    ensures link { Blamed (is_err result ≡ true) (L.faults link.old) (L.faults link.new) }
 {
     'devices: for i in 0..found.count() {
         match visit(first, i, ask, found, link) {
@@ -171,9 +165,7 @@ pub fn stat<L: Link, C: Clock>(
     ensures run { RunsStat result ask.now
         (told C.least C.answers L.turns L.given L.taken clock.old clock.new link.old link.new) }
     ensures count { L.faults link.old ≤ L.faults link.new }
-    ensures cause { result ≡ Err ToolRefusal.LinkFault → Rose (L.faults link.old) (L.faults link.new) }
-    ensures no_fault { result ≢ Err ToolRefusal.LinkFault → L.faults link.new ≡ L.faults link.old }
-    ensures one_fault { L.faults link.new ≤ L.faults link.old + 1 }
+    ensures link { Blamed (result ≡ Err ToolRefusal.LinkFault) (L.faults link.old) (L.faults link.new) }
 {
     let first = clock.now();
     let mut found = match find(alloc, first, ask, link) {

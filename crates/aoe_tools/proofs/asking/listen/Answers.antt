@@ -10,7 +10,7 @@ turns-preserved g c =
     let P : Option Reply → Type 0 = λ o. TakesTurn (Ok o) c.args.question.now c.args.request.now.items c.turns.passed c.take_turn.new.frame.items (g.L.Link.turns c.turns.link) (g.L.Link.turns c.take_turn.new.link) (g.L.Link.given c.turns.link) (g.L.Link.given c.take_turn.new.link) (g.L.Link.taken c.turns.link) (g.L.Link.taken c.take_turn.new.link) in (
       goes-on _ _ _ _ _ _ _ _ _ _ _ _ _ c.turns.invariant.0 c.take_turn.new.frame.items (subst P c.in-Ok-None.field-0-is c.in-Ok-None.ensures.turn),
       omega (arith, c.turns-test.true),
-      c.in-Ok-None.ensures.no_fault ∙ c.turns.invariant.2,
+      c.in-Ok-None.ensures.link.no_fault (λ e. absurd cc) ∙ c.turns.invariant.2,
     )
 
 pub returns-in-Ok-Some-clause-listens : goal.returns-in-Ok-Some-clause-listens

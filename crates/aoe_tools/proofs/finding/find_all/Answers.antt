@@ -16,7 +16,7 @@ responses-preserved g c =
     let P : Option Reply → Type 0 = λ o. Listens (Ok o) c.args.question.now c.args.request.now.items c.args.turns c.responses.passed c.listen.new.passed c.listen.new.frame.items (g.L.Link.turns c.responses.link) (g.L.Link.turns c.listen.new.link) (g.L.Link.given c.responses.link) (g.L.Link.given c.listen.new.link) (g.L.Link.taken c.responses.link) (g.L.Link.taken c.listen.new.link) in (
       goes-on _ _ _ _ _ _ _ _ _ _ _ c.responses.invariant.0 _ _ _ _ _ c.in-Ok-Some.reply c.note.new.self c.in-Ok.ensures.noted (subst P c.in-Ok-Some.field-0-is c.in-Ok-Some.ensures.listens),
       c.listen.ensures.within,
-      c.in-Ok-Some.ensures.no_fault ∙ c.responses.invariant.2,
+      c.in-Ok-Some.ensures.link.no_fault (λ e. absurd cc) ∙ c.responses.invariant.2,
     )
 
 pub returns-in-Err-clause-run : goal.returns-in-Err-clause-run

@@ -33,7 +33,7 @@ turns-preserved-in-Ok-Answered g c =
     let P : Passed → Type 0 = λ x. Turns (Ok x) c.args.self.now.host c.args.turns c.args.self.now.course c.turns.invariant.so.rounds c.now.result c.turn.new.self.host c.turns.self.course c.turn.new.self.course (g.L.Link.turns c.turns.link) (g.L.Link.turns c.turn.new.link) (g.L.Link.given c.turns.link) (g.L.Link.given c.turn.new.link) (g.L.Link.taken c.turns.link) (g.L.Link.taken c.turn.new.link) in
     let t = subst P c.in-Ok-Answered.field-0-is (c.in-Ok-Answered.ensures.turn c.args.self.now.host c.args.self.now.course s.rounds s.running (below-turns c.args.turns c.turns.quiet c.args.self.now.host c.turns.self.host c.args.self.now.course c.turns.self.course _ _ _ _ _ _ _ _ c.turns.invariant.so (omega (arith, c.turns-test.true)) c.now.result (g.C.Clock.answers c.now.new.self) c.now.ensures.told c.turn.new.self.host c.turn.new.self.course (g.L.Link.turns c.turn.new.link) (g.L.Link.given c.turn.new.link) (g.L.Link.taken c.turn.new.link))) in
     let more = goes-on c.args.turns c.turns.quiet c.args.self.now.host c.turns.self.host c.args.self.now.course c.turns.self.course _ _ _ _ _ _ _ _ c.turns.invariant.so (omega (arith, c.turns-test.true)) c.now.result (g.C.Clock.answers c.now.new.self) c.now.ensures.told c.turn.new.self.host c.turn.new.self.course (g.L.Link.turns c.turn.new.link) (g.L.Link.given c.turn.new.link) (g.L.Link.taken c.turn.new.link) (Some t.0) 0 refl t.1 in
-    record { so = more.0; within = omega (arith, c.turns-test.true); faults = c.in-Ok-Answered.ensures.no_fault (λ e. absurd cc) ∙ c.turns.invariant.faults }
+    record { so = more.0; within = omega (arith, c.turns-test.true); faults = c.in-Ok-Answered.ensures.link.no_fault (λ e. absurd cc) ∙ c.turns.invariant.faults }
 
 pub turns-smaller : goal.turns-smaller
 turns-smaller g c =
@@ -49,7 +49,7 @@ turns-preserved g c =
     let P : Passed → Type 0 = λ x. Turns (Ok x) c.args.self.now.host c.args.turns c.args.self.now.course c.turns.invariant.so.rounds c.now.result c.turn.new.self.host c.turns.self.course c.turn.new.self.course (g.L.Link.turns c.turns.link) (g.L.Link.turns c.turn.new.link) (g.L.Link.given c.turns.link) (g.L.Link.given c.turn.new.link) (g.L.Link.taken c.turns.link) (g.L.Link.taken c.turn.new.link) in
     let t = subst P c.in-Ok-Quiet.field-0-is (c.in-Ok-Quiet.ensures.turn c.args.self.now.host c.args.self.now.course s.rounds s.running (below-turns c.args.turns c.turns.quiet c.args.self.now.host c.turns.self.host c.args.self.now.course c.turns.self.course _ _ _ _ _ _ _ _ c.turns.invariant.so (omega (arith, c.turns-test.true)) c.now.result (g.C.Clock.answers c.now.new.self) c.now.ensures.told c.turn.new.self.host c.turn.new.self.course (g.L.Link.turns c.turn.new.link) (g.L.Link.given c.turn.new.link) (g.L.Link.taken c.turn.new.link))) in
     let more = goes-on c.args.turns c.turns.quiet c.args.self.now.host c.turns.self.host c.args.self.now.course c.turns.self.course _ _ _ _ _ _ _ _ c.turns.invariant.so (omega (arith, c.turns-test.true)) c.now.result (g.C.Clock.answers c.now.new.self) c.now.ensures.told c.turn.new.self.host c.turn.new.self.course (g.L.Link.turns c.turn.new.link) (g.L.Link.given c.turn.new.link) (g.L.Link.taken c.turn.new.link) None (c.turns.quiet + 1) refl t in
-    record { so = more.0; within = omega (arith, c.turns-test.true); faults = c.in-Ok-Quiet.ensures.no_fault (λ e. absurd cc) ∙ c.turns.invariant.faults }
+    record { so = more.0; within = omega (arith, c.turns-test.true); faults = c.in-Ok-Quiet.ensures.link.no_fault (λ e. absurd cc) ∙ c.turns.invariant.faults }
 
 pub returns-in-Err-clause-run : goal.returns-in-Err-clause-run
 returns-in-Err-clause-run g c =

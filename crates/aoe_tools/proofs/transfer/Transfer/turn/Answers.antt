@@ -1,4 +1,4 @@
-use Rattle.std.proofs.Common.{◌≡◌, Some, sym, ap, refl, subst, ◌∙◌}
+use Rattle.std.proofs.Common.{◌≡◌, Some, sym, ap, refl, subst, ◌∙◌, arith}
 use Rattle.std.specs.Prelude.{Ok, Err}
 use Rattle.aoe_tools.proofs.TurnLemmas.{by-exchange, ends-turn, fit-turn, not-link, of-outcome, over-turn, refused-turn, Advanced}
 use Rattle.aoe_tools.specs.TransferCourse.{after_dones, end_by, End}
@@ -41,8 +41,11 @@ returns-in-Some-Err-clause-turn g c = λ base start rounds run below.
     refused-turn c.in-Some-Err.refusal base c.take_all.new.self.host c.args.turns start c.args.self.now.course c.take_all.new.self.course rounds c.args.now _ _ _ (of-outcome c.args.turns c.args.self.now.course c.advance.new.self.waiting c.in-Some-Err.refusal (sym e))
     (ends-turn c.args.self.now.host c.advance.new.self c.take_all.new.self.host c.args.now a.gives_up.0 adv c.take_all.ensures.host base c.args.turns start rounds c.args.self.now.course run c.take_all.ensures.matches (Err c.in-Some-Err.refusal) e)
 
-pub returns-in-Some-Err-clause-cause : goal.returns-in-Some-Err-clause-cause
-returns-in-Some-Err-clause-cause g c = λ is below.
+pub returns-in-Some-Err-clause-link : goal.returns-in-Some-Err-clause-link
+returns-in-Some-Err-clause-link g c =
     let e : Some (Err c.in-Some-Err.refusal) ≡ end_by c.args.turns c.args.self.now.course c.advance.new.self.waiting = sym (ap Some c.in-Some-Err.field-0-is) ∙ c.in-Some-Err.ensures.end in
-    let same : c.in-Some-Err.refusal ≡ tool.LinkFault = cc in
-    absurd (not-link c.args.turns c.in-Some-Err.refusal (of-outcome c.args.turns c.args.self.now.course c.advance.new.self.waiting c.in-Some-Err.refusal (sym e)) same)
+    record {
+      cause = λ is below. let same : c.in-Some-Err.refusal ≡ tool.LinkFault = cc in absurd (not-link c.args.turns c.in-Some-Err.refusal (of-outcome c.args.turns c.args.self.now.course c.advance.new.self.waiting c.in-Some-Err.refusal (sym e)) same);
+      no_fault = λ untold. refl;
+      one_fault = omega arith;
+    }
