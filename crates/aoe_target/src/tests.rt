@@ -63,8 +63,9 @@ fn request(station: &[u8; 6], version: u8, command: u8, args: &[u8]) -> Frame {
     joined(&[&PORT, station, &middle, args])
 }
 
-/// The reply to it. `flags` is byte 14, and `error` byte 15.
-fn reply(station: &[u8; 6], flags: u8, error: u8, command: u8, args: &[u8]) -> Frame {
+/// The reply to it. `error` is byte 15.
+fn reply(station: &[u8; 6], error: u8, command: u8, args: &[u8]) -> Frame {
+    let flags = if error == 0 { 0x18 } else { 0x1c };
     let middle = [0x88, 0xa2, flags, error, 0, 1, 0, command, 0, 0, 0, 7];
     let mut frame = joined(&[station, &PORT, &middle, args]);
     pad(&mut frame);
@@ -83,48 +84,66 @@ fn exchange<S: Store, D: Disk>(
     (heard, out)
 }
 
+/// Whether a request of version 1 has this effect, and the reply this error and these arguments.
+fn answers<S: Store, D: Disk>(
+    target: &mut Target<S, D>,
+    station: &[u8; 6],
+    command: u8,
+    args: &[u8],
+    effect: Effect,
+    error: u8,
+    told: &[u8],
+) -> bool {
+    let (heard, out) = exchange(target, station, command, args);
+    heard == Heard::Replied { effect }
+        && out.as_slice() == reply(station, error, command, told).as_slice()
+}
+
 #[test]
 fn the_last_sector_and_behind_it(rt: HostRuntime) -> Result<(), Fail> {
     let mut target = target(rt.alloc())?;
     let one = joined(&[b"\x41\0\x01\x34\x0f\0\0\0\0\0\0\0", &[7; 512]]);
-    let (heard, out) = exchange(&mut target, &A, 0, one.as_slice());
-    let effect = Effect::Wrote(Span { at: 15, count: 1 });
-    assert_eq!(rt; heard, Heard::Replied { effect });
-    let done = reply(&A, 0x18, 0, 0, b"\x41\0\0\x40\x0f\0\0\0\0\0\0\0");
-    assert_eq!(rt; out.as_slice(), done.as_slice());
+    let wrote = Effect::Wrote(Span { at: 15, count: 1 });
+    let done = b"\x41\0\0\x40\x0f\0\0\0\0\0\0\0";
+    assert!(rt; answers(&mut target, &A, 0, one.as_slice(), wrote, 0, done));
 
     let two = joined(&[b"\x41\0\x02\x34\x0f\0\0\0\0\0\0\0", &[8; 1024]]);
-    let (heard, out) = exchange(&mut target, &A, 0, two.as_slice());
-    assert_eq!(rt; heard, DONE);
-    let behind = reply(&A, 0x18, 0, 0, b"\x41\x10\0\x41\x0f\0\0\0\0\0\0\0");
-    assert_eq!(rt; out.as_slice(), behind.as_slice());
+    let behind = b"\x41\x10\0\x41\x0f\0\0\0\0\0\0\0";
+    assert!(rt; answers(&mut target, &A, 0, two.as_slice(), Effect::None, 0, behind));
 
-    let (heard, out) = exchange(&mut target, &A, 0, b"\x40\0\x01\x24\x0f\0\0\0\0\0\0\0");
-    assert_eq!(rt; heard, DONE);
-    let read = joined(&[b"\x40\0\0\x40\x0f\0\0\0\0\0\0\0", &[7; 512]]);
-    let read = reply(&A, 0x18, 0, 0, read.as_slice());
-    assert_eq!(rt; out.as_slice(), read.as_slice());
+    let read = b"\x40\0\x01\x24\x0f\0\0\0\0\0\0\0";
+    let told = joined(&[b"\x40\0\0\x40\x0f\0\0\0\0\0\0\0", &[7; 512]]);
+    assert!(rt; answers(&mut target, &A, 0, read, Effect::None, 0, told.as_slice()));
     let (store, _) = target.close();
     assert_eq!(rt; store.close().calls(), 2);
     Ok(())
 }
 
-#[test]
-fn counts_that_are_not_taken(rt: HostRuntime) -> Result<(), Fail> {
-    let mut target = target(rt.alloc())?;
-    for count in [0, 3] {
-        let args = [0x40, 0, count, 0x24, 1, 2, 3, 4, 5, 6, 7, 8];
-        let (heard, out) = exchange(&mut target, &A, 0, &args);
-        assert_eq!(rt; heard, DONE);
-        assert_eq!(rt; out.as_slice(), reply(&A, 0x1c, 2, 0, &args).as_slice());
-    }
-    Ok(())
+/// Whether a request is answered by an error reply of 60 bytes, and nothing is changed or called.
+fn refuses(
+    mut target: Target<Direct<MemDisk>, MemDisk>,
+    version: u8,
+    command: u8,
+    args: &[u8],
+    error: u8,
+) -> bool {
+    let mut out = Frame::new();
+    let heard = target.receive(request(&A, version, command, args).as_slice(), &mut out);
+    let told = reply(&A, error, command, args.get(..36).unwrap_or(args));
+    let is_kept = *target.lists() == Lists::new();
+    let (store, keep) = target.close();
+    heard == DONE
+        && out.as_slice() == told.as_slice()
+        && out.len() == 60
+        && is_kept
+        && store.close().calls() == 0
+        && keep.close().calls() == 3
 }
 
 #[test]
 fn malformed_arguments(rt: HostRuntime) -> Result<(), Fail> {
     // The version, the command, the begin of its arguments, the rest of them, and the error.
-    let cases: [(u8, u8, &[u8], &[u8], u8); 10] = [
+    let cases: [(u8, u8, &[u8], &[u8], u8); 12] = [
         (0x10, 1, b"", b"", 2),
         (0x10, 1, b"\0\0\0\0\0\x03\x04\0", b"", 2),
         (0x10, 1, b"\0\0\0\0\0\x03\x04\x01", &[b'a'; 1025], 2),
@@ -132,49 +151,52 @@ fn malformed_arguments(rt: HostRuntime) -> Result<(), Fail> {
         (0x10, 2, b"\0\x01\0\xff", &[0; 2039], 2),
         (0x10, 3, b"\x01\xb5", &[2; 1086], 2),
         (0x10, 3, b"\x03\0", b"", 2),
+        (
+            0x10,
+            0,
+            b"\x40\0\0\x24",
+            b"\x01\x02\x03\x04\x05\x06\x07\x08",
+            2,
+        ),
+        (
+            0x10,
+            0,
+            b"\x40\0\x03\x24",
+            b"\x01\x02\x03\x04\x05\x06\x07\x08",
+            2,
+        ),
         (0x10, 0, b"\x41\0\x02\x34\0\0\0\0\0\0\0\0", &[7; 1023], 2),
         (0x10, 255, b"", b"", 1),
         (0x20, 255, b"", b"", 5),
     ];
     for (version, command, begin, rest, error) in cases {
-        let mut target = target(rt.alloc())?;
+        let target = target(rt.alloc())?;
         let args = joined(&[begin, rest]);
-        let frame = request(&A, version, command, args.as_slice());
-        let mut out = Frame::new();
-        let heard = target.receive(frame.as_slice(), &mut out);
-        assert_eq!(rt; heard, DONE);
-        let told = args.as_slice().get(..36).unwrap_or(args.as_slice());
-        let wanted = reply(&A, 0x1c, error, command, told);
-        assert_eq!(rt; out.as_slice(), wanted.as_slice(), "command {command}");
-        assert_eq!(rt; out.len(), 60);
-        assert!(rt; *target.lists() == Lists::new());
-        let (store, keep) = target.close();
-        assert_eq!(rt; store.close().calls(), 0);
-        assert_eq!(rt; keep.close().calls(), 3);
+        let is_refused = refuses(target, version, command, args.as_slice(), error);
+        assert!(rt; is_refused, "command {command}");
     }
     Ok(())
 }
 
 #[test]
 fn malformed_values(rt: HostRuntime) -> Result<(), Fail> {
-    // The command, its arguments, and those of the reply: an unknown directive, and a sector behind
-    // all others.
-    let cases: [(u8, &[u8], &[u8]); 2] = [
-        (2, b"\0\x01\0\x01\0\x03\x02\0\0\0\0\x0a", b"\0\x01\x02\0"),
-        (
+    let mut target = target(rt.alloc())?;
+    let unknown = b"\0\x01\0\x01\0\x03\x02\0\0\0\0\x0a";
+    assert!(rt;
+        answers(
+            &mut target,
+            &A,
+            2,
+            unknown,
+            Effect::None,
             0,
-            b"\x40\0\x01\x24\xff\xff\xff\xff\xff\xff\0\0",
-            b"\x40\x10\0\x41\xff\xff\xff\xff\xff\xff\0\0",
-        ),
-    ];
-    for (command, args, told) in cases {
-        let mut target = target(rt.alloc())?;
-        let (heard, out) = exchange(&mut target, &A, command, args);
-        assert_eq!(rt; heard, DONE);
-        let wanted = reply(&A, 0x18, 0, command, told);
-        assert_eq!(rt; out.as_slice(), wanted.as_slice(), "command {command}");
-        assert!(rt; *target.lists() == Lists::new());
-    }
+            b"\0\x01\x02\0"
+        )
+    );
+    let behind_all = b"\x40\0\x01\x24\xff\xff\xff\xff\xff\xff\0\0";
+    let told = b"\x40\x10\0\x41\xff\xff\xff\xff\xff\xff\0\0";
+    assert!(rt; answers(&mut target, &A, 0, behind_all, Effect::None, 0, told));
+    assert!(rt; *target.lists() == Lists::new());
     Ok(())
 }
 
@@ -182,7 +204,7 @@ fn malformed_values(rt: HostRuntime) -> Result<(), Fail> {
 fn whom_a_request_is_for(rt: HostRuntime) -> Result<(), Fail> {
     let mut target = target(rt.alloc())?;
     let mut out = Frame::new();
-    let told = reply(&A, 0x18, 0, 1, b"\0\x10\0\x01\x02\x10\0\0");
+    let told = reply(&A, 0, 1, b"\0\x10\0\x01\x02\x10\0\0");
     // The destination, the shelf and the slot, and what becomes of it.
     let cases = [
         (PORT, [0, 1, 255], DONE),
@@ -197,9 +219,9 @@ fn whom_a_request_is_for(rt: HostRuntime) -> Result<(), Fail> {
         let middle = [0x88, 0xa2, 0x10, 0, high, low, minor, 1, 0, 0, 0, 7];
         let frame = joined(&[&destination, &A, &middle, &[0; 8]]);
         out.clear();
-        assert_eq!(rt; target.receive(frame.as_slice(), &mut out), wanted);
+        let heard = target.receive(frame.as_slice(), &mut out);
         let reply = if wanted == DONE { told.as_slice() } else { b"" };
-        assert_eq!(rt; out.as_slice(), reply);
+        assert!(rt; heard == wanted && out.as_slice() == reply);
     }
     Ok(())
 }
@@ -208,75 +230,70 @@ fn whom_a_request_is_for(rt: HostRuntime) -> Result<(), Fail> {
 fn checks_in_their_order(rt: HostRuntime) -> Result<(), Fail> {
     let mut target = target(rt.alloc())?;
     let edit = joined(&[&[0, 1, 0, 1, 0, 1], &C]);
-    let (heard, out) = exchange(&mut target, &C, 2, edit.as_slice());
-    assert_eq!(rt; heard, EDITED);
     let told = joined(&[&[0, 1, 0, 1, 0, 0], &C]);
-    assert_eq!(rt;
-        out.as_slice(),
-        reply(&C, 0x18, 0, 2, told.as_slice()).as_slice()
+    let edited = Effect::Edited;
+    assert!(rt;
+        answers(
+            &mut target,
+            &C,
+            2,
+            edit.as_slice(),
+            edited,
+            0,
+            told.as_slice()
+        )
     );
 
-    let version_2 = [
+    let silent = [
         request(&A, 0x10, 2, &[0; 4]),
         request(&A, 0x10, 0, b"\x40\0\x01\x24\0\0\0\0\0\0\0\0"),
         request(&A, 0x20, 1, &[0; 8]),
     ];
     let mut out = Frame::new();
-    for frame in &version_2 {
-        assert_eq!(rt; target.receive(frame.as_slice(), &mut out), Heard::Silent);
-        assert_eq!(rt; out.len(), 0);
+    for frame in &silent {
+        let heard = target.receive(frame.as_slice(), &mut out);
+        assert!(rt; heard == Heard::Silent && out.is_empty());
     }
     let heard = target.receive(request(&C, 0x20, 1, &[0; 8]).as_slice(), &mut out);
-    assert_eq!(rt; heard, DONE);
-    assert_eq!(rt; out.as_slice(), reply(&C, 0x1c, 5, 1, &[0; 8]).as_slice());
+    assert!(rt; heard == DONE && out.as_slice() == reply(&C, 5, 1, &[0; 8]).as_slice());
     Ok(())
 }
 
 #[test]
 fn reservations(rt: HostRuntime) -> Result<(), Fail> {
     let mut target = target(rt.alloc())?;
-    let read = b"\x40\0\x01\x24\0\0\0\0\0\0\0\0";
-    let to_a = joined(&[&[1, 1], &A]);
-    let to_b = joined(&[&[1, 1], &B]);
-    let by_force = joined(&[&[2, 1], &B]);
-
-    let (heard, out) = exchange(&mut target, &A, 3, to_a.as_slice());
-    assert_eq!(rt; heard, EDITED);
-    assert_eq!(rt;
-        out.as_slice(),
-        reply(&A, 0x18, 0, 3, to_a.as_slice()).as_slice()
-    );
-    let (_, out) = exchange(&mut target, &B, 0, read);
-    assert_eq!(rt; out.as_slice(), reply(&B, 0x1c, 6, 0, read).as_slice());
-    let (_, out) = exchange(&mut target, &B, 3, to_b.as_slice());
-    assert_eq!(rt;
-        out.as_slice(),
-        reply(&B, 0x1c, 6, 3, to_b.as_slice()).as_slice()
-    );
-    let (heard, out) = exchange(&mut target, &B, 3, by_force.as_slice());
-    assert_eq!(rt; heard, EDITED);
-    assert_eq!(rt;
-        out.as_slice(),
-        reply(&B, 0x18, 0, 3, by_force.as_slice()).as_slice()
-    );
-    let (_, out) = exchange(&mut target, &A, 0, read);
-    assert_eq!(rt; out.as_slice(), reply(&A, 0x1c, 6, 0, read).as_slice());
+    let read = b"\x40\0\x01\x24\0\0\0\0\0\0\0\0".as_slice();
+    let to_a = b"\x01\x01\x02\0\0\0\0\x0a".as_slice();
+    let to_b = b"\x01\x01\x02\0\0\0\0\x0b".as_slice();
+    let by_force = b"\x02\x01\x02\0\0\0\0\x0b".as_slice();
+    // The station, the command, its arguments, the effect and the error.
+    let steps = [
+        (A, 3, to_a, Effect::Edited, 0),
+        (B, 0, read, Effect::None, 6),
+        (B, 3, to_b, Effect::None, 6),
+        (B, 3, by_force, Effect::Edited, 0),
+        (A, 0, read, Effect::None, 6),
+    ];
+    for (station, command, args, effect, error) in steps {
+        assert!(rt; answers(&mut target, &station, command, args, effect, error, args));
+    }
     Ok(())
 }
 
 #[test]
 fn config_strings(rt: HostRuntime) -> Result<(), Fail> {
     let mut target = target(rt.alloc())?;
-    let set = b"\0\0\0\0\0\x03\0\x02ab";
+    let set = b"\0\0\0\0\0\x03\0\x02ab".as_slice();
+    let other = b"\0\0\0\0\0\x03\0\x02cd".as_slice();
     let told = b"\0\x10\0\x01\x02\x13\0\x02ab";
-    for effect in [Effect::Edited, Effect::None] {
-        let (heard, out) = exchange(&mut target, &A, 1, set);
-        assert_eq!(rt; heard, Heard::Replied { effect });
-        assert_eq!(rt; out.as_slice(), reply(&A, 0x18, 0, 1, told).as_slice());
+    let steps = [
+        (set, Effect::Edited, 0),
+        (set, Effect::None, 0),
+        (other, Effect::None, 4),
+    ];
+    for (args, effect, error) in steps {
+        assert!(rt; answers(&mut target, &A, 1, args, effect, error, told));
     }
-    let (heard, out) = exchange(&mut target, &A, 1, b"\0\0\0\0\0\x03\0\x02cd");
-    assert_eq!(rt; heard, DONE);
-    assert_eq!(rt; out.as_slice(), reply(&A, 0x1c, 4, 1, told).as_slice());
     assert_eq!(rt; target.lists().config.as_slice(), b"ab".as_slice());
 
     // A mounting with both gates closed makes 3 calls, and the one change of the lists 6.
@@ -296,22 +313,20 @@ fn lists_that_can_not_be_kept(rt: HostRuntime) -> Result<(), Fail> {
     for k in 1..7u32 {
         let mut target = target(rt.alloc())?;
         target.arm_keep(Arm::Fail(k));
-        let (heard, out) = exchange(&mut target, &A, 1, set);
-        assert_eq!(rt; heard, Heard::Replied { effect }, "call {k}");
-        assert_eq!(rt; out.as_slice(), reply(&A, 0x1c, 3, 1, set).as_slice());
-        assert_eq!(rt; target.lists().config.len(), 0);
-        assert!(rt; !target.keep_is_out());
-
+        assert!(rt;
+            answers(&mut target, &A, 1, set, effect, 3, set),
+            "call {k}"
+        );
+        assert!(rt; target.lists().config.is_empty() && !target.keep_is_out());
         let (heard, _) = exchange(&mut target, &A, 1, set);
-        assert_eq!(rt; heard, EDITED, "behind call {k}");
-        assert_eq!(rt; target.lists().config.as_slice(), b"ab".as_slice());
+        let is_kept = heard == EDITED && target.lists().config.as_slice() == b"ab".as_slice();
+        assert!(rt; is_kept, "behind call {k}");
     }
 
     let mut target = target(rt.alloc())?;
     target.arm_keep(Arm::Stop(1));
     let (heard, _) = exchange(&mut target, &A, 1, set);
-    assert_eq!(rt; heard, Heard::Replied { effect });
-    assert!(rt; target.keep_is_out());
+    assert!(rt; heard == Heard::Replied { effect } && target.keep_is_out());
     Ok(())
 }
 
@@ -327,14 +342,19 @@ fn an_edit_that_does_not_fit(rt: HostRuntime) -> Result<(), Fail> {
     let too_many = [
         0, 1, 0, 3, 0, 2, 2, 0, 0, 0, 0, 0x10, 0, 1, 2, 0, 0, 0, 0, 0x0b, 0, 1, 2, 0, 0, 0, 0, 0x0c,
     ];
-    let (heard, out) = exchange(&mut target, &A, 2, &too_many);
-    assert_eq!(rt; heard, DONE);
-    assert_eq!(rt;
-        out.as_slice(),
-        reply(&A, 0x18, 0, 2, &[0, 1, 3, 0]).as_slice()
+    assert!(rt;
+        answers(
+            &mut target,
+            &A,
+            2,
+            &too_many,
+            Effect::None,
+            0,
+            &[0, 1, 3, 0]
+        )
     );
-    assert_eq!(rt; target.lists().masks.len(), 64);
-    assert!(rt; target.lists().masks.contains(&Mac([2, 0, 0, 0, 0, 0x10])));
+    let masks = &target.lists().masks;
+    assert!(rt; masks.len() == 64 && masks.contains(&Mac([2, 0, 0, 0, 0, 0x10])));
     Ok(())
 }
 
@@ -342,21 +362,18 @@ fn an_edit_that_does_not_fit(rt: HostRuntime) -> Result<(), Fail> {
 fn identify_and_short_addresses(rt: HostRuntime) -> Result<(), Fail> {
     let mut target = target(rt.alloc())?;
     let (heard, out) = exchange(&mut target, &A, 0, b"\0\0\x01\xec\0\0\0\xa0\0\0\0\0");
-    assert_eq!(rt; heard, DONE);
-    let page = out.as_slice().get(36..548).unwrap_or(&[]);
-    assert_eq!(rt; page.get(20..24), Some(b"1e0.".as_slice()));
-    assert_eq!(rt; page.get(120..124), Some(b"\x10\0\0\0".as_slice()));
-    assert_eq!(rt; out.len(), 548);
+    assert!(rt; heard == DONE && out.len() == 548);
+    assert_eq!(rt; out.as_slice().get(56..60), Some(b"1e0.".as_slice()));
+    assert_eq!(rt;
+        out.as_slice().get(156..160),
+        Some(b"\x10\0\0\0".as_slice())
+    );
 
     let write = joined(&[b"\0\0\x02\x30\x05\0\0\xe0\0\0\0\0", &[5; 512], &[6; 512]]);
     let (_, _) = exchange(&mut target, &A, 0, write.as_slice());
-    let (heard, out) = exchange(&mut target, &A, 0, b"\0\0\x02\x20\x05\0\0\xe0\0\0\0\0");
-    assert_eq!(rt; heard, DONE);
-    let read = joined(&[b"\0\0\0\x40\x05\0\0\xe0\0\0\0\0", &[5; 512], &[6; 512]]);
-    assert_eq!(rt;
-        out.as_slice(),
-        reply(&A, 0x18, 0, 0, read.as_slice()).as_slice()
-    );
+    let read = b"\0\0\x02\x20\x05\0\0\xe0\0\0\0\0";
+    let told = joined(&[b"\0\0\0\x40\x05\0\0\xe0\0\0\0\0", &[5; 512], &[6; 512]]);
+    assert!(rt; answers(&mut target, &A, 0, read, Effect::None, 0, told.as_slice()));
     Ok(())
 }
 
@@ -368,49 +385,33 @@ fn failed_calls(rt: HostRuntime) -> Result<(), Fail> {
     let read = b"\x40\0\x01\x24\x03\0\0\0\0\0\0\0".as_slice();
     let verify = b"\x40\0\x01\x42\x03\0\0\0\0\0\0\0".as_slice();
     let flush = b"\x40\0\0\xea\0\0\0\0\0\0\0\0".as_slice();
+    let unread = b"\x40\x40\0\x41\x03\0\0\0\0\0\0\0";
+    let unwritten = b"\x41\x04\0\x41\x03\0\0\0\0\0\0\0";
+    let unsynced = b"\x40\x04\0\x41\0\0\0\0\0\0\0\0";
     // The arguments, the effect of a call that fails and the reply's arguments, and the effect of the
     // same request behind it.
     let cases = [
-        (
-            read,
-            Effect::ReadFault,
-            b"\x40\x40\0\x41\x03\0\0\0\0\0\0\0",
-            Effect::None,
-        ),
-        (
-            verify,
-            Effect::ReadFault,
-            b"\x40\x40\0\x41\x03\0\0\0\0\0\0\0",
-            Effect::None,
-        ),
+        (read, Effect::ReadFault, unread, Effect::None),
+        (verify, Effect::ReadFault, unread, Effect::None),
         (
             write.as_slice(),
             Effect::WriteFault(span),
-            b"\x41\x04\0\x41\x03\0\0\0\0\0\0\0",
+            unwritten,
             Effect::Wrote(span),
         ),
-        (
-            flush,
-            Effect::SyncFault,
-            b"\x40\x04\0\x41\0\0\0\0\0\0\0\0",
-            Effect::Synced,
-        ),
+        (flush, Effect::SyncFault, unsynced, Effect::Synced),
     ];
-    for (args, fault, told, done) in cases {
+    for (args, fault, told, effect) in cases {
         target.arm_store(Arm::Fail(1));
-        let (heard, out) = exchange(&mut target, &A, 0, args);
-        assert_eq!(rt; heard, Heard::Replied { effect: fault });
-        assert_eq!(rt; out.as_slice(), reply(&A, 0x18, 0, 0, told).as_slice());
+        assert!(rt; answers(&mut target, &A, 0, args, fault, 0, told));
         let (heard, _) = exchange(&mut target, &A, 0, args);
-        assert_eq!(rt; heard, Heard::Replied { effect: done });
+        assert!(rt; heard == Heard::Replied { effect });
     }
-    let (_, out) = exchange(&mut target, &A, 0, flush);
     let done = b"\x40\0\0\x40\0\0\0\0\0\0\0\0";
-    assert_eq!(rt; out.as_slice(), reply(&A, 0x18, 0, 0, done).as_slice());
+    assert!(rt; answers(&mut target, &A, 0, flush, Effect::Synced, 0, done));
 
     target.arm_store(Arm::Stop(1));
-    assert!(rt; target.sync().is_err());
-    assert!(rt; target.store_is_out());
+    assert!(rt; target.sync().is_err() && target.store_is_out());
     Ok(())
 }
 
@@ -502,7 +503,7 @@ fn a_sector_that_can_not_be_read(rt: HostRuntime) -> Result<(), Fail> {
                 Effect::ReadFault
             };
             let (heard, _) = exchange(&mut target, &A, 0, &args);
-            assert_eq!(rt; heard, Heard::Replied { effect });
+            assert!(rt; heard == Heard::Replied { effect });
         }
     }
     Ok(())
