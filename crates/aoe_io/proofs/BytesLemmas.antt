@@ -6,7 +6,6 @@ use borrow.Rule.Slice.PartMut.{put_mid, mid_of, post_of, same_len_mid}
 use Rattle.std.proofs.lemmas.List.{length-take, length-drop, take_rest, take-append-le, take-append-drop, drop-drop}
 use Rattle.std.specs.Int.{w16, to_be_bytes}
 use Rattle.aoe_io.specs.Bytes.{Gave, GaveSome, Took, TookSome}
-use Rattle.aoe_io.specs.Stream.{framed}
 
 pub Gave-nothing : (a : Option (List ℕ)) → Gave a a []
 Gave-nothing None = refl
@@ -93,9 +92,6 @@ TookSome-both a b c p q r xs whole same first second =
     let Q : List ℕ → Type 0 = λ ys. TookSome a c ys in
     subst Q whole (TookSome-then a b c p q first (subst P same second))
 
-pub TookSome-first : (a b : Option (List ℕ)) (p q xs : List ℕ) → p ++ q ≡ xs → TookSome a b p → TookSome a b xs
-TookSome-first a b p q xs whole some = let Q : List ℕ → Type 0 = λ ys. TookSome a b ys in subst Q whole (TookSome-front a b p q some)
-
 -- the two bytes of a length
 pub prefix-is : (p : List ℕ) (k n : ℕ) → length p ≡ 2 → k ≡ 2 → n ≡ get_or p 0 0 * 256 + get_or p 1 0 → get_or p 0 0 < 256 → get_or p 1 0 < 256 → take k p ≡ to_be_bytes w16 n
 prefix-is [] k n two k_is n_is high_small low_small = absurd (omega arith)
@@ -105,9 +101,3 @@ prefix-is (high ∷ low ∷ []) k n two k_is n_is high_small low_small =
     let second : n % 256 ≡ low = omega arith in
     rw (k_is, first, second) refl
 prefix-is (high ∷ low ∷ more ∷ rest) k n two k_is n_is high_small low_small = absurd (omega arith)
-
--- a length and the first bytes of a frame, behind which the rest of it makes up the frame on the stream
-pub front-is : (frame empty one two p : List ℕ) (j : ℕ) → empty ≡ [] → p ≡ to_be_bytes w16 (length frame) → one ≡ empty ++ p → two ≡ one ++ take j frame → two ++ drop j frame ≡ framed frame
-front-is frame empty one two p j empty_is p_is one_is two_is =
-    let front : two ≡ p ++ take j frame = two_is ∙ (rw (one_is, empty_is) refl) in
-    ap (λ (t : List ℕ). t ++ drop j frame) front ∙ append_assoc p (take j frame) (drop j frame) ∙ ap (λ (t : List ℕ). p ++ t) (take-append-drop j frame) ∙ ap (λ (t : List ℕ). t ++ frame) p_is

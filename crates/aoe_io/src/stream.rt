@@ -1,15 +1,13 @@
 //! The stream of frames: each a length of two bytes, big-endian, and so many bytes.
 ghost use Rattle.std.specs.Prelude.{ℕ, List, [], ◌≢◌, ◌≡◌, ◌+◌, ◌<◌, ◌≤◌, ◌++◌, length, take, drop, IfOk, OnOk, OnErr, IfSome, Ok, None, true, false};
-ghost use Rattle.arrayvec.specs.ArrayVec.{array_vec_len};
 ghost use Rattle.aoe_base.specs.Faults.{Rose};
 ghost use Rattle.aoe_io.specs.Bytes.{Gave, GaveSome, Took, TookSome, IsEnded};
 ghost use Rattle.std.specs.Int.{w16, to_be_bytes};
 ghost use Rattle.aoe_io.specs.Stream.{framed, IsFrame, IsLength, IsBroken};
 
 use crate::{Sink, Source};
-use aoe_base::{Failed, append};
+use aoe_base::Failed;
 use aoe_frame::{Frame, stretch};
-use arrayvec::ArrayVec;
 use thiserror::Error;
 
 /// The least length of a frame on the stream: two addresses and a type.
@@ -18,8 +16,8 @@ const SHORTEST: usize = 14;
 /// The greatest length of a frame on the stream.
 const LONGEST: usize = 9018;
 
-/// The bytes that go out together with a frame's length, and the length: a frame of Ethernet's
-/// least length in one piece.
+/// The longest piece that a frame and its length go out in together: one of Ethernet's least length
+/// does.
 const FRONT: usize = 64;
 
 /// What came next on the stream.
@@ -39,10 +37,10 @@ pub enum StreamRefusal {
     Stream { offset: u64 },
 }
 
-/// Fills `out` from the source, and says how many bytes of it: fewer than all only where the input
-/// ends.
-#[inline(always)]
-fn fill<S: Source>(source: &mut S, out: &mut [u8]) -> Result<usize, Failed>
+/// Fills `out` piece by piece, where the first piece of the source wasn't all of it.
+#[cold]
+#[inline(never)]
+fn fill_on<S: Source>(source: &mut S, out: &mut [u8]) -> Result<usize, Failed>
     ensures within { IfOk result (λ n. n ≤ length out.old) }
     ensures gave { IfOk result (λ n. Gave (S.left source.old) (S.left source.new) (take n out.new)) }
     ensures short { IfOk result (λ n. n < length out.old → IsEnded (S.left source.new)) }
@@ -61,6 +59,33 @@ fn fill<S: Source>(source: &mut S, out: &mut [u8]) -> Result<usize, Failed>
         }
     }
     Ok(done)
+}
+
+/// Fills `out` from the source, and says how many bytes of it: fewer than all only where the input
+/// ends. The first call stands in front of the loop for further pieces, since it mostly gives all.
+#[inline(always)]
+fn fill<S: Source>(source: &mut S, out: &mut [u8]) -> Result<usize, Failed>
+    requires { 0 < length out.old }
+    ensures within { IfOk result (λ n. n ≤ length out.old) }
+    ensures gave { IfOk result (λ n. Gave (S.left source.old) (S.left source.new) (take n out.new)) }
+    ensures short { IfOk result (λ n. n < length out.old → IsEnded (S.left source.new)) }
+    ensures taken { OnErr result (GaveSome (S.left source.old) (S.left source.new)) }
+    ensures count { S.faults source.old ≤ S.faults source.new }
+    ensures cause { OnErr result (Rose (S.faults source.old) (S.faults source.new)) }
+    ensures no_fault { OnOk result (S.faults source.new ≡ S.faults source.old) }
+    ensures one_fault { S.faults source.new ≤ S.faults source.old + 1 }
+{
+    let done = match source.read(out) {
+        Ok(n) => n,
+        Err(Failed) => return Err(Failed),
+    };
+    if done == 0 || done == out.len() {
+        return Ok(done);
+    }
+    match fill_on(source, &mut out[done..]) {
+        Ok(n) => Ok(done + n),
+        Err(Failed) => Err(Failed),
+    }
 }
 
 /// Takes the length of the next frame, or `None` where the input ends before it.
@@ -92,7 +117,8 @@ fn read_length<S: Source>(source: &mut S, offset: u64) -> Result<Option<usize>, 
 
 /// Makes `out` the next `count` bytes of the source: false where the input ends before.
 fn fill_frame<S: Source>(source: &mut S, count: usize, out: &mut Frame) -> Result<bool, Failed>
-    requires { count ≤ 9018 }
+    requires some { 0 < count }
+    requires room { count ≤ 9018 }
     ensures length { result ≡ Ok true → length out.new.items ≡ count }
     ensures gave { result ≡ Ok true → Gave (S.left source.old) (S.left source.new) out.new.items }
     ensures short { result ≡ Ok false → IfSome (S.left source.old) (λ left. length left < count) }
@@ -137,9 +163,10 @@ pub fn next_frame<S: Source>(
     }
 }
 
-/// Writes all of the bytes. Where the sink fails it has taken a part of them, from the front on and
-/// not all, and it is asked for no more.
-pub fn give_all<K: Sink>(sink: &mut K, bytes: &[u8]) -> Result<(), Failed>
+/// Writes all of the bytes piece by piece, where the sink didn't take them at once.
+#[cold]
+#[inline(never)]
+fn give_on<K: Sink>(sink: &mut K, bytes: &[u8]) -> Result<(), Failed>
     ensures all { OnOk result (Took (K.held sink.old) (K.held sink.new) bytes.now) }
     ensures some { OnErr result (TookSome (K.held sink.old) (K.held sink.new) bytes.now) }
     ensures count { K.faults sink.old ≤ K.faults sink.new }
@@ -157,21 +184,52 @@ pub fn give_all<K: Sink>(sink: &mut K, bytes: &[u8]) -> Result<(), Failed>
     Ok(())
 }
 
-/// The length of a frame and its first bytes, `joined` of them.
-fn front_of(frame: &[u8], joined: usize) -> ArrayVec<u8, FRONT>
-    requires frame { length frame.now ≤ 9018 }
-    requires joined { joined ≤ length frame.now }
-    requires room { joined ≤ 62 }
-    ensures { result.items ++ drop joined frame.now ≡ framed frame.now }
+/// Writes all of the bytes. Where the sink fails it has taken a part of them, from the front on and
+/// not all, and it is asked for no more.
+#[inline(always)]
+pub fn give_all<K: Sink>(sink: &mut K, bytes: &[u8]) -> Result<(), Failed>
+    ensures all { OnOk result (Took (K.held sink.old) (K.held sink.new) bytes.now) }
+    ensures some { OnErr result (TookSome (K.held sink.old) (K.held sink.new) bytes.now) }
+    ensures count { K.faults sink.old ≤ K.faults sink.new }
+    ensures cause { OnErr result (Rose (K.faults sink.old) (K.faults sink.new)) }
+    ensures no_fault { OnOk result (K.faults sink.new ≡ K.faults sink.old) }
+    ensures one_fault { K.faults sink.new ≤ K.faults sink.old + 1 }
 {
-    let mut front = ArrayVec::new();
-    append(&mut front, &(frame.len() as u16).to_be_bytes());
-    append(&mut front, &frame[..joined]);
-    front
+    if bytes.is_empty() {
+        return Ok(());
+    }
+    let done = match sink.write(bytes) {
+        Ok(n) => n,
+        Err(Failed) => return Err(Failed),
+    };
+    if done == bytes.len() {
+        return Ok(());
+    }
+    match give_on(sink, &bytes[done..]) {
+        Ok(()) => Ok(()),
+        Err(Failed) => Err(Failed),
+    }
 }
 
-/// Writes a frame on the stream. Its length goes out together with its first bytes, so that a short
-/// frame is one piece for the sink.
+/// Writes a short frame behind its length, in one piece.
+fn give_short<K: Sink>(sink: &mut K, frame: &[u8]) -> Result<(), Failed>
+    requires { length frame.now ≤ 62 }
+    ensures all { OnOk result (Took (K.held sink.old) (K.held sink.new) (framed frame.now)) }
+    ensures some { OnErr result (TookSome (K.held sink.old) (K.held sink.new) (framed frame.now)) }
+    ensures count { K.faults sink.old ≤ K.faults sink.new }
+    ensures cause { OnErr result (Rose (K.faults sink.old) (K.faults sink.new)) }
+    ensures no_fault { OnOk result (K.faults sink.new ≡ K.faults sink.old) }
+    ensures one_fault { K.faults sink.new ≤ K.faults sink.old + 1 }
+{
+    let len = frame.len();
+    let mut piece = [0; FRONT];
+    piece[..2].copy_from_slice(&(len as u16).to_be_bytes());
+    piece[2..2 + len].copy_from_slice(frame);
+    give_all(sink, &piece[..2 + len])
+}
+
+/// Writes a frame on the stream. The length of a short frame goes out together with it, and that of
+/// a long one in front of it, so that no byte of it is copied.
 pub fn give_frame<K: Sink>(sink: &mut K, frame: &[u8]) -> Result<(), Failed>
     requires { length frame.now ≤ 9018 }
     ensures all { OnOk result (Took (K.held sink.old) (K.held sink.new) (framed frame.now)) }
@@ -181,12 +239,14 @@ pub fn give_frame<K: Sink>(sink: &mut K, frame: &[u8]) -> Result<(), Failed>
     ensures no_fault { OnOk result (K.faults sink.new ≡ K.faults sink.old) }
     ensures one_fault { K.faults sink.new ≤ K.faults sink.old + 1 }
 {
-    let joined = frame.len().min(FRONT - 2);
-    match give_all(sink, front_of(frame, joined).as_slice()) {
+    if frame.len() <= FRONT - 2 {
+        return give_short(sink, frame);
+    }
+    match give_all(sink, &(frame.len() as u16).to_be_bytes()) {
         Ok(()) => {}
         Err(Failed) => return Err(Failed),
     }
-    match give_all(sink, &frame[joined..]) {
+    match give_all(sink, frame) {
         Ok(()) => Ok(()),
         Err(Failed) => Err(Failed),
     }
