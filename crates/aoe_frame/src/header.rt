@@ -1,6 +1,7 @@
 //! The header of a frame (AoEr11, "Common AoE header").
 ghost use Rattle.aoe_frame.specs.declared.header.Header.{Header};
-ghost use Rattle.std.specs.Prelude.{List, ℕ, ◌≡◌, ◌+◌, ◌%◌, ◌^◌, ◌<◌, ◌≤◌, ◌++◌, All, drop, length, slice_index, slice_range, take};
+ghost use Rattle.std.specs.Int.{w16, w32, to_be_bytes};
+ghost use Rattle.std.specs.Prelude.{List, ℕ, [], ◌∷◌, ◌≡◌, ◌+◌, ◌%◌, ◌^◌, ◌<◌, ◌≤◌, ◌++◌, All, drop, length, slice_index, slice_range, take};
 ghost use Rattle.aoe_frame.specs.Header.{head, header_bytes, reply_header, Fits, IsFlags};
 
 use crate::Frame;
@@ -80,13 +81,84 @@ pub fn read_header(bytes: &[u8]) -> Option<Header>
     })
 }
 
-/// Lays a piece over the bytes of a header from `at` on.
+/// Writes the fields of a header over a place of 24 bytes. The addresses come by reference, so that
+/// each is copied once.
 #[inline(always)]
-fn lay(bytes: &mut [u8; 24], at: usize, piece: &[u8])
-    requires { at + length piece.now ≤ 24 }
-    ensures { bytes.new ≡ take at bytes.old ++ piece.now ++ drop (at + length piece.now) bytes.old }
+fn put_fields(
+    dst: &Mac,
+    src: &Mac,
+    shared: u8,
+    error: u8,
+    id: TargetId,
+    command: u8,
+    tag: u32,
+    out: &mut [u8],
+)
+    requires { length out.old ≡ 24 }
+    ensures bytes { out.new ≡ dst.now.0 ++ src.now.0 ++ (136 ∷ 162 ∷ []) ++ (shared ∷ error ∷ [])
+        ++ to_be_bytes w16 id.major ++ (id.minor ∷ command ∷ []) ++ to_be_bytes w32 tag }
+    ensures dst { length dst.now.0 ≡ 6 }
+    ensures src { length src.now.0 ≡ 6 }
 {
-    bytes[at..at + piece.len()].copy_from_slice(piece);
+    let [type_high, type_low] = AOE_TYPE;
+    let (dst_place, out) = out.split_at_mut(6);
+    let (src_place, out) = out.split_at_mut(6);
+    let (type_place, out) = out.split_at_mut(2);
+    let (shared_place, out) = out.split_at_mut(2);
+    let (major_place, out) = out.split_at_mut(2);
+    let (minor_place, tag_place) = out.split_at_mut(2);
+    dst_place.copy_from_slice(&dst.0);
+    src_place.copy_from_slice(&src.0);
+    type_place.copy_from_slice(&[type_high, type_low]);
+    shared_place.copy_from_slice(&[shared, error]);
+    major_place.copy_from_slice(&id.major.to_be_bytes());
+    minor_place.copy_from_slice(&[id.minor, command]);
+    tag_place.copy_from_slice(&tag.to_be_bytes());
+}
+
+/// Writes the header over a place of 24 bytes.
+#[inline(always)]
+fn put_header(header: &Header, out: &mut [u8])
+    requires version { header.now.version < 16 }
+    requires flags { IsFlags header.now.flags }
+    requires place { length out.old ≡ 24 }
+    ensures bytes { out.new ≡ header_bytes header.now }
+    ensures fits { Fits header.now }
+{
+    let shared = header.version * 16 + header.flags;
+    put_fields(
+        &header.dst,
+        &header.src,
+        shared,
+        header.error,
+        header.id,
+        header.command,
+        header.tag,
+        out,
+    );
+}
+
+/// Writes the header of the reply that [`turn_round`] makes over a place of 24 bytes.
+#[inline(always)]
+pub fn put_turned(request: &Header, id: TargetId, port: &Mac, error: Option<u8>, out: &mut [u8])
+    requires { length out.old ≡ 24 }
+    ensures { out.new ≡ header_bytes (reply_header request.now id port.now error) }
+{
+    let flags = if error.is_some() {
+        RESPONSE_FLAG | ERROR_FLAG
+    } else {
+        RESPONSE_FLAG
+    };
+    put_fields(
+        &request.src,
+        port,
+        16 + flags,
+        error.unwrap_or(0),
+        id,
+        request.command,
+        request.tag,
+        out,
+    );
 }
 
 /// The 24 bytes of the header.
@@ -96,20 +168,8 @@ pub fn header_array(header: &Header) -> [u8; 24]
     ensures bytes { result ≡ header_bytes header.now }
     ensures fits { Fits header.now }
 {
-    let [type_high, type_low] = AOE_TYPE;
-    let shared = header.version * 16 + header.flags;
-    let error = header.error;
-    let [major_high, major_low] = header.id.major.to_be_bytes();
-    let minor = header.id.minor;
-    let command = header.command;
-    let [t0, t1, t2, t3] = header.tag.to_be_bytes();
-    let rest = [
-        type_high, type_low, shared, error, major_high, major_low, minor, command, t0, t1, t2, t3,
-    ];
     let mut bytes = [0; HEADER_LEN];
-    lay(&mut bytes, 0, &header.dst.0);
-    lay(&mut bytes, 6, &header.src.0);
-    lay(&mut bytes, 12, &rest);
+    put_header(header, &mut bytes);
     bytes
 }
 

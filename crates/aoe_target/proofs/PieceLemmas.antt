@@ -1,5 +1,5 @@
 -- Pieces of a frame.
-use Rattle.std.proofs.Common.{◌≡◌, ◌≤◌, ◌+◌, ◌-◌, ℕ, List, [], ◌++◌, length, take, drop, replicate, min, sym, ap, subst, ◌∙◌, arith, append_assoc, length-append, length-drop}
+use Rattle.std.proofs.Common.{◌≡◌, ◌≤◌, ◌+◌, ◌-◌, ℕ, List, [], ◌∷◌, ◌++◌, length, take, drop, replicate, min, sym, ap, subst, ◌∙◌, arith, append_assoc, length-append, length-drop}
 use Rattle.std.specs.List.{refill}
 use Rattle.std.proofs.lemmas.List.{append-nil, take_at, drop_at, drop_all, drop-replicate, take_min, length-take-le, take-append-drop}
 use Rattle.aoe_frame.specs.Header.{padded}
@@ -40,24 +40,12 @@ data_in out n size =
     ∙ ap (λ (l : List ℕ). take (36 + n - 36) l) (drop_at (take 36 out) (drop 36 out ++ zeros) 36 (length-take-le 36 out (omega arith)))
     ∙ take_at (drop 36 out) zeros (36 + n - 36) (omega (arith, length-drop 36 out))
 
--- a header in a place of 60 zeros, and then arguments behind it
-pub short_is : (head args h a : List ℕ) → h ≡ head → a ≡ args → length head ≡ 24 → length args ≤ 36
-    → take 24 (h ++ replicate 36 0) ++ (a ++ drop (24 + length args - 24) (drop 24 (h ++ replicate 36 0))) ≡ padded (head ++ args)
-short_is head args h a h_is a_is size short =
-    let P : List ℕ → List ℕ → Type 0 = λ h a. take 24 (h ++ replicate 36 0) ++ (a ++ drop (24 + length args - 24) (drop 24 (h ++ replicate 36 0))) ≡ padded (head ++ args) in
-    let front : take 24 (head ++ replicate 36 0) ≡ head = take_at head (replicate 36 0) 24 size in
-    let back : drop (24 + length args - 24) (drop 24 (head ++ replicate 36 0)) ≡ replicate (60 - length (head ++ args)) 0 =
-    ap (drop (24 + length args - 24)) (drop_at head (replicate 36 0) 24 size) ∙ drop-replicate (24 + length args - 24) 36 0
-    ∙ ap (λ (n : ℕ). replicate n 0) (omega (arith, length-append head args)) in
-    let whole : P head args = (λ i. front i ++ (args ++ back i)) ∙ sym (append_assoc head args (replicate (60 - length (head ++ args)) 0)) in
-    subst (λ (h : List ℕ). P h a) (sym h_is) (subst (λ (a : List ℕ). P head a) (sym a_is) whole)
-
--- a header in a place of 36 zeros, and then registers behind it
-pub front_is : (head registers h r : List ℕ) → h ≡ head → r ≡ registers → length head ≡ 24
-    → take 24 (h ++ replicate 12 0) ++ (r ++ drop 12 (drop 24 (h ++ replicate 12 0))) ≡ head ++ registers
-front_is head registers h r h_is r_is size =
-    let P : List ℕ → List ℕ → Type 0 = λ h r. take 24 (h ++ replicate 12 0) ++ (r ++ drop 12 (drop 24 (h ++ replicate 12 0))) ≡ head ++ registers in
-    let front : take 24 (head ++ replicate 12 0) ≡ head = take_at head (replicate 12 0) 24 size in
-    let back : drop 12 (drop 24 (head ++ replicate 12 0)) ≡ [] = ap (drop 12) (drop_at head (replicate 12 0) 24 size) in
-    let whole : P head registers = (λ i. front i ++ (registers ++ back i)) ∙ ap (λ (l : List ℕ). head ++ l) (append-nil registers) in
-    subst (λ (h : List ℕ). P h r) (sym h_is) (subst (λ (r : List ℕ). P head r) (sym r_is) whole)
+-- arguments over the first of 36 zeros behind a header, and nothing behind them
+pub short_is : (head args none : List ℕ) → length head ≡ 24 → length args ≤ 36 → length none ≡ 0
+    → head ++ ((args ++ drop (length args) (replicate 36 0)) ++ none) ≡ padded (head ++ args)
+short_is head args [] size short empty =
+    let zeros : drop (length args) (replicate 36 0) ≡ replicate (60 - length (head ++ args)) 0 =
+    drop-replicate (length args) 36 0 ∙ ap (λ (n : ℕ). replicate n 0) (omega (arith, length-append head args)) in
+    ap (λ (l : List ℕ). head ++ l) (append-nil (args ++ drop (length args) (replicate 36 0)))
+    ∙ ap (λ (l : List ℕ). head ++ (args ++ l)) zeros ∙ sym (append_assoc head args (replicate (60 - length (head ++ args)) 0))
+short_is head args (x ∷ none) size short empty = absurd (omega arith)

@@ -16,12 +16,12 @@ ghost use Rattle.aoe_target.specs.Law.{AllowsAta, Gives, AnswersSync, Verifies, 
 ghost use Rattle.aoe_target.specs.Receive.{Leaves, TurnsUnder, ata_calls, calls_for, is_fault};
 ghost use Rattle.aoe_target.specs.Mounted.{FitsStore};
 
-use crate::reply::{DATA_AT, ata_front, reply_ata, reply_page};
+use crate::reply::{DATA_AT, put_front, reply_ata, reply_page};
 use crate::verdict::args_of;
 use crate::{Effect, Station};
 use aoe_ata::{AtaAnswer, AtaArgs, AtaDecision, AtaOutcome, put_data};
 use aoe_base::{Failed, Span};
-use aoe_frame::{Frame, Header, overwrite, pad, stretch};
+use aoe_frame::{Frame, Header, pad, stretch};
 use aoe_store::Store;
 
 /// How many bytes a sector has.
@@ -36,7 +36,7 @@ fn begin_data(station: &Station, header: &Header, args: &AtaArgs, count: u32, ou
     ensures len { length out.new.items ≡ 36 + 512 * count }
 {
     stretch(out, DATA_AT + SECTOR_LEN * count as usize);
-    overwrite(out, &ata_front(station, header, args, AtaOutcome::Done));
+    put_front(station, header, args, AtaOutcome::Done, out.as_mut_slice());
 }
 
 /// Reads sectors into a frame, behind its header and registers.

@@ -1,5 +1,5 @@
 //! The bytes of replies.
-ghost use Rattle.std.specs.Prelude.{◌≡◌, ◌^◌, ◌≤◌, ◌++◌, Some, None, length, slice_range};
+ghost use Rattle.std.specs.Prelude.{◌≡◌, ◌^◌, ◌≤◌, ◌++◌, ◌+◌, Some, None, take, length, slice_range};
 ghost use Rattle.std.specs.Option.{option_map};
 ghost use Rattle.aoe_frame.specs.Header.{fields, padded};
 ghost use Rattle.aoe_base.specs.Refusal.{code_of_error};
@@ -12,8 +12,8 @@ use crate::Station;
 use aoe_ata::{
     ARGS_LEN, AtaArgs, AtaOutcome, args_array, identify_page, reply_args, serial_number,
 };
-use aoe_base::{AoeError, append};
-use aoe_frame::{Frame, HEADER_LEN, Header, MIN_FRAME, header_array, pad, refill, turn_round};
+use aoe_base::AoeError;
+use aoe_frame::{Frame, HEADER_LEN, Header, MIN_FRAME, put_turned, stretch};
 
 /// Where the data of a reply stand.
 pub(crate) const DATA_AT: usize = HEADER_LEN + ARGS_LEN;
@@ -21,29 +21,54 @@ pub(crate) const DATA_AT: usize = HEADER_LEN + ARGS_LEN;
 /// The most arguments of a reply that has no more than the least length.
 const MAX_SHORT: usize = MIN_FRAME - HEADER_LEN;
 
-/// The header of a reply.
+/// Writes the header of a reply over a place of 24 bytes.
 #[inline(always)]
-fn head(station: &Station, header: &Header, error: Option<AoeError>) -> [u8; HEADER_LEN]
-    ensures { result ≡ reply_head station.now header.now error }
+fn put_head(station: &Station, header: &Header, error: Option<AoeError>, out: &mut [u8])
+    requires { length out.old ≡ 24 }
+    ensures { out.new ≡ reply_head station.now header.now error }
 {
     let code = match error {
         Some(error) => Some(error.code()),
         None => None,
     };
-    let port = station.reply_port(header);
-    header_array(&turn_round(header, station.id, port, code))
+    put_turned(header, station.id, station.reply_port(header), code, out);
 }
 
-/// A header and arguments that need padding.
+/// Writes a reply of the least length over a place of as many bytes.
 #[inline(always)]
-fn short_reply(head: &[u8; HEADER_LEN], args: &[u8]) -> [u8; MIN_FRAME]
-    requires { length args.now ≤ 36 }
-    ensures { result ≡ padded (head.now ++ args.now) }
+fn put_short(
+    station: &Station,
+    header: &Header,
+    error: Option<AoeError>,
+    args: &[u8],
+    out: &mut [u8],
+)
+    requires args { length args.now ≤ 36 }
+    requires place { length out.old ≡ 60 }
+    ensures { out.new ≡ padded (reply_head station.now header.now error ++ args.now) }
 {
-    let mut bytes = [0; MIN_FRAME];
-    bytes[..HEADER_LEN].copy_from_slice(head);
-    bytes[HEADER_LEN..HEADER_LEN + args.len()].copy_from_slice(args);
-    bytes
+    let (head, rest) = out.split_at_mut(HEADER_LEN);
+    let (rest, _) = rest.split_at_mut(MAX_SHORT);
+    put_head(station, header, error, head);
+    rest.copy_from_slice(&[0; MAX_SHORT]);
+    rest[..args.len()].copy_from_slice(args);
+}
+
+/// Writes a reply that needs no padding over a place that it fills.
+fn put_long(
+    station: &Station,
+    header: &Header,
+    error: Option<AoeError>,
+    args: &[u8],
+    out: &mut [u8],
+)
+    requires args { 36 ≤ length args.now }
+    requires place { length out.old ≡ 24 + length args.now }
+    ensures { out.new ≡ padded (reply_head station.now header.now error ++ args.now) }
+{
+    let (head, rest) = out.split_at_mut(HEADER_LEN);
+    put_head(station, header, error, head);
+    rest.copy_from_slice(args);
 }
 
 /// Makes `out` the reply with these arguments.
@@ -59,12 +84,12 @@ pub(crate) fn reply(
     requires { length args.now ≤ 2048 }
     ensures { out.new.items ≡ spelled station.now header.now error args.now }
 {
-    let head = head(station, header, error);
     if args.len() <= MAX_SHORT {
-        refill(out, &short_reply(&head, args));
+        stretch(out, MIN_FRAME);
+        put_short(station, header, error, args, out.as_mut_slice());
     } else {
-        refill(out, &head);
-        append(out, args);
+        stretch(out, HEADER_LEN + args.len());
+        put_long(station, header, error, args, out.as_mut_slice());
     }
 }
 
@@ -112,20 +137,23 @@ pub(crate) fn reply_step(
     }
 }
 
-/// What a reply to an ATA command has before its data.
+/// Writes what a reply to an ATA command has before its data over the first 36 bytes of a place.
 #[inline(always)]
-pub(crate) fn ata_front(
+pub(crate) fn put_front(
     station: &Station,
     header: &Header,
     args: &AtaArgs,
     outcome: AtaOutcome,
-) -> [u8; DATA_AT]
-    ensures { result ≡ reply_head station.now header.now None ++ args_bytes (reply_of args.now outcome) }
+    out: &mut [u8],
+)
+    requires { 36 ≤ length out.old }
+    ensures front { take 36 out.new ≡ reply_head station.now header.now None ++ args_bytes (reply_of args.now outcome) }
+    ensures len { length out.new ≡ length out.old }
 {
-    let mut front = [0; DATA_AT];
-    front[..HEADER_LEN].copy_from_slice(&head(station, header, None));
-    front[HEADER_LEN..].copy_from_slice(&args_array(&reply_args(args, outcome)));
-    front
+    let (head, rest) = out.split_at_mut(HEADER_LEN);
+    let (registers, _) = rest.split_at_mut(ARGS_LEN);
+    put_head(station, header, None, head);
+    registers.copy_from_slice(&args_array(&reply_args(args, outcome)));
 }
 
 /// Makes `out` the reply to an ATA command that has no data.
@@ -150,7 +178,8 @@ pub(crate) fn reply_page(station: &Station, header: &Header, args: &AtaArgs, out
 {
     let mut page = [0; 512];
     identify_page(station.sectors, &serial_number(station.id), &mut page);
-    refill(out, &ata_front(station, header, args, AtaOutcome::Done));
-    append(out, &page);
-    pad(out);
+    let mut told = [0; ARGS_LEN + 512];
+    told[..ARGS_LEN].copy_from_slice(&args_array(&reply_args(args, AtaOutcome::Done)));
+    told[ARGS_LEN..].copy_from_slice(&page);
+    reply(station, header, None, &told, out);
 }

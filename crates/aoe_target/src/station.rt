@@ -60,15 +60,15 @@ impl Station {
 
     /// The port that a reply comes from: the one that the request went to, and the first where it
     /// went to all stations.
-    pub(crate) fn reply_port(&self, header: &Header) -> Mac
-        ensures { result ≡ reply_port self.now header.now }
+    pub(crate) fn reply_port<'a>(&'a self, header: &'a Header) -> &'a Mac
+        ensures { result.now ≡ reply_port self.now header.now }
     {
         if self.has_port(&header.dst) {
-            return header.dst;
+            return &header.dst;
         }
         match self.ports.first() {
-            Some(port) => *port,
-            None => header.dst,
+            Some(port) => port,
+            None => &header.dst,
         }
     }
 
