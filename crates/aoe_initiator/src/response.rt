@@ -196,6 +196,14 @@ mod tests {
         }
     }
 
+    fn failed(status: u8) -> Option<Answer> {
+        Some(Answer::AtaError { status, error: 4 })
+    }
+
+    fn told(len: usize) -> Option<Answer> {
+        Some(Answer::Told { len })
+    }
+
     #[test]
     fn reads_ata_responses(rt: HostRuntime) {
         let ok = [0x40, 0, 0, 0x40, 15, 0, 0, 0, 0, 0, 0, 0];
@@ -203,24 +211,21 @@ mod tests {
         let fault = [0x41, 4, 0, 0x60, 15, 0, 0, 0, 0, 0, 0, 0];
         let page = [0x40; 600];
         let read = Op::Read(Span { at: 15, count: 1 });
-        let plain = header(8, 0);
-        assert_eq!(rt; read_answer(&Op::Flush, &plain, &ok), Some(Answer::Flushed));
-        assert_eq!(rt; read_answer(&Op::Flush, &plain, &ok[..11]), None);
-        assert_eq!(rt; read_answer(&read, &plain, &ok), None);
-        let failed = Some(Answer::AtaError {
-            status: 0x41,
-            error: 4,
-        });
-        assert_eq!(rt; read_answer(&read, &plain, &aborted), failed);
-        let failed = Some(Answer::AtaError {
-            status: 0x60,
-            error: 4,
-        });
-        assert_eq!(rt; read_answer(&read, &plain, &fault), failed);
         let data = Some(Answer::Data { len: 512 });
-        assert_eq!(rt; read_answer(&read, &plain, &page), data);
-        assert_eq!(rt; read_answer(&Op::Identify, &plain, &page[..524]), data);
-        assert_eq!(rt; read_answer(&Op::Identify, &plain, &page[..523]), None);
+        let plain = header(8, 0);
+        let cases: [(&Op, &[u8], Option<Answer>); 8] = [
+            (&Op::Flush, &ok, Some(Answer::Flushed)),
+            (&Op::Flush, &ok[..11], None),
+            (&read, &ok, None),
+            (&read, &aborted, failed(0x41)),
+            (&read, &fault, failed(0x60)),
+            (&read, &page, data),
+            (&Op::Identify, &page[..524], data),
+            (&Op::Identify, &page[..523], None),
+        ];
+        for (op, args, answer) in cases {
+            assert_eq!(rt; read_answer(op, &plain, args), answer);
+        }
         let reserved = Some(Answer::AoeError(6));
         assert_eq!(rt; read_answer(&read, &header(12, 6), &[]), reserved);
     }
@@ -240,18 +245,20 @@ mod tests {
             rcmd: 0,
             list: ArrayVec::new(),
         };
-        let args = [0, 16, 0, 1, 2, 16, 0, 2, b'a', b'b', 0, 0];
-        let string = Some(Answer::Told { len: 10 });
-        assert_eq!(rt; read_answer(&config, &plain, &args), string);
-        assert_eq!(rt; read_answer(&config, &plain, &args[..9]), None);
-        let args = [0, 0, 0, 1, 0, 0, 2, 0, 0, 0, 0, 0x0a, 0];
-        let list = Some(Answer::Told { len: 12 });
-        assert_eq!(rt; read_answer(&masks, &plain, &args), list);
-        assert_eq!(rt; read_answer(&masks, &plain, &args[..11]), None);
-        let args = [0, 1, 2, 0, 0, 0, 0, 0x0a, 0, 0];
-        let list = Some(Answer::Told { len: 8 });
-        assert_eq!(rt; read_answer(&reserve, &plain, &args), list);
-        assert_eq!(rt; read_answer(&reserve, &plain, &args[..7]), None);
+        let string = [0, 16, 0, 1, 2, 16, 0, 2, b'a', b'b', 0, 0];
+        let dirs = [0, 0, 0, 1, 0, 0, 2, 0, 0, 0, 0, 0x0a, 0];
+        let list = [0, 1, 2, 0, 0, 0, 0, 0x0a, 0, 0];
+        let cases: [(&Op, &[u8], Option<Answer>); 6] = [
+            (&config, &string, told(10)),
+            (&config, &string[..9], None),
+            (&masks, &dirs, told(12)),
+            (&masks, &dirs[..11], None),
+            (&reserve, &list, told(8)),
+            (&reserve, &list[..7], None),
+        ];
+        for (op, args, answer) in cases {
+            assert_eq!(rt; read_answer(op, &plain, args), answer);
+        }
         Ok(())
     }
 }

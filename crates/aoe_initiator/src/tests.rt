@@ -45,33 +45,46 @@ fn no_port() -> Ports
     Ports::new()
 }
 
+/// What a host sends first.
+const FIRST: Sent = Sent {
+    ticket: Ticket(1),
+    tag: 1,
+    path: PathNo(0),
+    again: false,
+};
+
+const REPEAT: Sent = Sent {
+    again: true,
+    ..FIRST
+};
+
+/// Whether the host sends this at each of the times, or nothing.
+fn sends(host: &mut Initiator, steps: &[(u64, Option<Sent>)]) -> bool {
+    let mut out = Frame::new();
+    for (now, sent) in steps {
+        host.advance(Millis(*now));
+        if host.pull(&mut out) != *sent {
+            return false;
+        }
+    }
+    true
+}
+
 #[test]
 fn a_read_is_repeated_by_its_waits(rt: HostRuntime) -> Result<(), Fail> {
     let mut host = Initiator::new(rt.alloc(), &one(A), Millis(2000), 4096, Millis(180_000))?;
     let device = host.attach(DEVICE, &one(SHELF), 16, 2)?;
-    let mut out = Frame::new();
     let submitted = host.submit(device, Op::Read(Span { at: 0, count: 1 }));
     assert!(rt; matches!(submitted, Ok(Ticket(1))));
-    let first = Sent {
-        ticket: Ticket(1),
-        tag: 1,
-        path: PathNo(0),
-        again: false,
-    };
-    let repeat = Sent {
-        again: true,
-        ..first
-    };
-    assert_eq!(rt; host.pull(&mut out), Some(first));
-    assert_eq!(rt; host.pull(&mut out), None);
-    host.advance(Millis(999));
-    assert_eq!(rt; host.pull(&mut out), None);
-    host.advance(Millis(1000));
-    assert_eq!(rt; host.pull(&mut out), Some(repeat));
-    host.advance(Millis(2999));
-    assert_eq!(rt; host.pull(&mut out), None);
-    host.advance(Millis(3000));
-    assert_eq!(rt; host.pull(&mut out), Some(repeat));
+    let steps = [
+        (0, Some(FIRST)),
+        (0, None),
+        (999, None),
+        (1000, Some(REPEAT)),
+        (2999, None),
+        (3000, Some(REPEAT)),
+    ];
+    assert!(rt; sends(&mut host, &steps));
     Ok(())
 }
 
@@ -79,30 +92,19 @@ fn a_read_is_repeated_by_its_waits(rt: HostRuntime) -> Result<(), Fail> {
 fn a_path_that_doesnt_answer_is_avoided(rt: HostRuntime) -> Result<(), Fail> {
     let mut host = Initiator::new(rt.alloc(), &one(A), Millis(2000), 4096, Millis(180_000))?;
     let device = host.attach(DEVICE, &two(1, 2), 16, 2)?;
-    let mut out = Frame::new();
     let submitted = host.submit(device, Op::Read(Span { at: 0, count: 1 }));
     assert!(rt; submitted.is_ok());
-    let first = Sent {
-        ticket: Ticket(1),
-        tag: 1,
-        path: PathNo(0),
-        again: false,
-    };
-    let repeat = Sent {
-        again: true,
-        ..first
-    };
     let other = Sent {
         path: PathNo(1),
-        ..repeat
+        ..REPEAT
     };
-    assert_eq!(rt; host.pull(&mut out), Some(first));
-    host.advance(Millis(1000));
-    assert_eq!(rt; host.pull(&mut out), Some(other));
-    host.advance(Millis(2999));
-    assert_eq!(rt; host.pull(&mut out), None);
-    host.advance(Millis(3000));
-    assert_eq!(rt; host.pull(&mut out), Some(repeat));
+    let steps = [
+        (0, Some(FIRST)),
+        (1000, Some(other)),
+        (2999, None),
+        (3000, Some(REPEAT)),
+    ];
+    assert!(rt; sends(&mut host, &steps));
     Ok(())
 }
 
@@ -112,21 +114,19 @@ fn waits_go_by_the_round_trips(rt: HostRuntime) -> Result<(), Fail> {
     let device = host.attach(DEVICE, &one(SHELF), 16, 2)?;
     let filled = fill(&mut host, device, 2);
     assert!(rt; filled);
-    let mut out = Frame::new();
-    assert!(rt; host.pull(&mut out).is_some());
-    host.advance(Millis(30));
+    assert!(rt; sends(&mut host, &[(0, Some(FIRST)), (30, None)]));
     assert_eq!(rt; host.receive(&FLUSHED), Taken::Finished(Ticket(1)));
-    assert!(rt; host.pull(&mut out).is_some());
-    host.advance(Millis(149));
-    assert_eq!(rt; host.pull(&mut out), None);
-    host.advance(Millis(150));
-    let repeat = Sent {
+    let second = Sent {
         ticket: Ticket(2),
         tag: 2,
-        path: PathNo(0),
-        again: true,
+        ..FIRST
     };
-    assert_eq!(rt; host.pull(&mut out), Some(repeat));
+    let repeat = Sent {
+        again: true,
+        ..second
+    };
+    let steps = [(30, Some(second)), (149, None), (150, Some(repeat))];
+    assert!(rt; sends(&mut host, &steps));
     Ok(())
 }
 
@@ -134,10 +134,9 @@ fn waits_go_by_the_round_trips(rt: HostRuntime) -> Result<(), Fail> {
 fn a_response_ends_its_command_once(rt: HostRuntime) -> Result<(), Fail> {
     let mut host = Initiator::new(rt.alloc(), &one(A), Millis(2000), 4096, Millis(180_000))?;
     let device = host.attach(DEVICE, &one(SHELF), 16, 2)?;
-    let mut out = Frame::new();
     let submitted = host.submit(device, Op::Flush);
     assert!(rt; submitted.is_ok());
-    assert!(rt; host.pull(&mut out).is_some());
+    assert!(rt; sends(&mut host, &[(0, Some(FIRST))]));
     assert_eq!(rt; host.receive(&FLUSHED[..35]), Taken::Stale);
     assert_eq!(rt; host.receive(&FLUSHED), Taken::Finished(Ticket(1)));
     assert_eq!(rt; host.receive(&FLUSHED), Taken::Stale);
