@@ -43,14 +43,20 @@ fn refusal_of(run: &Run, refusal: NetRefusal) -> WorldRefusal
 }
 
 /// Runs an event line in which nothing is wrong.
-fn run(sim: &mut Sim, places: &[Place], cursor: &mut u32, event: &Event) -> Result<(), NetRefusal>
+fn run(
+    alloc: Global,
+    sim: &mut Sim,
+    places: &[Place],
+    cursor: &mut u32,
+    event: &Event,
+) -> Result<(), NetRefusal>
     requires goes { Goes places.now sim.old event.now }
     requires range { is_event event.now ≡ true }
     requires from_one { 1 ≤ cursor.old }
     ensures { (lines : List Line) → Knows lines places.now sim.old → CanCome lines (setup_of lines) event.now → cursor.old ≤ suc (length (frames sim.old.run.entries))
         → Runs result lines event.now cursor.old cursor.new sim.old sim.new }
 {
-    match plan_of(sim.run.alloc(), sim, places, event) {
+    match plan_of(alloc, sim, places, event) {
         Ok(Some(Plan::One(act))) => sim.act(act),
         Ok(Some(Plan::Pass(n))) => sim.pass(places, cursor, n),
         Ok(Some(Plan::Skip(n))) => sim.skip(cursor, n),
@@ -64,6 +70,7 @@ fn run(sim: &mut Sim, places: &[Place], cursor: &mut u32, event: &Event) -> Resu
 /// memory and hosts.
 #[derive(Drop)]
 pub struct World<'a> {
+    alloc: Global,
     script: &'a Script,
     sim: Sim,
 
@@ -105,6 +112,7 @@ impl<'a> World<'a> {
     {
         let Builder { sim, places, .. } = Builder::new(alloc, script)?;
         Ok(World {
+            alloc,
             script,
             sim,
             places,
@@ -159,6 +167,7 @@ impl World<'_> {
             return Err(refusal);
         }
         let ran = run(
+            self.alloc,
             &mut self.sim,
             self.places.as_slice(),
             &mut self.cursor,
