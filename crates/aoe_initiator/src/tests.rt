@@ -1,9 +1,10 @@
-ghost use Rattle.std.specs.Prelude.{◌≡◌, ◌≢◌, ◌<◌, ◌≤◌, [], length};
+ghost use Rattle.std.specs.Prelude.{◌≡◌, ◌≢◌, ◌<◌, ◌≤◌, [], length, IfOk};
 ghost use Rattle.aoe_base.specs.Addresses.{IsDistinct};
 
 use super::*;
 use aoe_base::{DeviceNo, Mac, Millis, PathNo, Ports, Span, TargetId, Ticket};
 use aoe_frame::Frame;
+use std::alloc::Global;
 use std::test::Fail;
 
 const A: Mac = Mac([2, 0, 0, 0, 0, 0x0a]);
@@ -11,6 +12,9 @@ const A: Mac = Mac([2, 0, 0, 0, 0, 0x0a]);
 const SHELF: Mac = Mac([2, 0, 0, 0, 0, 1]);
 
 const DEVICE: TargetId = TargetId { major: 1, minor: 0 };
+
+/// What a host calls the device that is attached first.
+const FIRST_DEVICE: DeviceNo = DeviceNo(0);
 
 /// The response to a flush with tag 1.
 const FLUSHED: [u8; 36] = [
@@ -45,6 +49,21 @@ fn no_port() -> Ports
     Ports::new()
 }
 
+/// A host with one port, attached to the device.
+fn attached(alloc: Global, remotes: &Ports, life: Millis, room: u32) -> Result<Initiator, Fail>
+    requires differ { IsDistinct remotes.now.items }
+    requires life { life.0 ≤ 600000 }
+    requires some_room { 0 < room }
+    requires room { room ≤ 16384 }
+    ensures tickets { IfOk result (λ host. host.last_ticket ≡ 0) }
+    ensures devices { IfOk result (λ host. 0 < length host.devices) }
+    ensures few { IfOk result (λ host. length host.devices < 2) }
+{
+    let mut host = Initiator::new(alloc, &one(A), life, room, Millis(180_000))?;
+    host.attach(DEVICE, remotes, 16, 2)?;
+    Ok(host)
+}
+
 /// What a host sends first.
 const FIRST: Sent = Sent {
     ticket: Ticket(1),
@@ -72,9 +91,8 @@ fn sends(host: &mut Initiator, steps: &[(u64, Option<Sent>)]) -> bool {
 
 #[test]
 fn a_read_is_repeated_by_its_waits(rt: HostRuntime) -> Result<(), Fail> {
-    let mut host = Initiator::new(rt.alloc(), &one(A), Millis(2000), 4096, Millis(180_000))?;
-    let device = host.attach(DEVICE, &one(SHELF), 16, 2)?;
-    let submitted = host.submit(device, Op::Read(Span { at: 0, count: 1 }));
+    let mut host = attached(rt.alloc(), &one(SHELF), Millis(2000), 4096)?;
+    let submitted = host.submit(FIRST_DEVICE, Op::Read(Span { at: 0, count: 1 }));
     assert!(rt; matches!(submitted, Ok(Ticket(1))));
     let steps = [
         (0, Some(FIRST)),
@@ -90,9 +108,8 @@ fn a_read_is_repeated_by_its_waits(rt: HostRuntime) -> Result<(), Fail> {
 
 #[test]
 fn a_path_that_doesnt_answer_is_avoided(rt: HostRuntime) -> Result<(), Fail> {
-    let mut host = Initiator::new(rt.alloc(), &one(A), Millis(2000), 4096, Millis(180_000))?;
-    let device = host.attach(DEVICE, &two(1, 2), 16, 2)?;
-    let submitted = host.submit(device, Op::Read(Span { at: 0, count: 1 }));
+    let mut host = attached(rt.alloc(), &two(1, 2), Millis(2000), 4096)?;
+    let submitted = host.submit(FIRST_DEVICE, Op::Read(Span { at: 0, count: 1 }));
     assert!(rt; submitted.is_ok());
     let other = Sent {
         path: PathNo(1),
@@ -110,9 +127,8 @@ fn a_path_that_doesnt_answer_is_avoided(rt: HostRuntime) -> Result<(), Fail> {
 
 #[test]
 fn waits_go_by_the_round_trips(rt: HostRuntime) -> Result<(), Fail> {
-    let mut host = Initiator::new(rt.alloc(), &one(A), Millis(10), 1, Millis(180_000))?;
-    let device = host.attach(DEVICE, &one(SHELF), 16, 2)?;
-    let filled = fill(&mut host, device, 2);
+    let mut host = attached(rt.alloc(), &one(SHELF), Millis(10), 1)?;
+    let filled = fill(&mut host, FIRST_DEVICE, 2);
     assert!(rt; filled);
     assert!(rt; sends(&mut host, &[(0, Some(FIRST)), (30, None)]));
     assert_eq!(rt; host.receive(&FLUSHED), Taken::Finished(Ticket(1)));
@@ -132,9 +148,8 @@ fn waits_go_by_the_round_trips(rt: HostRuntime) -> Result<(), Fail> {
 
 #[test]
 fn a_response_ends_its_command_once(rt: HostRuntime) -> Result<(), Fail> {
-    let mut host = Initiator::new(rt.alloc(), &one(A), Millis(2000), 4096, Millis(180_000))?;
-    let device = host.attach(DEVICE, &one(SHELF), 16, 2)?;
-    let submitted = host.submit(device, Op::Flush);
+    let mut host = attached(rt.alloc(), &one(SHELF), Millis(2000), 4096)?;
+    let submitted = host.submit(FIRST_DEVICE, Op::Flush);
     assert!(rt; submitted.is_ok());
     assert!(rt; sends(&mut host, &[(0, Some(FIRST))]));
     assert_eq!(rt; host.receive(&FLUSHED[..35]), Taken::Stale);
@@ -156,8 +171,7 @@ fn a_response_ends_its_command_once(rt: HostRuntime) -> Result<(), Fail> {
 
 #[test]
 fn attachments_are_refused(rt: HostRuntime) -> Result<(), Fail> {
-    let mut host = Initiator::new(rt.alloc(), &one(A), Millis(2000), 4096, Millis(180_000))?;
-    host.attach(DEVICE, &one(SHELF), 16, 2)?;
+    let mut host = attached(rt.alloc(), &one(SHELF), Millis(2000), 4096)?;
     let again = host.attach(DEVICE, &one(SHELF), 16, 2);
     assert_eq!(rt; again, Err(AttachRefusal::Already));
     let other = TargetId { major: 1, minor: 1 };
@@ -183,11 +197,10 @@ fn fill(host: &mut Initiator, device: DeviceNo, count: u32) -> bool
 
 #[test]
 fn a_backlog_is_refused(rt: HostRuntime) -> Result<(), Fail> {
-    let mut host = Initiator::new(rt.alloc(), &one(A), Millis(2000), 4096, Millis(180_000))?;
-    let device = host.attach(DEVICE, &one(SHELF), 16, 2)?;
-    let filled = fill(&mut host, device, MAX_HELD);
+    let mut host = attached(rt.alloc(), &one(SHELF), Millis(2000), 4096)?;
+    let filled = fill(&mut host, FIRST_DEVICE, MAX_HELD);
     assert!(rt; filled);
-    let refused = host.submit(device, Op::Flush);
+    let refused = host.submit(FIRST_DEVICE, Op::Flush);
     let backlog = SubmitRefusal::Backlog { held: 65_536 };
     assert!(rt; matches!(refused, Err((refusal, Op::Flush)) if refusal == backlog));
     Ok(())
