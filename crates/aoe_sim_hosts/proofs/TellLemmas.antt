@@ -299,4 +299,3 @@ pub told-same : (before x : NamedHost) (name : ArrayVec ℕ) (core new : Host) �
 told-same before x name core new is same step =
     ap (λ (c : Host). let z : NamedHost = record { name = name; core = c } in z) step
     ∙ ap (λ (v : NamedHost). let z : NamedHost = record { name = v.name; core = record v.core { waiting = new.waiting } } in z) (is ∙ same)
-
