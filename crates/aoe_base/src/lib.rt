@@ -1,11 +1,11 @@
 //! What every layer names its things by: addresses, device names, the errors of replies, spans of
 //! sectors, times, numbers of things, byte strings and decimal numbers.
 //!
-//! [`read_mac`], [`read_device`] and [`read_number`] read texts, and [`put_macs`] and its like print them; [`Mac`], [`TargetId`], [`Span`],
-//! [`Millis`], [`Ticket`] and the other numbers are values. A [`Blob`] is a byte string on the
-//! heap, which contracts see as the list of its bytes. [`Failed`] and [`NoMemory`] are the answers
-//! of calls that did nothing else wrong. [`Steps`] counts steps for contracts, and costs nothing
-//! when it runs.
+//! [`read_mac`], [`read_device`] and [`read_number`] read texts, and [`put_macs`] and its like print
+//! them; [`Mac`], [`TargetId`], [`Span`], [`Millis`], [`Ticket`] and the other numbers are values. A
+//! [`Blob`] is a byte string on the heap, which contracts see as the list of its bytes. [`Failed`]
+//! and [`NoMemory`] are the answers of calls that did nothing else wrong. [`Steps`] counts steps for
+//! contracts, and costs nothing when it runs.
 //!
 //! Only a `Blob` takes memory. Nothing here knows a frame, a device or a host.
 #![tactic(auto)]

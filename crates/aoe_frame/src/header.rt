@@ -162,7 +162,7 @@ pub fn put_turned(request: &Header, id: TargetId, port: &Mac, error: Option<u8>,
 }
 
 /// The 24 bytes of the header.
-pub fn header_array(header: &Header) -> [u8; 24]
+fn header_array(header: &Header) -> [u8; 24]
     requires version { header.now.version < 16 }
     requires flags { IsFlags header.now.flags }
     ensures bytes { result ≡ header_bytes header.now }

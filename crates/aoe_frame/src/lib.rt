@@ -13,6 +13,6 @@ mod header;
 
 pub use frame::{Frame, MIN_FRAME, overwrite, pad, refill, stretch};
 pub use header::{
-    AOE_TYPE, ERROR_FLAG, HEADER_LEN, Header, RESPONSE_FLAG, header_array, header_reads_back,
+    AOE_TYPE, ERROR_FLAG, HEADER_LEN, Header, RESPONSE_FLAG, header_reads_back,
     header_spelling_is_one, put_turned, read_header, turn_round, write_header,
 };

@@ -113,7 +113,7 @@ fn verify<S: Store>(
     }
 }
 
-/// AnswersWrite the data of a frame.
+/// Writes the data of a frame.
 fn put<S: Store>(
     store: &mut S,
     station: &Station,
@@ -146,7 +146,7 @@ fn put<S: Store>(
     }
 }
 
-/// AnswersSync the store.
+/// Syncs the store.
 fn sync<S: Store>(
     store: &mut S,
     station: &Station,

@@ -142,7 +142,7 @@ fn read_all<L: Link, C: Clock>(
     }
 }
 
-/// TakesRead the sectors of a device and flushes it, once it is found.
+/// Writes the sectors of a device and flushes it, once it is found.
 fn write_all<L: Link, C: Clock>(
     alloc: Global,
     ask: &Ask,
@@ -204,7 +204,7 @@ pub fn get<L: Link, C: Clock, K: Sink>(
     }
 }
 
-/// TakesRead what the source gives up to its end to the sectors of a device from `at` on, and flushes
+/// Writes what the source gives up to its end to the sectors of a device from `at` on, and flushes
 /// the device. The source is read before anything is sent.
 pub fn put<L: Link, C: Clock, S: Source>(
     alloc: Global,

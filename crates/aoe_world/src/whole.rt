@@ -18,7 +18,7 @@ use aoe_io::{Sink, Source, give_all};
 use aoe_script::Script;
 use std::alloc::Global;
 
-/// TakesText this part of the text of the run of a script of `script_events` events.
+/// Writes this part of the text of the run of a script of `script_events` events.
 fn write_run<K: Sink>(
     alloc: Global,
     part: Part,
