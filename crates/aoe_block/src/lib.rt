@@ -44,6 +44,3 @@ pub use block::{Block, MAX_PART, MAX_SECTORS};
 pub use law::{broken_law, operations_law, outcome_law, ticket_law};
 pub use refusal::BlockRefusal;
 pub use took::Took;
-
-#[cfg(test)]
-mod tests;

@@ -157,6 +157,3 @@ impl<D: Armed> ArmedStore for Cached<D> {
         self.behind.disk.is_out()
     }
 }
-
-#[cfg(test)]
-mod tests;

@@ -219,6 +219,3 @@ impl Flight {
         self.commands.forget(self.rest, now);
     }
 }
-
-#[cfg(test)]
-mod tests;

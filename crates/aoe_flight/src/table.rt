@@ -324,17 +324,3 @@ fn tag_after(last: u32, steps: u32) -> u32
         (tag - u64::from(MAX_TAG)) as u32
     }
 }
-
-#[cfg(test)]
-mod tests {
-    use super::*;
-
-    #[test]
-    fn tags_go_from_1_and_round(rt: HostRuntime) {
-        assert_eq!(rt; tag_after(0, 0), 1);
-        assert_eq!(rt; tag_after(7, 0), 8);
-        assert_eq!(rt; tag_after(u32::MAX - 1, 0), u32::MAX);
-        assert_eq!(rt; tag_after(u32::MAX, 0), 1);
-        assert_eq!(rt; tag_after(u32::MAX - 1, 3), 3);
-    }
-}

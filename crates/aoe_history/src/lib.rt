@@ -38,6 +38,3 @@ pub use entry::{Entry, Fate};
 pub use history::History;
 pub use reading::read_law;
 pub use run::Run;
-
-#[cfg(test)]
-mod tests;

@@ -172,6 +172,3 @@ impl Command {
         self.comes_first(later) && self.kind.has_effect() && later.kind.rests_on_effects()
     }
 }
-
-#[cfg(test)]
-mod tests;

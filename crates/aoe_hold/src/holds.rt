@@ -497,6 +497,3 @@ impl Holds {
         self.unsent
     }
 }
-
-#[cfg(test)]
-mod tests;

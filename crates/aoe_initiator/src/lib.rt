@@ -43,6 +43,3 @@ pub use refusal::{AttachRefusal, SubmitRefusal};
 pub use request::{append_config_args, append_mask_args, append_reserve_args, write_request};
 pub use response::{Answer, config_args_len, mask_args_len, read_answer, reserve_args_len};
 pub use step::{Sent, Taken};
-
-#[cfg(test)]
-mod tests;

@@ -32,6 +32,3 @@ pub use stream::{
     Next, StreamRefusal, frame_begins_no_broken_stream, give_all, give_frame, next_frame,
     stream_begins_with_one_frame,
 };
-
-#[cfg(test)]
-mod tests;

@@ -25,6 +25,3 @@ mod refusal;
 pub use body::{a_body_is_the_one_spelling, spelled_lists_are_read, unreadable_bodies};
 pub use keep::Keep;
 pub use refusal::MountRefusal;
-
-#[cfg(test)]
-mod tests;

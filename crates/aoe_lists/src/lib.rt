@@ -26,6 +26,3 @@ pub use lists::{
 };
 pub use masks::{Directive, MaskCommand, MaskError, mask_step};
 pub use reserves::{ReserveCommand, reserve_step, reserves_are_the_given_stations};
-
-#[cfg(test)]
-mod tests;

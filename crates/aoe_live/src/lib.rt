@@ -29,6 +29,3 @@ mod whole;
 
 pub use refusal::LiveRefusal;
 pub use whole::live;
-
-#[cfg(test)]
-mod tests;

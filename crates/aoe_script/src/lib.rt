@@ -46,6 +46,3 @@ pub use refusal::{ScriptRefusal, Why};
 pub use script::{LONGEST_TEXT, MAX_EVENTS, Script, read_script};
 pub use setup::{Name, Setup};
 pub use table::read_line;
-
-#[cfg(test)]
-mod tests;

@@ -30,6 +30,3 @@ pub use over_link::{ServeEnd, serve};
 pub use over_stream::{AnswerEnd, answer};
 pub use plan::{ExportRefusal, Exported, Plan, RunEnd};
 pub use shelf_link::ShelfLink;
-
-#[cfg(test)]
-mod tests;

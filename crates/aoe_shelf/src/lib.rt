@@ -18,6 +18,3 @@ mod shelf;
 
 pub use refusal::ShelfRefusal;
 pub use shelf::Shelf;
-
-#[cfg(test)]
-mod tests;

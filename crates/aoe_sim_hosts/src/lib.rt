@@ -15,6 +15,3 @@ mod host;
 mod turn;
 
 pub use host::NamedHost;
-
-#[cfg(test)]
-mod tests;

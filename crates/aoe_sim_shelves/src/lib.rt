@@ -19,6 +19,3 @@ mod rack;
 mod seat;
 
 pub use rack::{MemoryRack, Stops};
-
-#[cfg(test)]
-mod tests;

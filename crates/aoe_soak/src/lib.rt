@@ -15,6 +15,3 @@ mod setup;
 mod whole;
 
 pub use whole::soak;
-
-#[cfg(test)]
-mod tests;

@@ -27,6 +27,3 @@ pub use heard::{Effect, Heard};
 pub use station::Station;
 pub use target::Target;
 pub use verdict::{ListCommand, Verdict};
-
-#[cfg(test)]
-mod tests;

@@ -46,8 +46,3 @@ pub use lists::{cfg, mask, reserve};
 pub use question::Ask;
 pub use text::{print_config, print_found, print_masks, print_reserves, print_stat};
 pub use visiting::stat;
-
-#[cfg(test)]
-mod copy_tests;
-#[cfg(test)]
-mod tests;

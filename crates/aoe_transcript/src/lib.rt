@@ -23,6 +23,3 @@ pub use history::{print_history, print_run};
 pub use laws::{lawful_histories_print, runs_are_longest, submitted_lines_ask};
 pub use print::print_entry;
 pub use summary::{Summary, print_summary};
-
-#[cfg(test)]
-mod tests;

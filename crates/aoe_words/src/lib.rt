@@ -26,6 +26,3 @@ pub use command::{
 };
 pub use law::plain_words_law;
 pub use read::{files_of, ports_of, read_words};
-
-#[cfg(test)]
-mod tests;

@@ -33,6 +33,3 @@ pub use end::{ReplayEnd, ReplayLimit};
 pub use refusal::WorldRefusal;
 pub use whole::{replay, soak};
 pub use world::World;
-
-#[cfg(test)]
-mod tests;

@@ -1,0 +1,214 @@
+ghost use Rattle.std.specs.Prelude.{◌≡◌, ◌≢◌, ◌<◌, ◌≤◌, [], length, IfOk};
+ghost use Rattle.aoe_base.specs.Addresses.{IsDistinct};
+
+use aoe_base::{DeviceNo, Mac, Millis, PathNo, Ports, Span, TargetId, Ticket};
+use aoe_frame::Frame;
+use aoe_initiator::{
+    AttachRefusal, Done, Initiator, MAX_HELD, Op, Outcome, Sent, SubmitRefusal, Taken,
+};
+use std::alloc::Global;
+use std::test::Fail;
+
+pub(super) const A: Mac = Mac([2, 0, 0, 0, 0, 0x0a]);
+
+pub(super) const SHELF: Mac = Mac([2, 0, 0, 0, 0, 1]);
+
+const DEVICE: TargetId = TargetId { major: 1, minor: 0 };
+
+/// What a host calls the device that is attached first.
+pub(super) const FIRST_DEVICE: DeviceNo = DeviceNo(0);
+
+/// The response to a flush with tag 1.
+const FLUSHED: [u8; 36] = [
+    2, 0, 0, 0, 0, 0x0a, 2, 0, 0, 0, 0, 1, 0x88, 0xa2, 0x18, 0, 0, 1, 0, 0, 0, 0, 0, 1, 0x40, 0, 0,
+    0x40, 0, 0, 0, 0, 0, 0, 0, 0,
+];
+
+pub(super) fn one(port: Mac) -> Ports
+    ensures one { length result.items ≡ 1 }
+    ensures differ { IsDistinct result.items }
+{
+    let mut ports = Ports::new();
+    ports.push(port);
+    ports
+}
+
+fn two(first: u8, second: u8) -> Ports
+    requires { first ≢ second }
+    ensures two { length result.items ≡ 2 }
+    ensures differ { IsDistinct result.items }
+{
+    let mut ports = Ports::new();
+    ports.push(Mac([2, 0, 0, 0, 0, first]));
+    ports.push(Mac([2, 0, 0, 0, 0, second]));
+    ports
+}
+
+fn no_port() -> Ports
+    ensures none { result.items ≡ [] }
+    ensures differ { IsDistinct result.items }
+{
+    Ports::new()
+}
+
+/// A host with one port, attached to the device.
+pub(super) fn attached(
+    alloc: Global,
+    remotes: &Ports,
+    life: Millis,
+    room: u32,
+) -> Result<Initiator, Fail>
+    requires differ { IsDistinct remotes.now.items }
+    requires life { life.0 ≤ 600000 }
+    requires some_room { 0 < room }
+    requires room { room ≤ 16384 }
+    ensures tickets { IfOk result (λ host. host.last_ticket ≡ 0) }
+    ensures devices { IfOk result (λ host. 0 < length host.devices) }
+    ensures few { IfOk result (λ host. length host.devices < 2) }
+{
+    let mut host = Initiator::new(alloc, &one(A), life, room, Millis(180_000))?;
+    host.attach(DEVICE, remotes, 16, 2)?;
+    Ok(host)
+}
+
+/// What a host sends first.
+const FIRST: Sent = Sent {
+    ticket: Ticket(1),
+    tag: 1,
+    path: PathNo(0),
+    again: false,
+};
+
+const REPEAT: Sent = Sent {
+    again: true,
+    ..FIRST
+};
+
+/// Whether the host sends this at each of the times, or nothing.
+fn sends(host: &mut Initiator, steps: &[(u64, Option<Sent>)]) -> bool {
+    let mut out = Frame::new();
+    for (now, sent) in steps {
+        host.advance(Millis(*now));
+        if host.pull(&mut out) != *sent {
+            return false;
+        }
+    }
+    true
+}
+
+#[test]
+fn a_read_is_repeated_by_its_waits(rt: HostRuntime) -> Result<(), Fail> {
+    let mut host = attached(rt.alloc(), &one(SHELF), Millis(2000), 4096)?;
+    let submitted = host.submit(FIRST_DEVICE, Op::Read(Span { at: 0, count: 1 }));
+    assert!(rt; matches!(submitted, Ok(Ticket(1))));
+    let steps = [
+        (0, Some(FIRST)),
+        (0, None),
+        (999, None),
+        (1000, Some(REPEAT)),
+        (2999, None),
+        (3000, Some(REPEAT)),
+    ];
+    assert!(rt; sends(&mut host, &steps));
+    Ok(())
+}
+
+#[test]
+fn a_path_that_doesnt_answer_is_avoided(rt: HostRuntime) -> Result<(), Fail> {
+    let mut host = attached(rt.alloc(), &two(1, 2), Millis(2000), 4096)?;
+    let submitted = host.submit(FIRST_DEVICE, Op::Read(Span { at: 0, count: 1 }));
+    assert!(rt; submitted.is_ok());
+    let other = Sent {
+        path: PathNo(1),
+        ..REPEAT
+    };
+    let steps = [
+        (0, Some(FIRST)),
+        (1000, Some(other)),
+        (2999, None),
+        (3000, Some(REPEAT)),
+    ];
+    assert!(rt; sends(&mut host, &steps));
+    Ok(())
+}
+
+#[test]
+fn waits_go_by_the_round_trips(rt: HostRuntime) -> Result<(), Fail> {
+    let mut host = attached(rt.alloc(), &one(SHELF), Millis(10), 1)?;
+    let filled = fill(&mut host, FIRST_DEVICE, 2);
+    assert!(rt; filled);
+    assert!(rt; sends(&mut host, &[(0, Some(FIRST)), (30, None)]));
+    assert_eq!(rt; host.receive(&FLUSHED), Taken::Finished(Ticket(1)));
+    let second = Sent {
+        ticket: Ticket(2),
+        tag: 2,
+        ..FIRST
+    };
+    let repeat = Sent {
+        again: true,
+        ..second
+    };
+    let steps = [(30, Some(second)), (149, None), (150, Some(repeat))];
+    assert!(rt; sends(&mut host, &steps));
+    Ok(())
+}
+
+#[test]
+fn a_response_ends_its_command_once(rt: HostRuntime) -> Result<(), Fail> {
+    let mut host = attached(rt.alloc(), &one(SHELF), Millis(2000), 4096)?;
+    let submitted = host.submit(FIRST_DEVICE, Op::Flush);
+    assert!(rt; submitted.is_ok());
+    assert!(rt; sends(&mut host, &[(0, Some(FIRST))]));
+    assert_eq!(rt; host.receive(&FLUSHED[..35]), Taken::Stale);
+    assert_eq!(rt; host.receive(&FLUSHED), Taken::Finished(Ticket(1)));
+    assert_eq!(rt; host.receive(&FLUSHED), Taken::Stale);
+    let done = host.take_done();
+    assert!(rt;
+        matches!(
+            done,
+            Some(Done {
+                ticket: Ticket(1),
+                outcome: Outcome::Flushed
+            })
+        )
+    );
+    assert!(rt; host.take_done().is_none());
+    Ok(())
+}
+
+#[test]
+fn attachments_are_refused(rt: HostRuntime) -> Result<(), Fail> {
+    let mut host = attached(rt.alloc(), &one(SHELF), Millis(2000), 4096)?;
+    let again = host.attach(DEVICE, &one(SHELF), 16, 2);
+    assert_eq!(rt; again, Err(AttachRefusal::Already));
+    let other = TargetId { major: 1, minor: 1 };
+    let nowhere = host.attach(other, &no_port(), 16, 2);
+    assert_eq!(rt; nowhere, Err(AttachRefusal::NoPort));
+    Ok(())
+}
+
+/// Submits so many flushes, or fewer where no memory is there.
+fn fill(host: &mut Initiator, device: DeviceNo, count: u32) -> bool
+    requires new { host.old.last_ticket ≡ 0 }
+    requires attached { device.0 < length host.old.devices }
+    ensures last { host.new.last_ticket ≤ count }
+    ensures attached { device.0 < length host.new.devices }
+{
+    'held: for i in 0..count {
+        let Ok(_) = host.submit(device, Op::Flush) else {
+            return false;
+        };
+    }
+    true
+}
+
+#[test]
+fn a_backlog_is_refused(rt: HostRuntime) -> Result<(), Fail> {
+    let mut host = attached(rt.alloc(), &one(SHELF), Millis(2000), 4096)?;
+    let filled = fill(&mut host, FIRST_DEVICE, MAX_HELD);
+    assert!(rt; filled);
+    let refused = host.submit(FIRST_DEVICE, Op::Flush);
+    let backlog = SubmitRefusal::Backlog { held: 65_536 };
+    assert!(rt; matches!(refused, Err((refusal, Op::Flush)) if refusal == backlog));
+    Ok(())
+}

@@ -1,0 +1,18 @@
+//! Tests of the shelf's crates by their public calls: lists, a cache, a keep, a target, a shelf, and the
+//! loops that serve it.
+//!
+//! They stand beside the crates, since a crate with tests inside it is proved once more with them.
+#![tactic(auto)]
+
+#[cfg(test)]
+mod cache;
+#[cfg(test)]
+mod keep;
+#[cfg(test)]
+mod lists;
+#[cfg(test)]
+mod serve;
+#[cfg(test)]
+mod shelf;
+#[cfg(test)]
+mod target;

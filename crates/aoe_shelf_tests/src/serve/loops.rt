@@ -1,0 +1,170 @@
+ghost use Rattle.std.specs.Prelude.{◌<◌};
+
+use aoe_base::{Blob, Mac, Ports};
+use aoe_cache::{AnyStore, Cached};
+use aoe_disk::MemDisk;
+use aoe_frame::Frame;
+use aoe_io::{Got, Link, MemLink, MemSink, MemSource};
+use aoe_keep::Keep;
+use aoe_serve::{AnswerEnd, ServeEnd, ShelfLink, answer, serve};
+use aoe_shelf::Shelf;
+use aoe_store::Direct;
+use std::alloc::Global;
+use std::test::Fail;
+
+pub(crate) type MemShelf = Shelf<AnyStore<MemDisk>, MemDisk>;
+
+/// A query config read from all shelves and slots, by 02:00:00:00:00:0a, as it stands on the stream.
+pub(crate) const QUERY: [u8; 34] = [
+    0, 32, 255, 255, 255, 255, 255, 255, 2, 0, 0, 0, 0, 10, 0x88, 0xa2, 0x10, 0, 255, 255, 255, 1,
+    0, 0, 0, 7, 0, 0, 0, 0, 0, 0, 0, 0,
+];
+
+/// Sets the config string `ab`, by 02:00:00:00:00:0a, at all targets.
+pub(crate) const SET: [u8; 36] = [
+    0, 34, 255, 255, 255, 255, 255, 255, 2, 0, 0, 0, 0, 10, 0x88, 0xa2, 0x10, 0, 255, 255, 255, 1,
+    0, 0, 0, 7, 0, 0, 0, 0, 0, 3, 0, 2, b'a', b'b',
+];
+
+/// The reply to the query by the target 1.0, as it stands on the stream, without its padding.
+const REPLY: [u8; 34] = [
+    0, 60, 2, 0, 0, 0, 0, 10, 2, 0, 0, 0, 0, 1, 0x88, 0xa2, 0x18, 0, 0, 1, 0, 1, 0, 0, 0, 7, 0, 16,
+    0, 1, 2, 16, 0, 0,
+];
+
+/// The reply to the query by the target of the shelf 1 with this minor, as it stands on the stream.
+pub(crate) fn reply(minor: u8) -> [u8; 62] {
+    let mut reply = [0u8; 62];
+    reply[..34].copy_from_slice(&REPLY);
+    reply[20] = minor;
+    reply
+}
+
+/// The replies of both targets.
+fn replies() -> [u8; 124] {
+    let mut both = [0u8; 124];
+    both[..62].copy_from_slice(&reply(0));
+    both[62..].copy_from_slice(&reply(1));
+    both
+}
+
+/// Adds a target of 16 zero sectors without lists.
+fn add(alloc: Global, shelf: &mut MemShelf, minor: u8, store: AnyStore<MemDisk>) -> Result<(), Fail>
+    requires { minor < 255 }
+{
+    let Ok(keep) = Keep::mount(MemDisk::new(alloc, 16)?) else {
+        return Err(Fail::from("no keep"));
+    };
+    if shelf.add(minor, store, keep).is_err() {
+        return Err(Fail::from("not added"));
+    }
+    Ok(())
+}
+
+/// The shelf 1 with the targets 1.0 and 1.1, of which the second writes to its disk later.
+pub(crate) fn shelf_of_two(alloc: Global) -> Result<MemShelf, Fail> {
+    let mut ports = Ports::new();
+    ports.push(Mac([2, 0, 0, 0, 0, 1]));
+    let mut shelf = Shelf::new(alloc, 1, ports, 1500)?;
+    let Ok(cached) = Cached::mount(alloc, MemDisk::new(alloc, 16)?, 4) else {
+        return Err(Fail::from("no memory"));
+    };
+    let direct = Direct::new(MemDisk::new(alloc, 16)?);
+    add(alloc, &mut shelf, 0, AnyStore::Direct(direct))?;
+    add(alloc, &mut shelf, 1, AnyStore::Cached(cached))?;
+    Ok(shelf)
+}
+
+#[test]
+fn answers_streams(rt: HostRuntime) -> Result<(), Fail> {
+    let mut response = QUERY;
+    response[16] = 0x18;
+    let mut broken = [0u8; 37];
+    broken[1] = 23;
+    broken[26] = 32;
+    let cases: [(&[u8], AnswerEnd, &[u8]); 4] = [
+        (b"", AnswerEnd::Ended, b""),
+        (&QUERY, AnswerEnd::Ended, &replies()),
+        (&response, AnswerEnd::Ended, b""),
+        (&broken, AnswerEnd::Stream { offset: 25 }, b""),
+    ];
+    for (input, end, output) in cases {
+        let mut shelf = shelf_of_two(rt.alloc())?;
+        let mut source = MemSource::of(rt.alloc(), input)?;
+        let mut sink = MemSink::new(rt.alloc(), 1000)?;
+        assert_eq!(rt; answer(&mut shelf, &mut source, &mut sink), end);
+        assert_eq!(rt; sink.bytes(), output);
+    }
+    Ok(())
+}
+
+/// A link with room for two frames that brings the query, and then has ended.
+fn link_of_query(alloc: Global) -> Result<MemLink, Fail> {
+    let mut coming = Vec::new(alloc);
+    coming.push(Some(Blob::of(alloc, &QUERY[2..])?))?;
+    Ok(MemLink::of(alloc, coming, 2)?)
+}
+
+#[test]
+fn serves_a_link(rt: HostRuntime) -> Result<(), Fail> {
+    // The most frames and quiet turns, and how many replies the link took.
+    let cases = [(0, 9, 0), (1, 0, 0), (1, 9, 2), (2, 9, 2)];
+    for (frames, idle, count) in cases {
+        let mut shelf = shelf_of_two(rt.alloc())?;
+        let mut link = link_of_query(rt.alloc())?;
+        let end = serve(&mut shelf, &mut link, frames, idle);
+        assert_eq!(rt; end, ServeEnd::Ended);
+        assert_eq!(rt; link.count(), count);
+        for minor in 0..2u8 {
+            let i = usize::from(minor);
+            if i < link.count() {
+                assert_eq!(rt; link.frame(i), &reply(minor)[2..]);
+            }
+        }
+    }
+    Ok(())
+}
+
+#[test]
+fn serves_a_quiet_link(rt: HostRuntime) -> Result<(), Fail> {
+    let mut coming = Vec::new(rt.alloc());
+    coming.push(None)?;
+    coming.push(None)?;
+    coming.push(None)?;
+    coming.push(None)?;
+    coming.push(None)?;
+    let mut link = MemLink::of(rt.alloc(), coming, 2)?;
+    let mut shelf = shelf_of_two(rt.alloc())?;
+    assert_eq!(rt; serve(&mut shelf, &mut link, 1, 3), ServeEnd::Ended);
+    assert_eq!(rt; link.count(), 0);
+
+    // Three of its five turns were taken.
+    let mut frame = Frame::new();
+    for got in [Got::Quiet, Got::Quiet, Got::Ended] {
+        assert_eq!(rt; link.recv(&mut frame), Ok(got));
+    }
+    Ok(())
+}
+
+#[test]
+fn links_a_shelf(rt: HostRuntime) -> Result<(), Fail> {
+    let Ok(mut link) = ShelfLink::new(rt.alloc(), shelf_of_two(rt.alloc())?) else {
+        return Err(Fail::from("no memory"));
+    };
+    let mut frame = Frame::new();
+    assert_eq!(rt; link.recv(&mut frame), Ok(Got::Quiet));
+
+    // There are 66 replies, and the last two are lost.
+    for _ in 0..33 {
+        assert_eq!(rt; link.send(&QUERY[2..]), Ok(()));
+    }
+    for _ in 0..32 {
+        for minor in 0..2u8 {
+            assert_eq!(rt; link.recv(&mut frame), Ok(Got::Frame));
+            assert_eq!(rt; frame.as_slice(), &reply(minor)[2..]);
+        }
+    }
+    assert_eq!(rt; link.recv(&mut frame), Ok(Got::Quiet));
+    assert_eq!(rt; link.close().count(), 2);
+    Ok(())
+}

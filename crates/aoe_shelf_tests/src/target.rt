@@ -1,0 +1,530 @@
+ghost use Rattle.std.specs.Prelude.{◌≡◌, ◌≤◌, None, length};
+ghost use Rattle.aoe_base.specs.Faults.{Rose};
+
+use aoe_base::{Failed, Mac, Ports, Span, TargetId};
+use aoe_disk::{Arm, Disk, Loss, MemDisk};
+use aoe_frame::{Frame, pad};
+use aoe_keep::Keep;
+use aoe_lists::Lists;
+use aoe_store::{Direct, Store};
+use aoe_target::{Effect, Heard, Target};
+use std::alloc::Global;
+use std::test::Fail;
+
+const PORT: [u8; 6] = [2, 0, 0, 0, 0, 1];
+
+const A: [u8; 6] = [2, 0, 0, 0, 0, 0x0a];
+
+const B: [u8; 6] = [2, 0, 0, 0, 0, 0x0b];
+
+const C: [u8; 6] = [2, 0, 0, 0, 0, 0x0c];
+
+const DONE: Heard = Heard::Replied {
+    effect: Effect::None,
+};
+
+const EDITED: Heard = Heard::Replied {
+    effect: Effect::Edited,
+};
+
+/// The target 1.0, behind one port.
+fn target_of<S: Store, D: Disk>(store: S, keep: Keep<D>) -> Target<S, D> {
+    let mut ports = Ports::new();
+    ports.push(Mac(PORT));
+    let id = TargetId { major: 1, minor: 0 };
+    Target::mount(store, keep, id, ports, 1500)
+}
+
+/// The target of 16 zero sectors, with the lists of a disk.
+fn target_over(alloc: Global, keep: MemDisk) -> Result<Target<Direct<MemDisk>, MemDisk>, Fail> {
+    let disk = MemDisk::new(alloc, 16)?;
+    let Ok(keep) = Keep::mount(keep) else {
+        return Err(Fail::from("no keep"));
+    };
+    Ok(target_of(Direct::new(disk), keep))
+}
+
+/// The target with a keep of 16 zero sectors.
+fn target(alloc: Global) -> Result<Target<Direct<MemDisk>, MemDisk>, Fail> {
+    target_over(alloc, MemDisk::new(alloc, 16)?)
+}
+
+fn joined(pieces: &[&[u8]]) -> Frame {
+    let mut frame = Frame::new();
+    for piece in pieces {
+        let _ = frame.try_extend_from_slice(piece);
+    }
+    frame
+}
+
+/// A frame of the station to the target, with the tag 7. `version` is byte 14.
+fn request(station: &[u8; 6], version: u8, command: u8, args: &[u8]) -> Frame {
+    let middle = [0x88, 0xa2, version, 0, 0, 1, 0, command, 0, 0, 0, 7];
+    joined(&[&PORT, station, &middle, args])
+}
+
+/// The reply to it. `error` is byte 15.
+fn reply(station: &[u8; 6], error: u8, command: u8, args: &[u8]) -> Frame {
+    let flags = if error == 0 { 0x18 } else { 0x1c };
+    let middle = [0x88, 0xa2, flags, error, 0, 1, 0, command, 0, 0, 0, 7];
+    let mut frame = joined(&[station, &PORT, &middle, args]);
+    pad(&mut frame);
+    frame
+}
+
+/// What becomes of a request of version 1, and its reply.
+fn exchange<S: Store, D: Disk>(
+    target: &mut Target<S, D>,
+    station: &[u8; 6],
+    command: u8,
+    args: &[u8],
+) -> (Heard, Frame) {
+    let mut out = Frame::new();
+    let heard = target.receive(request(station, 0x10, command, args).as_slice(), &mut out);
+    (heard, out)
+}
+
+/// Whether a request of version 1 has this effect, and the reply this error and these arguments.
+fn answers<S: Store, D: Disk>(
+    target: &mut Target<S, D>,
+    station: &[u8; 6],
+    command: u8,
+    args: &[u8],
+    effect: Effect,
+    error: u8,
+    told: &[u8],
+) -> bool {
+    let (heard, out) = exchange(target, station, command, args);
+    heard == Heard::Replied { effect }
+        && out.as_slice() == reply(station, error, command, told).as_slice()
+}
+
+#[test]
+fn the_last_sector_and_behind_it(rt: HostRuntime) -> Result<(), Fail> {
+    let mut target = target(rt.alloc())?;
+    let one = joined(&[b"\x41\0\x01\x34\x0f\0\0\0\0\0\0\0", &[7; 512]]);
+    let wrote = Effect::Wrote(Span { at: 15, count: 1 });
+    let done = b"\x41\0\0\x40\x0f\0\0\0\0\0\0\0";
+    assert!(rt; answers(&mut target, &A, 0, one.as_slice(), wrote, 0, done));
+
+    let two = joined(&[b"\x41\0\x02\x34\x0f\0\0\0\0\0\0\0", &[8; 1024]]);
+    let behind = b"\x41\x10\0\x41\x0f\0\0\0\0\0\0\0";
+    assert!(rt; answers(&mut target, &A, 0, two.as_slice(), Effect::None, 0, behind));
+
+    let read = b"\x40\0\x01\x24\x0f\0\0\0\0\0\0\0";
+    let told = joined(&[b"\x40\0\0\x40\x0f\0\0\0\0\0\0\0", &[7; 512]]);
+    assert!(rt; answers(&mut target, &A, 0, read, Effect::None, 0, told.as_slice()));
+    let (store, _) = target.close();
+    assert_eq!(rt; store.close().calls(), 2);
+    Ok(())
+}
+
+/// Whether a request is answered by an error reply of 60 bytes, and nothing is changed or called.
+fn refuses(
+    mut target: Target<Direct<MemDisk>, MemDisk>,
+    version: u8,
+    command: u8,
+    args: &[u8],
+    error: u8,
+) -> bool {
+    let mut out = Frame::new();
+    let heard = target.receive(request(&A, version, command, args).as_slice(), &mut out);
+    let told = reply(&A, error, command, args.get(..36).unwrap_or(args));
+    let is_kept = *target.lists() == Lists::new();
+    let (store, keep) = target.close();
+    heard == DONE
+        && out.as_slice() == told.as_slice()
+        && out.len() == 60
+        && is_kept
+        && store.close().calls() == 0
+        && keep.close().calls() == 3
+}
+
+#[test]
+fn malformed_arguments(rt: HostRuntime) -> Result<(), Fail> {
+    // The version, the command, the begin of its arguments, the rest of them, and the error.
+    let cases: [(u8, u8, &[u8], &[u8], u8); 12] = [
+        (0x10, 1, b"", b"", 2),
+        (0x10, 1, b"\0\0\0\0\0\x03\x04\0", b"", 2),
+        (0x10, 1, b"\0\0\0\0\0\x03\x04\x01", &[b'a'; 1025], 2),
+        (0x10, 1, b"\0\0\0\0\0\x05\0\0", b"", 2),
+        (0x10, 2, b"\0\x01\0\xff", &[0; 2039], 2),
+        (0x10, 3, b"\x01\xb5", &[2; 1086], 2),
+        (0x10, 3, b"\x03\0", b"", 2),
+        (
+            0x10,
+            0,
+            b"\x40\0\0\x24",
+            b"\x01\x02\x03\x04\x05\x06\x07\x08",
+            2,
+        ),
+        (
+            0x10,
+            0,
+            b"\x40\0\x03\x24",
+            b"\x01\x02\x03\x04\x05\x06\x07\x08",
+            2,
+        ),
+        (0x10, 0, b"\x41\0\x02\x34\0\0\0\0\0\0\0\0", &[7; 1023], 2),
+        (0x10, 255, b"", b"", 1),
+        (0x20, 255, b"", b"", 5),
+    ];
+    for (version, command, begin, rest, error) in cases {
+        let target = target(rt.alloc())?;
+        let args = joined(&[begin, rest]);
+        let is_refused = refuses(target, version, command, args.as_slice(), error);
+        assert!(rt; is_refused, "command {command}");
+    }
+    Ok(())
+}
+
+#[test]
+fn malformed_values(rt: HostRuntime) -> Result<(), Fail> {
+    let mut target = target(rt.alloc())?;
+    let unknown = b"\0\x01\0\x01\0\x03\x02\0\0\0\0\x0a";
+    assert!(rt;
+        answers(
+            &mut target,
+            &A,
+            2,
+            unknown,
+            Effect::None,
+            0,
+            b"\0\x01\x02\0"
+        )
+    );
+    let behind_all = b"\x40\0\x01\x24\xff\xff\xff\xff\xff\xff\0\0";
+    let told = b"\x40\x10\0\x41\xff\xff\xff\xff\xff\xff\0\0";
+    assert!(rt; answers(&mut target, &A, 0, behind_all, Effect::None, 0, told));
+    assert!(rt; *target.lists() == Lists::new());
+    Ok(())
+}
+
+#[test]
+fn whom_a_request_is_for(rt: HostRuntime) -> Result<(), Fail> {
+    let mut target = target(rt.alloc())?;
+    let mut out = Frame::new();
+    let told = reply(&A, 0, 1, b"\0\x10\0\x01\x02\x10\0\0");
+    // The destination, the shelf and the slot, and what becomes of it.
+    let cases = [
+        (PORT, [0, 1, 255], DONE),
+        (PORT, [255, 255, 0], DONE),
+        ([255; 6], [255, 255, 255], DONE),
+        (C, [0, 1, 0], Heard::Ignored),
+        (PORT, [0, 2, 0], Heard::Ignored),
+        (PORT, [0, 1, 1], Heard::Ignored),
+    ];
+    for (destination, id, wanted) in cases {
+        let [high, low, minor] = id;
+        let middle = [0x88, 0xa2, 0x10, 0, high, low, minor, 1, 0, 0, 0, 7];
+        let frame = joined(&[&destination, &A, &middle, &[0; 8]]);
+        out.clear();
+        let heard = target.receive(frame.as_slice(), &mut out);
+        let reply = if wanted == DONE { told.as_slice() } else { b"" };
+        assert!(rt; heard == wanted && out.as_slice() == reply);
+    }
+    Ok(())
+}
+
+#[test]
+fn checks_in_their_order(rt: HostRuntime) -> Result<(), Fail> {
+    let mut target = target(rt.alloc())?;
+    let edit = joined(&[&[0, 1, 0, 1, 0, 1], &C]);
+    let told = joined(&[&[0, 1, 0, 1, 0, 0], &C]);
+    let edited = Effect::Edited;
+    assert!(rt;
+        answers(
+            &mut target,
+            &C,
+            2,
+            edit.as_slice(),
+            edited,
+            0,
+            told.as_slice()
+        )
+    );
+
+    let silent = [
+        request(&A, 0x10, 2, &[0; 4]),
+        request(&A, 0x10, 0, b"\x40\0\x01\x24\0\0\0\0\0\0\0\0"),
+        request(&A, 0x20, 1, &[0; 8]),
+    ];
+    let mut out = Frame::new();
+    for frame in &silent {
+        let heard = target.receive(frame.as_slice(), &mut out);
+        assert!(rt; heard == Heard::Silent && out.is_empty());
+    }
+    let heard = target.receive(request(&C, 0x20, 1, &[0; 8]).as_slice(), &mut out);
+    assert!(rt; heard == DONE && out.as_slice() == reply(&C, 5, 1, &[0; 8]).as_slice());
+    Ok(())
+}
+
+#[test]
+fn reservations(rt: HostRuntime) -> Result<(), Fail> {
+    let mut target = target(rt.alloc())?;
+    let read = b"\x40\0\x01\x24\0\0\0\0\0\0\0\0".as_slice();
+    let to_a = b"\x01\x01\x02\0\0\0\0\x0a".as_slice();
+    let to_b = b"\x01\x01\x02\0\0\0\0\x0b".as_slice();
+    let by_force = b"\x02\x01\x02\0\0\0\0\x0b".as_slice();
+    // The station, the command, its arguments, the effect and the error.
+    let steps = [
+        (A, 3, to_a, Effect::Edited, 0),
+        (B, 0, read, Effect::None, 6),
+        (B, 3, to_b, Effect::None, 6),
+        (B, 3, by_force, Effect::Edited, 0),
+        (A, 0, read, Effect::None, 6),
+    ];
+    for (station, command, args, effect, error) in steps {
+        assert!(rt; answers(&mut target, &station, command, args, effect, error, args));
+    }
+    Ok(())
+}
+
+#[test]
+fn config_strings(rt: HostRuntime) -> Result<(), Fail> {
+    let mut target = target(rt.alloc())?;
+    let set = b"\0\0\0\0\0\x03\0\x02ab".as_slice();
+    let other = b"\0\0\0\0\0\x03\0\x02cd".as_slice();
+    let told = b"\0\x10\0\x01\x02\x13\0\x02ab";
+    let steps = [
+        (set, Effect::Edited, 0),
+        (set, Effect::None, 0),
+        (other, Effect::None, 4),
+    ];
+    for (args, effect, error) in steps {
+        assert!(rt; answers(&mut target, &A, 1, args, effect, error, told));
+    }
+    assert_eq!(rt; target.lists().config.as_slice(), b"ab".as_slice());
+
+    // A mounting with both gates closed makes 3 calls, and the one change of the lists 6.
+    let (_, keep) = target.close();
+    let disk = keep.close();
+    assert_eq!(rt; disk.calls(), 9);
+    let target = target_over(rt.alloc(), disk.crash(Loss::Old))?;
+    assert_eq!(rt; target.lists().config.as_slice(), b"ab".as_slice());
+    Ok(())
+}
+
+#[test]
+fn lists_that_can_not_be_kept(rt: HostRuntime) -> Result<(), Fail> {
+    let set = b"\0\0\0\0\0\x03\0\x02ab";
+    let effect = Effect::EditFault;
+    // Each of the six device calls of a change fails.
+    for k in 1..7u32 {
+        let mut target = target(rt.alloc())?;
+        target.arm_keep(Arm::Fail(k));
+        assert!(rt;
+            answers(&mut target, &A, 1, set, effect, 3, set),
+            "call {k}"
+        );
+        assert!(rt; target.lists().config.is_empty() && !target.keep_is_out());
+        let (heard, _) = exchange(&mut target, &A, 1, set);
+        let is_kept = heard == EDITED && target.lists().config.as_slice() == b"ab".as_slice();
+        assert!(rt; is_kept, "behind call {k}");
+    }
+
+    let mut target = target(rt.alloc())?;
+    target.arm_keep(Arm::Stop(1));
+    let (heard, _) = exchange(&mut target, &A, 1, set);
+    assert!(rt; heard == Heard::Replied { effect } && target.keep_is_out());
+    Ok(())
+}
+
+#[test]
+fn an_edit_that_does_not_fit(rt: HostRuntime) -> Result<(), Fail> {
+    let mut target = target(rt.alloc())?;
+    let mut edit = joined(&[&[0, 1, 0, 64, 0, 1], &A]);
+    for last in 0x10..0x4f {
+        let _ = edit.try_extend_from_slice(&[0, 1, 2, 0, 0, 0, 0, last]);
+    }
+    let (heard, _) = exchange(&mut target, &A, 2, edit.as_slice());
+    assert_eq!(rt; heard, EDITED);
+    let too_many = [
+        0, 1, 0, 3, 0, 2, 2, 0, 0, 0, 0, 0x10, 0, 1, 2, 0, 0, 0, 0, 0x0b, 0, 1, 2, 0, 0, 0, 0, 0x0c,
+    ];
+    assert!(rt;
+        answers(
+            &mut target,
+            &A,
+            2,
+            &too_many,
+            Effect::None,
+            0,
+            &[0, 1, 3, 0]
+        )
+    );
+    let masks = &target.lists().masks;
+    assert!(rt; masks.len() == 64 && masks.contains(&Mac([2, 0, 0, 0, 0, 0x10])));
+    Ok(())
+}
+
+#[test]
+fn identify_and_short_addresses(rt: HostRuntime) -> Result<(), Fail> {
+    let mut target = target(rt.alloc())?;
+    let (heard, out) = exchange(&mut target, &A, 0, b"\0\0\x01\xec\0\0\0\xa0\0\0\0\0");
+    assert!(rt; heard == DONE && out.len() == 548);
+    assert_eq!(rt; out.as_slice().get(56..60), Some(b"1e0.".as_slice()));
+    assert_eq!(rt;
+        out.as_slice().get(156..160),
+        Some(b"\x10\0\0\0".as_slice())
+    );
+
+    let write = joined(&[b"\0\0\x02\x30\x05\0\0\xe0\0\0\0\0", &[5; 512], &[6; 512]]);
+    let (_, _) = exchange(&mut target, &A, 0, write.as_slice());
+    let read = b"\0\0\x02\x20\x05\0\0\xe0\0\0\0\0";
+    let told = joined(&[b"\0\0\0\x40\x05\0\0\xe0\0\0\0\0", &[5; 512], &[6; 512]]);
+    assert!(rt; answers(&mut target, &A, 0, read, Effect::None, 0, told.as_slice()));
+    Ok(())
+}
+
+#[test]
+fn failed_calls(rt: HostRuntime) -> Result<(), Fail> {
+    let mut target = target(rt.alloc())?;
+    let span = Span { at: 3, count: 1 };
+    let write = joined(&[b"\x41\0\x01\x34\x03\0\0\0\0\0\0\0", &[7; 512]]);
+    let read = b"\x40\0\x01\x24\x03\0\0\0\0\0\0\0".as_slice();
+    let verify = b"\x40\0\x01\x42\x03\0\0\0\0\0\0\0".as_slice();
+    let flush = b"\x40\0\0\xea\0\0\0\0\0\0\0\0".as_slice();
+    let unread = b"\x40\x40\0\x41\x03\0\0\0\0\0\0\0";
+    let unwritten = b"\x41\x04\0\x41\x03\0\0\0\0\0\0\0";
+    let unsynced = b"\x40\x04\0\x41\0\0\0\0\0\0\0\0";
+    // The arguments, the effect of a call that fails and the reply's arguments, and the effect of the
+    // same request behind it.
+    let cases = [
+        (read, Effect::ReadFault, unread, Effect::None),
+        (verify, Effect::ReadFault, unread, Effect::None),
+        (
+            write.as_slice(),
+            Effect::WriteFault(span),
+            unwritten,
+            Effect::Wrote(span),
+        ),
+        (flush, Effect::SyncFault, unsynced, Effect::Synced),
+    ];
+    for (args, fault, told, effect) in cases {
+        target.arm_store(Arm::Fail(1));
+        assert!(rt; answers(&mut target, &A, 0, args, fault, 0, told));
+        let (heard, _) = exchange(&mut target, &A, 0, args);
+        assert!(rt; heard == Heard::Replied { effect });
+    }
+    let done = b"\x40\0\0\x40\0\0\0\0\0\0\0\0";
+    assert!(rt; answers(&mut target, &A, 0, flush, Effect::Synced, 0, done));
+
+    target.arm_store(Arm::Stop(1));
+    assert!(rt; target.sync().is_err() && target.store_is_out());
+    Ok(())
+}
+
+/// A disk of which one sector can't be read. It tells nothing of its content.
+#[derive(Drop)]
+struct BadSector {
+    disk: MemDisk,
+    bad: u64,
+    faults: u64,
+}
+
+impl BadSector {
+    fn new(disk: MemDisk, bad: u64) -> BadSector {
+        BadSector {
+            disk,
+            bad,
+            faults: 0,
+        }
+    }
+
+    fn fail(&mut self) -> Failed
+        ensures disk { self.new.disk ≡ self.old.disk }
+        ensures rose { Rose self.old.faults self.new.faults }
+        ensures later { self.old.faults ≤ self.new.faults }
+    {
+        self.faults = self.faults.saturating_add(1);
+        Failed
+    }
+}
+
+impl Disk for BadSector {
+    ghost state = { λ d. record {
+      sectors = length d.disk.loose;
+      faults = d.faults;
+      contents = None;
+      schedule = None;
+      log = None;
+    } };
+
+    fn sectors(&self) -> u64 {
+        self.disk.sectors()
+    }
+
+    fn read(&mut self, at: u64, out: &mut [u8]) -> Result<(), Failed> {
+        let is_bad = at <= self.bad && self.bad - at < (out.len() / 512) as u64;
+        match self.disk.read(at, out) {
+            Ok(()) if !is_bad => Ok(()),
+            _ => Err(self.fail()),
+        }
+    }
+
+    fn write(&mut self, at: u64, piece: &[u8]) -> Result<(), Failed> {
+        match self.disk.write(at, piece) {
+            Ok(()) => Ok(()),
+            Err(Failed) => Err(self.fail()),
+        }
+    }
+
+    fn sync(&mut self) -> Result<(), Failed> {
+        match self.disk.sync() {
+            Ok(()) => Ok(()),
+            Err(Failed) => Err(self.fail()),
+        }
+    }
+}
+
+#[test]
+fn a_sector_that_can_not_be_read(rt: HostRuntime) -> Result<(), Fail> {
+    let (_, keep) = target(rt.alloc())?.close();
+    let store = Direct::new(BadSector::new(MemDisk::new(rt.alloc(), 16)?, 5));
+    let mut target = target_of(store, keep);
+    let ranges = [
+        (0, 2, true),
+        (3, 2, true),
+        (4, 1, true),
+        (4, 2, false),
+        (5, 1, false),
+        (5, 2, false),
+        (6, 1, true),
+        (6, 2, true),
+        (14, 2, true),
+    ];
+    for (at, count, is_read) in ranges {
+        for command in [0x24, 0x42] {
+            let args = [0x40, 0, count, command, at, 0, 0, 0, 0, 0, 0, 0];
+            let effect = if is_read {
+                Effect::None
+            } else {
+                Effect::ReadFault
+            };
+            let (heard, _) = exchange(&mut target, &A, 0, &args);
+            assert!(rt; heard == Heard::Replied { effect });
+        }
+    }
+    Ok(())
+}
+
+#[test]
+fn lists_with_a_sector_that_can_not_be_read(rt: HostRuntime) -> Result<(), Fail> {
+    // Slot 0 is open: its gate and its body are read, and the gate of slot 1.
+    for (bad, is_mounted) in [
+        (0, false),
+        (1, false),
+        (7, false),
+        (8, false),
+        (9, true),
+        (15, true),
+    ] {
+        let mut target = target(rt.alloc())?;
+        let (_, _) = exchange(&mut target, &A, 1, b"\0\0\0\0\0\x03\0\x02ab");
+        let (_, keep) = target.close();
+        let disk = BadSector::new(keep.close(), bad);
+        assert_eq!(rt; Keep::mount(disk).is_ok(), is_mounted);
+    }
+    Ok(())
+}

@@ -1,0 +1,22 @@
+//! Tests of the simulator's crates by their public calls: scripts, histories and their texts, hosts and
+//! shelves over a network, whole runs, and runs over links.
+//!
+//! They stand beside the crates, since a crate with tests inside it is proved once more with them.
+#![tactic(auto)]
+
+#[cfg(test)]
+mod history;
+#[cfg(test)]
+mod hosts;
+#[cfg(test)]
+mod live;
+#[cfg(test)]
+mod script;
+#[cfg(test)]
+mod shelves;
+#[cfg(test)]
+mod soak;
+#[cfg(test)]
+mod transcript;
+#[cfg(test)]
+mod world;
