@@ -15,6 +15,6 @@ mod QueueLemmas
 mod QueuedLemmas
 mod ReleaseLemmas
 mod StageLemmas
-mod TableLemmas
 mod WaitLemmas
 pub mod LiveLemmas
+pub mod TableLemmas

@@ -3,4 +3,3 @@ mod HistoryLemmas
 mod LawfulLemmas
 mod RunLemmas
 mod SubmissionLemmas
-mod TestLemmas

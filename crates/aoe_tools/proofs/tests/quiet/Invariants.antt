@@ -1,6 +1,0 @@
-use Rattle.std.proofs.Common.{All}
-use Rattle.aoe_io.specs.LinkMemory.{IsShort}
-use Rattle.aoe_tools.proofs.tests.quiet.Given as goal
-
-abbrev pub invariant-turns : goal.invariant-turns
-invariant-turns l = All IsShort l.coming.items
