@@ -12,13 +12,8 @@ module _ (told was : Type 0) (is : told ↔ was) where
     one_fault = one_fault;
   }
 
-  pub first-blamed : {L : Type 0} (faults : L → ℕ) (links links' : List L) → (was → AtFirst (λ a b. Rose (faults a) (faults b)) links links')
-      → ((was → ⊥) → AtFirst (λ a b. faults b ≡ faults a) links links') → AtFirst (λ a b. faults b ≤ faults a + 1) links links' → AtFirst (λ a b. Blamed told (faults a) (faults b)) links links'
-  first-blamed faults [] [] cause no_fault one_fault = tt
-  first-blamed faults [] (b ∷ links') cause no_fault one_fault = one_fault
-  first-blamed faults (a ∷ links) [] cause no_fault one_fault = one_fault
-  first-blamed faults (a ∷ links) (b ∷ links') cause no_fault one_fault =
-      (blamed (faults a) (faults b) (λ e. (cause e).0) (λ other. (no_fault other).0) one_fault.0, one_fault.1)
+  pub retold : (a b : ℕ) → Blamed was a b → Blamed told a b
+  retold a b x = blamed a b x.cause x.no_fault x.one_fault
 
 -- what is so of the first where R is
 pub at-first : {X : Type 0} (R T : X → X → Type 0) (xs ys : List X) → ((x y : X) → R x y → T x y) → AtFirst R xs ys → AtFirst T xs ys

@@ -1,7 +1,6 @@
 -- What each command exports, and how its frames come.
-use Rattle.std.specs.Prelude.{ℕ, ◌+◌, ◌/◌, ◌%◌, ◌<◌, ◌≤◌, ◌≡◌, ◌||◌, Bool, true, false, [], ◌∷◌, length, Option, Some}
+use Rattle.std.specs.Prelude.{ℕ, ◌||◌, Bool, true, false, [], ◌∷◌, Option, Some}
 use Rattle.aoe_target.specs.declared.station.Station.{Station}
-use Rattle.aoe_serve.specs.Exporting.{is_served}
 use Rattle.aoe_serve.specs.Files.{named}
 use Rattle.aoe_serve.specs.declared.over_files.Rack.{Rack}
 use Rattle.aoe_serve.specs.declared.plan.Plan.{Plan}
@@ -44,14 +43,3 @@ reads_input command = false
 -- the target with this minor, over a disk of so many sectors
 abbrev pub target_of : Rack → ℕ → ℕ → Station
 target_of rack = named rack.first.major rack.ports.items rack.mtu
-
--- so many files can be exported so, with so many links
-pub record CanExport (rack : Rack) (p : Plan) (files links : ℕ) : Type 0 where
-  pub major : rack.first.major < 65535
-  pub ports : 1 ≤ length rack.ports.items
-  pub mtu : (1500 ≤ rack.mtu) × (rack.mtu ≤ 9000)
-  pub cache : rack.cache ≤ 65536
-  pub pairs : files % 2 ≡ 0
-  pub room : files ≤ 32
-  pub minors : rack.first.minor + files / 2 ≤ 255
-  pub link : is_served p ≡ true → 0 < links

@@ -1,7 +1,8 @@
 //! What each command exports, and the status of a run that ended.
 ghost use Rattle.std.specs.Prelude.{◌≡◌, ◌≤◌, ◌*◌, [], ◌∷◌, IfSome};
 ghost use Rattle.aoe_words.specs.Words.{CanAnswer, CanServe};
-ghost use Rattle.aoe.specs.Commands.{CanExport, answer_plan, serve_plan};
+ghost use Rattle.aoe_serve.specs.Exporting.{CanExport};
+ghost use Rattle.aoe.specs.Commands.{answer_plan, serve_plan};
 ghost use Rattle.aoe.specs.Ending.{after_syncs, ended_by, excess_of, refused_as, replayed_as, status_of};
 
 use crate::status::{Status, What};

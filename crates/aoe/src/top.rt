@@ -2,7 +2,7 @@
 ghost use Rattle.std.specs.Prelude.{◌≡◌, ◌≢◌, ◌≤◌, ◌<◌, ◌+◌, ◌↔◌, ◌⊎◌, List, ℕ, false, All, length, map, string_bytes, IfSome, IsSome, None, Some};
 ghost use Rattle.aoe_io.specs.Stream.{stream, IsFrame};
 ghost use Rattle.aoe_lists.specs.Settings.{Settings};
-ghost use Rattle.aoe_serve.specs.Exporting.{AtFirst};
+ghost use Rattle.aoe_serve.specs.Exporting.{AtFirst, CanExport};
 ghost use Rattle.aoe_world.specs.Replay.{IsFaultless};
 ghost use Rattle.aoe_script.specs.Lines.{refusal, script_of};
 ghost use Rattle.aoe_soak.specs.Soak.{soaked};
@@ -16,7 +16,7 @@ ghost use Rattle.aoe_words.specs.declared.command.Put.{Put as Puts};
 ghost use Rattle.aoe_words.specs.declared.command.Soak.{Soak as Soaks};
 ghost use Rattle.aoe_words.specs.declared.command.Tool.{Tool};
 ghost use Rattle.aoe_base.specs.Faults.{Blamed, Rose};
-ghost use Rattle.aoe.specs.Commands.{CanExport, is_live, reads_input, uses_clock};
+ghost use Rattle.aoe.specs.Commands.{is_live, reads_input, uses_clock};
 ghost use Rattle.aoe.specs.Live.{AreBlamed, AtBoth, RunsLive, ends};
 ghost use Rattle.aoe.specs.Ending.{file_at, keep_at, refused_slot};
 ghost use Rattle.aoe.specs.Run.{Asked, HasLists, HasReplayed, IsBad, IsGot, IsPut, IsSmall, NothingLoose, OnSlot, Ran, RanFiles, RanScript, RanSoak, Refused};

@@ -1,7 +1,7 @@
 -- Files and their keeps become slots, and leave them.
-use Rattle.std.proofs.Common.{◌≡◌, ◌≤◌, ◌<◌, ◌+◌, ℕ, zero, suc, List, [], ◌∷◌, ◌++◌, length, length-append, append-nil, append_assoc, ◌/◌, ◌*◌, Option, Some, None, Bool, false, refl, sym, ap, subst, ◌∙◌, arith}
+use Rattle.std.proofs.Common.{◌≡◌, ◌≤◌, ◌<◌, ◌+◌, ℕ, zero, suc, List, [], ◌∷◌, ◌++◌, length, Option, Some, None, false, refl, sym, ap, subst, ◌∙◌, arith}
 use Rattle.std.proofs.lemmas.Bool.{ne_eqb}
-use Rattle.std.specs.Prelude.{◌==◌, ◌||◌, All, IsSome}
+use Rattle.std.specs.Prelude.{◌==◌, All, IsSome}
 use Rattle.aoe_base.specs.declared.address.Mac.{Mac}
 use Rattle.aoe_cache.specs.Any.{any_disk, any_state}
 use Rattle.aoe_cache.specs.declared.any.AnyStore.{AnyStore}

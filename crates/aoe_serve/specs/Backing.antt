@@ -1,6 +1,5 @@
 -- The store of a slot, over its file.
-use Rattle.std.specs.Prelude.{ℕ, zero, suc, ◌≡◌, ◌≤◌, List, [], length}
-use Rattle.aoe_cache.specs.Cache.{Cache}
+use Rattle.std.specs.Prelude.{ℕ, zero, suc, ◌≡◌, ◌≤◌, [], length}
 use Rattle.aoe_cache.specs.declared.any.AnyStore.{AnyStore}
 use Rattle.aoe_cache.specs.declared.any.AnyStore.TheVariants.{Direct, Cached}
 

@@ -1,5 +1,5 @@
 -- What a run over the slots of a shelf takes, gives and leaves.
-use Rattle.std.specs.Prelude.{ℕ, ◌+◌, ◌≡◌, Bool, true, false, List, [], ◌∷◌, length, get_or, Option, Some, None, Result, Ok, Err}
+use Rattle.std.specs.Prelude.{ℕ, ◌+◌, ◌/◌, ◌%◌, ◌<◌, ◌≤◌, ◌≡◌, Bool, true, false, List, [], ◌∷◌, length, get_or, Option, Some, None, Result, Ok, Err}
 use Rattle.std.specs.Option.{option_map}
 use Rattle.aoe_base.specs.declared.failure.Failed.{Failed}
 use Rattle.aoe_disk.specs.Calls.{SyncsTo}
@@ -13,6 +13,8 @@ use Rattle.aoe_serve.specs.declared.over_link.ServeEnd.{ServeEnd}
 use Rattle.aoe_serve.specs.declared.over_stream.AnswerEnd.{AnswerEnd}
 use Rattle.aoe_serve.specs.Ending.{EndsAfter}
 use Rattle.aoe_serve.specs.Files.{OverFiles}
+use Rattle.aoe_serve.specs.declared.over_files.Rack.{Rack}
+use Rattle.aoe_serve.specs.declared.plan.ExportRefusal.{ExportRefusal}
 use Rattle.aoe_serve.specs.declared.plan.Exported.{Exported}
 use Rattle.aoe_serve.specs.declared.plan.Plan.{Plan}
 use Rattle.aoe_serve.specs.declared.plan.Plan.TheVariants as plan
@@ -37,6 +39,22 @@ pub record Tells (S K L : Type 0) : Type 0 where
 abbrev pub is_served : Plan → Bool
 is_served plan.Answer = false
 is_served (plan.Serve frames idle) = true
+
+-- so many files can be exported so, with so many links
+pub record CanExport (rack : Rack) (p : Plan) (files links : ℕ) : Type 0 where
+  pub major : rack.first.major < 65535
+  pub ports : 1 ≤ length rack.ports.items
+  pub mtu : (1500 ≤ rack.mtu) × (rack.mtu ≤ 9000)
+  pub cache : rack.cache ≤ 65536
+  pub pairs : files % 2 ≡ 0
+  pub room : files ≤ 32
+  pub minors : rack.first.minor + files / 2 ≤ 255
+  pub link : is_served p ≡ true → 0 < links
+
+-- files were exported, and their frames ended so
+abbrev pub EndsAs : Result Exported ExportRefusal → RunEnd → Type 0
+EndsAs (Ok exported) e = exported.end ≡ e
+EndsAs (Err refusal) e = ⊥
 
 -- R of the first before and after, where there is one, and the others are as they were
 abbrev pub AtFirst : {X : Type 0} → (X → X → Type 0) → List X → List X → Type 0

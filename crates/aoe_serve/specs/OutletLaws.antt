@@ -19,13 +19,13 @@ Frames = List (List ℕ)
 -- Faults.
 
 counts_none : (a : ℕ) → Counts (Ok tt) a a
-counts_none a = record { later = omega arith; fault = tt; no_fault = refl; one_fault = omega arith }
+counts_none a = record { later = omega arith; blame = record { cause = λ e. absurd cc; no_fault = λ untold. refl; one_fault = omega arith } }
 
 counts_more : (result : Outcome) (a b c : ℕ) → Counts (Ok tt) a b → Counts result b c → Counts result a c
-counts_more result a b c one two = subst (λ (n : ℕ). Counts result n c) one.no_fault two
+counts_more result a b c one two = subst (λ (n : ℕ). Counts result n c) (one.blame.no_fault (λ e. cc)) two
 
 pub same_faults : (result : Outcome) (a b : ℕ) → result ≡ Ok tt → Counts result a b → b ≡ a
-same_faults result a b is counts = let P : Outcome → Type 0 = λ r. Counts r a b in (subst P is counts).no_fault
+same_faults result a b is counts = let P : Outcome → Type 0 = λ r. Counts r a b in (subst P is counts).blame.no_fault (λ e. cc)
 
 -- Bytes.
 

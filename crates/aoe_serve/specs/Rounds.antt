@@ -1,6 +1,6 @@
 -- A round: one frame for each slot of a shelf, and the replies for what takes them.
-use Rattle.std.specs.Prelude.{ℕ, ◌≡◌, ◌≤◌, ◌+◌, List, ◌++◌, length, Option, Result, Ok, Err, OnOk, OnErr}
-use Rattle.aoe_base.specs.Faults.{Rose}
+use Rattle.std.specs.Prelude.{ℕ, ◌≡◌, ◌≤◌, List, ◌++◌, length, Option, Result, Ok, Err, is_err, true}
+use Rattle.aoe_base.specs.Faults.{Blamed}
 use Rattle.aoe_base.specs.declared.failure.Failed.{Failed}
 use Rattle.aoe_io.specs.Link.{Turn}
 use Rattle.aoe_io.specs.Stream.{stream}
@@ -24,9 +24,7 @@ pub record Round (Took : List (List ℕ) → Type 0) (frame : List ℕ) (old new
 -- the count of faults of an object that is called until it fails
 pub record Counts (result : Outcome) (before after : ℕ) : Type 0 where
   pub later : before ≤ after
-  pub fault : OnErr result (Rose before after)
-  pub no_fault : OnOk result (after ≡ before)
-  pub one_fault : after ≤ before + 1
+  pub blame : Blamed (is_err result ≡ true) before after
 
 -- a sink took replies, or a part of them where it failed
 pub record SinkTook (result : Outcome) (held held' : Option (List ℕ)) (faults faults' : ℕ) (replies : List (List ℕ)) : Type 0 where

@@ -1,5 +1,5 @@
 -- What a run of serve gives and takes over its link, by how it ended. The turns of the link and the frames that it took stand latest first.
-use Rattle.std.specs.Prelude.{ℕ, ◌≡◌, ◌+◌, ◌<◌, ◌≤◌, ◌^◌, ◌-◌, min, List, [], ◌∷◌, ◌++◌, length, take, reverse, replicate, Option, Bool, true, false, ◌||◌, ◌⊎◌, nat_eq, Result, Ok, Err}
+use Rattle.std.specs.Prelude.{ℕ, ◌≡◌, ◌+◌, ◌<◌, List, [], ◌∷◌, ◌++◌, length, take, reverse, replicate, Option, Bool, true, false, ◌||◌, ◌⊎◌, nat_eq, Result, Ok, Err}
 use Rattle.aoe_io.specs.Link.{Added, Turn, Turned, came, quiet, ended}
 use Rattle.aoe_io.specs.declared.links.Got.{Got}
 use Rattle.aoe_io.specs.declared.links.Got.TheVariants.{Frame, Quiet, Ended}

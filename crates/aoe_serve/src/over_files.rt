@@ -1,8 +1,8 @@
 //! The call that exports files.
-ghost use Rattle.std.specs.Prelude.{◌≡◌, ◌≢◌, ◌≤◌, ◌<◌, ◌+◌, ◌/◌, ◌%◌, ℕ, true, All, Err, IfOk, IsSome, OnErr, length};
-ghost use Rattle.aoe_base.specs.Faults.{Rose};
-ghost use Rattle.aoe_serve.specs.Exporting.{AtFirst, IsExported, is_served};
-ghost use Rattle.aoe_serve.specs.Files.{GivesBack, named};
+ghost use Rattle.std.specs.Prelude.{◌≡◌, ◌≤◌, ℕ, All, Err, IfErr, IfOk, IsSome, OnErr, length};
+ghost use Rattle.aoe_base.specs.Faults.{Blamed};
+ghost use Rattle.aoe_serve.specs.Exporting.{AtFirst, CanExport, EndsAs, IsExported};
+ghost use Rattle.aoe_serve.specs.Files.{AreGivenBack, GivesBack, named};
 ghost use Rattle.aoe_keep.specs.declared.refusal.MountRefusal.{MountRefusal};
 
 use crate::backing::{Backing, Most};
@@ -49,16 +49,8 @@ pub fn export<D: Disk + Drop, S: Source, K: Sink, L: Link>(
     disks: &mut [Option<D>],
     links: &mut [L],
 ) -> Result<Exported, ExportRefusal>
-    requires major { rack.first.major < 65535 }
-    requires ports { 1 ≤ length rack.ports.items }
-    requires shortest { 1500 ≤ rack.mtu }
-    requires longest { rack.mtu ≤ 9000 }
-    requires pairs { length disks.old % 2 ≡ 0 }
-    requires room { length disks.old ≤ 32 }
+    requires possible { CanExport rack plan (length disks.old) (length links.old) }
     requires there { All IsSome disks.old }
-    requires cache { rack.cache ≤ 65536 }
-    requires minors { rack.first.minor + length disks.old / 2 ≤ 255 }
-    requires link { is_served plan ≡ true → 0 < length links.old }
     ensures ran { IfOk result (λ e. IsExported D.state rack.cache (named rack.first.major rack.ports.items rack.mtu) rack.first.minor
         record { left = S.left; held = K.held; turns = L.turns; given = L.given; taken = L.taken } plan e
         record { source = source.old; sink = sink.old; links = links.old } record { source = source.new; sink = sink.new; links = links.new }
@@ -75,15 +67,9 @@ pub fn export<D: Disk + Drop, S: Source, K: Sink, L: Link>(
     ensures source_count { S.faults source.old ≤ S.faults source.new }
     ensures sink_count { K.faults sink.old ≤ K.faults sink.new }
     ensures link_count { AtFirst (λ a b. L.faults a ≤ L.faults b) links.old links.new }
-    ensures source_fault { IfOk result (λ e. e.end ≡ RunEnd.Answered AnswerEnd.SourceFault → Rose (S.faults source.old) (S.faults source.new)) }
-    ensures sink_fault { IfOk result (λ e. e.end ≡ RunEnd.Answered AnswerEnd.SinkFault → Rose (K.faults sink.old) (K.faults sink.new)) }
-    ensures link_fault { IfOk result (λ e. e.end ≡ RunEnd.Served ServeEnd.LinkFault → AtFirst (λ a b. Rose (L.faults a) (L.faults b)) links.old links.new) }
-    ensures source_no_fault { IfOk result (λ e. e.end ≢ RunEnd.Answered AnswerEnd.SourceFault → S.faults source.new ≡ S.faults source.old) }
-    ensures sink_no_fault { IfOk result (λ e. e.end ≢ RunEnd.Answered AnswerEnd.SinkFault → K.faults sink.new ≡ K.faults sink.old) }
-    ensures link_no_fault { IfOk result (λ e. e.end ≢ RunEnd.Served ServeEnd.LinkFault → AtFirst (λ a b. L.faults b ≡ L.faults a) links.old links.new) }
-    ensures source_one_fault { S.faults source.new ≤ S.faults source.old + 1 }
-    ensures sink_one_fault { K.faults sink.new ≤ K.faults sink.old + 1 }
-    ensures link_one_fault { AtFirst (λ a b. L.faults b ≤ L.faults a + 1) links.old links.new }
+    ensures source_blame { Blamed (EndsAs result (RunEnd.Answered AnswerEnd.SourceFault)) (S.faults source.old) (S.faults source.new) }
+    ensures sink_blame { Blamed (EndsAs result (RunEnd.Answered AnswerEnd.SinkFault)) (K.faults sink.old) (K.faults sink.new) }
+    ensures link_blame { AtFirst (λ a b. Blamed (EndsAs result (RunEnd.Served ServeEnd.LinkFault)) (L.faults a) (L.faults b)) links.old links.new }
 {
     export_at::<Brand, D, S, K, L>(alloc, rack, plan, source, sink, disks, links)
 }
@@ -99,23 +85,14 @@ fn export_at<M: Most, D: Disk + Drop, S: Source, K: Sink, L: Link>(
     links: &mut [L],
 ) -> Result<Exported, ExportRefusal>
     requires most { rack.cache ≡ M.most }
-    requires major { rack.first.major < 65535 }
-    requires ports { 1 ≤ length rack.ports.items }
-    requires shortest { 1500 ≤ rack.mtu }
-    requires longest { rack.mtu ≤ 9000 }
-    requires pairs { length disks.old % 2 ≡ 0 }
-    requires room { length disks.old ≤ 32 }
+    requires possible { CanExport rack plan (length disks.old) (length links.old) }
     requires there { All IsSome disks.old }
-    requires cache { rack.cache ≤ 65536 }
-    requires minors { rack.first.minor + length disks.old / 2 ≤ 255 }
-    requires link { is_served plan ≡ true → 0 < length links.old }
     ensures ran { IfOk result (λ e. IsExported D.state rack.cache (named rack.first.major rack.ports.items rack.mtu) rack.first.minor
         record { left = S.left; held = K.held; turns = L.turns; given = L.given; taken = L.taken } plan e
         record { source = source.old; sink = sink.old; links = links.old } record { source = source.new; sink = sink.new; links = links.new }
         disks.old disks.new) }
 
-    ensures refused { (slot : ℕ) (refusal : MountRefusal) → result ≡ Err (ExportRefusal.Keep slot refusal) → GivesBack D.state slot refusal disks.old disks.new }
-    ensures memory { result ≡ Err ExportRefusal.NoMemory → disks.new ≡ disks.old }
+    ensures refused { IfErr result (λ e. AreGivenBack D.state e disks.old disks.new) }
     ensures source { OnErr result (source.new ≡ source.old) }
     ensures sink { OnErr result (sink.new ≡ sink.old) }
     ensures links { OnErr result (links.new ≡ links.old) }
@@ -124,15 +101,9 @@ fn export_at<M: Most, D: Disk + Drop, S: Source, K: Sink, L: Link>(
     ensures source_count { S.faults source.old ≤ S.faults source.new }
     ensures sink_count { K.faults sink.old ≤ K.faults sink.new }
     ensures link_count { AtFirst (λ a b. L.faults a ≤ L.faults b) links.old links.new }
-    ensures source_fault { IfOk result (λ e. e.end ≡ RunEnd.Answered AnswerEnd.SourceFault → Rose (S.faults source.old) (S.faults source.new)) }
-    ensures sink_fault { IfOk result (λ e. e.end ≡ RunEnd.Answered AnswerEnd.SinkFault → Rose (K.faults sink.old) (K.faults sink.new)) }
-    ensures link_fault { IfOk result (λ e. e.end ≡ RunEnd.Served ServeEnd.LinkFault → AtFirst (λ a b. Rose (L.faults a) (L.faults b)) links.old links.new) }
-    ensures source_no_fault { IfOk result (λ e. e.end ≢ RunEnd.Answered AnswerEnd.SourceFault → S.faults source.new ≡ S.faults source.old) }
-    ensures sink_no_fault { IfOk result (λ e. e.end ≢ RunEnd.Answered AnswerEnd.SinkFault → K.faults sink.new ≡ K.faults sink.old) }
-    ensures link_no_fault { IfOk result (λ e. e.end ≢ RunEnd.Served ServeEnd.LinkFault → AtFirst (λ a b. L.faults b ≡ L.faults a) links.old links.new) }
-    ensures source_one_fault { S.faults source.new ≤ S.faults source.old + 1 }
-    ensures sink_one_fault { K.faults sink.new ≤ K.faults sink.old + 1 }
-    ensures link_one_fault { AtFirst (λ a b. L.faults b ≤ L.faults a + 1) links.old links.new }
+    ensures source_blame { Blamed (EndsAs result (RunEnd.Answered AnswerEnd.SourceFault)) (S.faults source.old) (S.faults source.new) }
+    ensures sink_blame { Blamed (EndsAs result (RunEnd.Answered AnswerEnd.SinkFault)) (K.faults sink.old) (K.faults sink.new) }
+    ensures link_blame { AtFirst (λ a b. Blamed (EndsAs result (RunEnd.Served ServeEnd.LinkFault)) (L.faults a) (L.faults b)) links.old links.new }
 {
     let Rack {
         first,

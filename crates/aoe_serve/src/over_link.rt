@@ -1,6 +1,6 @@
 //! The loop of `serve`: a frame from the link, its replies to the link.
-ghost use Rattle.std.specs.Prelude.{◌≡◌, ◌≢◌, ◌≤◌, ◌+◌, List, OnErr, OnOk, Ok, Err};
-ghost use Rattle.aoe_base.specs.Faults.{Rose};
+ghost use Rattle.std.specs.Prelude.{◌≡◌, ◌≤◌, List, Ok, Err, is_err, true};
+ghost use Rattle.aoe_base.specs.Faults.{Blamed};
 ghost use Rattle.aoe_io.specs.Link.{Turn, Turned};
 ghost use Rattle.aoe_serve.specs.Serving.{Served, Waited};
 ghost use Rattle.aoe_serve.specs.Slots.{slots_of};
@@ -30,9 +30,7 @@ fn wait<L: Link>(link: &mut L, idle: u32, out: &mut Frame) -> Result<Got, Failed
         × Turned (L.turns link.old) (L.turns link.new) (L.given link.old) (L.given link.new) turns }
     ensures taken { L.taken link.new ≡ L.taken link.old }
     ensures count { L.faults link.old ≤ L.faults link.new }
-    ensures cause { OnErr result (Rose (L.faults link.old) (L.faults link.new)) }
-    ensures no_fault { OnOk result (L.faults link.new ≡ L.faults link.old) }
-    ensures one_fault { L.faults link.new ≤ L.faults link.old + 1 }
+    ensures link_blame { Blamed (is_err result ≡ true) (L.faults link.old) (L.faults link.new) }
 {
     'turns: for turn in 0..idle {
         match link.recv(out) {
@@ -58,9 +56,7 @@ pub fn serve<S: Store, D: Disk, L: Link>(
         (slots_of S.state D.state shelf.old.targets) (slots_of S.state D.state shelf.new.targets) }
     ensures rest { shelf.new ≡ record shelf.old { targets = shelf.new.targets } }
     ensures count { L.faults link.old ≤ L.faults link.new }
-    ensures cause { result ≡ ServeEnd.LinkFault → Rose (L.faults link.old) (L.faults link.new) }
-    ensures no_fault { result ≢ ServeEnd.LinkFault → L.faults link.new ≡ L.faults link.old }
-    ensures one_fault { L.faults link.new ≤ L.faults link.old + 1 }
+    ensures link_blame { Blamed (result ≡ ServeEnd.LinkFault) (L.faults link.old) (L.faults link.new) }
 {
     let mut request = Frame::new();
     let mut reply = Frame::new();

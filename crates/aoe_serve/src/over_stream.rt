@@ -1,6 +1,6 @@
 //! The loop of `answer`: a frame from the source, its replies to the sink.
-ghost use Rattle.std.specs.Prelude.{◌≡◌, ◌≢◌, ◌≤◌, ◌+◌, IfErr, Ok, OnOk};
-ghost use Rattle.aoe_base.specs.Faults.{Rose};
+ghost use Rattle.std.specs.Prelude.{◌≡◌, ◌≤◌, Err, IfErr, Ok, OnOk};
+ghost use Rattle.aoe_base.specs.Faults.{Blamed};
 ghost use Rattle.aoe_io.specs.Bytes.{Gave};
 ghost use Rattle.aoe_io.specs.Stream.{framed, IsFrame};
 ghost use Rattle.aoe_serve.specs.Rounds.{Round, SinkTook};
@@ -54,14 +54,8 @@ fn turn<S: Store, D: Disk, R: Source, K: Sink>(
     ensures rest { shelf.new ≡ record shelf.old { targets = shelf.new.targets } }
     ensures source_count { R.faults source.old ≤ R.faults source.new }
     ensures sink_count { K.faults sink.old ≤ K.faults sink.new }
-    ensures source_fault { result ≡ Err AnswerEnd.SourceFault → Rose (R.faults source.old) (R.faults source.new) }
-    ensures sink_fault { result ≡ Err AnswerEnd.SinkFault → Rose (K.faults sink.old) (K.faults sink.new) }
-    ensures source_answers { OnOk result (R.faults source.new ≡ R.faults source.old) }
-    ensures sink_answers { OnOk result (K.faults sink.new ≡ K.faults sink.old) }
-    ensures source_no_fault { IfErr result (λ end. end ≢ AnswerEnd.SourceFault → R.faults source.new ≡ R.faults source.old) }
-    ensures sink_no_fault { IfErr result (λ end. end ≢ AnswerEnd.SinkFault → K.faults sink.new ≡ K.faults sink.old) }
-    ensures source_one_fault { R.faults source.new ≤ R.faults source.old + 1 }
-    ensures sink_one_fault { K.faults sink.new ≤ K.faults sink.old + 1 }
+    ensures source_blame { Blamed (result ≡ Err AnswerEnd.SourceFault) (R.faults source.old) (R.faults source.new) }
+    ensures sink_blame { Blamed (result ≡ Err AnswerEnd.SinkFault) (K.faults sink.old) (K.faults sink.new) }
 {
     match next_frame(source, offset, request) {
         Ok(Next::Frame) => {}
@@ -88,12 +82,8 @@ pub fn answer<S: Store, D: Disk, R: Source, K: Sink>(
     ensures rest { shelf.new ≡ record shelf.old { targets = shelf.new.targets } }
     ensures source_count { R.faults source.old ≤ R.faults source.new }
     ensures sink_count { K.faults sink.old ≤ K.faults sink.new }
-    ensures source_fault { result ≡ AnswerEnd.SourceFault → Rose (R.faults source.old) (R.faults source.new) }
-    ensures sink_fault { result ≡ AnswerEnd.SinkFault → Rose (K.faults sink.old) (K.faults sink.new) }
-    ensures source_no_fault { result ≢ AnswerEnd.SourceFault → R.faults source.new ≡ R.faults source.old }
-    ensures sink_no_fault { result ≢ AnswerEnd.SinkFault → K.faults sink.new ≡ K.faults sink.old }
-    ensures source_one_fault { R.faults source.new ≤ R.faults source.old + 1 }
-    ensures sink_one_fault { K.faults sink.new ≤ K.faults sink.old + 1 }
+    ensures source_blame { Blamed (result ≡ AnswerEnd.SourceFault) (R.faults source.old) (R.faults source.new) }
+    ensures sink_blame { Blamed (result ≡ AnswerEnd.SinkFault) (K.faults sink.old) (K.faults sink.new) }
 {
     let mut request = Frame::new();
     let mut reply = Frame::new();

@@ -1,6 +1,6 @@
 //! The run over the slots of a shelf, and the last syncs.
-ghost use Rattle.std.specs.Prelude.{◌≡◌, ◌≢◌, ◌≤◌, ◌<◌, ◌+◌, List, Result, length, true};
-ghost use Rattle.aoe_base.specs.Faults.{Rose};
+ghost use Rattle.std.specs.Prelude.{◌≡◌, ◌≤◌, ◌<◌, List, Result, length, true};
+ghost use Rattle.aoe_base.specs.Faults.{Blamed};
 ghost use Rattle.aoe_base.specs.declared.failure.Failed.{Failed};
 ghost use Rattle.aoe_serve.specs.Exporting.{AtFirst, HasRun, SyncsEach, first_failed, first_of, is_served};
 ghost use Rattle.aoe_serve.specs.Slots.{slots_of};
@@ -53,15 +53,9 @@ pub(crate) fn run<T: Store, D: Disk, S: Source, K: Sink, L: Link>(
     ensures source_count { S.faults source.old ≤ S.faults source.new }
     ensures sink_count { K.faults sink.old ≤ K.faults sink.new }
     ensures link_count { AtFirst (λ a b. L.faults a ≤ L.faults b) links.old links.new }
-    ensures source_fault { result ≡ RunEnd.Answered AnswerEnd.SourceFault → Rose (S.faults source.old) (S.faults source.new) }
-    ensures sink_fault { result ≡ RunEnd.Answered AnswerEnd.SinkFault → Rose (K.faults sink.old) (K.faults sink.new) }
-    ensures link_fault { result ≡ RunEnd.Served ServeEnd.LinkFault → AtFirst (λ a b. Rose (L.faults a) (L.faults b)) links.old links.new }
-    ensures source_no_fault { result ≢ RunEnd.Answered AnswerEnd.SourceFault → S.faults source.new ≡ S.faults source.old }
-    ensures sink_no_fault { result ≢ RunEnd.Answered AnswerEnd.SinkFault → K.faults sink.new ≡ K.faults sink.old }
-    ensures link_no_fault { result ≢ RunEnd.Served ServeEnd.LinkFault → AtFirst (λ a b. L.faults b ≡ L.faults a) links.old links.new }
-    ensures source_one_fault { S.faults source.new ≤ S.faults source.old + 1 }
-    ensures sink_one_fault { K.faults sink.new ≤ K.faults sink.old + 1 }
-    ensures link_one_fault { AtFirst (λ a b. L.faults b ≤ L.faults a + 1) links.old links.new }
+    ensures source_blame { Blamed (result ≡ RunEnd.Answered AnswerEnd.SourceFault) (S.faults source.old) (S.faults source.new) }
+    ensures sink_blame { Blamed (result ≡ RunEnd.Answered AnswerEnd.SinkFault) (K.faults sink.old) (K.faults sink.new) }
+    ensures link_blame { AtFirst (λ a b. Blamed (result ≡ RunEnd.Served ServeEnd.LinkFault) (L.faults a) (L.faults b)) links.old links.new }
 {
     match plan {
         Plan::Answer => RunEnd::Answered(answer(shelf, source, sink)),

@@ -1,7 +1,7 @@
 use Rattle.std.proofs.Common.{◌≡◌, ◌≤◌, ◌<◌, ◌+◌, ℕ, Option, None, Some, Err, arith, refl, ap}
 use Rattle.std.specs.Prelude.{IfSome}
 use Rattle.aoe.specs.Ending.{file_at}
-use Rattle.aoe.proofs.Blame.{blamed, first-blamed}
+use Rattle.aoe.proofs.Blame.{at-first, retold}
 use Rattle.aoe.proofs.Complete.{link-told, sink-told, source-told}
 use Rattle.aoe.proofs.Exits.{unsynced-within}
 use Rattle.aoe.proofs.Refusals.{backed}
@@ -22,15 +22,13 @@ refused_as-requires g c =
 
 pub returns-in-Ok-clause-source : goal.returns-in-Ok-clause-source
 returns-in-Ok-clause-source g c =
-    let e = c.in-Ok.ensures in
-    blamed _ _ (source-told c.in-Ok.exported.end c.in-Ok.exported.unsynced c.status_of.ensures) _ _ e.source_fault e.source_no_fault e.source_one_fault
+    retold _ _ (source-told c.in-Ok.exported.end c.in-Ok.exported.unsynced c.status_of.ensures) _ _ c.in-Ok.ensures.source_blame
 
 pub returns-in-Ok-clause-sink : goal.returns-in-Ok-clause-sink
 returns-in-Ok-clause-sink g c =
-    let e = c.in-Ok.ensures in
-    blamed _ _ (sink-told c.in-Ok.exported.end c.in-Ok.exported.unsynced c.status_of.ensures) _ _ e.sink_fault e.sink_no_fault e.sink_one_fault
+    retold _ _ (sink-told c.in-Ok.exported.end c.in-Ok.exported.unsynced c.status_of.ensures) _ _ c.in-Ok.ensures.sink_blame
 
 pub returns-in-Ok-clause-first : goal.returns-in-Ok-clause-first
 returns-in-Ok-clause-first g c =
-    let e = c.in-Ok.ensures in
-    first-blamed _ _ (link-told c.in-Ok.exported.end c.in-Ok.exported.unsynced c.status_of.ensures) g.L.Link.faults _ _ e.link_fault e.link_no_fault e.link_one_fault
+    let told = link-told c.in-Ok.exported.end c.in-Ok.exported.unsynced c.status_of.ensures in
+    at-first _ _ _ _ (λ a b blamed. retold _ _ told _ _ blamed) c.in-Ok.ensures.link_blame

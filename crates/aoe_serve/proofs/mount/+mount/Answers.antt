@@ -1,4 +1,4 @@
-use Rattle.std.proofs.Common.{◌≡◌, ap, arith, length, length-append, subst, sym}
+use Rattle.std.proofs.Common.{ap, arith, length, length-append, subst, sym}
 use Rattle.aoe_cache.specs.declared.any.AnyStore.{AnyStore}
 use Rattle.aoe_shelf.specs.Shelf.{Rack}
 use Rattle.aoe_serve.specs.Files.{AreBack, named}

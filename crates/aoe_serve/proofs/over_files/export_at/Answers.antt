@@ -1,4 +1,5 @@
-use Rattle.std.proofs.Common.{◌≡◌, ◌≤◌, ◌+◌, ◌∙◌, ap, arith, length, sym}
+use Rattle.std.proofs.Common.{◌≡◌, ◌≤◌, ◌∙◌, ap, arith, length, refl, sym}
+use Rattle.aoe_base.specs.Faults.{Blamed}
 use Rattle.aoe_cache.specs.Any.{any_state}
 use Rattle.aoe_cache.specs.declared.any.AnyStore.{AnyStore}
 use Rattle.aoe_serve.specs.Files.{named}
@@ -10,8 +11,9 @@ use Rattle.aoe_serve.proofs.over_files.export_at.Goals as goal
 pub returns-in-Err-mount-clause-link_count : goal.returns-in-Err-mount-clause-link_count
 returns-in-Err-mount-clause-link_count g c = same-first (λ a b. g.L.Link.faults a ≤ g.L.Link.faults b) (λ x. omega arith) c.args.links.now
 
-pub returns-in-Err-mount-clause-link_one_fault : goal.returns-in-Err-mount-clause-link_one_fault
-returns-in-Err-mount-clause-link_one_fault g c = same-first (λ a b. g.L.Link.faults b ≤ g.L.Link.faults a + 1) (λ x. omega arith) c.args.links.now
+pub returns-in-Err-mount-clause-link_blame : goal.returns-in-Err-mount-clause-link_blame
+returns-in-Err-mount-clause-link_blame g c =
+    same-first (λ a b. Blamed ⊥ (g.L.Link.faults a) (g.L.Link.faults b)) (λ x. record { cause = λ e. absurd e; no_fault = λ e. refl; one_fault = omega arith }) c.args.links.now
 
 pub unmount-requires : goal.unmount-requires
 unmount-requires g c =

@@ -42,5 +42,5 @@ frames-preserved g c =
       by_frame c.args.frames c.args.idle _ _ _ _ _ _ _ _ _ _ _ c.frames.count c.frames-test.true c.wait.new.out.items c.frames.invariant.0 c.wait.ensures.taken _ _ _ _ c.round.result _ _
           (subst P c.in-Ok-Frame.field-0-is c.in-Ok-Frame.ensures.waited) r c.in-Ok.is,
       rest_then c.args.shelf.now c.frames.shelf c.round.new.shelf c.frames.invariant.1 c.round.ensures.rest,
-      same_faults c.round.result _ _ c.in-Ok.is r.took.counts ∙ c.in-Ok-Frame.ensures.no_fault ∙ c.frames.invariant.2,
+      same_faults c.round.result _ _ c.in-Ok.is r.took.counts ∙ c.in-Ok-Frame.ensures.link_blame.no_fault (λ e. cc) ∙ c.frames.invariant.2,
     )

@@ -19,6 +19,6 @@ frames-preserved g c = (
   goes_on _ _ _ _ _ _ _ _ _ c.frames.offset c.frames.count c.len.result _ _ c.turn.new.request.items
       c.frames.invariant.0 c.len.ensures.value c.in-Ok.ensures.frame c.in-Ok.ensures.gave c.in-Ok.ensures.round,
   rest_then c.args.shelf.now c.frames.shelf c.turn.new.shelf c.frames.invariant.1 c.turn.ensures.rest,
-  c.in-Ok.ensures.source_answers ∙ c.frames.invariant.2,
-  c.in-Ok.ensures.sink_answers ∙ c.frames.invariant.3,
+  c.in-Ok.ensures.source_blame.no_fault (λ e. cc) ∙ c.frames.invariant.2,
+  c.in-Ok.ensures.sink_blame.no_fault (λ e. cc) ∙ c.frames.invariant.3,
 )
