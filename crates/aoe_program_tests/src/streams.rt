@@ -6,6 +6,16 @@ use aoe_io::{
 };
 use std::test::Fail;
 
+/// Takes a frame of a source that has given so many bytes.
+fn take(source: &mut MemSource, offset: u64, frame: &mut Frame) -> Result<Next, StreamRefusal> {
+    next_frame(source, offset, frame)
+}
+
+/// Whether a frame is given whole.
+fn gives(sink: &mut MemSink, frame: &Frame) -> bool {
+    give_frame(sink, frame.as_slice()).is_ok()
+}
+
 #[test]
 fn takes_and_gives_frames(rt: HostRuntime) -> Result<(), Fail> {
     let stream = [
@@ -14,32 +24,38 @@ fn takes_and_gives_frames(rt: HostRuntime) -> Result<(), Fail> {
     let mut source = MemSource::of(rt.alloc(), &stream)?;
     let mut sink = MemSink::new(rt.alloc(), 16)?;
     let mut frame = Frame::new();
-    assert_eq!(rt; next_frame(&mut source, 0, &mut frame)?, Next::Frame);
-    give_frame(&mut sink, frame.as_slice())?;
-    assert_eq!(rt; sink.bytes(), &stream[..16]);
-    let refused = next_frame(&mut source, 16, &mut frame);
-    assert_eq!(rt; refused, Err(StreamRefusal::Stream { offset: 16 }));
+    let taken = take(&mut source, 0, &mut frame);
+    let given = gives(&mut sink, &frame);
+    assert!(rt; taken == Ok(Next::Frame) && given && sink.bytes() == &stream[..16]);
+    let refused = take(&mut source, 16, &mut frame);
+    assert!(rt; refused == Err(StreamRefusal::Stream { offset: 16 }));
+    Ok(())
+}
+
+/// Whether a frame of 100 bytes is refused, where a call of the sink fails, and two bytes are in it.
+fn stops_at(sink: &mut MemSink, call: u32) -> bool {
+    sink.fail_at(call);
+    let given = give_frame(sink, &[7; 100]);
+    given == Err(Failed) && sink.bytes().len() == 2
+}
+
+#[test]
+fn a_failed_call_of_a_sink_is_the_last(rt: HostRuntime) -> Result<(), Fail> {
+    let mut sink = MemSink::new(rt.alloc(), 200)?;
+    let stopped = [stops_at(&mut sink, 2), stops_at(&mut sink, 1)];
+    assert!(rt; stopped == [true, true]);
     Ok(())
 }
 
 #[test]
-fn a_failed_call_is_the_last(rt: HostRuntime) -> Result<(), Fail> {
-    let bytes = [7u8; 100];
-    let mut sink = MemSink::new(rt.alloc(), 200)?;
-    sink.fail_at(2);
-    assert_eq!(rt; give_frame(&mut sink, &bytes), Err(Failed));
-    assert_eq!(rt; sink.bytes().len(), 2);
-    sink.fail_at(1);
-    assert_eq!(rt; give_frame(&mut sink, &bytes), Err(Failed));
-    assert_eq!(rt; sink.bytes().len(), 2);
-
+fn a_failed_call_of_a_source_is_the_last(rt: HostRuntime) -> Result<(), Fail> {
     let mut source = MemSource::of(rt.alloc(), b"\0\x0e0123456789abcd")?;
     let mut frame = Frame::new();
     source.fail_at(1);
-    let failed = next_frame(&mut source, 0, &mut frame);
-    assert_eq!(rt; failed, Err(StreamRefusal::SourceFault));
-    assert_eq!(rt; next_frame(&mut source, 0, &mut frame)?, Next::Frame);
-    assert_eq!(rt; frame.as_slice(), b"0123456789abcd".as_slice());
+    let failed = take(&mut source, 0, &mut frame);
+    let taken = take(&mut source, 0, &mut frame);
+    assert!(rt; failed == Err(StreamRefusal::SourceFault) && taken == Ok(Next::Frame));
+    assert!(rt; frame.as_slice() == b"0123456789abcd".as_slice());
     Ok(())
 }
 

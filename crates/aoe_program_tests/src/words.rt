@@ -1,4 +1,4 @@
-use aoe_base::{Mac, Ports, TargetId};
+use aoe_base::{Mac, NoMemory, Ports, TargetId};
 use aoe_lists::Dir;
 use aoe_words::{
     Answer, Asking, Cfg, Command, Get, Live, Mask, Put, Reserve, Serve, Soak, Tool, files_of,
@@ -8,213 +8,6 @@ use arrayvec::ArrayVec;
 use std::alloc::{AllocError, Global};
 use std::process::Abort;
 use std::test::Fail;
-
-/// Words that spell no command: none, another, or a word before it; beside `replay`; too few, too many, an empty one.
-const NO_COMMAND: [&str; 20] = [
-    // No command, another, or a word before it.
-    "",
-    "reply 1 0 d k",
-    "Answer 1 0 d k",
-    "help",
-    "help answer",
-    "--help",
-    "--mtu 1500 answer 1 0 d k",
-    // Words beside replay.
-    "replay ",
-    "replay script",
-    "replay replay",
-    "replay --mtu 1500",
-    "replay --help",
-    "replay --",
-    "Replay",
-    // Too few words, too many, an empty one.
-    "answer",
-    "answer 1",
-    "answer 1 0 d",
-    "answer 1 0 d k k",
-    "answer 1 0  k",
-    "answer 1 0 d k ",
-];
-
-/// Numbers, options and addresses that `answer` doesn't take.
-const NO_ANSWER: [&str; 38] = [
-    // Numbers.
-    "answer 70000 0 d k",
-    "answer 65535 0 d k",
-    "answer 1 255 d k",
-    "answer -1 0 d k",
-    "answer 1 0x0 d k",
-    "answer 000000000000000000001 0 d k",
-    "answer 1 0 d k --mtu 1499",
-    "answer 1 0 d k --mtu=9001",
-    // Options.
-    "answer 1 0 d k --mtu",
-    "answer 1 0 d k --mtu=",
-    "answer 1 0 d k --mtu ",
-    "answer 1 0 d k --mtu -1500",
-    "answer 1 0 d k --mtu=-1500",
-    "answer 1 0 d k --mtu --port 02:00:00:00:00:01",
-    "answer 1 0 d k --mtu 1500 --mtu 1500",
-    "answer --mtu=1500 1 0 d k --mtu 1500",
-    "answer 1 0 d k --mt 1500",
-    "answer 1 0 d k -m 1500",
-    "answer 1 0 d k --ports 02:00:00:00:00:01",
-    "answer 1 0 d k --help",
-    "answer 1 0 d k --version",
-    "answer 1 0 d -",
-    "answer 1 0 d --",
-    "answer -- 1 0 d k",
-    "answer 1 0 d -k",
-    // Addresses.
-    "answer 1 0 d k --port 03:00:00:00:00:01",
-    "answer 1 0 d k --port ff:ff:ff:ff:ff:ff",
-    "answer 1 0 d k --port 02:00:00:00:00:0A",
-    "answer 1 0 d k --port 02:00:00:00:00:01,02:00:00:00:00:02",
-    "serve 1 d k --local x --peers y --port 02:00:00:00:00:01",
-    "serve 1 d k --local x --peers y --ports 02:00:00:00:00:01,02:00:00:00:00:01",
-    "serve 1 d k --local x --peers y --ports 02:00:00:00:00:01,01:00:00:00:00:02",
-    "serve 1 d k --local x --peers y --ports 02:00:00:00:00:01,",
-    "serve 1 d k --local x --peers y --ports ,02:00:00:00:00:01",
-    "serve 1 d k --local x --peers y --ports 02:00:00:00:00:01,02:00:00:00:00:02,02:00:00:00:00:03,02:00:00:00:00:04,02:00:00:00:00:05",
-    "answer 1 0 d k --cache 65537",
-    "answer 1 0 d k --cache -1",
-    "answer 1 0 d k --cache=",
-];
-
-/// Links, files and numbers that `serve` doesn't take.
-const NO_SERVE: [&str; 15] = [
-    "serve 1 d k --local x",
-    "serve 1 d k --peers y",
-    "serve 1 d k --local= --peers y",
-    "serve 1 d k --local=-x --peers y",
-    "serve 1 --local x --peers y",
-    "serve 1 d --local x --peers y",
-    "serve 1 d k d --local x --peers y",
-    "serve 65535 d k --local x --peers y",
-    "serve 1 d k --local x --peers y --frames 0",
-    "serve 1 d k --local x --peers y --frames 4294967296",
-    "serve 1 d k --local x --peers y --idle 0",
-    "serve 1 d k --local x --peers y --idle 1000001",
-    "serve 1 d k --local x --peers y --mtu 1499",
-    "serve 1 d k --local x --peers y --cache 65537",
-    "serve 1 d k --local x --peers y --cache 1 --cache 1",
-];
-
-/// Numbers, links and options that the other commands don't take.
-const NO_RUN: [&str; 21] = [
-    "replay --cache 0",
-    "live 0 1 --one x --two y",
-    "live 65537 1 --one x --two y",
-    "live 1 0 --one x --two y",
-    "live 1 10001 --one x --two y",
-    "live 1 1 --one x",
-    "live 1 1 --two y",
-    "live 1 --one x --two y",
-    "live 1 1 1 --one x --two y",
-    "live 1 1 --one x --two y --turns 0",
-    "live 1 1 --local x --peers y",
-    "soak 65536 1",
-    "soak 0 0",
-    "soak 0 16001",
-    "soak 7",
-    "soak 7 2000 1",
-    "soak 7 -1",
-    "soak 7 2000 --turns 1",
-    "discover",
-    "discover --local x",
-    "stat --peers y",
-];
-
-/// What no tool takes in front of [`ENDS`].
-const NO_TOOL: [&str; 44] = [
-    "discover e1.2",
-    "stat --turns 0",
-    "stat --turns 1000001",
-    "stat --port 03:00:00:00:00:01",
-    "stat --mtu 1500",
-    "stat --local y",
-    "cfg",
-    "cfg e1.2",
-    "cfg e1 read",
-    "cfg e65535.0 read",
-    "cfg e1.2 Read",
-    "cfg e1.2 edit x",
-    "cfg e1.2 read x",
-    "cfg e1.2 clear x",
-    "cfg e1.2 test",
-    "cfg e1.2 prefix",
-    "cfg e1.2 set",
-    "cfg e1.2 force",
-    "cfg e1.2 force x y",
-    "cfg e1.2 set -x",
-    "mask e1.2 edit",
-    "mask e1.2 read add=02:00:00:00:00:fe",
-    "mask e1.2 set add=02:00:00:00:00:fe",
-    "mask e1.2 edit 02:00:00:00:00:fe",
-    "mask e1.2 edit add=02:00:00:00:00:FE",
-    "mask e1.2 edit Add=02:00:00:00:00:fe",
-    "mask e1.2 edit add",
-    "mask e1.2 edit add=02:00:00:00:00:fe del",
-    "reserve e1.2 set",
-    "reserve e1.2 force",
-    "reserve e1.2 read 02:00:00:00:00:01",
-    "reserve e1.2 release 02:00:00:00:00:01",
-    "reserve e1.2 clear",
-    "reserve e1.2 set 02:00:00:00:00:01,02:00:00:00:00:02",
-    "get e1.2 281474976710656 1",
-    "get e1.2 0 0",
-    "get e1.2 0 32769",
-    "get e1.2 0",
-    "get e1.2 0 1 1",
-    "get 1.2 0 1",
-    "put e1.2",
-    "put e1.2 281474976710656",
-    "put e1.2 0 1",
-    "put e1.2 0 --turns 0",
-];
-
-/// Commands with what they open: files by their names, links as `local>peers`.
-const OPENED: [(&str, &str); 12] = [
-    ("replay", ""),
-    ("soak 7 2000", ""),
-    ("answer 1 --mtu 1500 0 disk keep", "disk keep"),
-    (
-        "serve 1 d0 k0 --local 0.0.0.0:1 d1 --peers 10.0.0.1:1 k1",
-        "d0 k0 d1 k1 0.0.0.0:1>10.0.0.1:1",
-    ),
-    (
-        "live 16 10 --one 127.0.0.1:1 --two 127.0.0.1:2",
-        "127.0.0.1:1>127.0.0.1:2 127.0.0.1:2>127.0.0.1:1",
-    ),
-    (
-        "discover --local 0.0.0.0:1 --peers 10.0.0.1:1",
-        "0.0.0.0:1>10.0.0.1:1",
-    ),
-    (
-        "stat --peers=10.0.0.1:1 --local=0.0.0.0:1",
-        "0.0.0.0:1>10.0.0.1:1",
-    ),
-    (
-        "cfg e1.2 set x --local 0.0.0.0:1 --peers 10.0.0.1:1",
-        "0.0.0.0:1>10.0.0.1:1",
-    ),
-    (
-        "mask e1.2 read --local 0.0.0.0:1 --peers 10.0.0.1:1",
-        "0.0.0.0:1>10.0.0.1:1",
-    ),
-    (
-        "reserve --local 0.0.0.0:1 e1.2 --peers 10.0.0.1:1 release",
-        "0.0.0.0:1>10.0.0.1:1",
-    ),
-    (
-        "get e1.2 --local 0.0.0.0:1 --peers 10.0.0.1:1 0 1",
-        "0.0.0.0:1>10.0.0.1:1",
-    ),
-    (
-        "put --local 0.0.0.0:1 --peers 10.0.0.1:1 e1.2 0",
-        "0.0.0.0:1>10.0.0.1:1",
-    ),
-];
 
 /// The ends of a link, as every tool is told them.
 const ENDS: &str = " --local 0.0.0.0:1 --peers 10.0.0.1:1";
@@ -228,30 +21,49 @@ fn words_of(alloc: Global, line: &str) -> Result<Vec<String>, AllocError> {
     Ok(words)
 }
 
+/// What these words spell, without what is proved of it.
+fn read(alloc: Global, words: &[String]) -> Result<Option<Command>, NoMemory> {
+    read_words(alloc, words)
+}
+
 /// What a line spells.
 fn read_line(alloc: Global, line: &str) -> Result<Option<Command>, Fail> {
     let words = words_of(alloc, line)?;
-    Ok(read_words(alloc, words.as_slice())?)
+    Ok(read(alloc, words.as_slice())?)
 }
 
-/// What a line opens: its files and then its links, as [`OPENED`] has them.
+/// Adds these bytes, and a space in front of them where others stand.
+fn add_part(joined: &mut Vec<u8>, bytes: &[u8]) -> Result<(), AllocError> {
+    if !joined.is_empty() {
+        joined.extend_from_slice(b" ")?;
+    }
+    joined.extend_from_slice(bytes)
+}
+
+/// Adds the names of the files that these words open.
+fn add_files(alloc: Global, words: &[String], joined: &mut Vec<u8>) -> Result<(), Fail> {
+    for name in &files_of(alloc, words)? {
+        add_part(joined, name.as_bytes())?;
+    }
+    Ok(())
+}
+
+/// Adds the links that these words open, each as `local>peers`.
+fn add_links(alloc: Global, words: &[String], joined: &mut Vec<u8>) -> Result<(), Fail> {
+    for link in &ports_of(alloc, words)? {
+        add_part(joined, link.local.bytes())?;
+        joined.extend_from_slice(b">")?;
+        joined.extend_from_slice(link.peers.bytes())?;
+    }
+    Ok(())
+}
+
+/// What a line opens: its files and then its links.
 fn opened(alloc: Global, line: &str) -> Result<Vec<u8>, Fail> {
     let words = words_of(alloc, line)?;
     let mut joined = Vec::new(alloc);
-    for name in &files_of(alloc, words.as_slice())? {
-        if !joined.is_empty() {
-            joined.push(b' ')?;
-        }
-        joined.extend_from_slice(name.as_bytes())?;
-    }
-    for link in &ports_of(alloc, words.as_slice())? {
-        if !joined.is_empty() {
-            joined.push(b' ')?;
-        }
-        joined.extend_from_slice(link.local.bytes())?;
-        joined.push(b'>')?;
-        joined.extend_from_slice(link.peers.bytes())?;
-    }
+    add_files(alloc, words.as_slice(), &mut joined)?;
+    add_links(alloc, words.as_slice(), &mut joined)?;
     Ok(joined)
 }
 
@@ -264,22 +76,44 @@ fn long_line(alloc: Global, begin: &str, piece: &str, count: u32) -> Result<Stri
     Ok(line)
 }
 
+/// Whether a line with this end spells a command.
+fn spells(alloc: Global, line: &str, end: &str, command: &Command) -> Result<bool, Fail> {
+    let whole = long_line(alloc, line, end, 1)?;
+    let read = read_line(alloc, whole.as_str())?;
+    Ok(read.is_some_and(|read| read == *command))
+}
+
 /// Each line spells the command beside it, with the same end behind all of them.
 fn reads(rt: &impl Abort, alloc: Global, end: &str, cases: &[(&str, Command)]) -> Result<(), Fail> {
     for (line, command) in cases {
-        let whole = long_line(alloc, line, end, 1)?;
-        let read = read_line(alloc, whole.as_str())?;
-        assert!(rt; read.is_some_and(|read| read == *command), "{line}");
+        let spelled = spells(alloc, line, end, command)?;
+        assert!(rt; spelled, "{line}");
     }
     Ok(())
+}
+
+/// Whether a line with this end spells nothing and opens nothing.
+fn is_refused(alloc: Global, line: &str, end: &str) -> Result<bool, Fail> {
+    let whole = long_line(alloc, line, end, 1)?;
+    let read = read_line(alloc, whole.as_str())?;
+    let opened = opened(alloc, whole.as_str())?;
+    Ok(read.is_none() && opened.is_empty())
 }
 
 /// Each line spells nothing and opens nothing, with the same end behind all of them.
 fn refuses(rt: &impl Abort, alloc: Global, end: &str, lines: &[&str]) -> Result<(), Fail> {
     for line in lines {
-        let whole = long_line(alloc, line, end, 1)?;
-        assert!(rt; read_line(alloc, whole.as_str())?.is_none(), "{line}");
-        assert!(rt; opened(alloc, whole.as_str())?.is_empty(), "{line}");
+        let refused = is_refused(alloc, line, end)?;
+        assert!(rt; refused, "{line}");
+    }
+    Ok(())
+}
+
+/// Each line opens what stands beside it.
+fn opens(rt: &impl Abort, alloc: Global, cases: &[(&str, &str)]) -> Result<(), Fail> {
+    for (line, names) in cases {
+        let opened = opened(alloc, line)?;
+        assert!(rt; opened.as_slice() == names.as_bytes(), "{line}");
     }
     Ok(())
 }
@@ -622,21 +456,236 @@ fn reads_long_lines(rt: HostRuntime) -> Result<(), Fail> {
 }
 
 #[test]
-fn refuses_words(rt: HostRuntime) -> Result<(), Fail> {
-    refuses(&rt, rt.alloc(), "", &NO_COMMAND)?;
-    refuses(&rt, rt.alloc(), "", &NO_ANSWER)?;
-    refuses(&rt, rt.alloc(), "", &NO_SERVE)?;
-    refuses(&rt, rt.alloc(), "", &NO_RUN)?;
-    refuses(&rt, rt.alloc(), ENDS, &NO_TOOL)?;
-    assert!(rt; read_words(rt.alloc(), &[])?.is_none());
+fn refuses_lines_without_a_command(rt: HostRuntime) -> Result<(), Fail> {
+    let lines = [
+        // No command, another, or a word before it.
+        "",
+        "reply 1 0 d k",
+        "Answer 1 0 d k",
+        "help",
+        "help answer",
+        "--help",
+        "--mtu 1500 answer 1 0 d k",
+        // Words beside replay.
+        "replay ",
+        "replay script",
+        "replay replay",
+        "replay --mtu 1500",
+        "replay --help",
+        "replay --",
+        "Replay",
+        // Too few words, too many, an empty one.
+        "answer",
+        "answer 1",
+        "answer 1 0 d",
+        "answer 1 0 d k k",
+        "answer 1 0  k",
+        "answer 1 0 d k ",
+    ];
+    refuses(&rt, rt.alloc(), "", &lines)
+}
+
+#[test]
+fn refuses_numbers_and_options_of_answer(rt: HostRuntime) -> Result<(), Fail> {
+    let lines = [
+        // Numbers.
+        "answer 70000 0 d k",
+        "answer 65535 0 d k",
+        "answer 1 255 d k",
+        "answer -1 0 d k",
+        "answer 1 0x0 d k",
+        "answer 000000000000000000001 0 d k",
+        "answer 1 0 d k --mtu 1499",
+        "answer 1 0 d k --mtu=9001",
+        // Options.
+        "answer 1 0 d k --mtu",
+        "answer 1 0 d k --mtu=",
+        "answer 1 0 d k --mtu ",
+        "answer 1 0 d k --mtu -1500",
+        "answer 1 0 d k --mtu=-1500",
+        "answer 1 0 d k --mtu --port 02:00:00:00:00:01",
+        "answer 1 0 d k --mtu 1500 --mtu 1500",
+        "answer --mtu=1500 1 0 d k --mtu 1500",
+        "answer 1 0 d k --mt 1500",
+        "answer 1 0 d k -m 1500",
+        "answer 1 0 d k --ports 02:00:00:00:00:01",
+        "answer 1 0 d k --help",
+        "answer 1 0 d k --version",
+        "answer 1 0 d -",
+        "answer 1 0 d --",
+        "answer -- 1 0 d k",
+        "answer 1 0 d -k",
+    ];
+    refuses(&rt, rt.alloc(), "", &lines)
+}
+
+#[test]
+fn refuses_addresses_of_ports(rt: HostRuntime) -> Result<(), Fail> {
+    let lines = [
+        "answer 1 0 d k --port 03:00:00:00:00:01",
+        "answer 1 0 d k --port ff:ff:ff:ff:ff:ff",
+        "answer 1 0 d k --port 02:00:00:00:00:0A",
+        "answer 1 0 d k --port 02:00:00:00:00:01,02:00:00:00:00:02",
+        "serve 1 d k --local x --peers y --port 02:00:00:00:00:01",
+        "serve 1 d k --local x --peers y --ports 02:00:00:00:00:01,02:00:00:00:00:01",
+        "serve 1 d k --local x --peers y --ports 02:00:00:00:00:01,01:00:00:00:00:02",
+        "serve 1 d k --local x --peers y --ports 02:00:00:00:00:01,",
+        "serve 1 d k --local x --peers y --ports ,02:00:00:00:00:01",
+        "serve 1 d k --local x --peers y --ports 02:00:00:00:00:01,02:00:00:00:00:02,02:00:00:00:00:03,02:00:00:00:00:04,02:00:00:00:00:05",
+        "answer 1 0 d k --cache 65537",
+        "answer 1 0 d k --cache -1",
+        "answer 1 0 d k --cache=",
+    ];
+    refuses(&rt, rt.alloc(), "", &lines)
+}
+
+#[test]
+fn refuses_links_files_and_numbers_of_serve(rt: HostRuntime) -> Result<(), Fail> {
+    let lines = [
+        "serve 1 d k --local x",
+        "serve 1 d k --peers y",
+        "serve 1 d k --local= --peers y",
+        "serve 1 d k --local=-x --peers y",
+        "serve 1 --local x --peers y",
+        "serve 1 d --local x --peers y",
+        "serve 1 d k d --local x --peers y",
+        "serve 65535 d k --local x --peers y",
+        "serve 1 d k --local x --peers y --frames 0",
+        "serve 1 d k --local x --peers y --frames 4294967296",
+        "serve 1 d k --local x --peers y --idle 0",
+        "serve 1 d k --local x --peers y --idle 1000001",
+        "serve 1 d k --local x --peers y --mtu 1499",
+        "serve 1 d k --local x --peers y --cache 65537",
+        "serve 1 d k --local x --peers y --cache 1 --cache 1",
+    ];
+    refuses(&rt, rt.alloc(), "", &lines)
+}
+
+#[test]
+fn refuses_words_of_the_other_commands(rt: HostRuntime) -> Result<(), Fail> {
+    let lines = [
+        "replay --cache 0",
+        "live 0 1 --one x --two y",
+        "live 65537 1 --one x --two y",
+        "live 1 0 --one x --two y",
+        "live 1 10001 --one x --two y",
+        "live 1 1 --one x",
+        "live 1 1 --two y",
+        "live 1 --one x --two y",
+        "live 1 1 1 --one x --two y",
+        "live 1 1 --one x --two y --turns 0",
+        "live 1 1 --local x --peers y",
+        "soak 65536 1",
+        "soak 0 0",
+        "soak 0 16001",
+        "soak 7",
+        "soak 7 2000 1",
+        "soak 7 -1",
+        "soak 7 2000 --turns 1",
+        "discover",
+        "discover --local x",
+        "stat --peers y",
+    ];
+    refuses(&rt, rt.alloc(), "", &lines)
+}
+
+#[test]
+fn refuses_words_of_discover_stat_and_cfg(rt: HostRuntime) -> Result<(), Fail> {
+    let lines = [
+        "discover e1.2",
+        "stat --turns 0",
+        "stat --turns 1000001",
+        "stat --port 03:00:00:00:00:01",
+        "stat --mtu 1500",
+        "stat --local y",
+        "cfg",
+        "cfg e1.2",
+        "cfg e1 read",
+        "cfg e65535.0 read",
+        "cfg e1.2 Read",
+        "cfg e1.2 edit x",
+        "cfg e1.2 read x",
+        "cfg e1.2 clear x",
+        "cfg e1.2 test",
+        "cfg e1.2 prefix",
+        "cfg e1.2 set",
+        "cfg e1.2 force",
+        "cfg e1.2 force x y",
+        "cfg e1.2 set -x",
+    ];
+    refuses(&rt, rt.alloc(), ENDS, &lines)
+}
+
+#[test]
+fn refuses_words_of_the_other_tools(rt: HostRuntime) -> Result<(), Fail> {
+    let lines = [
+        "mask e1.2 edit",
+        "mask e1.2 read add=02:00:00:00:00:fe",
+        "mask e1.2 set add=02:00:00:00:00:fe",
+        "mask e1.2 edit 02:00:00:00:00:fe",
+        "mask e1.2 edit add=02:00:00:00:00:FE",
+        "mask e1.2 edit Add=02:00:00:00:00:fe",
+        "mask e1.2 edit add",
+        "mask e1.2 edit add=02:00:00:00:00:fe del",
+        "reserve e1.2 set",
+        "reserve e1.2 force",
+        "reserve e1.2 read 02:00:00:00:00:01",
+        "reserve e1.2 release 02:00:00:00:00:01",
+        "reserve e1.2 clear",
+        "reserve e1.2 set 02:00:00:00:00:01,02:00:00:00:00:02",
+        "get e1.2 281474976710656 1",
+        "get e1.2 0 0",
+        "get e1.2 0 32769",
+        "get e1.2 0",
+        "get e1.2 0 1 1",
+        "get 1.2 0 1",
+        "put e1.2",
+        "put e1.2 281474976710656",
+        "put e1.2 0 1",
+        "put e1.2 0 --turns 0",
+    ];
+    refuses(&rt, rt.alloc(), ENDS, &lines)
+}
+
+#[test]
+fn refuses_no_words(rt: HostRuntime) -> Result<(), Fail> {
+    let read = read_words(rt.alloc(), &[])?;
+    assert!(rt; read.is_none());
     Ok(())
 }
 
 #[test]
 fn names_files_and_links(rt: HostRuntime) -> Result<(), Fail> {
-    for (line, names) in OPENED {
-        let opened = opened(rt.alloc(), line)?;
-        assert_eq!(rt; opened.as_slice(), names.as_bytes(), "{line}");
-    }
-    Ok(())
+    let cases = [
+        ("replay", ""),
+        ("soak 7 2000", ""),
+        ("answer 1 --mtu 1500 0 disk keep", "disk keep"),
+        (
+            "serve 1 d0 k0 --local 0.0.0.0:1 d1 --peers 10.0.0.1:1 k1",
+            "d0 k0 d1 k1 0.0.0.0:1>10.0.0.1:1",
+        ),
+        (
+            "live 16 10 --one 127.0.0.1:1 --two 127.0.0.1:2",
+            "127.0.0.1:1>127.0.0.1:2 127.0.0.1:2>127.0.0.1:1",
+        ),
+    ];
+    opens(&rt, rt.alloc(), &cases)
+}
+
+#[test]
+fn names_links_of_tools(rt: HostRuntime) -> Result<(), Fail> {
+    let link = "0.0.0.0:1>10.0.0.1:1";
+    let cases = [
+        ("discover --local 0.0.0.0:1 --peers 10.0.0.1:1", link),
+        ("stat --peers=10.0.0.1:1 --local=0.0.0.0:1", link),
+        ("cfg e1.2 set x --local 0.0.0.0:1 --peers 10.0.0.1:1", link),
+        ("mask e1.2 read --local 0.0.0.0:1 --peers 10.0.0.1:1", link),
+        (
+            "reserve --local 0.0.0.0:1 e1.2 --peers 10.0.0.1:1 release",
+            link,
+        ),
+        ("get e1.2 --local 0.0.0.0:1 --peers 10.0.0.1:1 0 1", link),
+        ("put --local 0.0.0.0:1 --peers 10.0.0.1:1 e1.2 0", link),
+    ];
+    opens(&rt, rt.alloc(), &cases)
 }
