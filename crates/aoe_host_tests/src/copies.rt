@@ -1,5 +1,6 @@
 //! The tools that copy, over links in memory.
-ghost use Rattle.std.specs.Prelude.{◌≤◌, IfOk, length};
+ghost use Rattle.std.specs.Prelude.{◌<◌, ◌≤◌, All, IfOk, length};
+ghost use Rattle.aoe_io.specs.LinkMemory.{IsShort};
 
 use aoe_base::{Blob, Mac, NoMemory, TargetId};
 use aoe_frame::Frame;
@@ -32,105 +33,125 @@ fn response(
 }
 
 /// The responses to the two requests before a transfer: the device has 16 sectors.
-fn found(alloc: Global) -> Result<(Blob, Blob), NoMemory>
-    ensures { IfOk result (λ both. (length both.0 ≤ 9018) × (length both.1 ≤ 9018)) }
+fn found(alloc: Global) -> Result<Vec<Option<Blob>>, Fail>
+    ensures { IfOk result (λ coming. All IsShort coming.items) }
 {
     let config = [0, 16, 0, 1, 17, 0x10, 0, 0];
     let registers = [0, 0, 0, 0x40, 0, 0, 0, 0, 0, 0, 0, 0];
     let mut page = [0u8; 512];
     page[99] = 2;
     page[120] = 16;
-    let config = response(alloc, 1, [0x80, 0, 0, 0], &config, &[])?;
-    let page = response(alloc, 0, [0x80, 0, 0, 1], &registers, &page)?;
-    Ok((config, page))
+    let mut coming = Vec::new(alloc);
+    coming.push(Some(response(alloc, 1, [0x80, 0, 0, 0], &config, &[])?))?;
+    coming.push(Some(response(alloc, 0, [0x80, 0, 0, 1], &registers, &page)?))?;
+    Ok(coming)
+}
+
+/// A turn that brings the response to a transfer, by the last byte of its tag and its sectors, or
+/// none.
+fn turn(alloc: Global, told: &Option<(u8, &[u8])>) -> Result<Option<Blob>, NoMemory>
+    ensures { IfOk result IsShort }
+{
+    let registers = [0x40, 0, 0, 0x40, 0, 0, 0, 0, 0, 0, 0, 0];
+    match told {
+        Some((tag, data)) => Ok(Some(response(alloc, 0, [0, 0, 0, *tag], &registers, data)?)),
+        None => Ok(None),
+    }
+}
+
+/// A link that brings the two responses, and then these turns.
+fn link_of(alloc: Global, turns: &[Option<(u8, &[u8])>]) -> Result<MemLink, Fail> {
+    let mut coming = found(alloc)?;
+    'turns: for told in turns {
+        coming.push(turn(alloc, told)?)?;
+    }
+    Ok(MemLink::of(alloc, coming, 10)?)
+}
+
+/// How `get` ends.
+fn gets(
+    alloc: Global,
+    at: u64,
+    count: u32,
+    sink: &mut MemSink,
+    link: &mut MemLink,
+) -> Result<(), CopyRefusal>
+    requires some { 0 < count }
+    requires few { count ≤ 32768 }
+{
+    let ask = Ask { port: A, turns: 50 };
+    let mut clock = SetClock::new(0, 10);
+    get(alloc, &ask, DEVICE, at, count, sink, link, &mut clock)
 }
 
 #[test]
 fn gets_sectors(rt: HostRuntime) -> Result<(), Fail> {
-    let alloc = rt.alloc();
-    let ask = Ask { port: A, turns: 50 };
-    let registers = [0x40, 0, 0, 0x40, 0, 0, 0, 0, 0, 0, 0, 0];
-    let (config, page) = found(alloc)?;
-    let mut coming = Vec::new(alloc);
-    coming.push(Some(config))?;
-    coming.push(Some(page))?;
-    coming.push(Some(response(alloc, 0, [0, 0, 0, 2], &registers, &[0x33; 512])?))?;
-    coming.push(None)?;
-    coming.push(Some(response(alloc, 0, [0, 0, 0, 1], &registers, &[0x5a; 1024])?))?;
-    let mut link = MemLink::of(alloc, coming, 10)?;
-    let mut sink = MemSink::new(alloc, 2000)?;
-    let mut clock = SetClock::new(0, 10);
-    let got = get(alloc, &ask, DEVICE, 2, 3, &mut sink, &mut link, &mut clock);
-    assert_eq!(rt; got, Ok(()));
-    assert_eq!(rt; link.count(), 4);
-    assert_eq!(rt; sink.bytes().len(), 1536);
-    assert_eq!(rt;
-        sink.bytes().get(1022..1026),
-        Some([0x5a, 0x5a, 0x33, 0x33].as_slice())
-    );
-    let mut sink = MemSink::new(alloc, 2000)?;
-    let (config, page) = found(alloc)?;
-    let mut coming = Vec::new(alloc);
-    coming.push(Some(config))?;
-    coming.push(Some(page))?;
-    let mut link = MemLink::of(alloc, coming, 10)?;
-    let mut clock = SetClock::new(0, 10);
-    let got = get(alloc, &ask, DEVICE, 15, 2, &mut sink, &mut link, &mut clock);
-    assert_eq!(rt;
-        got,
-        Err(CopyRefusal::Tool(ToolRefusal::Refused(Refusal::Range)))
-    );
+    let (front, last) = ([0x5a; 1024], [0x33; 512]);
+    let turns: [Option<(u8, &[u8])>; 3] = [Some((2, &last)), None, Some((1, &front))];
+    let mut link = link_of(rt.alloc(), &turns)?;
+    let mut sink = MemSink::new(rt.alloc(), 2000)?;
+    let got = gets(rt.alloc(), 2, 3, &mut sink, &mut link);
+    assert!(rt; got == Ok(()) && link.count() == 4 && sink.bytes().len() == 1536);
+    let edge = [0x5a, 0x5a, 0x33, 0x33];
+    assert!(rt; sink.bytes().get(1022..1026) == Some(edge.as_slice()));
     Ok(())
 }
 
 #[test]
-fn puts_sectors(rt: HostRuntime) -> Result<(), Fail> {
-    let alloc = rt.alloc();
+fn gets_no_sectors_beyond_the_end(rt: HostRuntime) -> Result<(), Fail> {
+    let mut link = link_of(rt.alloc(), &[])?;
+    let mut sink = MemSink::new(rt.alloc(), 2000)?;
+    let got = gets(rt.alloc(), 15, 2, &mut sink, &mut link);
+    let refusal = ToolRefusal::Refused(Refusal::Range);
+    assert!(rt; got == Err(CopyRefusal::Tool(refusal)));
+    Ok(())
+}
+
+/// How `put` ends, with so much time from one question of the clock to the next.
+fn puts(
+    alloc: Global,
+    at: u64,
+    source: &mut MemSource,
+    link: &mut MemLink,
+    step: u64,
+) -> Result<(), CopyRefusal> {
     let ask = Ask { port: A, turns: 50 };
-    let registers = [0x40, 0, 0, 0x40, 0, 0, 0, 0, 0, 0, 0, 0];
-    let (config, page) = found(alloc)?;
-    let mut coming = Vec::new(alloc);
-    coming.push(Some(config))?;
-    coming.push(Some(page))?;
-    coming.push(Some(response(alloc, 0, [0, 0, 0, 1], &registers, &[])?))?;
-    coming.push(None)?;
-    coming.push(None)?;
-    coming.push(None)?;
-    coming.push(None)?;
-    coming.push(Some(response(alloc, 0, [0, 0, 0, 2], &registers, &[])?))?;
-    let mut link = MemLink::of(alloc, coming, 10)?;
-    let mut clock = SetClock::new(0, 500);
-    let mut source = MemSource::of(alloc, &[0x5a; 512])?;
-    let done = put(alloc, &ask, DEVICE, 3, &mut source, &mut link, &mut clock);
-    assert_eq!(rt; done, Ok(()));
-    assert_eq!(rt; link.count(), 4);
-    if link.count() == 4 {
-        let write = [0x41, 0, 1, 0x34, 3, 0, 0, 0, 0, 0, 0, 0, 0x5a];
-        assert_eq!(rt; link.frame(2).get(24..37), Some(write.as_slice()));
-        let flush = [0x40, 0, 0, 0xea, 0, 0];
-        assert_eq!(rt; link.frame(3).get(24..30), Some(flush.as_slice()));
+    let mut clock = SetClock::new(0, step);
+    put(alloc, &ask, DEVICE, at, source, link, &mut clock)
+}
+
+/// Whether a frame was sent with these bytes behind its header.
+fn is_sent(link: &MemLink, i: usize, args: &[u8]) -> bool {
+    if i >= link.count() {
+        return false;
     }
+    let frame = link.frame(i);
+    let (_, behind) = frame.split_at(frame.len().min(24));
+    behind.starts_with(args)
+}
+
+#[test]
+fn puts_sectors(rt: HostRuntime) -> Result<(), Fail> {
+    let turns: [Option<(u8, &[u8])>; 6] = [Some((1, &[])), None, None, None, None, Some((2, &[]))];
+    let mut link = link_of(rt.alloc(), &turns)?;
+    let mut source = MemSource::of(rt.alloc(), &[0x5a; 512])?;
+    let done = puts(rt.alloc(), 3, &mut source, &mut link, 500);
+    assert!(rt; done == Ok(()) && link.count() == 4);
+    let write = [0x41, 0, 1, 0x34, 3, 0, 0, 0, 0, 0, 0, 0, 0x5a];
+    let flush = [0x40, 0, 0, 0xea, 0, 0];
+    assert!(rt; is_sent(&link, 2, &write) && is_sent(&link, 3, &flush));
     Ok(())
 }
 
 #[test]
 fn refuses_inputs(rt: HostRuntime) -> Result<(), Fail> {
-    let alloc = rt.alloc();
-    let ask = Ask { port: A, turns: 50 };
-    let (config, page) = found(alloc)?;
-    let mut coming = Vec::new(alloc);
-    coming.push(Some(config))?;
-    coming.push(Some(page))?;
-    let mut link = MemLink::of(alloc, coming, 10)?;
-    let mut clock = SetClock::new(0, 10);
-    let mut source = MemSource::of(alloc, &[1; 513])?;
-    let done = put(alloc, &ask, DEVICE, 0, &mut source, &mut link, &mut clock);
-    assert_eq!(rt; done, Err(CopyRefusal::Stream { offset: 512 }));
-    assert_eq!(rt; link.count(), 0);
-    let mut source = MemSource::of(alloc, &[1; 1024])?;
+    let mut link = link_of(rt.alloc(), &[])?;
+    let mut source = MemSource::of(rt.alloc(), &[1; 513])?;
+    let broken = puts(rt.alloc(), 0, &mut source, &mut link, 10);
+    assert!(rt; broken == Err(CopyRefusal::Stream { offset: 512 }) && link.count() == 0);
+    let mut source = MemSource::of(rt.alloc(), &[1; 1024])?;
     source.fail_at(2);
-    let done = put(alloc, &ask, DEVICE, 0, &mut source, &mut link, &mut clock);
-    assert_eq!(rt; done, Err(CopyRefusal::SourceFault));
-    assert_eq!(rt; link.count(), 0);
+    let failed = puts(rt.alloc(), 0, &mut source, &mut link, 10);
+    assert!(rt; failed == Err(CopyRefusal::SourceFault) && link.count() == 0);
     Ok(())
 }

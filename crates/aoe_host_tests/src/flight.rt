@@ -49,20 +49,40 @@ fn a_command_is_due_by_its_waits(rt: HostRuntime) -> Result<(), Fail> {
     Ok(())
 }
 
+/// The tag of a command that is sent by the only path and waits for a second.
+fn launch(flight: &mut Flight, ticket: u64, now: u64) -> Option<u32>
+    requires { flight.old.latest ≤ now }
+    ensures { flight.new.latest ≡ now }
+{
+    flight.launch(Ticket(ticket), Millis(now), PathNo(0), Millis(1000))
+}
+
+/// Whether a command that has its outcome isn't known by its tag.
+fn finishes(flight: &mut Flight, ticket: u64, tag: u32) -> bool
+    ensures { flight.new.latest ≡ flight.old.latest }
+{
+    flight.finish(Ticket(ticket));
+    flight.match_tag(tag).is_none()
+}
+
+/// Whether there is no room at a time, where what rested out before is dropped.
+fn is_full(flight: &mut Flight, now: u64) -> bool
+    requires { flight.old.latest ≤ now }
+    ensures { flight.new.latest ≡ now }
+{
+    flight.forget(Millis(now));
+    flight.is_full(Millis(now))
+}
+
 #[test]
 fn a_finished_command_rests_for_two_lifetimes(rt: HostRuntime) -> Result<(), Fail> {
-    let path = PathNo(0);
     let mut flight = Flight::new(rt.alloc(), 1, Millis(2000), Millis(30_000))?;
-    flight
-        .launch(Ticket(5), Millis(0), path, Millis(1000))
-        .expect(&rt, "room");
-    flight.finish(Ticket(5));
-    assert_eq!(rt; flight.match_tag(1), None);
-    flight.forget(Millis(4000));
-    assert_eq!(rt; flight.is_full(Millis(4000)), true);
-    assert_eq!(rt; flight.is_full(Millis(4001)), false);
-    let next = flight.launch(Ticket(6), Millis(4001), path, Millis(1000));
-    assert_eq!(rt; next, Some(2));
+    let first = launch(&mut flight, 5, 0);
+    let finished = finishes(&mut flight, 5, 1);
+    let full = is_full(&mut flight, 4000);
+    let rested = !flight.is_full(Millis(4001));
+    let next = launch(&mut flight, 6, 4001);
+    assert!(rt; first.is_some() && finished && full && rested && next == Some(2));
     Ok(())
 }
 

@@ -1,4 +1,5 @@
 ghost use Rattle.std.specs.Prelude.{◌≡◌, ◌<◌, ◌≤◌, None};
+ghost use Rattle.std.specs.Option.{ForSome};
 ghost use Rattle.aoe_hold.specs.Commands.{unsent_count};
 ghost use Rattle.aoe_hold.specs.HoldTable.{at_time};
 
@@ -6,7 +7,6 @@ use aoe_base::{Millis, Span, Steps, Ticket};
 use aoe_hold::{Holds, Kind};
 use std::marker::Brand;
 use std::sync::ledger::{Blank, Ledger};
-use std::test::Fail;
 
 fn next_counted<L: Ledger>(holds: &mut Holds, now: Millis, blank: Blank) -> Option<Ticket>
     requires time { holds.old.latest ≤ now.0 }
@@ -49,64 +49,73 @@ fn enter_writes(holds: &mut Holds, count: u32) -> bool
     true
 }
 
+/// Enters a write of a sector.
+fn enter(holds: &mut Holds, ticket: u64, sector: u64) -> bool
+    requires above { ForSome holds.old.greatest (λ greatest. greatest < ticket) }
+    ensures greatest { ForSome holds.new.greatest (λ greatest. greatest ≤ ticket) }
+    ensures latest { holds.new.latest ≡ holds.old.latest }
+{
+    if holds.held() > 9 {
+        return false;
+    }
+    holds
+        .enter(Ticket(ticket), Kind::Write, span(sector, 1))
+        .is_ok()
+}
+
+fn sent(holds: &mut Holds, ticket: u64, now: u64)
+    requires { holds.old.latest ≤ now }
+    ensures greatest { holds.new.greatest ≡ holds.old.greatest }
+    ensures latest { holds.new.latest ≡ now }
+{
+    holds.sent(Ticket(ticket), Millis(now));
+}
+
+fn finished(holds: &mut Holds, ticket: u64)
+    ensures greatest { holds.new.greatest ≡ holds.old.greatest }
+    ensures latest { holds.new.latest ≡ holds.old.latest }
+{
+    holds.finished(Ticket(ticket));
+}
+
+/// Whether this ticket is the next at a time, or none is.
+fn is_next(holds: &mut Holds, now: u64, ticket: Option<Ticket>) -> bool
+    requires { holds.old.latest ≤ now }
+    ensures greatest { holds.new.greatest ≡ holds.old.greatest }
+    ensures latest { holds.new.latest ≡ now }
+{
+    next_clear(holds, now) == ticket
+}
+
 #[test]
-fn a_thousand_writes_of_a_sector_go_one_by_one(rt: HostRuntime) -> Result<(), Fail> {
+fn a_thousand_writes_of_a_sector_go_one_by_one(rt: HostRuntime) {
     let mut holds = Holds::new(rt.alloc(), Millis(2000));
     let entered = enter_writes(&mut holds, 1000);
-    assert!(rt; entered);
-    assert_eq!(rt; next_clear(&mut holds, 0), Some(Ticket(1)));
-    holds.sent(Ticket(1), Millis(0));
-    assert_eq!(rt; next_clear(&mut holds, 5000), None);
-    holds.finished(Ticket(1));
-    assert_eq!(rt; next_clear(&mut holds, 5000), Some(Ticket(2)));
-    assert_eq!(rt; holds.held(), 999);
-    Ok(())
+    let first = is_next(&mut holds, 0, Some(Ticket(1)));
+    sent(&mut holds, 1, 0);
+    let waits = is_next(&mut holds, 5000, None);
+    finished(&mut holds, 1);
+    let second = is_next(&mut holds, 5000, Some(Ticket(2)));
+    assert!(rt; entered && first && waits && second && holds.held() == 999);
 }
 
 #[test]
-fn commands_that_are_clear_go_by_their_tickets(rt: HostRuntime) -> Result<(), Fail> {
+fn commands_that_are_clear_go_by_their_tickets(rt: HostRuntime) {
     let mut holds = Holds::new(rt.alloc(), Millis(2000));
-    holds.enter(Ticket(1), Kind::Write, span(3, 1))?;
-    holds.enter(Ticket(2), Kind::Write, span(4, 1))?;
-    assert_eq!(rt; next_clear(&mut holds, 0), Some(Ticket(1)));
-    holds.sent(Ticket(1), Millis(1000));
-    holds.sent(Ticket(2), Millis(1000));
-    holds.sent(Ticket(2), Millis(1500));
-    holds.enter(Ticket(3), Kind::Write, span(4, 1))?;
-    holds.enter(Ticket(4), Kind::Write, span(3, 1))?;
-    holds.finished(Ticket(1));
-    holds.finished(Ticket(2));
-    assert_eq!(rt; next_clear(&mut holds, 3000), None);
-    assert_eq!(rt; next_clear(&mut holds, 3001), Some(Ticket(4)));
-    assert_eq!(rt; next_clear(&mut holds, 3501), Some(Ticket(3)));
-    Ok(())
-}
-
-#[test]
-fn a_flush_waits_for_the_frames_of_a_write(rt: HostRuntime) -> Result<(), Fail> {
-    let mut holds = Holds::new(rt.alloc(), Millis(2000));
-    holds.enter(Ticket(1), Kind::Write, span(3, 1))?;
-    assert_eq!(rt; next_clear(&mut holds, 0), Some(Ticket(1)));
-    holds.sent(Ticket(1), Millis(0));
-    holds.enter(Ticket(2), Kind::Flush, span(0, 0))?;
-    assert_eq!(rt; next_clear(&mut holds, 0), None);
-    holds.finished(Ticket(1));
-    assert_eq!(rt; next_clear(&mut holds, 2000), None);
-    assert_eq!(rt; holds.held(), 1);
-    assert_eq!(rt; next_clear(&mut holds, 2001), Some(Ticket(2)));
-    Ok(())
-}
-
-#[test]
-fn a_read_goes_once_the_write_is_acknowledged(rt: HostRuntime) -> Result<(), Fail> {
-    let mut holds = Holds::new(rt.alloc(), Millis(2000));
-    holds.enter(Ticket(1), Kind::Write, span(3, 1))?;
-    holds.enter(Ticket(2), Kind::Read, span(3, 1))?;
-    holds.enter(Ticket(3), Kind::Read, span(4, 1))?;
-    assert_eq!(rt; next_clear(&mut holds, 0), Some(Ticket(1)));
-    holds.sent(Ticket(1), Millis(0));
-    assert_eq!(rt; next_clear(&mut holds, 0), Some(Ticket(3)));
-    holds.finished(Ticket(1));
-    assert_eq!(rt; next_clear(&mut holds, 0), Some(Ticket(2)));
-    Ok(())
+    let first = [enter(&mut holds, 1, 3), enter(&mut holds, 2, 4)];
+    let clear = is_next(&mut holds, 0, Some(Ticket(1)));
+    sent(&mut holds, 1, 1000);
+    sent(&mut holds, 2, 1000);
+    sent(&mut holds, 2, 1500);
+    let second = [enter(&mut holds, 3, 4), enter(&mut holds, 4, 3)];
+    finished(&mut holds, 1);
+    finished(&mut holds, 2);
+    let then = [
+        is_next(&mut holds, 3000, None),
+        is_next(&mut holds, 3001, Some(Ticket(4))),
+        is_next(&mut holds, 3501, Some(Ticket(3))),
+    ];
+    assert!(rt;
+        first == [true, true] && clear && second == [true, true] && then == [true, true, true]
+    );
 }

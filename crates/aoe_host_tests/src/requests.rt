@@ -26,12 +26,19 @@ fn asked(host: &mut Initiator, op: Op) -> Option<Frame>
     }
 }
 
+/// The frame that a new host sends to ask for an operation.
+fn frame_of(alloc: Global, op: Op) -> Result<Option<Frame>, Fail>
+    requires { CanSubmit op }
+{
+    let mut host = attached(alloc, &one(SHELF), Millis(2000), 16)?;
+    Ok(asked(&mut host, op))
+}
+
 /// Whether the frame that asks for an operation has 60 bytes, and these behind its header.
 fn spells(alloc: Global, op: Op, args: &[u8]) -> Result<bool, Fail>
     requires { CanSubmit op }
 {
-    let mut host = attached(alloc, &one(SHELF), Millis(2000), 16)?;
-    let Some(out) = asked(&mut host, op) else {
+    let Some(out) = frame_of(alloc, op)? else {
         return Ok(false);
     };
     let (_, behind) = out.as_slice().split_at(out.len().min(24));
@@ -72,21 +79,33 @@ fn spells_requests_of_addresses(rt: HostRuntime) -> Result<(), Fail> {
     Ok(())
 }
 
-#[test]
-fn spells_a_write(rt: HostRuntime) -> Result<(), Fail> {
-    let mut host = attached(rt.alloc(), &one(SHELF), Millis(2000), 16)?;
-    let bytes = Blob::of(rt.alloc(), &[0x5a; 512])?;
-    let Some(out) = asked(&mut host, Op::Write { at: 3, bytes }) else {
-        assert!(rt; false);
-        return Ok(());
-    };
+/// A write of a sector.
+fn a_write(alloc: Global) -> Result<Op, NoMemory>
+    ensures { IfOk result CanSubmit }
+{
+    let bytes = Blob::of(alloc, &[0x5a; 512])?;
+    Ok(Op::Write { at: 3, bytes })
+}
+
+/// Whether a frame is that of the write.
+fn is_a_write(out: &Frame) -> bool {
     let begin = [
         2, 0, 0, 0, 0, 1, 2, 0, 0, 0, 0, 0x0a, 0x88, 0xa2, 0x10, 0, 0, 1, 0, 0, 0, 0, 0, 1, 0x41,
         0, 1, 0x34, 3, 0, 0, 0, 0, 0, 0, 0,
     ];
-    assert!(rt;
-        out.get(..36) == Some(begin.as_slice()) && out.get(36..) == Some([0x5a; 512].as_slice())
-    );
+    let sector = [0x5a; 512];
+    out.as_slice().starts_with(&begin) && out.get(36..) == Some(sector.as_slice())
+}
+
+#[test]
+fn spells_a_write(rt: HostRuntime) -> Result<(), Fail> {
+    let op = a_write(rt.alloc())?;
+    let out = frame_of(rt.alloc(), op)?;
+    let spelled = match &out {
+        Some(out) => is_a_write(out),
+        None => false,
+    };
+    assert!(rt; spelled);
     Ok(())
 }
 
@@ -147,24 +166,34 @@ fn op_of(alloc: Global, ask: Ask) -> Result<Op, NoMemory>
     })
 }
 
-/// What a host makes of a response with these flags, this error and these arguments.
-fn hears(alloc: Global, ask: Ask, flags: u8, error: u8, args: &[u8]) -> Result<Answer, Fail> {
-    let mut host = attached(alloc, &one(SHELF), Millis(2000), 16)?;
-    let op = op_of(alloc, ask)?;
-    let command = op.command();
-    let _ = asked(&mut host, op);
-    let mut frame = Frame::new();
+/// A response to a command with tag 1, with these flags, this error and these arguments.
+fn response(command: u8, flags: u8, error: u8, args: &[u8]) -> Frame {
     let header = [
         2, 0, 0, 0, 0, 0x0a, 2, 0, 0, 0, 0, 1, 0x88, 0xa2, flags, error, 0, 1, 0, command, 0, 0, 0,
         1,
     ];
+    let mut frame = Frame::new();
     let _ = frame.try_extend_from_slice(&header);
     let _ = frame.try_extend_from_slice(args);
+    frame
+}
+
+/// What a host makes of a response to what it asked.
+fn told_by(host: &mut Initiator, frame: &Frame) -> Answer {
     let _ = host.receive(frame.as_slice());
     match host.take_done() {
-        Some(done) => Ok(told(&done.outcome)),
-        None => Ok(Answer::Nothing),
+        Some(done) => told(&done.outcome),
+        None => Answer::Nothing,
     }
+}
+
+/// What a host makes of a response with these flags, this error and these arguments.
+fn hears(alloc: Global, ask: Ask, flags: u8, error: u8, args: &[u8]) -> Result<Answer, Fail> {
+    let mut host = attached(alloc, &one(SHELF), Millis(2000), 16)?;
+    let op = op_of(alloc, ask)?;
+    let response = response(op.command(), flags, error, args);
+    let _ = asked(&mut host, op);
+    Ok(told_by(&mut host, &response))
 }
 
 #[test]

@@ -1,5 +1,5 @@
 //! The tools over links in memory.
-ghost use Rattle.std.specs.Prelude.{◌≤◌, All, IfOk, length};
+ghost use Rattle.std.specs.Prelude.{◌≤◌, IfOk, length};
 ghost use Rattle.aoe_io.specs.LinkMemory.{IsShort};
 
 use aoe_base::{Blob, Mac, NoMemory, TargetId};
@@ -7,7 +7,7 @@ use aoe_frame::Frame;
 use aoe_io::{MemLink, SetClock};
 use aoe_lists::Dir;
 use aoe_tools::{
-    Ask, Refusal, ToolRefusal, cfg, discover, mask, print_config, print_found, print_masks,
+    Ask, Found, Refusal, ToolRefusal, cfg, discover, mask, print_config, print_found, print_masks,
     print_reserves, print_stat, reserve, stat,
 };
 use std::alloc::Global;
@@ -30,189 +30,253 @@ fn response(alloc: Global, of: [u8; 5], args: &[u8]) -> Result<Blob, NoMemory>
     Blob::of(alloc, out.as_slice())
 }
 
-/// A link that brings a response to another request, and then one from port 1 and slot 0.
-fn link_of(alloc: Global, command: u8, error: u8, args: &[u8]) -> Result<MemLink, Fail> {
+/// A turn that brings this response, or none.
+fn turn(alloc: Global, told: &Option<([u8; 5], &[u8])>) -> Result<Option<Blob>, NoMemory>
+    ensures { IfOk result IsShort }
+{
+    match told {
+        Some(told) => {
+            let of = told.0;
+            Ok(Some(response(alloc, of, told.1)?))
+        }
+        None => Ok(None),
+    }
+}
+
+/// A link that brings these turns.
+fn link_of(alloc: Global, turns: &[Option<([u8; 5], &[u8])>]) -> Result<MemLink, Fail> {
     let mut coming = Vec::new(alloc);
-    coming.push(None)?;
-    coming.push(Some(response(alloc, [1, 0, command, 0, 7], args)?))?;
-    coming.push(Some(response(alloc, [1, 0, command, error, 0], args)?))?;
+    'turns: for told in turns {
+        coming.push(turn(alloc, told)?)?;
+    }
     Ok(MemLink::of(alloc, coming, 10)?)
 }
 
-/// Turns that bring no frame.
-fn quiet(alloc: Global, turns: u32) -> Result<Vec<Option<Blob>>, Fail>
-    ensures { IfOk result (λ coming. All IsShort coming.items) }
-{
-    let mut coming = Vec::new(alloc);
-    'turns: for _ in 0..turns {
-        coming.push(None)?;
+/// A link that brings a response to another request, and then one from port 1 and slot 0.
+fn answering(alloc: Global, command: u8, error: u8, args: &[u8]) -> Result<MemLink, Fail> {
+    let turns = [
+        None,
+        Some(([1, 0, command, 0, 7], args)),
+        Some(([1, 0, command, error, 0], args)),
+    ];
+    link_of(alloc, &turns)
+}
+
+/// The last frame that was sent, or no bytes.
+fn last(link: &MemLink) -> &[u8] {
+    match link.count().checked_sub(1) {
+        Some(i) => link.frame(i),
+        None => &[],
     }
-    Ok(coming)
+}
+
+fn code(refusal: Option<ToolRefusal>) -> Option<u8> {
+    match refusal {
+        Some(refusal) => Some(refusal.code()),
+        None => None,
+    }
+}
+
+fn says(alloc: Global, refusal: Option<ToolRefusal>, text: &[u8]) -> Result<bool, NoMemory> {
+    match refusal {
+        Some(refusal) => Ok(refusal.text(alloc)?.bytes() == text),
+        None => Ok(false),
+    }
+}
+
+/// How `stat` is refused.
+fn stat_refusal(alloc: Global, link: &mut MemLink) -> Option<ToolRefusal> {
+    let ask = Ask { port: A, turns: 50 };
+    match stat(alloc, &ask, link, &mut SetClock::new(5, 10)) {
+        Ok(_) => None,
+        Err(refusal) => Some(refusal),
+    }
 }
 
 #[test]
 fn nobody_answers(rt: HostRuntime) -> Result<(), Fail> {
-    let alloc = rt.alloc();
-    let mut link = MemLink::of(alloc, quiet(alloc, 50)?, 10)?;
-    let mut clock = SetClock::new(5, 10);
-    let ask = Ask { port: A, turns: 50 };
-    let Err(refusal) = stat(alloc, &ask, &mut link, &mut clock) else {
-        return Err(Fail::from("a device was found"));
-    };
-    assert_eq!(rt; refusal.code(), 9);
-    assert_eq!(rt;
-        refusal.text(alloc)?.bytes(),
-        b"aoe: no answer in 50 turns".as_slice()
-    );
-    assert_eq!(rt; link.count(), 5);
-    if link.count() == 5 {
-        let begin = [
-            0xff, 0xff, 0xff, 0xff, 0xff, 0xff, 2, 0, 0, 0, 0, 0x0a, 0x88, 0xa2, 0x10, 0, 0xff,
-            0xff, 0xff, 1, 0x80, 0, 0, 5, 0, 0,
-        ];
-        assert_eq!(rt; link.frame(4).get(..26), Some(begin.as_slice()));
-        assert_eq!(rt; link.frame(4).len(), 60);
-    }
+    let mut link = link_of(rt.alloc(), &[None; 50])?;
+    let refusal = stat_refusal(rt.alloc(), &mut link);
+    let said = says(rt.alloc(), refusal, b"aoe: no answer in 50 turns")?;
+    assert!(rt; said && code(refusal) == Some(9));
+    let begin = [
+        0xff, 0xff, 0xff, 0xff, 0xff, 0xff, 2, 0, 0, 0, 0, 0x0a, 0x88, 0xa2, 0x10, 0, 0xff, 0xff,
+        0xff, 1, 0x80, 0, 0, 5, 0, 0,
+    ];
+    let sent = last(&link);
+    assert!(rt; link.count() == 5 && sent.starts_with(&begin) && sent.len() == 60);
     Ok(())
+}
+
+/// What `discover` finds in four turns.
+fn discovered(alloc: Global, link: &mut MemLink) -> Result<Found, Fail> {
+    let ask = Ask { port: A, turns: 4 };
+    match discover(alloc, &ask, link, &mut SetClock::new(0, 10)) {
+        Ok(found) => Ok(found),
+        Err(_) => Err(Fail::from("no device was found")),
+    }
+}
+
+/// Whether a device was found with this place, by these ports.
+fn is_found(found: &Found, i: usize, id: TargetId, ports: &[Mac]) -> bool {
+    i < found.count() && found.device(i).id == id && found.device(i).ports.as_slice() == ports
 }
 
 #[test]
 fn finds_devices(rt: HostRuntime) -> Result<(), Fail> {
-    let alloc = rt.alloc();
     let args = [0, 16, 0, 1, 2, 0x10, 0, 0];
-    let mut coming = Vec::new(alloc);
-    coming.push(Some(response(alloc, [3, 0, 1, 0, 0], &args)?))?;
-    coming.push(Some(response(alloc, [2, 7, 1, 1, 0], &[])?))?;
-    coming.push(Some(response(alloc, [1, 0, 1, 0, 0], &args)?))?;
-    coming.push(Some(response(alloc, [3, 0, 1, 0, 0], &args)?))?;
-    let mut link = MemLink::of(alloc, coming, 10)?;
-    let mut clock = SetClock::new(0, 10);
-    let ask = Ask { port: A, turns: 4 };
-    let Ok(found) = discover(alloc, &ask, &mut link, &mut clock) else {
-        return Err(Fail::from("no device was found"));
-    };
-    assert_eq!(rt; found.count(), 2);
-    if found.count() == 2 {
-        let ports = [Mac([2, 0, 0, 0, 0, 3]), Mac([2, 0, 0, 0, 0, 1])];
-        assert_eq!(rt; found.device(0).id, DEVICE);
-        assert_eq!(rt; found.device(0).ports.as_slice(), ports.as_slice());
-        assert_eq!(rt; found.device(1).id, TargetId { major: 1, minor: 7 });
-    }
+    let turns: [Option<([u8; 5], &[u8])>; 4] = [
+        Some(([3, 0, 1, 0, 0], &args)),
+        Some(([2, 7, 1, 1, 0], &[])),
+        Some(([1, 0, 1, 0, 0], &args)),
+        Some(([3, 0, 1, 0, 0], &args)),
+    ];
+    let mut link = link_of(rt.alloc(), &turns)?;
+    let found = discovered(rt.alloc(), &mut link)?;
+    let ports = [Mac([2, 0, 0, 0, 0, 3]), Mac([2, 0, 0, 0, 0, 1])];
+    let other = TargetId { major: 1, minor: 7 };
+    assert!(rt; found.count() == 2 && is_found(&found, 0, DEVICE, &ports));
+    assert!(rt; is_found(&found, 1, other, &[Mac([2, 0, 0, 0, 0, 2])]));
     let text = b"e1.0 02:00:00:00:00:03,02:00:00:00:00:01\ne1.7 02:00:00:00:00:02\n";
-    assert_eq!(rt; print_found(alloc, &found)?.bytes(), text.as_slice());
+    let printed = print_found(rt.alloc(), &found)?;
+    assert!(rt; printed.bytes() == text.as_slice());
     Ok(())
 }
 
-#[test]
-fn asks_for_pages(rt: HostRuntime) -> Result<(), Fail> {
-    let alloc = rt.alloc();
-    let args = [0, 16, 0, 1, 2, 0x10, 0, 0];
+/// The arguments of a response with a page that tells 4,000,000 sectors.
+fn page() -> [u8; 524] {
     let mut page = [0; 524];
     page[3] = 0x40;
     page[179] = 0x74;
     page[213] = 0x09;
     page[214] = 0x3d;
-    let mut coming = Vec::new(alloc);
-    coming.push(Some(response(alloc, [1, 0, 1, 0, 0], &args)?))?;
-    coming.push(Some(response(alloc, [2, 1, 1, 0, 0], &args)?))?;
-    coming.push(Some(response(alloc, [3, 2, 1, 0, 0], &args)?))?;
-    coming.push(None)?;
-    coming.push(Some(response(alloc, [1, 0, 0, 0, 1], &page)?))?;
-    coming.push(Some(response(alloc, [2, 1, 0, 0, 1], &page)?))?;
-    coming.push(Some(response(alloc, [2, 1, 0, 6, 2], &[])?))?;
-    let mut link = MemLink::of(alloc, coming, 10)?;
+    page
+}
+
+/// What `stat` prints of what it finds in four turns.
+fn stat_text(alloc: Global, link: &mut MemLink) -> Result<Blob, Fail> {
     let ask = Ask { port: A, turns: 4 };
-    let Ok(found) = stat(alloc, &ask, &mut link, &mut SetClock::new(0, 10)) else {
+    let Ok(found) = stat(alloc, &ask, link, &mut SetClock::new(0, 10)) else {
         return Err(Fail::from("no device was found"));
     };
+    Ok(print_stat(alloc, &found)?)
+}
+
+#[test]
+fn asks_for_pages(rt: HostRuntime) -> Result<(), Fail> {
+    let args = [0, 16, 0, 1, 2, 0x10, 0, 0];
+    let page = page();
+    let turns: [Option<([u8; 5], &[u8])>; 7] = [
+        Some(([1, 0, 1, 0, 0], &args)),
+        Some(([2, 1, 1, 0, 0], &args)),
+        Some(([3, 2, 1, 0, 0], &args)),
+        None,
+        Some(([1, 0, 0, 0, 1], &page)),
+        Some(([2, 1, 0, 0, 1], &page)),
+        Some(([2, 1, 0, 6, 2], &[])),
+    ];
+    let mut link = link_of(rt.alloc(), &turns)?;
+    let printed = stat_text(rt.alloc(), &mut link)?;
     let text =
         b"e1.0 2.048GB 02:00:00:00:00:01 up\ne1.1 - 02:00:00:00:00:02 reserved\ne1.2 - 02:00:00:00:00:03 silent\n";
-    assert_eq!(rt; print_stat(alloc, &found)?.bytes(), text.as_slice());
-    assert_eq!(rt; link.count(), 4);
-    if link.count() == 4 {
-        let begin = [
-            2, 0, 0, 0, 0, 3, 2, 0, 0, 0, 0, 0x0a, 0x88, 0xa2, 0x10, 0, 0, 1, 2, 0, 0x80, 0, 0, 3,
-            0, 0, 1, 0xec,
-        ];
-        assert_eq!(rt; link.frame(3).get(..28), Some(begin.as_slice()));
-    }
+    assert!(rt; printed.bytes() == text.as_slice());
+    let begin = [
+        2, 0, 0, 0, 0, 3, 2, 0, 0, 0, 0, 0x0a, 0x88, 0xa2, 0x10, 0, 0, 1, 2, 0, 0x80, 0, 0, 3, 0,
+        0, 1, 0xec,
+    ];
+    assert!(rt; link.count() == 4 && last(&link).starts_with(&begin));
     Ok(())
+}
+
+/// Whether a config string is read from these arguments, and printed so.
+fn reads_config(alloc: Global, args: &[u8], text: &[u8]) -> Result<bool, Fail> {
+    let ask = Ask { port: A, turns: 50 };
+    let mut link = answering(alloc, 1, 0, args)?;
+    let Ok(told) = cfg(&ask, DEVICE, 0, b"", &mut link, &mut SetClock::new(0, 10)) else {
+        return Ok(false);
+    };
+    let printed = print_config(alloc, &told)?;
+    Ok(told.as_slice() == args && printed.bytes() == text)
+}
+
+/// Whether these arguments tell how a mask list is after an edit, and are printed so.
+fn edits_masks(alloc: Global, args: &[u8], text: &[u8]) -> Result<bool, Fail> {
+    let ask = Ask { port: A, turns: 50 };
+    let dirs = [Dir { add: true, mac: A }];
+    let mut link = answering(alloc, 2, 0, args)?;
+    let mut clock = SetClock::new(0, 10);
+    let Ok(told) = mask(&ask, DEVICE, Some(&dirs), &mut link, &mut clock) else {
+        return Ok(false);
+    };
+    let printed = print_masks(alloc, &told)?;
+    Ok(told.as_slice() == args && printed.bytes() == text)
+}
+
+/// Whether these arguments tell how a reserve list is after it was set, and are printed so.
+fn sets_reserves(alloc: Global, args: &[u8], text: &[u8]) -> Result<bool, Fail> {
+    let ask = Ask { port: A, turns: 50 };
+    let mut link = answering(alloc, 3, 0, args)?;
+    let Ok(told) = reserve(&ask, DEVICE, 1, &[A], &mut link, &mut SetClock::new(0, 10)) else {
+        return Ok(false);
+    };
+    let printed = print_reserves(alloc, &told)?;
+    Ok(told.as_slice() == args && printed.bytes() == text)
 }
 
 #[test]
 fn asks_for_lists(rt: HostRuntime) -> Result<(), Fail> {
-    let alloc = rt.alloc();
-    let ask = Ask { port: A, turns: 50 };
     let string = [0, 16, 0, 1, 2, 0x10, 0, 2, b'a', b'b'];
-    let mut link = link_of(alloc, 1, 0, &string)?;
-    let Ok(told) = cfg(&ask, DEVICE, 0, b"", &mut link, &mut SetClock::new(0, 10)) else {
-        return Err(Fail::from("no config string"));
-    };
-    assert_eq!(rt; told.as_slice(), string.as_slice());
-    assert_eq!(rt; print_config(alloc, &told)?.bytes(), b"ab\n".as_slice());
+    assert!(rt; reads_config(rt.alloc(), &string, b"ab\n")?);
     let masks = [0, 1, 0, 1, 0, 0, 2, 0, 0, 0, 0, 0x0a];
-    let dirs = [Dir { add: true, mac: A }];
-    let mut link = link_of(alloc, 2, 0, &masks)?;
-    let Ok(told) = mask(
-        &ask,
-        DEVICE,
-        Some(&dirs),
-        &mut link,
-        &mut SetClock::new(0, 10),
-    ) else {
-        return Err(Fail::from("no mask list"));
-    };
-    assert_eq!(rt; told.as_slice(), masks.as_slice());
-    assert_eq!(rt;
-        print_masks(alloc, &told)?.bytes(),
-        b"02:00:00:00:00:0a\n".as_slice()
-    );
+    assert!(rt; edits_masks(rt.alloc(), &masks, b"02:00:00:00:00:0a\n")?);
     let reserves = [1, 2, 2, 0, 0, 0, 0, 0x0a, 2, 0, 0, 0, 0, 0x0b];
-    let mut link = link_of(alloc, 3, 0, &reserves)?;
-    let Ok(told) = reserve(&ask, DEVICE, 1, &[A], &mut link, &mut SetClock::new(0, 10)) else {
-        return Err(Fail::from("no reserve list"));
-    };
-    assert_eq!(rt; told.as_slice(), reserves.as_slice());
     let text = b"02:00:00:00:00:0a\n02:00:00:00:00:0b\n";
-    assert_eq!(rt; print_reserves(alloc, &told)?.bytes(), text.as_slice());
+    assert!(rt; sets_reserves(rt.alloc(), &reserves, text)?);
     Ok(())
+}
+
+/// How `cfg` is refused.
+fn cfg_refusal(link: &mut MemLink, ccmd: u8, text: &[u8]) -> Option<ToolRefusal>
+    requires command { ccmd ≤ 4 }
+    requires text { length text.now ≤ 1024 }
+{
+    let ask = Ask { port: A, turns: 50 };
+    match cfg(&ask, DEVICE, ccmd, text, link, &mut SetClock::new(0, 10)) {
+        Ok(_) => None,
+        Err(refusal) => Some(refusal),
+    }
+}
+
+/// How the read of a mask list is refused.
+fn mask_refusal(link: &mut MemLink) -> Option<ToolRefusal> {
+    let ask = Ask { port: A, turns: 50 };
+    match mask(&ask, DEVICE, None, link, &mut SetClock::new(0, 10)) {
+        Ok(_) => None,
+        Err(refusal) => Some(refusal),
+    }
 }
 
 #[test]
 fn tells_refusals(rt: HostRuntime) -> Result<(), Fail> {
     let alloc = rt.alloc();
-    let ask = Ask { port: A, turns: 50 };
-    let mut link = link_of(alloc, 1, 4, &[])?;
-    let Err(refusal) = cfg(&ask, DEVICE, 3, b"cd", &mut link, &mut SetClock::new(0, 10)) else {
-        return Err(Fail::from("it was set"));
-    };
-    assert_eq!(rt; refusal.code(), 10);
-    assert_eq!(rt;
-        refusal.text(alloc)?.bytes(),
-        b"aoe: refused: AoE error 4".as_slice()
-    );
-    let mut link = link_of(alloc, 2, 0, &[0, 1, 3, 0])?;
-    let Err(refusal) = mask(&ask, DEVICE, None, &mut link, &mut SetClock::new(0, 10)) else {
-        return Err(Fail::from("it was edited"));
-    };
-    assert_eq!(rt;
-        refusal.text(alloc)?.bytes(),
-        b"aoe: refused: mask error 3".as_slice()
-    );
-    let mut link = link_of(alloc, 1, 0, &[0, 16, 0, 1, 2, 0x10, 0, 0])?;
-    link.fail_at(3);
-    let Err(refusal) = cfg(&ask, DEVICE, 0, b"", &mut link, &mut SetClock::new(0, 10)) else {
-        return Err(Fail::from("an answer"));
-    };
-    assert_eq!(rt; refusal.code(), 6);
-    assert_eq!(rt; link.count(), 1);
-    let failed = ToolRefusal::Refused(Refusal::Ata {
+    let set = cfg_refusal(&mut answering(alloc, 1, 4, &[])?, 3, b"cd");
+    let edited = mask_refusal(&mut answering(alloc, 2, 0, &[0, 1, 3, 0])?);
+    let ata = Some(ToolRefusal::Refused(Refusal::Ata {
         status: 0x41,
         error: 0x10,
-    });
-    assert_eq!(rt;
-        failed.text(alloc)?.bytes(),
-        b"aoe: refused: ATA status 41 error 10".as_slice()
-    );
+    }));
+    assert!(rt; code(set) == Some(10));
+    assert!(rt; says(alloc, set, b"aoe: refused: AoE error 4")?);
+    assert!(rt; says(alloc, edited, b"aoe: refused: mask error 3")?);
+    assert!(rt; says(alloc, ata, b"aoe: refused: ATA status 41 error 10")?);
+    Ok(())
+}
+
+#[test]
+fn ends_with_its_link(rt: HostRuntime) -> Result<(), Fail> {
+    let mut link = answering(rt.alloc(), 1, 0, &[0, 16, 0, 1, 2, 0x10, 0, 0])?;
+    link.fail_at(3);
+    let read = cfg_refusal(&mut link, 0, b"");
+    assert!(rt; code(read) == Some(6) && link.count() == 1);
     Ok(())
 }

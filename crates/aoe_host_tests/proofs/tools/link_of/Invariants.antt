@@ -1,6 +1,6 @@
 use Rattle.std.proofs.Common.{All}
 use Rattle.aoe_io.specs.LinkMemory.{IsShort}
-use Rattle.aoe_host_tests.proofs.tools.quiet.Given as goal
+use Rattle.aoe_host_tests.proofs.tools.link_of.Given as goal
 
 abbrev pub invariant-turns : goal.invariant-turns
 invariant-turns l = All IsShort l.coming.items
