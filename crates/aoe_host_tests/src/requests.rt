@@ -3,7 +3,7 @@ ghost use Rattle.std.specs.Prelude.{◌≡◌, ◌<◌, IfOk, length};
 ghost use Rattle.aoe_initiator.specs.Op.{CanSubmit};
 
 use super::initiator::{A, FIRST_DEVICE, SHELF, attached, one};
-use aoe_base::{Blob, Mac, Millis, NoMemory, Span};
+use aoe_base::{Blob, Millis, NoMemory, Span};
 use aoe_frame::Frame;
 use aoe_initiator::{Dir, Initiator, Op, Outcome};
 use arrayvec::ArrayVec;
