@@ -4,16 +4,13 @@ ghost use Rattle.aoe_base.specs.Faults.{Rose};
 ghost use Rattle.aoe_disk.specs.Calls.{IsRange};
 ghost use Rattle.aoe_disk.specs.State.{DiskState};
 
-use aoe_base::Failed;
+use aoe_base::{Failed, SECTOR_LEN};
 use aoe_disk::Disk;
 use std::fs::{File, OpenFile, OpenOptions, TryLockError};
 use std::io;
 use std::io::{Seek, SeekFrom};
 use std::os::unix::fs::{FileExt, FileTypeExt};
 use std::rt::Files;
-
-/// The bytes of a sector.
-const SECTOR_LEN: u64 = 512;
 
 /// The most sectors of a disk.
 const MAX_SECTORS: u64 = 1 << 40;
@@ -73,7 +70,7 @@ impl FileDisk {
         // A device that is read-only may be opened all the same, and tells it at the first write.
         file.write_at(b"", 0)?;
         // The metadata of a block device don't tell its size.
-        let sectors = file.seek(SeekFrom::End(0))? / SECTOR_LEN;
+        let sectors = file.seek(SeekFrom::End(0))? / SECTOR_LEN as u64;
         Ok(FileDisk {
             file,
             sectors: sectors.min(MAX_SECTORS),
@@ -126,7 +123,7 @@ impl Disk for FileDisk {
         if self.is_lost {
             return Err(self.fail());
         }
-        let answer = self.file.read_exact_at(out, at * SECTOR_LEN);
+        let answer = self.file.read_exact_at(out, at * SECTOR_LEN as u64);
         self.told(answer)
     }
 
@@ -141,7 +138,7 @@ impl Disk for FileDisk {
         if self.is_lost {
             return Err(self.fail());
         }
-        let answer = self.file.write_all_at(piece, at * SECTOR_LEN);
+        let answer = self.file.write_all_at(piece, at * SECTOR_LEN as u64);
         self.told(answer)
     }
 

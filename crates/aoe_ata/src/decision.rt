@@ -4,10 +4,7 @@ ghost use Rattle.aoe_ata.specs.Decision.{is_taken, answer_of, decision, CanServe
 
 use crate::args::{ARGS_LEN, AtaArgs, read_args};
 use crate::command::{AtaCommand, classify};
-use aoe_base::{AoeError, Span};
-
-/// How many bytes a sector has.
-const SECTOR_LEN: usize = 512;
+use aoe_base::{AoeError, SECTOR_LEN, Span};
 
 /// What is answered to registers that are taken. The last four call the device.
 #[derive(Clone, Copy, Debug, PartialEq, Eq, Hash)]

@@ -49,11 +49,11 @@ pub struct TargetId {
 /// How many bytes the text of an Ethernet address has.
 const MAC_TEXT_LEN: usize = 17;
 
-/// The greatest number of a shelf that a device has.
-const LAST_MAJOR: u64 = 65534;
+/// The greatest number of a shelf that a device has: the next is that of all shelves.
+pub const LAST_MAJOR: u64 = 65534;
 
-/// The greatest number of a slot that a device has.
-const LAST_MINOR: u64 = 254;
+/// The greatest number of a slot that a device has: the next is that of all slots.
+pub const LAST_MINOR: u64 = 254;
 
 /// Whether a byte is a lower-case hexadecimal digit.
 fn is_hex_digit(byte: u8) -> bool

@@ -24,10 +24,8 @@ impl Blob {
     pub fn of(alloc: Global, bytes: &[u8]) -> Result<Blob, NoMemory>
         ensures { IfOk result (λ blob. blob ≡ bytes.now) }
     {
-        match Vec::from_slice(alloc, bytes) {
-            Ok(held) => Ok(Blob { held }),
-            Err(_) => Err(NoMemory),
-        }
+        let held = Vec::from_slice(alloc, bytes)?;
+        Ok(Blob { held })
     }
 
     /// The bytes of a vector, which aren't copied.
@@ -41,10 +39,8 @@ impl Blob {
     pub fn zeros(alloc: Global, len: usize) -> Result<Blob, NoMemory>
         ensures { IfOk result (λ zeros. zeros ≡ replicate {A = ℕ} len 0) }
     {
-        match Vec::from_elem(alloc, 0u8, len) {
-            Ok(held) => Ok(Blob { held }),
-            Err(_) => Err(NoMemory),
-        }
+        let held = Vec::from_elem(alloc, 0u8, len)?;
+        Ok(Blob { held })
     }
 
     /// Writes other bytes over these, as many.

@@ -1,4 +1,5 @@
 //! What can be missing: an answer of the outside, and memory.
+use std::alloc::{AllocError, AllocFailed};
 use thiserror::Error;
 
 /// An object of the outside (a source, a sink, a disk, a link) failed, and counted that failure.
@@ -10,3 +11,15 @@ pub struct Failed;
 #[derive(Clone, Copy, Debug, PartialEq, Eq, Error)]
 #[error("no memory")]
 pub struct NoMemory;
+
+impl From<AllocError> for NoMemory {
+    fn from(_: AllocError) -> NoMemory {
+        NoMemory
+    }
+}
+
+impl<T: Drop> From<AllocFailed<T>> for NoMemory {
+    fn from(_: AllocFailed<T>) -> NoMemory {
+        NoMemory
+    }
+}

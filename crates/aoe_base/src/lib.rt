@@ -21,13 +21,15 @@ mod sectors;
 mod steps;
 mod text;
 
-pub use address::{BROADCAST, Mac, Ports, TargetId, all_unique, read_device, read_mac};
+pub use address::{
+    BROADCAST, LAST_MAJOR, LAST_MINOR, Mac, Ports, TargetId, all_unique, read_device, read_mac,
+};
 pub use bytes::{Blob, append, copy_of};
 pub use counted::{DeviceNo, FrameNo, Millis, PathNo, Ticket};
 pub use decimal::read_number;
 pub use failure::{Failed, NoMemory};
 pub use names::{broadcast_law, device_law, mac_reads_back, mac_spelling_is_one};
 pub use refusal::AoeError;
-pub use sectors::Span;
+pub use sectors::{SECTOR_LEN, Span};
 pub use steps::Steps;
 pub use text::{pair, put, put_between, put_mac, put_macs, put_pair, put_pairs};

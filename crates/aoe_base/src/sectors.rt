@@ -2,6 +2,9 @@
 ghost use Rattle.std.specs.Prelude.{◌≡◌, IsTrue, ◌↔◌};
 ghost use Rattle.aoe_base.specs.Spans.{overlap, Overlap};
 
+/// How many bytes a sector has (AoEr11, "ATA command": data comes in sectors of 512 bytes).
+pub const SECTOR_LEN: usize = 512;
+
 /// The `count` sectors of 512 bytes from the logical block address `at` on.
 #[derive(Clone, Copy, Debug, PartialEq, Eq, Hash)]
 pub struct Span {

@@ -7,11 +7,9 @@ ghost use Rattle.aoe_block.specs.Calls.{hand, is_broken, next_part, op_of, part_
 ghost use Rattle.aoe_block.specs.Parts.{joined, IsCut};
 
 use crate::stage::Stage;
-use crate::steps::{
-    SECTOR_LEN, find_handed, first_under_way, is_success, is_within, lay, mark, part_span,
-};
+use crate::steps::{find_handed, first_under_way, is_success, is_within, lay, mark, part_span};
 use crate::{BlockRefusal, Took};
-use aoe_base::{Blob, NoMemory, Ticket};
+use aoe_base::{Blob, NoMemory, SECTOR_LEN, Ticket};
 use aoe_initiator::{Done, Op};
 use std::alloc::Global;
 use std::marker::Model;

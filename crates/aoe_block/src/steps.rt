@@ -5,11 +5,8 @@ ghost use Rattle.aoe_block.specs.Fields.{laid, CanLay, NoneBefore, PendingFrom};
 ghost use Rattle.aoe_block.specs.Stages.{is_handed, stage_at};
 
 use crate::stage::Stage;
-use aoe_base::{Blob, Span, Ticket};
+use aoe_base::{Blob, SECTOR_LEN, Span, Ticket};
 use aoe_initiator::Outcome;
-
-/// How many bytes a sector has (AoEr11, "ATA command": data comes in sectors of 512 bytes).
-pub const SECTOR_LEN: usize = 512;
 
 /// Whether a device of `total` sectors has the `count` ones from `at` on.
 pub fn is_within(total: u64, at: u64, count: u32) -> bool

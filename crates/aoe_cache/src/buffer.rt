@@ -6,8 +6,8 @@ ghost use Rattle.aoe_cache.specs.Held.{IsAscending, held_for, held_of, laid_over
 ghost use Rattle.aoe_cache.specs.Down.{IsJoined, bytes_of, first_of};
 ghost use Rattle.aoe_cache.specs.Cache.{AreWhole, HasRoom, IsBuffer, IsInOrder, IsIndexed};
 
-use crate::place::{Place, SECTOR};
-use aoe_base::NoMemory;
+use crate::place::Place;
+use aoe_base::{NoMemory, SECTOR_LEN};
 use indexmap::IndexSet;
 use std::alloc::Global;
 
@@ -35,12 +35,8 @@ impl Buffer {
         ensures held { IfOk result (λ buffer. held_of buffer ≡ []) }
         ensures indexed { IfOk result IsIndexed }
     {
-        let Ok(numbers) = IndexSet::with_capacity(alloc, places) else {
-            return Err(NoMemory);
-        };
-        let Ok(mut all) = Vec::with_capacity(alloc, places) else {
-            return Err(NoMemory);
-        };
+        let numbers = IndexSet::with_capacity(alloc, places)?;
+        let mut all = Vec::with_capacity(alloc, places)?;
         'places: for _ in 0..places {
             let Ok(()) = all.push(Place::new(alloc)?) else {
                 return Err(NoMemory);
@@ -135,9 +131,9 @@ impl Buffer {
         ensures held { held_of self.new ≡ with_written at (length piece.now / 512) piece.now (held_of self.old) }
         ensures places { length self.new.places.items ≡ length self.old.places.items }
     {
-        'sectors: for i in 0..piece.len() / SECTOR {
-            let start = SECTOR * i;
-            self.put_one(at + i as u64, &piece[start..start + SECTOR]);
+        'sectors: for i in 0..piece.len() / SECTOR_LEN {
+            let start = SECTOR_LEN * i;
+            self.put_one(at + i as u64, &piece[start..start + SECTOR_LEN]);
         }
     }
 
@@ -153,7 +149,7 @@ impl Buffer {
         if self.numbers.is_empty() {
             return;
         }
-        'sectors: for i in 0..out.len() / SECTOR {
+        'sectors: for i in 0..out.len() / SECTOR_LEN {
             if let Some(place) = self.get(at + i as u64) {
                 place.lay_over(at, out);
             }
@@ -216,8 +212,8 @@ impl Buffer {
         ensures { take (512 * count) out.new ≡ bytes_of (take count (drop from (placed self.now))) }
     {
         'sectors: for i in 0..count {
-            let start = SECTOR * i;
-            out[start..start + SECTOR].copy_from_slice(self.places[from + i].bytes());
+            let start = SECTOR_LEN * i;
+            out[start..start + SECTOR_LEN].copy_from_slice(self.places[from + i].bytes());
         }
     }
 

@@ -2,12 +2,9 @@
 ghost use Rattle.std.specs.Prelude.{◌≡◌, ◌≤◌, ◌+◌, ◌-◌, ◌*◌, length};
 ghost use Rattle.aoe_disk.specs.State.{with_piece};
 
-use aoe_base::NoMemory;
+use aoe_base::{NoMemory, SECTOR_LEN};
 use std::alloc::Global;
 use std::marker::Model;
-
-/// The length of a sector in bytes.
-pub const SECTOR: usize = 512;
 
 /// A sector's number and its bytes, as contracts see a place.
 #[derive(Drop)]
@@ -62,8 +59,8 @@ impl Place {
         requires room { 512 * (self.now.at - at) + 512 ≤ length out.old }
         ensures { out.new ≡ with_piece out.old (512 * (self.now.at - at)) self.now.bytes }
     {
-        let start = SECTOR * (self.at - at) as usize;
-        out[start..start + SECTOR].copy_from_slice(self.bytes());
+        let start = SECTOR_LEN * (self.at - at) as usize;
+        out[start..start + SECTOR_LEN].copy_from_slice(self.bytes());
     }
 
     /// Puts a sector in the place of what stood there.

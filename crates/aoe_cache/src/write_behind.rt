@@ -7,13 +7,12 @@ ghost use Rattle.aoe_cache.specs.Down.{IsJoined, StopsShort, WritesDown, bytes_o
 ghost use Rattle.aoe_cache.specs.Cache.{CacheReads, CacheSyncs, CacheWrites, IsBuffer, IsInOrder, IsWriteBehind, WritesAfter, cache_of, state_of};
 
 use crate::buffer::{Buffer, MOST_JOINED};
-use crate::place::SECTOR;
-use aoe_base::{Failed, NoMemory};
+use aoe_base::{Failed, NoMemory, SECTOR_LEN};
 use aoe_disk::Disk;
 use std::alloc::Global;
 
 /// The length of the longest device write of joined sectors.
-const JOINED: usize = SECTOR * MOST_JOINED;
+const JOINED: usize = SECTOR_LEN * MOST_JOINED;
 
 // Writes `count` sectors of the buffer from place `from` on by one device write.
 fn write_run<D: Disk>(
@@ -34,7 +33,7 @@ fn write_run<D: Disk>(
     if count == 1 {
         return disk.write(at, buffer.bytes_at(from));
     }
-    let length = SECTOR * count;
+    let length = SECTOR_LEN * count;
     buffer.gather(from, count, scratch);
     disk.write(at, &scratch[..length])
 }
@@ -143,7 +142,7 @@ impl<D: Disk> WriteBehind<D> {
             ⊎ WritesAfter D.state at (length piece.now / 512) piece.now result (cache_of self.old) (cache_of self.new) }
     {
         write_down(&mut self.disk, &mut self.buffer, &mut self.scratch)?;
-        if piece.len() / SECTOR > self.room as usize {
+        if piece.len() / SECTOR_LEN > self.room as usize {
             return self.disk.write(at, piece);
         }
         self.buffer.put(at, piece);
@@ -159,7 +158,7 @@ impl<D: Disk> WriteBehind<D> {
         ensures writes { CacheWrites D.state at piece.now result (cache_of self.old) (cache_of self.new) }
     {
         let room = self.room as usize;
-        if !self.buffer.fits(at, piece.len() / SECTOR, room) {
+        if !self.buffer.fits(at, piece.len() / SECTOR_LEN, room) {
             return self.write_beyond(at, piece);
         }
         self.buffer.put(at, piece);

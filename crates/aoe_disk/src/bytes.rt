@@ -3,8 +3,7 @@ ghost use Rattle.std.specs.Prelude.{◌≡◌, ◌≤◌, ◌+◌, ◌*◌, ◌^
 ghost use Rattle.aoe_disk.specs.State.{with_piece, with_marks, spoiled_sector};
 ghost use Rattle.aoe_disk.specs.Memory.{AgreesWhereKept};
 
-/// The length of a sector in bytes.
-pub const SECTOR: usize = 512;
+use aoe_base::SECTOR_LEN;
 
 /// Every byte of a sector that lost what it held.
 const SPOILED: u8 = 0xee;
@@ -22,7 +21,7 @@ pub fn spoil_at(bytes: &mut [u8], start: usize)
     requires { start + 512 ≤ length bytes.old }
     ensures { bytes.new ≡ with_piece bytes.old start spoiled_sector }
 {
-    bytes[start..start + SECTOR].fill(SPOILED);
+    bytes[start..start + SECTOR_LEN].fill(SPOILED);
 }
 
 /// Marks `count` sectors from `first` on.
@@ -43,8 +42,8 @@ pub fn settle_loose(settled: &mut [u8], now: &[u8], loose: &[bool])
 {
     'sectors: for s in 0..loose.len() {
         if loose[s] {
-            let start = SECTOR * s;
-            write_at(settled, start, &now[start..start + SECTOR]);
+            let start = SECTOR_LEN * s;
+            write_at(settled, start, &now[start..start + SECTOR_LEN]);
         }
     }
 }

@@ -3,7 +3,8 @@ ghost use Rattle.std.specs.Prelude.{◌≡◌, ◌≤◌, ◌+◌, ◌*◌, ◌^
 ghost use Rattle.aoe_disk.specs.State.{with_piece, sector};
 ghost use Rattle.aoe_disk.specs.Loss.{torn, left_of, IsLeft};
 
-use crate::bytes::{SECTOR, spoil_at, write_at};
+use crate::bytes::{spoil_at, write_at};
+use aoe_base::SECTOR_LEN;
 
 /// What a loss of power leaves of each sector that is loose.
 #[derive(Clone, Copy, Debug, PartialEq, Eq)]
@@ -25,7 +26,7 @@ fn tear(now: &mut [u8], settled: &[u8])
     requires settled { length settled.now ≡ 512 }
     ensures { now.new ≡ torn now.old settled.now }
 {
-    write_at(now, SECTOR / 2, &settled[SECTOR / 2..]);
+    write_at(now, SECTOR_LEN / 2, &settled[SECTOR_LEN / 2..]);
 }
 
 /// What becomes of sector `s`, which is loose.
@@ -57,8 +58,8 @@ fn lose_at(now: &mut [u8], settled: &[u8], how: Loss, s: usize)
     ensures { now.new ≡ with_piece now.old (512 * s)
         (left_of how s (sector now.old s) (sector settled.now s)) }
 {
-    let start = SECTOR * s;
-    let end = start + SECTOR;
+    let start = SECTOR_LEN * s;
+    let end = start + SECTOR_LEN;
     lose(&mut now[start..end], &settled[start..end], how, s as u64);
 }
 

@@ -1,9 +1,9 @@
 //! A disk in memory.
-use crate::bytes::{SECTOR, mark, settle_loose, spoil_at, write_at};
+use crate::bytes::{mark, settle_loose, spoil_at, write_at};
 use crate::loss::lose_loose;
 use crate::meter::Meter;
 use crate::{Arm, Armed, Disk, Loss};
-use aoe_base::{Failed, NoMemory};
+use aoe_base::{Failed, NoMemory, SECTOR_LEN};
 use std::alloc::Global;
 use std::marker::Model;
 
@@ -53,13 +53,9 @@ impl MemDisk {
         requires { sectors ≤ 2 ^ 40 }
         ensures { IfOk result (λ disk. disk ≡ fresh (replicate (512 * sectors) 0)) }
     {
-        let length = sectors as usize * SECTOR;
-        let Ok(bytes) = Vec::from_elem(alloc, 0, length) else {
-            return Err(NoMemory);
-        };
-        let Ok(settled) = Vec::from_elem(alloc, 0, length) else {
-            return Err(NoMemory);
-        };
+        let length = sectors as usize * SECTOR_LEN;
+        let bytes = Vec::from_elem(alloc, 0, length)?;
+        let settled = Vec::from_elem(alloc, 0, length)?;
         MemDisk::from_images(alloc, bytes, settled)
     }
 
@@ -69,12 +65,8 @@ impl MemDisk {
         requires bound { length image.now ≤ 512 * 2 ^ 40 }
         ensures { IfOk result (λ disk. disk ≡ fresh image.now) }
     {
-        let Ok(bytes) = Vec::from_slice(alloc, image) else {
-            return Err(NoMemory);
-        };
-        let Ok(settled) = Vec::from_slice(alloc, image) else {
-            return Err(NoMemory);
-        };
+        let bytes = Vec::from_slice(alloc, image)?;
+        let settled = Vec::from_slice(alloc, image)?;
         MemDisk::from_images(alloc, bytes, settled)
     }
 
@@ -85,9 +77,7 @@ impl MemDisk {
         requires bound { length bytes.items ≤ 512 * 2 ^ 40 }
         ensures { IfOk result (λ disk. disk ≡ fresh bytes.items) }
     {
-        let Ok(loose) = Vec::from_elem(alloc, false, bytes.len() / SECTOR) else {
-            return Err(NoMemory);
-        };
+        let loose = Vec::from_elem(alloc, false, bytes.len() / SECTOR_LEN)?;
         Ok(MemDisk {
             bytes,
             settled,
@@ -173,7 +163,7 @@ impl Disk for MemDisk {
         if self.meter.fails() {
             return Err(Failed);
         }
-        let start = SECTOR * at as usize;
+        let start = SECTOR_LEN * at as usize;
         out.copy_from_slice(&self.bytes[start..start + out.len()]);
         Ok(())
     }
@@ -184,8 +174,8 @@ impl Disk for MemDisk {
         ensures calls { self.new.calls ≡ next_count self.old.calls }
     {
         let spoils = self.meter.fails();
-        let start = SECTOR * at as usize;
-        mark(&mut self.loose, at as usize, piece.len() / SECTOR);
+        let start = SECTOR_LEN * at as usize;
+        mark(&mut self.loose, at as usize, piece.len() / SECTOR_LEN);
         if spoils {
             spoil_at(&mut self.bytes, start);
             return Err(Failed);

@@ -58,10 +58,8 @@ impl Order {
     pub fn new(alloc: Global, room: usize) -> Result<Order, NoMemory>
         ensures { IfOk result (λ order. order ≡ no_entries room) }
     {
-        match VecDeque::with_capacity(alloc, room) {
-            Ok(entries) => Ok(Order { room, entries }),
-            Err(_) => Err(NoMemory),
-        }
+        let entries = VecDeque::with_capacity(alloc, room)?;
+        Ok(Order { room, entries })
     }
 
     /// The first entry.

@@ -58,9 +58,7 @@ impl Table {
         ensures empty { IfOk result (λ table. values table ≡ []) }
         ensures room { IfOk result (λ table. room ≤ table.capacity) }
     {
-        let Ok(slots) = Slab::with_capacity(alloc, room) else {
-            return Err(NoMemory);
-        };
+        let slots = Slab::with_capacity(alloc, room)?;
         let room = slots.capacity();
         Ok(Table {
             slots,

@@ -14,7 +14,7 @@ pub type Frame = ArrayVec<u8, 9018>;
 pub const MIN_FRAME: usize = 60;
 
 /// The longest frame.
-const MAX_FRAME: usize = 9018;
+pub const MAX_FRAME: usize = 9018;
 
 /// Zeros for the bytes that a frame grows by.
 static ZEROS: [u8; MAX_FRAME] = [0; MAX_FRAME];

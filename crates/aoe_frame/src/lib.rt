@@ -11,7 +11,7 @@
 mod frame;
 mod header;
 
-pub use frame::{Frame, MIN_FRAME, overwrite, pad, refill, stretch};
+pub use frame::{Frame, MAX_FRAME, MIN_FRAME, overwrite, pad, refill, stretch};
 pub use header::{
     AOE_TYPE, ERROR_FLAG, HEADER_LEN, Header, RESPONSE_FLAG, header_reads_back,
     header_spelling_is_one, put_turned, read_header, turn_round, write_header,

@@ -33,9 +33,7 @@ impl<T: Drop> Boxed<T> {
     pub fn new(alloc: Global, value: T) -> Result<Boxed<T>, NoMemory>
         ensures { IfOk result (λ boxed. boxed ≡ value) }
     {
-        match Box::new(alloc, value) {
-            Ok(inner) => Ok(Boxed { inner }),
-            Err(_) => Err(NoMemory),
-        }
+        let inner = Box::new(alloc, value)?;
+        Ok(Boxed { inner })
     }
 }

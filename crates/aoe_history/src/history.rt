@@ -52,10 +52,8 @@ impl History {
         ensures ok { OnOk result (self.new ≡ entry ∷ self.old) }
         ensures err { OnErr result (self.new ≡ self.old) }
     {
-        match self.entries.push(entry) {
-            Ok(()) => Ok(()),
-            Err(_) => Err(NoMemory),
-        }
+        self.entries.push(entry)?;
+        Ok(())
     }
 
     /// Takes back what was pushed last.

@@ -38,17 +38,12 @@ impl Model for Run {
 }
 
 /// A copy of the bytes of a frame, for the history and for the network.
-fn twice(alloc: Global, frame: &[u8]) -> Result<(FrameBytes, FrameBytes), NetRefusal>
-    ensures both { IfOk result (λ both. (both.0 ≡ frame.now) × (both.1 ≡ frame.now)) }
-    ensures cause { IsOkUnless result NetRefusal.NoMemory }
+fn twice(alloc: Global, frame: &[u8]) -> Result<(FrameBytes, FrameBytes), NoMemory>
+    ensures { IfOk result (λ both. (both.0 ≡ frame.now) × (both.1 ≡ frame.now)) }
 {
-    let Ok(bytes) = FrameBytes::of(alloc, frame) else {
-        return Err(NetRefusal::NoMemory);
-    };
-    match bytes.share() {
-        Ok(same) => Ok((bytes, same)),
-        Err(NoMemory) => Err(NetRefusal::NoMemory),
-    }
+    let bytes = FrameBytes::of(alloc, frame)?;
+    let same = bytes.share()?;
+    Ok((bytes, same))
 }
 
 /// Takes back what was pushed last.
@@ -135,10 +130,7 @@ impl Run {
         ensures ok { OnOk result (self.new ≡ with_entry self.old (Ticked ms)) }
         ensures err { OnErr result (self.new ≡ self.old) }
     {
-        match self.history.push(Entry::Ticked { ms }) {
-            Ok(()) => {}
-            Err(NoMemory) => return Err(NoMemory),
-        }
+        self.history.push(Entry::Ticked { ms })?;
         self.clock = Millis(self.clock.0 + ms);
         Ok(())
     }
@@ -153,10 +145,7 @@ impl Run {
         ensures full { result ≡ Err NetRefusal.Full → IsFull (network_of self.old) frame }
         ensures err { OnErr result (self.new ≡ self.old) }
     {
-        match self.history.push(entry) {
-            Ok(()) => {}
-            Err(NoMemory) => return Err(NetRefusal::NoMemory),
-        }
+        self.history.push(entry)?;
         match self.net.send_shared(self.clock, frame) {
             Ok(_) => Ok(()),
             Err(refusal) => {

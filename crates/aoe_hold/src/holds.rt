@@ -93,9 +93,7 @@ fn make_room(
     ensures ready_room { OnOk result (room ≤ ready.new.room) }
     ensures blocked_room { OnOk result (room ≤ blocked.new.room) }
 {
-    if commands.reserve(1).is_err() {
-        return Err(NoMemory);
-    }
+    commands.reserve(1)?;
     timed.reserve(room)?;
     ready.reserve(room)?;
     blocked.reserve(room)?;

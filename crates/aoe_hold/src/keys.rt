@@ -45,9 +45,7 @@ pub fn add_key(keys: &mut BTreeSet<Key>, command: &Command) -> Result<(), NoMemo
     ensures added { OnOk result (HasKey keys.new command.now) }
     ensures more { (key : KeyValue) → contains key_cmp keys.old key ≡ true → contains key_cmp keys.new key ≡ true }
 {
-    if keys.insert(Key::of(command)).is_err() {
-        return Err(NoMemory);
-    }
+    keys.insert(Key::of(command))?;
     Ok(())
 }
 

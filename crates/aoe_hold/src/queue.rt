@@ -83,9 +83,7 @@ impl Queue {
         ensures more { self.old.room ≤ self.new.room }
     {
         let more = room as usize - self.waiters.len();
-        if self.waiters.reserve(more).is_err() {
-            return Err(NoMemory);
-        }
+        self.waiters.reserve(more)?;
         self.room = self.room.max(room);
         Ok(())
     }

@@ -139,9 +139,8 @@ fn make_room(
     ensures outcomes { OnOk result (length done.new.items + length pending.new.items + 1 ≤ deque_capacity done.new) }
     ensures room { IfOk result (λ room. length room ≡ len) }
 {
-    if pending.reserve(1).is_err() || done.reserve(pending.len() + 1).is_err() {
-        return Err(NoMemory);
-    }
+    pending.reserve(1)?;
+    done.reserve(pending.len() + 1)?;
     Blob::zeros(alloc, len)
 }
 

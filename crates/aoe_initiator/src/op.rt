@@ -6,13 +6,10 @@ ghost use Rattle.aoe_initiator.specs.Request.{CanSpell};
 
 use crate::device::Attached;
 use crate::refusal::SubmitRefusal;
-use aoe_base::{Blob, Mac, Span};
+use aoe_base::{Blob, Mac, SECTOR_LEN, Span};
 use aoe_hold::Kind;
 use aoe_lists::{Dir, MAX_DIRS};
 use arrayvec::ArrayVec;
-
-/// How many bytes a sector has (AoEr11, "ATA command": data comes in sectors of 512 bytes).
-pub(crate) const SECTOR_LEN: usize = 512;
 
 /// What a host asks of a device.
 #[derive(Debug, Drop)]

@@ -6,9 +6,9 @@ ghost use Rattle.aoe_ata.specs.Command.{code_of};
 ghost use Rattle.aoe_frame.specs.Header.{head};
 ghost use Rattle.aoe_initiator.specs.Request.{arguments, config_bytes, mask_bytes, registers_of, request, request_header, reserve_bytes, write_bytes, CanSpell};
 
-use crate::op::{Op, SECTOR_LEN};
+use crate::op::Op;
 use aoe_ata::{AFLAG_EXTENDED, AFLAG_WRITE, AtaArgs, CommandCode, write_args};
-use aoe_base::{Mac, Span, TargetId, append};
+use aoe_base::{Mac, SECTOR_LEN, Span, TargetId, append};
 use aoe_frame::{Frame, Header, pad, write_header};
 use aoe_lists::Dir;
 

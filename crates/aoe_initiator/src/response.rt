@@ -3,10 +3,10 @@ ghost use Rattle.std.specs.Prelude.{◌≡◌, ◌≤◌, IfSome, length};
 ghost use Rattle.aoe_initiator.specs.Op.{data_len};
 ghost use Rattle.aoe_initiator.specs.Response.{answer, ata_answer, ata_success, config_len, data_if, is_failure, mask_len, outcome_of, reserve_len, success, told, CanFill};
 
-use crate::op::{Op, SECTOR_LEN};
+use crate::op::Op;
 use crate::outcome::Outcome;
 use aoe_ata::{ARGS_LEN, STATUS_DF, STATUS_ERR};
-use aoe_base::{Blob, append};
+use aoe_base::{Blob, SECTOR_LEN, append};
 use aoe_frame::{ERROR_FLAG, Header};
 use aoe_lists::{Args, MAX_CONFIG};
 

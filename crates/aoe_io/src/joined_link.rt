@@ -39,21 +39,13 @@ impl Model for JoinedLink {
 
 /// An empty queue with room for so many frames.
 fn queue(alloc: Global, room: usize) -> Result<Waiting, NoMemory> {
-    let Ok(frames) = VecDeque::with_capacity(alloc, room) else {
-        return Err(NoMemory);
-    };
-    match Rc::new(alloc, RefCell::new(frames)) {
-        Ok(waiting) => Ok(waiting),
-        Err(_) => Err(NoMemory),
-    }
+    let frames = VecDeque::with_capacity(alloc, room)?;
+    Ok(Rc::new(alloc, RefCell::new(frames))?)
 }
 
 /// The same queue, for the other end.
 fn share(waiting: &Waiting) -> Result<Waiting, NoMemory> {
-    match Rc::clone(waiting) {
-        Ok(same) => Ok(same),
-        Err(_) => Err(NoMemory),
-    }
+    Ok(Rc::clone(waiting)?)
 }
 
 /// Puts a copy of a frame behind those that wait, where it isn't too long and has room.

@@ -88,18 +88,16 @@ impl MemLink {
         requires { All IsShort coming.items }
         ensures { IfOk result (λ l. l ≡ record { coming = coming.items; given = []; taken = []; room = room; turns = 0; faults = 0; due = 0 }) }
     {
-        match Vec::with_capacity(alloc, room) {
-            Ok(taken) => Ok(MemLink {
-                coming,
-                at: 0,
-                taken,
-                room,
-                turns: 0,
-                faults: 0,
-                due: 0,
-            }),
-            Err(_) => Err(NoMemory),
-        }
+        let taken = Vec::with_capacity(alloc, room)?;
+        Ok(MemLink {
+            coming,
+            at: 0,
+            taken,
+            room,
+            turns: 0,
+            faults: 0,
+            due: 0,
+        })
     }
 
     /// Lets the `k`-th call of `send` or `recv` from now fail; none where `k` is 0. A send past the

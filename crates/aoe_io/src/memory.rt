@@ -34,15 +34,13 @@ impl MemSource {
     pub fn of(alloc: Global, bytes: &[u8]) -> Result<MemSource, NoMemory>
         ensures { IfOk result (λ s. s ≡ record { left = bytes.now; faults = 0; due = 0 }) }
     {
-        match Vec::from_slice(alloc, bytes) {
-            Ok(bytes) => Ok(MemSource {
-                bytes,
-                at: 0,
-                faults: 0,
-                due: 0,
-            }),
-            Err(_) => Err(NoMemory),
-        }
+        let bytes = Vec::from_slice(alloc, bytes)?;
+        Ok(MemSource {
+            bytes,
+            at: 0,
+            faults: 0,
+            due: 0,
+        })
     }
 
     /// Lets the `k`-th call of `read` from now fail, and no other; none where `k` is 0.
@@ -117,15 +115,13 @@ impl MemSink {
     pub fn new(alloc: Global, room: usize) -> Result<MemSink, NoMemory>
         ensures { IfOk result (λ s. s ≡ record { held = []; room = room; faults = 0; due = 0 }) }
     {
-        match Vec::with_capacity(alloc, room) {
-            Ok(bytes) => Ok(MemSink {
-                bytes,
-                room,
-                faults: 0,
-                due: 0,
-            }),
-            Err(_) => Err(NoMemory),
-        }
+        let bytes = Vec::with_capacity(alloc, room)?;
+        Ok(MemSink {
+            bytes,
+            room,
+            faults: 0,
+            due: 0,
+        })
     }
 
     /// Lets the `k`-th call of `write` from now fail; none where `k` is 0. A write past the room

@@ -7,14 +7,11 @@ ghost use Rattle.aoe_io.specs.Stream.{framed, IsFrame, IsLength, IsBroken};
 
 use crate::{Sink, Source};
 use aoe_base::Failed;
-use aoe_frame::{Frame, stretch};
+use aoe_frame::{Frame, MAX_FRAME, stretch};
 use thiserror::Error;
 
 /// The least length of a frame on the stream: two addresses and a type.
 const SHORTEST: usize = 14;
-
-/// The greatest length of a frame on the stream.
-const LONGEST: usize = 9018;
 
 /// The longest piece that a frame and its length go out in together: one of Ethernet's least length
 /// does.
@@ -109,7 +106,7 @@ fn read_length<S: Source>(source: &mut S, offset: u64) -> Result<Option<usize>, 
     }
     let [high, low] = prefix;
     let length = usize::from(high) * 256 + usize::from(low);
-    if length < SHORTEST || length > LONGEST {
+    if length < SHORTEST || length > MAX_FRAME {
         return Err(StreamRefusal::Stream { offset });
     }
     Ok(Some(length))

@@ -24,4 +24,5 @@ mod refusal;
 
 pub use body::{a_body_is_the_one_spelling, spelled_lists_are_read, unreadable_bodies};
 pub use keep::Keep;
+pub use mount::KEEP_SECTORS;
 pub use refusal::MountRefusal;

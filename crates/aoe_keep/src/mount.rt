@@ -18,7 +18,7 @@ use aoe_disk::Disk;
 use aoe_lists::Lists;
 
 /// How many sectors a keep has.
-const SECTORS: u64 = 16;
+pub const KEEP_SECTORS: u64 = 16;
 
 /// What a slot holds: nothing where its gate is closed, else what its body spells.
 type Slot = Option<Option<(u8, Lists)>>;
@@ -132,7 +132,7 @@ pub(crate) fn mount<D: Disk>(disk: D) -> Result<Mounted<D>, (MountRefusal, D)>
 {
     let mut disk = disk;
     let sectors = disk.sectors();
-    if sectors < SECTORS {
+    if sectors < KEEP_SECTORS {
         return Err((MountRefusal::TooSmall { sectors }, disk));
     }
     match read_slots(&mut disk) {

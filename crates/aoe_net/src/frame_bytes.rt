@@ -27,20 +27,16 @@ impl FrameBytes {
     pub fn of(alloc: Global, bytes: &[u8]) -> Result<FrameBytes, NoMemory>
         ensures { IfOk result (λ copy. copy ≡ bytes.now) }
     {
-        match RcSlice::from_slice(alloc, bytes) {
-            Ok(held) => Ok(FrameBytes { held }),
-            Err(_) => Err(NoMemory),
-        }
+        let held = RcSlice::from_slice(alloc, bytes)?;
+        Ok(FrameBytes { held })
     }
 
     /// The same bytes for one more owner.
     pub fn share(&self) -> Result<FrameBytes, NoMemory>
         ensures { IfOk result (λ same. same ≡ self.now) }
     {
-        match self.held.clone() {
-            Ok(held) => Ok(FrameBytes { held }),
-            Err(_) => Err(NoMemory),
-        }
+        let held = self.held.clone()?;
+        Ok(FrameBytes { held })
     }
 
     /// The bytes.

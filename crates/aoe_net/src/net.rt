@@ -1,5 +1,5 @@
 //! The frames of a network, each with the time of its sending.
-ghost use Rattle.std.specs.Prelude.{◌≡◌, ℕ, ◌+◌, ◌-◌, ◌≤◌, ◌↔◌, [], ◌∷◌, ◌++◌, length, nat_lt, option_map, IfNone, IfOk, IfSome, IsOkUnless, IsTrue, OnErr, OnOk};
+ghost use Rattle.std.specs.Prelude.{◌≡◌, ℕ, ◌+◌, ◌-◌, ◌≤◌, ◌↔◌, [], ◌∷◌, ◌++◌, length, nat_lt, option_map, IfNone, IfOk, IfSome, IsTrue, OnErr, OnOk};
 ghost use Rattle.aoe_net.specs.Network.{deliverable, empty_network, total_bytes, with_frame, IsFull, IsNumberOf};
 
 use crate::{FrameBytes, NetRefusal};
@@ -83,10 +83,8 @@ impl Net {
         if self.is_full(frame) {
             return Err(NetRefusal::Full);
         }
-        match FrameBytes::of(self.alloc, frame) {
-            Ok(bytes) => self.keep(now, bytes),
-            Err(NoMemory) => Err(NetRefusal::NoMemory),
-        }
+        let bytes = FrameBytes::of(self.alloc, frame)?;
+        Ok(self.keep(now, bytes)?)
     }
 
     /// Sends a frame whose bytes somebody else has too.
@@ -101,15 +99,14 @@ impl Net {
         if self.is_full(frame.bytes()) {
             return Err(NetRefusal::Full);
         }
-        self.keep(now, frame)
+        Ok(self.keep(now, frame)?)
     }
 
     /// Keeps a frame that there is room for.
-    fn keep(&mut self, now: Millis, frame: FrameBytes) -> Result<FrameNo, NetRefusal>
+    fn keep(&mut self, now: Millis, frame: FrameBytes) -> Result<FrameNo, NoMemory>
         requires room { ¬ IsFull self.old frame }
         ensures sent { OnOk result (self.new ≡ with_frame self.old now.0 frame) }
         ensures number { IfOk result (λ number. number.0 ≡ length self.new.sent) }
-        ensures cause { IsOkUnless result NetRefusal.NoMemory }
         ensures refused { OnErr result (self.new ≡ self.old) }
     {
         let len = frame.bytes().len() as u64;
@@ -117,10 +114,7 @@ impl Net {
             bytes: frame,
             birth: now,
         };
-        match self.frames.push(kept) {
-            Ok(()) => {}
-            Err(_) => return Err(NetRefusal::NoMemory),
-        }
+        self.frames.push(kept)?;
         self.latest = now;
         self.total += len;
         Ok(FrameNo(self.frames.len() as u32))

@@ -1,4 +1,8 @@
 //! Why a network takes no further frame.
+ghost use Rattle.std.specs.Prelude.{◌≡◌};
+ghost use Rattle.aoe_net.specs.declared.refusal.NetRefusal.TheVariants.{NoMemory};
+
+use aoe_base::NoMemory;
 use thiserror::Error;
 
 /// Why a frame wasn't sent.
@@ -10,4 +14,12 @@ pub enum NetRefusal {
     /// An allocation was refused.
     #[error("no memory")]
     NoMemory,
+}
+
+impl From<NoMemory> for NetRefusal {
+    ghost from_gives = { λ _ refusal. refusal ≡ NoMemory };
+
+    fn from(_: NoMemory) -> NetRefusal {
+        NetRefusal::NoMemory
+    }
 }

@@ -50,13 +50,11 @@ impl Path {
     pub fn new(alloc: Global) -> Result<Path, NoMemory>
         ensures { IfOk result (λ path. path ≡ new_path) }
     {
-        match HeapCircularBuffer::with_capacity(alloc, KEPT_TRIPS) {
-            Ok(trips) => Ok(Path {
-                missed: false,
-                trips,
-            }),
-            Err(_) => Err(NoMemory),
-        }
+        let trips = HeapCircularBuffer::with_capacity(alloc, KEPT_TRIPS)?;
+        Ok(Path {
+            missed: false,
+            trips,
+        })
     }
 
     /// Whether the path is marked.

@@ -19,9 +19,7 @@ fn fresh(alloc: Global, count: usize) -> Result<Vec<Path>, NoMemory>
     let mut paths = Vec::new(alloc);
     for _ in 0..count {
         let path = Path::new(alloc)?;
-        if paths.push(path).is_err() {
-            return Err(NoMemory);
-        }
+        paths.push(path)?;
     }
     Ok(paths)
 }

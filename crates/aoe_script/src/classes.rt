@@ -90,10 +90,8 @@ pub(crate) fn byte_of(text: &[u8]) -> Option<u8>
 fn add(bytes: &mut Vec<u8>, byte: u8) -> Result<(), NoMemory>
     ensures { OnOk result (bytes.new.items ≡ bytes.old.items ++ byte ∷ []) }
 {
-    match bytes.push(byte) {
-        Ok(()) => Ok(()),
-        Err(_) => Err(NoMemory),
-    }
+    bytes.push(byte)?;
+    Ok(())
 }
 
 /// The bytes that an even number of digits spell.

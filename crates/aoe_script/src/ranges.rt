@@ -7,15 +7,9 @@ ghost use Rattle.aoe_base.specs.Addresses.{all_unique, is_individual};
 use crate::classes::is_name;
 use crate::event::Event;
 use crate::setup::{Name, Setup};
-use aoe_base::{Blob, Mac, Ports, TargetId, all_unique};
+use aoe_base::{Blob, LAST_MAJOR, LAST_MINOR, Mac, Ports, TargetId, all_unique};
 use aoe_lists::{Dir, MAX_CONFIG, MAX_DIRS};
 use arrayvec::ArrayVec;
-
-/// The greatest number of a shelf: the next is that of all shelves.
-const LAST_MAJOR: u64 = 65_534;
-
-/// The greatest number of a slot: the next is that of all slots.
-const LAST_MINOR: u64 = 254;
 
 /// The first sector that has no 48-bit address.
 const END_OF_SECTORS: u64 = 281_474_976_710_656;

@@ -35,10 +35,8 @@ impl Replies {
     pub(crate) fn new(alloc: Global) -> Result<Replies, NoMemory>
         ensures { IfOk result (λ replies. replies ≡ []) }
     {
-        match HeapCircularBuffer::with_capacity(alloc, MAX_WAITING) {
-            Ok(frames) => Ok(Replies { frames }),
-            Err(_) => Err(NoMemory),
-        }
+        let frames = HeapCircularBuffer::with_capacity(alloc, MAX_WAITING)?;
+        Ok(Replies { frames })
     }
 
     /// Lets a reply wait behind the others, or loses it where there is no room.

@@ -17,4 +17,4 @@ mod refusal;
 mod shelf;
 
 pub use refusal::ShelfRefusal;
-pub use shelf::Shelf;
+pub use shelf::{MAX_TARGETS, Shelf};

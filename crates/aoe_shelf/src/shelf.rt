@@ -15,7 +15,7 @@ use std::alloc::Global;
 use std::marker::Model;
 
 /// How many targets a shelf has room for.
-const MAX_TARGETS: usize = 16;
+pub const MAX_TARGETS: usize = 16;
 
 /// Up to 16 targets behind the same ports. A slot is the place of a target in the order of adding,
 /// counted from 0, whatever its minor is.
@@ -66,15 +66,13 @@ impl<S: Store, D: Disk> Shelf<S, D> {
         requires longest { mtu ≤ 9000 }
         ensures { IfOk result (λ shelf. shelf ≡ record { major = major; ports = ports.items; mtu = mtu; targets = [] }) }
     {
-        match Vec::with_capacity(alloc, MAX_TARGETS) {
-            Ok(targets) => Ok(Shelf {
-                major,
-                ports,
-                mtu,
-                targets,
-            }),
-            Err(_) => Err(NoMemory),
-        }
+        let targets = Vec::with_capacity(alloc, MAX_TARGETS)?;
+        Ok(Shelf {
+            major,
+            ports,
+            mtu,
+            targets,
+        })
     }
 
     /// Adds a target behind the others, with the lists of the keep. Where it isn't added the store

@@ -128,9 +128,7 @@ impl NamedHost {
         ensures matches { OnOk result ((log : List LogEvent) → Matches log self.old.core → Matches log self.new.core) }
         ensures err { OnErr result (self.new ≡ self.old) }
     {
-        if self.ids.reserve(1).is_err() {
-            return Err(NoMemory);
-        }
+        self.ids.reserve(1)?;
         match self.core.attach(dev, remotes, total, max) {
             Ok(_) => {
                 self.ids.push_reserved(dev);

@@ -40,10 +40,7 @@ impl NamedHost {
         ensures err { OnErr result ((rest : List Done) × Notes self.old.name self.old.core.waiting rest run.old.entries run.new.entries) }
     {
         'outcomes: while let Some(done) = self.core.take_done() {
-            match self.tell(run, done) {
-                Ok(()) => {}
-                Err(NoMemory) => return Err(NoMemory),
-            }
+            self.tell(run, done)?;
         }
         Ok(())
     }
@@ -97,9 +94,7 @@ impl NamedHost {
         ensures full { result ≡ Err NetRefusal.Full → (s : Setup) (host : HostSetup) (got : Option Got) → Awaits s host got run.old.entries self.old
             → IsLawful s run.old.entries → MeetsFull s (TurnSome host got run.old.entries) run.new.entries }
     {
-        match self.catch_up(run) {
-            Ok(()) => self.send_all(run, out),
-            Err(NoMemory) => Err(NetRefusal::NoMemory),
-        }
+        self.catch_up(run)?;
+        self.send_all(run, out)
     }
 }

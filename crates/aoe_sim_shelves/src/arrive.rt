@@ -43,10 +43,8 @@ fn note(run: &mut Run, dev: TargetId, number: FrameNo, fate: Fate) -> Result<(),
         frame: u64::from(number.0),
         fate,
     };
-    match run.note(entry) {
-        Ok(()) => Ok(()),
-        Err(NoMemory) => Err(NetRefusal::NoMemory),
-    }
+    run.note(entry)?;
+    Ok(())
 }
 
 /// Records what became of a frame at a target; a reply is brought into the network.
@@ -98,10 +96,7 @@ impl MemoryRack {
         let dev = self.shelf.id(slot);
         let heard = self.shelf.receive_slot(slot, frame, out);
         let stop = stop_at(self.stops[slot], heard);
-        match take_down(run, dev, number, heard, stop, out) {
-            Ok(()) => {}
-            Err(refusal) => return Err(refusal),
-        }
+        take_down(run, dev, number, heard, stop, out)?;
         Ok(stop)
     }
 
@@ -131,10 +126,8 @@ impl MemoryRack {
     {
         'slots: for slot in 0..self.shelf.count() {
             if let Some(how) = self.arrive_at(run, slot, number, frame, out)? {
-                return match self.crash(run, how) {
-                    Ok(()) => Ok(()),
-                    Err(NoMemory) => Err(NetRefusal::NoMemory),
-                };
+                self.crash(run, how)?;
+                return Ok(());
             }
         }
         Ok(())

@@ -8,13 +8,13 @@ ghost use Rattle.aoe_sim_shelves.specs.Crash.{with_crashes, Loses, LosesStore, R
 ghost use Rattle.aoe_sim_shelves.specs.Rack.{AreTargets, Serves, Stands};
 ghost use Rattle.aoe_history.specs.Run.{with_entry};
 
-use crate::rack::MAX_TARGETS;
 use crate::seat::{MemShelf, mount, seat};
 use crate::{MemoryRack, Stops};
 use aoe_base::NoMemory;
 use aoe_cache::AnyStore;
 use aoe_disk::{Disk, Loss, MemDisk};
 use aoe_history::Run;
+use aoe_shelf::MAX_TARGETS;
 use aoe_store::Direct;
 use arrayvec::ArrayVec;
 

@@ -14,17 +14,12 @@ use crate::seat::{MemShelf, mount, seat, store_over};
 use aoe_base::{NoMemory, Ports, TargetId};
 use aoe_disk::{Arm, Loss, MemDisk};
 use aoe_history::{Entry, Run};
+use aoe_keep::KEEP_SECTORS;
 use aoe_script::Which;
-use aoe_shelf::Shelf;
+use aoe_shelf::{MAX_TARGETS, Shelf};
 use arrayvec::ArrayVec;
 use std::alloc::Global;
 use std::marker::Model;
-
-/// How many targets a shelf has room for.
-pub(crate) const MAX_TARGETS: usize = 16;
-
-/// How many sectors the disk of a keep has.
-const KEEP_SECTORS: u64 = 16;
 
 /// What a stop leaves that one of the two disks of a slot is armed with, where it is.
 #[derive(Clone, Copy, Debug, Default, PartialEq, Eq)]

@@ -20,12 +20,9 @@ use crate::reply::{DATA_AT, put_front, reply_ata, reply_page};
 use crate::verdict::args_of;
 use crate::{Effect, Station};
 use aoe_ata::{AtaAnswer, AtaArgs, AtaDecision, AtaOutcome, put_data};
-use aoe_base::{Failed, Span};
+use aoe_base::{Failed, SECTOR_LEN, Span};
 use aoe_frame::{Frame, Header, pad, stretch};
 use aoe_store::Store;
-
-/// How many bytes a sector has.
-const SECTOR_LEN: usize = 512;
 
 /// Makes `out` the header and the registers of a reply with sectors, and room for these. The room
 /// keeps what stood there.

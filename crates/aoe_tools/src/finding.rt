@@ -51,10 +51,7 @@ fn find_all<L: Link>(
             Ok(None) => break,
             Err(Failed) => return Err(ToolRefusal::LinkFault),
         };
-        match found.note(reply.id, reply.source) {
-            Ok(()) => {}
-            Err(NoMemory) => return Err(ToolRefusal::NoMemory),
-        }
+        found.note(reply.id, reply.source)?;
     }
     unless_none(found, turns)
 }

@@ -118,10 +118,8 @@ impl Found {
             total: None,
             state: State::Found,
         };
-        match self.devices.insert(id, seen) {
-            Ok(_) => Ok(()),
-            Err(_) => Err(NoMemory),
-        }
+        let _ = self.devices.insert(id, seen)?;
+        Ok(())
     }
 
     /// Notes what a device said.

@@ -4,15 +4,12 @@ ghost use Rattle.aoe_base.specs.Faults.{Blamed};
 ghost use Rattle.aoe_tools.specs.TransferInput.{Inputs};
 
 use crate::end::{CopyRefusal, ToolRefusal};
-use aoe_base::Blob;
+use aoe_base::{Blob, SECTOR_LEN};
 use aoe_io::{InputRefusal, Source, read_up_to};
 use std::alloc::Global;
 
 /// The most bytes of an input, 16 MiB: a limit of this program.
 const LONGEST_INPUT: usize = 16_777_216;
-
-/// How many bytes a sector has.
-const SECTOR_LEN: usize = 512;
 
 /// The sectors that the source gives up to its end.
 pub(crate) fn read_sectors<S: Source>(alloc: Global, source: &mut S) -> Result<Blob, CopyRefusal>

@@ -78,10 +78,7 @@ impl Transfer {
         ensures host { IfOk result (λ t. t.host ≡ host_of port id device.now) }
         ensures matches { IfOk result (λ t. Matches [] t.host) }
     {
-        let mut host = match Initiator::new(alloc, &one_port(port), LIFE, ROOM, DEAD) {
-            Ok(host) => host,
-            Err(NoMemory) => return Err(NoMemory),
-        };
+        let mut host = Initiator::new(alloc, &one_port(port), LIFE, ROOM, DEAD)?;
         match host.attach(id, &one_port(device.port), device.total, device.max) {
             Ok(_) => Ok(Transfer { host, course }),
             Err(_) => Err(NoMemory),
@@ -113,10 +110,8 @@ impl Transfer {
         ensures unchanged { result ≢ Ok true → self.new ≡ self.old }
     {
         ticket_law();
-        let op = match self.course.next() {
-            Ok(Some(op)) => op,
-            Ok(None) => return Ok(false),
-            Err(NoMemory) => return Err(NoMemory),
+        let Some(op) = self.course.next()? else {
+            return Ok(false);
         };
         match self.host.submit(DEVICE, op) {
             Ok(ticket) => {
@@ -194,10 +189,7 @@ impl Transfer {
         ensures count { L.faults link.old ≤ L.faults link.new }
         ensures link { Blamed (result ≡ Err ToolRefusal.LinkFault) (L.faults link.old) (L.faults link.new) }
     {
-        match self.submit_all() {
-            Ok(()) => {}
-            Err(NoMemory) => return Err(ToolRefusal::NoMemory),
-        }
+        self.submit_all()?;
         match self.send_all(link, frame) {
             Ok(()) => {}
             Err(Failed) => return Err(ToolRefusal::LinkFault),

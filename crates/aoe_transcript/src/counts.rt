@@ -23,10 +23,8 @@ fn sends_again<'a>(seen: &mut Seen<'a>, entry: &'a Entry) -> Result<bool, NoMemo
     let Entry::Sent { host, ticket, .. } = entry else {
         return Ok(false);
     };
-    match seen.insert((host.as_slice(), *ticket)) {
-        Ok(is_new) => Ok(!is_new),
-        Err(_) => Err(NoMemory),
-    }
+    let is_new = seen.insert((host.as_slice(), *ticket))?;
+    Ok(!is_new)
 }
 
 /// How many frames come into the network where this becomes of one at a target.

@@ -4,15 +4,12 @@ ghost use Rattle.aoe_base.specs.Names.{device_text, pair_text};
 ghost use Rattle.aoe_script.specs.Print.{event_words, spaced, spelled};
 ghost use Rattle.aoe_transcript.specs.Print.{asking, refusal_words, submit_words, HasCause};
 
-use aoe_base::{Blob, NoMemory, Span, TargetId, put, put_pair};
+use aoe_base::{Blob, NoMemory, SECTOR_LEN, Span, TargetId, put, put_pair};
 use aoe_initiator::{Op, SubmitRefusal};
 use aoe_script::Name;
 use aoe_script::spelling::{
     put_config_words, put_count, put_device, put_masks_words, put_named, put_reserve_words,
 };
-
-/// How many bytes a sector has.
-const SECTOR_LEN: usize = 512;
 
 /// Adds a word and a device, each behind a space.
 fn put_asked(out: &mut Vec<u8>, word: &[u8], dev: &TargetId) -> Result<(), NoMemory>

@@ -5,7 +5,7 @@ ghost use Rattle.aoe_udp.specs.Addresses.{ArePeers, IsAddress};
 ghost use Rattle.aoe_udp.specs.Errors.{is_loss, is_silence};
 
 use aoe_base::Failed;
-use aoe_frame::{Frame, refill};
+use aoe_frame::{Frame, MAX_FRAME, refill};
 use aoe_io::{Got, Link};
 use std::alloc::Global;
 use std::io;
@@ -18,7 +18,7 @@ use thiserror::Error;
 const SILENCE: u64 = 10;
 
 /// The room for a datagram: one byte more than the longest frame, so that a longer one is seen.
-const ROOM: usize = 9019;
+const ROOM: usize = MAX_FRAME + 1;
 
 /// How often a call of the socket that came to nothing is made again: as often as std does for files.
 const TRIES: u64 = u64::MAX;

@@ -13,16 +13,10 @@ use crate::values::{
 };
 use crate::word::is_word;
 use crate::{Answer, Command, Live, PortWords, Serve, Soak, Tool};
-use aoe_base::{Blob, NoMemory, TargetId};
+use aoe_base::{Blob, LAST_MAJOR, LAST_MINOR, NoMemory, TargetId};
 use clap::ArgMatches;
 use clap::error::ErrorKind;
 use std::alloc::Global;
-
-/// The greatest number of a shelf; 0xffff stands for every shelf (AoEr11, "Major").
-const LAST_SHELF: u64 = 65534;
-
-/// The greatest number of a slot; 0xff stands for every slot (AoEr11, "Minor").
-const LAST_SLOT: u64 = 254;
 
 /// How many files `answer` works on.
 const ANSWER_FILES: usize = 2;
@@ -125,8 +119,8 @@ fn answer_of(found: &ArgMatches) -> Option<Answer>
     }
     Some(Answer {
         id: TargetId {
-            major: number(found, "shelf", LAST_SHELF)? as u16,
-            minor: number(found, "slot", LAST_SLOT)? as u8,
+            major: number(found, "shelf", LAST_MAJOR)? as u16,
+            minor: number(found, "slot", LAST_MINOR)? as u8,
         },
         port: port_or_default(found, "port", DEFAULT_PORT)?,
         mtu: number_or(found, "mtu", &MTU)?,
@@ -147,7 +141,7 @@ fn serve_of(found: &ArgMatches) -> Option<Serve>
     }
     let _ends = link(found)?;
     Some(Serve {
-        shelf: number(found, "shelf", LAST_SHELF)? as u16,
+        shelf: number(found, "shelf", LAST_MAJOR)? as u16,
         slots: (files / 2) as u8,
         ports: ports_or_default(found, "ports")?,
         mtu: number_or(found, "mtu", &MTU)?,
@@ -274,9 +268,7 @@ fn copies(alloc: Global, texts: &[&str]) -> Result<Vec<String>, NoMemory>
     'texts: for text in texts {
         match String::from_str(alloc, text) {
             Ok(name) => {
-                if names.push(name).is_err() {
-                    return Err(NoMemory);
-                }
+                names.push(name)?;
             }
             Err(_) => return Err(NoMemory),
         }

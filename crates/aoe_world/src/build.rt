@@ -336,10 +336,8 @@ impl Builder<'_> {
     {
         let name = copy_of(name);
         let ports = copy_of(ports);
-        match self.places.push(Place { name, ports, at }) {
-            Ok(()) => Ok(()),
-            Err(_) => Err(NoMemory),
-        }
+        self.places.push(Place { name, ports, at })?;
+        Ok(())
     }
 
     /// Adds a shelf behind the others.
@@ -352,10 +350,8 @@ impl Builder<'_> {
         ensures script { self.new.script ≡ self.old.script }
     {
         let at = At::Shelf(self.sim.shelves.len());
-        match self.sim.shelves.push(shelf) {
-            Ok(()) => self.place(name, ports, at),
-            Err(_) => Err(NoMemory),
-        }
+        self.sim.shelves.push(shelf)?;
+        self.place(name, ports, at)
     }
 
     /// Adds a host behind the others.
@@ -368,10 +364,8 @@ impl Builder<'_> {
         ensures script { self.new.script ≡ self.old.script }
     {
         let at = At::Host(self.sim.hosts.len());
-        match self.sim.hosts.push(host) {
-            Ok(()) => self.place(name, ports, at),
-            Err(_) => Err(NoMemory),
-        }
+        self.sim.hosts.push(host)?;
+        self.place(name, ports, at)
     }
 
     /// Builds the station of a line, where it declares one.
