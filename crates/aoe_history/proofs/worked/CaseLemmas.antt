@@ -1,15 +1,19 @@
 -- The entries of worked histories, each by tests that compute.
 use Rattle.std.specs.Bool.{OnTrue}
-use Rattle.std.proofs.Common.{inr, is_none, IfSome, MatchBool, ℕ, ◌+◌, ◌≡◌, ◌<◌, ◌≤◌, Bool, true, false, not, ◌&&◌, ◌||◌, nat_lt, nat_le, List, length, drop, Option, Some, None, refl, arith, slice_index_or, All, Contains}
+use Rattle.std.proofs.Common.{inl, inr, is_none, IfSome, MatchBool, ℕ, suc, ◌+◌, ◌≡◌, ◌<◌, ◌≤◌, Bool, true, false, not, ◌&&◌, ◌||◌, nat_lt, nat_le, List, ◌∷◌, length, drop, Option, Some, None, refl, arith, slice_index_or, All, Contains}
 use Rattle.std.specs.List.{list_all}
 use Rattle.std.proofs.lemmas.Bool.Decides.{nat_tests}
 use Rattle.std.proofs.lemmas.List.Elements.{Contains-get_or}
 use Rattle.std.proofs.lemmas.List.Sums.{AllPass-from_list_all}
 use Rattle.aoe_flight.specs.declared.outstanding.Outstanding.{Outstanding}
 use Rattle.aoe_flight.specs.Outstanding.{is_due, is_expired, is_taken, live, lower, precedes, rest_time, IsFirst}
+use Rattle.aoe_base.specs.declared.address.TargetId.{TargetId}
+use Rattle.aoe_initiator.specs.declared.op.Op.{Op}
 use Rattle.aoe_initiator.specs.declared.op.Op.TheVariants.{Flush}
+use Rattle.aoe_initiator.specs.declared.outcome.Outcome.{Outcome}
 use Rattle.aoe_initiator.specs.declared.response.Answer.{Answer}
-use Rattle.aoe_initiator.specs.HostLaw.{answer_to, given_up, is_clear_at, paths_to, spelled}
+use Rattle.aoe_initiator.specs.HostLaw.{answer_to, given_up, is_clear_at, paths_to, spelled, submit_refusal}
+use Rattle.aoe_initiator.specs.Op.{CanSubmit}
 use Rattle.aoe_initiator.specs.HostLog.{missed_by, path_log, sent_of, submitted, HostCommand}
 use Rattle.aoe_paths.specs.PathLog.{next_of}
 use Rattle.aoe_initiator.specs.Response.{outcome_of}
@@ -17,15 +21,19 @@ use Rattle.arrayvec.specs.ArrayVec.{ArrayVec}
 use Rattle.aoe_disk.specs.State.{sector}
 use Rattle.aoe_target.specs.Sectors.{Sectors, Tells}
 use Rattle.aoe_history.specs.declared.entry.Entry.{Entry}
+use Rattle.aoe_history.specs.declared.entry.Entry.TheVariants.{Took}
 use Rattle.aoe_history.specs.declared.entry.Fate.{Fate}
+use Rattle.aoe_history.specs.declared.entry.Fate.TheVariants.{Replied}
+use Rattle.aoe_target.specs.declared.heard.Effect.TheVariants.{None as NoEffect}
 use Rattle.aoe_script.specs.declared.event.Which.TheVariants.{Store, Keep}
-use Rattle.aoe_history.specs.Commands.{commands_of, host_after, log_of}
-use Rattle.aoe_history.specs.Frames.{clock, next_number}
+use Rattle.aoe_history.specs.Commands.{commands_of, host_after, log_of, tickets}
+use Rattle.aoe_history.specs.Frames.{arriving, clock, next_number}
 use Rattle.aoe_history.specs.Groups.{told, GivesUp, Got, SendsSome, Turn}
-use Rattle.aoe_history.specs.HostLaw.{IsGivenUp, IsResponse, IsSent, IsStale}
-use Rattle.aoe_history.specs.Setup.{is_called, HostSetup, Setup, SlotSetup}
-use Rattle.aoe_history.specs.ShelfLaw.{calls, stretch, IsStruckBy, KeepsArming}
-use Rattle.aoe_history.specs.Slots.{is_struck}
+use Rattle.aoe_history.specs.HostLaw.{IsDone, IsGivenUp, IsResponse, IsSent, IsStale, IsSubmitted}
+use Rattle.aoe_history.specs.Lawful.{IsArrival, IsNumbered, IsTaking}
+use Rattle.aoe_history.specs.Setup.{device_place, is_called, HostSetup, Setup, SlotSetup}
+use Rattle.aoe_history.specs.ShelfLaw.{calls, stretch, IsStruckBy, KeepsArming, KeepsShelfLaw}
+use Rattle.aoe_history.specs.Slots.{is_struck, state_after}
 use Rattle.aoe_history.proofs.LogicLemmas.{not-true}
 
 abbrev nobody : HostCommand
@@ -58,8 +66,19 @@ is_lowest test cs k = list_all (λ c. not (test c) || nat_le (nth cs k).ticket.0
 lowest-of : (test : HostCommand → Bool) (cs : List HostCommand) (k : ℕ) → is_lowest test cs k ≡ true → All (λ c. test c ≡ true → (nth cs k).ticket.0 ≤ c.ticket.0) cs
 lowest-of test cs k e = λ i d lt clear. le-of (nth cs k).ticket.0 (slice_index_or cs i d).ticket.0 (or-of (test (slice_index_or cs i d)) (nat_le (nth cs k).ticket.0 (slice_index_or cs i d).ticket.0) (AllPass-from_list_all (λ c. not (test c) || nat_le (nth cs k).ticket.0 c.ticket.0) cs e i d lt) clear)
 
+-- THE ENTRIES OF A HISTORY, the latest first
+
+infixr 4 ◌after◌
+pub ◌after◌ : {A B : Type 0} → A → B → A × B
+x after y = (x, y)
+
+-- a command is taken for the first device
+pub submits : {s : Setup} {host : HostSetup} {h : List Entry} {c : ℕ} {dev : TargetId} {op : Op} → device_place host dev ≡ Some 0 → CanSubmit op
+    → submit_refusal (host_after s host h) 0 op ≡ None → c ≡ suc (tickets host h) → IsSubmitted s host h c dev op
+submits attached can taken next = record { device = 0; attached = attached; can = can; taken = taken; next = next }
+
 -- a command of the host is sent for the first time
-pub starts : (s : Setup) (host : HostSetup) (h : List Entry) (k c tag path : ℕ) (bytes : List ℕ) → (nth (commands_of host h) k).ticket.0 ≡ c
+pub starts : {s : Setup} {host : HostSetup} {h : List Entry} {c : ℕ} {bytes : List ℕ} (k tag path : ℕ) → (nth (commands_of host h) k).ticket.0 ≡ c
     → list_all (λ o. not (is_due (clock h) o)) (sent_of (commands_of host h)) ≡ true
     → nat_lt (length (live (rest_time s.life) (clock h) (sent_of (commands_of host h)))) host.room ≡ true
     → nat_lt k (length (commands_of host h)) ≡ true
@@ -68,7 +87,7 @@ pub starts : (s : Setup) (host : HostSetup) (h : List Entry) (k c tag path : ℕ
     → is_taken (live (rest_time s.life) (clock h) (sent_of (commands_of host h))) tag ≡ false → nat_lt tag 4294967296 ≡ true
     → path ≡ next_of (paths_to (host_after s host h) (nth (commands_of host h) k).device.0) (missed_by (nth (commands_of host h) k).sends (path_log (log_of host h) (nth (commands_of host h) k).device.0))
     → spelled (host_after s host h) (nth (commands_of host h) k) (record { 0 = path }) tag ≡ Some bytes → IsSent s host h c (next_number h) bytes
-starts s host h k c tag path bytes is due room within clear lowest free fits next spells = record {
+starts {s} {host} {h} {c} {bytes} k tag path is due room within clear lowest free fits next spells = record {
   sent = record { ticket = (nth (commands_of host h) k).ticket; tag = tag; path = record { 0 = path }; again = false };
   ticket_is = is;
   may = record {
@@ -88,10 +107,10 @@ starts s host h k c tag path bytes is due room within clear lowest free fits nex
 }
 
 -- a response ends a command
-pub responds : (s : Setup) (host : HostSetup) (h : List Entry) (f : List ℕ) (k c : ℕ) (answer : Answer) → (nth (commands_of host h) k).ticket.0 ≡ c
+pub responds : {s : Setup} {host : HostSetup} {h : List Entry} {f : List ℕ} {c : ℕ} (k : ℕ) (answer : Answer) → (nth (commands_of host h) k).ticket.0 ≡ c
     → nat_lt k (length (commands_of host h)) ≡ true → answer_to (host_after s host h) (nth (commands_of host h) k) f ≡ Some answer
     → IsResponse s host h f c (outcome_of answer (drop 24 f))
-responds s host h f k c answer is within says = record {
+responds {s} {host} {h} k answer is within says = record {
   command = nth (commands_of host h) k;
   there = there (commands_of host h) k within;
   ticket_is = is;
@@ -100,8 +119,21 @@ responds s host h f k c answer is within says = record {
   gives = refl;
 }
 
+-- the host takes it, and the command has its outcome
+pub ends : {s : Setup} {host : HostSetup} {h : List Entry} {name : ArrayVec ℕ} {n c : ℕ} {f : List ℕ} {o : Outcome} → arriving s.life h n ≡ Some f → IsResponse s host h f c o
+    → IsDone s host (Took name n false ∷ h) c o × IsTaking s host h n false
+ends {n = n} {c} {f} {o} fresh r = (
+  inl (record { number = n; bytes = f; fresh = fresh; response = record { command = r.command; there = r.there; ticket_is = r.ticket_is; answer = r.answer; says = r.says; gives = r.gives } }),
+  record { bytes = f; fresh = fresh; law = (c, o, r) },
+)
+
+-- two entries before the others
+infixr 4 ◌upon◌
+pub ◌upon◌ : {A B L : Type 0} → A × B → L → A × (B × L)
+x upon l = (x.0, (x.1, l))
+
 -- no disk is armed, and no call fails
-pub unarmed : (slot : SlotSetup) (h : List Entry) (f : List ℕ) (fate : Fate) → stretch Store slot h ≡ None → stretch Keep slot h ≡ None → is_struck fate ≡ false
+unarmed : (slot : SlotSetup) (h : List Entry) (f : List ℕ) (fate : Fate) → stretch Store slot h ≡ None → stretch Keep slot h ≡ None → is_struck fate ≡ false
     → KeepsArming slot h f fate
 unarmed slot h f fate store keep e = record {
   store = on (calls Store slot h f) (IsStruckBy Store slot (stretch Store slot h) fate) (rw store (by-cache (is_none slot.cache)));
@@ -117,9 +149,21 @@ unarmed slot h f fate store keep e = record {
     by-cache false = e
 
 -- data for one sector tell what is known of it
-pub tells-one : (o : Option Sectors) (at : ℕ) (bytes : List ℕ) → IfSome o (λ k. IfSome (k.known (at + 0)) (λ v. sector bytes 0 ≡ v)) → IfSome o (Tells (record { at = at; count = 1 }) bytes)
+tells-one : (o : Option Sectors) (at : ℕ) (bytes : List ℕ) → IfSome o (λ k. IfSome (k.known (at + 0)) (λ v. sector bytes 0 ≡ v)) → IfSome o (Tells (record { at = at; count = 1 }) bytes)
 tells-one None at bytes e = e
 tells-one (Some k) at bytes e = λ i lt. let z : i ≡ 0 = omega arith in rw z e
+
+-- a frame comes to a slot
+pub comes : {s : Setup} {slot : SlotSetup} {h : List Entry} {n : ℕ} {f : List ℕ} {fate : Fate} → arriving s.life h n ≡ Some f → KeepsShelfLaw slot h f fate
+    → stretch Store slot h ≡ None → stretch Keep slot h ≡ None → is_struck fate ≡ false → IsNumbered (next_number h) fate → IsArrival s slot h n fate
+comes {s} {slot} {h} {n} {f} {fate} fresh law store keep struck numbered = record { bytes = f; fresh = fresh; law = law; arming = unarmed slot h f fate store keep struck; numbered = numbered }
+
+-- one that reads a sector
+pub reads : {s : Setup} {n m : ℕ} {reply : List ℕ} (slot : SlotSetup) (h : List Entry) (f : List ℕ) (at : ℕ) (bytes : List ℕ) → arriving s.life h n ≡ Some f
+    → (IfSome (state_after slot h).sectors (Tells (record { at = at; count = 1 }) bytes) → KeepsShelfLaw slot h f (Replied NoEffect m reply))
+    → IfSome (state_after slot h).sectors (λ k. IfSome (k.known (at + 0)) (λ v. sector bytes 0 ≡ v))
+    → stretch Store slot h ≡ None → stretch Keep slot h ≡ None → m ≡ next_number h → IsArrival s slot h n (Replied NoEffect m reply)
+reads slot h f at bytes fresh law known store keep numbered = comes fresh (law (tells-one (state_after slot h).sectors at bytes known)) store keep refl numbered
 
 -- A REPEAT
 
@@ -152,13 +196,13 @@ first-of test before cs k e =
     }
 
 -- a command of the host is sent again
-pub repeats : (s : Setup) (host : HostSetup) (h : List Entry) (k j c path : ℕ) (bytes : List ℕ) → (nth_sent (commands_of host h) j).ticket.0 ≡ c
+pub repeats : {s : Setup} {host : HostSetup} {h : List Entry} {c : ℕ} {bytes : List ℕ} (k j path : ℕ) → (nth_sent (commands_of host h) j).ticket.0 ≡ c
     → is_first (is_due (clock h)) precedes (commands_of host h) j ≡ true → nat_lt k (length (commands_of host h)) ≡ true
     → (nth (commands_of host h) k).ticket ≡ (nth_sent (commands_of host h) j).ticket
     → nat_lt (nth_sent (commands_of host h) j).flying.tag 4294967296 ≡ true
     → path ≡ next_of (paths_to (host_after s host h) (nth (commands_of host h) k).device.0) (missed_by (nth (commands_of host h) k).sends (path_log (log_of host h) (nth (commands_of host h) k).device.0))
     → spelled (host_after s host h) (nth (commands_of host h) k) (record { 0 = path }) (nth_sent (commands_of host h) j).flying.tag ≡ Some bytes → IsSent s host h c (next_number h) bytes
-repeats s host h k j c path bytes is first within same fits next spells = record {
+repeats {s} {host} {h} {c} {bytes} k j path is first within same fits next spells = record {
   sent = record { ticket = (nth_sent (commands_of host h) j).ticket; tag = (nth_sent (commands_of host h) j).flying.tag; path = record { 0 = path }; again = true };
   ticket_is = is;
   may = record { command = nth_sent (commands_of host h) j; first_due = first-of (is_due (clock h)) precedes (commands_of host h) j first; ticket = refl; tag = refl };
@@ -170,9 +214,9 @@ repeats s host h k j c path bytes is first within same fits next spells = record
 
 -- GIVING UP, AND STALE RESPONSES
 
-pub gives-up : (s : Setup) (host : HostSetup) (h : List Entry) (j c : ℕ) → (nth_sent (commands_of host h) j).ticket.0 ≡ c
+pub gives-up : {s : Setup} {host : HostSetup} {h : List Entry} {c : ℕ} (j : ℕ) → (nth_sent (commands_of host h) j).ticket.0 ≡ c
     → is_first (is_expired host.dead (clock h)) lower (commands_of host h) j ≡ true → IsGivenUp s host h c (given_up (clock h) (nth_sent (commands_of host h) j)).outcome
-gives-up s host h j c is first = record { command = nth_sent (commands_of host h) j; late = first-of (is_expired host.dead (clock h)) lower (commands_of host h) j first; ticket_is = is; gives = refl }
+gives-up {s} {host} {h} {c} j is first = record { command = nth_sent (commands_of host h) j; late = first-of (is_expired host.dead (clock h)) lower (commands_of host h) j first; ticket_is = is; gives = refl }
 
 none-of : {X : Type 0} (o : Option X) → is_none o ≡ true → o ≡ None
 none-of None e = refl
@@ -181,6 +225,10 @@ none-of (Some x) e = absurd (cc)
 pub stale : (s : Setup) (host : HostSetup) (h : List Entry) (f : List ℕ) → list_all (λ c. is_none (answer_to (host_after s host h) c f)) (commands_of host h) ≡ true → IsStale s host h f
 stale s host h f e = λ k d lt. none-of (answer_to (host_after s host h) (slice_index_or (commands_of host h) k d) f)
     (AllPass-from_list_all (λ c. is_none (answer_to (host_after s host h) c f)) (commands_of host h) e k d lt)
+
+pub takes-stale : {s : Setup} {host : HostSetup} {h : List Entry} {n : ℕ} {f : List ℕ} → arriving s.life h n ≡ Some f
+    → list_all (λ c. is_none (answer_to (host_after s host h) c f)) (commands_of host h) ≡ true → IsTaking s host h n true
+takes-stale {s} {host} {h} {f = f} fresh e = record { bytes = f; fresh = fresh; law = stale s host h f e }
 
 -- a host's turn, at whose end nothing is waited for too long, nothing is due and nothing is clear
 pub turns : (s : Setup) (host : HostSetup) (name : ArrayVec ℕ) (got : Option Got) (h mid m : List Entry) → is_called host name ≡ true → GivesUp name (told name host got h) mid

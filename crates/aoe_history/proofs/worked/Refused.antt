@@ -25,11 +25,11 @@ use Rattle.aoe_history.specs.declared.entry.Fate.TheVariants.{Replied}
 use Rattle.aoe_history.specs.Cases.{almost_waited, armed, beside_submitted, crashed_write, early_write, flush_frame, flush_sent, forged, forged_response, kept_out, masked_out, ones_frame, read_frame, reserved, second_submitted, write_due, write_sent, write_submitted}
 use Rattle.aoe_history.specs.Commands.{commands_of, host_after}
 use Rattle.aoe_history.specs.Frames.{arriving, clock}
-use Rattle.aoe_history.specs.Example.{a, device, full, host_a, host_b, setup, setup_with, show, slot, slot_with, span}
+use Rattle.aoe_history.specs.Example.{a, device, full, host_a, host_b, setup, setup_with, show, span}
 use Rattle.aoe_history.specs.Groups.{Enters, Got, Hand, Shelf}
 use Rattle.aoe_history.specs.HostLaw.{IsResponse, IsSent, IsStale, IsTaken}
-use Rattle.aoe_history.specs.Lawful.{MayCome}
-use Rattle.aoe_history.specs.Setup.{HostSetup, Setup}
+use Rattle.aoe_history.specs.Lawful.{IsArrival, MayCome}
+use Rattle.aoe_history.specs.Setup.{HostSetup, Setup, SlotSetup}
 use Rattle.aoe_history.specs.ShelfLaw.{KeepsArming, KeepsShelfLaw}
 use Rattle.aoe_history.specs.Slots.{zero_sector}
 use Rattle.aoe_history.proofs.worked.CaseLemmas.{nth, nth_sent, stale}
@@ -97,13 +97,15 @@ any-source x = go x.bytes x.fresh x.law
     go f e l = let q : forged ≡ f = cc in
         stale-no-response setup host_a forged_response forged l.0 l.1 (stale setup host_a forged_response forged refl) (rw (← q) at l.2)
 
+-- the laws hold of the frame that comes to a slot
+came : {s : Setup} {slot : SlotSetup} {h : List Entry} {n : ℕ} {fate : Fate} (f : List ℕ) → arriving s.life h n ≡ Some f → IsArrival s slot h n fate
+    → KeepsShelfLaw slot h f fate × KeepsArming slot h f fate
+came f e x = let q : f ≡ x.bytes = cc in rw q (x.law, x.arming)
+
 -- a flush that is acknowledged without a sync
 pub no-sync : (reply : List ℕ) → MayCome setup flush_sent (Arrived device 3 (Replied NoEffect 4 reply)) → ⊥
 unfolding full request verdict decision
-no-sync reply x = go x.bytes x.fresh x.law
-  where
-    go : (f : List ℕ) → arriving 2000 flush_sent 3 ≡ Some f → KeepsShelfLaw slot flush_sent f (Replied NoEffect 4 reply) → ⊥
-    go f e l = let q : flush_frame ≡ f = cc in let m = rw (← q) at l in m
+no-sync reply x = (came flush_frame refl x).0
 
 -- a frame that is handed over after its lifetime
 pub expired : (fate : Fate) → MayCome setup flush_sent (Arrived device 1 fate) → ⊥
@@ -113,18 +115,12 @@ expired fate x = let e : None ≡ Some x.bytes = x.fresh in cc
 -- a write that is done though another host has the reservation
 pub not-kept-out : (reply : List ℕ) → MayCome (setup_with None (host_a ∷ host_b ∷ [])) kept_out (Arrived device 5 (Replied (Wrote (span 0)) 6 reply)) → ⊥
 unfolding full request verdict decision reserve_answer spelled
-not-kept-out reply x = go x.bytes x.fresh x.law
-  where
-    go : (f : List ℕ) → arriving 2000 kept_out 5 ≡ Some f → KeepsShelfLaw slot kept_out f (Replied (Wrote (span 0)) 6 reply) → ⊥
-    go f e l = let q : early_write ≡ f = cc in let m = rw (← q) at l in cc
+not-kept-out reply x = let m = (came early_write refl x).0 in cc
 
 -- an answer to a station outside the mask list
 pub not-masked : (effect : Effect) (reply : List ℕ) → MayCome (setup_with None (host_a ∷ host_b ∷ [])) masked_out (Arrived device 3 (Replied effect 4 reply)) → ⊥
 unfolding full request verdict decision mask_answer spelled
-not-masked effect reply x = go x.bytes x.fresh x.law
-  where
-    go : (f : List ℕ) → arriving 2000 masked_out 3 ≡ Some f → KeepsShelfLaw slot masked_out f (Replied effect 4 reply) → ⊥
-    go f e l = let q : early_write ≡ f = cc in let m = rw (← q) at l in cc
+not-masked effect reply x = let m = (came early_write refl x).0 in cc
 
 -- empty lists after a crash, though a reservation was acknowledged
 pub lost-lists : (how : Loss) → MayCome (setup_with None (host_a ∷ host_b ∷ [])) reserved (Crashed device empty_settings how) → ⊥
@@ -135,17 +131,11 @@ lost-lists how (inr c) = let lt = c.1 in absurd (omega arith)
 -- a write that fails before the call that the disk was armed for, and one that doesn't fail in it
 pub fails-early : (reply : List ℕ) → MayCome setup (armed 2) (Arrived device 1 (Replied (WriteFault (span 0)) 2 reply)) → ⊥
 unfolding full request verdict decision
-fails-early reply x = go x.bytes x.fresh x.arming
-  where
-    go : (f : List ℕ) → arriving 2000 (armed 2) 1 ≡ Some f → KeepsArming slot (armed 2) f (Replied (WriteFault (span 0)) 2 reply) → ⊥
-    go f e l = let q : ones_frame ≡ f = cc in let m = rw (← q) at l in let n = m.store.0 in cc
+fails-early reply x = let n = (came ones_frame refl x).1.store.0 in cc
 
 pub fails-never : (reply : List ℕ) → MayCome setup (armed 1) (Arrived device 1 (Replied (Wrote (span 0)) 2 reply)) → ⊥
 unfolding full request verdict decision
-fails-never reply x = go x.bytes x.fresh x.arming
-  where
-    go : (f : List ℕ) → arriving 2000 (armed 1) 1 ≡ Some f → KeepsArming slot (armed 1) f (Replied (Wrote (span 0)) 2 reply) → ⊥
-    go f e l = let q : ones_frame ≡ f = cc in let m = rw (← q) at l in let n = m.store.0 in cc
+fails-never reply x = let n = (came ones_frame refl x).1.store.0 in cc
 
 -- a host that sends nothing though a command is clear, and one that doesn't repeat
 pub sends-nothing : IsQuiet (host_after setup host_a write_submitted) (commands_of host_a write_submitted) → ⊥
@@ -175,14 +165,8 @@ differ e = omega (arith, e)
 
 pub written-through : MayCome (setup_with (Some 8) (host_a ∷ [])) crashed_write (Arrived device 3 (Replied NoEffect 4 (show (read_frame 2) (full 0x5a)))) → ⊥
 unfolding full request verdict decision spelled zero_sector
-written-through x = go x.bytes x.fresh x.law
-  where
-    go : (f : List ℕ) → arriving 2000 crashed_write 3 ≡ Some f → KeepsShelfLaw (slot_with (Some 8)) crashed_write f (Replied NoEffect 4 (show (read_frame 2) (full 0x5a))) → ⊥
-    go f e l = let q : read_frame 2 ≡ f = cc in let m = rw (← q) at l in differ (first-byte (full 0x5a) zero_sector (m.2 0 (omega arith)))
+written-through x = differ (first-byte (full 0x5a) zero_sector ((came (read_frame 2) refl x).0.2 0 (omega arith)))
 
 pub held-back : MayCome setup crashed_write (Arrived device 3 (Replied NoEffect 4 (show (read_frame 2) zero_sector))) → ⊥
 unfolding full request verdict decision spelled zero_sector
-held-back x = go x.bytes x.fresh x.law
-  where
-    go : (f : List ℕ) → arriving 2000 crashed_write 3 ≡ Some f → KeepsShelfLaw slot crashed_write f (Replied NoEffect 4 (show (read_frame 2) zero_sector)) → ⊥
-    go f e l = let q : read_frame 2 ≡ f = cc in let m = rw (← q) at l in differ (sym (first-byte zero_sector (full 0x5a) (m.2 0 (omega arith))))
+held-back x = differ (sym (first-byte zero_sector (full 0x5a) ((came (read_frame 2) refl x).0.2 0 (omega arith))))
