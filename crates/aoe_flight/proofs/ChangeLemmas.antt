@@ -1,7 +1,6 @@
 -- All orders of the commands, after each change of a slot.
-use Rattle.std.proofs.Common.{ℕ, ◌≡◌, ◌≢◌, ◌+◌, ◌<◌, ◌≤◌, cond, not, Bool, true, false, List, [], length, get_or, Option, Some, None, ◌⊎◌, refl, sym, ap, subst, ◌∙◌, arith}
+use Rattle.std.proofs.Common.{ℕ, ◌≡◌, ◌≢◌, ◌+◌, ◌<◌, ◌≤◌, cond, not, Bool, true, false, List, length, get_or, Option, Some, None, ◌⊎◌, refl, sym, ap, subst, ◌∙◌, arith}
 use Rattle.std.specs.Prelude.{is_some, Contains}
-use Rattle.std.specs.List.{count_by}
 use Rattle.std.proofs.lemmas.List.Sums.{sum_by-set}
 use Rattle.slab.specs.Slab.{get, slab_len, with_value, Slab, Updates}
 use Rattle.slab.proofs.SlabLemmas.{ContainsKey-within, Updates-with_value}
@@ -9,7 +8,7 @@ use Rattle.aoe_base.specs.declared.counted.Millis.{Millis}
 use Rattle.aoe_base.specs.declared.counted.PathNo.{PathNo}
 use Rattle.aoe_flight.specs.declared.order.Entry.{Entry}
 use Rattle.aoe_flight.specs.declared.outstanding.Outstanding.{Outstanding}
-use Rattle.aoe_flight.specs.Order.{no_entries, OrderTable}
+use Rattle.aoe_flight.specs.Order.{OrderTable}
 use Rattle.aoe_flight.specs.Outstanding.{after_finish, after_repeat}
 use Rattle.aoe_flight.specs.Table.{by_due, by_first, by_last, by_tag, by_ticket, each, flies, rests, IsIndexed, IsOrderOf}
 use Rattle.aoe_flight.proofs.IndexLemmas.{left-out, moved-but, none-out, put-in, same-order, stays-out}
@@ -174,32 +173,6 @@ indexed-dropped slab next k c tags tags_new tickets dues firsts resting resting_
       dues_room = record { room = i.dues_room.room ∙ sym capacity; fits = omega (arith, long, rest_less, i.dues_room.fits) };
       firsts_room = record { room = i.firsts_room.room ∙ sym capacity; fits = omega (arith, long, rest_less, i.firsts_room.fits) };
       resting_room = rest_room ∙ i.resting_room ∙ sym capacity;
-    }
-
-no-entry : (e : Entry) → ¬ (Contains [] e)
-no-entry e there = omega (arith, there.1)
-
-empty-order : (slab : Slab Outstanding) (test : Outstanding → Bool) (entry : ℕ → Outstanding → Entry) → slab.slots ≡ [] → IsOrderOf slab test entry []
-empty-order slab test entry empty = record {
-  only = λ e there. absurd (no-entry e there);
-  all = λ k c at passes. let P : List (Option Outstanding) → Type 0 = λ l. get_or l k None ≡ Some c in let here : None ≡ Some c = subst P empty at in absurd cc;
-}
-
-pub indexed-none : (slab : Slab Outstanding) → slab.slots ≡ [] → IsIndexed slab (no_entries slab.capacity) (no_entries slab.capacity) (no_entries slab.capacity) (no_entries slab.capacity) (no_entries slab.capacity)
-indexed-none slab empty =
-    let none : slab_len slab ≡ 0 = ap (count_by is_some) empty in
-    record {
-      fits = omega (arith, none);
-      has_tags = empty-order slab each by_tag empty;
-      has_tickets = empty-order slab flies by_ticket empty;
-      has_dues = empty-order slab flies by_due empty;
-      has_firsts = empty-order slab flies by_first empty;
-      has_resting = empty-order slab rests by_last empty;
-      tags_room = record { room = refl; fits = omega arith };
-      tickets_room = record { room = refl; fits = omega arith };
-      dues_room = record { room = refl; fits = omega arith };
-      firsts_room = record { room = refl; fits = omega arith };
-      resting_room = refl;
     }
 
 pub removed : (old new : List Entry) (e f : Entry) → f ≡ e → length new ≤ length old → (Contains old f → length new + 1 ≤ length old) → ((g : Entry) → g ≢ f → Contains old g → Contains new g) → ((g : Entry) → Contains new g → Contains old g × (g ≢ f))

@@ -126,13 +126,6 @@ neither-same a b one two = elim (cases_lt a.at b.at) [
   ]
 ]
 
--- what comes before one that doesn't come before another
-pub before-ahead : (a b c : Entry) → before b a ≡ false → before b c ≡ true → before a c ≡ true
-before-ahead a b c ahead is = elim (cases_Bool (before a b)) [
-  | inl less ↦ before-then a b c less is
-  | inr out ↦ rw (neither-same a b out ahead) is
-]
-
 pub partitioned : (y : Entry) (xs : List Entry) → IsInOrder xs → IsPartitionedBy (λ e. before e y) xs
 partitioned y [] order i j d le below passes = absurd (omega (arith, below))
 partitioned y (x ∷ xs) order zero zero d le below passes = passes
@@ -189,12 +182,6 @@ pub length-remove : (xs : List Entry) (i : ℕ) (e : Entry) → slice_get xs i �
 length-remove [] i e is = absurd cc
 length-remove (x ∷ xs) zero e is = omega arith
 length-remove (x ∷ xs) (suc i) e is = omega (arith, length-remove xs i e is)
-
-pub inserted-there : (xs : List Entry) (i : ℕ) (y : Entry) → i ≤ length xs → Contains (insert xs i y) y
-inserted-there [] zero y within = (0, omega arith, refl)
-inserted-there [] (suc i) y within = absurd (omega (arith, within))
-inserted-there (x ∷ xs) zero y within = (0, omega arith, refl)
-inserted-there (x ∷ xs) (suc i) y within = Contains-cons x y (insert xs i y) (inserted-there xs i y (omega (arith, within)))
 
 pub inserted-kept : (xs : List Entry) (i : ℕ) (y e : Entry) → i ≤ length xs → Contains xs e → Contains (insert xs i y) e
 inserted-kept [] i y e within there = absurd (omega (arith, there.1))

@@ -35,10 +35,6 @@ pub none-there : (xs : List Entry) (f : Entry) → slice_get xs 0 ≡ None → �
 none-there [] f is there = omega (arith, there.1)
 none-there (x ∷ xs) f is there = absurd cc
 
-not-back : (b : Bool) → b ≡ false → not b ≡ true
-not-back true is = absurd cc
-not-back false is = refl
-
 by-number : (ticket k : ℕ) (d : Outstanding) → flies_as ticket d ≡ true → by_ticket k d ≡ entry_at ticket k
 by-number ticket k d passes =
     let same : d.ticket.0 ≡ ticket = eqb-true d.ticket.0 ticket (and_parts (not d.finished) (nat_eq d.ticket.0 ticket) passes).1 in

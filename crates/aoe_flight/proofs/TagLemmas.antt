@@ -4,7 +4,7 @@ use Rattle.std.specs.List.{count_by, list_any}
 use Rattle.std.proofs.lemmas.Bool.{cases_lt, eqb-true, lt-ltb, le-ltb, ltb-true}
 use Rattle.std.proofs.lemmas.List.Sums.{count_by-le-length, sum_by-cons, sum_by-le-sum_by}
 use Rattle.aoe_flight.specs.declared.outstanding.Outstanding.{Outstanding}
-use Rattle.aoe_flight.specs.Outstanding.{has_tag, is_taken, tag_after, IsNextTag}
+use Rattle.aoe_flight.specs.Outstanding.{has_tag, is_taken, tag_after}
 
 -- how many steps after the next of `last` a tag comes
 distance : ℕ → ℕ → ℕ
@@ -72,9 +72,6 @@ pub record Passes (commands : List Outstanding) (last steps tag : ℕ) : Type 0 
   pub taken : (k : ℕ) → k < steps → is_taken commands (tag_after last k) ≡ true
   pub counted : steps ≤ count_by (passed last steps) commands
 
-pub passes-none : (commands : List Outstanding) (last tag : ℕ) → tag ≡ tag_after last 0 → Passes commands last 0 tag
-passes-none commands last tag is = record { place = is; taken = λ k below. absurd (omega arith); counted = omega arith }
-
 pub passes-few : (commands : List Outstanding) (last steps tag : ℕ) → Passes commands last steps tag → steps ≤ length commands
 passes-few commands last steps tag p = omega (arith, p.counted, count_by-le-length (passed last steps) commands)
 
@@ -95,6 +92,3 @@ passes-more commands last steps tag next p most few taken is =
       },
       omega (arith, counted, count_by-le-length (passed last (steps + 1)) commands),
     )
-
-pub passes-end : (commands : List Outstanding) (last steps tag : ℕ) → Passes commands last steps tag → is_taken commands tag ≡ false → IsNextTag commands last tag
-passes-end commands last steps tag p free = record { steps = steps; place = p.place; free = free; passed = p.taken }

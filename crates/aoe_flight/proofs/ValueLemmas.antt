@@ -81,9 +81,6 @@ pub record Changed (f : Outstanding → Outstanding) (old new : Slab Outstanding
   pub capacity : new.capacity ≡ old.capacity
   pub long : length new.slots ≡ length old.slots
 
-pub changed-begun : (f : Outstanding → Outstanding) (old : Slab Outstanding) → Changed f old old 0
-changed-begun f old = record { below = λ k less. absurd (omega (arith, less)); above = λ k from. refl; capacity = refl; long = refl }
-
 unmoved : (f : Outstanding → Outstanding) (p : Outstanding → Bool) (o : Option Outstanding) → ((d : Outstanding) → p d ≡ false → f d ≡ d) → ((d : Outstanding) → o ≡ Some d → p d ≡ false) → o ≡ option_map f o
 unmoved f p None stays out = refl
 unmoved f p (Some d) stays out = ap (λ (e : Outstanding). Some e) (sym (stays d (out d refl)))
