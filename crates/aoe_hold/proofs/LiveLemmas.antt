@@ -59,10 +59,6 @@ recalls-enter life latest c held entered same =
     filter-append (λ (d : Command). not (is_past life latest d)) held (c ∷ []) ∙ ap (λ (l : List Command). l ++ live life latest (c ∷ [])) same
     ∙ sym (filter-append (λ (d : Command). not (is_past life latest d)) entered (c ∷ []))
 
--- a command that isn't past is live
-pub live-enter : (life latest : ℕ) (c : Command) (held : List Command) → c.stage ≡ Unsent → live life latest (held ++ c ∷ []) ≡ live life latest held ++ c ∷ []
-live-enter life latest c held fresh = filter-append (λ (d : Command). not (is_past life latest d)) held (c ∷ []) ∙ rw fresh refl
-
 none-kept : (a b c d : Bool) → (a && b && (not true || (c && d && not true))) ≡ false
 none-kept false b c d = refl
 none-kept true false c d = refl

@@ -15,15 +15,6 @@ use Rattle.aoe_hold.proofs.IndexLemmas.{bit}
 use Rattle.aoe_hold.specs.Commands.{finished}
 use Rattle.aoe_hold.specs.Queue.{blocks, is_blocked, lingers, waited_for, IsHeldBy, Knows, Moved, Queued, QueueTable, Released}
 
-pub moved-none : (now : ℕ) (timed ready : QueueTable) → Moved now timed ready timed ready
-moved-none now timed ready = record {
-  same = λ test. refl;
-  knows = λ life commands a b. (a, b);
-  past = λ is. is;
-  timed_room = refl;
-  ready_room = refl;
-}
-
 knows-moved : (life now : ℕ) (commands : List Command) (w moved : Waiter) → w.from ≤ now → moved ≡ record w { from = 0 } → Knows life now commands w → Knows life now commands moved
 knows-moved life now commands w moved le is knows = rw is (λ t later. knows t later ∙ ap not (le-leb w.from t (omega (arith, le, later)) ∙ sym (le-leb 0 t (omega arith))))
 
@@ -104,16 +95,6 @@ lingers-more life commands c left from more next x next_is some within read so_f
     later false true first second = sym (ap not (lt-leb (max from more) now (omega (arith, leb-false from now first))))
     later false false first second = sym (ap not (lt-leb (max from more) now (omega (arith, leb-false from now first))))
 
-pub released-none : (life latest : ℕ) (commands : List Command) (ended : Command) (timed blocked : QueueTable) → Released life latest commands ended timed blocked timed blocked
-released-none life latest commands ended timed blocked = record {
-  all = λ test. refl;
-  free = refl;
-  knows = λ is. is;
-  held = λ is. is;
-  timed_room = refl;
-  blocked_room = refl;
-}
-
 -- the same, where nothing was taken out
 pub released-same : (life latest : ℕ) (commands : List Command) (ended : Command) (old_timed old_blocked timed blocked same : QueueTable) → same.waiters ≡ blocked.waiters → same.room ≡ blocked.room
     → Released life latest commands ended old_timed old_blocked timed blocked → Released life latest commands ended old_timed old_blocked timed same
@@ -170,16 +151,6 @@ released-fewer ended w blocked one new is from done same =
     let here : bit (waited_for ended w) ≡ 1 = rw (eq-eqb w.from ended.ticket.0 from, done) refl in
     let taken = sum_by-IsPermutation (λ (v : Waiter). cond (waited_for ended v) 1 0) blocked (w ∷ one) is in
     omega (arith, here, taken, same, count-cons (waited_for ended) w one)
-
-pub none-waited : (ended : Command) (waiters : List Waiter) → All (λ w. nat_eq w.from ended.ticket.0 ≡ false) waiters → All (λ w. waited_for ended w ≡ false) waiters
-none-waited ended waiters out = λ k d below. ap (λ b. b && finished ended.stage) (out k d below)
-
-pub none-open : (ended : Command) (waiters : List Waiter) → finished ended.stage ≡ false → All (λ w. waited_for ended w ≡ false) waiters
-none-open ended waiters out = λ k d below. let b = nat_eq (get_or waiters k d).from ended.ticket.0 in ap (λ f. b && f) out ∙ none b
-  where
-    none : (b : Bool) → (b && false) ≡ false
-    none true = refl
-    none false = refl
 
 -- what stands where a list has none
 abbrev pub none_command : Command

@@ -1,6 +1,6 @@
 -- Things in the order of their times and tickets.
-use Rattle.std.proofs.Common.{ℕ, zero, suc, ◌≡◌, ◌<◌, ◌≤◌, ◌&&◌, cond, Bool, true, false, List, [], ◌∷◌, length, get_or, ◌⊎◌, inl, inr, sym, ◌∙◌, arith, nat_eq, nat_lt, if◌then◌else◌, Option, Some, None}
-use Rattle.std.specs.Prelude.{slice_get, All, Contains, Err, IfNone, IsOk, Ok, OnSome, Result, is_ok}
+use Rattle.std.proofs.Common.{ℕ, zero, suc, ◌≡◌, ◌<◌, ◌≤◌, ◌&&◌, cond, Bool, true, false, List, [], ◌∷◌, length, get_or, ◌⊎◌, inl, inr, sym, ◌∙◌, arith, nat_eq, nat_lt, Option, Some, None}
+use Rattle.std.specs.Prelude.{All, IfNone, OnSome}
 use Rattle.std.specs.List.{filter, insert, remove, AllWithin}
 use Rattle.std.specs.List.Sorted.{IsPartitionedBy}
 use Rattle.std.proofs.lemmas.Bool.{and_cases, and_left, and_parts, and_right, cases_eq, cases_lt, cases_Bool, eqb-false, eqb-true, le-ltb, lt-ltb, ltb-false, ltb-true, ne_eqb, or_cases, or_from, or_parts}
@@ -33,9 +33,6 @@ before-true time ticket a b is = elim (or_cases (nat_lt (time a) (time b)) (nat_
       let parts = and_parts (nat_eq (time a) (time b)) (nat_lt (ticket a) (ticket b)) both in
       inr (eqb-true (time a) (time b) parts.0, ltb-true (ticket a) (ticket b) parts.1)
 ]
-
-before-self : {X : Type 0} (time ticket : X → ℕ) (a : X) → comes_before time ticket a a ≡ false
-before-self time ticket a = before-from time ticket a a (omega arith) (λ _. omega arith)
 
 before-back : {X : Type 0} (time ticket : X → ℕ) (a b : X) → comes_before time ticket a b ≡ true → comes_before time ticket b a ≡ false
 before-back time ticket a b is = elim (before-true time ticket a b is) [
@@ -88,18 +85,6 @@ ordered-filter time ticket p (x ∷ xs) order = at (p x) (ordered-filter time ti
     at : (b : Bool) → AreInOrder time ticket (filter p xs) → AreInOrder time ticket (cond b (x ∷ filter p xs) (filter p xs))
     at true rest = (All-filter p (λ later. comes_before time ticket later x ≡ false) xs order.0, rest)
     at false rest = rest
-
--- the head of the list: none comes before it
-pub head-first : {X : Type 0} (time ticket : X → ℕ) (xs : List X) (d : X) → AreInOrder time ticket xs → slice_get xs 0 ≡ Some d → Contains xs d × All (λ e. comes_before time ticket e d ≡ false) xs
-head-first time ticket [] d order is = absurd cc
-head-first time ticket (x ∷ xs) d order is =
-    let same : x ≡ d = cc in
-    ((0, omega arith, same), rw (← same) (All-cons (λ e. comes_before time ticket e x ≡ false) x xs (before-self time ticket x) order.0))
-
--- an insert for which there was room
-pub inserted-ok : {X T E : Type 0} (r : Result T E) (xs new : List X) (i : ℕ) (x : X) → IsOk r → new ≡ (if is_ok r then insert xs i x else xs) → new ≡ insert xs i x
-inserted-ok (Ok done) xs new i x ok is = is
-inserted-ok (Err refused) xs new i x ok is = absurd cc
 
 -- one is taken out at its place
 all-removed : {X : Type 0} (P : X → Type 0) (xs : List X) (i : ℕ) → i < length xs → All P xs → All P (remove xs i)

@@ -4,7 +4,7 @@ use Rattle.std.specs.Prelude.{position}
 use Rattle.std.specs.List.{list_all, position_or_len}
 use Rattle.std.proofs.lemmas.Bool.{and_parts, cases_lt, eq-eqb, eqb-true, ltb-true, lt-ltb, ne_eqb}
 use Rattle.std.proofs.lemmas.List.Quantifiers.{position-Some}
-use Rattle.std.proofs.lemmas.List.Sums.{fails_before_first, get_or-le-sum_by, sum_by-set}
+use Rattle.std.proofs.lemmas.List.Sums.{fails_before_first, sum_by-set}
 use Rattle.aoe_base.specs.declared.counted.Millis.{Millis}
 use Rattle.aoe_hold.specs.declared.command.Command.{Command}
 use Rattle.aoe_hold.specs.declared.command.Stage.{Stage}
@@ -96,12 +96,6 @@ count-finished commands i command stage within read stage_is =
     kept Unsent = refl
     kept (Flying last) = refl
     kept (Finished last) = refl
-
--- what is sent for the first time is among those that were not
-pub counted : (commands : List Command) (i : ℕ) (command : Command) → i < length commands → command ≡ get_or commands i command → cond (is_unsent command) 1 0 ≤ unsent_count commands
-counted commands i command within read =
-    let P : Command → Type 0 = λ c. cond (is_unsent c) 1 0 ≤ unsent_count commands in
-    subst P (sym read) (get_or-le-sum_by (λ (c : Command). cond (is_unsent c) 1 0) commands i command within)
 
 pub place-within : (ticket : ℕ) (commands : List Command) (i : ℕ) (d : Command) → position (λ c. nat_eq c.ticket.0 ticket) commands ≡ Some i → i < length commands
 place-within ticket commands i d found = (position-Some (λ (c : Command). nat_eq c.ticket.0 ticket) commands i d found).0

@@ -9,7 +9,7 @@ use Rattle.aoe_base.specs.declared.counted.Millis.{Millis}
 use Rattle.aoe_hold.specs.declared.command.Command.{Command}
 use Rattle.aoe_hold.specs.declared.command.Stage.TheVariants.{Unsent}
 use Rattle.aoe_hold.specs.Commands.{after_stage, clear_tickets, is_clear, is_unsent, live, stage_finished, stage_sent, unsent_count}
-use Rattle.aoe_hold.specs.HoldTable.{after_finish, after_send, at_time, with_command, HoldTable, Recalls, is_ascending}
+use Rattle.aoe_hold.specs.HoldTable.{after_finish, after_send, at_time, HoldTable, Recalls, is_ascending}
 use Rattle.aoe_hold.proofs.OrderLemmas.{first-contained, first-lowest, none-passes}
 use Rattle.aoe_hold.proofs.LiveLemmas.{live-live, live-same, recalls-after_stage, recalls-enter, tickets-same}
 
@@ -37,10 +37,6 @@ above-view table view ticket is above = rw is above
 
 pub count-enter : (commands : List Command) (c : Command) → c.stage ≡ Unsent → unsent_count (commands ++ c ∷ []) ≡ unsent_count commands + 1
 count-enter commands c fresh = sum_by_push (λ (d : Command). cond (is_unsent d) 1 0) commands c ∙ rw fresh refl
-
-pub enter-value : {ready : List ℕ} (life latest : ℕ) (greatest : Option ℕ) (c : Command) (held after : List Command) (table : HoldTable) → table_of life latest greatest held ready ≡ table → after ≡ live life latest held ++ c ∷ []
-    → table_of life latest (Some c.ticket.0) after ready ≡ with_command table c
-enter-value life latest greatest c held after table is after_is = rw (← is, after_is) refl
 
 pub finish-value : {ready : List ℕ} (life latest ticket : ℕ) (greatest : Option ℕ) (held after : List Command) (table : HoldTable) → table_of life latest greatest held ready ≡ table → after ≡ after_stage ticket stage_finished held
     → table_of life latest greatest after ready ≡ after_finish table ticket
