@@ -1,10 +1,9 @@
-use Rattle.std.proofs.Common.{◌≡◌, ap, ◌∙◌, rules}
+use Rattle.std.proofs.Common.{◌≡◌, ap, ◌∙◌, rules, refl}
 use Rattle.std.specs.Prelude.{option_map}
 use Rattle.slab.specs.Slab.{values}
 use Rattle.aoe_flight.specs.declared.outstanding.Outstanding.{Outstanding}
 use Rattle.aoe_flight.specs.Outstanding.{is_expired, lower}
 use Rattle.aoe_flight.proofs.FirstLemmas.{expired-flies, first-live, none-live, lower-order}
-use Rattle.std.proofs.Common.{refl}
 use Rattle.aoe_flight.proofs.RecallLemmas.{first-recalled, none-recalled}
 use Rattle.aoe_flight.proofs.flight.Flight.expired.Goals as goal
 

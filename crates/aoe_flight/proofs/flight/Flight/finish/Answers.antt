@@ -1,9 +1,8 @@
-use Rattle.std.proofs.Common.{refl}
+use Rattle.std.proofs.Common.{refl, arith}
 use Rattle.slab.specs.Slab.{values}
 use Rattle.aoe_flight.specs.Outstanding.{after_finish}
 use Rattle.aoe_flight.proofs.PastLemmas.{past-finished}
 use Rattle.aoe_flight.proofs.SoundLemmas.{finish-value, sound-changed}
-use Rattle.std.proofs.Common.{arith}
 use Rattle.aoe_flight.proofs.RecallLemmas.{recalls-change}
 use Rattle.aoe_flight.proofs.flight.Flight.finish.Goals as goal
 

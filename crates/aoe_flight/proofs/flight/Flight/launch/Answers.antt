@@ -1,4 +1,4 @@
-use Rattle.std.proofs.Common.{◌≡◌, List, ◌∷◌, ap, length, refl, subst, sym, ◌∙◌, arith}
+use Rattle.std.proofs.Common.{◌≡◌, List, ◌∷◌, ap, length, refl, subst, sym, ◌∙◌, arith, rules}
 use Rattle.std.specs.List.Sorted.{IsPermutation}
 use Rattle.std.proofs.lemmas.Bool.{eq-eqb}
 use Rattle.slab.specs.Slab.{values}
@@ -7,7 +7,6 @@ use Rattle.aoe_flight.specs.FlightTable.{FlightTable}
 use Rattle.aoe_flight.specs.Outstanding.{is_taken, launched, live}
 use Rattle.aoe_flight.proofs.PastLemmas.{past-launched, past-live}
 use Rattle.aoe_flight.proofs.SoundLemmas.{count-live, flies-new, forget-value, live-new, live-view, sound-live, sound-new, time-of}
-use Rattle.std.proofs.Common.{rules}
 use Rattle.aoe_flight.proofs.RecallLemmas.{free-recalled, recalls-launch}
 use Rattle.aoe_flight.proofs.flight.Flight.launch.Goals as goal
 

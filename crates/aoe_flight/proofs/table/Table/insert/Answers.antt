@@ -1,65 +1,46 @@
-use Rattle.std.proofs.Common.{◌<◌, length, arith, subst, sym}
-use Rattle.slab.specs.Slab.{values, Slab}
+use Rattle.std.proofs.Common.{ℕ, ◌≡◌, ◌<◌, length, arith}
+use Rattle.slab.specs.Slab.{slab_len, values, Slab}
 use Rattle.aoe_flight.specs.declared.outstanding.Outstanding.{Outstanding}
-use Rattle.aoe_flight.specs.Table.{by_due, by_first, by_tag, by_ticket}
+use Rattle.aoe_flight.specs.Order.{OrderTable}
+use Rattle.aoe_flight.specs.Table.{by_due, by_first, by_tag, by_ticket, HasRoom}
 use Rattle.aoe_flight.proofs.ChangeLemmas.{indexed-inserted, inserted}
 use Rattle.aoe_flight.proofs.InsertLemmas.{inserted as values-inserted}
 use Rattle.aoe_flight.proofs.SlotLemmas.{length-held}
 use Rattle.aoe_flight.proofs.table.Table.insert.Goals as goal
 
+-- there is room for one more
+more : (slab table : Slab Outstanding) → slab ≡ table → length (values table) < table.capacity → slab_len slab < slab.capacity
+more slab table is room = rw (is, length-held table.slots) room
+
+fits : (slab table : Slab Outstanding) (resting : ℕ) (order : OrderTable) → slab ≡ table → length (values table) < table.capacity → HasRoom slab resting order → length order.entries < order.room
+fits slab table resting order is room has = omega (arith, more slab table is room, has.fits, has.room)
+
 pub insert_reserved-slot-requires : goal.insert_reserved-slot-requires
-insert_reserved-slot-requires c =
-    let long = length-held c.self.inside.slots.slots in
-    let P : Slab Outstanding → Type 0 = λ s. length (values s) < s.capacity in
-    let room = subst P (sym c.self.view_is) c.requires.room in
-    omega (arith, room, long)
+insert_reserved-slot-requires c = omega (arith, more c.self.inside.slots c.args.self.now c.self.view_is c.requires.room)
 
 pub insert-requires : goal.insert-requires
-insert-requires c =
-    let i = c.self.invariant in
-    let long = length-held c.self.inside.slots.slots in
-    let P : Slab Outstanding → Type 0 = λ s. length (values s) < s.capacity in
-    let room = subst P (sym c.self.view_is) c.requires.room in
-    omega (arith, room, long, i.tags_room.fits, i.tags_room.room)
+insert-requires c = fits c.self.inside.slots c.args.self.now _ c.self.inside.tags c.self.view_is c.requires.room c.self.invariant.tags_room
 
 pub insert-requires-2 : goal.insert-requires-2
-insert-requires-2 c =
-    let i = c.self.invariant in
-    let long = length-held c.self.inside.slots.slots in
-    let P : Slab Outstanding → Type 0 = λ s. length (values s) < s.capacity in
-    let room = subst P (sym c.self.view_is) c.requires.room in
-    omega (arith, room, long, i.tickets_room.fits, i.tickets_room.room)
+insert-requires-2 c = fits c.self.inside.slots c.args.self.now _ c.self.inside.tickets c.self.view_is c.requires.room c.self.invariant.tickets_room
 
 pub insert-requires-3 : goal.insert-requires-3
-insert-requires-3 c =
-    let i = c.self.invariant in
-    let long = length-held c.self.inside.slots.slots in
-    let P : Slab Outstanding → Type 0 = λ s. length (values s) < s.capacity in
-    let room = subst P (sym c.self.view_is) c.requires.room in
-    omega (arith, room, long, i.dues_room.fits, i.dues_room.room)
+insert-requires-3 c = fits c.self.inside.slots c.args.self.now _ c.self.inside.dues c.self.view_is c.requires.room c.self.invariant.dues_room
 
 pub insert-requires-4 : goal.insert-requires-4
-insert-requires-4 c =
-    let i = c.self.invariant in
-    let long = length-held c.self.inside.slots.slots in
-    let P : Slab Outstanding → Type 0 = λ s. length (values s) < s.capacity in
-    let room = subst P (sym c.self.view_is) c.requires.room in
-    omega (arith, room, long, i.firsts_room.fits, i.firsts_room.room)
+insert-requires-4 c = fits c.self.inside.slots c.args.self.now _ c.self.inside.firsts c.self.view_is c.requires.room c.self.invariant.firsts_room
 
 pub invariant_of-self : goal.invariant_of-self
 invariant_of-self c =
     let k = c.insert_reserved-slot.result in
     let command = c.args.command in
-    let long = length-held c.self.inside.slots.slots in
-    let P : Slab Outstanding → Type 0 = λ s. length (values s) < s.capacity in
-    let room = subst P (sym c.self.view_is) c.requires.room in
     let tag = c.insert.ensures in
     let ticket = c.insert-2.ensures in
     let due = c.insert-3.ensures in
     let first = c.insert-4.ensures in
     indexed-inserted c.self.inside.slots c.insert_reserved-slot.new.self k command c.self.inside.tags c.insert.new.self c.self.inside.tickets c.insert-2.new.self c.self.inside.dues c.insert-3.new.self
     c.self.inside.firsts c.insert-4.new.self c.self.inside.rests c.insert_reserved-slot.ensures.was_vacant c.requires.flies c.insert_reserved-slot.ensures.updates c.insert_reserved-slot.ensures.len
-    c.insert_reserved-slot.ensures.capacity (omega (arith, room, long))
+    c.insert_reserved-slot.ensures.capacity (more c.self.inside.slots c.args.self.now c.self.view_is c.requires.room)
     (inserted _ _ (by_tag k command) c.by_tag.result c.by_tag.ensures tag.length tag.there tag.kept tag.only) tag.room
     (inserted _ _ (by_ticket k command) c.by_ticket.result c.by_ticket.ensures ticket.length ticket.there ticket.kept ticket.only) ticket.room
     (inserted _ _ (by_due k command) c.by_due.result c.by_due.ensures due.length due.there due.kept due.only) due.room

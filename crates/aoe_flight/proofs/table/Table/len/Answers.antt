@@ -1,6 +1,5 @@
-use Rattle.std.proofs.Common.{◌∙◌, ap}
+use Rattle.std.proofs.Common.{◌∙◌, ap, length}
 use Rattle.slab.specs.Slab.{values, Slab}
-use Rattle.std.proofs.Common.{length}
 use Rattle.aoe_flight.specs.declared.outstanding.Outstanding.{Outstanding}
 use Rattle.aoe_flight.proofs.SlotLemmas.{length-held}
 use Rattle.aoe_flight.proofs.table.Table.len.Goals as goal
