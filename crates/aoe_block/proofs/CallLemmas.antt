@@ -80,7 +80,7 @@ pub record TakesPart (total max at count : ℕ) (bytes : List ℕ) (stages : Lis
   pub handed : is_handed done.ticket.0 (stage_at stages k) ≡ true
   pub answer : is_success write (min max (count - k * max)) done.outcome ≡ answered
 
-module _ (total max at count : ℕ) (bytes : List ℕ) (stages : List Stage) (first next left : ℕ) (write : Bool) (done : Done) (k : ℕ) (answered : Bool) (t : TakesPart total max at count bytes stages first next left write done k answered) where
+module _ {total max at count : ℕ} {bytes : List ℕ} {stages : List Stage} {first next left : ℕ} {write : Bool} {done : Done} {k : ℕ} {answered : Bool} (t : TakesPart total max at count bytes stages first next left write done k answered) where
   abbrev block : Transfer
   block = record { write = write; total = total; max = max; parts = parts_of max at count stages bytes }
 

@@ -16,14 +16,6 @@ stage_at-set stages k j stage lt = elim (cases_eq j k) [
   | inr differ ↦ inr (differ, get_or-set_other stages k j stage Pending differ)
 ]
 
--- a fact of each stage that holds of the old and the new ones
-pub each-set : (P : ℕ → Stage → Type 0) (stages : List Stage) (k : ℕ) (stage : Stage) → k < length stages → P k stage
-    → (j : ℕ) → P j (stage_at stages j) → P j (stage_at (set stages k stage) j)
-each-set P stages k stage lt new j old = elim (stage_at-set stages k j stage lt) [
-  | inl (e, is) ↦ rw (is, e) new
-  | inr (differ, is) ↦ rw is old
-]
-
 pub within-pending : (stages : List Stage) (k : ℕ) → is_pending (stage_at stages k) ≡ false → k < length stages
 within-pending [] k other = cc
 within-pending (stage ∷ stages) zero other = omega arith

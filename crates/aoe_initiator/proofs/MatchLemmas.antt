@@ -4,9 +4,8 @@ use Rattle.std.specs.Prelude.{option_map, slice_get, All, Contains, IsSome}
 use Rattle.std.specs.List.{cons_option, find, remove}
 use Rattle.std.proofs.lemmas.Bool.{and_parts, eqb-true, ne_eqb, not-true}
 use Rattle.std.proofs.lemmas.List.{length-append, length-map, map-append}
-use Rattle.std.proofs.lemmas.List.Elements.{All-contains, All-head, All-map, All-nil, All-push, All-tail, All-weaker}
+use Rattle.std.proofs.lemmas.List.Elements.{All-contains, All-head, All-map, All-push, All-tail, All-weaker}
 use Rattle.std.proofs.lemmas.Option.{get_or_from_slice_get, slice_get-map}
-use Rattle.aoe_base.specs.declared.address.Mac.{Mac}
 use Rattle.aoe_base.specs.declared.counted.DeviceNo.{DeviceNo}
 use Rattle.aoe_base.specs.declared.counted.Millis.{Millis}
 use Rattle.aoe_base.specs.declared.counted.PathNo.{PathNo}
@@ -24,7 +23,7 @@ use Rattle.aoe_initiator.specs.declared.outcome.Done.{Done}
 use Rattle.aoe_initiator.specs.declared.outcome.Outcome.{Outcome}
 use Rattle.aoe_initiator.specs.declared.pending.Pending.{Pending}
 use Rattle.aoe_initiator.specs.Devices.{change_at, device_at, device_finished, device_sent}
-use Rattle.aoe_initiator.specs.Host.{new_host, unfinished, waiting_of, with_device, Closes, Host, Matches, RecallAll, Waiting}
+use Rattle.aoe_initiator.specs.Host.{unfinished, waiting_of, with_device, Closes, Host, Matches, RecallAll, Waiting}
 use Rattle.aoe_initiator.specs.HostLog.{after_end, after_send, at_ticket, clock, commands, entered_at, is_at, outstanding, sent_of, submitted, with_ticket, Event, HostCommand, Sending}
 use Rattle.aoe_initiator.specs.HostLog.Event.{Advances, Ends, Sends, Submits}
 use Rattle.aoe_initiator.specs.Op.{kind_of, span_of}
@@ -383,22 +382,6 @@ matches-devices log host m times = record {
   sent = m.sent;
   entered = recall-at host.life 0 host.clock (commands log) host.devices times m.entered;
   paths = have-at host.ports log host.clock host.devices m.paths;
-}
-
-pub matches-new : (ports : List Mac) (life room dead : ℕ) → Matches [] (new_host ports life room dead)
-matches-new ports life room dead = record {
-  time = refl;
-  tickets = tt;
-  last = All-nil (λ c. c.ticket.0 ≤ 0);
-  attached = All-nil (λ c. c.device.0 < 0);
-  flew = All-nil (λ c. c.done ≡ true → IsSome c.sends);
-  pending = refl;
-  rest = refl;
-  room = refl;
-  dead = refl;
-  sent = λ test. refl;
-  entered = tt;
-  paths = λ n. tt;
 }
 
 pub matches-cleared : (log : List Event) (host : Host) (devices : List Device) → Matches log host → All (λ d. d.holds.latest ≤ host.clock) host.devices → devices ≡ map (device_at host.clock) host.devices → Matches log (record host { devices = devices })

@@ -39,16 +39,6 @@ use Rattle.aoe_initiator.proofs.PathLemmas.{has-paths, path_before, route-next, 
 
 -- ---- options
 
-pub if-some-then : {T : Type 0} (o : Option T) (P Q : T → Type 0) → ((x : T) → P x → Q x) → IfSome o P → IfSome o Q
-if-some-then None P Q f p = tt
-if-some-then (Some x) P Q f p = f x p
-
-pub if-none-then : {T : Type 0} (o : Option T) (P Q : Type 0) → (P → Q) → IfNone o P → IfNone o Q
-if-none-then None P Q f p = f p
-if-none-then (Some x) P Q f p = tt
-
--- ---- the command with a ticket is pending where it has no outcome
-
 pub is-placed : (host : Host) (log : List Event) (t : Ticket) (c : HostCommand) → Matches log host → Contains (commands log) c → c.done ≡ false → c.ticket.0 ≡ t.0 → place t host.pending ≢ None
 is-placed host log t c m there waits ticket missing =
     let entry : Waiting = record { ticket = c.ticket; device = c.device; op = c.op } in

@@ -128,11 +128,6 @@ sound-closed ports now last n at t came flight after devices changed pending lef
     } in
     rw (is, left_is, more_is, same_capacity) whole
 
--- there is room for the outcome of a pending command
-pub room-for-one : (ports : List Mac) (now last at : ℕ) (flight : FlightTable) (devices : List Device) (pending : List Pending) (waiting : List Done) (capacity : ℕ) → at < length pending
-    → IsConsistent ports now last flight devices pending waiting capacity → length waiting < capacity
-room-for-one ports now last at flight devices pending waiting capacity inside s = omega (arith, inside, s.reserved)
-
 pub sound-attached : (ports : List Mac) (now last : ℕ) (flight : FlightTable) (devices more : List Device) (d : Device) (pending : List Pending) (waiting : List Done) (capacity : ℕ)
     → more ≡ devices ++ d ∷ [] → IsAttached now last d → IsConsistent ports now last flight devices pending waiting capacity → IsConsistent ports now last flight more pending waiting capacity
 sound-attached ports now last flight devices more d pending waiting capacity is new s =
@@ -169,16 +164,3 @@ sound-submitted ports now last next n flight devices changed c pending more p wa
       reserved = omega (arith, room, one_more);
     } in
     rw (is, more_is, waiting_is) whole
-
-pub sound-advanced : (ports : List Mac) (now later last : ℕ) (flight : FlightTable) (devices : List Device) (pending : List Pending) (waiting : List Done) (capacity : ℕ) → now ≤ later
-    → IsConsistent ports now last flight devices pending waiting capacity → IsConsistent ports later last flight devices pending waiting capacity
-sound-advanced ports now later last flight devices pending waiting capacity more s = record {
-  port = s.port;
-  differ = s.differ;
-  time = omega (arith, s.time, more);
-  attached = All-weaker (IsAttached now last) (IsAttached later last) (λ d a. attached-later now last later last d more (omega arith) a) devices s.attached;
-  ready = s.ready;
-  order = s.order;
-  given = s.given;
-  reserved = s.reserved;
-}

@@ -1,6 +1,5 @@
-use Rattle.aoe_block.specs.Calls.{are_ended, settle}
+use Rattle.aoe_block.specs.Calls.{are_ended, settle, part_of}
 use Rattle.aoe_block.proofs.LawLemmas.{failed-hand, failed-settle, never_whole, part_breaks}
-use Rattle.aoe_block.specs.Calls.{part_of}
 use Rattle.aoe_block.proofs.law.broken_law.Goals as goal
 
 pub returns-clause-part : goal.returns-clause-part

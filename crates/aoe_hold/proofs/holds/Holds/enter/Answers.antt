@@ -5,8 +5,7 @@ use Rattle.aoe_hold.specs.Commands.{is_past, live, unsent_count}
 use Rattle.aoe_hold.specs.declared.queue.Waiter.{Waiter}
 use Rattle.aoe_hold.specs.HoldTable.{is_ascending, new_command, ArePast, StandInOrder, NonePastBefore}
 use Rattle.aoe_hold.specs.Queue.{AreHeld, IsIndex}
-use Rattle.aoe_hold.specs.Extents.{Covers}
-use Rattle.aoe_hold.specs.Extents.{key_of}
+use Rattle.aoe_hold.specs.Extents.{Covers, key_of}
 use Rattle.aoe_hold.proofs.ExtentLemmas.{covers-entered, covers-left, covers-more, none-past-above}
 use Rattle.aoe_hold.proofs.HoldLemmas.{held-entered, held-few, held-reserved, index-entered, index-reserved}
 use Rattle.aoe_hold.proofs.LiveLemmas.{count-live}
