@@ -3,5 +3,6 @@ pub mod Forms
 pub mod Lines
 pub mod Print
 pub mod Rules
+pub mod Tables
 pub mod Types
 pub mod Words

@@ -8,6 +8,7 @@ ghost use Rattle.aoe_script.specs.Classes.{byte_of, bytes_of, ccmd_of, edit_of, 
 
 use crate::cuts::from;
 use crate::event::Which;
+use crate::listed::listed;
 use crate::setup::Name;
 use aoe_base::{Blob, NoMemory, read_number};
 use aoe_disk::Loss;
@@ -128,60 +129,37 @@ pub(crate) fn bytes_of(alloc: Global, text: &[u8]) -> Result<Option<Blob>, NoMem
 pub(crate) fn ccmd_of(word: &[u8]) -> Option<u8>
     ensures { result ≡ ccmd_of word.now }
 {
-    if word == b"read".as_slice() {
-        Some(0)
-    } else if word == b"test".as_slice() {
-        Some(1)
-    } else if word == b"prefix".as_slice() {
-        Some(2)
-    } else if word == b"set".as_slice() {
-        Some(3)
-    } else if word == b"force".as_slice() {
-        Some(4)
-    } else {
-        None
-    }
+    listed(
+        &[
+            (b"read", 0),
+            (b"test", 1),
+            (b"prefix", 2),
+            (b"set", 3),
+            (b"force", 4),
+        ],
+        word,
+    )
 }
 
 /// The field RCmd of an action on the reserve list.
 pub(crate) fn rcmd_of(word: &[u8]) -> Option<u8>
     ensures { result ≡ rcmd_of word.now }
 {
-    if word == b"read".as_slice() {
-        Some(0)
-    } else if word == b"set".as_slice() {
-        Some(1)
-    } else if word == b"force".as_slice() {
-        Some(2)
-    } else {
-        None
-    }
+    listed(&[(b"read", 0), (b"set", 1), (b"force", 2)], word)
 }
 
 /// Whether an action on the mask list edits it.
 pub(crate) fn edit_of(word: &[u8]) -> Option<bool>
     ensures { result ≡ edit_of word.now }
 {
-    if word == b"read".as_slice() {
-        Some(false)
-    } else if word == b"edit".as_slice() {
-        Some(true)
-    } else {
-        None
-    }
+    listed(&[(b"read", false), (b"edit", true)], word)
 }
 
 /// The disk that a word names.
 pub(crate) fn which_of(word: &[u8]) -> Option<Which>
     ensures { result ≡ which_of word.now }
 {
-    if word == b"store".as_slice() {
-        Some(Which::Store)
-    } else if word == b"keep".as_slice() {
-        Some(Which::Keep)
-    } else {
-        None
-    }
+    listed(&[(b"store", Which::Store), (b"keep", Which::Keep)], word)
 }
 
 /// Whether the word begins as a mode that mixes, and goes on.

@@ -2,6 +2,8 @@
 ghost use Rattle.std.specs.Prelude.{◌≡◌};
 ghost use Rattle.aoe_script.specs.Classes.{keyword_of};
 
+use crate::listed::listed;
+
 /// The first word of a line.
 #[derive(Clone, Copy)]
 pub enum Keyword {
@@ -28,32 +30,34 @@ pub enum Keyword {
     Crash,
 }
 
+/// The first words.
+const KEYWORDS: [(&[u8], Keyword); 21] = [
+    (b"life", Keyword::Life),
+    (b"shelf", Keyword::Shelf),
+    (b"slot", Keyword::Slot),
+    (b"host", Keyword::Host),
+    (b"attach", Keyword::Attach),
+    (b"read", Keyword::Read),
+    (b"write", Keyword::Write),
+    (b"flush", Keyword::Flush),
+    (b"identify", Keyword::Identify),
+    (b"config", Keyword::Config),
+    (b"masks", Keyword::Masks),
+    (b"reserve", Keyword::Reserve),
+    (b"tick", Keyword::Tick),
+    (b"deliver", Keyword::Deliver),
+    (b"pass", Keyword::Pass),
+    (b"skip", Keyword::Skip),
+    (b"again", Keyword::Again),
+    (b"inject", Keyword::Inject),
+    (b"fail", Keyword::Fail),
+    (b"stop", Keyword::Stop),
+    (b"crash", Keyword::Crash),
+];
+
 /// The first word that a word is.
 pub(crate) fn keyword_of(word: &[u8]) -> Option<Keyword>
     ensures { result ≡ keyword_of word.now }
 {
-    match word {
-        b"life" => Some(Keyword::Life),
-        b"shelf" => Some(Keyword::Shelf),
-        b"slot" => Some(Keyword::Slot),
-        b"host" => Some(Keyword::Host),
-        b"attach" => Some(Keyword::Attach),
-        b"read" => Some(Keyword::Read),
-        b"write" => Some(Keyword::Write),
-        b"flush" => Some(Keyword::Flush),
-        b"identify" => Some(Keyword::Identify),
-        b"config" => Some(Keyword::Config),
-        b"masks" => Some(Keyword::Masks),
-        b"reserve" => Some(Keyword::Reserve),
-        b"tick" => Some(Keyword::Tick),
-        b"deliver" => Some(Keyword::Deliver),
-        b"pass" => Some(Keyword::Pass),
-        b"skip" => Some(Keyword::Skip),
-        b"again" => Some(Keyword::Again),
-        b"inject" => Some(Keyword::Inject),
-        b"fail" => Some(Keyword::Fail),
-        b"stop" => Some(Keyword::Stop),
-        b"crash" => Some(Keyword::Crash),
-        _ => None,
-    }
+    listed(&KEYWORDS, word)
 }

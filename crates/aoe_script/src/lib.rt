@@ -23,6 +23,7 @@ mod keyword;
 mod laws;
 mod line;
 mod lines;
+mod listed;
 mod network;
 mod parts;
 mod print;
