@@ -1,8 +1,10 @@
 pub mod Classes
 pub mod Forms
+pub mod Kinds
 pub mod Lines
 pub mod Print
 pub mod Rules
+pub mod Spelling
 pub mod Tables
 pub mod Types
 pub mod Words

@@ -7,11 +7,7 @@ ghost use Rattle.aoe_script.specs.Rules.{are_too_many, asked_why, attaches, decl
 use crate::event::Event;
 use crate::refusal::Why;
 use crate::setup::{Name, Setup};
-use crate::standing::{
-    any_attached, any_host, any_life, any_major, any_port, any_shelf, any_slot, any_station,
-    are_too_many, is_attached, is_full_of_hosts, is_full_of_shelves, is_full_of_slots, is_known,
-    is_taken,
-};
+use crate::standing::{Kind, any, are_too_many, is_attached, is_full, is_known, is_taken};
 use aoe_base::{Mac, TargetId};
 
 /// The first of these causes that holds.
@@ -33,8 +29,8 @@ fn first_of(repeat: bool, size: bool, unknown: bool) -> Option<Why>
 fn shelf_why(setups: &[Setup], name: &Name, major: u64, ports: &[Mac]) -> Option<Why>
     ensures { result ≡ first_of (is_taken setups.now name.now ports.now || list_any (has_major major) setups.now) (is_full is_shelf setups.now) false }
 {
-    let repeat = is_taken(setups, name, ports) || any_major(setups, major);
-    first_of(repeat, is_full_of_shelves(setups), false)
+    let repeat = is_taken(setups, name, ports) || any(setups, &Kind::Major(major));
+    first_of(repeat, is_full(setups, &Kind::Shelf), false)
 }
 
 /// What stands in the way of a slot.
@@ -42,9 +38,9 @@ fn slot_why(setups: &[Setup], shelf: &Name, minor: u64, sectors: u64) -> Option<
     ensures { result ≡ first_of (list_any (is_slot shelf.now minor) setups.now)
         (is_full (is_slot_of shelf.now) setups.now || are_too_many setups.now sectors) (not (list_any (is_shelf_named shelf.now) setups.now)) }
 {
-    let repeat = any_slot(setups, shelf, minor);
-    let size = is_full_of_slots(setups, shelf) || are_too_many(setups, sectors);
-    first_of(repeat, size, !any_shelf(setups, shelf))
+    let repeat = any(setups, &Kind::Slot(shelf, minor));
+    let size = is_full(setups, &Kind::SlotOf(shelf)) || are_too_many(setups, sectors);
+    first_of(repeat, size, !any(setups, &Kind::ShelfNamed(shelf)))
 }
 
 /// What stands in the way of an attachment.
@@ -52,8 +48,8 @@ fn attach_why(setups: &[Setup], host: &Name, shelf: &Name, minor: u64) -> Option
     ensures { result ≡ first_of (list_any (attaches host.now shelf.now minor) setups.now) false
         (not (list_any (is_host_named host.now) setups.now && list_any (is_slot shelf.now minor) setups.now)) }
 {
-    let repeat = any_attached(setups, host, shelf, minor);
-    let known = any_host(setups, host) && any_slot(setups, shelf, minor);
+    let repeat = any(setups, &Kind::Attached(host, shelf, minor));
+    let known = any(setups, &Kind::HostNamed(host)) && any(setups, &Kind::Slot(shelf, minor));
     first_of(repeat, false, !known)
 }
 
@@ -63,7 +59,7 @@ impl Setup {
         ensures { result ≡ declared_why setups.now self.now }
     {
         match self {
-            Setup::Life { .. } => first_of(any_life(setups), false, false),
+            Setup::Life { .. } => first_of(any(setups, &Kind::Life), false, false),
             Setup::Shelf {
                 name,
                 major,
@@ -78,7 +74,7 @@ impl Setup {
             } => slot_why(setups, shelf, *minor, *sectors),
             Setup::Host { name, ports, .. } => first_of(
                 is_taken(setups, name, ports.as_slice()),
-                is_full_of_hosts(setups),
+                is_full(setups, &Kind::Host),
                 false,
             ),
             Setup::Attach { host, shelf, minor } => attach_why(setups, host, shelf, *minor),
@@ -134,7 +130,7 @@ fn known_why(setups: &[Setup], dev: &TargetId) -> Option<Why>
 fn station_why(setups: &[Setup], name: &Name) -> Option<Why>
     ensures { result ≡ unless (not (list_any (is_station_named name.now) setups.now)) Why.Unknown None }
 {
-    if any_station(setups, name) {
+    if any(setups, &Kind::StationNamed(name)) {
         None
     } else {
         Some(Why::Unknown)
@@ -145,7 +141,7 @@ fn station_why(setups: &[Setup], name: &Name) -> Option<Why>
 fn crash_why(setups: &[Setup], name: &Name) -> Option<Why>
     ensures { result ≡ unless (not (list_any (is_shelf_named name.now) setups.now)) Why.Unknown None }
 {
-    if any_shelf(setups, name) {
+    if any(setups, &Kind::ShelfNamed(name)) {
         None
     } else {
         Some(Why::Unknown)
@@ -157,7 +153,7 @@ fn source_why(setups: &[Setup], frame: &[u8]) -> Option<Why>
     requires { 14 ≤ length frame.now }
     ensures { result ≡ unless (list_any (has_port (source_of frame.now)) setups.now) Why.Station None }
 {
-    if any_port(setups, &source_of(frame)) {
+    if any(setups, &Kind::Port(&source_of(frame))) {
         Some(Why::Station)
     } else {
         None

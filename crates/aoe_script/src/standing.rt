@@ -4,6 +4,7 @@ ghost use Rattle.std.specs.Prelude.{◌≡◌, ◌+◌, ◌||◌, count_by, sum_
 ghost use Rattle.std.specs.List.{list_any};
 ghost use Rattle.aoe_script.specs.Rules.{are_too_many, attaches, has_attached, has_device, has_major, has_port, is_attached, is_full, is_host, is_host_named, is_known, is_life, is_shelf, is_shelf_named, is_slot, is_slot_of, is_station_named, is_taken, same, sectors_of};
 ghost use Rattle.aoe_base.specs.Addresses.{holds};
+ghost use Rattle.aoe_script.specs.Kinds.{is_of};
 
 use crate::setup::{Name, Setup};
 use aoe_base::{Mac, TargetId};
@@ -139,7 +140,8 @@ impl Setup {
     {
         match self {
             Setup::Shelf { name, major, .. } => {
-                *major == u64::from(dev.major) && any_slot(setups, name, u64::from(dev.minor))
+                *major == u64::from(dev.major)
+                    && any(setups, &Kind::Slot(name, u64::from(dev.minor)))
             }
             _ => false,
         }
@@ -151,83 +153,76 @@ impl Setup {
         match self {
             Setup::Shelf { name, major, .. } => {
                 *major == u64::from(dev.major)
-                    && any_attached(setups, host, name, u64::from(dev.minor))
+                    && any(setups, &Kind::Attached(host, name, u64::from(dev.minor)))
             }
             _ => false,
         }
     }
 }
 
-/// Whether the life of frames is given.
-pub(crate) fn any_life(setups: &[Setup]) -> bool
-    ensures { result ≡ list_any is_life setups.now }
-{
-    setups.iter().any(|setup| setup.is_life())
+/// What a setup line may declare.
+#[derive(Clone, Copy)]
+pub(crate) enum Kind<'a> {
+    Life,
+    Shelf,
+    Host,
+    ShelfNamed(&'a Name),
+    HostNamed(&'a Name),
+    StationNamed(&'a Name),
+    Major(u64),
+    Port(&'a Mac),
+    SlotOf(&'a Name),
+    Slot(&'a Name, u64),
+    Attached(&'a Name, &'a Name, u64),
 }
 
-/// Whether a shelf has this name.
-pub(crate) fn any_shelf(setups: &[Setup], name: &Name) -> bool
-    ensures { result ≡ list_any (is_shelf_named name.now) setups.now }
-{
-    setups.iter().any(|setup| setup.is_shelf_named(name))
+impl Setup {
+    /// Whether it declares something of this kind.
+    fn is(&self, kind: &Kind) -> bool
+        ensures { result ≡ is_of kind.now self.now }
+    {
+        match kind {
+            Kind::Life => self.is_life(),
+            Kind::Shelf => self.is_shelf(),
+            Kind::Host => self.is_host(),
+            Kind::ShelfNamed(name) => self.is_shelf_named(name),
+            Kind::HostNamed(name) => self.is_host_named(name),
+            Kind::StationNamed(name) => self.is_station_named(name),
+            Kind::Major(major) => self.has_major(*major),
+            Kind::Port(mac) => self.has_port(mac),
+            Kind::SlotOf(shelf) => self.is_slot_of(shelf),
+            Kind::Slot(shelf, minor) => self.is_slot(shelf, *minor),
+            Kind::Attached(host, shelf, minor) => self.attaches(host, shelf, *minor),
+        }
+    }
 }
 
-/// Whether a host has this name.
-pub(crate) fn any_host(setups: &[Setup], name: &Name) -> bool
-    ensures { result ≡ list_any (is_host_named name.now) setups.now }
+/// Whether something of this kind is declared.
+pub(crate) fn any(setups: &[Setup], kind: &Kind) -> bool
+    ensures { result ≡ list_any (is_of kind.now) setups.now }
 {
-    setups.iter().any(|setup| setup.is_host_named(name))
+    setups.iter().any(|setup| setup.is(kind))
 }
 
-/// Whether a shelf or a host has this name.
-pub(crate) fn any_station(setups: &[Setup], name: &Name) -> bool
-    ensures { result ≡ list_any (is_station_named name.now) setups.now }
+/// Whether there is as much of this kind as there may be.
+pub(crate) fn is_full(setups: &[Setup], kind: &Kind) -> bool
+    ensures { result ≡ is_full (is_of kind.now) setups.now }
 {
-    setups.iter().any(|setup| setup.is_station_named(name))
-}
-
-/// Whether a shelf has this number.
-pub(crate) fn any_major(setups: &[Setup], major: u64) -> bool
-    ensures { result ≡ list_any (has_major major) setups.now }
-{
-    setups.iter().any(|setup| setup.has_major(major))
-}
-
-/// Whether a station has this address.
-pub(crate) fn any_port(setups: &[Setup], mac: &Mac) -> bool
-    ensures { result ≡ list_any (has_port mac.now) setups.now }
-{
-    setups.iter().any(|setup| setup.has_port(mac))
+    setups.iter().filter(|setup| setup.is(kind)).count() >= MOST_OF_A_KIND
 }
 
 /// Whether a station has one of these addresses.
 fn any_port_of(setups: &[Setup], macs: &[Mac]) -> bool
     ensures { result ≡ list_any (λ mac. list_any (has_port mac) setups.now) macs.now }
 {
-    macs.iter().any(|mac| any_port(setups, mac))
+    macs.iter().any(|mac| any(setups, &Kind::Port(mac)))
 }
 
 /// Whether a station's name or one of its addresses stands already.
 pub(crate) fn is_taken(setups: &[Setup], name: &Name, ports: &[Mac]) -> bool
     ensures { result ≡ is_taken setups.now name.now ports.now }
 {
-    any_station(setups, name) || any_port_of(setups, ports)
-}
-
-/// Whether a shelf has this slot.
-pub(crate) fn any_slot(setups: &[Setup], shelf: &Name, minor: u64) -> bool
-    ensures { result ≡ list_any (is_slot shelf.now minor) setups.now }
-{
-    setups.iter().any(|setup| setup.is_slot(shelf, minor))
-}
-
-/// Whether a host is attached to a slot.
-pub(crate) fn any_attached(setups: &[Setup], host: &Name, shelf: &Name, minor: u64) -> bool
-    ensures { result ≡ list_any (attaches host.now shelf.now minor) setups.now }
-{
-    setups
-        .iter()
-        .any(|setup| setup.attaches(host, shelf, minor))
+    any(setups, &Kind::StationNamed(name)) || any_port_of(setups, ports)
 }
 
 /// Whether a device stands.
@@ -244,31 +239,6 @@ pub(crate) fn is_attached(setups: &[Setup], host: &Name, dev: &TargetId) -> bool
     setups
         .iter()
         .any(|setup| setup.has_attached(setups, host, dev))
-}
-
-/// Whether there are as many shelves as there may be.
-pub(crate) fn is_full_of_shelves(setups: &[Setup]) -> bool
-    ensures { result ≡ is_full is_shelf setups.now }
-{
-    setups.iter().filter(|setup| setup.is_shelf()).count() >= MOST_OF_A_KIND
-}
-
-/// Whether there are as many hosts as there may be.
-pub(crate) fn is_full_of_hosts(setups: &[Setup]) -> bool
-    ensures { result ≡ is_full is_host setups.now }
-{
-    setups.iter().filter(|setup| setup.is_host()).count() >= MOST_OF_A_KIND
-}
-
-/// Whether a shelf has as many slots as it may have.
-pub(crate) fn is_full_of_slots(setups: &[Setup], shelf: &Name) -> bool
-    ensures { result ≡ is_full (is_slot_of shelf.now) setups.now }
-{
-    setups
-        .iter()
-        .filter(|setup| setup.is_slot_of(shelf))
-        .count()
-        >= MOST_OF_A_KIND
 }
 
 /// Whether there are too many sectors with so many more.
