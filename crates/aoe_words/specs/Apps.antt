@@ -1,7 +1,11 @@
 -- The commands and their arguments, as clap reads them.
-use Rattle.std.specs.Prelude.{Some, true, codes}
+use Rattle.std.specs.Prelude.{Some, true, codes, List, [], ◌∷◌, map}
+use Rattle.std.specs.Borrow.{Bor}
 use Rattle.clap.specs.Words.{App, Rule, Text, new_app, new_rule, with_rule, with_subcommand}
+use Rattle.clap.specs.declared.builder.ArgAction.{ArgAction}
 use Rattle.clap.specs.declared.builder.ArgAction.TheVariants.{Set, Append}
+use Rattle.aoe_words.specs.declared.app.Place.{Place}
+use Rattle.aoe_words.specs.declared.app.Place.TheVariants.{Needed, Several, Allowed, AllowedSeveral, Demanded, Optional}
 
 -- a word that has to stand there
 abbrev pub needed : Text → Rule
@@ -128,3 +132,39 @@ list_commands = with_subcommand mask_commands (list_tool (codes "reserve") (allo
 -- all commands
 unfoldable pub aoe_app : App
 aoe_app = with_subcommand (with_subcommand list_commands get_app.top) put_app.top
+
+-- ---- the same, as the code tells clap
+
+-- words by their place
+abbrev pub word : Text → ArgAction → Rule
+word id action = record (new_rule id) { action = Some action }
+
+abbrev pub rule : Text → Place → Rule
+rule name Needed = needed name
+rule name Several = several name
+rule name Allowed = allowed name
+rule name AllowedSeveral = allowed_several name
+rule name Demanded = demanded name
+rule name Optional = optional name
+
+-- an argument's name and its place, and a command's name and its arguments
+abbrev pub argument : Bor Text × Place → Text × Place
+argument a = (a.0.now, a.1)
+
+abbrev pub form : Bor Text × Bor (List (Bor Text × Place)) → Text × List (Text × Place)
+form f = (f.0.now, map argument f.1.now)
+
+-- each of a list is added in turn
+unfoldable pub added : {X : Type 0} → (App → X → App) → App → List X → App
+added add app [] = app
+added add app (x ∷ xs) = added add (add app x) xs
+
+unfoldable pub with_argument : App → Text × Place → App
+with_argument app a = with_rule app (rule a.0 a.1)
+
+unfoldable pub with_form : App → Text × List (Text × Place) → App
+with_form app f = with_subcommand app (added with_argument (bare f.0) f.1).top
+
+-- what all commands stand under: one has to be named, and it is the first word
+abbrev pub top : App
+top = let a = bare (codes "aoe") in record a { top = record a.top { no_binary_name = true; disable_help_subcommand = true; subcommand_required = true } }

@@ -1,11 +1,191 @@
 //! The commands and their arguments, as clap wants them told.
 ghost use Rattle.std.specs.Prelude.{◌≡◌, IfOk, map, string_bytes, false};
-ghost use Rattle.clap.specs.Words.{app_of, rule_of, with_rule, FailsBy, fault_of, HasMatchesOf};
+ghost use Rattle.clap.specs.Words.{app_of, rule_of, FailsBy, fault_of, HasMatchesOf};
 ghost use Rattle.clap.specs.declared.builder.command.Command.TheViews.{out-Command as fields_of};
-ghost use Rattle.aoe_words.specs.Apps.{needed, several, allowed, allowed_several, demanded, optional, bare, answer_front, answer_app, serve_front, with_link, serve_ports, serve_slots, serve_app, replay_app, soak_app, live_front, live_app, with_tool_options, plain_tool, list_tool, sector_tool, get_app, put_app, file_commands, script_commands, run_commands, listing_commands, mask_commands, list_commands, aoe_app};
+ghost use Rattle.aoe_words.specs.Apps.{added, aoe_app, argument, bare, form, optional, rule, top, with_argument, with_form, word};
 
 use clap::{Arg, ArgAction, ArgMatches, Command, Error};
 use std::alloc::{AllocError, Global};
+
+/// How an argument stands in a command.
+#[derive(Clone, Copy)]
+enum Place {
+    /// A word that has to stand there.
+    Needed,
+
+    /// Words of which one has to stand there.
+    Several,
+
+    /// A word that may stand there.
+    Allowed,
+
+    /// Words that may stand there.
+    AllowedSeveral,
+
+    /// An option that has to be given.
+    Demanded,
+
+    /// An option that may be given.
+    Optional,
+}
+
+use Place::{Allowed, AllowedSeveral, Demanded, Needed, Optional, Several};
+
+/// An argument's name and its place.
+type Argument = (&'static str, Place);
+
+/// A command's name and its arguments.
+type Form = (&'static str, &'static [Argument]);
+
+/// All commands.
+const FORMS: [Form; 12] = [
+    (
+        "answer",
+        &[
+            ("shelf", Needed),
+            ("slot", Needed),
+            ("files", Several),
+            ("port", Optional),
+            ("mtu", Optional),
+            ("cache", Optional),
+        ],
+    ),
+    (
+        "serve",
+        &[
+            ("shelf", Needed),
+            ("files", Several),
+            ("local", Demanded),
+            ("peers", Demanded),
+            ("ports", Optional),
+            ("mtu", Optional),
+            ("cache", Optional),
+            ("frames", Optional),
+            ("idle", Optional),
+        ],
+    ),
+    ("replay", &[]),
+    ("soak", &[("seed", Needed), ("count", Needed)]),
+    (
+        "live",
+        &[
+            ("sectors", Needed),
+            ("count", Needed),
+            ("one", Demanded),
+            ("two", Demanded),
+            ("turns", Optional),
+        ],
+    ),
+    (
+        "discover",
+        &[
+            ("local", Demanded),
+            ("peers", Demanded),
+            ("port", Optional),
+            ("turns", Optional),
+        ],
+    ),
+    (
+        "stat",
+        &[
+            ("local", Demanded),
+            ("peers", Demanded),
+            ("port", Optional),
+            ("turns", Optional),
+        ],
+    ),
+    (
+        "cfg",
+        &[
+            ("dev", Needed),
+            ("action", Needed),
+            ("text", Allowed),
+            ("local", Demanded),
+            ("peers", Demanded),
+            ("port", Optional),
+            ("turns", Optional),
+        ],
+    ),
+    (
+        "mask",
+        &[
+            ("dev", Needed),
+            ("action", Needed),
+            ("dirs", AllowedSeveral),
+            ("local", Demanded),
+            ("peers", Demanded),
+            ("port", Optional),
+            ("turns", Optional),
+        ],
+    ),
+    (
+        "reserve",
+        &[
+            ("dev", Needed),
+            ("action", Needed),
+            ("macs", AllowedSeveral),
+            ("local", Demanded),
+            ("peers", Demanded),
+            ("port", Optional),
+            ("turns", Optional),
+        ],
+    ),
+    (
+        "get",
+        &[
+            ("dev", Needed),
+            ("at", Needed),
+            ("count", Needed),
+            ("local", Demanded),
+            ("peers", Demanded),
+            ("port", Optional),
+            ("turns", Optional),
+        ],
+    ),
+    (
+        "put",
+        &[
+            ("dev", Needed),
+            ("at", Needed),
+            ("local", Demanded),
+            ("peers", Demanded),
+            ("port", Optional),
+            ("turns", Optional),
+        ],
+    ),
+];
+
+/// Words by their place.
+fn word<'a>(alloc: Global, id: &'a str, action: ArgAction) -> Arg<'a>
+    ensures rule { rule_of result ≡ word id.entry.now action }
+    ensures local { result.global ≡ false }
+{
+    Arg::new(alloc, id).action(action)
+}
+
+/// An option that may be given.
+fn optional<'a>(alloc: Global, name: &'a str) -> Arg<'a>
+    ensures rule { rule_of result ≡ optional name.entry.now }
+    ensures local { result.global ≡ false }
+{
+    Arg::new(alloc, name).long(name).action(ArgAction::Set)
+}
+
+/// An argument, as clap wants it told.
+fn arg<'a>(alloc: Global, argument: Argument) -> Arg<'a>
+    ensures rule { rule_of result ≡ rule argument.entry.0.now argument.entry.1 }
+    ensures local { result.global ≡ false }
+{
+    let (name, place) = argument;
+    match place {
+        Needed => word(alloc, name, ArgAction::Set).required(true),
+        Several => word(alloc, name, ArgAction::Append).required(true),
+        Allowed => word(alloc, name, ArgAction::Set),
+        AllowedSeveral => word(alloc, name, ArgAction::Append),
+        Demanded => optional(alloc, name).required(true),
+        Optional => optional(alloc, name),
+    }
+}
 
 /// A command with no argument yet, and with neither help nor version.
 fn bare<'a>(alloc: Global, name: &'a str) -> Command<'a>
@@ -17,288 +197,41 @@ fn bare<'a>(alloc: Global, name: &'a str) -> Command<'a>
         .disable_version_flag(true)
 }
 
-/// A word that has to stand there.
-fn needed<'a>(alloc: Global, id: &'a str) -> Arg<'a>
-    ensures rule { rule_of result ≡ needed id.entry.now }
-    ensures local { result.global ≡ false }
-{
-    Arg::new(alloc, id).required(true).action(ArgAction::Set)
-}
-
-/// Words of which one has to stand there.
-fn several<'a>(alloc: Global, id: &'a str) -> Arg<'a>
-    ensures rule { rule_of result ≡ several id.entry.now }
-    ensures local { result.global ≡ false }
-{
-    Arg::new(alloc, id).required(true).action(ArgAction::Append)
-}
-
-/// A word that may stand there.
-fn allowed<'a>(alloc: Global, id: &'a str) -> Arg<'a>
-    ensures rule { rule_of result ≡ allowed id.entry.now }
-    ensures local { result.global ≡ false }
-{
-    Arg::new(alloc, id).action(ArgAction::Set)
-}
-
-/// Words that may stand there.
-fn allowed_several<'a>(alloc: Global, id: &'a str) -> Arg<'a>
-    ensures rule { rule_of result ≡ allowed_several id.entry.now }
-    ensures local { result.global ≡ false }
-{
-    Arg::new(alloc, id).action(ArgAction::Append)
-}
-
-/// An option that has to be given.
-fn demanded<'a>(alloc: Global, name: &'a str) -> Arg<'a>
-    ensures rule { rule_of result ≡ demanded name.entry.now }
-    ensures local { result.global ≡ false }
-{
-    Arg::new(alloc, name)
-        .long(name)
-        .required(true)
-        .action(ArgAction::Set)
-}
-
-/// An option that may be given.
-fn optional<'a>(alloc: Global, name: &'a str) -> Arg<'a>
-    ensures rule { rule_of result ≡ optional name.entry.now }
-    ensures local { result.global ≡ false }
-{
-    Arg::new(alloc, name).long(name).action(ArgAction::Set)
-}
-
-/// The command with one argument more.
-fn with<'a>(command: Command<'a>, arg: Arg<'a>) -> Result<Command<'a>, AllocError>
-    requires arg { arg.global ≡ false }
-    requires command { (fields_of command).has_globals ≡ false }
-    ensures app { IfOk result (λ r. app_of r ≡ with_rule (app_of command.entry) (rule_of arg.entry)) }
+/// A command with these arguments.
+fn command<'a>(
+    alloc: Global,
+    name: &'a str,
+    arguments: &[Argument],
+) -> Result<Command<'a>, AllocError>
+    ensures app { IfOk result (λ r. app_of r ≡ added with_argument (bare name.entry.now) (map argument arguments.now)) }
     ensures local { IfOk result (λ r. (fields_of r).has_globals ≡ false) }
 {
-    command.arg(arg)
+    let mut command = bare(alloc, name);
+    'arguments: for argument in arguments {
+        command = command.arg(arg(alloc, *argument))?;
+    }
+    Ok(command)
 }
 
-/// `answer SHELF SLOT FILE KEEP`, without its options.
-fn answer_front<'a>(alloc: Global) -> Result<Command<'a>, AllocError>
-    ensures app { IfOk result (λ r. app_of r ≡ answer_front) }
-    ensures local { IfOk result (λ r. (fields_of r).has_globals ≡ false) }
+/// What all commands stand under: one has to be named, and it is the first word.
+fn top<'a>(alloc: Global) -> Command<'a>
+    ensures { app_of result ≡ top }
 {
-    let command = with(bare(alloc, "answer"), needed(alloc, "shelf"))?;
-    let command = with(command, needed(alloc, "slot"))?;
-    with(command, several(alloc, "files"))
-}
-
-/// `answer` with its options.
-fn answer<'a>(alloc: Global) -> Result<Command<'a>, AllocError>
-    ensures app { IfOk result (λ r. app_of r ≡ answer_app) }
-    ensures local { IfOk result (λ r. (fields_of r).has_globals ≡ false) }
-{
-    let command = with(answer_front(alloc)?, optional(alloc, "port"))?;
-    let command = with(command, optional(alloc, "mtu"))?;
-    with(command, optional(alloc, "cache"))
-}
-
-/// `serve SHELF FILES`, without its options.
-fn serve_front<'a>(alloc: Global) -> Result<Command<'a>, AllocError>
-    ensures app { IfOk result (λ r. app_of r ≡ serve_front) }
-    ensures local { IfOk result (λ r. (fields_of r).has_globals ≡ false) }
-{
-    let command = with(bare(alloc, "serve"), needed(alloc, "shelf"))?;
-    with(command, several(alloc, "files"))
-}
-
-/// The command with the ends of a link.
-fn with_link<'a>(alloc: Global, command: Command<'a>) -> Result<Command<'a>, AllocError>
-    requires { (fields_of command).has_globals ≡ false }
-    ensures app { IfOk result (λ r. app_of r ≡ with_link (app_of command.entry)) }
-    ensures local { IfOk result (λ r. (fields_of r).has_globals ≡ false) }
-{
-    let command = with(command, demanded(alloc, "local"))?;
-    with(command, demanded(alloc, "peers"))
-}
-
-/// `serve` with the options on its addresses.
-fn serve_ports<'a>(alloc: Global) -> Result<Command<'a>, AllocError>
-    ensures app { IfOk result (λ r. app_of r ≡ serve_ports) }
-    ensures local { IfOk result (λ r. (fields_of r).has_globals ≡ false) }
-{
-    let command = with_link(alloc, serve_front(alloc)?)?;
-    with(command, optional(alloc, "ports"))
-}
-
-/// `serve` with the options on its addresses and its slots.
-fn serve_slots<'a>(alloc: Global) -> Result<Command<'a>, AllocError>
-    ensures app { IfOk result (λ r. app_of r ≡ serve_slots) }
-    ensures local { IfOk result (λ r. (fields_of r).has_globals ≡ false) }
-{
-    let command = with(serve_ports(alloc)?, optional(alloc, "mtu"))?;
-    with(command, optional(alloc, "cache"))
-}
-
-/// `serve` with all its options.
-fn serve<'a>(alloc: Global) -> Result<Command<'a>, AllocError>
-    ensures app { IfOk result (λ r. app_of r ≡ serve_app) }
-    ensures local { IfOk result (λ r. (fields_of r).has_globals ≡ false) }
-{
-    let command = with(serve_slots(alloc)?, optional(alloc, "frames"))?;
-    with(command, optional(alloc, "idle"))
-}
-
-/// `replay`, which takes nothing.
-fn replay<'a>(alloc: Global) -> Command<'a>
-    ensures app { app_of result ≡ replay_app }
-    ensures local { (fields_of result).has_globals ≡ false }
-{
-    bare(alloc, "replay")
-}
-
-/// `soak SEED N`.
-fn soak<'a>(alloc: Global) -> Result<Command<'a>, AllocError>
-    ensures app { IfOk result (λ r. app_of r ≡ soak_app) }
-    ensures local { IfOk result (λ r. (fields_of r).has_globals ≡ false) }
-{
-    let command = with(bare(alloc, "soak"), needed(alloc, "seed"))?;
-    with(command, needed(alloc, "count"))
-}
-
-/// `live SECTORS N`, without its options.
-fn live_front<'a>(alloc: Global) -> Result<Command<'a>, AllocError>
-    ensures app { IfOk result (λ r. app_of r ≡ live_front) }
-    ensures local { IfOk result (λ r. (fields_of r).has_globals ≡ false) }
-{
-    let command = with(bare(alloc, "live"), needed(alloc, "sectors"))?;
-    with(command, needed(alloc, "count"))
-}
-
-/// `live` with its options.
-fn live<'a>(alloc: Global) -> Result<Command<'a>, AllocError>
-    ensures app { IfOk result (λ r. app_of r ≡ live_app) }
-    ensures local { IfOk result (λ r. (fields_of r).has_globals ≡ false) }
-{
-    let command = with(live_front(alloc)?, demanded(alloc, "one"))?;
-    let command = with(command, demanded(alloc, "two"))?;
-    with(command, optional(alloc, "turns"))
-}
-
-/// The command with the options of a tool.
-fn with_tool_options<'a>(alloc: Global, command: Command<'a>) -> Result<Command<'a>, AllocError>
-    requires { (fields_of command).has_globals ≡ false }
-    ensures app { IfOk result (λ r. app_of r ≡ with_tool_options (app_of command.entry)) }
-    ensures local { IfOk result (λ r. (fields_of r).has_globals ≡ false) }
-{
-    let command = with_link(alloc, command)?;
-    let command = with(command, optional(alloc, "port"))?;
-    with(command, optional(alloc, "turns"))
-}
-
-/// A tool with nothing but its options.
-fn plain_tool<'a>(alloc: Global, name: &'a str) -> Result<Command<'a>, AllocError>
-    ensures app { IfOk result (λ r. app_of r ≡ plain_tool name.entry.now) }
-    ensures local { IfOk result (λ r. (fields_of r).has_globals ≡ false) }
-{
-    with_tool_options(alloc, bare(alloc, name))
-}
-
-/// A tool that has DEV ACTION and one more argument.
-fn list_tool<'a>(alloc: Global, name: &'a str, arg: Arg<'a>) -> Result<Command<'a>, AllocError>
-    requires { arg.global ≡ false }
-    ensures app { IfOk result (λ r. app_of r ≡ list_tool name.entry.now (rule_of arg.entry)) }
-    ensures local { IfOk result (λ r. (fields_of r).has_globals ≡ false) }
-{
-    let command = with(bare(alloc, name), needed(alloc, "dev"))?;
-    let command = with(command, needed(alloc, "action"))?;
-    with_tool_options(alloc, with(command, arg)?)
-}
-
-/// A tool that has DEV AT, without its options.
-fn sector_tool<'a>(alloc: Global, name: &'a str) -> Result<Command<'a>, AllocError>
-    ensures app { IfOk result (λ r. app_of r ≡ sector_tool name.entry.now) }
-    ensures local { IfOk result (λ r. (fields_of r).has_globals ≡ false) }
-{
-    let command = with(bare(alloc, name), needed(alloc, "dev"))?;
-    with(command, needed(alloc, "at"))
-}
-
-/// `get DEV AT COUNT`.
-fn get<'a>(alloc: Global) -> Result<Command<'a>, AllocError>
-    ensures app { IfOk result (λ r. app_of r ≡ get_app) }
-    ensures local { IfOk result (λ r. (fields_of r).has_globals ≡ false) }
-{
-    let command = with(sector_tool(alloc, "get")?, needed(alloc, "count"))?;
-    with_tool_options(alloc, command)
-}
-
-/// `put DEV AT`.
-fn put<'a>(alloc: Global) -> Result<Command<'a>, AllocError>
-    ensures app { IfOk result (λ r. app_of r ≡ put_app) }
-    ensures local { IfOk result (λ r. (fields_of r).has_globals ≡ false) }
-{
-    with_tool_options(alloc, sector_tool(alloc, "put")?)
-}
-
-/// The commands over files.
-fn file_commands<'a>(alloc: Global) -> Result<Command<'a>, AllocError>
-    ensures { IfOk result (λ r. app_of r ≡ file_commands) }
-{
-    let command = bare(alloc, "aoe")
+    bare(alloc, "aoe")
         .no_binary_name(true)
         .disable_help_subcommand(true)
-        .subcommand_required(true);
-    command
-        .subcommand(answer(alloc)?)?
-        .subcommand(serve(alloc)?)
+        .subcommand_required(true)
 }
 
-/// These, and the commands over scripts.
-fn script_commands<'a>(alloc: Global) -> Result<Command<'a>, AllocError>
-    ensures { IfOk result (λ r. app_of r ≡ script_commands) }
+/// These commands.
+fn commands<'a>(alloc: Global, forms: &[Form]) -> Result<Command<'a>, AllocError>
+    ensures { IfOk result (λ r. app_of r ≡ added with_form top (map form forms.now)) }
 {
-    file_commands(alloc)?
-        .subcommand(replay(alloc))?
-        .subcommand(soak(alloc)?)
-}
-
-/// These, and the command over two links.
-fn run_commands<'a>(alloc: Global) -> Result<Command<'a>, AllocError>
-    ensures { IfOk result (λ r. app_of r ≡ run_commands) }
-{
-    script_commands(alloc)?.subcommand(live(alloc)?)
-}
-
-/// These, and the tools that list devices.
-fn listing_commands<'a>(alloc: Global) -> Result<Command<'a>, AllocError>
-    ensures { IfOk result (λ r. app_of r ≡ listing_commands) }
-{
-    run_commands(alloc)?
-        .subcommand(plain_tool(alloc, "discover")?)?
-        .subcommand(plain_tool(alloc, "stat")?)
-}
-
-/// These, and the tools for config strings and mask lists.
-fn mask_commands<'a>(alloc: Global) -> Result<Command<'a>, AllocError>
-    ensures { IfOk result (λ r. app_of r ≡ mask_commands) }
-{
-    let cfg = list_tool(alloc, "cfg", allowed(alloc, "text"))?;
-    let mask = list_tool(alloc, "mask", allowed_several(alloc, "dirs"))?;
-    listing_commands(alloc)?.subcommand(cfg)?.subcommand(mask)
-}
-
-/// These, and the tool for reserve lists.
-fn list_commands<'a>(alloc: Global) -> Result<Command<'a>, AllocError>
-    ensures { IfOk result (λ r. app_of r ≡ list_commands) }
-{
-    let reserve = list_tool(alloc, "reserve", allowed_several(alloc, "macs"))?;
-    mask_commands(alloc)?.subcommand(reserve)
-}
-
-/// All commands.
-#[tactic(auto, unfolding(crate::specs::Apps::aoe_app))]
-fn commands<'a>(alloc: Global) -> Result<Command<'a>, AllocError>
-    ensures { IfOk result (λ r. app_of r ≡ aoe_app) }
-{
-    list_commands(alloc)?
-        .subcommand(get(alloc)?)?
-        .subcommand(put(alloc)?)
+    let mut commands = top(alloc);
+    'forms: for form in forms {
+        commands = commands.subcommand(command(alloc, form.0, form.1)?)?;
+    }
+    Ok(commands)
 }
 
 /// What clap finds in the arguments behind the program's name.
@@ -306,5 +239,5 @@ pub(crate) fn matches<'a>(alloc: Global, words: &'a [String]) -> Result<ArgMatch
     ensures kinds { FailsBy (fault_of aoe_app (map string_bytes words.entry.now)) result }
     ensures found { IfOk result (HasMatchesOf aoe_app (map string_bytes words.entry.now)) }
 {
-    commands(alloc)?.try_get_matches_from(words)
+    commands(alloc, &FORMS)?.try_get_matches_from(words)
 }
