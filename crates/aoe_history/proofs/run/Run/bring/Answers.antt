@@ -4,8 +4,7 @@ use Rattle.aoe_history.specs.Run.{network_of, Recorded}
 use Rattle.aoe_history.proofs.RunLemmas.{full-said}
 use Rattle.aoe_history.proofs.run.Run.bring.Goals as goal
 
--- src/run.rt:120:5
-pub returns-in-Err-send_shared-clause-full : goal.returns-in-Err-send_shared-clause-full
-returns-in-Err-send_shared-clause-full c e =
+pub returns-in-Err-clause-full : goal.returns-in-Err-clause-full
+returns-in-Err-clause-full c e =
     let full = c.send_shared.ensures.full.0 (cc) in
     subst (λ (r : Recorded). IsFull (network_of r) c.args.frame) c.self.view_is (full-said _ _ _ _ _ c.self.invariant full)
