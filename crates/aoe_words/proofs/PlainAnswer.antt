@@ -10,7 +10,7 @@ use Rattle.aoe_base.specs.declared.address.TargetId.{TargetId}
 use Rattle.aoe_words.specs.declared.command.Command.{Command}
 use Rattle.aoe_words.specs.declared.command.Command.TheVariants.{Answer}
 use Rattle.aoe_words.specs.Values.{default_port}
-use Rattle.aoe_words.specs.Words.{command, file_names, files_of, is_plain, is_word, plain_answer, plain_files, spelled}
+use Rattle.aoe_words.specs.Words.{answer_of, command, command_of, file_names, files_of, is_plain, is_word, plain_answer, plain_files, spelled}
 use Rattle.aoe_words.proofs.PlainLemmas.{found, plain_parsed}
 
 -- the parts of a test
@@ -46,6 +46,7 @@ module _ (x1 x2 x3 x4 : ℕ) (t1 t2 t3 t4 : Text) (p1 : is_plain (x1 ∷ t1) ≡
   all_words = rw (plain_word x1 t1 p1, plain_word x2 t2 p2, plain_word x3 t3 p3, plain_word x4 t4 p4) refl
 
   line_spells : spelled line ≡ option_map spelling (id_of (x1 ∷ t1) (x2 ∷ t2))
+  unfolding answer_of command_of
   line_spells =
       rw (plain_parsed x1 x2 x3 x4 t1 t2 t3 t4 (no_hyphen x1 t1 p1) (no_hyphen x2 t2 p2) (no_hyphen x3 t3 p3) (no_hyphen x4 t4 p4) all_words)
       (go (number_of (x1 ∷ t1) 65534) (number_of (x2 ∷ t2) 254))

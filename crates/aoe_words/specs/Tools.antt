@@ -19,7 +19,7 @@ use Rattle.aoe_words.specs.declared.command.Mask.{Mask as Masks}
 use Rattle.aoe_words.specs.declared.command.Reserve.{Reserve as Reserves}
 
 -- the ends of the link, --port MAC and --turns N, of which so many stand where none is given
-abbrev pub asking_of : ℕ → List Row → Option Asking
+unfoldable pub asking_of : ℕ → List Row → Option Asking
 asking_of turns rows =
     option_and_then (λ ends. option_and_then (λ port. option_map (λ turns. record { port = port; turns = turns })
     (given_or (codes "turns") (number_within 1 1000000) turns rows)) (given_or (codes "port") port_of tool_port rows)) (link rows)
@@ -55,7 +55,7 @@ abbrev pub config_of : Text → Option Text → Option (ℕ × Text)
 config_of action None = option_map (λ ccmd. (ccmd, [])) (ccmd_alone action)
 config_of action (Some word) = option_and_then (λ ccmd. option_map (λ text. (ccmd, text)) (text_of word)) (ccmd_with_text action)
 
-abbrev pub cfg_of : List Row → Option Cfgs
+unfoldable pub cfg_of : List Row → Option Cfgs
 cfg_of rows =
     option_and_then (λ asking. option_and_then (λ id. option_map (λ config.
     record { asking = asking; id = id; ccmd = config.0; text = record { items = config.1 } })
@@ -83,7 +83,7 @@ abbrev pub edit_of : Text → Option (List Text) → Option (Option (ArrayVec Di
 edit_of action None = if bytes_eq action (codes "read") then Some None else None
 edit_of action (Some words) = if bytes_eq action (codes "edit") then option_map (λ dirs. Some (record { items = dirs })) (listed dir_of words) else None
 
-abbrev pub mask_of : List Row → Option Masks
+unfoldable pub mask_of : List Row → Option Masks
 mask_of rows =
     option_and_then (λ asking. option_and_then (λ id. option_map (λ dirs. record { asking = asking; id = id; dirs = dirs })
     (given (codes "action") (λ action. edit_of action (all_of (codes "dirs") rows)) rows)) (device rows)) (asking_of 50 rows)
@@ -109,7 +109,7 @@ abbrev pub reservation_of : Text → Option (List Text) → Option (ℕ × List 
 reservation_of action None = option_map (λ rcmd. (rcmd, [])) (rcmd_alone action)
 reservation_of action (Some words) = option_and_then (λ rcmd. option_map (λ list. (rcmd, list)) (listed mac_of words)) (rcmd_with_list action)
 
-abbrev pub reserve_of : List Row → Option Reserves
+unfoldable pub reserve_of : List Row → Option Reserves
 reserve_of rows =
     option_and_then (λ asking. option_and_then (λ id. option_map (λ reservation.
     record { asking = asking; id = id; rcmd = reservation.0; list = record { items = reservation.1 } })
@@ -122,13 +122,13 @@ abbrev pub sector : List Row → Option ℕ
 sector = given (codes "at") (λ text. number_of text (2 ^ 48 - 1))
 
 -- they listen for 5000 turns where nothing is said of it
-abbrev pub get_of : List Row → Option Gets
+unfoldable pub get_of : List Row → Option Gets
 get_of rows =
     option_and_then (λ asking. option_and_then (λ id. option_and_then (λ at. option_map (λ count.
     record { asking = asking; id = id; at = at; count = count })
     (given (codes "count") (number_within 1 32768) rows)) (sector rows)) (device rows)) (asking_of 5000 rows)
 
-abbrev pub put_of : List Row → Option Puts
+unfoldable pub put_of : List Row → Option Puts
 put_of rows =
     option_and_then (λ asking. option_and_then (λ id. option_map (λ at. record { asking = asking; id = id; at = at })
     (sector rows)) (device rows)) (asking_of 5000 rows)

@@ -64,7 +64,7 @@ abbrev pub cache_of : List Row → Option ℕ
 cache_of = given_or (codes "cache") (number_within 0 65536) 0
 
 -- answer SHELF SLOT FILE KEEP
-abbrev pub answer_of : List Row → Option Answers
+unfoldable pub answer_of : List Row → Option Answers
 answer_of rows =
     if not (length (files rows) == 2) then None else
     option_and_then (λ major. option_and_then (λ minor. option_and_then (λ port. option_and_then (λ mtu. option_map (λ cache.
@@ -76,7 +76,7 @@ abbrev pub has_slots : List Row → Bool
 has_slots rows = length (files rows) % 2 == 0 && nat_le 2 (length (files rows)) && nat_le (length (files rows)) 32
 
 -- the shelf of serve with its addresses
-abbrev pub serve_of : List Row → Option Serves
+unfoldable pub serve_of : List Row → Option Serves
 serve_of rows =
     if not (has_slots rows) then None else
     option_and_then (λ link. option_and_then (λ shelf. option_and_then (λ ports. option_and_then (λ mtu. option_and_then (λ cache. option_and_then (λ frames. option_map (λ idle.
@@ -85,7 +85,7 @@ serve_of rows =
     (cache_of rows)) (mtu_of rows)) (given_or (codes "ports") ports_of (default_port ∷ []) rows)) (shelf_of rows)) (link rows)
 
 -- soak SEED N
-abbrev pub soak_of : List Row → Option Soaks
+unfoldable pub soak_of : List Row → Option Soaks
 soak_of rows =
     option_and_then (λ seed. option_map (λ count. record { seed = seed; count = count })
     (given (codes "count") (number_within 1 16000) rows)) (given (codes "seed") (λ text. number_of text 65535) rows)
@@ -96,7 +96,7 @@ two_ends rows = option_and_then (λ one. option_map (λ two. (record { local = o
     (first_of (codes "two") rows)) (first_of (codes "one") rows)
 
 -- live SECTORS N
-abbrev pub live_of : List Row → Option Lives
+unfoldable pub live_of : List Row → Option Lives
 live_of rows =
     option_and_then (λ ends. option_and_then (λ sectors. option_and_then (λ count. option_map (λ turns.
     record { sectors = sectors; count = count; turns = turns })
@@ -104,7 +104,7 @@ live_of rows =
     (given (codes "sectors") (number_within 1 65536) rows)) (two_ends rows)
 
 -- the tool of this name; discover and stat listen for 50 turns where nothing is said of it
-abbrev pub tool_of : Text → List Row → Option Tool
+unfoldable pub tool_of : Text → List Row → Option Tool
 tool_of name rows =
     if bytes_eq name (codes "discover") then option_map Discover (asking_of 50 rows)
     else if bytes_eq name (codes "stat") then option_map Stat (asking_of 50 rows)
@@ -114,7 +114,7 @@ tool_of name rows =
     else None
 
 -- the command of this name
-abbrev pub command_of : Text → List Row → Option Command
+unfoldable pub command_of : Text → List Row → Option Command
 command_of name rows =
     if bytes_eq name (codes "answer") then option_map Answer (answer_of rows)
     else if bytes_eq name (codes "serve") then option_map Serve (serve_of rows)

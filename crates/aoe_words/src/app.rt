@@ -229,7 +229,8 @@ fn commands<'a>(alloc: Global, forms: &[Form]) -> Result<Command<'a>, AllocError
 {
     let mut commands = top(alloc);
     'forms: for form in forms {
-        commands = commands.subcommand(command(alloc, form.0, form.1)?)?;
+        let (name, arguments) = *form;
+        commands = commands.subcommand(command(alloc, name, arguments)?)?;
     }
     Ok(commands)
 }

@@ -109,6 +109,7 @@ fn parsed<'a>(
 }
 
 /// What the arguments of `answer` ask for.
+#[tactic(auto, unfolding(crate::specs::Words::answer_of))]
 fn answer_of(found: &ArgMatches) -> Option<Answer>
     ensures value { result ≡ answer_of (rows_of (found_of found.now)) }
     ensures range { IfSome result CanAnswer }
@@ -129,6 +130,7 @@ fn answer_of(found: &ArgMatches) -> Option<Answer>
 }
 
 /// What the arguments of `serve` ask for.
+#[tactic(auto, unfolding(crate::specs::Words::serve_of))]
 fn serve_of(found: &ArgMatches) -> Option<Serve>
     ensures value { result ≡ serve_of (rows_of (found_of found.now)) }
     ensures range { IfSome result CanServe }
@@ -152,6 +154,7 @@ fn serve_of(found: &ArgMatches) -> Option<Serve>
 }
 
 /// What the arguments of `soak` ask for.
+#[tactic(auto, unfolding(crate::specs::Words::soak_of))]
 fn soak_of(found: &ArgMatches) -> Option<Soak>
     ensures value { result ≡ soak_of (rows_of (found_of found.now)) }
     ensures range { IfSome result CanSoak }
@@ -171,6 +174,7 @@ fn two_ends<'a>(found: &ArgMatches<'a>) -> Option<(&'a str, &'a str)>
 }
 
 /// What the arguments of `live` ask for.
+#[tactic(auto, unfolding(crate::specs::Words::live_of))]
 fn live_of(found: &ArgMatches) -> Option<Live>
     ensures value { result ≡ live_of (rows_of (found_of found.now)) }
     ensures range { IfSome result CanLive }
@@ -185,6 +189,7 @@ fn live_of(found: &ArgMatches) -> Option<Live>
 }
 
 /// What the arguments of the tool of this name ask for.
+#[tactic(auto, unfolding(crate::specs::Words::tool_of))]
 fn tool_of(name: &str, found: &ArgMatches) -> Option<Tool>
     ensures value { result ≡ tool_of name.now (rows_of (found_of found.now)) }
     ensures range { IfSome result CanRun }
@@ -206,6 +211,7 @@ fn tool_of(name: &str, found: &ArgMatches) -> Option<Tool>
 }
 
 /// What the arguments of the command of this name ask for.
+#[tactic(auto, unfolding(crate::specs::Words::command_of))]
 fn command_of(name: &str, found: &ArgMatches) -> Option<Command>
     ensures value { result ≡ command_of name.now (rows_of (found_of found.now)) }
     ensures range { IfSome result IsInRange }

@@ -26,6 +26,7 @@ const LAST_SECTOR: u64 = 0xffff_ffff_ffff;
 const MOST_SECTORS: u32 = 32768;
 
 /// Who asks, where the ends of the link are named; `turns` is how long where nothing is said of it.
+#[tactic(auto, unfolding(crate::specs::Tools::asking_of))]
 fn asking_of(found: &ArgMatches, turns: u32) -> Option<Asking>
     requires { (1 ≤ turns) × (turns ≤ 1000000) }
     ensures value { result ≡ asking_of turns (rows_of (found_of found.now)) }
@@ -89,6 +90,7 @@ fn ccmd_with_text(action: &str) -> Option<u8>
 }
 
 /// What the arguments of `cfg` ask for.
+#[tactic(auto, unfolding(crate::specs::Tools::cfg_of))]
 pub(crate) fn cfg_of(found: &ArgMatches) -> Option<Cfg>
     ensures value { result ≡ cfg_of (rows_of (found_of found.now)) }
     ensures range { IfSome result CanCfg }
@@ -114,6 +116,7 @@ pub(crate) fn cfg_of(found: &ArgMatches) -> Option<Cfg>
 }
 
 /// What the arguments of `mask` ask for.
+#[tactic(auto, unfolding(crate::specs::Tools::mask_of))]
 pub(crate) fn mask_of(found: &ArgMatches) -> Option<Mask>
     ensures value { result ≡ mask_of (rows_of (found_of found.now)) }
     ensures range { IfSome result CanMask }
@@ -162,6 +165,7 @@ fn rcmd_with_list(action: &str) -> Option<u8>
 }
 
 /// What the arguments of `reserve` ask for.
+#[tactic(auto, unfolding(crate::specs::Tools::reserve_of))]
 pub(crate) fn reserve_of(found: &ArgMatches) -> Option<Reserve>
     ensures value { result ≡ reserve_of (rows_of (found_of found.now)) }
     ensures range { IfSome result CanReserve }
@@ -195,6 +199,7 @@ fn sector(found: &ArgMatches) -> Option<u64>
 }
 
 /// What the arguments of `get` ask for.
+#[tactic(auto, unfolding(crate::specs::Tools::get_of))]
 pub(crate) fn get_of(found: &ArgMatches) -> Option<Get>
     ensures value { result ≡ get_of (rows_of (found_of found.now)) }
     ensures range { IfSome result CanGet }
@@ -209,6 +214,7 @@ pub(crate) fn get_of(found: &ArgMatches) -> Option<Get>
 }
 
 /// What the arguments of `put` ask for.
+#[tactic(auto, unfolding(crate::specs::Tools::put_of))]
 pub(crate) fn put_of(found: &ArgMatches) -> Option<Put>
     ensures value { result ≡ put_of (rows_of (found_of found.now)) }
     ensures range { IfSome result CanPut }
