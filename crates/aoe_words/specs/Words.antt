@@ -113,6 +113,13 @@ tool_of name rows =
     else if bytes_eq name (codes "reserve") then option_map Reserve (reserve_of rows)
     else None
 
+-- the command of this name, of those that ask a network
+unfoldable pub asked_of : Text → List Row → Option Command
+asked_of name rows =
+    if bytes_eq name (codes "get") then option_map Get (get_of rows)
+    else if bytes_eq name (codes "put") then option_map Put (put_of rows)
+    else option_map Ask (tool_of name rows)
+
 -- the command of this name
 unfoldable pub command_of : Text → List Row → Option Command
 command_of name rows =
@@ -121,9 +128,7 @@ command_of name rows =
     else if bytes_eq name (codes "replay") then Some Replay
     else if bytes_eq name (codes "soak") then option_map Soak (soak_of rows)
     else if bytes_eq name (codes "live") then option_map Live (live_of rows)
-    else if bytes_eq name (codes "get") then option_map Get (get_of rows)
-    else if bytes_eq name (codes "put") then option_map Put (put_of rows)
-    else option_map Ask (tool_of name rows)
+    else asked_of name rows
 
 -- the command that the words spell with what clap found for it, or nothing
 abbrev pub spelled : List Text → Option (Command × List Row)

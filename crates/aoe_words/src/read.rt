@@ -2,7 +2,7 @@
 ghost use Rattle.std.specs.Prelude.{◌≡◌, ◌*◌, [], ◌∷◌, ◌++◌, length, map, option_map, string_bytes, IfOk, IfSome, IsSome, OnOk};
 ghost use Rattle.std.specs.List.{list_all};
 ghost use Rattle.clap.specs.Words.{found_of, rows_of};
-ghost use Rattle.aoe_words.specs.Words.{CanAnswer, CanLive, CanRun, CanServe, CanSoak, IsInRange, answer_of, command, command_of, file_count, file_names, files, files_of, is_word, link_count, links_of, live_of, parsed, port_words, serve_of, soak_of, spelled, tool_of, two_ends};
+ghost use Rattle.aoe_words.specs.Words.{CanAnswer, CanLive, CanRun, CanServe, CanSoak, IsInRange, answer_of, asked_of, command, command_of, file_count, file_names, files, files_of, is_word, link_count, links_of, live_of, parsed, port_words, serve_of, soak_of, spelled, tool_of, two_ends};
 ghost use Rattle.aoe_words.specs.Values.{link};
 
 use crate::app::matches;
@@ -210,6 +210,23 @@ fn tool_of(name: &str, found: &ArgMatches) -> Option<Tool>
     }
 }
 
+/// What the arguments of the command of this name ask for, of those that ask a network.
+#[tactic(auto, unfolding(crate::specs::Words::asked_of))]
+fn asked_of(name: &str, found: &ArgMatches) -> Option<Command>
+    ensures value { result ≡ asked_of name.now (rows_of (found_of found.now)) }
+    ensures range { IfSome result IsInRange }
+    ensures files { IfSome result (λ c. length (files_of c (rows_of (found_of found.now))) ≡ file_count c) }
+    ensures links { IfSome result (λ c. length (links_of c (rows_of (found_of found.now))) ≡ link_count c) }
+{
+    if name == "get" {
+        Some(Command::Get(get_of(found)?))
+    } else if name == "put" {
+        Some(Command::Put(put_of(found)?))
+    } else {
+        Some(Command::Ask(tool_of(name, found)?))
+    }
+}
+
 /// What the arguments of the command of this name ask for.
 #[tactic(auto, unfolding(crate::specs::Words::command_of))]
 fn command_of(name: &str, found: &ArgMatches) -> Option<Command>
@@ -228,12 +245,8 @@ fn command_of(name: &str, found: &ArgMatches) -> Option<Command>
         Some(Command::Soak(soak_of(found)?))
     } else if name == "live" {
         Some(Command::Live(live_of(found)?))
-    } else if name == "get" {
-        Some(Command::Get(get_of(found)?))
-    } else if name == "put" {
-        Some(Command::Put(put_of(found)?))
     } else {
-        Some(Command::Ask(tool_of(name, found)?))
+        asked_of(name, found)
     }
 }
 
