@@ -3,6 +3,8 @@ use Rattle.std.proofs.Common.{◌≡◌, ◌∙◌, ◌⊎◌, inl, inr, ◌+◌
 use Rattle.std.specs.Prelude.{IfSome, option_and_then, option_map, slice_get}
 use Rattle.std.specs.Str.Lines.{lines}
 use Rattle.std.proofs.lemmas.Bool.Decides.{nat_tests}
+use Rattle.std.proofs.lemmas.List.{length-take, take-map}
+use Rattle.std.proofs.lemmas.Option.{slice_get-map, slice_get_within}
 use Rattle.aoe_script.specs.declared.event.Event.{Event}
 use Rattle.aoe_script.specs.declared.line.Line.{Line}
 use Rattle.aoe_script.specs.declared.line.Line.TheVariants.{Asks, Declares}
@@ -35,21 +37,8 @@ place (setup ∷ setups) rest (suc k) = elim (place setups rest k) [
   | inr h ↦ inr record { j = h.j; got = h.got; before = ap (λ t. Declares setup ∷ t) h.before }
 ]
 
-asked_at : (events : List Event) (j : ℕ) → slice_get (map Asks events) j ≡ option_map Asks (slice_get events j)
-asked_at [] j = refl
-asked_at (event ∷ events) zero = refl
-asked_at (event ∷ events) (suc j) = asked_at events j
-
-asked_before : (events : List Event) (j : ℕ) → take j (map Asks events) ≡ map Asks (take j events)
-asked_before [] zero = refl
-asked_before [] (suc j) = refl
-asked_before (event ∷ events) zero = refl
-asked_before (event ∷ events) (suc j) = ap (λ t. Asks event ∷ t) (asked_before events j)
-
 fewer : {X : Type 0} (xs : List X) (j : ℕ) (x : X) → slice_get xs j ≡ Some x → length (take j xs) < length xs
-fewer [] j x e = absurd cc
-fewer (y ∷ xs) zero x e = omega arith
-fewer (y ∷ xs) (suc j) x e = omega (arith, fewer xs j x e)
+fewer xs j x e = omega (arith, slice_get_within xs j x e, length-take j xs)
 
 if_at : {X : Type 0} (P : X → Type 0) (o : Option X) (x : X) → o ≡ Some x → IfSome o P → P x
 if_at P None x e h = absurd cc
@@ -66,8 +55,8 @@ module _ (setups : List Setup) (events : List Event) (h : IsScript (record { set
 
   second_fine : (k : ℕ) → IsSecond setups (map Asks events) k → refusal_at (map Declares setups ++ map Asks events) k ≡ None
   second_fine k f =
-      ap (option_and_then (line_refusal (k + 1) (lines_of (take k (map Declares setups ++ map Asks events))))) (f.got ∙ asked_at events f.j)
-      ∙ ap (λ t. option_and_then (line_refusal (k + 1) (lines_of t)) (option_map Asks (slice_get events f.j))) (f.before ∙ ap (λ t. map Declares setups ++ t) (asked_before events f.j))
+      ap (option_and_then (line_refusal (k + 1) (lines_of (take k (map Declares setups ++ map Asks events))))) (f.got ∙ slice_get-map Asks events f.j)
+      ∙ ap (λ t. option_and_then (line_refusal (k + 1) (lines_of t)) (option_map Asks (slice_get events f.j))) (f.before ∙ ap (λ t. map Declares setups ++ t) (take-map Asks f.j events))
       ∙ ap (λ s. option_and_then (line_refusal (k + 1) s) (option_map Asks (slice_get events f.j))) (lines_kept setups (take f.j events))
       ∙ go (slice_get events f.j) refl
     where

@@ -24,7 +24,7 @@ last_line text rest end place all some rest_is =
     ap lines_of_parts split ∙ ap (λ b. cond b [] (text ∷ [])) some ∙ sym (ap (λ t. text ∷ lines t) empty)
 
 -- the parts of a list are never none
-more_parts : (first : List ℕ) (text : List ℕ) → lines_of_parts (first ∷ slice_split (λ c. c == 10) text) ≡ strip_carriage_return first ∷ lines text
+pub more_parts : (first : List ℕ) (text : List ℕ) → lines_of_parts (first ∷ slice_split (λ c. c == 10) text) ≡ strip_carriage_return first ∷ lines text
 more_parts first text =
     let c = cut (λ c. c == 10) text in
     ap (λ p. lines_of_parts (first ∷ p)) c.whole ∙ ap (λ p. strip_carriage_return first ∷ lines_of_parts p) (sym c.whole)

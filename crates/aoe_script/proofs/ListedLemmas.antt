@@ -125,16 +125,8 @@ module _ (law : AddressLaw) where
   -- ---- directives
 
   dir_written : (add : Bool) (mac : Mac) → IsAddress mac → IsWritten dir_of dir_text (record { add = add; mac = mac })
-  dir_written true mac is = record {
-    back = rw (law mac is.six is.bytes) refl;
-    part = mac_part mac is;
-    long = omega (arith, mac_long mac is);
-  }
-  dir_written false mac is = record {
-    back = rw (law mac is.six is.bytes) refl;
-    part = mac_part mac is;
-    long = omega (arith, mac_long mac is);
-  }
+  dir_written true mac is = record { back = rw (law mac is.six is.bytes) refl; part = mac_part mac is; long = omega (arith, mac_long mac is) }
+  dir_written false mac is = record { back = rw (law mac is.six is.bytes) refl; part = mac_part mac is; long = omega (arith, mac_long mac is) }
 
   dirs_written : (dirs : List Dir) → AllByRecursion (λ dir. IsAddress dir.mac) dirs → AllByRecursion (IsWritten dir_of dir_text) dirs
   dirs_written [] h = tt

@@ -1,70 +1,46 @@
 -- Digits that are read two by two.
-use Rattle.std.proofs.Common.{◌≡◌, ◌≢◌, ◌∙◌, ◌+◌, ◌*◌, ◌/◌, ◌%◌, ◌<◌, ◌≤◌, ℕ, zero, suc, List, [], ◌∷◌, ◌++◌, length, get_or, drop, drop-cons, Option, Some, None, refl, sym, ap, arith, append_assoc}
+use Rattle.std.proofs.Common.{◌≡◌, ◌∙◌, ◌-◌, ◌<◌, ◌≤◌, ◌==◌, ℕ, true, false, List, [], ◌∷◌, ◌++◌, length, get_or, take, drop, Option, Some, None, refl, sym, ap, arith, append_assoc}
 use Rattle.std.specs.Prelude.{option_and_then, option_map}
-use Rattle.std.proofs.lemmas.List.{append-nil, drop_all}
+use Rattle.std.proofs.lemmas.List.{append-nil, take_all}
 use Rattle.aoe_script.specs.Classes.{pair, pairs}
 
--- an odd number of digits spells nothing
-pub odd_none : (text : List ℕ) → length text % 2 ≢ 0 → None ≡ pairs text
-odd_none [] odd = absurd (odd refl)
-odd_none (high ∷ []) odd = refl
-odd_none (high ∷ low ∷ more) odd =
-    let less : length more % 2 ≢ 0 = λ e. odd (omega (arith, e)) in
-    go (pair high low) (odd_none more less)
-  where
-    go : (o : Option ℕ) → None ≡ pairs more → None ≡ option_and_then (λ byte. option_map (λ bytes. byte ∷ bytes) (pairs more)) o
-    go None e = refl
-    go (Some byte) e = ap (option_map (λ bytes. byte ∷ bytes)) e
+-- these bytes were read, and this is left
+pub record ArePaired (text left bytes : List ℕ) : Type 0 where
+  pub so_far : pairs text ≡ option_map (λ rest. bytes ++ rest) (pairs left)
 
--- the digits up to i spell these bytes, and so many turns are left
-pub record ArePaired (text : List ℕ) (i : ℕ) (bytes : List ℕ) : Type 0 where
-  pub turns : ℕ
-  pub even : i + turns * 2 ≡ length text
-  pub so_far : pairs text ≡ option_map (λ rest. bytes ++ rest) (pairs (drop i text))
-
-pub none_paired : (text : List ℕ) → length text % 2 ≡ 0 → ArePaired text 0 []
-none_paired text even = record { turns = length text / 2; even = omega (arith, even); so_far = go (pairs text) }
+pub none_paired : (text : List ℕ) → ArePaired text text []
+none_paired text = record { so_far = go (pairs text) }
   where
     go : (o : Option (List ℕ)) → o ≡ option_map (λ rest. [] ++ rest) o
     go None = refl
     go (Some bytes) = refl
 
-module _ (text : List ℕ) (i : ℕ) (bytes : List ℕ) (h : ArePaired text i bytes) where
-  pub two_left : i < length text → i + 1 < length text
-  two_left lt = omega (arith, lt, h.even)
+pub no_pair : (text left bytes : List ℕ) → ArePaired text left bytes → 2 ≤ length left → None ≡ pair (get_or left 0 0) (get_or left 1 0) → None ≡ pairs text
+no_pair text [] bytes h long e = absurd (omega (arith, long))
+no_pair text (high ∷ []) bytes h long e = absurd (omega (arith, long))
+no_pair text (high ∷ low ∷ more) bytes h long e =
+    ap (λ o. option_map (λ rest. bytes ++ rest) (option_and_then (λ byte. option_map (λ rest. byte ∷ rest) (pairs more)) o)) e ∙ sym h.so_far
 
-  next_is : i < length text
-      → pairs (drop i text) ≡ option_and_then (λ byte. option_map (λ rest. byte ∷ rest) (pairs (drop (i + 2) text))) (pair (get_or text i 0) (get_or text (i + 1) 0))
-  next_is lt =
-      let more = two_left lt in
-      let one : suc i ≡ i + 1 = omega arith in
-      let two : suc (i + 1) ≡ i + 2 = omega arith in
-      let first : drop i text ≡ get_or text i 0 ∷ drop (i + 1) text = drop-cons text i 0 lt ∙ ap (λ k. get_or text i 0 ∷ drop k text) one in
-      let second : drop (i + 1) text ≡ get_or text (i + 1) 0 ∷ drop (i + 2) text = drop-cons text (i + 1) 0 more ∙ ap (λ k. get_or text (i + 1) 0 ∷ drop k text) two in
-      ap pairs (first ∙ ap (λ t. get_or text i 0 ∷ t) second)
+pub one_pair : (text left bytes : List ℕ) (byte : ℕ) → ArePaired text left bytes → 2 ≤ length left → Some byte ≡ pair (get_or left 0 0) (get_or left 1 0)
+    → ArePaired text (take (length left - 2) (drop 2 left)) (bytes ++ byte ∷ [])
+one_pair text [] bytes byte h long e = absurd (omega (arith, long))
+one_pair text (high ∷ []) bytes byte h long e = absurd (omega (arith, long))
+one_pair text (high ∷ low ∷ more) bytes byte h long e = record {
+  so_far =
+      h.so_far ∙ ap (λ o. option_map (λ rest. bytes ++ rest) (option_and_then (λ byte. option_map (λ rest. byte ∷ rest) (pairs more)) o)) (sym e)
+      ∙ go (pairs more) ∙ ap (λ t. option_map (λ rest. (bytes ++ byte ∷ []) ++ rest) (pairs t)) (sym (take_all (length (high ∷ low ∷ more) - 2) more (omega arith)));
+}
+  where
+    go : (o : Option (List ℕ)) → option_map (λ rest. bytes ++ rest) (option_map (λ rest. byte ∷ rest) o) ≡ option_map (λ rest. (bytes ++ byte ∷ []) ++ rest) o
+    go None = refl
+    go (Some rest) = ap Some (sym (append_assoc bytes (byte ∷ []) rest))
 
-  pub no_pair : i < length text → None ≡ pair (get_or text i 0) (get_or text (i + 1) 0) → None ≡ pairs text
-  no_pair lt e =
-      ap (λ o. option_map (λ rest. bytes ++ rest) (option_and_then (λ byte. option_map (λ rest. byte ∷ rest) (pairs (drop (i + 2) text))) o)) e
-      ∙ ap (option_map (λ rest. bytes ++ rest)) (sym (next_is lt)) ∙ sym h.so_far
+-- at the end nothing is left, or one digit
+pub all_paired : (text left bytes : List ℕ) → ArePaired text left bytes → (length left == 0) ≡ true → Some bytes ≡ pairs text
+all_paired text [] bytes h none = sym (h.so_far ∙ ap Some (append-nil bytes))
+all_paired text (digit ∷ left) bytes h none = absurd (grind arith)
 
-  pub one_pair : (byte : ℕ) → i < length text → Some byte ≡ pair (get_or text i 0) (get_or text (i + 1) 0) → ArePaired text (i + 2) (bytes ++ byte ∷ [])
-  one_pair byte lt e = go h.turns h.even
-    where
-      add : (o : Option (List ℕ)) → option_map (λ rest. bytes ++ rest) (option_map (λ rest. byte ∷ rest) o) ≡ option_map (λ rest. (bytes ++ byte ∷ []) ++ rest) o
-      add None = refl
-      add (Some rest) = ap Some (sym (append_assoc bytes (byte ∷ []) rest))
-
-      go : (turns : ℕ) → i + turns * 2 ≡ length text → ArePaired text (i + 2) (bytes ++ byte ∷ [])
-      go zero even = absurd (omega (arith, even, lt))
-      go (suc turns) even = record {
-        turns = turns;
-        even = omega (arith, even);
-        so_far = h.so_far ∙ ap (option_map (λ rest. bytes ++ rest)) (next_is lt
-            ∙ ap (λ o. option_and_then (λ byte. option_map (λ rest. byte ∷ rest) (pairs (drop (i + 2) text))) o) (sym e))
-            ∙ add (pairs (drop (i + 2) text));
-      }
-
-  pub all_paired : length text ≤ i → Some bytes ≡ pairs text
-  all_paired end =
-      sym (h.so_far ∙ ap (λ t. option_map (λ rest. bytes ++ rest) (pairs t)) (drop_all i text end) ∙ ap Some (append-nil bytes))
+pub odd_none : (text left bytes : List ℕ) → ArePaired text left bytes → length left < 2 → (length left == 0) ≡ false → None ≡ pairs text
+odd_none text [] bytes h few some = absurd cc
+odd_none text (high ∷ []) bytes h few some = sym h.so_far
+odd_none text (high ∷ low ∷ more) bytes h few some = absurd (omega (arith, few))

@@ -1,10 +1,10 @@
 -- A list whose parts are read one after the other, with a bound.
 use Rattle.std.proofs.Common.{◌≡◌, ◌∙◌, ◌+◌, ◌<◌, ◌≤◌, ℕ, true, false, List, [], ◌∷◌, ◌++◌, length, get_or, drop, Option, Some, None, nat_le, refl, sym, ap, arith}
 use Rattle.std.specs.Prelude.{option_map}
-use Rattle.std.proofs.lemmas.List.{drop_all, length-append, append-nil}
+use Rattle.std.proofs.lemmas.List.{length-append}
 use Rattle.std.proofs.lemmas.Bool.Decides.{nat_tests}
 use Rattle.aoe_base.specs.Texts.{each}
-use Rattle.aoe_base.proofs.EachLemmas.{AreRead, one_more}
+use Rattle.aoe_base.proofs.EachLemmas.{AreRead, each_read, one_more}
 use Rattle.aoe_script.specs.Classes.{at_most}
 use Rattle.aoe_script.specs.Words.{Text}
 
@@ -29,6 +29,4 @@ pub all_read : {T : Type 0} (read : Text → Option T) (most : ℕ) (texts : Lis
     → Some xs ≡ at_most most (each read texts)
 all_read read most texts n xs h end few =
     let test : nat_le (length xs) most ≡ true = grind (arith, nat_tests) in
-    let whole : each read texts ≡ Some xs =
-    h.same ∙ ap (λ t. option_map (λ rest. xs ++ rest) (each read t)) (drop_all n texts (omega (arith, end))) ∙ ap Some (append-nil xs) in
-    rw (whole, test) refl
+    rw (each_read read texts n xs h end, test) refl

@@ -19,6 +19,7 @@ use Rattle.aoe_script.specs.Forms.{line_of}
 use Rattle.aoe_script.specs.Lines.{FailsFor, IsScript, ScriptLines, asked, declared, first_refusal, line_refusal, lines_of, refusal, refusal_at, said_by, script_of, with_line}
 use Rattle.aoe_script.specs.Rules.{declared_why, event_why, is_setup, setup_why, unless}
 use Rattle.aoe_script.specs.Types.{FitsEvent, FitsSetup}
+use Rattle.aoe_script.proofs.KeptLemmas.{both}
 
 -- what holds of each element behind those before it, with one more at the end
 pub each_pushed : {X : Type 0} (P : List X → X → Type 0) (xs : List X) (y : X) → ((k : ℕ) → IfSome (slice_get xs k) (λ x. P (take k xs) x)) → P xs y
@@ -78,16 +79,10 @@ asked_more setups events new event h e room fits is =
 -- ---- a script with one line more
 
 line_more : (before : List Line) (line : Line) → lines_of (before ++ line ∷ []) ≡ with_line (lines_of before) line
-line_more before line = go line
-  where
-    both : (a b : List Setup) (x y : List Event) → a ≡ b → x ≡ y → (let l : ScriptLines = record { setups = a; events = x } in l) ≡ record { setups = b; events = y }
-    both a b x y e f = cc
-
-    go : (line : Line) → lines_of (before ++ line ∷ []) ≡ with_line (lines_of before) line
-    go Blank = both _ _ _ _ (filter_map-append declared before (Blank ∷ []) ∙ append-nil _) (filter_map-append asked before (Blank ∷ []) ∙ append-nil _)
-    go (Declares setup) = both _ _ _ _ (filter_map-append declared before (Declares setup ∷ [])) (filter_map-append asked before (Declares setup ∷ []) ∙ append-nil _)
-    go (Asks event) = both _ _ _ _ (filter_map-append declared before (Asks event ∷ []) ∙ append-nil _) (filter_map-append asked before (Asks event ∷ []))
-    go (Bad why) = both _ _ _ _ (filter_map-append declared before (Bad why ∷ []) ∙ append-nil _) (filter_map-append asked before (Bad why ∷ []) ∙ append-nil _)
+line_more before Blank = both _ _ _ _ (filter_map-append declared before (Blank ∷ []) ∙ append-nil _) (filter_map-append asked before (Blank ∷ []) ∙ append-nil _)
+line_more before (Declares setup) = both _ _ _ _ (filter_map-append declared before (Declares setup ∷ [])) (filter_map-append asked before (Declares setup ∷ []) ∙ append-nil _)
+line_more before (Asks event) = both _ _ _ _ (filter_map-append declared before (Asks event ∷ []) ∙ append-nil _) (filter_map-append asked before (Asks event ∷ []))
+line_more before (Bad why) = both _ _ _ _ (filter_map-append declared before (Bad why ∷ []) ∙ append-nil _) (filter_map-append asked before (Bad why ∷ []) ∙ append-nil _)
 
 setups_more : (before : ScriptLines) (line : Line) → length (with_line before line).setups ≤ length before.setups + 1
 setups_more before Blank = omega arith

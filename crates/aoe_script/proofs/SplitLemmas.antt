@@ -1,6 +1,6 @@
 -- The first part of a list that is cut, and what stands behind it.
-use Rattle.std.proofs.Common.{◌≡◌, ◌+◌, ◌≤◌, ℕ, suc, Bool, true, false, cond, List, [], ◌∷◌, length, take, drop, refl, arith, Some, None, nat_lt}
-use Rattle.std.specs.Prelude.{position}
+use Rattle.std.proofs.Common.{◌≡◌, ◌∙◌, ◌+◌, ◌≤◌, ℕ, suc, Bool, true, false, cond, List, [], ◌∷◌, length, take, drop, refl, arith, Some, None, nat_lt}
+use Rattle.std.specs.Prelude.{position, unwrap_or}
 use Rattle.std.proofs.lemmas.Bool.Decides.{nat_tests}
 use Rattle.std.specs.List.{slice_split, position_or_len}
 
@@ -32,24 +32,10 @@ position_or_len-le p (x ∷ xs) = go (position_or_len-le p xs) (p x) refl
     go h true is = rw is (omega arith)
     go h false is = rw is (omega (arith, h))
 
--- a place that was found is that of the first
-pub found_at : (p : ℕ → Bool) (xs : List ℕ) (i : ℕ) → Some i ≡ position p xs → i ≡ position_or_len p xs
-found_at p xs i e = go (nat_lt (position_or_len p xs) (length xs)) e
+-- the place of the first, or the end where there is none
+pub first_or_end : (p : ℕ → Bool) (xs : List ℕ) (i : ℕ) → i ≡ unwrap_or (position p xs) (length xs) → (i ≡ position_or_len p xs) × (i ≤ length xs)
+first_or_end p xs i e = let at = e ∙ go (nat_lt (position_or_len p xs) (length xs)) refl in (at, omega (arith, at, position_or_len-le p xs))
   where
-    go : (b : Bool) → Some i ≡ cond b (Some (position_or_len p xs)) None → i ≡ position_or_len p xs
-    go true e = cc
-    go false e = absurd cc
-
-pub found_within : (p : ℕ → Bool) (xs : List ℕ) (i : ℕ) → Some i ≡ position p xs → i ≤ length xs
-found_within p xs i e = let at = found_at p xs i e in omega (arith, at, position_or_len-le p xs)
-
--- where none was found the end stands for it
-pub found_nowhere : (p : ℕ → Bool) (xs : List ℕ) → None ≡ position p xs → length xs ≡ position_or_len p xs
-found_nowhere p xs e = go (nat_lt (position_or_len p xs) (length xs)) refl e
-  where
-    go : (b : Bool) → nat_lt (position_or_len p xs) (length xs) ≡ b → None ≡ cond b (Some (position_or_len p xs)) None → length xs ≡ position_or_len p xs
-    go true is e = absurd cc
-    go false is e =
-        let most = position_or_len-le p xs in
-        let end : length xs ≤ position_or_len p xs = grind (arith, nat_tests) in
-        omega (arith, most, end)
+    go : (b : Bool) → nat_lt (position_or_len p xs) (length xs) ≡ b → unwrap_or (cond b (Some (position_or_len p xs)) None) (length xs) ≡ position_or_len p xs
+    go true is = refl
+    go false is = let most = position_or_len-le p xs in grind (arith, nat_tests)

@@ -4,7 +4,7 @@ ghost use Rattle.std.specs.List.{list_all};
 ghost use Rattle.std.specs.Char.{is_ascii_digit, digit_value};
 ghost use Rattle.std.specs.Str.{bytes_eq};
 ghost use Rattle.aoe_base.specs.Names.{is_hex_digit};
-ghost use Rattle.aoe_script.specs.Classes.{byte_of, bytes_of, ccmd_of, edit_of, is_lower, is_name, mode_of, name_of, number, pair, pairs, rcmd_of, which_of};
+ghost use Rattle.aoe_script.specs.Classes.{byte_of, bytes_of, ccmd_of, edit_of, is_lower, is_name, mode_of, number, pair, pairs, rcmd_of, which_of};
 
 use crate::cuts::from;
 use crate::event::Which;
@@ -13,17 +13,6 @@ use crate::setup::Name;
 use aoe_base::{Blob, NoMemory, read_number};
 use aoe_disk::Loss;
 use std::alloc::Global;
-
-/// The name that a word is, where there is room for it.
-pub(crate) fn name_of(text: &[u8]) -> Option<Name>
-    ensures { result ≡ name_of text.now }
-{
-    let mut name = Name::new();
-    match name.try_extend_from_slice(text) {
-        Ok(()) => Some(name),
-        Err(_) => None,
-    }
-}
 
 /// Whether a byte is a lower-case letter.
 fn is_lower(byte: u8) -> bool
@@ -99,19 +88,20 @@ fn add(bytes: &mut Vec<u8>, byte: u8) -> Result<(), NoMemory>
 fn pairs(alloc: Global, text: &[u8]) -> Result<Option<Blob>, NoMemory>
     ensures { IfOk result (λ r. r ≡ pairs text.now) }
 {
-    if text.len() % 2 != 0 {
-        return Ok(None);
-    }
     let mut bytes = Vec::new(alloc);
-    let mut i = 0;
-    'pairs: while i < text.len() {
-        let Some(byte) = pair(text[i], text[i + 1]) else {
+    let mut left = text;
+    'pairs: while let [high, low, more @ ..] = left {
+        let Some(byte) = pair(*high, *low) else {
             return Ok(None);
         };
         add(&mut bytes, byte)?;
-        i += 2;
+        left = more;
     }
-    Ok(Some(Blob::from_vec(bytes)))
+    if left.is_empty() {
+        Ok(Some(Blob::from_vec(bytes)))
+    } else {
+        Ok(None)
+    }
 }
 
 /// The bytes that a word spells: an even number of digits, or a hyphen for none.

@@ -21,10 +21,7 @@ pub(crate) fn until(text: &[u8], byte: u8) -> usize
     ensures place { result ≡ position_or_len (λ c. c == byte) text.now }
     ensures within { result ≤ length text.now }
 {
-    match place_of(text, byte) {
-        Some(place) => place,
-        None => text.len(),
-    }
+    place_of(text, byte).unwrap_or(text.len())
 }
 
 /// How many bytes of this value stand at the front.
@@ -32,10 +29,7 @@ pub fn run(text: &[u8], byte: u8) -> usize
     ensures place { result ≡ position_or_len (λ c. not (c == byte)) text.now }
     ensures within { result ≤ length text.now }
 {
-    match place_of_other(text, byte) {
-        Some(place) => place,
-        None => text.len(),
-    }
+    place_of_other(text, byte).unwrap_or(text.len())
 }
 
 /// What stands from a place on.

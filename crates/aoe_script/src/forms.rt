@@ -2,7 +2,6 @@
 ghost use Rattle.std.specs.Prelude.{◌≡◌};
 ghost use Rattle.aoe_script.specs.Forms.{attach_of, host_of, life_of, optional_number, shelf_of, slot_of};
 
-use crate::classes::{name_of, number};
 use crate::parts::ports_of;
 use crate::setup::Setup;
 use crate::words::Words;
@@ -14,7 +13,7 @@ fn optional_number(words: &Words, i: usize) -> Option<Option<u64>>
     if words.len() <= i {
         return Some(None);
     }
-    Some(Some(number(words.at(i))?))
+    Some(Some(words.number(i)?))
 }
 
 /// `life MS`
@@ -22,7 +21,7 @@ pub(crate) fn life_of(words: &Words) -> Option<Setup>
     ensures { result ≡ life_of words.now }
 {
     Some(Setup::Life {
-        ms: number(words.at(1))?,
+        ms: words.number(1)?,
     })
 }
 
@@ -31,10 +30,10 @@ pub(crate) fn shelf_of(words: &Words) -> Option<Setup>
     ensures { result ≡ shelf_of words.now }
 {
     Some(Setup::Shelf {
-        name: name_of(words.at(1))?,
-        major: number(words.at(2))?,
+        name: words.name(1)?,
+        major: words.number(2)?,
         ports: ports_of(words.at(3))?,
-        mtu: number(words.at(4))?,
+        mtu: words.number(4)?,
     })
 }
 
@@ -43,9 +42,9 @@ pub(crate) fn slot_of(words: &Words) -> Option<Setup>
     ensures { result ≡ slot_of words.now }
 {
     Some(Setup::Slot {
-        shelf: name_of(words.at(1))?,
-        minor: number(words.at(2))?,
-        sectors: number(words.at(3))?,
+        shelf: words.name(1)?,
+        minor: words.number(2)?,
+        sectors: words.number(3)?,
         room: optional_number(words, 4)?,
     })
 }
@@ -55,7 +54,7 @@ pub(crate) fn host_of(words: &Words) -> Option<Setup>
     ensures { result ≡ host_of words.now }
 {
     Some(Setup::Host {
-        name: name_of(words.at(1))?,
+        name: words.name(1)?,
         ports: ports_of(words.at(2))?,
         room: optional_number(words, 3)?,
         dead: optional_number(words, 4)?,
@@ -67,8 +66,8 @@ pub(crate) fn attach_of(words: &Words) -> Option<Setup>
     ensures { result ≡ attach_of words.now }
 {
     Some(Setup::Attach {
-        host: name_of(words.at(1))?,
-        shelf: name_of(words.at(2))?,
-        minor: number(words.at(3))?,
+        host: words.name(1)?,
+        shelf: words.name(2)?,
+        minor: words.number(3)?,
     })
 }

@@ -4,10 +4,10 @@ ghost use Rattle.aoe_script.specs.Classes.{which_of};
 ghost use Rattle.aoe_script.specs.Forms.{crash_of, deliver_of, fail_of, inject_of, pass_of, skip_of, stop_of, tick_of};
 ghost use Rattle.aoe_script.specs.Words.{word_at};
 
-use crate::classes::{bytes_of, mode_of, name_of, number, which_of};
+use crate::classes::{bytes_of, mode_of, which_of};
 use crate::event::Event;
 use crate::words::Words;
-use aoe_base::{NoMemory, read_device};
+use aoe_base::NoMemory;
 use std::alloc::Global;
 
 /// `tick MS`
@@ -15,7 +15,7 @@ pub(crate) fn tick_of(words: &Words) -> Option<Event>
     ensures { result ≡ tick_of words.now }
 {
     Some(Event::Tick {
-        ms: number(words.at(1))?,
+        ms: words.number(1)?,
     })
 }
 
@@ -24,7 +24,7 @@ pub(crate) fn pass_of(words: &Words) -> Option<Event>
     ensures { result ≡ pass_of words.now }
 {
     Some(Event::Pass {
-        n: number(words.at(1))?,
+        n: words.number(1)?,
     })
 }
 
@@ -33,7 +33,7 @@ pub(crate) fn skip_of(words: &Words) -> Option<Event>
     ensures { result ≡ skip_of words.now }
 {
     Some(Event::Skip {
-        n: number(words.at(1))?,
+        n: words.number(1)?,
     })
 }
 
@@ -42,8 +42,8 @@ pub(crate) fn deliver_of(words: &Words) -> Option<Event>
     ensures { result ≡ deliver_of words.now }
 {
     Some(Event::Deliver {
-        frame: number(words.at(1))?,
-        station: name_of(words.at(2))?,
+        frame: words.number(1)?,
+        station: words.name(2)?,
     })
 }
 
@@ -62,9 +62,9 @@ pub(crate) fn fail_of(words: &Words) -> Option<Event>
     ensures { result ≡ fail_of words.now }
 {
     Some(Event::Fail {
-        dev: read_device(words.at(1))?,
+        dev: words.device(1)?,
         which: which_of(words.at(2))?,
-        k: number(words.at(3))?,
+        k: words.number(3)?,
     })
 }
 
@@ -73,9 +73,9 @@ pub(crate) fn stop_of(words: &Words) -> Option<Event>
     ensures { result ≡ stop_of words.now }
 {
     Some(Event::Stop {
-        dev: read_device(words.at(1))?,
+        dev: words.device(1)?,
         which: which_of(words.at(2))?,
-        k: number(words.at(3))?,
+        k: words.number(3)?,
         mode: mode_of(words.at(4))?,
     })
 }
@@ -85,7 +85,7 @@ pub(crate) fn crash_of(words: &Words) -> Option<Event>
     ensures { result ≡ crash_of words.now }
 {
     Some(Event::Crash {
-        shelf: name_of(words.at(1))?,
+        shelf: words.name(1)?,
         mode: mode_of(words.at(2))?,
     })
 }

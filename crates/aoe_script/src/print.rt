@@ -1,6 +1,6 @@
 //! The text of a script.
 ghost use Rattle.std.specs.Prelude.{◌≡◌, ◌≤◌, ◌++◌, length, true, IfOk, None, OnOk};
-ghost use Rattle.aoe_script.specs.Lines.{refusal, script_of};
+ghost use Rattle.aoe_script.specs.Lines.{IsScript, refusal, script_of};
 ghost use Rattle.aoe_script.specs.Print.{event_words, is_submission, optional_word, script_text, setup_words, spaced, spelled};
 ghost use Rattle.aoe_script.specs.Spelling.{word_text, words_text};
 
@@ -250,6 +250,22 @@ fn put_event(out: &mut Vec<u8>, event: &Event) -> Result<(), NoMemory>
     }
 }
 
+/// Adds a script: one line for each setup line and each event.
+fn put_script(out: &mut Vec<u8>, script: &Script) -> Result<(), NoMemory>
+    ensures script { IsScript script.now }
+    ensures text { OnOk result (out.new.items ≡ out.old.items ++ script_text script.now) }
+{
+    'setups: for i in 0..script.setups() {
+        put_setup(out, script.setup(i))?;
+        put(out, b"\n")?;
+    }
+    'events: for i in 0..script.count() {
+        put_event(out, script.event(i))?;
+        put(out, b"\n")?;
+    }
+    Ok(())
+}
+
 /// The text of a script: one line for each setup line and each event, whose words single spaces
 /// part. It reads back, unless it is longer than a text may be.
 pub fn print_script(alloc: Global, script: &Script) -> Result<Blob, NoMemory>
@@ -259,13 +275,6 @@ pub fn print_script(alloc: Global, script: &Script) -> Result<Blob, NoMemory>
 {
     printed_script_reads_back();
     let mut out = Vec::new(alloc);
-    'setups: for i in 0..script.setups() {
-        put_setup(&mut out, script.setup(i))?;
-        put(&mut out, b"\n")?;
-    }
-    'events: for i in 0..script.count() {
-        put_event(&mut out, script.event(i))?;
-        put(&mut out, b"\n")?;
-    }
+    put_script(&mut out, script)?;
     Ok(Blob::from_vec(out))
 }

@@ -2,11 +2,11 @@
 ghost use Rattle.std.specs.Prelude.{◌≡◌, IfOk, option_map};
 ghost use Rattle.aoe_script.specs.Forms.{config_of, config_text, flush_of, has_config_shape, has_masks_shape, has_reserve_shape, identify_of, mask_dirs, masks_of, read_of, reserve_list, reserve_of, write_of};
 
-use crate::classes::{byte_of, bytes_of, ccmd_of, edit_of, name_of, number, rcmd_of};
+use crate::classes::{byte_of, bytes_of, ccmd_of, edit_of, rcmd_of};
 use crate::event::Event;
 use crate::parts::{dirs_of, list_of};
 use crate::words::Words;
-use aoe_base::{Blob, Mac, NoMemory, read_device};
+use aoe_base::{Blob, Mac, NoMemory};
 use aoe_lists::{Dir, MAX_DIRS};
 use arrayvec::ArrayVec;
 use std::alloc::Global;
@@ -16,10 +16,10 @@ pub(crate) fn read_of(words: &Words) -> Option<Event>
     ensures { result ≡ read_of words.now }
 {
     Some(Event::Read {
-        host: name_of(words.at(1))?,
-        dev: read_device(words.at(2))?,
-        at: number(words.at(3))?,
-        count: number(words.at(4))?,
+        host: words.name(1)?,
+        dev: words.device(2)?,
+        at: words.number(3)?,
+        count: words.number(4)?,
     })
 }
 
@@ -28,10 +28,10 @@ pub(crate) fn write_of(words: &Words) -> Option<Event>
     ensures { result ≡ write_of words.now }
 {
     Some(Event::Write {
-        host: name_of(words.at(1))?,
-        dev: read_device(words.at(2))?,
-        at: number(words.at(3))?,
-        count: number(words.at(4))?,
+        host: words.name(1)?,
+        dev: words.device(2)?,
+        at: words.number(3)?,
+        count: words.number(4)?,
         fill: byte_of(words.at(5))?,
     })
 }
@@ -41,8 +41,8 @@ pub(crate) fn flush_of(words: &Words) -> Option<Event>
     ensures { result ≡ flush_of words.now }
 {
     Some(Event::Flush {
-        host: name_of(words.at(1))?,
-        dev: read_device(words.at(2))?,
+        host: words.name(1)?,
+        dev: words.device(2)?,
     })
 }
 
@@ -51,8 +51,8 @@ pub(crate) fn identify_of(words: &Words) -> Option<Event>
     ensures { result ≡ identify_of words.now }
 {
     Some(Event::Identify {
-        host: name_of(words.at(1))?,
-        dev: read_device(words.at(2))?,
+        host: words.name(1)?,
+        dev: words.device(2)?,
     })
 }
 
@@ -70,11 +70,8 @@ fn config_text(alloc: Global, ccmd: u8, words: &Words) -> Result<Option<Blob>, N
 pub(crate) fn config_of(alloc: Global, words: &Words) -> Result<Option<Event>, NoMemory>
     ensures { IfOk result (λ r. r ≡ config_of words.now) }
 {
-    let (Some(host), Some(dev), Some(ccmd)) = (
-        name_of(words.at(1)),
-        read_device(words.at(2)),
-        ccmd_of(words.at(3)),
-    ) else {
+    let (Some(host), Some(dev), Some(ccmd)) = (words.name(1), words.device(2), ccmd_of(words.at(3)))
+    else {
         return Ok(None);
     };
     match config_text(alloc, ccmd, words)? {
@@ -113,8 +110,8 @@ fn mask_dirs(edit: bool, words: &Words) -> Option<ArrayVec<Dir, MAX_DIRS>>
 pub(crate) fn masks_of(words: &Words) -> Option<Event>
     ensures { result ≡ masks_of words.now }
 {
-    let host = name_of(words.at(1))?;
-    let dev = read_device(words.at(2))?;
+    let host = words.name(1)?;
+    let dev = words.device(2)?;
     let edit = edit_of(words.at(3))?;
     let dirs = mask_dirs(edit, words)?;
     Some(Event::Masks {
@@ -150,8 +147,8 @@ fn reserve_list(rcmd: u8, words: &Words) -> Option<ArrayVec<Mac, MAX_DIRS>>
 pub(crate) fn reserve_of(words: &Words) -> Option<Event>
     ensures { result ≡ reserve_of words.now }
 {
-    let host = name_of(words.at(1))?;
-    let dev = read_device(words.at(2))?;
+    let host = words.name(1)?;
+    let dev = words.device(2)?;
     let rcmd = rcmd_of(words.at(3))?;
     let list = reserve_list(rcmd, words)?;
     Some(Event::Reserve {

@@ -1,9 +1,14 @@
 //! The words of a line.
 ghost use Rattle.std.specs.Prelude.{◌≡◌, ◌==◌, ◌<◌, ◌≤◌, ℕ, [], ◌∷◌, List, length, map, not, IfNone, IfSome};
 ghost use Rattle.std.specs.List.{position_or_len};
+ghost use Rattle.aoe_base.specs.Names.{device_of};
+ghost use Rattle.aoe_script.specs.Classes.{name_of, number};
 ghost use Rattle.aoe_script.specs.Words.{few_words, word_at, words};
 
+use crate::classes::number;
 use crate::cuts::{from, run, until};
+use crate::setup::Name;
+use aoe_base::{TargetId, read_device};
 use arrayvec::ArrayVec;
 use std::marker::Model;
 
@@ -68,5 +73,29 @@ impl<'a> Words<'a> {
     {
         let list = self.list.as_slice();
         if i < list.len() { list[i] } else { &[] }
+    }
+    /// The number at a place.
+    pub(crate) fn number(&self, i: usize) -> Option<u64>
+        ensures { result ≡ number (word_at self.now i) }
+    {
+        number(self.at(i))
+    }
+
+    /// The name at a place.
+    pub(crate) fn name(&self, i: usize) -> Option<Name>
+        ensures { result ≡ name_of (word_at self.now i) }
+    {
+        let mut name = Name::new();
+        match name.try_extend_from_slice(self.at(i)) {
+            Ok(()) => Some(name),
+            Err(_) => None,
+        }
+    }
+
+    /// The device at a place.
+    pub(crate) fn device(&self, i: usize) -> Option<TargetId>
+        ensures { result ≡ device_of (word_at self.now i) }
+    {
+        read_device(self.at(i))
     }
 }

@@ -1,12 +1,9 @@
-use Rattle.std.proofs.Common.{◌==◌, not}
-use Rattle.aoe_script.proofs.SplitLemmas.{found_at, found_within, found_nowhere}
+use Rattle.std.proofs.Common.{◌==◌, not, rules}
+use Rattle.aoe_script.proofs.SplitLemmas.{first_or_end}
 use Rattle.aoe_script.proofs.cuts.run.Goals as goal
 
-pub returns-in-Some-clause-place : goal.returns-in-Some-clause-place
-returns-in-Some-clause-place c = found_at (λ b. not (b == c.args.byte)) c.args.text.now c.in-Some.place c.in-Some.ensures
+pub returns-clause-place : goal.returns-clause-place
+returns-clause-place c = (first_or_end (λ b. not (b == c.args.byte)) c.args.text.now _ (search rules)).0
 
-pub returns-in-Some-clause-within : goal.returns-in-Some-clause-within
-returns-in-Some-clause-within c = found_within (λ b. not (b == c.args.byte)) c.args.text.now c.in-Some.place c.in-Some.ensures
-
-pub returns-in-None-clause-place : goal.returns-in-None-clause-place
-returns-in-None-clause-place c = found_nowhere (λ b. not (b == c.args.byte)) c.args.text.now c.in-None.ensures
+pub returns-clause-within : goal.returns-clause-within
+returns-clause-within c = (first_or_end (λ b. not (b == c.args.byte)) c.args.text.now _ (search rules)).1
