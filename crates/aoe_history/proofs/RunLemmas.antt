@@ -1,6 +1,6 @@
 -- What a network says of a history whose frames it has.
-use Rattle.std.proofs.Common.{◌≤◌, IfSome, All, Bool, true, false, if◌then◌else◌, nat_le, ◌==◌, suc, length, ◌-◌, ℕ, ◌≡◌, List, [], ◌∷◌, ◌++◌, Option, Some, None, IfNone, refl, sym, subst}
-use Rattle.std.specs.Option.{option_and_then, option_map, option_to_list}
+use Rattle.std.proofs.Common.{◌≤◌, IfSome, All, Bool, true, false, if◌then◌else◌, nat_le, ◌==◌, suc, length, ◌-◌, ℕ, ◌≡◌, List, [], ◌∷◌, Option, Some, None, refl, sym, subst}
+use Rattle.std.specs.Option.{option_and_then, option_map}
 use Rattle.std.proofs.lemmas.List.Elements.{All-head, All-tail}
 use Rattle.std.proofs.lemmas.Option.{same_Some}
 use Rattle.aoe_history.specs.declared.entry.Entry.{Entry}
@@ -14,14 +14,6 @@ full-of net life h f sent e g full = subst (λ fs. IsFull (record { life = life;
 -- the network is as full as the history says
 pub full-said : (life now : ℕ) (h : List Entry) (net : Network) (f : List ℕ) → Carries life now h net → IsFull net f → IsFull (network life h) f
 full-said life now h net f c full = full-of net life h f net.sent refl c.sent full
-
-pub full-meant : (life now : ℕ) (h : List Entry) (net : Network) (f : List ℕ) → Carries life now h net → IsFull (network life h) f → IsFull net f
-full-meant life now h net f c full = subst (λ fs. IsFull (record { life = life; latest = 0; sent = fs }) f) (sym c.sent) full
-
--- what was pushed last is taken back
-pub taken-back : (old new before : List Entry) (last : Entry) (o : Option Entry) → old ≡ option_to_list o ++ new → IfNone o (old ≡ []) → old ≡ last ∷ before → new ≡ before
-taken-back old new before last None e none is = absurd (cc)
-taken-back old new before last (Some x) e none is = cc
 
 -- FRAMES THAT AREN'T TOO LONG
 

@@ -7,7 +7,7 @@ use Rattle.aoe_base.specs.Spans.{overlap}
 use Rattle.aoe_hold.specs.declared.command.Stage.TheVariants.{Unsent}
 use Rattle.aoe_hold.specs.Commands.{conflict, has_effect, is_gone, rests_on_effects}
 use Rattle.aoe_initiator.specs.declared.op.Op.{Op}
-use Rattle.aoe_initiator.specs.declared.op.Op.TheVariants.{Read, Write, Flush, Identify, Config, Masks, Reserve}
+use Rattle.aoe_initiator.specs.declared.op.Op.TheVariants.{Read, Write, Flush}
 use Rattle.aoe_initiator.specs.HostLog.{Sending}
 use Rattle.aoe_initiator.specs.Op.{kind_of, span_of}
 use Rattle.aoe_net.specs.Network.{numbered, SentFrame}
@@ -38,12 +38,7 @@ by-op : (slot : SlotSetup) (dev : TargetId) (op : Op) (s : ℕ) (v : List ℕ) �
 by-op slot dev (Write at bytes) s v is e =
     let p = some-if (in_span (span_of (Write at bytes)) s) (value_in (span_of (Write at bytes)) bytes s) v e in
     record { at = at; bytes = bytes; asks = record { dev = dev; is = refl; slot_is = is }; inside = p.0; value = sym p.1 }
-by-op slot dev (Read span) s v is e = absurd (cc)
-by-op slot dev Flush s v is e = absurd (cc)
-by-op slot dev Identify s v is e = absurd (cc)
-by-op slot dev (Config ccmd text) s v is e = absurd (cc)
-by-op slot dev (Masks edit dirs) s v is e = absurd (cc)
-by-op slot dev (Reserve rcmd list) s v is e = absurd (cc)
+by-op slot dev _ s v is e = absurd (cc)
 
 pub writes-to : (slot : SlotSetup) (o : Option Submission) (s : ℕ) (v : List ℕ) → writes slot o s ≡ Some v → WritesTo slot o s v
 writes-to slot None s v e = absurd (cc)
@@ -113,8 +108,7 @@ rests-of o x e = ap (λ z. rests_on_effects (kind_of (op_in z))) e
 
 inactive : (done gone : Bool) → done ≡ true → gone ≡ true → not (done && gone) ≡ true → ⊥
 inactive true true p q e = cc
-inactive true false p q e = cc
-inactive false gone p q e = cc
+inactive _ _ p q e = cc
 
 order-of : (c d : ℕ) → (c < d) ⊎ ((c ≡ d) ⊎ (d < c))
 order-of c d = grind arith

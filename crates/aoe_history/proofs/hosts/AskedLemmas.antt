@@ -16,7 +16,7 @@ use Rattle.aoe_ata.specs.declared.decision.AtaDecision.{AtaDecision}
 use Rattle.aoe_initiator.specs.declared.device.Attached.{Attached}
 use Rattle.aoe_initiator.specs.declared.device.Device.{Device}
 use Rattle.aoe_initiator.specs.declared.op.Op.{Op}
-use Rattle.aoe_initiator.specs.declared.op.Op.TheVariants.{Read, Write, Flush, Identify, Config, Masks, Reserve}
+use Rattle.aoe_initiator.specs.declared.op.Op.TheVariants.{Read, Write, Config}
 use Rattle.aoe_initiator.specs.declared.refusal.SubmitRefusal.{SubmitRefusal}
 use Rattle.aoe_initiator.specs.declared.refusal.SubmitRefusal.TheVariants.{OutOfRange, TooLong, Empty}
 use Rattle.aoe_initiator.specs.HostLaw.{held_at, op_refusal, or_backlog, same_id, span_refusal}
@@ -29,7 +29,7 @@ use Rattle.aoe_target.specs.declared.station.Station.{Station}
 use Rattle.aoe_target.specs.declared.verdict.Verdict.TheVariants.{Ata}
 use Rattle.aoe_target.specs.Verdict.{is_heard, verdict}
 use Rattle.aoe_history.specs.declared.entry.Entry.{Entry}
-use Rattle.aoe_history.specs.declared.entry.Entry.TheVariants.{Submitted, Refused, Sent, Injected, Arrived, Took, Done, Ticked, Lost, Armed, Crashed}
+use Rattle.aoe_history.specs.declared.entry.Entry.TheVariants.{Submitted}
 use Rattle.aoe_history.specs.Commands.{commands_of, devices_of, host_after, submission, tickets, Submission}
 use Rattle.aoe_history.specs.CommandView.{device_in, op_in, IsAskable, IsRequest, IsSentFor, IsUnderstood}
 use Rattle.aoe_history.specs.Conversation.{HasSectors}
@@ -73,10 +73,8 @@ pub record IsSpan (about : Attached) (at count : ℕ) : Type 0 where
   pub inside : at + count ≤ about.total
 
 by-tests : (a b c : Bool) (x y z : SubmitRefusal) → (if a then Some x else if b then Some y else if c then Some z else None) ≡ None → (a ≡ false) × (b ≡ false) × (c ≡ false)
-by-tests true b c x y z e = absurd (cc)
-by-tests false true c x y z e = absurd (cc)
-by-tests false false true x y z e = absurd (cc)
 by-tests false false false x y z e = (refl, refl, refl)
+by-tests _ _ _ x y z e = absurd (cc)
 
 not-zero : (n : ℕ) → (n == 0) ≡ false → n ≢ 0
 not-zero n e p = grind (arith, nat_tests)
@@ -99,11 +97,8 @@ askable-op about (Write at bytes) m t can e =
   where
     small : (n : ℕ) → n % 512 ≡ 0 → n / 512 ≤ 17 → n ≤ 8704
     small n e le = omega arith
-askable-op about Flush m t can e = (tt, tt)
-askable-op about Identify m t can e = (tt, tt)
 askable-op about (Config ccmd text) m t can e = (can.1, tt)
-askable-op about (Masks edit dirs) m t can e = (tt, tt)
-askable-op about (Reserve rcmd list) m t can e = (tt, tt)
+askable-op about _ m t can e = (tt, tt)
 
 askable : (s : Setup) (host : HostSetup) (h : List Entry) (c : ℕ) (dev : TargetId) (op : Op) → IsSetup s → Contains s.hosts host → IsSubmitted s host h c dev op → IsAskable host (record { dev = dev; op = op })
 askable s host h c dev op ok mine x =
@@ -139,16 +134,7 @@ module _ (s : Setup) (host : HostSetup) (mine : IsNamed s host) (ok : IsSetup s)
     | inl new ↦ subst (λ z. IsAskable host z) new.1 (askable s host h t dev op ok there (some-and (λ z. IsSubmitted s z h t dev op) (host_called s name) host (mine name (own-host (is_called host name) (nat_eq t c) new.0)) l.0))
     | inr old ↦ asked h l.1 c x old
   ]
-  asked (Refused name refusal ∷ h) l c x e = asked h l.1 c x e
-  asked (Sent name t number f ∷ h) l c x e = asked h l.1 c x e
-  asked (Injected number f ∷ h) l c x e = asked h l.1 c x e
-  asked (Arrived dev frame fate ∷ h) l c x e = asked h l.1 c x e
-  asked (Took name frame stale ∷ h) l c x e = asked h l.1 c x e
-  asked (Done name t outcome ∷ h) l c x e = asked h l.1 c x e
-  asked (Ticked ms ∷ h) l c x e = asked h l.1 c x e
-  asked (Lost frame ∷ h) l c x e = asked h l.1 c x e
-  asked (Armed dev which n mode ∷ h) l c x e = asked h l.1 c x e
-  asked (Crashed dev lists how ∷ h) l c x e = asked h l.1 c x e
+  asked (_ ∷ h) l c x e = asked h l.1 c x e
 
   by-count : (h : List Entry) (name : ArrayVec ℕ) (t : ℕ) (dev : TargetId) (op : Op) (c : ℕ) (b q : Bool) → is_called host name ≡ b → nat_eq t c ≡ q → (b ≡ true → t ≡ suc (tickets host h)) → c ≤ (if b then suc (tickets host h) else tickets host h)
       → (c ≤ tickets host h → (x : Submission) × (submission host h c ≡ Some x)) → (x : Submission) × ((if b && q then Some (record { dev = dev; op = op }) else submission host h c) ≡ Some x)
@@ -163,16 +149,7 @@ module _ (s : Setup) (host : HostSetup) (mine : IsNamed s host) (ok : IsSetup s)
   submitted-there [] l c above le = absurd (omega arith)
   submitted-there (Submitted name t dev op ∷ h) l c above le =
       by-count h name t dev op c (is_called host name) (nat_eq t c) refl refl (λ e. (some-and (λ z. IsSubmitted s z h t dev op) (host_called s name) host (mine name e) l.0).next) le (λ m. submitted-there h l.1 c above m)
-  submitted-there (Refused name refusal ∷ h) l c above le = submitted-there h l.1 c above le
-  submitted-there (Sent name t number f ∷ h) l c above le = submitted-there h l.1 c above le
-  submitted-there (Injected number f ∷ h) l c above le = submitted-there h l.1 c above le
-  submitted-there (Arrived dev frame fate ∷ h) l c above le = submitted-there h l.1 c above le
-  submitted-there (Took name frame stale ∷ h) l c above le = submitted-there h l.1 c above le
-  submitted-there (Done name t outcome ∷ h) l c above le = submitted-there h l.1 c above le
-  submitted-there (Ticked ms ∷ h) l c above le = submitted-there h l.1 c above le
-  submitted-there (Lost frame ∷ h) l c above le = submitted-there h l.1 c above le
-  submitted-there (Armed dev which n mode ∷ h) l c above le = submitted-there h l.1 c above le
-  submitted-there (Crashed dev lists how ∷ h) l c above le = submitted-there h l.1 c above le
+  submitted-there (_ ∷ h) l c above le = submitted-there h l.1 c above le
 
 pub asked-of : (s : Setup) (host : HostSetup) (h : List Entry) → HasHost s host h → (c : ℕ) (x : Submission) → submission host h c ≡ Some x → IsAskable host x
 asked-of s host h x = asked s host (named s x.name host x.called) x.setup (host-there s x.name host x.called).0 h x.lawful
@@ -190,10 +167,7 @@ same-numbers a b e f = grind (arith, nat_tests)
 
 last-two : (a b c d : Bool) → (a && b && c && d) ≡ true → (c ≡ true) × (d ≡ true)
 last-two true true true true e = (refl, refl)
-last-two true true true false e = absurd (cc)
-last-two true true false d e = absurd (cc)
-last-two true false c d e = absurd (cc)
-last-two false b c d e = absurd (cc)
+last-two _ _ _ _ e = absurd (cc)
 
 -- a target that hears a request with a number of its own has that number
 heard-at : (station : Station) (h : Header) → is_heard station h ≡ true → h.id.major < 65535 → h.id.minor < 255 → same_id station.id h.id ≡ true

@@ -93,9 +93,8 @@ is-some-if true x o e = refl
 is-some-if false x o e = e
 
 finished-done : (sends : Option Sending) (done : Bool) → finished (stage sends done) ≡ true → done ≡ true
-finished-done None done e = absurd (cc)
 finished-done (Some s) true e = refl
-finished-done (Some s) false e = absurd (cc)
+finished-done _ _ e = absurd (cc)
 
 -- what is sent of a command after a frame of command `c`
 abbrev pub more : HostSetup → List Entry → ℕ → List ℕ → ℕ → Sending

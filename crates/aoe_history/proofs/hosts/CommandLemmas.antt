@@ -17,7 +17,7 @@ use Rattle.aoe_initiator.specs.HostLog.{after_end, after_send, as_sent, at_ticke
 use Rattle.aoe_initiator.specs.HostLog as log
 use Rattle.aoe_paths.specs.PathLog.{timeout_on}
 use Rattle.aoe_history.specs.declared.entry.Entry.{Entry}
-use Rattle.aoe_history.specs.declared.entry.Entry.TheVariants.{Submitted, Refused, Sent, Injected, Arrived, Took, Done, Ticked, Lost, Armed, Crashed}
+use Rattle.aoe_history.specs.declared.entry.Entry.TheVariants.{Submitted, Sent, Done, Ticked}
 use Rattle.aoe_history.specs.CommandView.{device_in, op_in, sends_of, timeout_at, upto, view, views, was_done}
 use Rattle.aoe_history.specs.Commands.{commands_of, log_of, path_ended, path_of, submission, tickets, Submission}
 use Rattle.aoe_history.specs.Frames.{clock}
@@ -271,15 +271,9 @@ pub known : (s : Setup) (host : HostSetup) → IsNamed s host → (h : List Entr
 known s host mine [] l = record { list = refl; time = refl; unsubmitted = λ c lt. refl; unsent = λ c lt. refl; undone = λ c lt. refl }
 known s host mine (Submitted name c dev op ∷ h) l =
     submitted-known host h name c dev op (is_called host name) refl (λ e. (some-and (λ x. IsSubmitted s x h c dev op) (host_called s name) host (mine name e) l.0).next) (known s host mine h l.1)
-known s host mine (Refused name refusal ∷ h) l = let k = known s host mine h l.1 in record { list = k.list; time = k.time; unsubmitted = k.unsubmitted; unsent = k.unsent; undone = k.undone }
 known s host mine (Sent name c number bytes ∷ h) l = let k = known s host mine h l.1 in
     sent-known host h name c number bytes (is_called host name) refl (λ e. sent-submitted s host h c number bytes k (some-and (λ x. IsSent s x h c number bytes) (host_called s name) host (mine name e) l.0)) k
-known s host mine (Injected number bytes ∷ h) l = let k = known s host mine h l.1 in record { list = k.list; time = k.time; unsubmitted = k.unsubmitted; unsent = k.unsent; undone = k.undone }
-known s host mine (Arrived dev frame fate ∷ h) l = let k = known s host mine h l.1 in record { list = k.list; time = k.time; unsubmitted = k.unsubmitted; unsent = k.unsent; undone = k.undone }
-known s host mine (Took name frame stale ∷ h) l = let k = known s host mine h l.1 in record { list = k.list; time = k.time; unsubmitted = k.unsubmitted; unsent = k.unsent; undone = k.undone }
 known s host mine (Done name c outcome ∷ h) l = let k = known s host mine h l.1 in
     done-known host h name c outcome (is_called host name) refl (λ e. done-submitted s host h c outcome k (some-and (λ x. IsDone s x h c outcome) (host_called s name) host (mine name e) l.0)) k
 known s host mine (Ticked ms ∷ h) l = ticked-known host h ms (known s host mine h l.1)
-known s host mine (Lost frame ∷ h) l = let k = known s host mine h l.1 in record { list = k.list; time = k.time; unsubmitted = k.unsubmitted; unsent = k.unsent; undone = k.undone }
-known s host mine (Armed dev which n mode ∷ h) l = let k = known s host mine h l.1 in record { list = k.list; time = k.time; unsubmitted = k.unsubmitted; unsent = k.unsent; undone = k.undone }
-known s host mine (Crashed dev lists how ∷ h) l = let k = known s host mine h l.1 in record { list = k.list; time = k.time; unsubmitted = k.unsubmitted; unsent = k.unsent; undone = k.undone }
+known s host mine (_ ∷ h) l = let k = known s host mine h l.1 in record { list = k.list; time = k.time; unsubmitted = k.unsubmitted; unsent = k.unsent; undone = k.undone }

@@ -5,7 +5,7 @@ use Rattle.aoe_base.specs.declared.address.TargetId.{TargetId}
 use Rattle.aoe_frame.specs.declared.header.Header.{Header}
 use Rattle.aoe_frame.specs.Header.{fields}
 use Rattle.aoe_history.specs.declared.entry.Entry.{Entry}
-use Rattle.aoe_history.specs.declared.entry.Entry.TheVariants.{Submitted, Refused, Sent, Injected, Arrived, Took, Done, Ticked, Lost, Armed, Crashed}
+use Rattle.aoe_history.specs.declared.entry.Entry.TheVariants.{Submitted, Sent, Injected, Arrived, Done}
 use Rattle.aoe_history.specs.declared.entry.Fate.{Fate}
 use Rattle.aoe_history.specs.declared.entry.Fate.TheVariants.{Ignored, Silent, Cut, Replied}
 use Rattle.aoe_history.specs.CommandView.{view}
@@ -82,7 +82,6 @@ module _ (s : Setup) (host : HostSetup) (mine : IsNamed s host) (ok : IsSetup s)
   }
   holds (Submitted name c dev op ∷ h) l = kept h (Submitted name c dev op ∷ h)
       (submitted-keeps host h name c dev op (λ e. (some-and (λ x. IsSubmitted s x h c dev op) (host_called s name) host (mine name e) l.0).next)) refl (holds h l.1)
-  holds (Refused name refusal ∷ h) l = kept h (Refused name refusal ∷ h) (record { sends = λ c. refl; done = λ c e. e; ended = λ c e. inl e; time = omega arith; count = omega arith; submissions = λ c le. refl }) refl (holds h l.1)
   holds (Sent name c number f ∷ h) l = sent h name c number f l.1 l.0 (is_called host name) refl (holds h l.1)
   holds (Injected number f ∷ h) l =
       let x = holds h l.1 in
@@ -94,13 +93,9 @@ module _ (s : Setup) (host : HostSetup) (mine : IsNamed s host) (ok : IsSetup s)
         gone = keeps-gone s.life host h (Injected number f ∷ h) k x.base x.gone;
       }
   holds (Arrived dev frame fate ∷ h) l = arrived h dev frame fate l.0 (holds h l.1)
-  holds (Took name frame stale ∷ h) l = kept h (Took name frame stale ∷ h) (record { sends = λ c. refl; done = λ c e. e; ended = λ c e. inl e; time = omega arith; count = omega arith; submissions = λ c le. refl }) refl (holds h l.1)
   holds (Done name c outcome ∷ h) l = kept h (Done name c outcome ∷ h)
       (done-keeps host h name c outcome (λ e. (done-flies s host h c outcome (known s host mine h l.1) (some-and (λ x. IsDone s x h c outcome) (host_called s name) host (mine name e) l.0)).0)) refl (holds h l.1)
-  holds (Ticked ms ∷ h) l = kept h (Ticked ms ∷ h) (record { sends = λ c. refl; done = λ c e. e; ended = λ c e. inl e; time = omega arith; count = omega arith; submissions = λ c le. refl }) refl (holds h l.1)
-  holds (Lost frame ∷ h) l = kept h (Lost frame ∷ h) (record { sends = λ c. refl; done = λ c e. e; ended = λ c e. inl e; time = omega arith; count = omega arith; submissions = λ c le. refl }) refl (holds h l.1)
-  holds (Armed dev which n mode ∷ h) l = kept h (Armed dev which n mode ∷ h) (record { sends = λ c. refl; done = λ c e. e; ended = λ c e. inl e; time = omega arith; count = omega arith; submissions = λ c le. refl }) refl (holds h l.1)
-  holds (Crashed dev lists how ∷ h) l = kept h (Crashed dev lists how ∷ h) (record { sends = λ c. refl; done = λ c e. e; ended = λ c e. inl e; time = omega arith; count = omega arith; submissions = λ c le. refl }) refl (holds h l.1)
+  holds (x ∷ h) l = kept h (x ∷ h) (record { sends = λ c. refl; done = λ c e. e; ended = λ c e. inl e; time = omega arith; count = omega arith; submissions = λ c le. refl }) refl (holds h l.1)
 
 pub known-of : (s : Setup) (host : HostSetup) (h : List Entry) → HasHost s host h → Known host h
 known-of s host h x = known s host (named s x.name host x.called) h x.lawful

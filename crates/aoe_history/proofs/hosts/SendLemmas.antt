@@ -39,18 +39,16 @@ pub record IsPast (life now : ℕ) (earlier later : Command) : Type 0 where
 
 past-of : (fin eff res gone : Bool) → (not fin || ((eff && res) && not gone)) ≡ false → (fin ≡ true) × (eff ≡ true → res ≡ true → gone ≡ true)
 past-of true true true true e = (refl, λ p q. refl)
-past-of true true true false e = absurd (cc)
 past-of true true false gone e = (refl, λ p q. absurd (cc))
 past-of true false res gone e = (refl, λ p q. absurd (cc))
-past-of false eff res gone e = absurd (cc)
+past-of _ _ _ _ e = absurd (cc)
 
 lt-true : (a b : ℕ) → a < b → nat_lt a b ≡ true
 lt-true a b lt = grind (arith, nat_tests)
 
 kept-parts : (a b c : Bool) → ((a && b) && c) ≡ false → a ≡ true → b ≡ true → c ≡ false
 kept-parts true true c e p q = e
-kept-parts true false c e p q = absurd (cc)
-kept-parts false b c e p q = absurd (cc)
+kept-parts _ _ c e p q = absurd (cc)
 
 pub past-by : (life now : ℕ) (earlier later : Command) → keeps_back life now earlier later ≡ false → earlier.ticket.0 < later.ticket.0 → conflict earlier later ≡ true → IsPast life now earlier later
 past-by life now earlier later e lt co =

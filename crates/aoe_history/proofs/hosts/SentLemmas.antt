@@ -1,5 +1,5 @@
 -- What a host sends: the request of a command that is next, with its tag.
-use Rattle.std.proofs.Common.{ℕ, zero, suc, ◌+◌, ◌/◌, ◌%◌, ◌<◌, ◌≡◌, inl, cond, Bool, true, false, List, [], ◌∷◌, length, Option, Some, None, refl, sym, subst, ap, ◌∙◌, arith, Contains}
+use Rattle.std.proofs.Common.{ℕ, zero, suc, ◌+◌, ◌/◌, ◌%◌, ◌<◌, ◌≡◌, inl, cond, Bool, true, false, List, [], ◌∷◌, length, Option, Some, refl, sym, subst, ap, ◌∙◌, arith, Contains}
 use Rattle.std.specs.Prelude.{slice_get}
 use Rattle.std.specs.List.{find}
 use Rattle.std.specs.Option.{option_and_then, option_map}
@@ -51,12 +51,11 @@ device-at ports life now n cs (a ∷ ds) zero d e = ap (λ (o : Option Device). 
 device-at ports life now n cs (a ∷ ds) (suc k) d e = device-at ports life now (n + 1) cs ds k d e
 
 pair-split : (x y : Option Mac) (pair : Mac × Mac) → option_and_then {U = Mac × Mac} (λ l. option_map {U = Mac × Mac} (λ r. (l, r)) y) x ≡ Some pair → (x ≡ Some pair.0) × (y ≡ Some pair.1)
-pair-split None y pair e = absurd (cc)
-pair-split (Some l) None pair e = absurd (cc)
 pair-split (Some l) (Some r) pair e =
     let found_pair : Mac × Mac = (l, r) in
     let same : found_pair ≡ pair = cc in
     (ap (λ (p : Mac × Mac). Some p.0) same, ap (λ (p : Mac × Mac). Some p.1) same)
+pair-split _ _ pair e = absurd (cc)
 
 -- what is spelled for a command is its request
 pub spelled-request : (s : Setup) (host : HostSetup) (h : List Entry) (op : Op) (device : DeviceNo) (path : PathNo) (tag : ℕ) (f : List ℕ) → tag < 4294967296 → spelled_for (host_after s host h) op device path tag ≡ Some f → IsRequest host device op tag f

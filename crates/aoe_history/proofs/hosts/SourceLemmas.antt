@@ -25,7 +25,7 @@ use Rattle.aoe_target.specs.declared.heard.Effect.{Effect}
 use Rattle.aoe_target.specs.declared.heard.Effect.TheVariants as effect
 use Rattle.aoe_target.specs.declared.station.Station.{Station}
 use Rattle.aoe_target.specs.declared.verdict.Verdict.{Verdict}
-use Rattle.aoe_target.specs.declared.verdict.Verdict.TheVariants.{Ata, Ignored, Lists, Refused, Silent}
+use Rattle.aoe_target.specs.declared.verdict.Verdict.TheVariants.{Ata, Ignored, Lists, Refused}
 use Rattle.aoe_target.specs.Device.{State}
 use Rattle.aoe_target.specs.Law.{replied, step_of, Allows, AllowsAta, AllowsStep}
 use Rattle.aoe_target.specs.Reply.{data_of, error_args, identity, repeated, reply_port, spelled}
@@ -81,11 +81,10 @@ step-replies station f r effect.EditFault (step.Change next args) x = record { e
 step-replies station f r e (step.Change next args) x = absurd x
 
 pub replies : (station : Station) (k : State) (f r : List ℕ) (e : Effect) (v : Verdict) → Allows station k f v (replied e r) → IsReply station f r
-replies station k f r e Ignored x = absurd (cc)
-replies station k f r e Silent x = absurd (cc)
 replies station k f r e (Refused error) x = record { error = Some error; args = repeated f; is = same-reply e effect.None r (spelled station (fields f) (Some error) (repeated f)) x }
 replies station k f r e (Lists c) x = step-replies station f r e (step_of station k.lists f c) x
 replies station k f r e (Ata d) x = ata-replies station k.sectors f r e d.args d.answer x
+replies station k f r e _ x = absurd (cc)
 
 -- a frame that is replied to has a header
 pub has-head : (station : Station) (k : State) (f r : List ℕ) (e : Effect) → Allows station k f (verdict station k.lists f) (replied e r) → is_some (head f) ≡ true

@@ -37,20 +37,12 @@ use Rattle.aoe_history.proofs.LogicLemmas.{not-true, some-and}
 -- ANSWERS AND OUTCOMES
 
 written-answer : (a : Answer) (args : List ℕ) → outcome.Written ≡ outcome_of a args → a ≡ Written
-written-answer (Data len) args e = absurd (cc)
 written-answer Written args e = refl
-written-answer Flushed args e = absurd (cc)
-written-answer (Told len) args e = absurd (cc)
-written-answer (AtaError status error) args e = absurd (cc)
-written-answer (AoeError error) args e = absurd (cc)
+written-answer _ args e = absurd (cc)
 
 flushed-answer : (a : Answer) (args : List ℕ) → outcome.Flushed ≡ outcome_of a args → a ≡ Flushed
-flushed-answer (Data len) args e = absurd (cc)
-flushed-answer Written args e = absurd (cc)
 flushed-answer Flushed args e = refl
-flushed-answer (Told len) args e = absurd (cc)
-flushed-answer (AtaError status error) args e = absurd (cc)
-flushed-answer (AoeError error) args e = absurd (cc)
+flushed-answer _ args e = absurd (cc)
 
 not-data : (b : Bool) (len : ℕ) → (if b then Some (Data len) else None) ≡ Some Flushed → ⊥
 not-data true len e = cc
@@ -69,9 +61,8 @@ by-flags true error o e = absurd (cc)
 by-flags false error o e = e
 
 by-registers : (there failed : Bool) (status error : ℕ) (o : Option Answer) → (if there then (if failed then Some (AtaError status error) else o) else None) ≡ Some Flushed → o ≡ Some Flushed
-by-registers true true status error o e = absurd (cc)
 by-registers true false status error o e = e
-by-registers false failed status error o e = absurd (cc)
+by-registers _ _ status error o e = absurd (cc)
 
 pub flushed-op : (op : Op) (h : Header) (args : List ℕ) → answer op h args ≡ Some Flushed → op ≡ Flush
 unfolding answer
@@ -133,8 +124,6 @@ module _ (s : Setup) (host : HostSetup) (h : List Entry) (run : HasHost s host h
       go : (t : Bool) → (is_called host name && not (spoiled host slot h sct)) ≡ t → (w : Option (List ℕ)) → wr host slot h sct c ≡ w
           → Sector (IsFlying host (Done name c outcome.Written ∷ h)) (IsUnderWay s.life host (Done name c outcome.Written ∷ h)) (wr host slot h sct) (landed host slot h sct) (known_after slot h sct) (marked_after slot h sct)
           (alone host slot h sct) (safe host slot h sct) (spoiled host slot h sct) (if t then only w (allowed host slot h sct) else allowed host slot h sct)
-      go false e w we = plain-at outcome.Written law
-      go true e None we = plain-at outcome.Written law
       go true e (Some v) we =
           let p = and-parts (is_called host name) (not (spoiled host slot h sct)) e in
           let fl = flies outcome.Written law p.0 in
@@ -146,6 +135,7 @@ module _ (s : Setup) (host : HostSetup) (h : List Entry) (run : HasHost s host h
           (λ d f. flying-before host h (Done name c outcome.Written ∷ h) d k f) (λ d a. active-before s.life host h (Done name c outcome.Written ∷ h) d k a)
           fl we (acknowledged v law p.0 we) (not-true (spoiled host slot h sct) p.1)
           (λ d w a wd. one-write s.life host h hold.base hold.gone slot sct d c a.0 ac.0 w v a.1 ac.1 a.2 ac.2 wd we)
+      go _ e _ we = plain-at outcome.Written law
 
   -- A FLUSH
   pub flushed-at : IsSomeAnd (host_called s name) (λ z. IsDone s z h c outcome.Flushed) → At s.life host slot (Done name c outcome.Flushed ∷ h) sct
@@ -192,10 +182,9 @@ module _ (s : Setup) (host : HostSetup) (h : List Entry) (run : HasHost s host h
     where
       go : (c2 : ℕ) (span : Span) → IsFlying host h c2 → AsksAt slot (submission host h c2) (Read span) → in_span span sct ≡ true → (v : List ℕ) → IsAllowed (Some v) (allowed host slot h sct) → (t : Bool) → (is_called host name && not (spoiled host slot h sct)) ≡ t
           → (w : Option (List ℕ)) → wr host slot h sct c ≡ w → IsAllowed (Some v) (if t then only w (allowed host slot h sct) else allowed host slot h sct)
-      go c2 span fl asks i v m false e w we = m
-      go c2 span fl asks i v m true e None we = m
       go c2 span fl asks i v m true e (Some w) we =
           let p = and-parts (is_called host name) (not (spoiled host slot h sct)) e in
           let writer = flies outcome.Written law p.0 in
           let hold = holds-of s host h run in
           absurd (none-beside-read s.life host h hold.base hold.gone slot span sct c2 c fl.0 writer.0 w fl.1 writer.1 fl.2 writer.2 asks i we)
+      go c2 span fl asks i v m _ e _ we = m

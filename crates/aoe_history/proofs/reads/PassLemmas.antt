@@ -155,8 +155,7 @@ sent-passes life host slot h name c number f s b = record {
   where
     more : (t : Bool) (w : Option (List ℕ)) (v : List ℕ) → IsAllowed (Some v) (allowed host slot h s) → IsAllowed (Some v) (if t then also w (allowed host slot h s) else allowed host slot h s)
     more true (Some w) v x = allowed-also (Some v) w (allowed host slot h s) x
-    more true None v x = x
-    more false w v x = x
+    more _ _ v x = x
 
     again : (d : ℕ) (x : Sending) → sends_of host h d ≡ Some x → (t : Bool) → (is_called host name && nat_eq c d) ≡ t → (y : Sending) × (sends_of host (Sent name c number f ∷ h) d ≡ Some y) × (y.tag ≡ x.tag) × (x.last.0 ≤ y.last.0)
     again d x e true q =

@@ -11,11 +11,11 @@ use Rattle.aoe_initiator.specs.declared.op.Op.TheVariants as op
 use Rattle.aoe_initiator.specs.declared.outcome.Outcome.{Outcome}
 use Rattle.aoe_initiator.specs.declared.outcome.Outcome.TheVariants as outcome
 use Rattle.aoe_initiator.specs.declared.response.Answer.{Answer}
-use Rattle.aoe_initiator.specs.declared.response.Answer.TheVariants.{Data, Written, Flushed, Told, AtaError, AoeError}
+use Rattle.aoe_initiator.specs.declared.response.Answer.TheVariants.{Data}
 use Rattle.aoe_initiator.specs.Response.{outcome_of}
 use Rattle.aoe_target.specs.Sectors.{in_span, value_in}
 use Rattle.aoe_history.specs.declared.entry.Entry.{Entry}
-use Rattle.aoe_history.specs.declared.entry.Entry.TheVariants.{Submitted, Refused, Sent, Injected, Arrived, Took, Done, Ticked, Lost, Armed, Crashed}
+use Rattle.aoe_history.specs.declared.entry.Entry.TheVariants.{Submitted, Sent, Injected, Arrived, Done, Crashed}
 use Rattle.aoe_history.specs.declared.entry.Fate.{Fate}
 use Rattle.aoe_history.specs.declared.entry.Fate.TheVariants.{Ignored, Silent, Cut, Replied}
 use Rattle.aoe_history.specs.Commands.{submission, was_sent, Submission}
@@ -180,36 +180,16 @@ module _ (s : Setup) (host : HostSetup) (slot : SlotSetup) (ok : IsSetup s) (own
         replies = one-more s.life host slot (Injected number f ∷ h) sct (record { bytes = f; birth = clock h }) (frames h) (λ to. absurd (foreign-no-reply s host slot h number f there l.0 to))
             (by-keeping h (Injected number f ∷ h) l.1 k (λ d. refl) refl refl refl x);
       }
-  kept (Refused name refusal ∷ h) l =
+  kept (e ∷ h) l =
       let x = kept h l.1 in
-      let same : Keeps host h (Refused name refusal ∷ h) = record { sends = λ d. refl; done = λ d e. e; ended = λ d e. inl e; time = omega arith; count = omega arith; submissions = λ d le. refl } in
-      record { at = still h (Refused name refusal ∷ h) l.1 same x; replies = by-keeping h (Refused name refusal ∷ h) l.1 same (λ d. refl) refl refl refl x }
-  kept (Took name frame stale ∷ h) l =
-      let x = kept h l.1 in
-      let same : Keeps host h (Took name frame stale ∷ h) = record { sends = λ d. refl; done = λ d e. e; ended = λ d e. inl e; time = omega arith; count = omega arith; submissions = λ d le. refl } in
-      record { at = still h (Took name frame stale ∷ h) l.1 same x; replies = by-keeping h (Took name frame stale ∷ h) l.1 same (λ d. refl) refl refl refl x }
-  kept (Ticked ms ∷ h) l =
-      let x = kept h l.1 in
-      let same : Keeps host h (Ticked ms ∷ h) = record { sends = λ d. refl; done = λ d e. e; ended = λ d e. inl e; time = omega arith; count = omega arith; submissions = λ d le. refl } in
-      record { at = still h (Ticked ms ∷ h) l.1 same x; replies = by-keeping h (Ticked ms ∷ h) l.1 same (λ d. refl) refl refl refl x }
-  kept (Lost frame ∷ h) l =
-      let x = kept h l.1 in
-      let same : Keeps host h (Lost frame ∷ h) = record { sends = λ d. refl; done = λ d e. e; ended = λ d e. inl e; time = omega arith; count = omega arith; submissions = λ d le. refl } in
-      record { at = still h (Lost frame ∷ h) l.1 same x; replies = by-keeping h (Lost frame ∷ h) l.1 same (λ d. refl) refl refl refl x }
-  kept (Armed dev which k mode ∷ h) l =
-      let x = kept h l.1 in
-      let same : Keeps host h (Armed dev which k mode ∷ h) = record { sends = λ d. refl; done = λ d e. e; ended = λ d e. inl e; time = omega arith; count = omega arith; submissions = λ d le. refl } in
-      record { at = still h (Armed dev which k mode ∷ h) l.1 same x; replies = by-keeping h (Armed dev which k mode ∷ h) l.1 same (λ d. refl) refl refl refl x }
+      let same : Keeps host h (e ∷ h) = record { sends = λ d. refl; done = λ d e. e; ended = λ d e. inl e; time = omega arith; count = omega arith; submissions = λ d le. refl } in
+      record { at = still h (e ∷ h) l.1 same x; replies = by-keeping h (e ∷ h) l.1 same (λ d. refl) refl refl refl x }
 
 -- WHAT IS READ
 
 data-answer : (a : Answer) (args bytes : List ℕ) → outcome.Read bytes ≡ outcome_of a args → (len : ℕ) × (a ≡ Data len) × (bytes ≡ slice_range args 12 (12 + len))
 data-answer (Data len) args bytes e = (len, refl, (let q : bytes ≡ slice_range args 12 (12 + len) = cc in q))
-data-answer Written args bytes e = absurd (cc)
-data-answer Flushed args bytes e = absurd (cc)
-data-answer (Told len) args bytes e = absurd (cc)
-data-answer (AtaError status error) args bytes e = absurd (cc)
-data-answer (AoeError error) args bytes e = absurd (cc)
+data-answer _ args bytes e = absurd (cc)
 
 reads-allowed : (s : Setup) (h : List Entry) (name : ArrayVec ℕ) (c : ℕ) (bytes : List ℕ) → IsSetup s → IsLawful s (Done name c (outcome.Read bytes) ∷ h) → (host : HostSetup) (slot : SlotSetup) → host_called s name ≡ Some host → Contains s.slots slot
     → (o : Option Submission) → submission host h c ≡ o → ReadsAllowed host slot h o bytes
@@ -230,23 +210,9 @@ reads-allowed s h name c bytes ok l host slot called there (Some x) sub = λ spa
 
 finished-reads : (s : Setup) (h : List Entry) (name : ArrayVec ℕ) (c : ℕ) (o : Outcome) → IsSetup s → IsLawful s (Done name c o ∷ h) → KeepsReadLaw s h (Done name c o)
 finished-reads s h name c (outcome.Read bytes) ok l = λ host slot called there. reads-allowed s h name c bytes ok l host slot called there (submission host h c) refl
-finished-reads s h name c outcome.Written ok l = tt
-finished-reads s h name c outcome.Flushed ok l = tt
-finished-reads s h name c (outcome.Told bytes) ok l = tt
-finished-reads s h name c (outcome.AtaError status error) ok l = tt
-finished-reads s h name c (outcome.AoeError error) ok l = tt
-finished-reads s h name c (outcome.GaveUp first now) ok l = tt
+finished-reads s h name c _ ok l = tt
 
 pub read-law : (s : Setup) (h : List Entry) → IsSetup s → IsLawful s h → HasReadLaw s h
 read-law s [] ok l = tt
 read-law s (Done name c o ∷ h) ok l = (finished-reads s h name c o ok l, read-law s h ok l.1)
-read-law s (Submitted name c dev op ∷ h) ok l = (tt, read-law s h ok l.1)
-read-law s (Refused name refusal ∷ h) ok l = (tt, read-law s h ok l.1)
-read-law s (Sent name c number f ∷ h) ok l = (tt, read-law s h ok l.1)
-read-law s (Injected number f ∷ h) ok l = (tt, read-law s h ok l.1)
-read-law s (Arrived dev k fate ∷ h) ok l = (tt, read-law s h ok l.1)
-read-law s (Took name frame stale ∷ h) ok l = (tt, read-law s h ok l.1)
-read-law s (Ticked ms ∷ h) ok l = (tt, read-law s h ok l.1)
-read-law s (Lost frame ∷ h) ok l = (tt, read-law s h ok l.1)
-read-law s (Armed dev which k mode ∷ h) ok l = (tt, read-law s h ok l.1)
-read-law s (Crashed dev lists how ∷ h) ok l = (tt, read-law s h ok l.1)
+read-law s (_ ∷ h) ok l = (tt, read-law s h ok l.1)

@@ -11,9 +11,9 @@ use Rattle.aoe_base.specs.Addresses.{holds}
 use Rattle.aoe_frame.specs.declared.header.Header.{Header}
 use Rattle.aoe_frame.specs.Header.{fields, header_bytes, padded, Fits}
 use Rattle.aoe_initiator.specs.declared.op.Op.{Op}
-use Rattle.aoe_initiator.specs.declared.op.Op.TheVariants.{Read, Write, Flush, Identify, Config, Masks, Reserve}
+use Rattle.aoe_initiator.specs.declared.op.Op.TheVariants.{Read, Write, Flush}
 use Rattle.aoe_initiator.specs.declared.response.Answer.{Answer}
-use Rattle.aoe_initiator.specs.declared.response.Answer.TheVariants.{Data, Written, Flushed, Told, AtaError, AoeError}
+use Rattle.aoe_initiator.specs.declared.response.Answer.TheVariants.{Data, Written, Flushed}
 use Rattle.aoe_initiator.specs.HostLaw.{same_id}
 use Rattle.aoe_initiator.specs.Op.{command_of}
 use Rattle.aoe_initiator.specs.Request.{request, request_header}
@@ -69,20 +69,17 @@ reply-destination station f r x len = ap (λ (z : List ℕ). (fields z).dst) x.i
 
 -- a sync leaves no mark
 step-synced : (station : Station) (f r : List ℕ) (x : Step) → AllowsStep station f x (replied effect.Synced r) → ⊥
-step-synced station f r step.Silent a = cc
-step-synced station f r (step.Reply error args) a = cc
 step-synced station f r (step.Change next args) a = a
+step-synced station f r _ a = cc
 
 no-mark : (o : Option Sectors) (s : ℕ) → marked_in (option_map settles o) s ≡ false
 no-mark None s = refl
 no-mark (Some x) s = refl
 
 synced-clean : (station : Station) (k : State) (f r : List ℕ) (v : Verdict) (s : ℕ) → Allows station k f v (replied effect.Synced r) → marked_in (after station f v (replied effect.Synced r) k).sectors s ≡ false
-synced-clean station k f r verdict.Ignored s a = absurd (cc)
-synced-clean station k f r verdict.Silent s a = absurd (cc)
-synced-clean station k f r (verdict.Refused error) s a = absurd (cc)
 synced-clean station k f r (verdict.Lists c) s a = absurd (step-synced station f r (step_of station k.lists f c) a)
 synced-clean station k f r (verdict.Ata d) s a = no-mark k.sectors s
+synced-clean station k f r _ s a = absurd (cc)
 
 inside-at : (at count s : ℕ) → (nat_le at s && nat_lt s (at + count)) ≡ true → (at + (s - at) ≡ s) × (s - at < count)
 inside-at at count s e = (grind (arith, nat_tests), grind (arith, nat_tests))
@@ -104,9 +101,7 @@ shown-allowed life host slot h s span data_bytes x inside al tells =
 
 all-three : (a b c r : Bool) → a ≡ true → b ≡ true → c ≡ true → ((a && b && c) || r) ≡ true
 all-three true true true r p q e = refl
-all-three true true false r p q e = absurd (cc)
-all-three true false c r p q e = absurd (cc)
-all-three false b c r p q e = absurd (cc)
+all-three _ _ _ r p q e = absurd (cc)
 
 module _ (s : Setup) (host : HostSetup) (h : List Entry) (run : HasHost s host h) (slot : SlotSetup) (there : Contains s.slots slot) (sct : ℕ) (x : At s.life host slot h sct) (dev : TargetId) (k : ℕ) (e : Effect) (number : ℕ) (r : List ℕ) where
   abbrev n : List Entry
@@ -128,29 +123,11 @@ module _ (s : Setup) (host : HostSetup) (h : List Entry) (run : HasHost s host h
   by-op c f (Write at bytes) Written is same law sent tells = λ inside.
       all-three (is_slot slot dev) (stores (Replied e number r) sct) (is_some (sends_of host h c)) (landed host slot h sct c) is
       (subst (λ (z : Effect). stores (Replied z number r) sct ≡ true) (sym (tells refl)) inside) sent
-  by-op c f (Write at bytes) (Data len) is same law sent tells = tt
-  by-op c f (Write at bytes) Flushed is same law sent tells = tt
-  by-op c f (Write at bytes) (Told len) is same law sent tells = tt
-  by-op c f (Write at bytes) (AtaError status error) is same law sent tells = tt
-  by-op c f (Write at bytes) (AoeError error) is same law sent tells = tt
   by-op c f Flush Flushed is same law sent tells = λ al. clean f is same law (tells refl)
-  by-op c f Flush (Data len) is same law sent tells = tt
-  by-op c f Flush Written is same law sent tells = tt
-  by-op c f Flush (Told len) is same law sent tells = tt
-  by-op c f Flush (AtaError status error) is same law sent tells = tt
-  by-op c f Flush (AoeError error) is same law sent tells = tt
   by-op c f (Read span) (Data len) is same law sent tells = λ inside al.
       allowed-unless (is_slot slot dev && breaks (verdict_after slot h (bytes_of h k)) (Replied e number r) sct) (value_in span (slice_range (drop 24 r) 12 (12 + len)) sct) (allowed host slot h sct)
       (shown-allowed s.life host slot h sct span (slice_range (drop 24 r) 12 (12 + len)) x inside (was_alone al) (tells refl).1)
-  by-op c f (Read span) Written is same law sent tells = tt
-  by-op c f (Read span) Flushed is same law sent tells = tt
-  by-op c f (Read span) (Told len) is same law sent tells = tt
-  by-op c f (Read span) (AtaError status error) is same law sent tells = tt
-  by-op c f (Read span) (AoeError error) is same law sent tells = tt
-  by-op c f Identify a is same law sent tells = tt
-  by-op c f (Config ccmd text) a is same law sent tells = tt
-  by-op c f (Masks edit dirs) a is same law sent tells = tt
-  by-op c f (Reserve rcmd list) a is same law sent tells = tt
+  by-op c f _ _ is same law sent tells = tt
 
   pub new-reply : IsSomeAnd (slot_of s dev) (λ z. IsArrival s z h k (Replied e number r)) → IsReplyTo host slot r → IsTrue s.life host slot n sct (record { bytes = r; birth = clock h })
   new-reply law to =

@@ -4,9 +4,9 @@ use Rattle.aoe_base.specs.declared.sectors.Span.{Span}
 use Rattle.aoe_base.specs.Addresses.{holds}
 use Rattle.aoe_frame.specs.Header.{fields}
 use Rattle.aoe_initiator.specs.declared.op.Op.{Op}
-use Rattle.aoe_initiator.specs.declared.op.Op.TheVariants.{Read, Write, Flush, Identify, Config, Masks, Reserve}
+use Rattle.aoe_initiator.specs.declared.op.Op.TheVariants.{Read, Write, Flush}
 use Rattle.aoe_initiator.specs.declared.response.Answer.{Answer}
-use Rattle.aoe_initiator.specs.declared.response.Answer.TheVariants.{Data, Written, Flushed, Told, AtaError, AoeError}
+use Rattle.aoe_initiator.specs.declared.response.Answer.TheVariants.{Data, Written, Flushed}
 use Rattle.aoe_initiator.specs.HostLaw.{same_id}
 use Rattle.aoe_initiator.specs.HostLog.{Sending}
 use Rattle.aoe_initiator.specs.Op.{span_of}
@@ -35,27 +35,9 @@ says-passes : (l al m : Bool) (may : Option (List (List ℕ))) (l2 al2 m2 : Bool
     → ((span : Span) → op ≡ Read span → in_span span s ≡ true → (v : List ℕ) → (al ≡ true → IsAllowed (Some v) may) → al2 ≡ true → IsAllowed (Some v) may2)
     → SaysOf l al m may s op a f → SaysOf l2 al2 m2 may2 s op a f
 says-passes l al m may l2 al2 m2 may2 s (Write at bytes) Written f w fl rd x = λ i. w (x i)
-says-passes l al m may l2 al2 m2 may2 s (Write at bytes) (Data len) f w fl rd x = tt
-says-passes l al m may l2 al2 m2 may2 s (Write at bytes) Flushed f w fl rd x = tt
-says-passes l al m may l2 al2 m2 may2 s (Write at bytes) (Told len) f w fl rd x = tt
-says-passes l al m may l2 al2 m2 may2 s (Write at bytes) (AtaError status error) f w fl rd x = tt
-says-passes l al m may l2 al2 m2 may2 s (Write at bytes) (AoeError error) f w fl rd x = tt
 says-passes l al m may l2 al2 m2 may2 s Flush Flushed f w fl rd x = fl refl x
-says-passes l al m may l2 al2 m2 may2 s Flush Written f w fl rd x = tt
-says-passes l al m may l2 al2 m2 may2 s Flush (Data len) f w fl rd x = tt
-says-passes l al m may l2 al2 m2 may2 s Flush (Told len) f w fl rd x = tt
-says-passes l al m may l2 al2 m2 may2 s Flush (AtaError status error) f w fl rd x = tt
-says-passes l al m may l2 al2 m2 may2 s Flush (AoeError error) f w fl rd x = tt
 says-passes l al m may l2 al2 m2 may2 s (Read span) (Data len) f w fl rd x = λ i. rd span refl i (value_in span (slice_range (drop 24 f) 12 (12 + len)) s) (x i)
-says-passes l al m may l2 al2 m2 may2 s (Read span) Written f w fl rd x = tt
-says-passes l al m may l2 al2 m2 may2 s (Read span) Flushed f w fl rd x = tt
-says-passes l al m may l2 al2 m2 may2 s (Read span) (Told len) f w fl rd x = tt
-says-passes l al m may l2 al2 m2 may2 s (Read span) (AtaError status error) f w fl rd x = tt
-says-passes l al m may l2 al2 m2 may2 s (Read span) (AoeError error) f w fl rd x = tt
-says-passes l al m may l2 al2 m2 may2 s Identify a f w fl rd x = tt
-says-passes l al m may l2 al2 m2 may2 s (Config ccmd text) a f w fl rd x = tt
-says-passes l al m may l2 al2 m2 may2 s (Masks edit dirs) a f w fl rd x = tt
-says-passes l al m may l2 al2 m2 may2 s (Reserve rcmd list) a f w fl rd x = tt
+says-passes l al m may l2 al2 m2 may2 s _ _ f w fl rd x = tt
 
 -- a reply is to a command that was sent, and says what is so while the command flies
 pub record IsTrue (life : ℕ) (host : HostSetup) (slot : SlotSetup) (h : List Entry) (s : ℕ) (r : SentFrame) : Type 0 where

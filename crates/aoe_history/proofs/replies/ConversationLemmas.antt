@@ -15,7 +15,7 @@ use Rattle.aoe_frame.specs.declared.header.Header.{Header}
 use Rattle.aoe_frame.specs.Header.{fields, Fits}
 use Rattle.aoe_base.specs.Refusal.{code_of_error}
 use Rattle.aoe_initiator.specs.declared.op.Op.{Op}
-use Rattle.aoe_initiator.specs.declared.op.Op.TheVariants.{Read, Write, Flush, Identify, Config, Masks, Reserve}
+use Rattle.aoe_initiator.specs.declared.op.Op.TheVariants.{Read, Write, Flush}
 use Rattle.aoe_initiator.specs.declared.response.Answer.{Answer}
 use Rattle.aoe_initiator.specs.declared.response.Answer.TheVariants.{Data, AtaError, AoeError}
 use Rattle.aoe_initiator.specs.Op.{command_of, span_of}
@@ -25,7 +25,7 @@ use Rattle.aoe_target.specs.declared.heard.Effect.{Effect}
 use Rattle.aoe_target.specs.declared.heard.Effect.TheVariants as effect
 use Rattle.aoe_target.specs.declared.station.Station.{Station}
 use Rattle.aoe_target.specs.declared.verdict.Verdict.{Verdict}
-use Rattle.aoe_target.specs.declared.verdict.Verdict.TheVariants.{Ata, Ignored, Lists, Refused, Silent}
+use Rattle.aoe_target.specs.declared.verdict.Verdict.TheVariants.{Ata, Lists, Refused}
 use Rattle.aoe_target.specs.Device.{State}
 use Rattle.aoe_target.specs.Law.{replied, Allows, AllowsAta, Fate}
 use Rattle.aoe_target.specs.Reply.{ata_reply, data_of, data_reply, repeated, spelled}
@@ -89,46 +89,28 @@ read-by : (b : Bool) (station : Station) (h : Header) (k : State) (e : Effect) (
     → AllowsAta station k.sectors h args (if b then Give span else NotFound) (replied e reply) → TellsTruly (Read span) k e reply a
 read-by true station h k effect.None reply a span args fits can says x = read-told station h k effect.None reply a span args fits can says x.1 x.2 refl
 read-by true station h k effect.ReadFault reply a span args fits can says x = failed (Read span) station h k effect.ReadFault reply a refl fits can says args outcome.Uncorrectable refl x
-read-by true station h k (effect.Wrote s) reply a span args fits can says x = absurd x
-read-by true station h k effect.Synced reply a span args fits can says x = absurd x
-read-by true station h k effect.Edited reply a span args fits can says x = absurd x
-read-by true station h k (effect.WriteFault s) reply a span args fits can says x = absurd x
-read-by true station h k effect.SyncFault reply a span args fits can says x = absurd x
-read-by true station h k effect.EditFault reply a span args fits can says x = absurd x
 read-by false station h k e reply a span args fits can says x = failed (Read span) station h k e reply a refl fits can says args outcome.NotFound refl (same-reply e effect.None reply (ata_reply station h args outcome.NotFound) x)
+read-by true station h k _ reply a span args fits can says x = absurd x
 
 write-by : (b : Bool) (station : Station) (h : Header) (k : State) (e : Effect) (reply : List ℕ) (a : Answer) (at : ℕ) (bytes : List ℕ) (args : AtaArgs) → Fits h → CanReply station h → answer (Write at bytes) (fields reply) (drop 24 reply) ≡ Some a
     → AllowsAta station k.sectors h args (if b then Put (span_of (Write at bytes)) else NotFound) (replied e reply) → TellsTruly (Write at bytes) k e reply a
 write-by true station h k (effect.Wrote s) reply a at bytes args fits can says x = write-tells k (effect.Wrote s) reply at bytes a (ap effect.Wrote x.0)
 write-by true station h k (effect.WriteFault s) reply a at bytes args fits can says x = failed (Write at bytes) station h k (effect.WriteFault s) reply a refl fits can says args outcome.Aborted refl x.1
-write-by true station h k effect.None reply a at bytes args fits can says x = absurd x
-write-by true station h k effect.ReadFault reply a at bytes args fits can says x = absurd x
-write-by true station h k effect.Synced reply a at bytes args fits can says x = absurd x
-write-by true station h k effect.Edited reply a at bytes args fits can says x = absurd x
-write-by true station h k effect.SyncFault reply a at bytes args fits can says x = absurd x
-write-by true station h k effect.EditFault reply a at bytes args fits can says x = absurd x
 write-by false station h k e reply a at bytes args fits can says x = failed (Write at bytes) station h k e reply a refl fits can says args outcome.NotFound refl (same-reply e effect.None reply (ata_reply station h args outcome.NotFound) x)
+write-by true station h k _ reply a at bytes args fits can says x = absurd x
 
 flush-by : (station : Station) (h : Header) (k : State) (e : Effect) (reply : List ℕ) (a : Answer) (args : AtaArgs) → Fits h → CanReply station h → answer Flush (fields reply) (drop 24 reply) ≡ Some a
     → AllowsAta station k.sectors h args Sync (replied e reply) → TellsTruly Flush k e reply a
 flush-by station h k effect.Synced reply a args fits can says x = flush-tells k effect.Synced reply a refl
 flush-by station h k effect.SyncFault reply a args fits can says x = failed Flush station h k effect.SyncFault reply a refl fits can says args outcome.Aborted refl x
-flush-by station h k effect.None reply a args fits can says x = absurd x
-flush-by station h k effect.ReadFault reply a args fits can says x = absurd x
-flush-by station h k (effect.Wrote s) reply a args fits can says x = absurd x
-flush-by station h k (effect.WriteFault s) reply a args fits can says x = absurd x
-flush-by station h k effect.Edited reply a args fits can says x = absurd x
-flush-by station h k effect.EditFault reply a args fits can says x = absurd x
+flush-by station h k _ reply a args fits can says x = absurd x
 
 ata-by : (op : Op) (station : Station) (h : Header) (k : State) (e : Effect) (reply : List ℕ) (a : Answer) (args : AtaArgs) → Fits h → CanReply station h → answer op (fields reply) (drop 24 reply) ≡ Some a
     → AllowsAta station k.sectors h args (asked_for station.sectors op) (replied e reply) → TellsTruly op k e reply a
 ata-by (Read span) station h k e reply a args fits can says x = read-by (nat_le (span.at + span.count) station.sectors) station h k e reply a span args fits can says x
 ata-by (Write at bytes) station h k e reply a args fits can says x = write-by (nat_le (at + length bytes / 512) station.sectors) station h k e reply a at bytes args fits can says x
 ata-by Flush station h k e reply a args fits can says x = flush-by station h k e reply a args fits can says x
-ata-by Identify station h k e reply a args fits can says x = tt
-ata-by (Config ccmd text) station h k e reply a args fits can says x = tt
-ata-by (Masks edit dirs) station h k e reply a args fits can says x = tt
-ata-by (Reserve rcmd list) station h k e reply a args fits can says x = tt
+ata-by _ station h k e reply a args fits can says x = tt
 
 pub response-tells : (op : Op) (id : TargetId) (remote local : Mac) (tag : ℕ) (station : Station) (k : State) (e : Effect) (reply : List ℕ) (a : Answer)
     → (command_of op == 0) ≡ true → CanSpell op → HasSectors op → Fits (request_header op id remote local tag) → CanReply station (request_header op id remote local tag)
@@ -140,8 +122,6 @@ response-tells op id remote local tag station k e reply a ata spell some fits ca
     is = fields-are (request op id remote local tag) (request_header op id remote local tag) (request-head op id remote local tag fits)
 
     go : (v : Verdict) → verdict station k.lists (request op id remote local tag) ≡ v → Allows station k (request op id remote local tag) v (replied e reply) → TellsTruly op k e reply a
-    go Ignored q x = absurd (cc)
-    go Silent q x = absurd (cc)
     go (Refused error) q x = refused op station (request_header op id remote local tag) k e reply a ata fits can says error (repeated (request op id remote local tag))
         (same-reply e effect.None reply (spelled station (fields (request op id remote local tag)) (Some error) (repeated (request op id remote local tag))) x
         ∙ ap (λ h. spelled station h (Some error) (repeated (request op id remote local tag))) is)
@@ -149,3 +129,4 @@ response-tells op id remote local tag station k e reply a ata spell some fits ca
     go (Ata d) q x = ata-by op station (request_header op id remote local tag) k e reply a d.args fits can says
         (by-answer station k (request_header op id remote local tag) d.args d.answer (asked_for station.sectors op) (replied e reply) (request-asks op id remote local tag station k.lists d spell some fits q)
         (subst (λ h. AllowsAta station k.sectors h d.args d.answer (replied e reply)) is x))
+    go _ q x = absurd (cc)

@@ -11,9 +11,9 @@ use Rattle.aoe_base.specs.declared.refusal.AoeError.{AoeError}
 use Rattle.aoe_frame.specs.Header.{fields, header_bytes, padded, reply_header, Fits}
 use Rattle.aoe_base.specs.Refusal.{code_of_error}
 use Rattle.aoe_initiator.specs.declared.op.Op.{Op}
-use Rattle.aoe_initiator.specs.declared.op.Op.TheVariants.{Read, Write, Flush, Identify, Config, Masks, Reserve}
+use Rattle.aoe_initiator.specs.declared.op.Op.TheVariants.{Read, Write, Flush, Identify}
 use Rattle.aoe_initiator.specs.declared.response.Answer.{Answer}
-use Rattle.aoe_initiator.specs.declared.response.Answer.TheVariants.{Data, Written, Flushed, Told, AtaError, AoeError as AoeErrorAnswer}
+use Rattle.aoe_initiator.specs.declared.response.Answer.TheVariants.{Written, Flushed, AtaError, AoeError as AoeErrorAnswer}
 use Rattle.aoe_initiator.specs.Op.{command_of as command}
 use Rattle.aoe_initiator.specs.Response.{answer, ata_success, is_failure}
 use Rattle.aoe_target.specs.declared.station.Station.{Station}
@@ -46,9 +46,7 @@ says-ata (Read span) h station a outcome rest c = by-length (length (args_bytes 
 says-ata (Write at bytes) h station a outcome rest c = by-length (length (args_bytes (reply_of a outcome) ++ rest)) (if is_failure (status_of outcome) then Some (AtaError (status_of outcome) (error_of outcome)) else Some Written) None (omega arith)
 says-ata Flush h station a outcome rest c = by-length (length (args_bytes (reply_of a outcome) ++ rest)) (if is_failure (status_of outcome) then Some (AtaError (status_of outcome) (error_of outcome)) else Some Flushed) None (omega arith)
 says-ata Identify h station a outcome rest c = by-length (length (args_bytes (reply_of a outcome) ++ rest)) (if is_failure (status_of outcome) then Some (AtaError (status_of outcome) (error_of outcome)) else ata_success Identify (length (args_bytes (reply_of a outcome) ++ rest) - 12)) None (omega arith)
-says-ata (Config ccmd text) h station a outcome rest c = absurd (cc)
-says-ata (Masks edit dirs) h station a outcome rest c = absurd (cc)
-says-ata (Reserve rcmd list) h station a outcome rest c = absurd (cc)
+says-ata _ h station a outcome rest c = absurd (cc)
 
 -- A REPLY, READ
 
@@ -84,34 +82,16 @@ reply-fits station h (Some error) fits can = record { dst = fits.src; src = can.
 module _ (k : State) (e : Effect) (reply : List ℕ) where
   pub error-tells : (op : Op) (code : ℕ) → TellsTruly op k e reply (AoeErrorAnswer code)
   error-tells (Read span) code = tt
-  error-tells (Write at bytes) code = tt
-  error-tells Flush code = tt
-  error-tells Identify code = tt
-  error-tells (Config ccmd text) code = tt
-  error-tells (Masks edit dirs) code = tt
-  error-tells (Reserve rcmd list) code = tt
+  error-tells _ code = tt
 
   pub failure-tells : (op : Op) (status error : ℕ) → TellsTruly op k e reply (AtaError status error)
   failure-tells (Read span) status error = tt
-  failure-tells (Write at bytes) status error = tt
-  failure-tells Flush status error = tt
-  failure-tells Identify status error = tt
-  failure-tells (Config ccmd text) status error = tt
-  failure-tells (Masks edit dirs) status error = tt
-  failure-tells (Reserve rcmd list) status error = tt
+  failure-tells _ status error = tt
 
   pub write-tells : (at : ℕ) (bytes : List ℕ) (a : Answer) → e ≡ Wrote (span_of (Write at bytes)) → TellsTruly (Write at bytes) k e reply a
-  write-tells at bytes (Data len) p = tt
   write-tells at bytes Written p = p
-  write-tells at bytes Flushed p = tt
-  write-tells at bytes (Told len) p = tt
-  write-tells at bytes (AtaError status error) p = tt
-  write-tells at bytes (AoeErrorAnswer error) p = tt
+  write-tells at bytes _ p = tt
 
   pub flush-tells : (a : Answer) → e ≡ Synced → TellsTruly Flush k e reply a
-  flush-tells (Data len) p = tt
-  flush-tells Written p = tt
   flush-tells Flushed p = p
-  flush-tells (Told len) p = tt
-  flush-tells (AtaError status error) p = tt
-  flush-tells (AoeErrorAnswer error) p = tt
+  flush-tells _ p = tt

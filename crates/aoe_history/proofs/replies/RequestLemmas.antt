@@ -28,7 +28,7 @@ use Rattle.aoe_frame.specs.Header.{fields, head, header_bytes, padded, Fits}
 use Rattle.aoe_frame.proofs.HeaderLemmas.{head-header_bytes}
 use Rattle.aoe_base.specs.declared.sectors.Span.{Span}
 use Rattle.aoe_initiator.specs.declared.op.Op.{Op}
-use Rattle.aoe_initiator.specs.declared.op.Op.TheVariants.{Read, Write, Flush, Identify, Config, Masks, Reserve}
+use Rattle.aoe_initiator.specs.declared.op.Op.TheVariants.{Read, Write, Flush, Identify}
 use Rattle.aoe_initiator.specs.Op.{command_of as command, span_of}
 use Rattle.aoe_initiator.specs.Request.{arguments, registers_of, request, request_header, CanSpell}
 
@@ -66,30 +66,20 @@ by-checks : (heard admitted version ata config masks reserves : Bool) (v w : Ver
     (if not heard then Ignored else if not admitted then Silent else if not version then Refused UnsupportedVersion else if ata then v
     else if config then Lists ConfigStep else if masks then Lists MaskStep else if reserves then Lists ReserveStep else Refused UnrecognizedCommand) ≡ Ata d
     → (heard ≡ true) × (ata ≡ true) × (v ≡ Ata d)
-by-checks false admitted version ata config masks reserves v w d e = absurd (cc)
-by-checks true false version ata config masks reserves v w d e = absurd (cc)
-by-checks true true false ata config masks reserves v w d e = absurd (cc)
 by-checks true true true true config masks reserves v w d e = (refl, refl, e)
-by-checks true true true false true masks reserves v w d e = absurd (cc)
-by-checks true true true false false true reserves v w d e = absurd (cc)
 by-checks true true true false false false true v w d e = absurd (cc)
-by-checks true true true false false false false v w d e = absurd (cc)
+by-checks _ _ _ _ _ _ _ v w d e = absurd (cc)
 
 -- no verdict on an ATA command is a step of the lists
 no-step : (heard admitted version config masks reserves free : Bool) (r : Result AtaDecision AoeError) (c : ListCommand) →
     (if not heard then Ignored else if not admitted then Silent else if not version then Refused UnsupportedVersion else if true then (if not free then Refused TargetIsReserved else decided r)
     else if config then Lists ConfigStep else if masks then Lists MaskStep else if reserves then Lists ReserveStep else Refused UnrecognizedCommand) ≡ Lists c → ⊥
-no-step false admitted version config masks reserves free r c e = cc
-no-step true false version config masks reserves free r c e = cc
-no-step true true false config masks reserves free r c e = cc
-no-step true true true config masks reserves false r c e = cc
 no-step true true true config masks reserves true (Ok x) c e = cc
-no-step true true true config masks reserves true (Err x) c e = cc
+no-step _ _ _ config masks reserves _ _ c e = cc
 
 by-use : (free : Bool) (r : Result AtaDecision AoeError) (d : AtaDecision) → (if not free then Refused TargetIsReserved else decided r) ≡ Ata d → r ≡ Ok d
-by-use false r d e = absurd (cc)
 by-use true (Ok x) d e = cc
-by-use true (Err x) d e = absurd (cc)
+by-use _ _ d e = absurd (cc)
 
 decided-as : (total max : ℕ) (args : List ℕ) (d : AtaDecision) → decision total max args ≡ Ok d → (d.args ≡ registers args) × (d.answer ≡ answer_of total (command_of (registers args)))
 unfolding decision
@@ -143,9 +133,7 @@ asked-as total (Write at bytes) args zeros can some c is =
     (is ∙ append_assoc (args_bytes (registers_of 0x41 0x34 (span_of (Write at bytes)))) bytes zeros) can.0 (write-asked total (span_of (Write at bytes)) some.0)
 asked-as total Flush args zeros can some c is = answer-by total args zeros (registers_of 0x40 0xea (record { at = 0; count = 0 })) Sync is (omega arith) refl
 asked-as total Identify args zeros can some c is = answer-by total args zeros (registers_of 0 0xec (record { at = 0; count = 1 })) Page is (omega arith) refl
-asked-as total (Config ccmd text) args zeros can some c is = absurd (cc)
-asked-as total (Masks edit dirs) args zeros can some c is = absurd (cc)
-asked-as total (Reserve rcmd list) args zeros can some c is = absurd (cc)
+asked-as total _ args zeros can some c is = absurd (cc)
 
 -- the data of a write are those that it was asked for
 pub written-as : (at : ℕ) (bytes zeros : List ℕ) → at < 2 ^ 48 → length bytes % 512 ≡ 0 → written (arguments (Write at bytes) ++ zeros) (span_of (Write at bytes)) ≡ bytes

@@ -7,14 +7,14 @@ use Rattle.aoe_ata.specs.Decision.{written}
 use Rattle.aoe_ata.specs.declared.decision.AtaAnswer.TheVariants as ata
 use Rattle.aoe_ata.specs.declared.decision.AtaDecision.{AtaDecision}
 use Rattle.aoe_initiator.specs.declared.op.Op.{Op}
-use Rattle.aoe_initiator.specs.declared.op.Op.TheVariants.{Read, Write, Flush, Identify, Config, Masks, Reserve}
+use Rattle.aoe_initiator.specs.declared.op.Op.TheVariants.{Read, Write}
 use Rattle.aoe_initiator.specs.Op.{span_of}
 use Rattle.aoe_net.specs.Network.{fresh_bytes, numbered, SentFrame}
 use Rattle.aoe_target.specs.declared.verdict.Verdict.{Verdict}
-use Rattle.aoe_target.specs.declared.verdict.Verdict.TheVariants.{Lists, Silent, Ignored, Ata}
+use Rattle.aoe_target.specs.declared.verdict.Verdict.TheVariants.{Lists, Ata}
 use Rattle.aoe_target.specs.Sectors.{in_span, value_in, Sectors}
 use Rattle.aoe_history.specs.declared.entry.Entry.{Entry}
-use Rattle.aoe_history.specs.declared.entry.Entry.TheVariants.{Submitted, Refused, Sent, Injected, Arrived, Took, Done, Ticked, Lost, Armed, Crashed}
+use Rattle.aoe_history.specs.declared.entry.Entry.TheVariants.{Arrived, Crashed}
 use Rattle.aoe_history.specs.declared.entry.Fate.{Fate}
 use Rattle.aoe_history.specs.Commands.{submission, writes, Submission}
 use Rattle.aoe_history.specs.CommandView.{sends_of, IsSentFor, IsUnderstood}
@@ -72,11 +72,7 @@ not-give false a z e = cc
 put-op : (total : ℕ) (op : Op) (z : Span) → asked_for total op ≡ ata.Put z → (at : ℕ) × (bytes : List ℕ) × (op ≡ Write at bytes) × (span_of (Write at bytes) ≡ z)
 put-op total (Read span) z e = absurd (not-give (nat_le (span.at + span.count) total) span z e)
 put-op total (Write at bytes) z e = (at, bytes, refl, within-put (nat_le (at + length bytes / 512) total) (span_of (Write at bytes)) z e)
-put-op total Flush z e = absurd (cc)
-put-op total Identify z e = absurd (cc)
-put-op total (Config ccmd text) z e = absurd (cc)
-put-op total (Masks edit dirs) z e = absurd (cc)
-put-op total (Reserve rcmd list) z e = absurd (cc)
+put-op total _ z e = absurd (cc)
 
 writes-value : (slot : SlotSetup) (dev : TargetId) (at : ℕ) (bytes : List ℕ) (s : ℕ) → is_slot slot dev ≡ true → in_span (span_of (Write at bytes)) s ≡ true
     → writes slot (Some (record { dev = dev; op = Write at bytes })) s ≡ Some (value_in (span_of (Write at bytes)) bytes s)
@@ -165,10 +161,6 @@ module _ (s : Setup) (host : HostSetup) (h : List Entry) (run : HasHost s host h
 -- the sectors of a slot are known at all times
 pub sectors-there : (slot : SlotSetup) (h : List Entry) → (x : Sectors) × ((state_after slot h).sectors ≡ Some x)
 sectors-there slot [] = (_, refl)
-sectors-there slot (Submitted name t dev op ∷ h) = sectors-there slot h
-sectors-there slot (Refused name refusal ∷ h) = sectors-there slot h
-sectors-there slot (Sent name t number f ∷ h) = sectors-there slot h
-sectors-there slot (Injected number f ∷ h) = sectors-there slot h
 sectors-there slot (Arrived dev frame fate ∷ h) = go (is_slot slot dev) (sectors-there slot h)
   where
     by-change : (c : Step) (fate : Fate) (k : State) → (x : Sectors) × (k.sectors ≡ Some x) → (x : Sectors) × ((after_step c (fate_at fate) k).sectors ≡ Some x)
@@ -177,23 +169,17 @@ sectors-there slot (Arrived dev frame fate ∷ h) = go (is_slot slot dev) (secto
     by-verdict : (v : Verdict) (f : List ℕ) (k : State) → (x : Sectors) × (k.sectors ≡ Some x) → (x : Sectors) × ((Rattle.aoe_target.specs.Law.after slot.station f v (fate_at fate) k).sectors ≡ Some x)
     by-verdict (Ata d) f k p = (_, ap (λ o. option_map (after_ata f d.answer (fate_at fate)) o) p.1)
     by-verdict (Lists c) f k p = by-change (step_of slot.station k.lists f c) fate k p
-    by-verdict Ignored f k p = p
-    by-verdict Silent f k p = p
-    by-verdict (Rattle.aoe_target.specs.declared.verdict.Verdict.TheVariants.Refused e) f k p = p
+    by-verdict _ f k p = p
 
     go : (b : Bool) → (x : Sectors) × ((state_after slot h).sectors ≡ Some x) → (x : Sectors) × ((if b then after_frame slot (bytes_of h frame) fate (slot_after slot h) else slot_after slot h).state.sectors ≡ Some x)
     go true p = by-verdict (verdict_after slot h (bytes_of h frame)) (bytes_of h frame) (state_after slot h) p
     go false p = p
-sectors-there slot (Took name frame stale ∷ h) = sectors-there slot h
-sectors-there slot (Done name t outcome ∷ h) = sectors-there slot h
-sectors-there slot (Ticked ms ∷ h) = sectors-there slot h
-sectors-there slot (Lost frame ∷ h) = sectors-there slot h
-sectors-there slot (Armed dev which n mode ∷ h) = sectors-there slot h
 sectors-there slot (Crashed dev lists how ∷ h) = go (is_slot slot dev) (sectors-there slot h)
   where
     go : (b : Bool) → (x : Sectors) × ((state_after slot h).sectors ≡ Some x) → (x : Sectors) × ((if b then after_crash slot lists how (slot_after slot h) else slot_after slot h).state.sectors ≡ Some x)
     go true p = (_, ap (λ o. option_map (left_sectors slot (slot_after slot h).unsettled how) o) p.1)
     go false p = p
+sectors-there slot (_ ∷ h) = sectors-there slot h
 
 -- the slot after an arrival
 pub act-after : (s : Setup) (slot : SlotSetup) (h : List Entry) (dev : TargetId) (k : ℕ) (fate : Fate) (f : List ℕ) → is_slot slot dev ≡ true → KeepsShelfLaw slot h f fate → bytes_of h k ≡ f → (sct : ℕ)

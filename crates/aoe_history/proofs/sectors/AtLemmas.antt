@@ -4,7 +4,7 @@ use Rattle.arrayvec.specs.ArrayVec.{ArrayVec}
 use Rattle.aoe_frame.specs.Header.{fields}
 use Rattle.aoe_initiator.specs.HostLog.{Sending}
 use Rattle.aoe_history.specs.declared.entry.Entry.{Entry}
-use Rattle.aoe_history.specs.declared.entry.Entry.TheVariants.{Submitted, Refused, Sent, Injected, Arrived, Took, Done, Ticked, Lost, Armed, Crashed}
+use Rattle.aoe_history.specs.declared.entry.Entry.TheVariants.{Sent, Arrived}
 use Rattle.aoe_history.specs.Commands.{is_of, submission, was_sent, writes}
 use Rattle.aoe_history.specs.CommandView.{is_active, sends_of, was_done}
 use Rattle.aoe_history.specs.Frames.{clock}
@@ -46,17 +46,8 @@ or-some false x o t e = e
 
 pub sent-same : (host : HostSetup) (h : List Entry) (c : ℕ) → was_sent host h c ≡ is_some (sends_of host h c)
 sent-same host [] c = refl
-sent-same host (Submitted name t dev op ∷ h) c = sent-same host h c
-sent-same host (Refused name refusal ∷ h) c = sent-same host h c
 sent-same host (Sent name t number f ∷ h) c = or-some (is_of host c name t) (base.more host h t f c) (sends_of host h c) (was_sent host h c) (sent-same host h c)
-sent-same host (Injected number f ∷ h) c = sent-same host h c
-sent-same host (Arrived dev frame fate ∷ h) c = sent-same host h c
-sent-same host (Took name frame stale ∷ h) c = sent-same host h c
-sent-same host (Done name t outcome ∷ h) c = sent-same host h c
-sent-same host (Ticked ms ∷ h) c = sent-same host h c
-sent-same host (Lost frame ∷ h) c = sent-same host h c
-sent-same host (Armed dev which n mode ∷ h) c = sent-same host h c
-sent-same host (Crashed dev lists how ∷ h) c = sent-same host h c
+sent-same host (_ ∷ h) c = sent-same host h c
 
 some-more : (b : Bool) (x : Sending) (o : Option Sending) → is_some o ≡ true → is_some (if b then Some x else o) ≡ true
 some-more true x o e = refl
@@ -64,23 +55,13 @@ some-more false x o e = e
 
 last-true : (a b c : Bool) (r : Bool) → ((a && b && c) || r) ≡ true → (c ≡ true) ⊎ (r ≡ true)
 last-true true true true r e = inl refl
-last-true true true false r e = inr e
-last-true true false c r e = inr e
-last-true false b c r e = inr e
+last-true _ _ _ r e = inr e
 
 pub landed-sent : (host : HostSetup) (slot : SlotSetup) (h : List Entry) (s c : ℕ) → landed host slot h s c ≡ true → is_some (sends_of host h c) ≡ true
 landed-sent host slot [] s c e = absurd (cc)
-landed-sent host slot (Submitted name t dev op ∷ h) s c e = landed-sent host slot h s c e
-landed-sent host slot (Refused name refusal ∷ h) s c e = landed-sent host slot h s c e
 landed-sent host slot (Sent name t number f ∷ h) s c e = some-more (is_of host c name t) (base.more host h t f c) (sends_of host h c) (landed-sent host slot h s c e)
-landed-sent host slot (Injected number f ∷ h) s c e = landed-sent host slot h s c e
 landed-sent host slot (Arrived dev frame fate ∷ h) s c e = elim (last-true (is_slot slot dev) (stores fate s) (is_some (sends_of host h c)) (landed host slot h s c) e) [ inl p ↦ p | inr q ↦ landed-sent host slot h s c q ]
-landed-sent host slot (Took name frame stale ∷ h) s c e = landed-sent host slot h s c e
-landed-sent host slot (Done name t outcome ∷ h) s c e = landed-sent host slot h s c e
-landed-sent host slot (Ticked ms ∷ h) s c e = landed-sent host slot h s c e
-landed-sent host slot (Lost frame ∷ h) s c e = landed-sent host slot h s c e
-landed-sent host slot (Armed dev which n mode ∷ h) s c e = landed-sent host slot h s c e
-landed-sent host slot (Crashed dev lists how ∷ h) s c e = landed-sent host slot h s c e
+landed-sent host slot (_ ∷ h) s c e = landed-sent host slot h s c e
 
 -- ENTRIES THAT SEND NOTHING
 
@@ -119,11 +100,9 @@ none-some None e = refl
 none-some (Some x) e = absurd (cc)
 
 own-first : (a b t : Bool) → a ≡ true → (a && not b) ≡ t → b ≡ not t
-own-first true true true e p = absurd (cc)
 own-first true true false e p = refl
 own-first true false true e p = refl
-own-first true false false e p = absurd (cc)
-own-first false b t e p = absurd (cc)
+own-first _ _ _ e p = absurd (cc)
 
 module _ (life : ℕ) (host : HostSetup) (slot : SlotSetup) (h : List Entry) (s : ℕ) (name : ArrayVec ℕ) (c number : ℕ) (f : List ℕ) (mine : is_called host name ≡ true) (r : MayBeSent life host h c f) (reads : (fields f).tag ≡ r.tag)
     (b : Base life host h) (b2 : Base life host (Sent name c number f ∷ h)) (g2 : AreGone life host (Sent name c number f ∷ h)) (x : At life host slot h s) where

@@ -43,9 +43,7 @@ idles v f fate s k m p q = showed None (same k) refl p q
 
 same-breaks : (d : AtaDecision) (fate : Fate) (s : ℕ) → breaks (Ata d) fate s ≡ breaks_by d.answer fate s
 same-breaks d Ignored s = refl
-same-breaks d Silent s = refl
-same-breaks d Cut s = refl
-same-breaks d (Replied e n r) s = refl
+same-breaks d _ s = refl
 
 ata-act : (d : AtaDecision) (f : List ℕ) (fate : Fate) (s : ℕ) (x y : Sectors) → Deed d.answer f fate s x y → Act (Ata d) f fate s (x.known s) (y.known s) (x.marks s) (y.marks s)
 ata-act d f fate s x y (shows shown p q a b) = showed shown p q a (same-breaks d fate s ∙ b)
@@ -55,22 +53,16 @@ ata-act d f fate s x y (syncs is p q a b) = synced p q a (same-breaks d fate s �
 
 -- a reply without an effect, and none
 no-effect : (v : Verdict) (fate : Fate) (s : ℕ) (r : List ℕ) → fate_at fate ≡ replied effect.None r → (stores fate s ≡ false) × (breaks v fate s ≡ false)
-no-effect v Ignored s r e = absurd (cc)
-no-effect v Silent s r e = absurd (cc)
-no-effect v Cut s r e = absurd (cc)
 no-effect v (Replied x n q) s r e = let p : x ≡ effect.None = cc in (rw p refl, rw p refl)
+no-effect v _ s r e = absurd (cc)
 
 was-silent : (v : Verdict) (fate : Fate) (s : ℕ) → fate_at fate ≡ silent → (stores fate s ≡ false) × (breaks v fate s ≡ false)
 was-silent v Silent s e = (refl, refl)
-was-silent v Ignored s e = absurd (cc)
-was-silent v Cut s e = absurd (cc)
-was-silent v (Replied x n q) s e = absurd (cc)
+was-silent v _ s e = absurd (cc)
 
 was-ignored : (v : Verdict) (fate : Fate) (s : ℕ) → fate_at fate ≡ ignored → (stores fate s ≡ false) × (breaks v fate s ≡ false)
 was-ignored v Ignored s e = (refl, refl)
-was-ignored v Silent s e = absurd (cc)
-was-ignored v Cut s e = absurd (cc)
-was-ignored v (Replied x n q) s e = absurd (cc)
+was-ignored v _ s e = absurd (cc)
 
 step-still : (station : Station) (f : List ℕ) (x : Step) (c : ListCommand) (fate : Fate) (s : ℕ) → AllowsStep station f x (fate_at fate) → (stores fate s ≡ false) × (breaks (Lists c) fate s ≡ false)
 step-still station f step.Silent c fate s a = was-silent (Lists c) fate s a

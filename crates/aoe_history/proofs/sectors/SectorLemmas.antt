@@ -95,8 +95,7 @@ module _ (flying active : ℕ → Type 0) (wr : ℕ → Option (List ℕ)) (land
     where
       both : (x y : Bool) → (x && y) ≡ true → (x ≡ true) × (y ≡ true)
       both true true e = (refl, refl)
-      both true false e = absurd (cc)
-      both false y e = absurd (cc)
+      both _ _ e = absurd (cc)
 
   -- an arrival breaks the sector, by a frame of c where it is the host's
   pub breaks_it : (c : ℕ) (v : List ℕ) (own_it : Bool) (active2 : ℕ → Type 0) (holds2 : Option (List ℕ)) → ((d : ℕ) → active2 d → active d) → (own_it ≡ true → active c × (wr c ≡ Some v)) →
@@ -112,8 +111,7 @@ module _ (flying active : ℕ → Type 0) (wr : ℕ → Option (List ℕ)) (land
     where
       both : (x y : Bool) → (x && y) ≡ true → (x ≡ true) × (y ≡ true)
       both true true e = (refl, refl)
-      both true false e = absurd (cc)
-      both false y e = absurd (cc)
+      both _ _ e = absurd (cc)
 
   -- an arrival shows the sector
   pub learns : (shown : Option (List ℕ)) (active2 : ℕ → Type 0) → ((d : ℕ) → active2 d → active d) → Sector flying active2 wr landed (option_or holds shown) mark alone safe spoiled may
