@@ -15,7 +15,7 @@ use Rattle.aoe_script.specs.declared.event.Event.{Event}
 use Rattle.aoe_script.specs.declared.event.Event.TheVariants.{Read, Write, Flush, Identify, Config, Masks, Reserve, Tick, Deliver, Pass, Skip, Again, Inject, Fail, Stop, Crash}
 use Rattle.aoe_script.specs.declared.refusal.Why.TheVariants.{Station, Unknown, Value}
 use Rattle.aoe_script.specs.declared.setup.Setup.{Setup as Line}
-use Rattle.aoe_script.specs.declared.setup.Setup.TheVariants.{Life, Shelf, Slot, Host, Attach}
+use Rattle.aoe_script.specs.declared.setup.Setup.TheVariants.{Shelf, Host, Attach}
 use Rattle.aoe_script.specs.Classes.{is_name}
 use Rattle.aoe_script.specs.Rules.{asked_why, attaches, event_why, has_attached, has_device, has_port, is_attached, is_device, is_event, is_known, is_shelf_named, is_slot, is_station_named, is_within, known_why, named_why, same, unless}
 use Rattle.aoe_sim_setup.specs.Layout.{about, devices_of, host_of, setup_of, slot_with}
@@ -45,25 +45,19 @@ attached-shelf : (lines : List Line) (host : ArrayVec ℕ) (dev : TargetId) → 
 attached-shelf lines host dev e = let s = any-passes (has_attached lines host dev) lines e in go s.x s.at s.there s.passes
   where
     go : (line : Line) (k : ℕ) → slice_get lines k ≡ Some line → has_attached lines host dev line ≡ true → ShelfWith lines dev (λ name. list_any (attaches host name dev.minor) lines)
-    go (Life ms) k e t = absurd cc
     go (Shelf name major ports mtu) k e t =
         let p = and_parts (major == dev.major) (list_any (attaches host name dev.minor) lines) t in
         record { at = k; name = name; ports = ports; mtu = mtu; there = e ∙ ap (λ m. Some (Shelf name m ports mtu)) (eqb-true major dev.major p.0); passes = p.1 }
-    go (Slot shelf minor sectors room) k e t = absurd cc
-    go (Host name ports room dead) k e t = absurd cc
-    go (Attach other shelf minor) k e t = absurd cc
+    go _ k e t = absurd cc
 
 known-shelf : (lines : List Line) (dev : TargetId) → is_known lines dev ≡ true → ShelfWith lines dev (λ name. list_any (is_slot name dev.minor) lines)
 known-shelf lines dev e = let s = any-passes (has_device lines dev) lines e in go s.x s.at s.there s.passes
   where
     go : (line : Line) (k : ℕ) → slice_get lines k ≡ Some line → has_device lines dev line ≡ true → ShelfWith lines dev (λ name. list_any (is_slot name dev.minor) lines)
-    go (Life ms) k e t = absurd cc
     go (Shelf name major ports mtu) k e t =
         let p = and_parts (major == dev.major) (list_any (is_slot name dev.minor) lines) t in
         record { at = k; name = name; ports = ports; mtu = mtu; there = e ∙ ap (λ m. Some (Shelf name m ports mtu)) (eqb-true major dev.major p.0); passes = p.1 }
-    go (Slot shelf minor sectors room) k e t = absurd cc
-    go (Host name ports room dead) k e t = absurd cc
-    go (Attach other shelf minor) k e t = absurd cc
+    go _ k e t = absurd cc
 
 -- an attach line
 record AttachAt (lines : List Line) (host shelf : ArrayVec ℕ) (minor : ℕ) : Type 0 where
@@ -74,10 +68,6 @@ attach-at : (lines : List Line) (host shelf : ArrayVec ℕ) (minor : ℕ) → li
 attach-at lines host shelf minor e = let s = any-passes (attaches host shelf minor) lines e in go s.x s.at s.there s.passes
   where
     go : (line : Line) (k : ℕ) → slice_get lines k ≡ Some line → attaches host shelf minor line ≡ true → AttachAt lines host shelf minor
-    go (Life ms) k e t = absurd cc
-    go (Shelf name major ports mtu) k e t = absurd cc
-    go (Slot other number sectors room) k e t = absurd cc
-    go (Host name ports room dead) k e t = absurd cc
     go (Attach a b number) k e t =
         let p = and_parts ((number == minor) && same a host) (same b shelf) t in
         let q = and_parts (number == minor) (same a host) p.0 in
@@ -85,6 +75,7 @@ attach-at lines host shelf minor e = let s = any-passes (attaches host shelf min
           at = k;
           there = e ∙ ap (λ n. Some (Attach n b number)) (same-is a host q.1) ∙ ap (λ n. Some (Attach host n number)) (same-is b shelf p.1) ∙ ap (λ n. Some (Attach host shelf n)) (eqb-true number minor q.0);
         }
+    go _ k e t = absurd cc
 
 module _ (lines : List Line) (good : AreGood lines) where
   -- the shelf line that a slot line stands behind is the one with this name

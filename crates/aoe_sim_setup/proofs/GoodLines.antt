@@ -22,10 +22,8 @@ unless-none true why rest e = absurd cc
 unless-none false why rest e = (refl, e)
 
 first-none : (a b c : Bool) → first_of a b c ≡ None → (a ≡ false) × (b ≡ false) × (c ≡ false)
-first-none true b c e = absurd cc
-first-none false true c e = absurd cc
-first-none false false true e = absurd cc
 first-none false false false e = (refl, refl, refl)
+first-none _ _ _ e = absurd cc
 
 why-parts : (before : List Line) (line : Line) → setup_why before false line ≡ None → (is_setup line ≡ true) × (declared_why before line ≡ None)
 unfolding setup_why

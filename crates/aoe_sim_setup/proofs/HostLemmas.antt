@@ -12,7 +12,7 @@ use Rattle.aoe_initiator.specs.declared.device.Attached.{Attached}
 use Rattle.aoe_initiator.specs.HostLaw.{same_id}
 use Rattle.aoe_history.specs.Setup.{host_called, is_called, HostSetup}
 use Rattle.aoe_script.specs.declared.setup.Setup.{Setup as Line}
-use Rattle.aoe_script.specs.declared.setup.Setup.TheVariants.{Life, Shelf, Slot, Host, Attach}
+use Rattle.aoe_script.specs.declared.setup.Setup.TheVariants.{Shelf, Host, Attach}
 use Rattle.aoe_script.specs.Rules.{attaches, same}
 use Rattle.aoe_sim_setup.specs.Layout.{about, attached_to, devices_of, host_in, host_of, setup_of, slot_named, slot_with}
 use Rattle.aoe_sim_setup.specs.Stations.{HasHosts}
@@ -31,12 +31,9 @@ pub record IsHostLine (lines : List Line) (line : Line) (host : HostSetup) : Typ
   pub host_is : host_of lines name ports.items room dead ≡ host
 
 pub host-line : (lines : List Line) (line : Line) (host : HostSetup) → host_in lines line ≡ Some host → IsHostLine lines line host
-host-line lines (Life ms) host e = absurd (none-some host e)
-host-line lines (Shelf name major ports mtu) host e = absurd (none-some host e)
-host-line lines (Slot shelf minor sectors room) host e = absurd (none-some host e)
 host-line lines (Host name ports room dead) host e =
     record { name = name; ports = ports; room = room; dead = dead; line_is = refl; host_is = same_Some (host_of lines name ports.items room dead) host e }
-host-line lines (Attach other shelf minor) host e = absurd (none-some host e)
+host-line lines _ host e = absurd (none-some host e)
 
 -- a host of the setup, by its line
 pub record HostFrom (lines : List Line) (host : HostSetup) : Type 0 where
@@ -63,15 +60,12 @@ record IsAttachLine (lines : List Line) (host : ArrayVec ℕ) (line : Line) (d :
   names : option_map about (slot_named lines shelf minor) ≡ Some d
 
 attach-line : (lines : List Line) (host : ArrayVec ℕ) (line : Line) (d : Attached) → attached_to lines host line ≡ Some d → IsAttachLine lines host line d
-attach-line lines host (Life ms) d e = absurd (none-some d e)
-attach-line lines host (Shelf name major ports mtu) d e = absurd (none-some d e)
-attach-line lines host (Slot shelf minor sectors room) d e = absurd (none-some d e)
-attach-line lines host (Host name ports room dead) d e = absurd (none-some d e)
 attach-line lines host (Attach other shelf minor) d e = go (same other host) refl e
   where
     go : (b : Bool) → same other host ≡ b → cond b (option_map about (slot_named lines shelf minor)) None ≡ Some d → IsAttachLine lines host (Attach other shelf minor) d
     go true is e = record { shelf = shelf; minor = minor; line_is = ap (λ n. Attach n shelf minor) (same-is other host is); names = e }
     go false is e = absurd (none-some d e)
+attach-line lines host _ d e = absurd (none-some d e)
 
 -- a device of a host, by the lines that declare its slot
 pub record DeviceFrom (lines : List Line) (d : Attached) : Type 0 where

@@ -9,7 +9,7 @@ use Rattle.aoe_base.specs.declared.address.Mac.{Mac}
 use Rattle.aoe_base.specs.Addresses.{holds, same_address}
 use Rattle.aoe_base.proofs.AddressLemmas.{same-address}
 use Rattle.aoe_script.specs.declared.setup.Setup.{Setup as Line}
-use Rattle.aoe_script.specs.declared.setup.Setup.TheVariants.{Life, Shelf, Slot, Host, Attach}
+use Rattle.aoe_script.specs.declared.setup.Setup.TheVariants.{Life, Shelf, Slot, Host}
 use Rattle.aoe_script.specs.Rules.{has_major, has_port, is_host_named, is_shelf_named, is_slot, is_station_named, same}
 use Rattle.aoe_sim_setup.specs.Layout.{addresses_in, slot_by, slot_named, slot_with}
 use Rattle.aoe_sim_setup.proofs.GoodLines.{AreGood}
@@ -58,10 +58,7 @@ module _ (lines : List Line) (good : AreGood lines) where
     where
       by-earlier : (a : Line) → has_port port a ≡ false → holds (addresses_in a) port ≡ true → ⊥
       by-earlier (Life ms) none x = absurd cc
-      by-earlier (Shelf name major ports mtu) none x = absurd cc
-      by-earlier (Slot shelf minor sectors room) none x = absurd cc
-      by-earlier (Host name ports room dead) none x = absurd cc
-      by-earlier (Attach host shelf minor) none x = absurd cc
+      by-earlier _ none x = absurd cc
 
       behind : (ports : List Mac) → list_any (λ mac. list_any (has_port mac) (take k lines)) ports ≡ false → holds ports port ≡ true → ⊥
       behind ports none y =
@@ -69,11 +66,9 @@ module _ (lines : List Line) (good : AreGood lines) where
           by-earlier a (none-before (has_port port) i k a lt p (none-passes (λ mac. list_any (has_port mac) (take k lines)) ports at.at port none at.there)) x
 
       by-later : (b : Line) → slice_get lines k ≡ Some b → holds (addresses_in b) port ≡ true → ⊥
-      by-later (Life ms) q y = absurd cc
       by-later (Shelf name major ports mtu) q y = behind ports.items (good.shelf k name major ports mtu q).new_ports y
-      by-later (Slot shelf minor sectors room) q y = absurd cc
       by-later (Host name ports room dead) q y = behind ports.items (good.host k name ports room dead q).new_ports y
-      by-later (Attach host shelf minor) q y = absurd cc
+      by-later _ q y = absurd cc
 
   pub one-line : (i k : ℕ) (a b : Line) (port : Mac) → slice_get lines i ≡ Some a → slice_get lines k ≡ Some b → holds (addresses_in a) port ≡ true → holds (addresses_in b) port ≡ true → i ≡ k
   one-line i k a b port p q x y = go (cases_order i k)
@@ -117,20 +112,14 @@ module _ (lines : List Line) (good : AreGood lines) where
 
   -- the shelf line that a name tells
   shelf-by : (name : ArrayVec ℕ) (a : Line) → is_shelf_named name a ≡ true → (major : ℕ) × (ports : ArrayVec Mac) × (mtu : ℕ) × (a ≡ Shelf name major ports mtu)
-  shelf-by name (Life ms) e = absurd cc
   shelf-by name (Shelf other major ports mtu) e = (major, ports, mtu, ap (λ n. Shelf n major ports mtu) (same-is other name e))
-  shelf-by name (Slot shelf minor sectors room) e = absurd cc
-  shelf-by name (Host other ports room dead) e = absurd cc
-  shelf-by name (Attach host shelf minor) e = absurd cc
+  shelf-by name _ e = absurd cc
 
   slot-by : (shelf : ArrayVec ℕ) (minor : ℕ) (a : Line) → is_slot shelf minor a ≡ true → (sectors : ℕ) × (room : Option ℕ) × (a ≡ Slot shelf minor sectors room)
-  slot-by shelf minor (Life ms) e = absurd cc
-  slot-by shelf minor (Shelf other major ports mtu) e = absurd cc
   slot-by shelf minor (Slot other number sectors room) e =
       let p = and_parts (number == minor) (same other shelf) e in
       (sectors, room, ap (λ n. Slot n number sectors room) (same-is other shelf p.1) ∙ ap (λ n. Slot shelf n sectors room) (eqb-true number minor p.0))
-  slot-by shelf minor (Host other ports room dead) e = absurd cc
-  slot-by shelf minor (Attach host other number) e = absurd cc
+  slot-by shelf minor _ e = absurd cc
 
   -- where a slot line is declared its shelf is
   pub slot-line-of : (shelf : ArrayVec ℕ) (minor : ℕ) → list_any (is_slot shelf minor) lines ≡ true → SlotLine lines shelf minor
@@ -160,11 +149,8 @@ module _ (lines : List Line) (good : AreGood lines) where
       (s.at, m.0, m.1, m.2, s.there ∙ ap Some m.3)
 
   pub host-by : (name : ArrayVec ℕ) (a : Line) → is_host_named name a ≡ true → (ports : ArrayVec Mac) × (room : Option ℕ) × (dead : Option ℕ) × (a ≡ Host name ports room dead)
-  host-by name (Life ms) e = absurd cc
-  host-by name (Shelf other major ports mtu) e = absurd cc
-  host-by name (Slot shelf minor sectors room) e = absurd cc
   host-by name (Host other ports room dead) e = (ports, room, dead, ap (λ n. Host n ports room dead) (same-is other name e))
-  host-by name (Attach host shelf minor) e = absurd cc
+  host-by name _ e = absurd cc
 
   pub host-before : (name : ArrayVec ℕ) (k : ℕ) → list_any (is_host_named name) (take k lines) ≡ true → (i : ℕ) × (ports : ArrayVec Mac) × (room : Option ℕ) × (dead : Option ℕ) × (slice_get lines i ≡ Some (Host name ports room dead))
   host-before name k any =

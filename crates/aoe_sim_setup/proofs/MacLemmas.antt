@@ -5,7 +5,7 @@ use Rattle.std.proofs.lemmas.List.Elements.{All-head, All-nil, All-tail}
 use Rattle.std.proofs.lemmas.Option.{same_Some}
 use Rattle.aoe_base.specs.declared.address.Mac.{Mac}
 use Rattle.aoe_script.specs.declared.setup.Setup.{Setup as Line}
-use Rattle.aoe_script.specs.declared.setup.Setup.TheVariants.{Life, Shelf, Slot, Host, Attach}
+use Rattle.aoe_script.specs.declared.setup.Setup.TheVariants.{Shelf, Host}
 use Rattle.aoe_script.specs.Types.{FitsSetup}
 use Rattle.aoe_sim_setup.specs.Layout.{addresses_in}
 
@@ -13,11 +13,9 @@ abbrev IsSix : Mac → Type 0
 IsSix mac = length mac.0 ≡ 6
 
 line-six : (line : Line) → FitsSetup line → All (λ mac. length mac.0 ≡ 6) (addresses_in line)
-line-six (Life ms) fits = All-nil IsSix
 line-six (Shelf name major ports mtu) fits = λ k d lt. (fits k d lt).six
-line-six (Slot shelf minor sectors room) fits = All-nil IsSix
 line-six (Host name ports room dead) fits = λ k d lt. (fits k d lt).six
-line-six (Attach host shelf minor) fits = All-nil IsSix
+line-six _ fits = All-nil IsSix
 
 fits-at : (lines : List Line) (k : ℕ) (line : Line) → All FitsSetup lines → slice_get lines k ≡ Some line → FitsSetup line
 fits-at [] k line all e = absurd (cc)

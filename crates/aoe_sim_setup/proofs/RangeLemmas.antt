@@ -32,13 +32,12 @@ record Limits (room dead : Option ℕ) : Type 0 where
 
 limits : (room dead : Option ℕ) → is_limit room dead ≡ true → Limits room dead
 limits None None e = record { some_room = omega arith; most_room = omega arith; some_time = omega arith; most_time = omega arith }
-limits None (Some dead) e = absurd cc
-limits (Some room) None e = absurd cc
 limits (Some room) (Some dead) e =
     let p = and_parts (is_within 1 16384 room) (is_within 1 10000000 dead) e in
     let r = within 1 16384 room p.0 in
     let t = within 1 10000000 dead p.1 in
     record { some_room = omega (arith, r.0); most_room = r.1; some_time = omega (arith, t.0); most_time = t.1 }
+limits _ _ e = absurd cc
 
 pub is-cache : (room : Option ℕ) → is_cache room ≡ true → IsCache room
 is-cache None e = tt
@@ -101,11 +100,8 @@ module _ (lines : List Line) (good : AreGood lines) where
       omega arith
     where
       by-kind : (i : ℕ) (x : Line) → slice_get lines i ≡ Some x → is_host_line x ≡ true → count_by is_host_line (take i lines) < 16
-      by-kind i (Life ms) e s = absurd cc
-      by-kind i (Shelf name major ports mtu) e s = absurd cc
-      by-kind i (Slot shelf minor sectors room) e s = absurd cc
       by-kind i (Host name ports room dead) e s = (good.host i name ports room dead e).few
-      by-kind i (Attach host shelf minor) e s = absurd cc
+      by-kind i _ e s = absurd cc
 
   pub has-ranges : HasRanges (setup_of lines)
   has-ranges = record {

@@ -10,7 +10,7 @@ use Rattle.aoe_base.specs.declared.address.TargetId.{TargetId}
 use Rattle.aoe_initiator.specs.HostLaw.{same_id}
 use Rattle.aoe_history.specs.Setup.{is_slot, shelf_of, slot_of, AreSlots, SlotSetup}
 use Rattle.aoe_script.specs.declared.setup.Setup.{Setup as Line}
-use Rattle.aoe_script.specs.declared.setup.Setup.TheVariants.{Life, Shelf, Slot, Host, Attach}
+use Rattle.aoe_script.specs.declared.setup.Setup.TheVariants.{Shelf, Slot}
 use Rattle.aoe_script.specs.Rules.{is_shelf, is_slot as is_slot_line, is_slot_of, same}
 use Rattle.aoe_sim_setup.specs.Layout.{major_in, majors_of, setup_of, slot_of_shelf, slot_with, slots_of_shelf}
 use Rattle.aoe_sim_setup.specs.Stations.{HasShelves}
@@ -27,13 +27,10 @@ record Declares (name : ArrayVec ℕ) (major : ℕ) (ports : List Mac) (mtu : �
   slot_is : slot_with major ports mtu minor sectors room ≡ slot
 
 declares-by : (name : ArrayVec ℕ) (major : ℕ) (ports : List Mac) (mtu : ℕ) (line : Line) (slot : SlotSetup) → slot_of_shelf name major ports mtu line ≡ Some slot → Declares name major ports mtu line slot
-declares-by name major ports mtu (Life ms) slot e = absurd (none-some slot e)
-declares-by name major ports mtu (Shelf other number list size) slot e = absurd (none-some slot e)
 declares-by name major ports mtu (Slot shelf minor sectors room) slot e =
     let c = cond_some (same shelf name) (slot_with major ports mtu minor sectors room) slot e in
     record { minor = minor; sectors = sectors; room = room; line_is = ap (λ n. Slot n minor sectors room) (same-is shelf name c.0); slot_is = c.1 }
-declares-by name major ports mtu (Host other list room dead) slot e = absurd (none-some slot e)
-declares-by name major ports mtu (Attach host shelf minor) slot e = absurd (none-some slot e)
+declares-by name major ports mtu _ slot e = absurd (none-some slot e)
 
 -- a shelf line, where it has slots
 record HasSlot (lines : List Line) (line : Line) (slot : SlotSetup) : Type 0 where
@@ -45,11 +42,8 @@ record HasSlot (lines : List Line) (line : Line) (slot : SlotSetup) : Type 0 whe
   inside : Place (filter_map (slot_of_shelf name major ports.items mtu) lines) slot
 
 has-slot : (lines : List Line) (line : Line) (slot : SlotSetup) → Place (slots_of_shelf lines line) slot → HasSlot lines line slot
-has-slot lines (Life ms) slot p = absurd (none-some slot p.there)
 has-slot lines (Shelf name major ports mtu) slot p = record { name = name; major = major; ports = ports; mtu = mtu; line_is = refl; inside = p }
-has-slot lines (Slot shelf minor sectors room) slot p = absurd (none-some slot p.there)
-has-slot lines (Host name ports room dead) slot p = absurd (none-some slot p.there)
-has-slot lines (Attach host shelf minor) slot p = absurd (none-some slot p.there)
+has-slot lines _ slot p = absurd (none-some slot p.there)
 
 record IsShelfLine (line : Line) (major : ℕ) : Type 0 where
   name : ArrayVec ℕ
@@ -58,11 +52,8 @@ record IsShelfLine (line : Line) (major : ℕ) : Type 0 where
   line_is : line ≡ Shelf name major ports mtu
 
 major-line : (line : Line) (major : ℕ) → major_in line ≡ Some major → IsShelfLine line major
-major-line (Life ms) major e = absurd (none-some major e)
 major-line (Shelf name number ports mtu) major e = record { name = name; ports = ports; mtu = mtu; line_is = ap (λ n. Shelf name n ports mtu) (same_Some number major e) }
-major-line (Slot shelf minor sectors room) major e = absurd (none-some major e)
-major-line (Host name ports room dead) major e = absurd (none-some major e)
-major-line (Attach host shelf minor) major e = absurd (none-some major e)
+major-line _ major e = absurd (none-some major e)
 
 at-line : (lines : List Line) (k : ℕ) (a b : Line) → slice_get lines k ≡ Some a → a ≡ b → slice_get lines k ≡ Some b
 at-line lines k a b e same-line = e ∙ ap Some same-line
@@ -146,11 +137,8 @@ module _ (lines : List Line) (good : AreGood lines) where
       (λ i j a b lt p q c d x y. across i j a b lt p q c d (has-slot lines a c x) (has-slot lines b d y))
     where
       each : (x : Line) → Ordered (λ a b. is_slot a b.station.id ≡ false) (slots_of_shelf lines x)
-      each (Life ms) = λ i j a b lt p q. absurd (none-some a p)
       each (Shelf name major ports mtu) = of-shelf name major ports.items mtu
-      each (Slot shelf minor sectors room) = λ i j a b lt p q. absurd (none-some a p)
-      each (Host name ports room dead) = λ i j a b lt p q. absurd (none-some a p)
-      each (Attach host shelf minor) = λ i j a b lt p q. absurd (none-some a p)
+      each _ = λ i j a b lt p q. absurd (none-some a p)
 
       across : (i j : ℕ) (a b : Line) → i < j → slice_get lines i ≡ Some a → slice_get lines j ≡ Some b → (c d : SlotSetup) → HasSlot lines a c → HasSlot lines b d → is_slot c d.station.id ≡ false
       across i j a b lt p q c d x y =
@@ -187,11 +175,8 @@ module _ (lines : List Line) (good : AreGood lines) where
         omega arith
       where
         by-kind : (i : ℕ) (x : Line) → slice_get lines i ≡ Some x → is_slot_of name x ≡ true → count_by (is_slot_of name) (take i lines) < 16
-        by-kind i (Life ms) e s = absurd cc
-        by-kind i (Shelf other number list size) e s = absurd cc
         by-kind i (Slot shelf minor sectors room) e s = subst (λ n. count_by (is_slot_of n) (take i lines) < 16) (same-is shelf name s) (good.slot i shelf minor sectors room e).few
-        by-kind i (Host other list room dead) e s = absurd cc
-        by-kind i (Attach host shelf minor) e s = absurd cc
+        by-kind i _ e s = absurd cc
 
   -- ---- numbers of shelves
 
@@ -218,11 +203,8 @@ module _ (lines : List Line) (good : AreGood lines) where
       omega arith
     where
       by-kind : (i : ℕ) (x : Line) → slice_get lines i ≡ Some x → is_shelf x ≡ true → count_by is_shelf (take i lines) < 16
-      by-kind i (Life ms) e s = absurd cc
       by-kind i (Shelf name major ports mtu) e s = (good.shelf i name major ports mtu e).few
-      by-kind i (Slot shelf minor sectors room) e s = absurd cc
-      by-kind i (Host name ports room dead) e s = absurd cc
-      by-kind i (Attach host shelf minor) e s = absurd cc
+      by-kind i _ e s = absurd cc
 
   pub has-shelves : HasShelves lines (setup_of lines)
   has-shelves = record {

@@ -8,7 +8,7 @@ use Rattle.arrayvec.specs.ArrayVec.{ArrayVec}
 use Rattle.aoe_base.specs.declared.address.Mac.{Mac}
 use Rattle.aoe_base.specs.Addresses.{holds}
 use Rattle.aoe_script.specs.declared.setup.Setup.{Setup as Line}
-use Rattle.aoe_script.specs.declared.setup.Setup.TheVariants.{Life, Shelf, Slot, Host, Attach}
+use Rattle.aoe_script.specs.declared.setup.Setup.TheVariants.{Shelf, Host}
 use Rattle.aoe_script.specs.Rules.{is_host_named, is_shelf_named, is_station_named, same}
 use Rattle.aoe_history.specs.Groups.Station.{Shelf as ShelfStation, Host as HostStation}
 use Rattle.aoe_sim_setup.specs.Layout.{addresses_in, placed, station_named, stations_of, Placed}
@@ -19,33 +19,27 @@ use Rattle.aoe_sim_setup.proofs.ListLemmas.{any-passes, find-by, filtered-at, or
 
 -- the line of a station has its addresses and its name
 ports-in : (line : Line) (p : Placed) → placed line ≡ Some p → addresses_in line ≡ p.ports
-ports-in (Life ms) p e = absurd (none-some p e)
 ports-in (Shelf name major ports mtu) p e = ap (λ z. z.ports) (same_Some _ p e)
-ports-in (Slot shelf minor sectors room) p e = absurd (none-some p e)
 ports-in (Host name ports room dead) p e = ap (λ z. z.ports) (same_Some _ p e)
-ports-in (Attach host shelf minor) p e = absurd (none-some p e)
+ports-in _ p e = absurd (none-some p e)
 
 -- both names are different, where neither line declares the other's
 apart-name : (line : Line) (p : Placed) (name : ArrayVec ℕ) → placed line ≡ Some p → is_shelf_named name line ≡ false → is_host_named name line ≡ false → p.name ≢ name
-apart-name (Life ms) p name e f g s = none-some p e
 apart-name (Shelf other major ports mtu) p name e f g s =
     let t : same other name ≡ true = subst (λ z. same other z ≡ true) (ap (λ z. z.name) (same_Some _ p e) ∙ s) (same-self other) in
     absurd cc
-apart-name (Slot shelf minor sectors room) p name e f g s = none-some p e
 apart-name (Host other ports room dead) p name e f g s =
     let t : same other name ≡ true = subst (λ z. same other z ≡ true) (ap (λ z. z.name) (same_Some _ p e) ∙ s) (same-self other) in
     absurd cc
-apart-name (Attach host shelf minor) p name e f g s = none-some p e
+apart-name _ p name e f g s = none-some p e
 
 module _ (lines : List Line) (good : AreGood lines) where
   new-name : (k : ℕ) (line : Line) (p : Placed) → slice_get lines k ≡ Some line → placed line ≡ Some p → list_any (is_station_named p.name) (take k lines) ≡ false
-  new-name k (Life ms) p e f = absurd (none-some p f)
   new-name k (Shelf name major ports mtu) p e f =
       subst (λ z. list_any (is_station_named z) (take k lines) ≡ false) (ap (λ z. z.name) (same_Some _ p f)) (good.shelf k name major ports mtu e).new_name
-  new-name k (Slot shelf minor sectors room) p e f = absurd (none-some p f)
   new-name k (Host name ports room dead) p e f =
       subst (λ z. list_any (is_station_named z) (take k lines) ≡ false) (ap (λ z. z.name) (same_Some _ p f)) (good.host k name ports room dead e).new_name
-  new-name k (Attach host shelf minor) p e f = absurd (none-some p f)
+  new-name k _ p e f = absurd (none-some p f)
 
   names-differ : Ordered (λ a b. a.name ≢ b.name) (stations_of lines)
   names-differ = ordered-filtered (λ a b. a.name ≢ b.name) placed lines (λ i j a b lt p q c d x y. go i j a b lt p q c d x y)
@@ -114,12 +108,10 @@ module _ (lines : List Line) (good : AreGood lines) where
           record { at = at.at; place = p; there = at.there; called = called; found = subst (λ n. station_named lines n ≡ Some p) called (found-station at.at p at.there) }
 
       go : (line : Line) (k : ℕ) → slice_get lines k ≡ Some line → is_station_named name line ≡ true → IsStation lines name
-      go (Life ms) k e t = absurd cc
       go (Shelf other major ports mtu) k e t =
           elim (or_cases (same other name) false t) [
             | inl is ↦ is-station (Shelf other major ports mtu) k (record { name = other; ports = ports.items; station = ShelfStation major }) e refl (same-is other name is)
             | inr never ↦ absurd cc
           ]
-      go (Slot shelf minor sectors room) k e t = absurd cc
       go (Host other ports room dead) k e t = is-station (Host other ports room dead) k (record { name = other; ports = ports.items; station = HostStation other }) e refl (same-is other name t)
-      go (Attach host shelf minor) k e t = absurd cc
+      go _ k e t = absurd cc

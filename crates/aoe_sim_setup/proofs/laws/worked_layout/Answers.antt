@@ -1,4 +1,4 @@
-use Rattle.std.proofs.Common.{ℕ, zero, suc, ◌≡◌, ◌<◌, false, [], ◌∷◌, take, All, None, refl, arith}
+use Rattle.std.proofs.Common.{ℕ, suc, ◌≡◌, ◌<◌, false, [], ◌∷◌, take, All, None, refl, arith}
 use Rattle.std.specs.Prelude.{slice_get, IfSome}
 use Rattle.std.proofs.lemmas.List.Elements.{All-cons, All-from_recursion, All-nil}
 use Rattle.aoe_history.specs.Example.{port}
@@ -10,13 +10,8 @@ use Rattle.aoe_sim_setup.proofs.laws.worked_layout.Goals as goal
 
 each-good : (k : ℕ) → IfSome (slice_get lines k) (λ line. setup_why (take k lines) false line ≡ None)
 unfolding setup_why are_ports is_name
-each-good zero = refl
-each-good (suc zero) = refl
-each-good (suc (suc zero)) = refl
-each-good (suc (suc (suc zero))) = refl
-each-good (suc (suc (suc (suc zero)))) = refl
-each-good (suc (suc (suc (suc (suc zero))))) = refl
 each-good (suc (suc (suc (suc (suc (suc k)))))) = tt
+each-good _ = refl
 
 one-fits : (n : ℕ) → n < 256 → All IsAddress (port n ∷ [])
 one-fits n small =
