@@ -178,10 +178,8 @@ indexed-dropped slab next k c tags tags_new tickets dues firsts resting resting_
 pub removed : (old new : List Entry) (e f : Entry) → f ≡ e → length new ≤ length old → (Contains old f → length new + 1 ≤ length old) → ((g : Entry) → g ≢ f → Contains old g → Contains new g) → ((g : Entry) → Contains new g → Contains old g × (g ≢ f))
     → Removed old e new
 removed old new e f is shorter fewer kept only =
-    let P : Entry → Type 0 = λ x. Removed old x new in
-    subst P is (record { shorter = shorter; fewer = fewer; kept = kept; only = only })
+    rw (← is) (record { shorter = shorter; fewer = fewer; kept = kept; only = only })
 
 pub inserted : (old new : List Entry) (e f : Entry) → f ≡ e → length new ≤ length old + 1 → Contains new f → ((g : Entry) → Contains old g → Contains new g) → ((g : Entry) → Contains new g → Contains old g ⊎ (g ≡ f)) → Inserted old e new
 inserted old new e f is longer there kept only =
-    let P : Entry → Type 0 = λ x. Inserted old x new in
-    subst P is (record { longer = longer; there = there; kept = kept; only = only })
+    rw (← is) (record { longer = longer; there = there; kept = kept; only = only })

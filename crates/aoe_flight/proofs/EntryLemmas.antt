@@ -246,8 +246,7 @@ within (x ∷ xs) (suc i) e is = omega (arith, within xs i e is)
 
 pub at-place : (xs : List Entry) (i : ℕ) (y e : Entry) → AllWithin (λ x. before x y ≡ false) xs i (length xs) → slice_get xs i ≡ Some e → before y e ≡ false → slice_get xs i ≡ Some y
 at-place xs i y e high is out =
-    let P : Entry → Type 0 = λ x. before x y ≡ false in
-    let from : before e y ≡ false = subst P (get_or_from_slice_get xs i e e is) (high i e (omega arith) (within xs i e is)) in
+    let from : before e y ≡ false = rw (← (get_or_from_slice_get xs i e e is)) (high i e (omega arith) (within xs i e is)) in
     is ∙ ap (λ (x : Entry). Some x) (neither-same e y from out)
 
 pub past-place : (xs : List Entry) (i : ℕ) (y e : Entry) → slice_get xs i ≡ Some e → before y e ≡ true → IfSome (slice_get xs i) (λ x. before y x ≡ true)
@@ -263,8 +262,7 @@ first-after xs i from (Some e) order low is = λ k d below out. elim (cases_lt k
       elim (cases_eq k i) [
         | inl same ↦ let both : get_or xs k d ≡ e = ap (λ n. get_or xs n d) same ∙ here in rw both (before-self e)
         | inr other ↦
-            let P : Entry → Type 0 = λ x. before x (get_or xs k d) ≡ true in
-            before-back e (get_or xs k d) (subst P here (ordered-apart xs i k d order (omega (arith, behind, other)) below))
+            before-back e (get_or xs k d) (rw (← here) (ordered-apart xs i k d order (omega (arith, behind, other)) below))
       ]
 ]
 

@@ -84,8 +84,7 @@ best-none test before (d ∷ commands) so_far is = elim (cases_Bool (test d && i
   | inr left ↦
       let next : best test before so_far commands ≡ None = rw left at is in
       let rest = best-none test before commands so_far next in
-      let P : Option Outstanding → Type 0 = λ o. (test d && is_better before d o) ≡ false in
-      let here = subst P rest.0 left in
+      let here = rw rest.0 at left in
       (rest.0, All-cons (λ c. test c ≡ false) d commands (no_and (test d) here) rest.1)
 ]
   where

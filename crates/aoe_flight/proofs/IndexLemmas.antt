@@ -24,8 +24,7 @@ left-out slab k test entry c old new slots there kept only o = record {
   other = λ e in_new same.
       let given = only e in_new in
       let held = o.only e given.0 in
-      let P : ℕ → Type 0 = λ n. get slab n ≡ Some held.command in
-      let one : c ≡ held.command = same-command slab k c held.command there (subst P same held.there) in
+      let one : c ≡ held.command = same-command slab k c held.command there (rw (← same) held.there) in
       let entry_is : e ≡ entry k c = held.is ∙ ap (λ n. entry n held.command) same ∙ ap (entry k) (sym one) in
       given.1 entry_is;
   only = λ e in_new. o.only e (only e in_new).0;
@@ -38,8 +37,7 @@ pub none-out : (slab : Slab Outstanding) (k : ℕ) (test : Outstanding → Bool)
 none-out slab k test entry entries fails o = record {
   other = λ e there same.
       let held = o.only e there in
-      let P : ℕ → Type 0 = λ n. get slab n ≡ Some held.command in
-      let out = fails held.command (subst P same held.there) in
+      let out = fails held.command (rw (← same) held.there) in
       let passes = held.passes in
       absurd cc;
   only = o.only;
@@ -63,15 +61,13 @@ put-in slab k test entry c old new slots there passes in_new kept only o = recor
     | inl before ↦ o.only e before
     | inr here ↦
         let slot : k ≡ e.slot = sym (ap (λ (d : Entry). d.slot) here ∙ slots k c) in
-        let P : ℕ → Type 0 = λ n. get slab n ≡ Some c in
-        record { command = c; there = subst P slot there; passes = passes; is = here ∙ ap (λ n. entry n c) slot }
+        record { command = c; there = rw (← slot) there; passes = passes; is = here ∙ ap (λ n. entry n c) slot }
   ];
   all = λ j d at d_passes. elim (cases_eq j k) [
     | inl same ↦
         let P : ℕ → Type 0 = λ n. get slab n ≡ Some d in
         let one : c ≡ d = same-command slab k c d there (subst P same at) in
-        let Q : Entry → Type 0 = λ e. Contains new e in
-        subst Q (ap (entry k) one ∙ ap (λ n. entry n d) (sym same)) in_new
+        rw (← (ap (entry k) one ∙ ap (λ n. entry n d) (sym same))) in_new
     | inr other ↦ kept (entry j d) (o.all j d other at d_passes)
   ];
 }
@@ -94,12 +90,10 @@ same-order old new k test entry c d entries there updates tests entries_are o = 
       let held = o.only e at in
       elim (cases_eq e.slot k) [
         | inl same ↦
-            let P : ℕ → Type 0 = λ n. get old n ≡ Some held.command in
-            let Q : ℕ → Type 0 = λ n. get new n ≡ Some d in
-            let one : c ≡ held.command = same-command old k c held.command there (subst P same held.there) in
+            let one : c ≡ held.command = same-command old k c held.command there (rw (← same) held.there) in
             record {
               command = d;
-              there = subst Q (sym same) updates.changed;
+              there = rw same updates.changed;
               passes = tests ∙ ap test one ∙ held.passes;
               is = held.is ∙ ap (entry e.slot) (sym one) ∙ sym (entries_are e.slot);
             }
@@ -108,10 +102,8 @@ same-order old new k test entry c d entries there updates tests entries_are o = 
   all = λ j f at passes. elim (cases_eq j k) [
     | inl same ↦
         let P : ℕ → Type 0 = λ n. get new n ≡ Some f in
-        let Q : ℕ → Type 0 = λ n. get old n ≡ Some c in
-        let R : Entry → Type 0 = λ e. Contains entries e in
         let one : d ≡ f = same-command new k d f updates.changed (subst P same at) in
-        subst R (sym (entries_are j) ∙ ap (entry j) one) (o.all j c (subst Q (sym same) there) (sym tests ∙ ap test one ∙ passes))
+        rw (← (sym (entries_are j) ∙ ap (entry j) one)) (o.all j c (rw same there) (sym tests ∙ ap test one ∙ passes))
     | inr other ↦ o.all j f (sym (updates.others j other) ∙ at) passes
   ];
 }

@@ -1,5 +1,5 @@
 -- What a slab has after a value was added.
-use Rattle.std.proofs.Common.{ℕ, zero, suc, ◌≡◌, ◌≢◌, List, [], ◌∷◌, get_or, Option, Some, None, refl, sym, ap, subst, ◌∙◌, arith}
+use Rattle.std.proofs.Common.{ℕ, zero, suc, ◌≡◌, ◌≢◌, List, [], ◌∷◌, get_or, Option, Some, None, refl, sym, ap, ◌∙◌, arith}
 use Rattle.std.specs.List.Sorted.{IsPermutation}
 use Rattle.std.proofs.lemmas.List.Sorted.{IsPermutation-cons, IsPermutation-refl, IsPermutation-swap, IsPermutation-trans}
 use Rattle.aoe_flight.specs.declared.outstanding.Outstanding.{Outstanding}
@@ -20,9 +20,8 @@ same-values [] new same = no-values new same
 same-values (o ∷ old) [] same = sym (no-values (o ∷ old) (λ key. sym (same key)))
 same-values (o ∷ old) (n ∷ new) same =
     let first : n ≡ o = same 0 in
-    let P : Option Outstanding → Type 0 = λ m. held (m ∷ new) ≡ held (o ∷ old) in
     let rest = same-values old new (λ key. same (suc key)) in
-    subst P (sym first) (kept o rest)
+    rw first (kept o rest)
   where
     kept : (m : Option Outstanding) → held new ≡ held old → held (m ∷ new) ≡ held (m ∷ old)
     kept None is = is
@@ -44,8 +43,7 @@ inserted [] (n ∷ new) (suc key) c vacant there others =
 inserted (o ∷ old) (n ∷ new) (suc key) c vacant there others =
     let first : n ≡ o = others 0 (λ same. absurd (omega (arith, same))) in
     let rest = inserted old new key c vacant there (λ other differs. others (suc other) (λ same. differs (omega (arith, same)))) in
-    let P : Option Outstanding → Type 0 = λ m. IsPermutation (c ∷ held (o ∷ old)) (held (m ∷ new)) in
-    subst P (sym first) (with_first o rest)
+    rw first (with_first o rest)
   where
     with_first : (m : Option Outstanding) → IsPermutation (c ∷ held old) (held new) → IsPermutation (c ∷ held (m ∷ old)) (held (m ∷ new))
     with_first None rest = rest

@@ -121,21 +121,17 @@ all-live test rest latest flying (x ∷ sent) all = at (is_over rest latest x) r
 -- the table at a later time
 pub same-at : (table : FlightTable) (sent : List Outstanding) (now : ℕ) → Recalls table sent → table.latest ≤ now → SameCommands (live_at table now) (live table.rest now sent)
 same-at table sent now recalls later =
-    let P : List Outstanding → Type 0 = λ l. SameCommands (live_at table now) l in
-    subst P (live-live table.rest table.latest now sent later) (same-filter (λ c. not (is_over table.rest now c)) table.commands (live table.rest table.latest sent) recalls)
+    rw (← (live-live table.rest table.latest now sent later)) (same-filter (λ c. not (is_over table.rest now c)) table.commands (live table.rest table.latest sent) recalls)
 
 pub recalls-at : (table new : FlightTable) (sent : List Outstanding) (now : ℕ) → new ≡ at_time table now → Recalls table sent → table.latest ≤ now → Recalls new sent
 recalls-at table new sent now is recalls later =
-    let P : FlightTable → Type 0 = λ t. Recalls t sent in
-    subst P (sym is) (same-at table sent now recalls later)
+    rw is (same-at table sent now recalls later)
 
 pub recalls-change : (table new : FlightTable) (sent : List Outstanding) (ticket : ℕ) (change : Outstanding → Outstanding) (now : ℕ) → new ≡ after_change table ticket change now
     → Recalls table sent → table.latest ≤ now → Recalls new (map (change_of ticket change) sent)
 recalls-change table new sent ticket change now is recalls later =
     let both_changed = same-filter (λ c. not (is_over table.rest now c)) (map (change_of ticket change) table.commands) (map (change_of ticket change) (live table.rest table.latest sent)) (same-map (change_of ticket change) table.commands (live table.rest table.latest sent) recalls) in
-    let P : List Outstanding → Type 0 = λ l. SameCommands (live table.rest now (map (change_of ticket change) table.commands)) l in
-    let Q : FlightTable → Type 0 = λ t. Recalls t (map (change_of ticket change) sent) in
-    subst Q (sym is) (subst P (live-changed table.rest table.latest now ticket change sent later) both_changed)
+    rw is (rw (← (live-changed table.rest table.latest now ticket change sent later)) both_changed)
 
 pub recalls-launch : (table new : FlightTable) (sent : List Outstanding) (c : Outstanding) (now tag : ℕ) → c.finished ≡ false → new ≡ record table { latest = now; last_tag = tag; commands = new.commands }
     → IsPermutation (c ∷ live_at table now) new.commands → Recalls table sent → table.latest ≤ now → Recalls new (c ∷ sent)
@@ -146,8 +142,7 @@ recalls-launch table new sent c now tag flying same is recalls later =
     let rest_same : new.rest ≡ table.rest = ap (λ (t : FlightTable). t.rest) same in
     let time_same : new.latest ≡ now = ap (λ (t : FlightTable). t.latest) same in
     let P : ℕ → ℕ → Type 0 = λ r t. SameCommands new.commands (live r t (c ∷ sent)) in
-    let Q : List Outstanding → Type 0 = λ l. SameCommands new.commands l in
-    subst (λ (r : ℕ). P r new.latest) (sym rest_same) (subst (λ (t : ℕ). P table.rest t) (sym time_same) (subst Q (sym fresh) all))
+    subst (λ (r : ℕ). P r new.latest) (sym rest_same) (subst (λ (t : ℕ). P table.rest t) (sym time_same) (rw fresh all))
 
 -- the first of the commands of a table is the first of all
 pub first-recalled : (test : Outstanding → Bool) (before : Outstanding → Outstanding → Bool) (table : FlightTable) → ((c : Outstanding) → c.finished ≡ true → test c ≡ false) → (result : Option Ticket)

@@ -1,5 +1,5 @@
 -- What stays true of the commands that are kept, and what the table shows after each change.
-use Rattle.std.proofs.Common.{ℕ, ◌≡◌, ◌+◌, ◌<◌, ◌≤◌, ◌||◌, cond, not, Bool, true, false, List, [], ◌∷◌, length, get_or, suc, map, Some, refl, sym, ap, subst, ◌∙◌, arith, rules, zero-add, nat_eq}
+use Rattle.std.proofs.Common.{ℕ, ◌≡◌, ◌+◌, ◌<◌, ◌≤◌, ◌||◌, cond, not, Bool, true, false, List, [], ◌∷◌, length, get_or, suc, map, Some, refl, sym, ap, ◌∙◌, arith, rules, zero-add, nat_eq}
 use Rattle.std.specs.List.{count_by, filter, find, list_any}
 use Rattle.std.specs.List.Sorted.{IsPermutation}
 use Rattle.std.specs.Prelude.{◌↔◌, IsSome}
@@ -123,8 +123,7 @@ table_of room rest dead latest last_tag commands = record { room = room; rest = 
 
 pub time-of : (room rest dead latest last_tag now : ℕ) (commands : List Outstanding) (table : FlightTable) → table_of room rest dead latest last_tag commands ≡ table → table.latest ≤ now → latest ≤ now
 time-of room rest dead latest last_tag now commands table is later =
-    let P : FlightTable → Type 0 = λ t. t.latest ≤ now in
-    subst P (sym is) later
+    rw (← is) at later
 
 pub forget-value : (room rest dead latest last_tag now : ℕ) (commands after : List Outstanding) (table : FlightTable) → table_of room rest dead latest last_tag commands ≡ table → table.latest ≤ now → after ≡ live rest now commands
     → table_of room rest dead now last_tag after ≡ at_time table now

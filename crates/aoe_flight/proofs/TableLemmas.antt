@@ -43,8 +43,7 @@ by-number ticket k d passes =
 pub no-slot : (slab : Slab Outstanding) (entries : List Entry) (ticket k : ℕ) (d : Outstanding) → IsOrderOf slab flies by_ticket entries → ¬ (Contains entries (entry_at ticket k)) → get slab k ≡ Some d → flies_as ticket d ≡ false
 no-slot slab entries ticket k d o out at = elim (cases_Bool (flies_as ticket d)) [
   | inl passes ↦
-      let P : Entry → Type 0 = λ e. Contains entries e in
-      absurd (out (subst P (by-number ticket k d passes) (o.all k d at (and_parts (not d.finished) (nat_eq d.ticket.0 ticket) passes).0)))
+      absurd (out (rw (← (by-number ticket k d passes)) (o.all k d at (and_parts (not d.finished) (nat_eq d.ticket.0 ticket) passes).0)))
   | inr fails ↦ fails
 ]
 

@@ -94,9 +94,8 @@ changed-more f p old now next from slot c d stays is changed first next_is =
     subst P (sym next_is) (record {
       below = λ k less. elim (cases_eq k slot) [
         | inl same ↦
-            let Q : ℕ → Type 0 = λ n. get (with_value now slot d) n ≡ option_map f (get old n) in
             let before : get old slot ≡ Some c = sym (changed.above slot first.behind) ∙ first.there in
-            subst Q (sym same) (updates.changed ∙ ap (λ (e : Outstanding). Some e) (sym is) ∙ sym (ap (option_map f) before))
+            rw same (updates.changed ∙ ap (λ (e : Outstanding). Some e) (sym is) ∙ sym (ap (option_map f) before))
         | inr other ↦ updates.others k other ∙ elim (cases_lt k from) [
           | inl under ↦ changed.below k under
           | inr over ↦
@@ -135,8 +134,7 @@ shorter rest now (c ∷ commands) = at (not (is_over rest now c)) (shorter rest 
 pub live-less : (rest now : ℕ) (slots : List (Option Outstanding)) (k : ℕ) (c : Outstanding) → get_or slots k None ≡ Some c → is_over rest now c ≡ true → length (live rest now (held slots)) < length (held slots)
 live-less rest now [] k c is out = absurd cc
 live-less rest now (o ∷ slots) zero c is out =
-    let P : List Outstanding → Type 0 = λ l. length (live rest now l) < length l in
-    subst P (sym (cons-some c o slots is)) (rw out (omega (arith, shorter rest now (held slots))))
+    rw (cons-some c o slots is) (rw out (omega (arith, shorter rest now (held slots))))
 live-less rest now (None ∷ slots) (suc k) c is out = live-less rest now slots k c is out
 live-less rest now (Some d ∷ slots) (suc k) c is out = at (not (is_over rest now d)) (live-less rest now slots k c is out)
   where

@@ -1,9 +1,7 @@
-use Rattle.std.proofs.Common.{◌≡◌, Option, Some, ap, refl, sym, subst, ◌∙◌, rules}
-use Rattle.std.specs.Prelude.{option_map, IsSome}
-use Rattle.std.specs.List.{find}
+use Rattle.std.proofs.Common.{◌≡◌, Some, ap, refl, sym, ◌∙◌, rules}
+use Rattle.std.specs.Prelude.{option_map}
 use Rattle.slab.specs.Slab.{values}
 use Rattle.aoe_flight.specs.declared.outstanding.Outstanding.{Outstanding}
-use Rattle.aoe_flight.specs.FlightTable.{FlightTable}
 use Rattle.aoe_flight.specs.Outstanding.{flies_as}
 use Rattle.aoe_flight.proofs.LiveLemmas.{find-live}
 use Rattle.aoe_flight.proofs.RecallLemmas.{flying-recalled}
@@ -12,9 +10,7 @@ use Rattle.aoe_flight.proofs.flight.Flight.flying.Goals as goal
 pub unwrap-requires : goal.unwrap-requires
 unwrap-requires c =
     let live = find-live (flies_as c.args.ticket.0) c.self.inside.rest.0 c.self.inside.latest.0 (λ d is. rw is refl) (values c.self.inside.commands) in
-    let P : FlightTable → Type 0 = λ t. IsSome (find (flies_as c.args.ticket.0) t.commands) in
-    let Q : Option Outstanding → Type 0 = λ o. IsSome o in
-    subst Q (live ∙ sym c.find_ticket.ensures) (subst P (sym c.self.view_is) c.requires)
+    rw (← (live ∙ sym c.find_ticket.ensures)) (rw (← c.self.view_is) at c.requires)
 
 pub returns-clause-value : goal.returns-clause-value
 returns-clause-value c =

@@ -1,4 +1,4 @@
-use Rattle.std.proofs.Common.{◌≡◌, List, ◌∷◌, ap, length, refl, subst, sym, ◌∙◌, arith, rules}
+use Rattle.std.proofs.Common.{◌≡◌, ◌∷◌, ap, length, refl, sym, ◌∙◌, arith, rules}
 use Rattle.std.specs.List.Sorted.{IsPermutation}
 use Rattle.std.proofs.lemmas.Bool.{eq-eqb}
 use Rattle.slab.specs.Slab.{values}
@@ -75,18 +75,14 @@ pub returns-clause-command : goal.returns-clause-command
 returns-clause-command c =
     let old = live-view _ _ _ _ _ c.args.now.0 (values c.self.inside.commands) c.args.self.now c.self.view_is c.requires in
     let new = launched c.args.ticket c.next_tag-tag.result c.args.now c.args.path c.args.wait in
-    let P : Outstanding → Type 0 = λ d. IsPermutation (d ∷ values c.forget.new.self) (values c.insert.new.self) in
-    let Q : List Outstanding → Type 0 = λ l. IsPermutation (new ∷ l) (values c.insert.new.self) in
-    let all : IsPermutation (new ∷ live c.self.inside.rest.0 c.args.now.0 (values c.self.inside.commands)) (values c.insert.new.self) = subst Q c.forget.ensures.values (subst P c.launched-command.ensures c.insert.ensures.values) in
+    let all : IsPermutation (new ∷ live c.self.inside.rest.0 c.args.now.0 (values c.self.inside.commands)) (values c.insert.new.self) = rw (← c.forget.ensures.values) (rw (← c.launched-command.ensures) c.insert.ensures.values) in
     let alive = live-new c.self.inside.rest.0 c.args.now.0 new (values c.self.inside.commands) (values c.insert.new.self) refl all in
     rw (old, alive) all
 
 pub returns-clause-flies : goal.returns-clause-flies
 returns-clause-flies c =
     let new = launched c.args.ticket c.next_tag-tag.result c.args.now c.args.path c.args.wait in
-    let P : Outstanding → Type 0 = λ d. IsPermutation (d ∷ values c.forget.new.self) (values c.insert.new.self) in
-    let Q : List Outstanding → Type 0 = λ l. IsPermutation (new ∷ l) (values c.insert.new.self) in
-    let all : IsPermutation (new ∷ live c.self.inside.rest.0 c.args.now.0 (values c.self.inside.commands)) (values c.insert.new.self) = subst Q c.forget.ensures.values (subst P c.launched-command.ensures c.insert.ensures.values) in
+    let all : IsPermutation (new ∷ live c.self.inside.rest.0 c.args.now.0 (values c.self.inside.commands)) (values c.insert.new.self) = rw (← c.forget.ensures.values) (rw (← c.launched-command.ensures) c.insert.ensures.values) in
     let alive = live-new c.self.inside.rest.0 c.args.now.0 new (values c.self.inside.commands) (values c.insert.new.self) refl all in
     rw alive (flies-new c.args.ticket.0 new (live c.self.inside.rest.0 c.args.now.0 (values c.self.inside.commands)) (values c.insert.new.self) all (eq-eqb c.args.ticket.0 c.args.ticket.0 refl))
 

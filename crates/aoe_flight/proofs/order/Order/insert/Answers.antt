@@ -1,6 +1,5 @@
-use Rattle.std.proofs.Common.{◌≡◌, List, length, rules, arith, ap, subst}
+use Rattle.std.proofs.Common.{◌≡◌, List, length, rules, arith, ap}
 use Rattle.std.specs.List.{insert}
-use Rattle.std.specs.Prelude.{Contains}
 use Rattle.std.proofs.lemmas.List.Edits.{length-insert}
 use Rattle.aoe_flight.specs.declared.order.Entry.{Entry}
 use Rattle.aoe_flight.specs.Order.{OrderTable}
@@ -35,9 +34,7 @@ returns-then-not-is_at-clause-only c = λ e there.
     let xs = c.self.inside.entries.items in
     let same = ap (λ (o : OrderTable). o.entries) c.self.view_is in
     let items : c.insert.new.self.items ≡ insert xs c.place-place.result c.args.entry = done-ok c.insert.result _ _ _ c.insert.ensures.items c.insert.ensures.full (search rules) in
-    let P : List Entry → Type 0 = λ l. Contains (insert l c.place-place.result c.args.entry) e in
-    let Q : List Entry → Type 0 = λ l. Contains l e in
-    inserted-only c.args.self.now.entries c.place-place.result c.args.entry e c.place-place.ensures.bound (subst P same (subst Q items there))
+    inserted-only c.args.self.now.entries c.place-place.result c.args.entry e c.place-place.ensures.bound (rw (← same) (rw (← items) there))
 
 pub returns-else-not-is_at-clause-there : goal.returns-else-not-is_at-clause-there
 returns-else-not-is_at-clause-there c = get-contains c.args.self.now.entries c.place-place.result c.args.entry (c.is_at.ensures.here c.if-not-is_at.false)

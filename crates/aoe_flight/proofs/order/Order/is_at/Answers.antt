@@ -1,8 +1,8 @@
 use Rattle.std.proofs.Common.{◌≡◌, true, Some, length, refl, subst, sym, ◌∙◌}
-use Rattle.std.specs.Prelude.{slice_get, IfSome}
+use Rattle.std.specs.Prelude.{slice_get}
 use Rattle.std.proofs.lemmas.Bool.{not-true}
 use Rattle.std.proofs.lemmas.Option.{slice_get_read}
-use Rattle.aoe_flight.specs.Order.{before, OrderTable}
+use Rattle.aoe_flight.specs.Order.{OrderTable}
 use Rattle.aoe_flight.proofs.EntryLemmas.{at-place, none-behind, not-false, past-place}
 use Rattle.aoe_flight.proofs.order.Order.is_at.Goals as goal
 
@@ -22,5 +22,4 @@ returns-in-Some-clause-out c = λ is.
 
 pub returns-in-None-clause-out : goal.returns-in-None-clause-out
 returns-in-None-clause-out c = λ is.
-    let P : OrderTable → Type 0 = λ t. IfSome (slice_get t.entries c.args.place) (λ e. before c.args.entry.now e ≡ true) in
-    subst P c.self.view_is (none-behind c.self.inside.entries.items c.args.place c.args.entry.now c.in-None.ensures.item)
+    rw (← c.self.view_is) (none-behind c.self.inside.entries.items c.args.place c.args.entry.now c.in-None.ensures.item)

@@ -1,8 +1,7 @@
-use Rattle.std.proofs.Common.{◌≡◌, true, false, length, rules, subst}
-use Rattle.std.specs.List.{AllWithin}
+use Rattle.std.proofs.Common.{rules}
 use Rattle.std.proofs.lemmas.List.Sorted.{IsPartitionPoint-from_clause}
 use Rattle.aoe_flight.specs.declared.order.Entry.{Entry}
-use Rattle.aoe_flight.specs.Order.{before, OrderTable}
+use Rattle.aoe_flight.specs.Order.{before}
 use Rattle.aoe_flight.proofs.EntryLemmas.{partitioned}
 use Rattle.aoe_flight.proofs.order.Order.place.Goals as goal
 
@@ -10,12 +9,10 @@ pub returns-clause-low : goal.returns-clause-low
 returns-clause-low c =
     let xs = c.self.inside.entries.items in
     let point = IsPartitionPoint-from_clause (λ (e : Entry). before e c.args.entry.now) xs c.partition_point.result c.partition_point.ensures.partitioned (partitioned c.args.entry.now xs c.self.invariant.order) (λ a r f h. search rules) in
-    let P : OrderTable → Type 0 = λ t. AllWithin (λ e. before e c.args.entry.now ≡ true) t.entries 0 c.partition_point.result in
-    subst P c.self.view_is point.0
+    rw (← c.self.view_is) point.0
 
 pub returns-clause-high : goal.returns-clause-high
 returns-clause-high c =
     let xs = c.self.inside.entries.items in
     let point = IsPartitionPoint-from_clause (λ (e : Entry). before e c.args.entry.now) xs c.partition_point.result c.partition_point.ensures.partitioned (partitioned c.args.entry.now xs c.self.invariant.order) (λ a r f h. search rules) in
-    let P : OrderTable → Type 0 = λ t. AllWithin (λ e. before e c.args.entry.now ≡ false) t.entries c.partition_point.result (length t.entries) in
-    subst P c.self.view_is point.1
+    rw (← c.self.view_is) point.1

@@ -1,7 +1,6 @@
-use Rattle.std.proofs.Common.{◌≡◌, List, Some, rules, arith, ap, refl, subst}
+use Rattle.std.proofs.Common.{◌≡◌, Some, rules, arith, ap, refl}
 use Rattle.std.specs.List.{remove}
-use Rattle.std.specs.Prelude.{slice_get, Contains}
-use Rattle.aoe_flight.specs.declared.order.Entry.{Entry}
+use Rattle.std.specs.Prelude.{slice_get}
 use Rattle.aoe_flight.specs.Order.{OrderTable}
 use Rattle.aoe_flight.proofs.EntryLemmas.{found-there, length-remove, ordered-remove, removed-kept, removed-only, taken-out}
 use Rattle.aoe_flight.proofs.order.Order.remove.Goals as goal
@@ -34,9 +33,7 @@ returns-then-is_at-clause-only c = λ e there.
     let here = c.is_at.ensures.here c.if-is_at.true in
     let inside : slice_get xs c.place-place.result ≡ Some c.args.entry = rw same here in
     let items : c.remove.new.self.items ≡ remove xs c.place-place.result = taken-out c.remove.result _ xs c.place-place.result c.args.entry c.remove.ensures.items inside (search rules) in
-    let P : List Entry → Type 0 = λ l. Contains (remove l c.place-place.result) e in
-    let Q : List Entry → Type 0 = λ l. Contains l e in
-    removed-only c.args.self.now.entries c.place-place.result c.args.entry e c.place-place.ensures.order here (subst P same (subst Q items there))
+    removed-only c.args.self.now.entries c.place-place.result c.args.entry e c.place-place.ensures.order here (rw (← same) (rw (← items) there))
 
 pub returns-else-is_at-clause-length : goal.returns-else-is_at-clause-length
 returns-else-is_at-clause-length c = λ there.

@@ -1,6 +1,3 @@
-use Rattle.std.proofs.Common.{◌≡◌, Some, subst, sym}
-use Rattle.slab.specs.Slab.{get, Slab}
-use Rattle.aoe_flight.specs.declared.outstanding.Outstanding.{Outstanding}
 use Rattle.aoe_flight.specs.Table.{by_last, by_tag}
 use Rattle.aoe_flight.proofs.ChangeLemmas.{indexed-dropped, removed}
 use Rattle.aoe_flight.proofs.table.Table.drop_slot.Goals as goal
@@ -8,8 +5,7 @@ use Rattle.aoe_flight.proofs.table.Table.drop_slot.Goals as goal
 pub invariant_of-self : goal.invariant_of-self
 invariant_of-self c =
     let slab = c.self.inside.slots in
-    let P : Slab Outstanding → Type 0 = λ s. get s c.args.slot ≡ Some c.args.command in
-    let at = subst P (sym c.self.view_is) c.requires.there in
+    let at = rw (← c.self.view_is) at c.requires.there in
     let tag = c.remove-2.ensures in
     let last = c.remove-3.ensures in
     indexed-dropped slab c.remove.new.self c.args.slot c.args.command c.self.inside.tags c.remove-2.new.self c.self.inside.tickets c.self.inside.dues c.self.inside.firsts c.self.inside.rests c.remove-3.new.self

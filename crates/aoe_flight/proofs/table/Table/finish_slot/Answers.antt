@@ -1,6 +1,5 @@
-use Rattle.std.proofs.Common.{◌≡◌, Some, arith, refl, subst, sym, ◌∙◌}
-use Rattle.slab.specs.Slab.{get, with_value, Slab}
-use Rattle.aoe_flight.specs.declared.outstanding.Outstanding.{Outstanding}
+use Rattle.std.proofs.Common.{arith, refl, ◌∙◌}
+use Rattle.slab.specs.Slab.{with_value}
 use Rattle.aoe_flight.specs.Outstanding.{after_finish}
 use Rattle.aoe_flight.specs.Table.{by_due, by_first, by_last, by_tag, by_ticket}
 use Rattle.aoe_flight.proofs.ChangeLemmas.{flies-true, indexed-finished, inserted, removed}
@@ -9,8 +8,7 @@ use Rattle.aoe_flight.proofs.table.Table.finish_slot.Goals as goal
 pub insert-requires-2 : goal.insert-requires-2
 insert-requires-2 c =
     let i = c.self.invariant in
-    let P : Slab Outstanding → Type 0 = λ s. get s c.args.slot ≡ Some c.args.command in
-    let at = subst P (sym c.self.view_is) c.requires.there in
+    let at = rw (← c.self.view_is) at c.requires.there in
     let out = c.remove-2.ensures in
     let gone = removed _ _ (by_ticket c.args.slot c.args.command) c.by_ticket.result c.by_ticket.ensures out.shorter out.length out.kept out.only in
     let less = gone.fewer (i.has_tickets.all c.args.slot c.args.command at (flies-true c.args.command c.requires.flies)) in
@@ -21,8 +19,7 @@ invariant_of-self c =
     let slab = c.self.inside.slots in
     let k = c.args.slot in
     let command = c.args.command in
-    let P : Slab Outstanding → Type 0 = λ s. get s c.args.slot ≡ Some c.args.command in
-    let at = subst P (sym c.self.view_is) c.requires.there in
+    let at = rw (← c.self.view_is) at c.requires.there in
     let tag_out = c.remove.ensures in
     let ticket_out = c.remove-2.ensures in
     let due_out = c.remove-3.ensures in

@@ -1,8 +1,5 @@
-use Rattle.std.proofs.Common.{◌≤◌, ap, subst, sym, ◌∙◌, arith}
-use Rattle.std.specs.Prelude.{All}
-use Rattle.slab.specs.Slab.{values, Slab}
+use Rattle.std.proofs.Common.{◌≤◌, ap, sym, ◌∙◌, arith}
 use Rattle.aoe_flight.specs.declared.order.Entry.{Entry}
-use Rattle.aoe_flight.specs.declared.outstanding.Outstanding.{Outstanding}
 use Rattle.aoe_flight.specs.Outstanding.{is_due}
 use Rattle.aoe_flight.specs.Table.{by_due, flies}
 use Rattle.aoe_flight.proofs.TableLemmas.{all-at, due-flying, due-past, first-due, head-of, head-there, if-none, none-pass, none-past, slot-held}
@@ -31,7 +28,6 @@ returns-else-is_due-clause-none g c =
     let head = sym c.in_ok-first.ensures.value in
     let is = head-of slab flies by_due entries c.in_ok-first.first command c.self.invariant.has_dues head (sym c.in_ok-command.ensures) in
     let at = ap (λ (e : Entry). e.at) is.0 in
-    let P : Slab Outstanding → Type 0 = λ s. All (λ d. d.flying.last.0 ≤ now) (values s) in
-    let past = subst P (sym c.self.view_is) c.requires in
+    let past = rw (← c.self.view_is) at c.requires in
     rw (← c.self.view_is) (none-past slab flies (is_due now) by_due entries c.in_ok-first.first (due-flying now) c.self.invariant.has_dues c.in_ok-first.ensures.order head
     (λ k d at_k tests later. due-past now command d is.1 (all-at (λ o. o.flying.last.0 ≤ now) slab k d past at_k) (sym c.is_due.ensures ∙ c.if-is_due.false) (omega (arith, later, at))))

@@ -1,5 +1,4 @@
-use Rattle.std.proofs.Common.{◌≡◌, ◌≤◌, ◌<◌, ℕ, Some, subst, sym}
-use Rattle.std.specs.Prelude.{Contains}
+use Rattle.std.proofs.Common.{◌≡◌, Some, subst, sym}
 use Rattle.slab.specs.Slab.{get, Slab}
 use Rattle.aoe_flight.specs.declared.outstanding.Outstanding.{Outstanding}
 use Rattle.aoe_flight.specs.Order.{entry_at}
@@ -13,9 +12,8 @@ returns-in_err-slot-clause-none c =
     let slab = c.self.inside.slots in
     let entries = c.self.inside.tickets.entries in
     if-none c.from_residual.result _ (λ k d from at.
-    let P : ℕ → Type 0 = λ n. ¬ (Contains entries (entry_at n k)) in
     let Q : Slab Outstanding → Type 0 = λ s. get s k ≡ Some d in
-    no-slot slab entries c.args.ticket.0 k d c.self.invariant.has_tickets (subst P c.from.ensures (c.in_err-slot.ensures.none k from)) (subst Q (sym c.self.view_is) at))
+    no-slot slab entries c.args.ticket.0 k d c.self.invariant.has_tickets (rw (← c.from.ensures) (c.in_err-slot.ensures.none k from)) (subst Q (sym c.self.view_is) at))
 
 pub returns-in_err-command-clause-none : goal.returns-in_err-command-clause-none
 returns-in_err-command-clause-none c =
@@ -26,8 +24,6 @@ pub returns-clause-some : goal.returns-clause-some
 returns-clause-some c =
     let slab = c.self.inside.slots in
     let entries = c.self.inside.tickets.entries in
-    let P : ℕ → Type 0 = λ n. (k : ℕ) → c.args.from ≤ k → k < c.in_ok-slot.slot → ¬ (Contains entries (entry_at n k)) in
-    let Q : ℕ → Type 0 = λ n. Contains entries (entry_at n c.in_ok-slot.slot) in
     let R : Slab Outstanding → Type 0 = λ s. IsFirstSlot (flies_as c.args.ticket.0) s c.args.from c.in_ok-slot.slot c.in_ok-command.command.now in
-    subst R c.self.view_is (first-slot slab entries c.args.ticket.0 c.args.from c.in_ok-slot.slot c.in_ok-command.command.now c.self.invariant.has_tickets (subst Q c.from.ensures c.in_ok-slot.ensures.there) c.in_ok-slot.ensures.from
-    (subst P c.from.ensures c.in_ok-slot.ensures.first) (sym c.in_ok-command.ensures))
+    subst R c.self.view_is (first-slot slab entries c.args.ticket.0 c.args.from c.in_ok-slot.slot c.in_ok-command.command.now c.self.invariant.has_tickets (rw (← c.from.ensures) c.in_ok-slot.ensures.there) c.in_ok-slot.ensures.from
+    (rw (← c.from.ensures) c.in_ok-slot.ensures.first) (sym c.in_ok-command.ensures))

@@ -1,7 +1,5 @@
-use Rattle.std.proofs.Common.{◌≡◌, Some, ap, arith, subst, sym, ◌∙◌}
-use Rattle.slab.specs.Slab.{get, Slab}
+use Rattle.std.proofs.Common.{ap, arith, sym, ◌∙◌}
 use Rattle.aoe_flight.specs.declared.order.Entry.{Entry}
-use Rattle.aoe_flight.specs.declared.outstanding.Outstanding.{Outstanding}
 use Rattle.aoe_flight.specs.Outstanding.{is_over}
 use Rattle.aoe_flight.specs.Table.{by_last, rests}
 use Rattle.aoe_flight.proofs.TableLemmas.{head-of, head-there, if-none, none-pass, none-past, over-past, over-rests, slot-held}
@@ -18,8 +16,7 @@ returns-in_err-command-clause-none c =
 
 pub returns-then-is_over-clause-some : goal.returns-then-is_over-clause-some
 returns-then-is_over-clause-some c =
-    let P : Slab Outstanding → Type 0 = λ s. get s c.in_ok-first.first.slot ≡ Some c.in_ok-command.command.now in
-    (subst P c.self.view_is (sym c.in_ok-command.ensures), sym c.is_over.ensures ∙ c.if-is_over.true)
+    (rw (← c.self.view_is) (sym c.in_ok-command.ensures), sym c.is_over.ensures ∙ c.if-is_over.true)
 
 pub returns-else-is_over-clause-none : goal.returns-else-is_over-clause-none
 returns-else-is_over-clause-none c =
