@@ -100,8 +100,7 @@ pub covers-left : (extent kept : Extent) (old more new : BTreeSet Key) (life lat
     → ((c : Command) → HasKey old c → HasKey more c) → ((c : Command) → IsNonePast life latest reserved c → HasKey more c → HasKey new c) → ((keys : BTreeSet Key) → Covers extent keys first → Covers kept keys first)
     → Covers extent old held → Covers kept new then
 covers-left extent kept old more new life latest held reserved first then up same first_is then_is adds keeps widens covers =
-    let P : List Command → Type 0 = λ l. (c : Command) → IsNonePast life latest l c → HasKey more c → HasKey new c in
-    let lives = covers-kept extent more new life latest held up (subst P same keeps) (covers-more extent old more held held refl adds covers) in
+    let lives = covers-kept extent more new life latest held up (rw (← same) keeps) (covers-more extent old more held held refl adds covers) in
     subst (Covers kept new) (first_is ∙ sym then_is) (widens new (subst (Covers extent new) (sym first_is) lives))
 
 -- ---- what a command can conflict with

@@ -1,5 +1,5 @@
 -- The commands that wait for an unfinished one, after each change of the commands.
-use Rattle.std.proofs.Common.{ℕ, ◌≡◌, ◌+◌, ◌&&◌, ◌||◌, not, cond, get_or, Bool, true, false, List, [], ◌∷◌, ◌++◌, inl, inr, refl, sym, ap, subst, ◌∙◌, arith, nat_eq}
+use Rattle.std.proofs.Common.{ℕ, ◌≡◌, ◌+◌, ◌&&◌, ◌||◌, not, cond, get_or, Bool, true, false, List, [], ◌∷◌, ◌++◌, inl, inr, refl, sym, ap, ◌∙◌, arith, nat_eq}
 use Rattle.std.specs.Prelude.{All}
 use Rattle.std.specs.List.{count_by, filter, list_any}
 use Rattle.std.proofs.lemmas.Bool.{and_parts, cases_Bool, eq-eqb, eqb-false, eqb-true, ne_eqb, not-false, or_cases, or_parts}
@@ -193,8 +193,6 @@ held-ended ticket commands after ended new waiters e its new_is held = λ k d be
       | inl same ↦
           let from : w.from ≡ ticket = eqb-true w.from ticket same in
           let open_yet : finished new.stage ≡ false = sym (ap (λ n. nat_eq w.from n && finished new.stage) new-ticket ∙ ap (λ b. b && finished new.stage) same) ∙ out in
-          let P : ℕ → Type 0 = λ n. list_any (λ e. nat_eq e.ticket.0 n && blocks w.command e) commands ≡ true in
-          let Q : ℕ → Type 0 = λ n. list_any (λ e. nat_eq e.ticket.0 n && blocks w.command e) after ≡ true in
-          subst Q (sym from) (held-there ticket commands after ended new w.command e its new_is open_yet (subst P from held_by))
+          rw from (held-there ticket commands after ended new w.command e its new_is open_yet (rw (← from) held_by))
       | inr other ↦ held-elsewhere ticket w.from commands after w.command e.is other held_by
     ]

@@ -38,14 +38,12 @@ pub index-entered : (life latest unsent : ℕ) (greatest : Option ℕ) (commands
     → IsIndex life latest unsent commands timed ready → IsIndex life latest (unsent + 1) after timed_new ready
 index-entered life latest unsent greatest commands kept after c timed ready timed_new fresh up above kept_is after_is queued knows room timed_room ready_room index =
     let K : List Waiter → Type 0 = λ ws. All (Knows life latest after) ws in
-    let Q : List Command → Type 0 = λ l. (test : Command → Bool) → count_by (λ w. test w.command) timed_new.waiters ≡ cond (not (is_blocked l c) && test c) 1 0 + count_by (λ w. test w.command) timed.waiters in
-    let A : List Command → Type 0 = λ l. after ≡ l ++ c ∷ [] in
     let old_timed : All (Knows life latest kept) timed.waiters = let P : List Command → Type 0 = λ l. All (Knows life latest l) timed.waiters in subst P (sym kept_is) (knows-live life latest commands timed.waiters index.knows_timed) in
     let old_ready : All (Knows life latest kept) ready.waiters = let P : List Command → Type 0 = λ l. All (Knows life latest l) ready.waiters in subst P (sym kept_is) (knows-live life latest commands ready.waiters index.knows_ready) in
     let to_after : (ws : List Waiter) → All (Knows life latest kept) ws → All (Knows life latest after) ws = λ ws all.
     let P : List Command → Type 0 = λ l. All (Knows life latest l) ws in subst P (sym after_is) (knows-entered life latest kept c ws fresh all) in
     record {
-      same = entered-waits life latest greatest commands after c timed.waiters timed_new.waiters ready.waiters fresh up above (subst A kept_is after_is) (subst Q kept_is queued) index.same;
+      same = entered-waits life latest greatest commands after c timed.waiters timed_new.waiters ready.waiters fresh up above (rw (← kept_is) after_is) (rw (← kept_is) queued) index.same;
       knows_timed = to_after timed_new.waiters (knows old_timed);
       knows_ready = to_after ready.waiters old_ready;
       past = index.past;
@@ -105,8 +103,7 @@ pub held-entered : (life latest unsent : ℕ) (commands kept after : List Comman
     → ((skip : Waiter → Bool) → All (λ w. skip w ≡ false → IsHeldBy kept w) blocked.waiters → All (λ w. skip w ≡ false → IsHeldBy kept w) blocked_new.waiters)
     → blocked_new.room ≡ blocked.room → unsent + 1 ≤ blocked.room → AreHeld unsent commands timed ready blocked → AreHeld (unsent + 1) after timed_new ready blocked_new
 held-entered life latest unsent commands kept after c timed ready blocked timed_new blocked_new fresh kept_is after_is queued_timed queued_blocked queued room enough all_held =
-    let K : List Command → Type 0 = λ l. All (IsHeldBy l) blocked.waiters in
-    let before : All (IsHeldBy kept) blocked.waiters = subst K (sym kept_is) (held-live life latest commands blocked.waiters all_held.held) in
+    let before : All (IsHeldBy kept) blocked.waiters = rw kept_is (held-live life latest commands blocked.waiters all_held.held) in
     let now = queued (λ _. false) (λ k d below _. before k d below) in
     record {
       all = λ test.

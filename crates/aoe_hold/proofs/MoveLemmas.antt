@@ -175,5 +175,4 @@ none-more commands c left until x some within read out rest k d from below = eli
 pub not-waited : (commands : List Command) (c ended : Command) (from : ℕ) → list_any (λ e. nat_eq e.ticket.0 from && blocks c e) commands ≡ true → list_any (λ e. nat_eq e.ticket.0 ended.ticket.0 && blocks c e) commands ≡ false
     → nat_eq from ended.ticket.0 ≡ false
 not-waited commands c ended from held out = ne_eqb from ended.ticket.0 (λ same.
-    let P : ℕ → Type 0 = λ n. list_any (λ e. nat_eq e.ticket.0 n && blocks c e) commands ≡ true in
-    true≢false (sym (subst P same held) ∙ out))
+    true≢false (sym (rw (← same) held) ∙ out))

@@ -88,5 +88,4 @@ gone-none life latest commands = All-nil (λ c. is_past life latest c ≡ true)
 
 pub gone-more : (life latest gone : ℕ) (commands : List Command) (x : Command) → gone < length commands → x ≡ get_or commands gone x → is_past life latest x ≡ true → ArePast life latest gone commands → ArePast life latest (gone + 1) commands
 gone-more life latest gone commands x within read is past =
-    let P : List Command → Type 0 = λ l. All (λ c. is_past life latest c ≡ true) l in
-    subst P (sym (take-more commands gone x within ∙ ap (λ y. take gone commands ++ y ∷ []) (sym read))) (All-push (λ (c : Command). is_past life latest c ≡ true) (take gone commands) x past is)
+    rw (take-more commands gone x within ∙ ap (λ y. take gone commands ++ y ∷ []) (sym read)) (All-push (λ (c : Command). is_past life latest c ≡ true) (take gone commands) x past is)

@@ -25,8 +25,7 @@ sent-over life t now (Finished last) out = out
 
 pub past-sent : (life from ticket : ℕ) (now : Millis) (commands after : List Command) → after ≡ after_stage ticket (stage_sent now) commands → NonePastBefore life from commands → NonePastBefore life from after
 past-sent life from ticket now commands after is none t before =
-    let P : List Command → Type 0 = λ l. All (λ c. is_past life t c ≡ false) l in
-    subst P (sym is) (All-map (λ (c : Command). is_past life t c ≡ false) (with_stage ticket (stage_sent now)) commands (λ k d below. one (get_or commands k d) (none t before k d below)))
+    rw is (All-map (λ (c : Command). is_past life t c ≡ false) (with_stage ticket (stage_sent now)) commands (λ k d below. one (get_or commands k d) (none t before k d below)))
   where
     one : (c : Command) → is_past life t c ≡ false → is_past life t (with_stage ticket (stage_sent now) c) ≡ false
     one c out = at (nat_eq c.ticket.0 ticket)
@@ -44,9 +43,8 @@ past-ended life from more next i commands ended is late none now before =
 pub past-more : (life from more next i : ℕ) (commands : List Command) (x : Command) → next ≡ min from more → i < length commands → x ≡ get_or commands i x → ((now : ℕ) → now < more → is_past life now x ≡ false)
     → NonePastBefore life from (take i commands) → NonePastBefore life next (take (i + 1) commands)
 past-more life from more next i commands x is below read late none now before =
-    let P : List Command → Type 0 = λ l. All (λ c. is_past life now c ≡ false) l in
     let done : take (i + 1) commands ≡ take i commands ++ x ∷ [] = take-more commands i x below ∙ ap (λ y. take i commands ++ y ∷ []) (sym read) in
-    subst P (sym done) (All-push (λ (c : Command). is_past life now c ≡ false) (take i commands) x (none now (omega (arith, is, before))) (late now (omega (arith, is, before))))
+    rw done (All-push (λ (c : Command). is_past life now c ≡ false) (take i commands) x (none now (omega (arith, is, before))) (late now (omega (arith, is, before))))
 
 pub past-whole : (life from i : ℕ) (commands : List Command) → length commands ≤ i → NonePastBefore life from (take i commands) → NonePastBefore life from commands
 past-whole life from i commands least none now before = let P : List Command → Type 0 = λ l. All (λ c. is_past life now c ≡ false) l in subst P (take-whole commands i least) (none now before)

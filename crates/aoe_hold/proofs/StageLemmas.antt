@@ -64,8 +64,7 @@ pub stage-set : (ticket : ℕ) (change : Stage → Stage) (commands : List Comma
     → position (λ c. nat_eq c.ticket.0 ticket) commands ≡ Some i → command ≡ get_or commands i command → stage ≡ change command.stage
     → set commands i (record command { stage = stage }) ≡ after_stage ticket change commands
 stage-set ticket change commands i command stage ascending found read stage_is =
-    let P : Command → Type 0 = λ c. set commands i (record c { stage = change c.stage }) ≡ after_stage ticket change commands in
-    rw stage_is (subst P (sym read) (stage-at ticket change commands i command ascending found))
+    rw stage_is (rw read (stage-at ticket change commands i command ascending found))
 
 changed-count : (commands : List Command) (i : ℕ) (command : Command) (stage : Stage) → i < length commands → command ≡ get_or commands i command
     → unsent_count (set commands i (record command { stage = stage })) + cond (is_unsent command) 1 0 ≡ unsent_count commands + cond (unsent stage) 1 0

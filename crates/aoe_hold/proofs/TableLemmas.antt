@@ -1,5 +1,5 @@
 -- What the table shows after each change.
-use Rattle.std.proofs.Common.{ℕ, ◌≡◌, ◌+◌, ◌<◌, ◌≤◌, cond, not, true, List, [], ◌∷◌, ◌++◌, Option, Some, None, refl, sym, ap, subst, ◌∙◌, arith, nat_eq}
+use Rattle.std.proofs.Common.{ℕ, ◌≡◌, ◌+◌, ◌<◌, ◌≤◌, cond, not, true, List, [], ◌∷◌, ◌++◌, Option, Some, None, refl, sym, ap, ◌∙◌, arith, nat_eq}
 use Rattle.std.specs.Prelude.{option_map, All, Contains, IfNone, IfSome}
 use Rattle.std.specs.List.{filter, find}
 use Rattle.std.specs.Option.{ForSome}
@@ -19,18 +19,15 @@ table_of life latest greatest commands ready = record { life = life; latest = la
 recalls-of : {ready : List ℕ} (life latest : ℕ) (greatest : Option ℕ) (held : List Command) (table : HoldTable) → table_of life latest greatest held ready ≡ table → (entered : List Command) → Recalls table entered
     → live life latest held ≡ live life latest entered
 recalls-of life latest greatest held table is entered recalls =
-    let P : HoldTable → Type 0 = λ t. Recalls t entered in
-    subst P (sym is) recalls
+    rw (← is) at recalls
 
 pub time-of : {ready : List ℕ} (life latest now : ℕ) (greatest : Option ℕ) (held : List Command) (table : HoldTable) → table_of life latest greatest held ready ≡ table → table.latest ≤ now → latest ≤ now
 time-of life latest now greatest held table is later =
-    let P : HoldTable → Type 0 = λ t. t.latest ≤ now in
-    subst P (sym is) later
+    rw (← is) at later
 
 pub room-view : (table view : HoldTable) (most : ℕ) → view ≡ table → unsent_count table.commands < most → unsent_count view.commands < most
 room-view table view most is room =
-    let P : HoldTable → Type 0 = λ t. unsent_count t.commands < most in
-    subst P (sym is) room
+    rw (← is) at room
 
 pub above-view : (table view : HoldTable) (ticket : ℕ) → view ≡ table → ForSome table.greatest (λ g. g < ticket) → ForSome view.greatest (λ g. g < ticket)
 above-view table view ticket is above = rw is above
@@ -87,16 +84,14 @@ pub answer-clear : {ready : List ℕ} (life latest now : ℕ) (greatest : Option
     → IfSome result (λ ticket. (entered : List Command) → Recalls table entered → Contains (clear_tickets table.life now entered) ticket.0)
 answer-clear life latest now greatest held table is later None found = tt
 answer-clear life latest now greatest held table is later (Some ticket) found = λ entered recalls.
-    let P : List ℕ → Type 0 = λ tickets. Contains tickets ticket.0 in
-    subst P (clear-recalls life latest now greatest held table is later entered recalls) (first-contained (is_clear life now held) held ticket (sym found))
+    rw (← (clear-recalls life latest now greatest held table is later entered recalls)) (first-contained (is_clear life now held) held ticket (sym found))
 
 pub answer-lowest : {ready : List ℕ} (life latest now : ℕ) (greatest : Option ℕ) (held : List Command) (table : HoldTable) → table_of life latest greatest held ready ≡ table → table.latest ≤ now
     → is_ascending held ≡ true → (result : Option Ticket) → result ≡ option_map (λ c. c.ticket) (find (is_clear life now held) held)
     → IfSome result (λ ticket. (entered : List Command) → Recalls table entered → All (λ other. ticket.0 ≤ other) (clear_tickets table.life now entered))
 answer-lowest life latest now greatest held table is later ascending None found = tt
 answer-lowest life latest now greatest held table is later ascending (Some ticket) found = λ entered recalls.
-    let P : List ℕ → Type 0 = λ tickets. All (λ other. ticket.0 ≤ other) tickets in
-    subst P (clear-recalls life latest now greatest held table is later entered recalls) (first-lowest (is_clear life now held) held ticket ascending (sym found))
+    rw (← (clear-recalls life latest now greatest held table is later entered recalls)) (first-lowest (is_clear life now held) held ticket ascending (sym found))
 
 pub answer-none : {ready : List ℕ} (life latest now : ℕ) (greatest : Option ℕ) (held : List Command) (table : HoldTable) → table_of life latest greatest held ready ≡ table → table.latest ≤ now
     → (result : Option Ticket) → result ≡ option_map (λ c. c.ticket) (find (is_clear life now held) held)

@@ -1,9 +1,7 @@
-use Rattle.std.proofs.Common.{◌≡◌, get_or, rules, subst, sym, true}
-use Rattle.std.specs.BTreeSet.{BTreeSet}
+use Rattle.std.proofs.Common.{◌≡◌, get_or, rules, true}
 use Rattle.aoe_hold.specs.declared.command.Command.{Command}
-use Rattle.aoe_hold.specs.declared.keys.Key.{Key}
 use Rattle.aoe_hold.specs.Commands.{is_past}
-use Rattle.aoe_hold.specs.Extents.{key_of, HasKey}
+use Rattle.aoe_hold.specs.Extents.{key_of}
 use Rattle.aoe_hold.proofs.KeyLemmas.{key-stays}
 use Rattle.aoe_hold.proofs.MoveLemmas.{none_command}
 use Rattle.aoe_hold.proofs.keys.drop_past.Goals as goal
@@ -11,11 +9,10 @@ use Rattle.aoe_hold.proofs.keys.drop_past.Goals.{then-is_past, else-is_past}
 
 pub held-preserved : goal.held-preserved
 held-preserved c = λ d out has.
-    let P : BTreeSet Key → Type 0 = λ keys. HasKey keys d in
     elim c.if-is_past.branch [
       | then-is_past w ↦
           let gone : Command = get_or c.args.commands.now c.held.command-index none_command in
           let past : is_past c.args.life.0 c.args.now.0 gone ≡ true = search rules in
-          subst P (sym w.keys-is) (key-stays c.held.keys w.remove.new.self w.of.result gone d (w.remove.ensures.updates.0 (key_of d)) w.of.ensures (out c.held.command-index none_command c.held-test.true past) (c.held.invariant d out has))
-      | else-is_past w ↦ subst P (sym w.keys-is) (c.held.invariant d out has)
+          rw w.keys-is (key-stays c.held.keys w.remove.new.self w.of.result gone d (w.remove.ensures.updates.0 (key_of d)) w.of.ensures (out c.held.command-index none_command c.held-test.true past) (c.held.invariant d out has))
+      | else-is_past w ↦ rw w.keys-is (c.held.invariant d out has)
     ]

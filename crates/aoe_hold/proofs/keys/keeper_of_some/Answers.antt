@@ -1,8 +1,7 @@
-use Rattle.std.proofs.Common.{◌≡◌, ◌++◌, ◌∙◌, List, [], ap, false, max, refl, rules, subst, sym}
+use Rattle.std.proofs.Common.{◌≡◌, ◌++◌, ◌∙◌, List, [], ap, false, max, refl, rules, sym}
 use Rattle.std.proofs.lemmas.List.{append-nil}
 use Rattle.aoe_hold.specs.declared.keys.Key.{Key}
-use Rattle.aoe_hold.specs.Queue.{IsFree}
-use Rattle.aoe_hold.proofs.FreeLemmas.{free-none, walked-more, HasTicketOf}
+use Rattle.aoe_hold.proofs.FreeLemmas.{free-none, walked-more}
 use Rattle.aoe_hold.proofs.keys.keeper_of_some.Goals as goal
 
 pub keys-preserved : goal.keys-preserved
@@ -14,8 +13,7 @@ keys-preserved c =
 pub returns : goal.returns
 returns c =
     let all : c.args.keys.now ≡ c.keys.invariant.0 = c.keys.invariant.1 ∙ ap (λ (l : List Key). l ++ c.keys.invariant.0) c.in_default.ensures.steps.0 in
-    let P : List Key → Type 0 = λ l. IsFree c.args.life.0 c.keys.from (HasTicketOf l) c.args.commands.now c.args.command.now in
-    subst P (sym all) c.keys.invariant.2
+    rw all c.keys.invariant.2
 
 pub keys-init : goal.keys-init
 keys-init c = ([], sym (append-nil c.args.keys.now), free-none c.args.life.0 (λ e. false) c.args.commands.now c.args.command.now (λ k d below. refl))

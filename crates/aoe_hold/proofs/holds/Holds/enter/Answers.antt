@@ -1,9 +1,9 @@
-use Rattle.std.proofs.Common.{◌≡◌, ◌+◌, ◌++◌, List, [], ◌∷◌, ◌^◌, ◌-◌, ◌<◌, length, not, true, refl, sym, subst, ◌∙◌, ap, arith}
+use Rattle.std.proofs.Common.{◌≡◌, ◌+◌, ◌++◌, List, [], ◌∷◌, ◌^◌, ◌-◌, ◌<◌, length, not, refl, sym, subst, ◌∙◌, ap, arith}
 use Rattle.std.specs.Prelude.{option_map}
 use Rattle.aoe_hold.specs.declared.command.Command.{Command}
 use Rattle.aoe_hold.specs.Commands.{is_past, live, unsent_count}
 use Rattle.aoe_hold.specs.declared.queue.Waiter.{Waiter}
-use Rattle.aoe_hold.specs.HoldTable.{is_ascending, new_command, ArePast, StandInOrder, NonePastBefore}
+use Rattle.aoe_hold.specs.HoldTable.{new_command, ArePast, StandInOrder, NonePastBefore}
 use Rattle.aoe_hold.specs.Queue.{AreHeld, IsIndex}
 use Rattle.aoe_hold.specs.Extents.{Covers, key_of}
 use Rattle.aoe_hold.proofs.ExtentLemmas.{covers-entered, covers-left, covers-more, none-past-above}
@@ -107,8 +107,7 @@ keeper_of-keeper-requires-clause-ascending c =
     let latest = c.self.inside.latest.0 in
     let held = c.self.inside.commands.items in
     let seen : c.deref-2.result.now ≡ live life latest held = c.deref-2.ensures.value ∙ c.forget-self-inside.ensures.live ∙ ap (live life latest) c.make_room.ensures.commands in
-    let P : List Command → Type 0 = λ l. is_ascending l ≡ true in
-    subst P (sym seen) (ascending-filter (λ (d : Command). not (is_past life latest d)) held c.self.invariant.0.0)
+    rw seen (ascending-filter (λ (d : Command). not (is_past life latest d)) held c.self.invariant.0.0)
 
 pub keeper_of-keeper-requires-clause-covers : goal.keeper_of-keeper-requires-clause-covers
 keeper_of-keeper-requires-clause-covers c =

@@ -1,10 +1,8 @@
-use Rattle.std.proofs.Common.{ℕ, ◌≡◌, ◌&&◌, List, Some, None, arith, false, true, refl, sym, subst, ◌∙◌, rules, nat_eq}
+use Rattle.std.proofs.Common.{◌≡◌, List, Some, None, arith, true, refl, sym, subst, ◌∙◌, rules, nat_eq}
 use Rattle.std.specs.Prelude.{position}
 use Rattle.aoe_hold.specs.declared.command.Command.{Command}
-use Rattle.std.specs.List.{list_any}
 use Rattle.aoe_hold.specs.Commands.{after_stage, stage_finished}
-use Rattle.aoe_hold.specs.Queue.{blocks, AreHeld, IsIndex}
-use Rattle.aoe_hold.specs.HoldTable.{is_ascending, ArePast, HoldTable, Recalls}
+use Rattle.aoe_hold.specs.HoldTable.{is_ascending, ArePast}
 use Rattle.aoe_hold.proofs.StageLemmas.{count-finished, new-ends, place-ticket, place-within, stage-missing, stage-set}
 use Rattle.aoe_hold.proofs.OutsideLemmas.{gone-stage}
 use Rattle.aoe_hold.proofs.ExtentLemmas.{covers-stage}
@@ -29,8 +27,7 @@ invariant_of-self c =
     let ended : Ended c.args.ticket.0 held c.deref-in-Some-2.result.now command = record { is = seen ∙ after; once = λ p. one-at c.args.ticket.0 p held c.in-Some.at command c.self.invariant.0.0 found c.index_mut-command.ensures.value } in
     let both = index-ended c.self.inside.life.0 c.self.inside.latest.0 c.self.inside.unsent c.args.ticket.0 held c.deref-in-Some-2.result.now command new c.self.inside.timed c.self.inside.ready c.self.inside.blocked c.release.new.timed c.release.new.blocked
     ended its (new-ends c.args.ticket.0 command c.finished-command.result its c.finished-command.ensures) c.release.ensures.released c.release.ensures.none c.self.invariant.1 c.self.invariant.3 in
-    let P : List Command → Type 0 = λ l. IsIndex c.self.inside.life.0 c.self.inside.latest.0 c.self.inside.unsent l c.release.new.timed c.self.inside.ready × AreHeld c.self.inside.unsent l c.release.new.timed c.self.inside.ready c.release.new.blocked in
-    let turned = subst P seen both in (
+    let turned = rw seen at both in (
       (
         rw after (ascending-after_stage c.args.ticket.0 stage_finished held c.self.invariant.0.0),
         rw after (up_to-after_stage c.args.ticket.0 stage_finished _ held c.self.invariant.0.1),
@@ -57,8 +54,7 @@ release-requires c =
       ascending = let P : List Command → Type 0 = λ l. is_ascending l ≡ true in subst P (sym (c.deref-in-Some-2.ensures.value ∙ after)) (ascending-after_stage c.args.ticket.0 stage_finished held c.self.invariant.0.0);
       past = subst (ArePast c.self.inside.life.0 c.self.inside.latest.0 c.count_gone-self-inside.result) (c.deref-in-Some.ensures.value ∙ sym c.deref-in-Some-2.ensures.value) c.count_gone-self-inside.ensures;
       done = λ done later.
-          let P : ℕ → Type 0 = λ n. list_any (λ e. nat_eq e.ticket.0 n && blocks later e) c.deref-in-Some-2.result.now ≡ false in
-          subst P (sym its) (ended-done c.args.ticket.0 held c.deref-in-Some-2.result.now command new later ended (new-ends c.args.ticket.0 command c.finished-command.result its c.finished-command.ensures) done);
+          rw its (ended-done c.args.ticket.0 held c.deref-in-Some-2.result.now command new later ended (new-ends c.args.ticket.0 command c.finished-command.result its c.finished-command.ensures) done);
       timed = omega (arith, few, c.self.invariant.1.timed_room);
       blocked = omega (arith, few, c.self.invariant.3.room);
     }
@@ -90,8 +86,7 @@ returns-in_default-clause-recalls c =
     let held = c.self.inside.commands.items in
     let missing : position (λ (d : Command). nat_eq d.ticket.0 c.args.ticket.0) held ≡ None = search rules in
     λ entered recalls.
-    let P : HoldTable → Type 0 = λ table. Recalls table (after_stage c.args.ticket.0 stage_finished entered) in
-    subst P c.self.view_is (finish-recalls _ _ c.args.ticket.0 _ held held c.args.self.now c.self.view_is (stage-missing c.args.ticket.0 stage_finished held missing) entered recalls)
+    rw (← c.self.view_is) (finish-recalls _ _ c.args.ticket.0 _ held held c.args.self.now c.self.view_is (stage-missing c.args.ticket.0 stage_finished held missing) entered recalls)
 
 pub count_gone-self-inside-requires : goal.count_gone-self-inside-requires
 count_gone-self-inside-requires c =

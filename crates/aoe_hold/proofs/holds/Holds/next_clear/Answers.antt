@@ -1,8 +1,6 @@
-use Rattle.std.proofs.Common.{◌≡◌, ◌+◌, ◌-◌, ◌≤◌, arith, length, rules, subst, ◌∙◌}
+use Rattle.std.proofs.Common.{◌≡◌, ◌-◌, arith, rules, ◌∙◌}
 use Rattle.std.specs.Prelude.{option_copied, option_map}
 use Rattle.aoe_hold.specs.declared.queue.Waiter.{Waiter}
-use Rattle.aoe_hold.specs.Commands.{clear_tickets}
-use Rattle.aoe_hold.specs.HoldTable.{HoldTable}
 use Rattle.aoe_hold.proofs.HoldLemmas.{held-moved, index-few, index-moved, index-ready, steps-few}
 use Rattle.aoe_hold.proofs.OutsideLemmas.{gone-later}
 use Rattle.aoe_hold.proofs.TableLemmas.{answer-clear, answer-lowest, answer-none, time-of, time-recalls, time-value}
@@ -58,5 +56,4 @@ returns-clause-bound g c =
     let later = time-of _ _ c.args.now.0 _ c.self.inside.commands.items c.args.self.now c.self.view_is c.requires in
     let index = index-moved c.self.inside.life.0 c.self.inside.latest.0 c.args.now.0 c.self.inside.unsent c.self.inside.commands.items c.self.inside.timed c.self.inside.ready _ _ later c.make_ready.ensures.moved c.self.invariant.1 in
     let ready = index-ready c.self.inside.life.0 c.args.now.0 c.self.inside.unsent c.self.inside.commands.items _ _ c.self.invariant.0.0 index c.make_ready.ensures.late c.look-first.ensures.order in
-    let P : HoldTable → Type 0 = λ t. c.look-first.new.steps ≤ c.args.steps.now + 2 + (length (clear_tickets t.life c.args.now.0 t.commands) - length t.ready) in
-    subst P c.self.view_is (steps-few c.args.steps.now c.look-first.new.steps c.make_ready.new.steps c.self.inside.ready.waiters _ _ ready c.make_ready.ensures.steps c.look-first.ensures.step)
+    rw (← c.self.view_is) (steps-few c.args.steps.now c.look-first.new.steps c.make_ready.new.steps c.self.inside.ready.waiters _ _ ready c.make_ready.ensures.steps c.look-first.ensures.step)

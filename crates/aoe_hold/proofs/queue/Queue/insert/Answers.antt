@@ -1,11 +1,10 @@
-use Rattle.std.proofs.Common.{◌≡◌, ◌<◌, ◌∷◌, length, rules, arith, subst}
+use Rattle.std.proofs.Common.{◌≡◌, ◌<◌, length, rules, arith}
 use Rattle.std.specs.List.{insert}
-use Rattle.std.specs.List.Sorted.{IsPermutation}
 use Rattle.std.proofs.lemmas.List.Sorted.{IsPartitionPoint-from_clause, IsPermutation-insert}
 use Rattle.aoe_hold.specs.Order.{comes_before}
 use Rattle.aoe_hold.proofs.QueueLemmas.{ordered-insert, partitioned}
 use Rattle.aoe_hold.specs.declared.queue.Waiter.{Waiter}
-use Rattle.aoe_hold.specs.Queue.{ticket_of, time_of, QueueTable}
+use Rattle.aoe_hold.specs.Queue.{ticket_of, time_of}
 use Rattle.aoe_hold.proofs.MoveLemmas.{fewer-shown, inserted-room}
 use Rattle.aoe_hold.proofs.queue.Queue.insert.Goals as goal
 
@@ -28,5 +27,4 @@ returns-clause-waiters c =
     let place = c.partition_point-place.result in
     let fewer : length waiters < c.self.inside.room = fewer-shown c.self.inside.room waiters c.args.self.now c.self.view_is c.requires in
     let items : c.insert.new.self.items ≡ insert waiters place c.args.waiter = inserted-room c.insert.result _ _ c.insert.ensures.items c.insert.ensures.full (λ full. omega (arith, fewer, c.self.invariant.reserved, full)) in
-    let P : QueueTable → Type 0 = λ t. IsPermutation (c.args.waiter ∷ t.waiters) c.insert.new.self.items in
-    subst P c.self.view_is (rw items (IsPermutation-insert waiters place c.args.waiter))
+    rw (← c.self.view_is) (rw items (IsPermutation-insert waiters place c.args.waiter))

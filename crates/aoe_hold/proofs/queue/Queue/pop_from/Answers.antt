@@ -1,10 +1,8 @@
-use Rattle.std.proofs.Common.{◌≡◌, ◌≤◌, ◌∷◌, Some, arith, length, rules, refl, subst, sym, ap, ◌∙◌, nat_lt, nat_eq, false}
-use Rattle.std.specs.Prelude.{All, IfSome}
+use Rattle.std.proofs.Common.{◌≡◌, ◌≤◌, Some, arith, length, rules, refl, sym, ap, ◌∙◌, nat_lt, nat_eq, false}
 use Rattle.std.specs.List.{remove}
-use Rattle.std.specs.List.Sorted.{IsPermutation}
 use Rattle.std.proofs.lemmas.List.Sorted.{IsPartitionPoint-from_clause, IsPermutation-remove}
 use Rattle.aoe_hold.specs.declared.queue.Waiter.{Waiter}
-use Rattle.aoe_hold.specs.Queue.{ticket_of, time_of, QueueTable}
+use Rattle.aoe_hold.specs.Queue.{ticket_of, time_of}
 use Rattle.aoe_hold.proofs.QueueLemmas.{if-none, none-from, on-some, ordered-remove, times-parted}
 use Rattle.aoe_hold.proofs.queue.Queue.pop_from.Goals as goal
 
@@ -28,8 +26,7 @@ returns-clause-some c =
     let w : Waiter = c.in_ok-get.field-0.now in
     let items : c.remove.new.self.items ≡ remove waiters place = on-some c.remove.result _ _ (c.remove.ensures.succeeds w (c.in_ok-get.ensures.variant.0 refl)) c.remove.ensures.items in
     let taken : c.remove.result ≡ Some w = c.remove.ensures.succeeds w (c.in_ok-get.ensures.variant.0 refl) ∙ ap (λ (v : Waiter). Some v) (sym (at.1 w)) in
-    let P : QueueTable → Type 0 = λ t. IfSome c.remove.result (λ v. (v.from ≡ c.args.from) × IsPermutation t.waiters (v ∷ c.remove.new.self.items)) in
-    subst P c.self.view_is (rw taken (c.if-branch-from.false, rw items (IsPermutation-remove waiters place w at.0 (at.1 w))))
+    rw (← c.self.view_is) (rw taken (c.if-branch-from.false, rw items (IsPermutation-remove waiters place w at.0 (at.1 w))))
 
 pub returns-in_err-get-clause-out : goal.returns-in_err-get-clause-out
 returns-in_err-get-clause-out c =
@@ -37,8 +34,7 @@ returns-in_err-get-clause-out c =
     let place = c.partition_point-place.result in
     let point = IsPartitionPoint-from_clause (λ (w : Waiter). nat_lt w.from c.args.from) waiters place c.partition_point-place.ensures.partitioned (times-parted time_of ticket_of c.args.from waiters c.self.invariant.order) (λ a r f h. search rules) in
     let past : length waiters ≤ place = search rules in
-    let P : QueueTable → Type 0 = λ t. All (λ w. nat_eq w.from c.args.from ≡ false) t.waiters in
-    if-none c.from_residual.result _ (subst P c.self.view_is (none-from time_of ticket_of c.args.from place waiters c.self.invariant.order point.0 point.1 (λ d within. absurd (omega (arith, past, within)))))
+    if-none c.from_residual.result _ (rw (← c.self.view_is) (none-from time_of ticket_of c.args.from place waiters c.self.invariant.order point.0 point.1 (λ d within. absurd (omega (arith, past, within)))))
 
 pub returns-then-branch-from-clause-out : goal.returns-then-branch-from-clause-out
 returns-then-branch-from-clause-out c =
@@ -47,5 +43,4 @@ returns-then-branch-from-clause-out c =
     let at = c.in_ok-get.ensures.item.3 in
     let point = IsPartitionPoint-from_clause (λ (w : Waiter). nat_lt w.from c.args.from) waiters place c.partition_point-place.ensures.partitioned (times-parted time_of ticket_of c.args.from waiters c.self.invariant.order) (λ a r f h. search rules) in
     let other : nat_eq c.in_ok-get.field-0.now.from c.args.from ≡ false = search rules in
-    let P : QueueTable → Type 0 = λ t. All (λ w. nat_eq w.from c.args.from ≡ false) t.waiters in
-    subst P c.self.view_is (none-from time_of ticket_of c.args.from place waiters c.self.invariant.order point.0 point.1 (λ d within. ap (λ (w : Waiter). nat_eq w.from c.args.from) (sym (at.1 d)) ∙ other))
+    rw (← c.self.view_is) (none-from time_of ticket_of c.args.from place waiters c.self.invariant.order point.0 point.1 (λ d within. ap (λ (w : Waiter). nat_eq w.from c.args.from) (sym (at.1 d)) ∙ other))
