@@ -3,13 +3,12 @@ use Rattle.std.proofs.Common.{◌≡◌, ◌+◌, ◌-◌, ◌/◌, ℕ, false, 
 use Rattle.std.proofs.lemmas.Bool.{cases_lt}
 use Rattle.aoe_disk.specs.State.{Contents, DiskState, IsDisk}
 use Rattle.aoe_disk.specs.Calls.{IsRange, IsRun}
-use Rattle.aoe_disk.specs.declared.armed.Arm.{Arm}
 use Rattle.aoe_disk.proofs.Runs.{run_none, run_then}
-use Rattle.aoe_store.specs.Under.{ArmsUnder, FreesUnder, ReadsUnder, SpendsUnder}
+use Rattle.aoe_store.specs.Under.{FreesUnder, ReadsUnder, SpendsUnder}
 use Rattle.aoe_cache.specs.declared.place.HeldSector.{HeldSector}
 use Rattle.aoe_cache.specs.Held.{AreBelow, IsAscending, with_written}
 use Rattle.aoe_cache.specs.Down.{StopsShort}
-use Rattle.aoe_cache.specs.Cache.{Cache, CacheArms, CacheReads, CacheSyncs, CacheWrites, state_of}
+use Rattle.aoe_cache.specs.Cache.{Cache, CacheReads, CacheSyncs, CacheWrites, state_of}
 use Rattle.aoe_cache.specs.Free.{Frees, base, free, free_of, under_of}
 use Rattle.aoe_cache.proofs.Down.{AsSeen, runs_seen, stops_seen}
 use Rattle.aoe_cache.proofs.Freeing.{frees_room, spends_free}
@@ -89,6 +88,3 @@ reads_under state at n result old new reads = record {
   same = reads.device.same;
   free = free_same state old new reads.held reads.room reads.device.same;
 }
-
-pub arms_under : {D : Type 0} (state : D → DiskState) (arm : Arm) (old new : Cache D) → CacheArms state arm old new → ArmsUnder arm (under_of state old) (under_of state new)
-arms_under state arm old new arms = record { room = arms.room; free = free_same state old new arms.held arms.room arms.device.contents; arms = arms.device }

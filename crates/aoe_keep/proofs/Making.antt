@@ -2,8 +2,7 @@
 use Rattle.std.proofs.Common.{◌≡◌, ◌≤◌, ◌<◌, ◌+◌, ◌*◌, ◌==◌, ◌||◌, cond, nat_lt, ℕ, Bool, true, false, Option, Some, None, IfSome, Result, Err, is_ok, List, [], ◌∷◌, ◌++◌, take, drop, get_or, refl, sym, arith, ◌∙◌, ap, subst}
 use Rattle.std.proofs.lemmas.Bool.{ne_eqb, lt-ltb, le-ltb}
 use Rattle.aoe_lists.specs.Settings.{Settings}
-use Rattle.aoe_disk.specs.State.{Contents, DiskState, DeviceCall, BothTell, sector}
-use Rattle.aoe_disk.specs.State.{Read, Sync}
+use Rattle.aoe_disk.specs.State.{Contents, DiskState, DeviceCall, BothTell, sector, Read, Sync}
 use Rattle.aoe_disk.specs.Calls.{Logs, Makes, Syncs}
 use Rattle.aoe_disk.proofs.Runs.{makes_one, makes_then, makes_stop}
 use Rattle.aoe_keep.specs.Found.{is_open}

@@ -40,7 +40,3 @@ told_last R P None None f h = tt
 told_last R P None (Some y) f h = absurd h
 told_last R P (Some x) None f h = tt
 told_last R P (Some x) (Some y) f h = f x y h
-
-pub told_also : {A : Type 0} (P Q R : A → Type 0) (a : Option A) → ((x : A) → P x → Q x → R x) → IfSome a P → IfSome a Q → IfSome a R
-told_also P Q R None f p q = tt
-told_also P Q R (Some x) f p q = f x p q

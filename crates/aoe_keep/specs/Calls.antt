@@ -1,8 +1,7 @@
 -- Which device calls a keep makes, with their bytes: the file format is what these write.
 use Rattle.std.specs.Prelude.{ℕ, ◌≡◌, ◌+◌, ◌*◌, ◌==◌, Bool, true, false, nat_lt, List, [], ◌∷◌, ◌++◌, replicate, Option, IfSome, if◌then◌else◌}
 use Rattle.aoe_lists.specs.Settings.{Settings}
-use Rattle.aoe_disk.specs.State.{DiskState, DeviceCall}
-use Rattle.aoe_disk.specs.State.{Read, Write, Sync}
+use Rattle.aoe_disk.specs.State.{DiskState, DeviceCall, Read, Write, Sync}
 use Rattle.aoe_disk.specs.Calls.{Makes}
 use Rattle.aoe_keep.specs.Body.{spelling}
 use Rattle.aoe_keep.specs.Found.{is_open, slot}
