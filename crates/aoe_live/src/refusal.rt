@@ -1,8 +1,4 @@
 //! Why a run has no script.
-ghost use Rattle.std.specs.Prelude.{◌≡◌};
-ghost use Rattle.aoe_live.specs.declared.refusal.LiveRefusal.TheVariants.{NoMemory};
-
-use aoe_base::NoMemory;
 use thiserror::Error;
 
 /// Why a run has no script.
@@ -27,12 +23,4 @@ pub enum LiveRefusal {
     /// A script has no room for the next line.
     #[error("more than 50000 lines")]
     TooMany,
-}
-
-impl From<NoMemory> for LiveRefusal {
-    ghost from_gives = { λ _ refusal. refusal ≡ NoMemory };
-
-    fn from(_: NoMemory) -> LiveRefusal {
-        LiveRefusal::NoMemory
-    }
 }

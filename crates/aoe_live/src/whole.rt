@@ -74,8 +74,18 @@ pub fn live<L: Link, C: Clock>(
     ensures one_fault_one { L.faults one.new ≤ L.faults one.old + 1 }
     ensures one_fault_two { L.faults two.new ≤ L.faults two.old + 1 }
 {
-    let setup = stations(alloc, sectors)?;
-    let mut recorder = recorder(alloc, sectors, n, &setup)?;
-    recorder.run(turns, one, two, clock)?;
-    Ok(print_script(alloc, &recorder.script)?)
+    let Ok(setup) = stations(alloc, sectors) else {
+        return Err(LiveRefusal::NoMemory);
+    };
+    let Ok(mut recorder) = recorder(alloc, sectors, n, &setup) else {
+        return Err(LiveRefusal::NoMemory);
+    };
+    match recorder.run(turns, one, two, clock) {
+        Ok(()) => {}
+        Err(refusal) => return Err(refusal),
+    }
+    match print_script(alloc, &recorder.script) {
+        Ok(text) => Ok(text),
+        Err(NoMemory) => Err(LiveRefusal::NoMemory),
+    }
 }

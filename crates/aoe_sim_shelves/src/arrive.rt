@@ -96,7 +96,10 @@ impl MemoryRack {
         let dev = self.shelf.id(slot);
         let heard = self.shelf.receive_slot(slot, frame, out);
         let stop = stop_at(self.stops[slot], heard);
-        take_down(run, dev, number, heard, stop, out)?;
+        match take_down(run, dev, number, heard, stop, out) {
+            Ok(()) => {}
+            Err(refusal) => return Err(refusal),
+        }
         Ok(stop)
     }
 
@@ -126,8 +129,10 @@ impl MemoryRack {
     {
         'slots: for slot in 0..self.shelf.count() {
             if let Some(how) = self.arrive_at(run, slot, number, frame, out)? {
-                self.crash(run, how)?;
-                return Ok(());
+                return match self.crash(run, how) {
+                    Ok(()) => Ok(()),
+                    Err(NoMemory) => Err(NetRefusal::NoMemory),
+                };
             }
         }
         Ok(())

@@ -106,9 +106,14 @@ fn run_all<L: Link, C: Clock>(
     ensures count { L.faults link.old ≤ L.faults link.new }
     ensures link { Blamed (result ≡ Err ToolRefusal.LinkFault) (L.faults link.old) (L.faults link.new) }
 {
-    let mut transfer = Transfer::new(alloc, ask.port, id, device, course)?;
-    transfer.run(ask.turns, link, clock)?;
-    Ok(transfer.course)
+    let mut transfer = match Transfer::new(alloc, ask.port, id, device, course) {
+        Ok(transfer) => transfer,
+        Err(NoMemory) => return Err(ToolRefusal::NoMemory),
+    };
+    match transfer.run(ask.turns, link, clock) {
+        Ok(()) => Ok(transfer.course),
+        Err(refusal) => Err(refusal),
+    }
 }
 
 /// Reads the sectors of a device, once it is found.

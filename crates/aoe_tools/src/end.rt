@@ -1,7 +1,6 @@
 //! How a tool ends without its answer.
 ghost use Rattle.std.specs.Prelude.{◌≡◌, ◌<◌, IfOk};
 ghost use Rattle.aoe_tools.specs.Ending.{code_of, copy_code, copy_text, refusal_text, text_of};
-ghost use Rattle.aoe_tools.specs.declared.end.ToolRefusal.TheVariants.{NoMemory};
 
 use aoe_base::{Blob, NoMemory, append, pair};
 use arrayvec::ArrayVec;
@@ -56,14 +55,6 @@ pub enum CopyRefusal {
 
     /// The sink failed.
     SinkFault,
-}
-
-impl From<NoMemory> for ToolRefusal {
-    ghost from_gives = { λ _ refusal. refusal ≡ NoMemory };
-
-    fn from(_: NoMemory) -> ToolRefusal {
-        ToolRefusal::NoMemory
-    }
 }
 
 impl ToolRefusal {

@@ -51,7 +51,10 @@ fn find_all<L: Link>(
             Ok(None) => break,
             Err(Failed) => return Err(ToolRefusal::LinkFault),
         };
-        found.note(reply.id, reply.source)?;
+        match found.note(reply.id, reply.source) {
+            Ok(()) => {}
+            Err(NoMemory) => return Err(ToolRefusal::NoMemory),
+        }
     }
     unless_none(found, turns)
 }

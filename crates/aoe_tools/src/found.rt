@@ -118,8 +118,10 @@ impl Found {
             total: None,
             state: State::Found,
         };
-        let _ = self.devices.insert(id, seen)?;
-        Ok(())
+        match self.devices.insert(id, seen) {
+            Ok(_) => Ok(()),
+            Err(_) => Err(NoMemory),
+        }
     }
 
     /// Notes what a device said.

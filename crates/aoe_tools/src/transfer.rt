@@ -110,8 +110,10 @@ impl Transfer {
         ensures unchanged { result ≢ Ok true → self.new ≡ self.old }
     {
         ticket_law();
-        let Some(op) = self.course.next()? else {
-            return Ok(false);
+        let op = match self.course.next() {
+            Ok(Some(op)) => op,
+            Ok(None) => return Ok(false),
+            Err(NoMemory) => return Err(NoMemory),
         };
         match self.host.submit(DEVICE, op) {
             Ok(ticket) => {
@@ -189,7 +191,10 @@ impl Transfer {
         ensures count { L.faults link.old ≤ L.faults link.new }
         ensures link { Blamed (result ≡ Err ToolRefusal.LinkFault) (L.faults link.old) (L.faults link.new) }
     {
-        self.submit_all()?;
+        match self.submit_all() {
+            Ok(()) => {}
+            Err(NoMemory) => return Err(ToolRefusal::NoMemory),
+        }
         match self.send_all(link, frame) {
             Ok(()) => {}
             Err(Failed) => return Err(ToolRefusal::LinkFault),

@@ -14,8 +14,10 @@ fn filled(alloc: Global, count: u64, fill: u8) -> Result<Blob, NoMemory>
     requires { count < 256 }
     ensures { IfOk result (λ bytes. bytes ≡ replicate (512 * count) fill) }
 {
-    let bytes = Vec::from_elem(alloc, fill, 512 * count as usize)?;
-    Ok(Blob::from_vec(bytes))
+    match Vec::from_elem(alloc, fill, 512 * count as usize) {
+        Ok(bytes) => Ok(Blob::from_vec(bytes)),
+        Err(_) => Err(NoMemory),
+    }
 }
 
 /// The operation that an event line submits, where it submits one.

@@ -336,8 +336,10 @@ impl Builder<'_> {
     {
         let name = copy_of(name);
         let ports = copy_of(ports);
-        self.places.push(Place { name, ports, at })?;
-        Ok(())
+        match self.places.push(Place { name, ports, at }) {
+            Ok(()) => Ok(()),
+            Err(_) => Err(NoMemory),
+        }
     }
 
     /// Adds a shelf behind the others.
@@ -350,8 +352,10 @@ impl Builder<'_> {
         ensures script { self.new.script ≡ self.old.script }
     {
         let at = At::Shelf(self.sim.shelves.len());
-        self.sim.shelves.push(shelf)?;
-        self.place(name, ports, at)
+        match self.sim.shelves.push(shelf) {
+            Ok(()) => self.place(name, ports, at),
+            Err(_) => Err(NoMemory),
+        }
     }
 
     /// Adds a host behind the others.
@@ -364,8 +368,10 @@ impl Builder<'_> {
         ensures script { self.new.script ≡ self.old.script }
     {
         let at = At::Host(self.sim.hosts.len());
-        self.sim.hosts.push(host)?;
-        self.place(name, ports, at)
+        match self.sim.hosts.push(host) {
+            Ok(()) => self.place(name, ports, at),
+            Err(_) => Err(NoMemory),
+        }
     }
 
     /// Builds the station of a line, where it declares one.

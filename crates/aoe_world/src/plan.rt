@@ -87,8 +87,10 @@ fn arm(sim: &Sim, dev: TargetId, which: Which, k: u64, mode: Option<Loss>) -> Op
 fn inject(alloc: Global, bytes: &Blob) -> Result<Option<Plan>, NoMemory>
     ensures { IfOk result (λ plan. plan ≡ Some (Plan.One (Act.Inject bytes.now))) }
 {
-    let bytes = Blob::of(alloc, bytes.bytes())?;
-    Ok(Some(Plan::One(Act::Inject { bytes })))
+    match Blob::of(alloc, bytes.bytes()) {
+        Ok(bytes) => Ok(Some(Plan::One(Act::Inject { bytes }))),
+        Err(NoMemory) => Err(NoMemory),
+    }
 }
 
 /// The host with a name submits a command.
@@ -116,9 +118,10 @@ fn ask(
     ensures { IfOk result (λ plan. (lines : List Line) (sim : Simulator) → Knows lines places.now sim → IsAsked lines (setup_of lines) host.now dev
         → IfSome (submission_in event.now) (λ x. IsSomeAnd plan (Gives lines sim (Submit host.now x.dev x.op)))) }
 {
-    match op_of(alloc, event)? {
-        Some(op) => Ok(submit(places, host, dev, op)),
-        None => Ok(None),
+    match op_of(alloc, event) {
+        Ok(Some(op)) => Ok(submit(places, host, dev, op)),
+        Ok(None) => Ok(None),
+        Err(NoMemory) => Err(NoMemory),
     }
 }
 

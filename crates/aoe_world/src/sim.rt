@@ -92,7 +92,10 @@ impl Sim {
             → Settles result s majors got self.old self.new }
     {
         'hosts: for i in 0..self.hosts.len() {
-            self.hosts[i].turn(&mut self.run, &mut self.made)?;
+            match self.hosts[i].turn(&mut self.run, &mut self.made) {
+                Ok(()) => {}
+                Err(refusal) => return Err(refusal),
+            }
         }
         Ok(())
     }
@@ -105,8 +108,10 @@ impl Sim {
         ensures { (s : Setup) (majors : List ℕ) (name : ArrayVec ℕ) → IsNetwork s majors → IsReady s majors self.old
             → IsAt s majors (At.Host host) (HostStation name) → IsEntered result s majors (Submit name dev op) self.old self.new }
     {
-        self.hosts[host].submit(&mut self.run, dev, op)?;
-        Ok(())
+        match self.hosts[host].submit(&mut self.run, dev, op) {
+            Ok(()) => Ok(()),
+            Err(NoMemory) => Err(NetRefusal::NoMemory),
+        }
     }
 
     fn tick(&mut self, ms: u64) -> Result<(), NetRefusal>
@@ -114,8 +119,10 @@ impl Sim {
         ensures { (s : Setup) (majors : List ℕ) → IsNetwork s majors → IsReady s majors self.old
             → IsEntered result s majors (Tick ms) self.old self.new }
     {
-        self.run.tick(ms)?;
-        Ok(())
+        match self.run.tick(ms) {
+            Ok(()) => Ok(()),
+            Err(NoMemory) => Err(NetRefusal::NoMemory),
+        }
     }
 
     fn inject(&mut self, frame: &Blob) -> Result<(), NetRefusal>
@@ -142,8 +149,10 @@ impl Sim {
             → IfSome (slice_get self.old.shelves.items shelf) (λ x. IfSome (slice_get x.shelf.targets slot)
             (λ t. IsEntered result s majors (Arm t.station.id which k mode) self.old self.new)) }
     {
-        self.shelves[shelf].arm(&mut self.run, slot, which, k, mode)?;
-        Ok(())
+        match self.shelves[shelf].arm(&mut self.run, slot, which, k, mode) {
+            Ok(()) => Ok(()),
+            Err(NoMemory) => Err(NetRefusal::NoMemory),
+        }
     }
 
     fn crash(&mut self, shelf: usize, how: Loss) -> Result<(), NetRefusal>
@@ -151,18 +160,22 @@ impl Sim {
         ensures { (s : Setup) (majors : List ℕ) (major : ℕ) → IsNetwork s majors → IsReady s majors self.old
             → slice_get majors shelf ≡ Some major → IsEntered result s majors (Crash major how) self.old self.new }
     {
-        self.shelves[shelf].crash(&mut self.run, how)?;
-        Ok(())
+        match self.shelves[shelf].crash(&mut self.run, how) {
+            Ok(()) => Ok(()),
+            Err(NoMemory) => Err(NetRefusal::NoMemory),
+        }
     }
 
     fn lose(&mut self, frame: FrameNo) -> Result<(), NetRefusal>
         ensures { (s : Setup) (majors : List ℕ) → IsNetwork s majors → IsReady s majors self.old
             → IsEntered result s majors (Lose frame.0) self.old self.new }
     {
-        self.run.note(Entry::Lost {
+        match self.run.note(Entry::Lost {
             frame: u64::from(frame.0),
-        })?;
-        Ok(())
+        }) {
+            Ok(()) => Ok(()),
+            Err(NoMemory) => Err(NetRefusal::NoMemory),
+        }
     }
 
     /// Hands a frame over, or loses it where it can't be handed over any more.
@@ -209,8 +222,10 @@ impl Sim {
             → arriving self.old.run.life self.old.run.entries number.0 ≡ Some self.old.frame.items
             → IsEntered result s majors (Hand number.0 (HostStation name)) self.old self.new }
     {
-        self.hosts[i].take(&mut self.run, number, &self.frame)?;
-        Ok(())
+        match self.hosts[i].take(&mut self.run, number, &self.frame) {
+            Ok(()) => Ok(()),
+            Err(NoMemory) => Err(NetRefusal::NoMemory),
+        }
     }
 
     /// The place of the shelf with a number.

@@ -56,12 +56,13 @@ fn run(
     ensures { (lines : List Line) → Knows lines places.now sim.old → CanCome lines (setup_of lines) event.now → cursor.old ≤ suc (length (frames sim.old.run.entries))
         → Runs result lines event.now cursor.old cursor.new sim.old sim.new }
 {
-    match plan_of(alloc, sim, places, event)? {
-        Some(Plan::One(act)) => sim.act(act),
-        Some(Plan::Pass(n)) => sim.pass(places, cursor, n),
-        Some(Plan::Skip(n)) => sim.skip(cursor, n),
-        Some(Plan::Again) => sim.hand_over(FrameNo(*cursor - 1), places),
-        None => Ok(()),
+    match plan_of(alloc, sim, places, event) {
+        Ok(Some(Plan::One(act))) => sim.act(act),
+        Ok(Some(Plan::Pass(n))) => sim.pass(places, cursor, n),
+        Ok(Some(Plan::Skip(n))) => sim.skip(cursor, n),
+        Ok(Some(Plan::Again)) => sim.hand_over(FrameNo(*cursor - 1), places),
+        Ok(None) => Ok(()),
+        Err(NoMemory) => Err(NetRefusal::NoMemory),
     }
 }
 

@@ -11,7 +11,7 @@ outcomes-preserved c =
     let name = ap (λ (x : NamedHost). x.name) (c.self.view_is ∙ c.outcomes.invariant.same) in
     let done = c.in-Some.done in
     let more : c.tell.new.run ≡ with_entry c.outcomes.run (Finished c.args.self.now.name done.ticket.0 done.outcome) =
-    c.in-Ok.ensures.ok ∙ ap (λ (n : ArrayVec ℕ). with_entry c.outcomes.run (Finished n done.ticket.0 done.outcome)) name in
+    c.in_ok-tell.ensures.ok ∙ ap (λ (n : ArrayVec ℕ). with_entry c.outcomes.run (Finished n done.ticket.0 done.outcome)) name in
     record {
       life = ap (λ (r : Recorded). r.life) more ∙ c.outcomes.invariant.life;
       same = told-same c.args.self.now c.outcomes.self c.self.inside.name c.self.inside.core c.take_done.new.self c.self.view_is c.outcomes.invariant.same c.in-Some.ensures.same;

@@ -2,23 +2,23 @@ use Rattle.aoe_sim_hosts.proofs.TurnLemmas.{at-err, turn-full, turn-over, turn-s
 use Rattle.aoe_sim_hosts.proofs.host.NamedHost.turn.Goals as goal
 use Rattle.aoe_history.proofs.LogicLemmas.{on-ok}
 
-pub returns-in-Ok-clause-ok : goal.returns-in-Ok-clause-ok
-returns-in-Ok-clause-ok c = on-ok c.send_all.result c.send_all.ensures.ok (λ over s host got waits lawful.
-    let tells = c.in-Ok.ensures.ok s host got waits lawful in
+pub returns-clause-ok : goal.returns-clause-ok
+returns-clause-ok c = on-ok c.send_all.result c.send_all.ensures.ok (λ over s host got waits lawful.
+    let tells = c.in_ok-catch_up.ensures.ok s host got waits lawful in
     let sent = c.send_all.ensures.some s host tells.settled tells.lawful in
     let rest = over s host tells.settled tells.lawful in
     (turn-over s host got c.args.run.now.entries c.catch_up.new.run.entries c.send_all.new.run.entries c.catch_up.new.self tells sent rest.1, sent.lawful, rest.0))
 
-pub returns-in-Ok-clause-err : goal.returns-in-Ok-clause-err
-returns-in-Ok-clause-err c = at-err c.send_all.result (λ s host got waits lawful.
-    let tells = c.in-Ok.ensures.ok s host got waits lawful in
+pub returns-clause-err : goal.returns-clause-err
+returns-clause-err c = at-err c.send_all.result (λ s host got waits lawful.
+    let tells = c.in_ok-catch_up.ensures.ok s host got waits lawful in
     turn-sends s host got c.args.run.now.entries c.catch_up.new.run.entries c.send_all.new.run.entries c.catch_up.new.self tells (c.send_all.ensures.some s host tells.settled tells.lawful))
 
-pub returns-in-Ok-clause-full : goal.returns-in-Ok-clause-full
-returns-in-Ok-clause-full c = λ full s host got waits lawful.
-    let tells = c.in-Ok.ensures.ok s host got waits lawful in
+pub returns-clause-full : goal.returns-clause-full
+returns-clause-full c = λ full s host got waits lawful.
+    let tells = c.in_ok-catch_up.ensures.ok s host got waits lawful in
     turn-full s host got c.args.run.now.entries c.catch_up.new.run.entries c.send_all.new.run.entries c.catch_up.new.self tells (c.send_all.ensures.full full s host tells.settled tells.lawful)
 
-pub returns-in-Err-clause-err : goal.returns-in-Err-clause-err
-returns-in-Err-clause-err c = λ s host got waits lawful.
-    turn-tells s host got c.args.run.now.entries c.catch_up.new.run.entries c.args.self.now waits (c.in-Err.ensures.err s host got waits lawful)
+pub returns-in_err-catch_up-clause-err : goal.returns-in_err-catch_up-clause-err
+returns-in_err-catch_up-clause-err c = at-err c.from_residual.result (λ s host got waits lawful.
+    turn-tells s host got c.args.run.now.entries c.catch_up.new.run.entries c.args.self.now waits (c.in_err-catch_up.ensures.err s host got waits lawful))
