@@ -75,14 +75,19 @@ answer_of rows =
 abbrev pub has_slots : List Row → Bool
 has_slots rows = length (files rows) % 2 == 0 && nat_le 2 (length (files rows)) && nat_le (length (files rows)) 32
 
--- the shelf of serve with its addresses
+-- the shelf of serve with its addresses, of so many slots
+unfoldable pub serve_with : ℕ → List Row → Option Serves
+serve_with slots rows =
+    option_and_then (λ shelf. option_and_then (λ ports. option_and_then (λ mtu. option_and_then (λ cache. option_and_then (λ frames. option_map (λ idle.
+    record { shelf = shelf; slots = slots; ports = record { items = ports }; mtu = mtu; cache = cache; frames = frames; idle = idle })
+    (given_or (codes "idle") (number_within 1 1000000) 3000 rows)) (given_or (codes "frames") (number_within 1 4294967295) 4294967295 rows))
+    (cache_of rows)) (mtu_of rows)) (given_or (codes "ports") ports_of (default_port ∷ []) rows)) (shelf_of rows)
+
+-- with the ends of its link
 unfoldable pub serve_of : List Row → Option Serves
 serve_of rows =
     if not (has_slots rows) then None else
-    option_and_then (λ link. option_and_then (λ shelf. option_and_then (λ ports. option_and_then (λ mtu. option_and_then (λ cache. option_and_then (λ frames. option_map (λ idle.
-    record { shelf = shelf; slots = length (files rows) / 2; ports = record { items = ports }; mtu = mtu; cache = cache; frames = frames; idle = idle })
-    (given_or (codes "idle") (number_within 1 1000000) 3000 rows)) (given_or (codes "frames") (number_within 1 4294967295) 4294967295 rows))
-    (cache_of rows)) (mtu_of rows)) (given_or (codes "ports") ports_of (default_port ∷ []) rows)) (shelf_of rows)) (link rows)
+    option_and_then (λ link. serve_with (length (files rows) / 2) rows) (link rows)
 
 -- soak SEED N
 unfoldable pub soak_of : List Row → Option Soaks
@@ -103,15 +108,20 @@ live_of rows =
     (given_or (codes "turns") (number_within 1 1000000) 5000 rows)) (given (codes "count") (number_within 1 10000) rows))
     (given (codes "sectors") (number_within 1 65536) rows)) (two_ends rows)
 
+-- the tool of this name, of those that read and edit what a device keeps
+unfoldable pub list_tool_of : Text → List Row → Option Tool
+list_tool_of name rows =
+    if bytes_eq name (codes "cfg") then option_map Cfg (cfg_of rows)
+    else if bytes_eq name (codes "mask") then option_map Mask (mask_of rows)
+    else if bytes_eq name (codes "reserve") then option_map Reserve (reserve_of rows)
+    else None
+
 -- the tool of this name; discover and stat listen for 50 turns where nothing is said of it
 unfoldable pub tool_of : Text → List Row → Option Tool
 tool_of name rows =
     if bytes_eq name (codes "discover") then option_map Discover (asking_of 50 rows)
     else if bytes_eq name (codes "stat") then option_map Stat (asking_of 50 rows)
-    else if bytes_eq name (codes "cfg") then option_map Cfg (cfg_of rows)
-    else if bytes_eq name (codes "mask") then option_map Mask (mask_of rows)
-    else if bytes_eq name (codes "reserve") then option_map Reserve (reserve_of rows)
-    else None
+    else list_tool_of name rows
 
 -- the command of this name, of those that ask a network
 unfoldable pub asked_of : Text → List Row → Option Command

@@ -1,8 +1,8 @@
 //! What arguments spell.
-ghost use Rattle.std.specs.Prelude.{◌≡◌, ◌*◌, [], ◌∷◌, ◌++◌, length, map, option_map, string_bytes, IfOk, IfSome, IsSome, OnOk};
+ghost use Rattle.std.specs.Prelude.{◌≡◌, ◌≤◌, ◌*◌, [], ◌∷◌, ◌++◌, length, map, option_map, string_bytes, IfOk, IfSome, IsSome, OnOk};
 ghost use Rattle.std.specs.List.{list_all};
 ghost use Rattle.clap.specs.Words.{found_of, rows_of};
-ghost use Rattle.aoe_words.specs.Words.{CanAnswer, CanLive, CanRun, CanServe, CanSoak, IsInRange, answer_of, asked_of, command, command_of, file_count, file_names, files, files_of, is_word, link_count, links_of, live_of, parsed, port_words, serve_of, soak_of, spelled, tool_of, two_ends};
+ghost use Rattle.aoe_words.specs.Words.{CanAnswer, CanLive, CanRun, CanServe, CanSoak, IsInRange, answer_of, asked_of, command, command_of, file_count, file_names, files, files_of, is_word, link_count, links_of, list_tool_of, live_of, parsed, port_words, serve_of, serve_with, soak_of, spelled, tool_of, two_ends};
 ghost use Rattle.aoe_words.specs.Values.{link};
 
 use crate::app::matches;
@@ -129,6 +129,28 @@ fn answer_of(found: &ArgMatches) -> Option<Answer>
     })
 }
 
+/// What the arguments of `serve` ask for, of so many slots, where the ends of the link are named.
+#[tactic(auto, unfolding(crate::specs::Words::serve_with))]
+fn serve_with(found: &ArgMatches, slots: u8) -> Option<Serve>
+    requires slots { (1 ≤ slots) × (slots ≤ 16) }
+    requires files { length (files (rows_of (found_of found.now))) ≡ 2 * slots }
+    requires link { IsSome (link (rows_of (found_of found.now))) }
+    ensures value { result ≡ serve_with slots (rows_of (found_of found.now)) }
+    ensures range { IfSome result CanServe }
+    ensures files { IfSome result (λ serve. length (files (rows_of (found_of found.now))) ≡ 2 * serve.slots) }
+    ensures links { IfSome result (λ serve. IsSome (link (rows_of (found_of found.now)))) }
+{
+    Some(Serve {
+        shelf: number(found, "shelf", LAST_MAJOR)? as u16,
+        slots,
+        ports: ports_or_default(found, "ports")?,
+        mtu: number_or(found, "mtu", &MTU)?,
+        cache: number_or(found, "cache", &CACHE)?,
+        frames: number_or(found, "frames", &FRAMES)?,
+        idle: number_or(found, "idle", &IDLE)?,
+    })
+}
+
 /// What the arguments of `serve` ask for.
 #[tactic(auto, unfolding(crate::specs::Words::serve_of))]
 fn serve_of(found: &ArgMatches) -> Option<Serve>
@@ -142,15 +164,7 @@ fn serve_of(found: &ArgMatches) -> Option<Serve>
         return None;
     }
     let _ends = link(found)?;
-    Some(Serve {
-        shelf: number(found, "shelf", LAST_MAJOR)? as u16,
-        slots: (files / 2) as u8,
-        ports: ports_or_default(found, "ports")?,
-        mtu: number_or(found, "mtu", &MTU)?,
-        cache: number_or(found, "cache", &CACHE)?,
-        frames: number_or(found, "frames", &FRAMES)?,
-        idle: number_or(found, "idle", &IDLE)?,
-    })
+    serve_with(found, (files / 2) as u8)
 }
 
 /// What the arguments of `soak` ask for.
@@ -188,6 +202,25 @@ fn live_of(found: &ArgMatches) -> Option<Live>
     })
 }
 
+/// What the arguments of the tool of this name ask for, of those that read and edit what a device
+/// keeps.
+#[tactic(auto, unfolding(crate::specs::Words::list_tool_of))]
+fn list_tool_of(name: &str, found: &ArgMatches) -> Option<Tool>
+    ensures value { result ≡ list_tool_of name.now (rows_of (found_of found.now)) }
+    ensures range { IfSome result CanRun }
+    ensures links { IfSome result (λ tool. length (links_of (Command.Ask tool) (rows_of (found_of found.now))) ≡ 1) }
+{
+    if name == "cfg" {
+        Some(Tool::Cfg(cfg_of(found)?))
+    } else if name == "mask" {
+        Some(Tool::Mask(mask_of(found)?))
+    } else if name == "reserve" {
+        Some(Tool::Reserve(reserve_of(found)?))
+    } else {
+        None
+    }
+}
+
 /// What the arguments of the tool of this name ask for.
 #[tactic(auto, unfolding(crate::specs::Words::tool_of))]
 fn tool_of(name: &str, found: &ArgMatches) -> Option<Tool>
@@ -199,14 +232,8 @@ fn tool_of(name: &str, found: &ArgMatches) -> Option<Tool>
         Some(Tool::Discover(plain_of(found)?))
     } else if name == "stat" {
         Some(Tool::Stat(plain_of(found)?))
-    } else if name == "cfg" {
-        Some(Tool::Cfg(cfg_of(found)?))
-    } else if name == "mask" {
-        Some(Tool::Mask(mask_of(found)?))
-    } else if name == "reserve" {
-        Some(Tool::Reserve(reserve_of(found)?))
     } else {
-        None
+        list_tool_of(name, found)
     }
 }
 
