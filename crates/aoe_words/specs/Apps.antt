@@ -101,10 +101,15 @@ get_app = with_tool_options (with_rule (sector_tool (codes "get")) (needed (code
 abbrev pub put_app : App
 put_app = with_tool_options (sector_tool (codes "put"))
 
--- the commands over files: one command has to be named, and it is the first word
+-- what all commands stand under: one has to be named, and it is the first word
+abbrev pub top : App
+top =
+    let a = bare (codes "aoe") in
+    record a { top = record a.top { no_binary_name = true; disable_help_subcommand = true; subcommand_required = true } }
+
+-- the commands over files
 abbrev pub file_commands : App
-file_commands = let a = bare (codes "aoe") in
-    with_subcommand (with_subcommand (record a { top = record a.top { no_binary_name = true; disable_help_subcommand = true; subcommand_required = true } }) answer_app.top) serve_app.top
+file_commands = with_subcommand (with_subcommand top answer_app.top) serve_app.top
 
 -- with those over scripts
 abbrev pub script_commands : App
@@ -164,7 +169,3 @@ with_argument app a = with_rule app (rule a.0 a.1)
 
 unfoldable pub with_form : App → Text × List (Text × Place) → App
 with_form app f = with_subcommand app (added with_argument (bare f.0) f.1).top
-
--- what all commands stand under: one has to be named, and it is the first word
-abbrev pub top : App
-top = let a = bare (codes "aoe") in record a { top = record a.top { no_binary_name = true; disable_help_subcommand = true; subcommand_required = true } }
