@@ -16,17 +16,13 @@ use Rattle.aoe_base.specs.Texts.{macs_text}
 use Rattle.aoe_script.specs.Print.{dir_text, dirs_text, list_text}
 use Rattle.aoe_script.specs.Types.{IsAddress, IsByte}
 use Rattle.aoe_script.specs.Words.{Text}
-use Rattle.aoe_script.proofs.PlainLemmas.{all_joined, all_weaker, is_part, is_plain, is_word, lacks, parts_back}
+use Rattle.aoe_script.proofs.PlainLemmas.{all_also, all_joined, all_tested, all_weaker, is_part, is_plain, is_word, parts_back}
 use Rattle.aoe_script.proofs.WrittenLemmas.{and_false, each_back, most_back, pair_part, part_plain}
 
 -- ---- what an address is written as
 
-pairs_part : (bytes : List ℕ) → AllByRecursion IsByte bytes → list_all (λ b. list_all is_part (pair_text b)) bytes ≡ true
-pairs_part [] small = refl
-pairs_part (b ∷ bytes) small = and_from (list_all is_part (pair_text b)) _ (pair_part b small.0) (pairs_part bytes small.1)
-
 mac_part : (mac : Mac) → IsAddress mac → list_all is_part (mac_text mac) ≡ true
-mac_part mac is = all_joined is_part 58 pair_text mac.0 refl (pairs_part mac.0 (recursion_from_All IsByte mac.0 is.bytes))
+mac_part mac is = all_joined is_part 58 pair_text mac.0 refl (all_tested IsByte _ pair_part mac.0 (recursion_from_All IsByte mac.0 is.bytes))
 
 -- joined parts are as long as the first
 joined_long : {X : Type 0} (n c : ℕ) (f : X → Text) (x : X) (xs : List X) → n < length (f x) → n < length (join_with_byte c (map f (x ∷ xs)))
@@ -56,18 +52,6 @@ pub record IsWritten {T : Type 0} (read : Text → Option T) (write : T → Text
   pub long : 1 < length (write x)
 
 module _ {T : Type 0} (read : Text → Option T) (write : T → Text) where
-  all_parts : (xs : List T) → AllByRecursion (IsWritten read write) xs → list_all (λ x. list_all is_part (write x)) xs ≡ true
-  all_parts [] h = refl
-  all_parts (x ∷ xs) h = and_from (list_all is_part (write x)) _ h.0.part (all_parts xs h.1)
-
-  all_back : (xs : List T) → AllByRecursion (IsWritten read write) xs → AllByRecursion (λ x. read (write x) ≡ Some x) xs
-  all_back [] h = tt
-  all_back (x ∷ xs) h = (h.0.back, all_back xs h.1)
-
-  all_lack : (xs : List T) → AllByRecursion (IsWritten read write) xs → list_all (λ x. lacks 44 (write x)) xs ≡ true
-  all_lack [] h = refl
-  all_lack (x ∷ xs) h = and_from (lacks 44 (write x)) _ (all_weaker is_part _ part_lacks (write x) h.0.part) (all_lack xs h.1)
-
   pub list_long : (x : T) (xs : List T) → AllByRecursion (IsWritten read write) (x ∷ xs) → 1 < length (join_with_byte 44 (map write (x ∷ xs)))
   list_long x xs h = joined_long 1 44 write x xs h.0.long
 
@@ -75,14 +59,14 @@ module _ {T : Type 0} (read : Text → Option T) (write : T → Text) where
   list_word [] some h = absurd (omega (arith, some))
   list_word (x ∷ xs) some h =
       and_from _ _ (lt-ltb 0 _ (omega (arith, list_long x xs h)))
-      (all_joined is_plain 44 write (x ∷ xs) refl (all_weaker (λ x. list_all is_part (write x)) (λ x. list_all is_plain (write x)) (λ x. all_weaker is_part is_plain part_plain (write x)) (x ∷ xs) (all_parts (x ∷ xs) h)))
+      (all_joined is_plain 44 write (x ∷ xs) refl (all_tested (IsWritten read write) _ (λ x w. all_weaker is_part is_plain part_plain (write x) w.part) (x ∷ xs) h))
 
   pub list_back : (most : ℕ) (xs : List T) → 0 < length xs → length xs ≤ most → AllByRecursion (IsWritten read write) xs
       → at_most most (each read (slice_split (λ c. c == 44) (join_with_byte 44 (map write xs)))) ≡ Some xs
   list_back most [] some few h = absurd (omega (arith, some))
   list_back most (x ∷ xs) some few h =
-      ap (λ parts. at_most most (each read parts)) (parts_back 44 write x xs (all_lack (x ∷ xs) h))
-      ∙ ap (at_most most) (each_back read write (x ∷ xs) (all_back (x ∷ xs) h))
+      ap (λ parts. at_most most (each read parts)) (parts_back 44 write x xs (all_tested (IsWritten read write) _ (λ x w. all_weaker is_part _ part_lacks (write x) w.part) (x ∷ xs) h))
+      ∙ ap (at_most most) (each_back read write (x ∷ xs) (all_also (IsWritten read write) _ (λ x w. w.back) (x ∷ xs) h))
       ∙ most_back most (x ∷ xs) few
 
 -- ---- addresses
@@ -92,12 +76,10 @@ abbrev pub AddressLaw : Type 0
 AddressLaw = (mac : Mac) → length mac.0 ≡ 6 → All (λ b. b < 2 ^ 8) mac.0 → mac_of (mac_text mac) ≡ Some mac
 
 module _ (law : AddressLaw) where
-  macs_written : (macs : List Mac) → AllByRecursion IsAddress macs → AllByRecursion (IsWritten mac_of mac_text) macs
-  macs_written [] h = tt
-  macs_written (mac ∷ macs) h = (record { back = law mac h.0.six h.0.bytes; part = mac_part mac h.0; long = mac_long mac h.0 }, macs_written macs h.1)
-
   written : (macs : List Mac) → All IsAddress macs → AllByRecursion (IsWritten mac_of mac_text) macs
-  written macs h = macs_written macs (recursion_from_All IsAddress macs h)
+  written macs h =
+      all_also IsAddress (IsWritten mac_of mac_text) (λ mac is. record { back = law mac is.six is.bytes; part = mac_part mac is; long = mac_long mac is })
+      macs (recursion_from_All IsAddress macs h)
 
   pub macs_word : (macs : List Mac) → 0 < length macs → All IsAddress macs → is_word (macs_text macs) ≡ true
   macs_word macs some h = list_word mac_of mac_text macs some (written macs h)
@@ -128,13 +110,12 @@ module _ (law : AddressLaw) where
   dir_written true mac is = record { back = rw (law mac is.six is.bytes) refl; part = mac_part mac is; long = omega (arith, mac_long mac is) }
   dir_written false mac is = record { back = rw (law mac is.six is.bytes) refl; part = mac_part mac is; long = omega (arith, mac_long mac is) }
 
-  dirs_written : (dirs : List Dir) → AllByRecursion (λ dir. IsAddress dir.mac) dirs → AllByRecursion (IsWritten dir_of dir_text) dirs
-  dirs_written [] h = tt
-  dirs_written (dir ∷ dirs) h = (dir_written dir.add dir.mac h.0, dirs_written dirs h.1)
+  dirs_written : (dirs : List Dir) → All (λ dir. IsAddress dir.mac) dirs → AllByRecursion (IsWritten dir_of dir_text) dirs
+  dirs_written dirs h = all_also _ (IsWritten dir_of dir_text) (λ dir is. dir_written dir.add dir.mac is) dirs (recursion_from_All (λ dir. IsAddress dir.mac) dirs h)
 
   pub dirs_word : (dirs : List Dir) → 0 < length dirs → All (λ dir. IsAddress dir.mac) dirs → is_word (dirs_text dirs) ≡ true
-  dirs_word dirs some h = list_word dir_of dir_text dirs some (dirs_written dirs (recursion_from_All (λ dir. IsAddress dir.mac) dirs h))
+  dirs_word dirs some h = list_word dir_of dir_text dirs some (dirs_written dirs h)
 
   pub dirs_back : (dirs : List Dir) → 0 < length dirs → length dirs ≤ 64 → All (λ dir. IsAddress dir.mac) dirs → dirs_of (dirs_text dirs) ≡ Some dirs
   unfolding dirs_of
-  dirs_back dirs some few h = list_back dir_of dir_text 64 dirs some few (dirs_written dirs (recursion_from_All (λ dir. IsAddress dir.mac) dirs h))
+  dirs_back dirs some few h = list_back dir_of dir_text 64 dirs some few (dirs_written dirs h)

@@ -1,6 +1,6 @@
 -- Bytes that no list of words, parts or lines is cut at.
 use Rattle.std.proofs.Common.{◌≡◌, ◌∙◌, ◌==◌, ℕ, zero, suc, Bool, true, not, ◌&&◌, List, [], ◌∷◌, ◌++◌, length, get_or, map, refl, ap, nat_lt}
-use Rattle.std.specs.List.{list_all, join_with_byte, slice_split}
+use Rattle.std.specs.List.{AllByRecursion, list_all, join_with_byte, slice_split}
 use Rattle.std.proofs.lemmas.Bool.{and_from, and_parts, eq-eqb, not-true}
 use Rattle.std.proofs.lemmas.List.Folds.{list_all-append}
 
@@ -22,6 +22,14 @@ lacks c = list_all (λ x. not (x == c))
 pub all_weaker : {X : Type 0} (p q : X → Bool) → ((x : X) → p x ≡ true → q x ≡ true) → (xs : List X) → list_all p xs ≡ true → list_all q xs ≡ true
 all_weaker p q weaker [] e = refl
 all_weaker p q weaker (x ∷ xs) e = let h = and_parts (p x) (list_all p xs) e in and_from (q x) (list_all q xs) (weaker x h.0) (all_weaker p q weaker xs h.1)
+
+pub all_tested : {X : Type 0} (P : X → Type 0) (p : X → Bool) → ((x : X) → P x → p x ≡ true) → (xs : List X) → AllByRecursion P xs → list_all p xs ≡ true
+all_tested P p tested [] h = refl
+all_tested P p tested (x ∷ xs) h = and_from (p x) (list_all p xs) (tested x h.0) (all_tested P p tested xs h.1)
+
+pub all_also : {X : Type 0} (P Q : X → Type 0) → ((x : X) → P x → Q x) → (xs : List X) → AllByRecursion P xs → AllByRecursion Q xs
+all_also P Q also [] h = tt
+all_also P Q also (x ∷ xs) h = (also x h.0, all_also P Q also xs h.1)
 
 pub all_append : {X : Type 0} (p : X → Bool) (xs ys : List X) → list_all p xs ≡ true → list_all p ys ≡ true → list_all p (xs ++ ys) ≡ true
 all_append p xs ys e f = list_all-append p xs ys ∙ and_from (list_all p xs) (list_all p ys) e f

@@ -6,7 +6,6 @@ use Rattle.std.specs.Str.Lines.{lines}
 use Rattle.std.proofs.lemmas.Bool.Decides.{nat_tests}
 use Rattle.std.proofs.lemmas.List.{append-nil}
 use Rattle.std.proofs.lemmas.List.Elements.{recursion_from_All}
-use Rattle.std.proofs.lemmas.Bool.{and_from}
 use Rattle.aoe_script.specs.declared.event.Event.{Event}
 use Rattle.aoe_script.specs.declared.line.Line.{Line}
 use Rattle.aoe_script.specs.declared.line.Line.TheVariants.{Asks, Declares}
@@ -22,7 +21,7 @@ use Rattle.aoe_script.specs.Words.{Text}
 use Rattle.aoe_script.proofs.EventBack.{event_is}
 use Rattle.aoe_script.proofs.ListedLemmas.{AddressLaw}
 use Rattle.aoe_script.proofs.NamedLemmas.{DeviceLaw}
-use Rattle.aoe_script.proofs.PlainLemmas.{is_word}
+use Rattle.aoe_script.proofs.PlainLemmas.{all_tested, is_word}
 use Rattle.aoe_script.proofs.SetupBack.{setup_is}
 use Rattle.aoe_script.proofs.SpelledLemmas.{lines_back}
 use Rattle.aoe_script.proofs.AcceptedLemmas.{first_none, none_refused}
@@ -49,10 +48,6 @@ each_of P Q R weaker [] h q = tt
 each_of P Q R weaker (x ∷ xs) h q = (weaker [] x (h 0) q.0, each_of (λ before y. P (x ∷ before) y) Q R (λ before y. weaker (x ∷ before) y) xs (λ k. h (suc k)) q.1)
 
 module _ {X : Type 0} (ws : X → List Text) (line : X → Line) where
-  all_words : (xs : List X) → AllByRecursion (λ x. IsSaid (ws x) (line x)) xs → list_all (λ x. list_all is_word (ws x)) xs ≡ true
-  all_words [] h = refl
-  all_words (x ∷ xs) h = and_from (list_all is_word (ws x)) _ h.0.are_words (all_words xs h.1)
-
   lines_are : (xs : List X) (rest : List Text) → AllByRecursion (λ x. IsSaid (ws x) (line x)) xs
       → map line_of (map (λ x. spelled (ws x)) xs ++ rest) ≡ map line xs ++ map line_of rest
   lines_are [] rest h = refl
@@ -61,7 +56,7 @@ module _ {X : Type 0} (ws : X → List Text) (line : X → Line) where
   -- the lines at the front of a text
   said_first : (xs : List X) (rest : Text) → AllByRecursion (λ x. IsSaid (ws x) (line x)) xs → said_by (flat_map (λ x. line_text (ws x)) xs ++ rest) ≡ map line xs ++ said_by rest
   unfolding said_by
-  said_first xs rest h = ap (map line_of) (lines_back ws xs rest (all_words xs h)) ∙ lines_are xs (lines rest) h
+  said_first xs rest h = ap (map line_of) (lines_back ws xs rest (all_tested _ (λ x. list_all is_word (ws x)) (λ x said. said.are_words) xs h)) ∙ lines_are xs (lines rest) h
 
 no_lines : said_by [] ≡ []
 unfolding said_by

@@ -16,6 +16,7 @@ use Rattle.aoe_script.specs.declared.event.Which.{Which}
 use Rattle.aoe_script.specs.declared.event.Which.TheVariants.{Store, Keep}
 use Rattle.aoe_script.specs.declared.keyword.Keyword.{Keyword}
 use Rattle.aoe_script.specs.declared.keyword.Keyword.TheVariants.{Life, Shelf, Slot, Host, Attach, Read, Write, Flush, Identify, Config, Masks, Reserve, Tick, Deliver, Pass, Skip, Again, Inject, Fail, Stop, Crash}
+use Rattle.aoe_script.specs.Tables.{listed}
 use Rattle.aoe_script.specs.Words.{Text}
 
 -- ---- names and numbers
@@ -93,10 +94,6 @@ keywords =
     ∷ (codes "config", Config) ∷ (codes "masks", Masks) ∷ (codes "reserve", Reserve)
     ∷ (codes "tick", Tick) ∷ (codes "deliver", Deliver) ∷ (codes "pass", Pass) ∷ (codes "skip", Skip) ∷ (codes "again", Again) ∷ (codes "inject", Inject)
     ∷ (codes "fail", Fail) ∷ (codes "stop", Stop) ∷ (codes "crash", Crash) ∷ []
-
-abbrev pub listed : Text → List (Text × Keyword) → Option Keyword
-listed word [] = None
-listed word (row ∷ rows) = if bytes_eq word row.0 then Some row.1 else listed word rows
 
 abbrev pub keyword_of : Text → Option Keyword
 keyword_of word = listed word keywords

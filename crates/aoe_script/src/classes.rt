@@ -1,5 +1,5 @@
 //! The classes of words, but for lists of addresses.
-ghost use Rattle.std.specs.Prelude.{◌≡◌, ◌++◌, ◌==◌, ◌&&◌, ◌||◌, ◌≤◌, codes, drop, nat_lt, nat_le, ◌<◌, None, IfSome, if◌then◌else◌, length, option_map, slice_index, take, Some, IfOk, OnOk, [], ◌∷◌};
+ghost use Rattle.std.specs.Prelude.{◌≡◌, ◌==◌, ◌&&◌, ◌||◌, ◌≤◌, codes, drop, nat_lt, nat_le, ◌<◌, None, IfSome, if◌then◌else◌, length, option_map, slice_index, take, Some, IfOk, []};
 ghost use Rattle.std.specs.List.{list_all};
 ghost use Rattle.std.specs.Char.{is_ascii_digit, digit_value};
 ghost use Rattle.std.specs.Str.{bytes_eq};
@@ -10,7 +10,7 @@ use crate::cuts::from;
 use crate::event::Which;
 use crate::listed::listed;
 use crate::setup::Name;
-use aoe_base::{Blob, NoMemory, read_number};
+use aoe_base::{Blob, NoMemory, put, read_number};
 use aoe_disk::Loss;
 use std::alloc::Global;
 
@@ -76,14 +76,6 @@ pub(crate) fn byte_of(text: &[u8]) -> Option<u8>
     }
 }
 
-/// One byte more.
-fn add(bytes: &mut Vec<u8>, byte: u8) -> Result<(), NoMemory>
-    ensures { OnOk result (bytes.new.items ≡ bytes.old.items ++ byte ∷ []) }
-{
-    bytes.push(byte)?;
-    Ok(())
-}
-
 /// The bytes that an even number of digits spell.
 fn pairs(alloc: Global, text: &[u8]) -> Result<Option<Blob>, NoMemory>
     ensures { IfOk result (λ r. r ≡ pairs text.now) }
@@ -94,7 +86,7 @@ fn pairs(alloc: Global, text: &[u8]) -> Result<Option<Blob>, NoMemory>
         let Some(byte) = pair(*high, *low) else {
             return Ok(None);
         };
-        add(&mut bytes, byte)?;
+        put(&mut bytes, &[byte])?;
         left = more;
     }
     if left.is_empty() {

@@ -104,48 +104,39 @@ fn source_of(frame: &[u8]) -> Mac
     Mac([frame[6], frame[7], frame[8], frame[9], frame[10], frame[11]])
 }
 
+/// The cause, where it holds.
+fn because(holds: bool, why: Why) -> Option<Why>
+    ensures { result ≡ unless holds why None }
+{
+    if holds { Some(why) } else { None }
+}
+
 /// What is wrong where the host isn't attached to the device.
 fn asked_why(setups: &[Setup], host: &Name, dev: &TargetId) -> Option<Why>
     ensures { result ≡ asked_why setups.now host.now dev.now }
 {
-    if is_attached(setups, host, dev) {
-        None
-    } else {
-        Some(Why::Unknown)
-    }
+    because(!is_attached(setups, host, dev), Why::Unknown)
 }
 
 /// What is wrong where the device doesn't stand.
 fn known_why(setups: &[Setup], dev: &TargetId) -> Option<Why>
     ensures { result ≡ known_why setups.now dev.now }
 {
-    if is_known(setups, dev) {
-        None
-    } else {
-        Some(Why::Unknown)
-    }
+    because(!is_known(setups, dev), Why::Unknown)
 }
 
 /// What is wrong where no station has this name.
 fn station_why(setups: &[Setup], name: &Name) -> Option<Why>
     ensures { result ≡ unless (not (list_any (is_station_named name.now) setups.now)) Why.Unknown None }
 {
-    if any(setups, &Kind::StationNamed(name)) {
-        None
-    } else {
-        Some(Why::Unknown)
-    }
+    because(!any(setups, &Kind::StationNamed(name)), Why::Unknown)
 }
 
 /// What is wrong where no shelf has this name.
 fn crash_why(setups: &[Setup], name: &Name) -> Option<Why>
     ensures { result ≡ unless (not (list_any (is_shelf_named name.now) setups.now)) Why.Unknown None }
 {
-    if any(setups, &Kind::ShelfNamed(name)) {
-        None
-    } else {
-        Some(Why::Unknown)
-    }
+    because(!any(setups, &Kind::ShelfNamed(name)), Why::Unknown)
 }
 
 /// What is wrong where the frame bears the address of a station.
@@ -153,11 +144,7 @@ fn source_why(setups: &[Setup], frame: &[u8]) -> Option<Why>
     requires { 14 ≤ length frame.now }
     ensures { result ≡ unless (list_any (has_port (source_of frame.now)) setups.now) Why.Station None }
 {
-    if any(setups, &Kind::Port(&source_of(frame))) {
-        Some(Why::Station)
-    } else {
-        None
-    }
+    because(any(setups, &Kind::Port(&source_of(frame))), Why::Station)
 }
 
 impl Event {
