@@ -23,52 +23,42 @@ use Rattle.aoe_script.proofs.AskedBack.{config_is, flush_is, identify_is, masks_
 
 tick_is : (ms : ℕ) → ms < 2 ^ 64 → IsSaid (event_words (Tick ms)) (Asks (Tick ms))
 unfolding said
-tick_is ms small = record { said_is = rw (number_is ms small) refl; are_words = rw (number_word ms small) refl; few = omega arith }
+tick_is ms small = rw (number_is ms small, number_word ms small) refl
 
 pass_is : (n : ℕ) → n < 2 ^ 64 → IsSaid (event_words (Pass n)) (Asks (Pass n))
 unfolding said
-pass_is n small = record { said_is = rw (number_is n small) refl; are_words = rw (number_word n small) refl; few = omega arith }
+pass_is n small = rw (number_is n small, number_word n small) refl
 
 skip_is : (n : ℕ) → n < 2 ^ 64 → IsSaid (event_words (Skip n)) (Asks (Skip n))
 unfolding said
-skip_is n small = record { said_is = rw (number_is n small) refl; are_words = rw (number_word n small) refl; few = omega arith }
+skip_is n small = rw (number_is n small, number_word n small) refl
 
 again_is : IsSaid (event_words Again) (Asks Again)
 unfolding said
-again_is = record { said_is = refl; are_words = refl; few = omega arith }
+again_is = refl
 
 deliver_is : (frame : ℕ) (station : ArrayVec ℕ) → frame < 2 ^ 64 → is_name station ≡ true → IsSaid (event_words (Deliver frame station)) (Asks (Deliver frame station))
 unfolding said
-deliver_is frame station small named = record {
-  said_is = rw (number_is frame small, name_back station named) refl;
-  are_words = rw (number_word frame small, name_word station named) refl;
-  few = omega arith;
-}
+deliver_is frame station small named = rw (number_is frame small, name_back station named, number_word frame small, name_word station named) refl
 
 inject_is : (bytes : List ℕ) → All IsByte bytes → IsSaid (event_words (Inject bytes)) (Asks (Inject bytes))
 unfolding said
-inject_is bytes small = record { said_is = rw (bytes_back bytes small) refl; are_words = rw (bytes_word bytes small) refl; few = omega arith }
+inject_is bytes small = rw (bytes_back bytes small, bytes_word bytes small) refl
 
 crash_is : (shelf : ArrayVec ℕ) (mode : Loss) → is_name shelf ≡ true → FitsLoss mode → IsSaid (event_words (Crash shelf mode)) (Asks (Crash shelf mode))
 unfolding said
-crash_is shelf mode named fits = record { said_is = rw (name_back shelf named, mode_back mode fits) refl; are_words = rw (name_word shelf named, mode_word mode fits) refl; few = omega arith }
+crash_is shelf mode named fits = rw (name_back shelf named, mode_back mode fits, name_word shelf named, mode_word mode fits) refl
 
 module _ (devices : DeviceLaw) (dev : TargetId) (known : is_device dev ≡ true) where
   fail_is : (which : Which) (k : ℕ) → k < 2 ^ 64 → IsSaid (event_words (Fail dev which k)) (Asks (Fail dev which k))
   unfolding said
-  fail_is which k small = record {
-    said_is = rw (device_back devices dev known, which_back which, number_is k small) refl;
-    are_words = rw (device_word dev known, which_word which, number_word k small) refl;
-    few = omega arith;
-  }
+  fail_is which k small = rw (device_back devices dev known, which_back which, number_is k small, device_word dev known, which_word which, number_word k small) refl
 
   stop_is : (which : Which) (k : ℕ) (mode : Loss) → k < 2 ^ 64 → FitsLoss mode → IsSaid (event_words (Stop dev which k mode)) (Asks (Stop dev which k mode))
   unfolding said
-  stop_is which k mode small fits = record {
-    said_is = rw (device_back devices dev known, which_back which, number_is k small, mode_back mode fits) refl;
-    are_words = rw (device_word dev known, which_word which, number_word k small, mode_word mode fits) refl;
-    few = omega arith;
-  }
+  stop_is which k mode small fits =
+      rw (device_back devices dev known, which_back which, number_is k small, mode_back mode fits)
+      (rw (device_word dev known, which_word which, number_word k small, mode_word mode fits) refl)
 
 span_of : (at count : ℕ) → is_span at count ≡ true → (at < 2 ^ 64) × (count < 2 ^ 64)
 span_of at count e =

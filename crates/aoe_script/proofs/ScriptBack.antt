@@ -26,7 +26,7 @@ use Rattle.aoe_script.proofs.SetupBack.{setup_is}
 use Rattle.aoe_script.proofs.SpelledLemmas.{lines_back}
 use Rattle.aoe_script.proofs.AcceptedLemmas.{first_none, none_refused}
 use Rattle.aoe_script.proofs.KeptLemmas.{lines_kept}
-use Rattle.aoe_script.proofs.SaidLemmas.{IsSaid, line_is}
+use Rattle.aoe_script.proofs.SaidLemmas.{IsSaid, are_words, line_is}
 
 good : (b : Bool) (rest : Option Why) → unless (not b) Value rest ≡ None → b ≡ true
 good true rest e = refl
@@ -56,7 +56,7 @@ module _ {X : Type 0} (ws : X → List Text) (line : X → Line) where
   -- the lines at the front of a text
   said_first : (xs : List X) (rest : Text) → AllByRecursion (λ x. IsSaid (ws x) (line x)) xs → said_by (flat_map (λ x. line_text (ws x)) xs ++ rest) ≡ map line xs ++ said_by rest
   unfolding said_by
-  said_first xs rest h = ap (map line_of) (lines_back ws xs rest (all_tested _ (λ x. list_all is_word (ws x)) (λ x said. said.are_words) xs h)) ∙ lines_are xs (lines rest) h
+  said_first xs rest h = ap (map line_of) (lines_back ws xs rest (all_tested (λ x. IsSaid (ws x) (line x)) (λ x. list_all is_word (ws x)) (λ x said. are_words (ws x) (line x) said) xs h)) ∙ lines_are xs (lines rest) h
 
 no_lines : said_by [] ≡ []
 unfolding said_by

@@ -30,67 +30,44 @@ few_ports ports e =
 module _ (law : AddressLaw) where
   life_is : (ms : ℕ) → ms < 2 ^ 64 → IsSaid (setup_words (Life ms)) (Declares (Life ms))
   unfolding said
-  life_is ms small = record { said_is = rw (number_is ms small) refl; are_words = rw (number_word ms small) refl; few = omega arith }
+  life_is ms small = rw (number_is ms small, number_word ms small) refl
 
   shelf_is : (name : ArrayVec ℕ) (major : ℕ) (ports : ArrayVec Mac) (mtu : ℕ) → is_name name ≡ true → major < 2 ^ 64 → are_ports ports ≡ true → mtu < 2 ^ 64 → All IsAddress ports.items
       → IsSaid (setup_words (Shelf name major ports mtu)) (Declares (Shelf name major ports mtu))
   unfolding said
-  shelf_is name major ports mtu named high are low fits = record {
-    said_is = rw (name_back name named, number_is major high, ports_back law ports.items (few_ports ports are).0 (few_ports ports are).1 fits, number_is mtu low) refl;
-    are_words = rw (name_word name named, number_word major high, macs_word law ports.items (few_ports ports are).0 fits, number_word mtu low) refl;
-    few = omega arith;
-  }
+  shelf_is name major ports mtu named high are low fits =
+      rw (name_back name named, number_is major high, ports_back law ports.items (few_ports ports are).0 (few_ports ports are).1 fits, number_is mtu low)
+      (rw (name_word name named, number_word major high, macs_word law ports.items (few_ports ports are).0 fits, number_word mtu low) refl)
 
   slot_is : (shelf : ArrayVec ℕ) (minor sectors : ℕ) (room : Option ℕ) → is_name shelf ≡ true → minor < 2 ^ 64 → sectors < 2 ^ 64 → is_cache room ≡ true
       → IsSaid (setup_words (Slot shelf minor sectors room)) (Declares (Slot shelf minor sectors room))
   unfolding said
-  slot_is shelf minor sectors None named low small cache = record {
-    said_is = rw (name_back shelf named, number_is minor low, number_is sectors small) refl;
-    are_words = rw (name_word shelf named, number_word minor low, number_word sectors small) refl;
-    few = omega arith;
-  }
+  slot_is shelf minor sectors None named low small cache =
+      rw (name_back shelf named, number_is minor low, number_is sectors small, name_word shelf named, number_word minor low, number_word sectors small) refl
   slot_is shelf minor sectors (Some room) named low small cache =
       let high : room < 2 ^ 64 = most_of 1 65536 room (lit< tt) cache in
-      record {
-        said_is = rw (name_back shelf named, number_is minor low, number_is sectors small, number_is room high) refl;
-        are_words = rw (name_word shelf named, number_word minor low, number_word sectors small, number_word room high) refl;
-        few = omega arith;
-      }
+      rw (name_back shelf named, number_is minor low, number_is sectors small, number_is room high)
+      (rw (name_word shelf named, number_word minor low, number_word sectors small, number_word room high) refl)
 
-  host_is : (name : ArrayVec ℕ) (ports : ArrayVec Mac) → is_name name ≡ true → are_ports ports ≡ true → All IsAddress ports.items
-      → IsSaid (setup_words (Host name ports None None)) (Declares (Host name ports None None))
+  host_is : (name : ArrayVec ℕ) (ports : ArrayVec Mac) (room dead : Option ℕ) → is_name name ≡ true → are_ports ports ≡ true → is_limit room dead ≡ true → All IsAddress ports.items
+      → IsSaid (setup_words (Host name ports room dead)) (Declares (Host name ports room dead))
   unfolding said
-  host_is name ports named are fits = record {
-    said_is = rw (name_back name named, ports_back law ports.items (few_ports ports are).0 (few_ports ports are).1 fits) refl;
-    are_words = rw (name_word name named, macs_word law ports.items (few_ports ports are).0 fits) refl;
-    few = omega arith;
-  }
-
-  limited_is : (name : ArrayVec ℕ) (ports : ArrayVec Mac) (room dead : ℕ) → is_name name ≡ true → are_ports ports ≡ true → room < 2 ^ 64 → dead < 2 ^ 64 → All IsAddress ports.items
-      → IsSaid (setup_words (Host name ports (Some room) (Some dead))) (Declares (Host name ports (Some room) (Some dead)))
-  unfolding said
-  limited_is name ports room dead named are high low fits = record {
-    said_is = rw (name_back name named, ports_back law ports.items (few_ports ports are).0 (few_ports ports are).1 fits, number_is room high, number_is dead low) refl;
-    are_words = rw (name_word name named, macs_word law ports.items (few_ports ports are).0 fits, number_word room high, number_word dead low) refl;
-    few = omega arith;
-  }
+  host_is name ports None None named are limit fits =
+      rw (name_back name named, ports_back law ports.items (few_ports ports are).0 (few_ports ports are).1 fits)
+      (rw (name_word name named, macs_word law ports.items (few_ports ports are).0 fits) refl)
+  host_is name ports None (Some dead) named are limit fits = absurd cc
+  host_is name ports (Some room) None named are limit fits = absurd cc
+  host_is name ports (Some room) (Some dead) named are limit fits =
+      let h = and_parts (is_within 1 16384 room) (is_within 1 10000000 dead) limit in
+      let high = most_of 1 16384 room (lit< tt) h.0 in
+      let low = most_of 1 10000000 dead (lit< tt) h.1 in
+      rw (name_back name named, ports_back law ports.items (few_ports ports are).0 (few_ports ports are).1 fits, number_is room high, number_is dead low)
+      (rw (name_word name named, macs_word law ports.items (few_ports ports are).0 fits, number_word room high, number_word dead low) refl)
 
   attach_is : (host shelf : ArrayVec ℕ) (minor : ℕ) → is_name host ≡ true → is_name shelf ≡ true → minor < 2 ^ 64 → IsSaid (setup_words (Attach host shelf minor)) (Declares (Attach host shelf minor))
   unfolding said
-  attach_is host shelf minor named other low = record {
-    said_is = rw (name_back host named, name_back shelf other, number_is minor low) refl;
-    are_words = rw (name_word host named, name_word shelf other, number_word minor low) refl;
-    few = omega arith;
-  }
-
-  limits_is : (name : ArrayVec ℕ) (ports : ArrayVec Mac) (room dead : Option ℕ) → is_name name ≡ true → are_ports ports ≡ true → is_limit room dead ≡ true → All IsAddress ports.items
-      → IsSaid (setup_words (Host name ports room dead)) (Declares (Host name ports room dead))
-  limits_is name ports None None named are limit fits = host_is name ports named are fits
-  limits_is name ports None (Some dead) named are limit fits = absurd cc
-  limits_is name ports (Some room) None named are limit fits = absurd cc
-  limits_is name ports (Some room) (Some dead) named are limit fits =
-      let h = and_parts (is_within 1 16384 room) (is_within 1 10000000 dead) limit in
-      limited_is name ports room dead named are (most_of 1 16384 room (lit< tt) h.0) (most_of 1 10000000 dead (lit< tt) h.1) fits
+  attach_is host shelf minor named other low =
+      rw (name_back host named, name_back shelf other, number_is minor low, name_word host named, name_word shelf other, number_word minor low) refl
 
   pub setup_is : (setup : Setup) → is_setup setup ≡ true → FitsSetup setup → IsSaid (setup_words setup) (Declares setup)
   setup_is (Life ms) e fits = life_is ms (small_of 600000 ms (lit< tt) e)
@@ -107,7 +84,7 @@ module _ (law : AddressLaw) where
   setup_is (Host name ports room dead) e fits =
       let h = and_parts (is_name name && are_ports ports) (is_limit room dead) e in
       let g = and_parts (is_name name) (are_ports ports) h.0 in
-      limits_is name ports room dead g.0 g.1 h.1 fits
+      host_is name ports room dead g.0 g.1 h.1 fits
   setup_is (Attach host shelf minor) e fits =
       let h = and_parts (is_name host && is_name shelf) (nat_le minor 254) e in
       let g = and_parts (is_name host) (is_name shelf) h.0 in
