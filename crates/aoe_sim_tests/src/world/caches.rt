@@ -1,5 +1,6 @@
 //! Slots whose store is a write-behind cache.
-use super::transcript;
+use super::super::checks::holds;
+use super::gives;
 use std::alloc::Global;
 use std::test::Fail;
 
@@ -13,23 +14,22 @@ host a 02:00:00:00:00:0a
 attach a s 0
 {lines}"
     )?;
-    Ok(transcript(alloc, script.as_str())?.bytes() == text.as_bytes())
+    gives(alloc, script.as_str(), text)
 }
 
-/// A write that stands in the cache alone is lost with the power, whatever the disk keeps.
-#[test]
-fn prints_a_crash_of_a_cache(rt: HostRuntime) -> Result<(), Fail> {
-    let alloc = rt.alloc();
-    for (slot, sector) in [("slot s 0 16 8", "00*512"), ("slot s 0 16", "5a*512")] {
-        let lines = "\
+/// A write of a sector, a crash, and a read of the sector.
+const CRASH: &str = "\
 write a e1.0 3 1 5a
 pass 2
 crash s keep
 read a e1.0 3 1
 pass 2
 ";
-        let text = format!(in alloc;
-            "submit a 1 write e1.0 3 1 5a
+
+/// Whether the sector is read so behind the crash, where the slot is declared so.
+fn crosses(alloc: Global, slot: &str, sector: &str) -> Result<bool, Fail> {
+    let text = format!(in alloc;
+        "submit a 1 write e1.0 3 1 5a
 sent a 1 1
 arrive e1.0 1 wrote 3 1 reply 2
 took a 2
@@ -42,23 +42,25 @@ took a 4
 done a 2 read {sector}
 summary events 5 frames 4 sent 2 again 0 arrived 2 done 2 lost 0 crashed 1
 "
-        )?;
-        assert!(rt; prints_over(alloc, slot, lines, text.as_str())?, "{slot}");
+    )?;
+    prints_over(alloc, slot, CRASH, text.as_str())
+}
+
+/// A write that stands in the cache alone is lost with the power, whatever the disk keeps.
+#[test]
+fn prints_a_crash_of_a_cache(rt: HostRuntime) -> Result<(), Fail> {
+    let cases = [("slot s 0 16 8", "00*512"), ("slot s 0 16", "5a*512")];
+    for (slot, sector) in &cases {
+        holds(&rt, crosses(rt.alloc(), slot, sector)?, slot);
     }
     Ok(())
 }
 
-/// Three writes in a cache make no call of the disk, and a flush of them two: one write, one sync.
-#[test]
-fn prints_the_flush_of_a_cache(rt: HostRuntime) -> Result<(), Fail> {
-    let alloc = rt.alloc();
-    for (k, effect, outcome) in [
-        (1, "sync-fault", "ata 41 04"),
-        (2, "sync-fault", "ata 41 04"),
-        (3, "synced", "flushed"),
-    ] {
-        let lines = format!(in alloc;
-            "fail e1.0 store {k}
+/// Whether the flush of three writes in a cache has this effect and this outcome, where this device
+/// call of the disk fails.
+fn flushes(alloc: Global, k: u32, effect: &str, outcome: &str) -> Result<bool, Fail> {
+    let lines = format!(in alloc;
+        "fail e1.0 store {k}
 write a e1.0 5 1 5a
 write a e1.0 3 1 5a
 write a e1.0 4 1 5a
@@ -67,9 +69,9 @@ tick 2001
 flush a e1.0
 pass 2
 "
-        )?;
-        let text = format!(in alloc;
-            "armed e1.0 store fail {k}
+    )?;
+    let text = format!(in alloc;
+        "armed e1.0 store fail {k}
 submit a 1 write e1.0 5 1 5a
 sent a 1 1
 submit a 2 write e1.0 3 1 5a
@@ -93,22 +95,29 @@ took a 8
 done a 4 {outcome}
 summary events 8 frames 8 sent 4 again 0 arrived 4 done 4 lost 0 crashed 0
 "
-        )?;
-        assert!(rt;
-            prints_over(alloc, "slot s 0 16 4", lines.as_str(), text.as_str())?,
-            "{k}"
-        );
+    )?;
+    prints_over(alloc, "slot s 0 16 4", lines.as_str(), text.as_str())
+}
+
+/// Three writes in a cache make no call of the disk, and a flush of them two: one write, one sync.
+#[test]
+fn prints_the_flush_of_a_cache(rt: HostRuntime) -> Result<(), Fail> {
+    let cases = [
+        (1, "sync-fault", "ata 41 04"),
+        (2, "sync-fault", "ata 41 04"),
+        (3, "synced", "flushed"),
+    ];
+    for (k, effect, outcome) in &cases {
+        holds(&rt, flushes(rt.alloc(), *k, effect, outcome)?, effect);
     }
     Ok(())
 }
 
-/// Four sectors that don't join stand in a cache without a call of the disk, and a fifth makes four.
-#[test]
-fn prints_a_write_beyond_a_cache(rt: HostRuntime) -> Result<(), Fail> {
-    let alloc = rt.alloc();
-    for (k, effect, outcome) in [(4, "write-fault", "ata 41 04"), (5, "wrote", "written")] {
-        let lines = format!(in alloc;
-            "fail e1.0 store {k}
+/// Whether the last of five writes has this effect and this outcome, where this device call of the
+/// disk fails.
+fn writes_beyond(alloc: Global, k: u32, effect: &str, outcome: &str) -> Result<bool, Fail> {
+    let lines = format!(in alloc;
+        "fail e1.0 store {k}
 write a e1.0 0 1 5a
 write a e1.0 2 1 5a
 write a e1.0 4 1 5a
@@ -116,9 +125,9 @@ write a e1.0 6 1 5a
 write a e1.0 8 1 5a
 pass 10
 "
-        )?;
-        let text = format!(in alloc;
-            "armed e1.0 store fail {k}
+    )?;
+    let text = format!(in alloc;
+        "armed e1.0 store fail {k}
 submit a 1 write e1.0 0 1 5a
 sent a 1 1
 submit a 2 write e1.0 2 1 5a
@@ -146,11 +155,16 @@ took a 10
 done a 5 {outcome}
 summary events 7 frames 10 sent 5 again 0 arrived 5 done 5 lost 0 crashed 0
 "
-        )?;
-        assert!(rt;
-            prints_over(alloc, "slot s 0 16 4", lines.as_str(), text.as_str())?,
-            "{k}"
-        );
+    )?;
+    prints_over(alloc, "slot s 0 16 4", lines.as_str(), text.as_str())
+}
+
+/// Four sectors that don't join stand in a cache without a call of the disk, and a fifth makes four.
+#[test]
+fn prints_a_write_beyond_a_cache(rt: HostRuntime) -> Result<(), Fail> {
+    let cases = [(4, "write-fault", "ata 41 04"), (5, "wrote", "written")];
+    for (k, effect, outcome) in &cases {
+        holds(&rt, writes_beyond(rt.alloc(), *k, effect, outcome)?, effect);
     }
     Ok(())
 }

@@ -1,5 +1,7 @@
 //! Crashes and faults of devices.
-use super::prints;
+use super::super::checks::holds;
+use super::{all_print, prints};
+use std::alloc::Global;
 use std::test::Fail;
 
 /// The shelf crashes between a write and the coming of its response.
@@ -48,24 +50,13 @@ summary events 3 frames 2 sent 1 again 0 arrived 1 done 1 lost 0 crashed 0
 
 #[test]
 fn prints_crashes(rt: HostRuntime) -> Result<(), Fail> {
-    for (lines, text) in [ACKNOWLEDGED_LATE, FAILED] {
-        assert!(rt; prints(rt.alloc(), lines, text)?, "{text}");
-    }
-    Ok(())
+    all_print(&rt, rt.alloc(), &[ACKNOWLEDGED_LATE, FAILED])
 }
 
-/// The power is lost in a flush: what stands in the sector goes by the mode.
-#[test]
-fn prints_a_stop_in_a_flush(rt: HostRuntime) -> Result<(), Fail> {
-    let alloc = rt.alloc();
-    for (mode, sector) in [
-        ("keep", "5a*512"),
-        ("old", "00*512"),
-        ("torn", "5a*256,00*256"),
-        ("mix:0", "ee*512"),
-    ] {
-        let lines = format!(in alloc;
-            "write a e1.0 3 1 5a
+/// Whether a sector of which a write is lost in a flush with the power, in this mode, is read so.
+fn stops_in_a_flush(alloc: Global, mode: &str, sector: &str) -> Result<bool, Fail> {
+    let lines = format!(in alloc;
+        "write a e1.0 3 1 5a
 pass 2
 stop e1.0 store 1 {mode}
 tick 2001
@@ -74,9 +65,9 @@ pass 1
 read a e1.0 3 1
 pass 2
 "
-        )?;
-        let text = format!(in alloc;
-            "submit a 1 write e1.0 3 1 5a
+    )?;
+    let text = format!(in alloc;
+        "submit a 1 write e1.0 3 1 5a
 sent a 1 1
 arrive e1.0 1 wrote 3 1 reply 2
 took a 2
@@ -94,17 +85,61 @@ took a 5
 done a 3 read {sector}
 summary events 8 frames 5 sent 3 again 0 arrived 3 done 2 lost 0 crashed 1
 "
-        )?;
-        assert!(rt; prints(alloc, lines.as_str(), text.as_str())?, "{mode}");
+    )?;
+    prints(alloc, lines.as_str(), text.as_str())
+}
+
+/// The power is lost in a flush: what stands in the sector goes by the mode.
+#[test]
+fn prints_a_stop_in_a_flush(rt: HostRuntime) -> Result<(), Fail> {
+    let cases = [
+        ("keep", "5a*512"),
+        ("old", "00*512"),
+        ("torn", "5a*256,00*256"),
+        ("mix:0", "ee*512"),
+    ];
+    for (mode, sector) in &cases {
+        holds(&rt, stops_in_a_flush(rt.alloc(), mode, sector)?, mode);
     }
     Ok(())
 }
 
+/// Whether an edit of the config in which the power is lost at this device call leaves this.
+fn stops_in_an_edit(alloc: Global, k: u32, mode: &str, config: &str) -> Result<bool, Fail> {
+    let lines = format!(in alloc;
+        "stop e1.0 keep {k} {mode}
+config a e1.0 force 6162
+pass 1
+"
+    )?;
+    let text = format!(in alloc;
+        "armed e1.0 keep stop {k}
+submit a 1 config e1.0 force 6162
+sent a 1 1
+arrive e1.0 1 cut
+crashed e1.0 config {config} masks - reserves -
+summary events 3 frames 1 sent 1 again 0 arrived 1 done 0 lost 0 crashed 1
+"
+    )?;
+    prints(alloc, lines.as_str(), text.as_str())
+}
+
+/// The seventh device call isn't made.
+const NOT_STOPPED: (&str, &str) = (
+    "stop e1.0 keep 7 old\nconfig a e1.0 force 6162\npass 1\n",
+    "\
+armed e1.0 keep stop 7
+submit a 1 config e1.0 force 6162
+sent a 1 1
+arrive e1.0 1 edited reply 2
+summary events 3 frames 2 sent 1 again 0 arrived 1 done 0 lost 0 crashed 0
+",
+);
+
 /// The power is lost in an edit of the lists: one of its six device calls is the last.
 #[test]
 fn prints_a_stop_in_an_edit(rt: HostRuntime) -> Result<(), Fail> {
-    let alloc = rt.alloc();
-    for (k, mode, config) in [
+    let cases = [
         (1, "keep", "-"),
         (1, "old", "-"),
         (2, "keep", "-"),
@@ -117,37 +152,10 @@ fn prints_a_stop_in_an_edit(rt: HostRuntime) -> Result<(), Fail> {
         (5, "old", "-"),
         (6, "keep", "6162"),
         (6, "old", "-"),
-    ] {
-        let lines = format!(in alloc;
-            "stop e1.0 keep {k} {mode}
-config a e1.0 force 6162
-pass 1
-"
-        )?;
-        let text = format!(in alloc;
-            "armed e1.0 keep stop {k}
-submit a 1 config e1.0 force 6162
-sent a 1 1
-arrive e1.0 1 cut
-crashed e1.0 config {config} masks - reserves -
-summary events 3 frames 1 sent 1 again 0 arrived 1 done 0 lost 0 crashed 1
-"
-        )?;
-        assert!(rt; prints(alloc, lines.as_str(), text.as_str())?, "{k} {mode}");
+    ];
+    for (k, mode, config) in &cases {
+        let stopped = stops_in_an_edit(rt.alloc(), *k, mode, config)?;
+        assert!(rt; stopped, "{k} {mode}");
     }
-    let after = "\
-armed e1.0 keep stop 7
-submit a 1 config e1.0 force 6162
-sent a 1 1
-arrive e1.0 1 edited reply 2
-summary events 3 frames 2 sent 1 again 0 arrived 1 done 0 lost 0 crashed 0
-";
-    assert!(rt;
-        prints(
-            alloc,
-            "stop e1.0 keep 7 old\nconfig a e1.0 force 6162\npass 1\n",
-            after
-        )?
-    );
-    Ok(())
+    all_print(&rt, rt.alloc(), &[NOT_STOPPED])
 }

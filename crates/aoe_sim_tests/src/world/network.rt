@@ -1,5 +1,5 @@
 //! Frames for several stations, for none, and frames from elsewhere.
-use super::transcript;
+use super::all_give;
 use std::test::Fail;
 
 /// Two shelves, one of them with two slots, and two hosts, of which one stands between the shelves.
@@ -127,12 +127,5 @@ summary events 12 frames 8 sent 2 again 0 arrived 9 done 0 lost 0 crashed 2
 
 #[test]
 fn prints_several_stations(rt: HostRuntime) -> Result<(), Fail> {
-    let alloc = rt.alloc();
-    for (script, text) in [ALL_STATIONS, STOPPED] {
-        assert!(rt;
-            transcript(alloc, script)?.bytes() == text.as_bytes(),
-            "{text}"
-        );
-    }
-    Ok(())
+    all_give(&rt, rt.alloc(), &[ALL_STATIONS, STOPPED])
 }

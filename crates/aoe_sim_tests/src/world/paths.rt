@@ -1,5 +1,5 @@
 //! Hosts with several paths to a shelf.
-use super::transcript;
+use super::all_give;
 use std::test::Fail;
 
 /// A command that isn't answered goes over the other path, and then over the first again, with a
@@ -69,12 +69,5 @@ summary events 8 frames 5 sent 4 again 2 arrived 1 done 1 lost 0 crashed 0
 
 #[test]
 fn prints_paths(rt: HostRuntime) -> Result<(), Fail> {
-    let alloc = rt.alloc();
-    for (script, text) in [ROUND, WAITS] {
-        assert!(rt;
-            transcript(alloc, script)?.bytes() == text.as_bytes(),
-            "{text}"
-        );
-    }
-    Ok(())
+    all_give(&rt, rt.alloc(), &[ROUND, WAITS])
 }

@@ -1,6 +1,7 @@
 //! Commands that a host refuses, and why a world stops.
-use super::prints;
+use super::all_print;
 use aoe_world::WorldRefusal;
+use std::alloc::{AllocError, Global};
 use std::test::Fail;
 
 const REFUSED: &str = "\
@@ -13,8 +14,13 @@ summary events 3 frames 0 sent 0 again 0 arrived 0 done 0 lost 0 crashed 0
 #[test]
 fn prints_refusals(rt: HostRuntime) -> Result<(), Fail> {
     let lines = "read a e1.0 15 2\nread a e1.0 0 3\nread a e1.0 0 0\n";
-    assert!(rt; prints(rt.alloc(), lines, REFUSED)?);
-    Ok(())
+    all_print(&rt, rt.alloc(), &[(lines, REFUSED)])
+}
+
+/// Whether this is the text of a refusal.
+fn is_told(alloc: Global, refusal: WorldRefusal, text: &str) -> Result<bool, AllocError> {
+    let told = format!(in alloc; "{refusal}")?;
+    Ok(told.as_str() == text)
 }
 
 #[test]
@@ -23,11 +29,8 @@ fn tells_why_it_stops(rt: HostRuntime) -> Result<(), Fail> {
         frames: 200_000,
         bytes: 7,
     };
-    let alloc = rt.alloc();
-    let text = format!(in alloc; "{full}, {}", WorldRefusal::NoMemory)?;
-    assert_eq!(rt;
-        text.as_str(),
-        "the network is full: 200000 frames, 7 bytes, out of memory"
-    );
+    let text = "the network is full: 200000 frames, 7 bytes";
+    assert!(rt; is_told(rt.alloc(), full, text)?);
+    assert!(rt; is_told(rt.alloc(), WorldRefusal::NoMemory, "out of memory")?);
     Ok(())
 }

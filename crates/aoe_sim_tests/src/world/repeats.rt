@@ -1,5 +1,5 @@
 //! Commands that are sent again, and what comes late of them.
-use super::prints;
+use super::all_print;
 use std::test::Fail;
 
 /// A response that is handed over again ends no later command, though it has a tag of the host.
@@ -111,8 +111,5 @@ summary events 2 frames 1 sent 1 again 0 arrived 0 done 1 lost 0 crashed 0
 
 #[test]
 fn prints_repeats(rt: HostRuntime) -> Result<(), Fail> {
-    for (lines, text) in [STALE, REFUSED, GIVEN_UP] {
-        assert!(rt; prints(rt.alloc(), lines, text)?, "{text}");
-    }
-    Ok(())
+    all_print(&rt, rt.alloc(), &[STALE, REFUSED, GIVEN_UP])
 }

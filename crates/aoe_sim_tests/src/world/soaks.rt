@@ -11,28 +11,36 @@ const TEN: &str =
 const THOUSANDS: &str =
     "summary events 5006 frames 4604 sent 2202 again 200 arrived 2402 done 2002 lost 200 crashed 1\n";
 
-/// Whether the run of these commands writes this line.
-fn writes(alloc: Global, seed: u16, count: u32, line: &str) -> Result<bool, Fail>
+/// Whether the run of these commands ends so, and writes this, where this call of the sink fails: none
+/// where the number is 0.
+fn ends(
+    alloc: Global,
+    seed: u16,
+    count: u32,
+    failing: u32,
+    end: ReplayEnd,
+    written: &str,
+) -> Result<bool, Fail>
     requires some { 1 ≤ count }
     requires most { count ≤ 16000 }
 {
     let mut sink = MemSink::new(alloc, 1000)?;
-    let end = soak(alloc, seed, count, &mut sink);
-    Ok(end == ReplayEnd::Ended && sink.bytes() == line.as_bytes())
+    sink.fail_at(failing);
+    let ended = soak(alloc, seed, count, &mut sink);
+    Ok(ended == end && sink.bytes() == written.as_bytes())
 }
 
 #[test]
 fn writes_how_much_happened(rt: HostRuntime) -> Result<(), Fail> {
-    assert!(rt; writes(rt.alloc(), 0, 10, TEN)?);
-    assert!(rt; writes(rt.alloc(), 65_535, 10, TEN)?);
-    assert!(rt; writes(rt.alloc(), 0, 2_000, THOUSANDS)?);
+    let alloc = rt.alloc();
+    assert!(rt; ends(alloc, 0, 10, 0, ReplayEnd::Ended, TEN)?);
+    assert!(rt; ends(alloc, 65_535, 10, 0, ReplayEnd::Ended, TEN)?);
+    assert!(rt; ends(alloc, 0, 2_000, 0, ReplayEnd::Ended, THOUSANDS)?);
     Ok(())
 }
 
 #[test]
 fn tells_that_the_sink_failed_to_take_the_line(rt: HostRuntime) -> Result<(), Fail> {
-    let mut sink = MemSink::new(rt.alloc(), 1000)?;
-    sink.fail_at(1);
-    assert_eq!(rt; soak(rt.alloc(), 0, 10, &mut sink), ReplayEnd::SinkFault);
+    assert!(rt; ends(rt.alloc(), 0, 10, 1, ReplayEnd::SinkFault, "")?);
     Ok(())
 }
