@@ -13,7 +13,7 @@ use Rattle.aoe_frame.specs.declared.header.Header.{Header}
 use Rattle.aoe_frame.specs.Header.{fields, head}
 use Rattle.aoe_hold.specs.Commands.{unsent_count}
 use Rattle.aoe_history.specs.declared.entry.Entry.{Entry}
-use Rattle.aoe_history.specs.declared.entry.Entry.TheVariants.{Submitted, Refused, Sent, Injected, Arrived, Took, Done, Ticked, Lost, Armed, Crashed}
+use Rattle.aoe_history.specs.declared.entry.Entry.TheVariants.{Submitted, Sent, Took, Done, Ticked}
 use Rattle.aoe_history.specs.Commands.{commands_of, devices_of, host_after, is_of, log_of, path_ended, path_of, submission, tickets, Submission}
 use Rattle.aoe_history.specs.Frames.{clock}
 use Rattle.aoe_history.specs.HostLaw.{IsSubmitted}
@@ -41,9 +41,8 @@ abbrev pub about : Option Device → Option Attached
 about o = option_map (λ (d : Device). d.about) o
 
 devices-about : (ports : List Mac) (life now : ℕ) (cs : List HostCommand) (n : ℕ) (ds : List Attached) (k : ℕ) → about (slice_get (devices_of ports life now cs n ds) k) ≡ slice_get ds k
-devices-about ports life now cs n [] k = refl
-devices-about ports life now cs n (d ∷ ds) zero = refl
 devices-about ports life now cs n (d ∷ ds) (suc k) = devices-about ports life now cs (n + 1) ds k
+devices-about ports life now cs n _ _ = refl
 
 devices-unsent : (ports : List Mac) (life now : ℕ) (cs : List HostCommand) (n : ℕ) (ds : List Attached) (k : ℕ) → k < length ds
     → option_map_or (λ (d : Device). unsent_count d.holds.commands) (slice_get (devices_of ports life now cs n ds) k) 0 ≡ unsent_count (entered_at (n + k) cs)
@@ -70,11 +69,10 @@ unsent-after s host h n inside =
 
 from-same : (o p : Option Device) (op : Op) (h : Header) → about o ≡ about p → is_from o op h ≡ is_from p op h
 from-same None None op h e = refl
-from-same None (Some d) op h e = absurd (cc)
-from-same (Some d) None op h e = absurd (cc)
 from-same (Some d) (Some b) op h e =
     let same : d.about ≡ b.about = cc in
     ap (λ (a : Attached). holds a.remotes.items h.src && same_id h.id a.id && nat_eq h.command (command_of op)) same
+from-same _ _ op h e = absurd (cc)
 
 answered-same : (a b : Host) (c : HostCommand) (h : Header) → a.ports ≡ b.ports → about (slice_get a.devices c.device.0) ≡ about (slice_get b.devices c.device.0) → is_answered a c h ≡ is_answered b c h
 answered-same a b c h ports devices =
@@ -177,7 +175,6 @@ module _ (s : Setup) (host : HostSetup) (name : ArrayVec ℕ) (called : host_cal
   own h (Submitted other t dev op) near l before =
       let mine = own-of (is_called host other) near in
       submitted-now host h other t dev op mine (for-called (λ z. IsSubmitted s z h t dev op) (host_called s other) host (named s name host called other mine) l.0).next before
-  own h (Refused other refusal) near l before = absurd (cc)
   own h (Sent other t number bytes) near l before =
       let mine = own-of (is_called host other) near in
       changed host h (Sent other t number bytes ∷ h)
@@ -185,8 +182,6 @@ module _ (s : Setup) (host : HostSetup) (name : ArrayVec ℕ) (called : host_cal
       (asks-at (record { 0 = t }) (after_send (fields bytes).tag (record { 0 = log_clock (log_of host h) }) (path_of host (submission host h t) bytes) (λ n. timeout_on (path_log (log_of host h) n) (path_of host (submission host h t) bytes).0)) (λ c. (refl, refl, refl)))
       (ap commands (if-true (is_called host other) (Sends (record { 0 = t }) (fields bytes).tag (path_of host (submission host h t) bytes) ∷ log_of host h) (log_of host h) mine))
       refl (λ c. refl) before
-  own h (Injected number bytes) near l before = absurd (cc)
-  own h (Arrived dev frame fate) near l before = absurd (cc)
   own h (Took other number stale) near l before = same-commands host h (Took other number stale ∷ h) refl refl (λ c. refl) before
   own h (Done other t outcome) near l before =
       let mine = own-of (is_called host other) near in
@@ -194,9 +189,7 @@ module _ (s : Setup) (host : HostSetup) (name : ArrayVec ℕ) (called : host_cal
       (ap commands (if-true (is_called host other) (Ends (record { 0 = t }) (path_ended host h t outcome) ∷ log_of host h) (log_of host h) mine))
       refl (λ c. refl) before
   own h (Ticked ms) near l before = same-commands host h (Ticked ms ∷ h) refl refl (λ c. refl) before
-  own h (Lost frame) near l before = absurd (cc)
-  own h (Armed dev which k mode) near l before = absurd (cc)
-  own h (Crashed dev lists how) near l before = absurd (cc)
+  own h _ near l before = absurd (cc)
 
   after : (h : List Entry) (e : Entry) → IsLawful s (e ∷ h) → ((c : HostCommand) → Contains (commands_of host h) c → IsSubmission host h c)
       → (c : HostCommand) → Contains (commands_of host (e ∷ h)) c → (b : Bool) → is_apart host e ≡ b → IsSubmission host (e ∷ h) c

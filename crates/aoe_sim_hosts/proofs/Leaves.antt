@@ -5,8 +5,8 @@ use Rattle.std.proofs.lemmas.Bool.Decides.{nat_tests}
 use Rattle.aoe_net.specs.Network.{fresh_bytes, numbered, SentFrame}
 use Rattle.aoe_frame.specs.Header.{fields}
 use Rattle.aoe_history.specs.declared.entry.Entry.{Entry}
-use Rattle.aoe_history.specs.declared.entry.Entry.TheVariants.{Submitted, Refused, Sent, Injected, Arrived, Took, Done, Ticked, Lost, Armed, Crashed}
-use Rattle.aoe_history.specs.declared.entry.Fate.TheVariants.{Ignored, Silent, Cut, Replied}
+use Rattle.aoe_history.specs.declared.entry.Entry.TheVariants.{Submitted, Refused, Sent, Injected, Arrived, Took, Done, Ticked}
+use Rattle.aoe_history.specs.declared.entry.Fate.TheVariants.{Replied}
 use Rattle.aoe_history.specs.Commands.{is_of, last_response, log_of, path_ended, path_of, submission, tickets}
 use Rattle.aoe_history.specs.Frames.{arriving, bytes_of, clock, frames, network}
 use Rattle.aoe_history.specs.Setup.{device_no, is_called, HostSetup}
@@ -14,7 +14,7 @@ use Rattle.aoe_history.proofs.FrameLemmas.{numbered-later}
 use Rattle.aoe_sim_hosts.specs.Host.{is_apart}
 use Rattle.aoe_initiator.specs.HostLog.Event.{Ends, Sends, Submits}
 use Rattle.aoe_initiator.specs.declared.outcome.Outcome.{Outcome}
-use Rattle.aoe_initiator.specs.declared.outcome.Outcome.TheVariants.{Read as ReadOutcome, Written as WrittenOutcome, Flushed as FlushedOutcome, Told as ToldOutcome, AtaError as AtaErrorOutcome, AoeError as AoeErrorOutcome, GaveUp}
+use Rattle.aoe_initiator.specs.declared.outcome.Outcome.TheVariants.{GaveUp}
 use Rattle.aoe_history.proofs.LogicLemmas.{and-false, if-false, not-true}
 
 pub record Leaves (host : HostSetup) (h n : List Entry) : Type 0 where
@@ -45,13 +45,8 @@ arrives-later h n g more time life k f e = go (numbered (frames h) k) refl e
 -- ---- the path of a response
 
 pub path-left : (host : HostSetup) (h n : List Entry) (t : ℕ) (o : Outcome) → submission host n t ≡ submission host h t → last_response host n ≡ last_response host h → path_ended host n t o ≡ path_ended host h t o
-path-left host h n t (ReadOutcome bytes) a b = cc
-path-left host h n t WrittenOutcome a b = cc
-path-left host h n t FlushedOutcome a b = cc
-path-left host h n t (ToldOutcome args) a b = cc
-path-left host h n t (AtaErrorOutcome status error) a b = cc
-path-left host h n t (AoeErrorOutcome error) a b = cc
 path-left host h n t (GaveUp first now) a b = refl
+path-left host h n t _ a b = cc
 
 -- ---- entries of others
 
@@ -81,9 +76,6 @@ leaves host h (Injected number bytes) away = record {
   response = refl;
   arrives = arrives-later h (Injected number bytes ∷ h) (record { bytes = bytes; birth = clock h }) refl refl;
 }
-leaves host h (Arrived dev frame Ignored) away = record { count = refl; time = refl; log = refl; submissions = λ c. refl; response = refl; arrives = λ life k f e. e }
-leaves host h (Arrived dev frame Silent) away = record { count = refl; time = refl; log = refl; submissions = λ c. refl; response = refl; arrives = λ life k f e. e }
-leaves host h (Arrived dev frame Cut) away = record { count = refl; time = refl; log = refl; submissions = λ c. refl; response = refl; arrives = λ life k f e. e }
 leaves host h (Arrived dev frame (Replied effect number bytes)) away = record {
   count = refl;
   time = refl;
@@ -109,6 +101,4 @@ leaves host h (Done name t outcome) away = let other = not-true (is_called host 
   arrives = λ life k f e. e;
 }
 leaves host h (Ticked ms) away = absurd (cc)
-leaves host h (Lost frame) away = record { count = refl; time = refl; log = refl; submissions = λ c. refl; response = refl; arrives = λ life k f e. e }
-leaves host h (Armed dev which k mode) away = record { count = refl; time = refl; log = refl; submissions = λ c. refl; response = refl; arrives = λ life k f e. e }
-leaves host h (Crashed dev lists how) away = record { count = refl; time = refl; log = refl; submissions = λ c. refl; response = refl; arrives = λ life k f e. e }
+leaves host h _ away = record { count = refl; time = refl; log = refl; submissions = λ c. refl; response = refl; arrives = λ life k f e. e }

@@ -31,7 +31,7 @@ use Rattle.aoe_initiator.specs.declared.device.Device.{Device}
 use Rattle.aoe_initiator.specs.declared.outcome.Done.{Done}
 use Rattle.aoe_initiator.specs.declared.outcome.Outcome.{Outcome}
 use Rattle.aoe_initiator.specs.declared.response.Answer.{Answer}
-use Rattle.aoe_initiator.specs.declared.response.Answer.TheVariants.{Data, Written, Flushed, Told, AtaError, AoeError}
+use Rattle.aoe_initiator.specs.declared.response.Answer.TheVariants.{Data}
 use Rattle.aoe_initiator.specs.declared.step.Taken.{Taken}
 use Rattle.aoe_initiator.specs.declared.step.Taken.TheVariants.{Finished, Stale}
 use Rattle.aoe_initiator.specs.Host.{Host, IsSame, Matches}
@@ -79,11 +79,7 @@ came-back s host h x c f path is lawful there came =
 
 ended-by : (host : HostSetup) (h : List Entry) (t : ℕ) (a : Answer) (args : List ℕ) → path_ended host h t (outcome_of a args) ≡ option_map (path_back host (submission host h t)) (last_response host h)
 ended-by host h t (Data len) args = refl
-ended-by host h t Written args = refl
-ended-by host h t Flushed args = refl
-ended-by host h t (Told len) args = refl
-ended-by host h t (AtaError status error) args = refl
-ended-by host h t (AoeError error) args = refl
+ended-by host h t _ args = refl
 
 and-true : (b : Bool) → b ≡ true → (b && true) ≡ true
 and-true b e = ap (λ (c : Bool). c && true) e

@@ -168,9 +168,8 @@ few-told host (Some got) = by (is_told host got)
     by false = omega arith
 
 one-reversed : (xs : List Done) → length xs ≤ 1 → reverse xs ≡ xs
-one-reversed [] few = refl
-one-reversed (x ∷ []) few = refl
 one-reversed (x ∷ y ∷ xs) few = absurd (omega arith)
+one-reversed _ few = refl
 
 -- what was told of the outcomes that waited, the latest first
 turned : (told given dones rest : List Done) → length told ≤ 1 → told ++ reverse given ≡ reverse dones ++ rest → reverse rest ++ dones ≡ given ++ told
