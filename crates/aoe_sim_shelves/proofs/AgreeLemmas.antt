@@ -13,11 +13,11 @@ use Rattle.aoe_frame.specs.declared.header.Header.{Header}
 use Rattle.aoe_ata.specs.Decision.{written}
 use Rattle.aoe_ata.specs.declared.args.AtaArgs.{AtaArgs}
 use Rattle.aoe_ata.specs.declared.decision.AtaAnswer.{AtaAnswer}
-use Rattle.aoe_ata.specs.declared.decision.AtaAnswer.TheVariants.{Abort, NotFound, Page, Mode, Give, Put, Verify, Sync}
+use Rattle.aoe_ata.specs.declared.decision.AtaAnswer.TheVariants.{Give, Put}
 use Rattle.aoe_target.specs.declared.heard.Effect.{Effect}
 use Rattle.aoe_target.specs.declared.heard.Effect.TheVariants as effect
 use Rattle.aoe_target.specs.declared.station.Station.{Station}
-use Rattle.aoe_target.specs.Law.{after_ata, after_cut, after_effect, after_read, cut, ignored, replied, silent, AllowsAta, Fate}
+use Rattle.aoe_target.specs.Law.{after_ata, after_cut, after_effect, after_read, cut, replied, AllowsAta, Fate}
 use Rattle.aoe_target.specs.Reply.{data_of}
 use Rattle.aoe_target.specs.Sectors.{in_span, learns, puts, sectors_of, settles, left_by_fault, spoils, value_in, Agrees, Sectors, Tells}
 use Rattle.aoe_target.proofs.SectorLemmas.{known_same}
@@ -111,40 +111,24 @@ module _ (n : ℕ) (a b : Sectors) (ab : AgreesWithin n a b) where
 
   cut_known : (answer : AtaAnswer) → Knows n (after_cut answer a) (after_cut answer b)
   cut_known (Put span) = spoils_known span
-  cut_known Abort = itself
-  cut_known NotFound = itself
-  cut_known Page = itself
-  cut_known Mode = itself
-  cut_known (Give span) = itself
-  cut_known (Verify span) = itself
-  cut_known Sync = itself
+  cut_known _ = itself
 
   module _ (station : Station) (h : Header) (args : AtaArgs) (f : List ℕ) where
     read_known : (answer : AtaAnswer) (reply : List ℕ) → AllowsAta station (Some a) h args answer (replied effect.None reply) → Knows n (after_read answer reply a) (after_read answer reply b)
     read_known (Give span) reply p = learns_known span (data_of span reply) p.2
-    read_known Abort reply p = itself
-    read_known NotFound reply p = itself
-    read_known Page reply p = itself
-    read_known Mode reply p = itself
-    read_known (Put span) reply p = itself
-    read_known (Verify span) reply p = itself
-    read_known Sync reply p = itself
+    read_known _ reply p = itself
 
     effect_known : (e : Effect) (answer : AtaAnswer) (reply : List ℕ) → AllowsAta station (Some a) h args answer (replied e reply) → Knows n (after_effect f answer e reply a) (after_effect f answer e reply b)
     effect_known effect.None answer reply p = read_known answer reply p
     effect_known (effect.Wrote span) answer reply p = puts_known span (written (drop 24 f) span)
     effect_known (effect.WriteFault span) answer reply p = spoils_known span
     effect_known effect.Synced answer reply p = settles_known
-    effect_known effect.Edited answer reply p = itself
-    effect_known effect.ReadFault answer reply p = itself
-    effect_known effect.SyncFault answer reply p = itself
-    effect_known effect.EditFault answer reply p = itself
+    effect_known _ answer reply p = itself
 
     ata_known : (fate : Fate) (answer : AtaAnswer) → AllowsAta station (Some a) h args answer fate → Knows n (after_ata f answer fate a) (after_ata f answer fate b)
-    ata_known ignored answer p = itself
-    ata_known silent answer p = itself
     ata_known cut answer p = cut_known answer
     ata_known (replied e reply) answer p = effect_known e answer reply p
+    ata_known _ answer p = itself
 
     ata_agrees : (fate : Fate) (answer : AtaAnswer) → AllowsAta station (Some a) h args answer fate → AgreesWithin n (after_ata f answer fate a) (after_ata f answer fate b)
     ata_agrees fate answer p =
@@ -173,22 +157,20 @@ told_exact (Some a) = a.exact
 
 pub both_then : (n : ℕ) (x y z : Option Sectors) → told_exact x ≡ told_exact y → BothTell Agrees x y → BothTell (AgreesWithin n) y z → BothTell (AgreesWithin n) x z
 both_then n None None None e p q = tt
-both_then n None None (Some c) e p q = absurd q
 both_then n None (Some b) z e p q = absurd p
 both_then n (Some a) None z e p q = absurd p
-both_then n (Some a) (Some b) None e p q = absurd q
 both_then n (Some a) (Some b) (Some c) e p q = agrees_then n a b c e p q
+both_then n _ _ _ e p q = absurd q
 
 module _ (n : ℕ) (station : Station) (h : Header) (args : AtaArgs) (f : List ℕ) (fate : Fate) (answer : AtaAnswer) where
   pub both_ata : (x y z : Option Sectors) → told_exact x ≡ told_exact y → BothTell Agrees x (option_map (after_ata f answer fate) y) → BothTell (AgreesWithin n) y z → AllowsAta station y h args answer fate
       → BothTell (AgreesWithin n) x (option_map (after_ata f answer fate) z)
   both_ata None None None e p q a = tt
-  both_ata None None (Some c) e p q a = absurd q
   both_ata None (Some b) z e p q a = absurd p
   both_ata (Some x) None z e p q a = absurd p
-  both_ata (Some x) (Some b) None e p q a = absurd q
   both_ata (Some x) (Some b) (Some c) e p q a =
       agrees_then n x (after_ata f answer fate b) (after_ata f answer fate c) (e ∙ sym (ata_exact fate f answer b)) p (ata_agrees n b c q station h args f fate answer a)
+  both_ata _ _ _ e p q a = absurd q
 
 -- A STORE WITHOUT A CACHE TELLS ITS SETTLED BYTES
 
@@ -201,7 +183,6 @@ pub exact_kept : (s t : AnyStore Memory) → is_none (any_under state_of t) ≡ 
 exact_kept s t kind = store_exact t ∙ kind ∙ sym (store_exact s)
 
 pub same_kind : {A B : Type 0} (R : A → B → Type 0) (x : Option A) (y : Option B) → BothTell R x y → is_none y ≡ is_none x
-same_kind R None None p = refl
 same_kind R None (Some b) p = absurd p
 same_kind R (Some a) None p = absurd p
-same_kind R (Some a) (Some b) p = refl
+same_kind R _ _ p = refl

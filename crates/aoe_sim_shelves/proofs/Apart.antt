@@ -12,7 +12,7 @@ use Rattle.aoe_disk.specs.Memory.{state_of, Memory}
 use Rattle.aoe_lists.specs.Settings.{Settings}
 use Rattle.aoe_target.specs.Mounted.{device_of, Mounted}
 use Rattle.aoe_history.specs.declared.entry.Entry.{Entry}
-use Rattle.aoe_history.specs.declared.entry.Entry.TheVariants.{Submitted, Refused, Sent, Injected, Arrived, Took, Done, Ticked, Lost, Armed, Crashed}
+use Rattle.aoe_history.specs.declared.entry.Entry.TheVariants.{Arrived, Armed, Crashed}
 use Rattle.aoe_history.specs.declared.entry.Fate.{Fate}
 use Rattle.aoe_history.specs.Frames.{bytes_of}
 use Rattle.aoe_history.specs.Setup.{is_slot, SlotSetup}
@@ -90,14 +90,7 @@ module _ (slots : List SlotSetup) (h : List Entry) (i : ℕ) (slot : SlotSetup) 
   says-apart (Arrived dev frame fate) p = says-arrived slot h dev (not-any (λ x. is_slot x dev) slots i slot p at) frame fate
   says-apart (Armed dev which k mode) p = says-armed slot h dev (not-any (λ x. is_slot x dev) slots i slot p at) which k mode
   says-apart (Crashed dev lists how) p = says-crashed slot h dev (not-any (λ x. is_slot x dev) slots i slot p at) lists how
-  says-apart (Submitted host ticket dev op) p = record { known = refl; stretches = λ which. refl }
-  says-apart (Refused host refusal) p = record { known = refl; stretches = λ which. refl }
-  says-apart (Sent host ticket number bytes) p = record { known = refl; stretches = λ which. refl }
-  says-apart (Injected number bytes) p = record { known = refl; stretches = λ which. refl }
-  says-apart (Took host frame stale) p = record { known = refl; stretches = λ which. refl }
-  says-apart (Done host ticket outcome) p = record { known = refl; stretches = λ which. refl }
-  says-apart (Ticked ms) p = record { known = refl; stretches = λ which. refl }
-  says-apart (Lost frame) p = record { known = refl; stretches = λ which. refl }
+  says-apart _ p = record { known = refl; stretches = λ which. refl }
 
 -- the disks of a shelf are what the history says after an entry that says nothing of its slots
 pub serves-apart : (slots : List SlotSetup) (e : Entry) (h : List Entry) (x : MemoryRack) → is_apart slots e ≡ true → Serves slots h x → Serves slots (e ∷ h) x

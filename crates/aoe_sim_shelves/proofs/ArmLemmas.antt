@@ -101,9 +101,8 @@ once-begun k mode m n a = record { told = refl; number = counts mode a.schedule;
 store-begun : (k : ℕ) (mode : Option Loss) (s t : AnyStore Memory) → 0 < k → ArmsTo (arm_of k mode) (any_state state_of s) (any_state state_of t) → BothTell (ArmsUnder (arm_of k mode)) (any_under state_of s) (any_under state_of t)
     → IsStoreDue (Some (begun k mode)) t
 store-begun k mode (Direct m) (Direct n) first a u = due-begun Store k mode m n first a
-store-begun k mode (Direct m) (Cached d) first a u = absurd u
-store-begun k mode (Cached c) (Direct n) first a u = absurd u
 store-begun k mode (Cached c) (Cached d) first a u = once-begun k mode c.disk d.disk u.arms
+store-begun k mode _ _ first a u = absurd u
 
 -- the store's disk is armed
 store-armed : (slot : SlotSetup) (h : List Entry) (k : ℕ) (mode : Option Loss) (t : Mounted (AnyStore Memory) Memory) (m : AnyStore Memory) (stops : Stops) → 0 < k → IsServing slot h t stops

@@ -19,7 +19,7 @@ use Rattle.aoe_target.specs.Mounted.{Mounted}
 use Rattle.aoe_history.specs.declared.entry.Entry.{Entry}
 use Rattle.aoe_history.specs.declared.entry.Entry.TheVariants.{Arrived}
 use Rattle.aoe_history.specs.declared.entry.Fate.{Fate}
-use Rattle.aoe_history.specs.declared.entry.Fate.TheVariants.{Cut, Ignored, Replied, Silent}
+use Rattle.aoe_history.specs.declared.entry.Fate.TheVariants.{Cut, Replied}
 use Rattle.aoe_history.specs.Frames.{arriving, clock, frames, network, next_number}
 use Rattle.aoe_history.specs.Groups.{ArriveAtEach, ArriveAtSome, CrashEach, CrashSome}
 use Rattle.aoe_history.specs.Lawful.{IsArrival, IsNumbered, MayCome}
@@ -44,21 +44,17 @@ age-within false f g e = absurd (cc)
 
 -- a frame can be handed over after another frame came to a shelf
 pub still-arriving : (life : ℕ) (h : List Entry) (number : ℕ) (f : List ℕ) (dev : TargetId) (frame : ℕ) (fate : Fate) → arriving life h number ≡ Some f → arriving life (Arrived dev frame fate ∷ h) number ≡ Some f
-still-arriving life h number f dev frame Ignored e = e
-still-arriving life h number f dev frame Silent e = e
-still-arriving life h number f dev frame Cut e = e
 still-arriving life h number f dev frame (Replied effect n bytes) e = go (numbered (frames h) number) refl e
   where
     go : (o : Option SentFrame) → numbered (frames h) number ≡ o → option_and_then (fresh_bytes (network life h) (clock h)) o ≡ Some f
         → option_and_then (fresh_bytes (network life h) (clock h)) (numbered (record { bytes = bytes; birth = clock h } ∷ frames h) number) ≡ Some f
     go None q e = absurd (cc)
     go (Some x) q e = ap (option_and_then (fresh_bytes (network life h) (clock h))) (numbered-later (record { bytes = bytes; birth = clock h }) (frames h) number x q) ∙ e
+still-arriving life h number f dev frame _ e = e
 
 noted-number : (stop : Option Loss) (x : Heard) (next : ℕ) (out : List ℕ) → IsNumbered next (noted stop x next out)
-noted-number (Some how) x next out = tt
-noted-number None heard.Ignored next out = tt
-noted-number None heard.Silent next out = tt
 noted-number None (heard.Replied e) next out = refl
+noted-number _ _ next out = tt
 
 -- ONE SLOT
 
@@ -74,9 +70,8 @@ some-here number f shelf (slot ∷ slots) m = inl refl
 
 pub same-or : (a b : ℕ) → (a ≡ b) ⊎ (a ≢ b)
 same-or zero zero = inl refl
-same-or zero (suc b) = inr (λ e. omega (arith, e))
-same-or (suc a) zero = inr (λ e. omega (arith, e))
 same-or (suc a) (suc b) = elim (same-or a b) [ inl e ↦ inl (ap suc e) | inr n ↦ inr (λ e. n (omega (arith, e))) ]
+same-or _ _ = inr (λ e. omega (arith, e))
 
 pub at-place : {X : Type 0} (xs : List X) (i j : ℕ) (a b : X) → j ≡ i → slice_get xs i ≡ Some a → slice_get xs j ≡ Some b → a ≡ b
 at-place xs i j a b e p q = same_Some a b (sym p ∙ ap (slice_get xs) (sym e) ∙ q)
@@ -203,9 +198,7 @@ module _ (s : Setup) (slots : List SlotSetup) (i number : ℕ) (f : List ℕ) (h
     where
       go : (o : Option Loss) (v : Heard) → o ≡ stop_at stops w → w ≡ v → IsReplyFull o v (network life h) out → MeetsFull s (ArriveAtSome number f slots (drop i slots) h) h
       go None (heard.Replied e) is same p = let slot = slot-here in meets-full slot.0 slot.1 e (sym is) same p
-      go None heard.Ignored is same p = absurd p
-      go None heard.Silent is same p = absurd p
-      go (Some how) v is same p = absurd p
+      go _ _ is same p = absurd p
 
 -- what the code knows of one arrival: how the targets changed, and the stop by what was read of the stops
 pub record IsTurn (i : ℕ) (f : List ℕ) (w : Heard) (out : List ℕ) (a b : Rack (AnyStore Memory) Memory) (items xs : List Stops) (d : Stops) (dev : TargetId) (stop : Option Loss) : Type 0 where

@@ -109,9 +109,8 @@ module _ (how : Loss) (a b : Cache Memory) (l : LosesCache how a b) (n : ℕ) (s
 
   marked_value : (s : ℕ) (w : Bool) (settled : Option (List ℕ)) → (w ≡ true → is_loose a.disk.loose s ≡ false) → (w ≡ true → IfSome settled (λ v. Some (sector a.disk.bytes s) ≡ Some v))
       → IfSome (if w then settled else None) (λ v. Some (sector b.disk.bytes s) ≡ Some v)
-  marked_value s false settled kept told = tt
-  marked_value s true None kept told = tt
   marked_value s true (Some v) kept told = stays s v (kept refl) (same_Some (sector a.disk.bytes s) v (told refl))
+  marked_value s _ _ kept told = tt
 
   module _ (k : Sectors) (agrees : AgreesWithin n (sectors_of (seen_contents a.held (contents_of a.disk))) k) (below : is_cached_whole room u ≡ true → IsBelow n room u k (under_of state_of a)) where
     unmarked_value : (s : ℕ) → s < n → k.marks s ≡ false → IfSome (k.known s) (λ v. Some (sector b.disk.bytes s) ≡ Some v)
@@ -180,8 +179,6 @@ left_store how (Direct a) (Direct b) l n slot z None is under agrees = record {
   sectors = both_left how a b l z.unsettled n slot is z.state.sectors agrees;
   under = λ w none same. subst (λ (o : Option ℕ). IsUnder n o w None) (sym is) tt;
 }
-left_store how (Direct a) (Cached b) l n slot z cache is under agrees = absurd l
-left_store how (Cached a) (Direct b) l n slot z cache is under agrees = absurd l
 left_store how (Direct a) (Direct b) l n slot z (Some room) is under agrees = absurd under
 left_store how (Cached a) (Cached b) l n slot z None is under agrees = absurd under
 left_store how (Cached a) (Cached b) l n slot z (Some room) is under agrees =
@@ -197,6 +194,7 @@ left_store how (Cached a) (Cached b) l n slot z (Some room) is under agrees =
                 (subst (λ (o : Option Sectors). IfSome o (λ k. IsBelow n room all_settled k (under_of state_of b))) (sym after) (left.1 same))),
           );
     }
+left_store how _ _ l n slot z cache is under agrees = absurd l
 
 -- THE KEEP
 
@@ -221,18 +219,16 @@ module _ (how : Loss) (a b : Mounted (AnyStore Memory) Memory) (r : Restarts how
     where
       go : (s t : AnyStore Memory) → LosesStore how s t → IsStoreDue None t
       go (Direct m) (Direct n) l = ap (λ (d : Memory). Some (option_map number_of d.arming)) l.rest
-      go (Direct m) (Cached n) l = absurd l
-      go (Cached m) (Direct n) l = absurd l
       go (Cached m) (Cached n) l = ap (λ (d : Memory). Some (option_map number_of d.arming)) l.disk.rest
+      go _ _ l = absurd l
 
   store_sectors : (any_state state_of b.store).sectors ≡ (any_state state_of a.store).sectors
   store_sectors = go a.store b.store r.store
     where
       go : (s t : AnyStore Memory) → LosesStore how s t → (any_state state_of t).sectors ≡ (any_state state_of s).sectors
       go (Direct m) (Direct n) l = l.sectors
-      go (Direct m) (Cached n) l = absurd l
-      go (Cached m) (Direct n) l = absurd l
       go (Cached m) (Cached n) l = l.disk.sectors
+      go _ _ l = absurd l
 
   disk_unarmed : option_map number_of r.disk.arming ≡ None
   disk_unarmed = ap (λ (m : Memory). option_map number_of m.arming) r.keep.rest

@@ -159,18 +159,16 @@ restart_minor how xs ys minor r other = minor_other ys minor (λ i b at.
 
 pub get_take : {X : Type 0} (n : ℕ) (xs : List X) (i : ℕ) (x : X) → slice_get (take n xs) i ≡ Some x → slice_get xs i ≡ Some x
 get_take zero xs i x e = absurd (cc)
-get_take (suc n) [] i x e = e
-get_take (suc n) (a ∷ xs) zero x e = e
 get_take (suc n) (a ∷ xs) (suc i) x e = get_take n xs i x e
+get_take (suc n) _ _ x e = e
 
 -- the same targets, by their stations
 pub same_stations : (how : Loss) (xs ys : List (Mounted (AnyStore Memory) Memory)) → RestartEach how xs ys → map (λ (t : Mounted (AnyStore Memory) Memory). t.station) ys ≡ map (λ (t : Mounted (AnyStore Memory) Memory). t.station) xs
 same_stations how [] [] r = refl
-same_stations how [] (y ∷ ys) r = absurd (omega (arith, r.count))
-same_stations how (x ∷ xs) [] r = absurd (omega (arith, r.count))
 same_stations how (x ∷ xs) (y ∷ ys) r =
     ap (λ (z : Station). z ∷ map (λ (t : Mounted (AnyStore Memory) Memory). t.station) ys) (r.each 0 x y refl refl).station
     ∙ ap (λ (l : List Station). x.station ∷ l) (same_stations how xs ys (record { count = omega (arith, r.count); each = λ i a b p q. r.each (suc i) a b p q }))
+same_stations how _ _ r = absurd (omega (arith, r.count))
 
 -- and they are targets of the shelf still
 pub restart_targets : (how : Loss) (shelf : Rack (AnyStore Memory) Memory) (ys : List (Mounted (AnyStore Memory) Memory)) → AreTargets shelf → RestartEach how shelf.targets ys → AreTargets (record shelf { targets = ys })

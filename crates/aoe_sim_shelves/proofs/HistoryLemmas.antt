@@ -115,11 +115,10 @@ module _ (s : Setup) (how : Loss) where
   -- those of all
   pub crash_each : (slots : List SlotSetup) (ts : List (Mounted (AnyStore Memory) Memory)) (h : List Entry) → AreSlots s slots → length ts ≡ length slots → MayRestart slots h ts → CrashEach how slots h (with_crashes how ts h)
   crash_each [] [] h are fits may = refl
-  crash_each [] (t ∷ ts) h are fits may = absurd (omega (arith, fits))
-  crash_each (slot ∷ slots) [] h are fits may = absurd (omega (arith, fits))
   crash_each (slot ∷ slots) (t ∷ ts) h are fits may =
       let rest = crash_each slots ts (struck_first slot t h) (tail_slots slot slots are t ts h may) (omega (arith, fits)) (may_later slot slots are t ts h may) in
       by_name slot t ts h (CrashEach how (slot ∷ slots) h) (may.each 0 slot t refl refl).0 (t.keep.lists, rest)
+  crash_each _ _ h are fits may = absurd (omega (arith, fits))
 
 -- THE SHELF
 

@@ -91,18 +91,16 @@ module _ (n : ℕ) (z : Slot) (x : Option Stretch) (fate : Fate) (failed : Bool)
       → MatchBool (is_none cache) (IsStruckInTurn Store x fate) (IsStruckOnce x fate)
   struck-store None (Direct a) (Direct b) u due run calls strike =
       struck-in-turn Store x fate failed (met Store failed a.faults b.faults (schedule_of a.arming a.out) (schedule_of b.arming b.out) run.schedule x due) is strike
-  struck-store None (Direct a) (Cached b) u due run calls strike = absurd calls
   struck-store None (Cached a) t u due run calls strike = absurd u
   struck-store (Some room) (Direct a) t u due run calls strike = absurd u
-  struck-store (Some room) (Cached a) (Direct b) u due run calls strike = absurd calls
   struck-store (Some room) (Cached a) (Cached b) u due run calls strike =
       struck-once calls.made failed a.disk.faults b.disk.faults (schedule_of a.disk.arming a.disk.out) (schedule_of b.disk.arming b.disk.out) calls.run.schedule x fate due is strike
+  struck-store _ _ _ u due run calls strike = absurd calls
 
   pub due-store-then : (s t : AnyStore Memory) → IsStoreDue x s → IsRun 1 failed (any_state state_of s) (any_state state_of t) → BothTell (CallsUnder failed) (any_under state_of s) (any_under state_of t)
       → (failed ≡ true → stop_in x ≡ None) → IsStoreDue (option_map (one_more fate) x) t
   due-store-then (Direct a) (Direct b) due run calls running =
       due-then Store failed a.faults b.faults (schedule_of a.arming a.out) (schedule_of b.arming b.out) run.schedule x fate running due
-  due-store-then (Direct a) (Cached b) due run calls running = absurd calls
-  due-store-then (Cached a) (Direct b) due run calls running = absurd calls
   due-store-then (Cached a) (Cached b) due run calls running =
       once-then calls.made failed a.disk.faults b.disk.faults (schedule_of a.disk.arming a.disk.out) (schedule_of b.disk.arming b.disk.out) calls.run.schedule x fate due is running
+  due-store-then _ _ due run calls running = absurd calls

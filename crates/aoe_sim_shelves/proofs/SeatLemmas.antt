@@ -1,5 +1,5 @@
 -- A target over disks that were just opened.
-use Rattle.std.proofs.Common.{◌≡◌, ◌<◌, ◌≤◌, ◌+◌, ◌-◌, ◌*◌, ◌/◌, ◌==◌, ◌⊎◌, inl, inr, ℕ, zero, suc, Bool, true, false, if◌then◌else◌, List, [], ◌∷◌, ◌++◌, length, map, get_or, take, replicate, Option, Some, None, refl, sym, ap, subst, ◌∙◌, arith, get_or-take, get_or-drop}
+use Rattle.std.proofs.Common.{◌≡◌, ◌<◌, ◌≤◌, ◌+◌, ◌-◌, ◌*◌, ◌/◌, ◌==◌, ◌⊎◌, inl, inr, ℕ, suc, Bool, true, false, if◌then◌else◌, List, [], ◌∷◌, ◌++◌, length, map, get_or, take, replicate, Option, Some, None, refl, sym, ap, subst, ◌∙◌, arith, get_or-take, get_or-drop}
 use Rattle.std.specs.Prelude.{slice_get, is_none, IsSomeAnd, Ok, Result}
 use Rattle.std.specs.Option.{option_map}
 use Rattle.std.proofs.lemmas.Bool.{OnTrue_from}
@@ -73,9 +73,8 @@ last_name before front t at id is place p =
 -- a target that was added again
 lost_sectors : (how : Loss) (a b : AnyStore Memory) → LosesStore how a b → (any_state state_of b).sectors ≡ (any_state state_of a).sectors
 lost_sectors how (Direct a) (Direct b) l = l.sectors
-lost_sectors how (Direct a) (Cached b) l = absurd l
-lost_sectors how (Cached a) (Direct b) l = absurd l
 lost_sectors how (Cached a) (Cached b) l = l.disk.sectors
+lost_sectors how _ _ l = absurd l
 
 pub seated_again : (how : Loss) (shelf r : Rack (AnyStore Memory) Memory) (t : Mounted (AnyStore Memory) Memory) (minor : ℕ) (store : AnyStore Memory) (disk : Memory) (keep : Kept Memory) → IsTargetOf shelf.major shelf.ports shelf.mtu t → r ≡ record shelf { targets = r.targets }
     → minor ≡ t.station.id.minor → LosesStore how t.store store → Loses how t.keep.disk disk → HasMounted (state_of disk) (state_of keep.disk) keep.lists → Restarts how t (seated r.major r.ports r.mtu minor store keep)
@@ -94,9 +93,8 @@ seated_again how shelf r t minor store disk keep k rest name lost lost_keep moun
 -- DISKS OF ZEROS
 
 zero_in : (n i : ℕ) → ◌≡◌ {A = ℕ} (get_or (replicate n 0) i 0) 0
-zero_in zero i = refl
-zero_in (suc n) zero = refl
 zero_in (suc n) (suc i) = zero_in n i
+zero_in _ _ = refl
 
 no_gate : (n k : ℕ) → is_open (replicate n 0) k ≡ false
 no_gate n k = ap (λ m. m == 0xa7) first

@@ -140,16 +140,14 @@ takes slot h f x out t u k m =
 
 noted-strike : (x : Heard) (number : ℕ) (out : List ℕ) (z : Stretch) → is_none z.mode ≡ true → IsStrike z (noted None x number out)
 noted-strike heard.Ignored number out z p = p
-noted-strike heard.Silent number out z p = p
-noted-strike (heard.Replied e) number out z p = p
+noted-strike _ number out z p = p
 
 mode-in : (x : Option Stretch) (z : Stretch) (stop mode : Option Loss) → stop ≡ stop_in x → x ≡ Some z → stop ≡ mode → z.mode ≡ mode
 mode-in x z stop mode is at m = sym (ap stop_in at) ∙ sym is ∙ m
 
 stop-same : (b : Bool) (x : Option Stretch) (fate : Fate) → stop_in (if b then option_map (one_more fate) x else x) ≡ stop_in x
 stop-same true None fate = refl
-stop-same true (Some z) fate = refl
-stop-same false x fate = refl
+stop-same _ _ fate = refl
 
 or-false : (a : Bool) → (a || false) ≡ a
 or-false true = refl

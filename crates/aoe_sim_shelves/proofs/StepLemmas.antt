@@ -11,7 +11,7 @@ use Rattle.aoe_frame.specs.declared.header.Header.{Header}
 use Rattle.aoe_base.specs.declared.sectors.Span.{Span}
 use Rattle.aoe_ata.specs.declared.args.AtaArgs.{AtaArgs}
 use Rattle.aoe_ata.specs.declared.decision.AtaAnswer.{AtaAnswer}
-use Rattle.aoe_ata.specs.declared.decision.AtaAnswer.TheVariants.{Abort, NotFound, Page, Mode, Give, Put, Verify, Sync}
+use Rattle.aoe_ata.specs.declared.decision.AtaAnswer.TheVariants.{Give}
 use Rattle.aoe_lists.specs.Step.{Step}
 use Rattle.aoe_lists.specs.Step as step
 use Rattle.aoe_target.specs.declared.heard.Effect.{Effect}
@@ -20,7 +20,7 @@ use Rattle.aoe_target.specs.declared.station.Station.{Station}
 use Rattle.aoe_target.specs.declared.verdict.Verdict.{Verdict}
 use Rattle.aoe_target.specs.declared.verdict.Verdict.TheVariants as verdict
 use Rattle.aoe_target.specs.Device.{Holds, State}
-use Rattle.aoe_target.specs.Law.{after, after_step, cut, ignored, replied, silent, step_of, Allows, AllowsAta, Fate, Gives, IsStep}
+use Rattle.aoe_target.specs.Law.{after, after_step, replied, step_of, Allows, AllowsAta, Fate, Gives, IsStep}
 use Rattle.aoe_target.specs.Mounted.{device_of, Mounted}
 use Rattle.aoe_target.specs.Reply.{data_of}
 use Rattle.aoe_target.specs.Sectors.{sectors_of, Sectors, Tells}
@@ -34,36 +34,22 @@ use Rattle.aoe_target.proofs.LawLemmas.{both_self}
 
 tells_within : (n : ℕ) (span : Span) (bytes : List ℕ) (x y : Option Sectors) → BothTell (AgreesWithin n) x y → span.at + span.count ≤ n → IfSome x (Tells span bytes) → IfSome y (Tells span bytes)
 tells_within n span bytes None None xy end told = tt
-tells_within n span bytes None (Some b) xy end told = absurd xy
-tells_within n span bytes (Some a) None xy end told = absurd xy
 tells_within n span bytes (Some a) (Some b) xy end told = λ i low. pass (a.known (span.at + i)) (b.known (span.at + i)) (λ v. sector bytes i ≡ v) (xy.known (span.at + i) (omega (arith, end, low))) (told i low)
+tells_within n span bytes _ _ xy end told = absurd xy
 
 module _ (n : ℕ) (station : Station) (x y : Option Sectors) (xy : BothTell (AgreesWithin n) x y) (h : Header) (args : AtaArgs) where
   gives_within : (e : Effect) (span : Span) (reply : List ℕ) → span.at + span.count ≤ n → Gives station x h args span e reply → Gives station y h args span e reply
   gives_within effect.None span reply end g = (g.0, g.1, tells_within n span (data_of span reply) x y xy end g.2)
   gives_within effect.ReadFault span reply end g = g
-  gives_within (effect.Wrote s) span reply end g = absurd g
-  gives_within (effect.WriteFault s) span reply end g = absurd g
-  gives_within effect.Synced span reply end g = absurd g
-  gives_within effect.Edited span reply end g = absurd g
-  gives_within effect.SyncFault span reply end g = absurd g
-  gives_within effect.EditFault span reply end g = absurd g
+  gives_within _ span reply end g = absurd g
 
   give_within : (fate : Fate) (span : Span) → span.at + span.count ≤ n → AllowsAta station x h args (Give span) fate → AllowsAta station y h args (Give span) fate
-  give_within ignored span end g = g
-  give_within silent span end g = g
-  give_within cut span end g = g
   give_within (replied e reply) span end g = gives_within e span reply end g
+  give_within _ span end g = g
 
   allows_within : (answer : AtaAnswer) (fate : Fate) → InEnd n answer → AllowsAta station x h args answer fate → AllowsAta station y h args answer fate
   allows_within (Give span) fate end g = give_within fate span end g
-  allows_within Abort fate end g = g
-  allows_within NotFound fate end g = g
-  allows_within Page fate end g = g
-  allows_within Mode fate end g = g
-  allows_within (Put span) fate end g = g
-  allows_within (Verify span) fate end g = g
-  allows_within Sync fate end g = g
+  allows_within _ fate end g = g
 
 -- A STEP
 
@@ -79,34 +65,12 @@ pub record StepsWithin (station : Station) (k : State) (f : List ℕ) (fate : Fa
   pub holds : HoldsWithin station.sectors (device_of (any_state state_of) state_of t) (after station f (judge.verdict station k.lists f) fate k)
 
 step_known : (t : Mounted (AnyStore Memory) Memory) (s : Step) (fate : Fate) (k : State) → after_step s fate (known_in t k) ≡ known_in t (after_step s fate k)
-step_known t step.Silent fate k = refl
-step_known t (step.Reply error args) fate k = refl
-step_known t (step.Change next args) ignored k = refl
-step_known t (step.Change next args) silent k = refl
-step_known t (step.Change next args) cut k = refl
-step_known t (step.Change next args) (replied effect.None reply) k = refl
-step_known t (step.Change next args) (replied (effect.Wrote span) reply) k = refl
-step_known t (step.Change next args) (replied effect.Synced reply) k = refl
 step_known t (step.Change next args) (replied effect.Edited reply) k = refl
-step_known t (step.Change next args) (replied (effect.WriteFault span) reply) k = refl
-step_known t (step.Change next args) (replied effect.ReadFault reply) k = refl
-step_known t (step.Change next args) (replied effect.SyncFault reply) k = refl
-step_known t (step.Change next args) (replied effect.EditFault reply) k = refl
+step_known t _ _ k = refl
 
 pub step_sectors : (s : Step) (fate : Fate) (k : State) → (after_step s fate k).sectors ≡ k.sectors
-step_sectors step.Silent fate k = refl
-step_sectors (step.Reply error args) fate k = refl
-step_sectors (step.Change next args) ignored k = refl
-step_sectors (step.Change next args) silent k = refl
-step_sectors (step.Change next args) cut k = refl
-step_sectors (step.Change next args) (replied effect.None reply) k = refl
-step_sectors (step.Change next args) (replied (effect.Wrote span) reply) k = refl
-step_sectors (step.Change next args) (replied effect.Synced reply) k = refl
 step_sectors (step.Change next args) (replied effect.Edited reply) k = refl
-step_sectors (step.Change next args) (replied (effect.WriteFault span) reply) k = refl
-step_sectors (step.Change next args) (replied effect.ReadFault reply) k = refl
-step_sectors (step.Change next args) (replied effect.SyncFault reply) k = refl
-step_sectors (step.Change next args) (replied effect.EditFault reply) k = refl
+step_sectors _ _ k = refl
 
 module _ (station : Station) (k : State) (f : List ℕ) (fate : Fate) (t u : Mounted (AnyStore Memory) Memory) (kind : is_none (any_under state_of u.store) ≡ is_none (any_under state_of t.store))
     (h : HoldsWithin station.sectors (device_of (any_state state_of) state_of t) k) where
@@ -128,9 +92,6 @@ module _ (station : Station) (k : State) (f : List ℕ) (fate : Fate) (t u : Mou
 
   by_verdict : (v : Verdict) → Ranged station.sectors v → Allows station (known_in t k) f v fate → Holds (device_of (any_state state_of) state_of u) (after station f v fate (known_in t k))
       → Allows station k f v fate × HoldsWithin station.sectors (device_of (any_state state_of) state_of u) (after station f v fate k)
-  by_verdict verdict.Ignored r a hold = (a, kept k refl hold)
-  by_verdict verdict.Silent r a hold = (a, kept k refl hold)
-  by_verdict (verdict.Refused error) r a hold = (a, kept k refl hold)
   by_verdict (verdict.Lists command) r a hold =
       let s : Step = step_of station k.lists f command in
       (a, kept (after_step s fate k) (step_sectors s fate k) (subst (λ (z : State). Holds (device_of (any_state state_of) state_of u) z) (step_known t s fate k) hold))
@@ -142,6 +103,7 @@ module _ (station : Station) (k : State) (f : List ℕ) (fate : Fate) (t u : Mou
       sectors = both_ata station.sectors station (fields f) d.args f fate d.answer left own k.sectors exact hold.sectors h.sectors a;
     },
   )
+  by_verdict _ r a hold = (a, kept k refl hold)
 
   -- a step of the device as it is, is one of what is known of it
   pub stepped : IsStep station (known_in t k) f fate (device_of (any_state state_of) state_of u) → StepsWithin station k f fate u

@@ -29,7 +29,7 @@ use Rattle.aoe_target.specs.Receive.{calls_for, calls_store, fate_of, is_fault, 
 use Rattle.aoe_target.specs.Sectors.{puts, sectors_of, settles, Sectors}
 use Rattle.aoe_target.specs.Verdict.{verdict as verdict_of}
 use Rattle.aoe_history.specs.declared.entry.Fate.{Fate}
-use Rattle.aoe_history.specs.declared.entry.Fate.TheVariants.{Cut, Ignored, Replied, Silent}
+use Rattle.aoe_history.specs.declared.entry.Fate.TheVariants.{Cut, Replied}
 use Rattle.aoe_history.specs.Setup.{SlotSetup}
 use Rattle.aoe_history.specs.Slots.{after_call, after_frame, all_settled, fate_at, is_cached_whole, is_struck, Slot, Unsettled}
 use Rattle.aoe_sim_shelves.specs.Arrival.{noted}
@@ -48,9 +48,8 @@ if-some (Some a) P Q f p = f a p
 
 both-calls : (R : Under → Under → Type 0) (S : Under → Under → Type 0) → ((a b : Under) → R a b → S a b) → (x y : Option Under) → BothTell R x y → BothTell S x y
 both-calls R S f None None p = tt
-both-calls R S f None (Some b) p = absurd p
-both-calls R S f (Some a) None p = absurd p
 both-calls R S f (Some a) (Some b) p = f a b p
+both-calls R S f _ _ p = absurd p
 
 -- THE CALLS
 
@@ -59,17 +58,11 @@ turns-calls (ata.Give span) failed shown x y c p = both-calls (ReadsUnder failed
 turns-calls (ata.Verify span) failed shown x y c p = both-calls (ReadsUnder failed) (CallsUnder failed) (λ a b r. r.calls) x y p
 turns-calls (ata.Put span) failed shown x y c p = both-calls (SpendsUnder span.count failed) (CallsUnder failed) (λ a b r. r.calls) x y p
 turns-calls ata.Sync failed shown x y c p = both-calls (FreesUnder failed shown) (CallsUnder failed) (λ a b r. r.calls) x y p
-turns-calls ata.Abort failed shown x y c p = absurd (cc)
-turns-calls ata.NotFound failed shown x y c p = absurd (cc)
-turns-calls ata.Page failed shown x y c p = absurd (cc)
-turns-calls ata.Mode failed shown x y c p = absurd (cc)
+turns-calls _ failed shown x y c p = absurd (cc)
 
 pub moves-calls : (v : Verdict) (failed : Bool) (shown : Option Contents) (x y : Option Under) → calls_store v ≡ true → MovesUnder v failed shown x y → BothTell (CallsUnder failed) x y
 moves-calls (verdict.Ata d) failed shown x y c p = turns-calls d.answer failed shown x y c p
-moves-calls verdict.Ignored failed shown x y c p = absurd (cc)
-moves-calls verdict.Silent failed shown x y c p = absurd (cc)
-moves-calls (verdict.Refused error) failed shown x y c p = absurd (cc)
-moves-calls (verdict.Lists command) failed shown x y c p = absurd (cc)
+moves-calls _ failed shown x y c p = absurd (cc)
 
 -- WHAT STAYS
 
@@ -92,9 +85,8 @@ SameSettled o p = BothTell (λ (k l : Sectors). (s : ℕ) → l.settled s ≡ k.
 if-below : (n room : ℕ) (u w : Unsettled) (d e : Under) → bytes_under e ≡ bytes_under d → e.free ≡ d.free → w.written ≡ u.written → (o p : Option Sectors) → SameSettled o p
     → IfSome o (λ k. IsBelow n room u k d) → IfSome p (λ k. IsBelow n room w k e)
 if-below n room u w d e bytes free written None None same b = tt
-if-below n room u w d e bytes free written None (Some l) same b = absurd same
-if-below n room u w d e bytes free written (Some k) None same b = absurd same
 if-below n room u w d e bytes free written (Some k) (Some l) same b = below-same n room u w k l d e bytes free written same b
+if-below n room u w d e bytes free written _ _ same b = absurd same
 
 whole-before : (room : ℕ) (u w : Unsettled) → w.written ≡ u.written → w.struck ≡ u.struck → is_cached_whole room w ≡ true → is_cached_whole room u ≡ true
 whole-before room u w written struck e = sym (ap (λ (m : ℕ). nat_le m room && not w.struck) written ∙ ap (λ (b : Bool). nat_le u.written room && not b) struck) ∙ e
@@ -108,10 +100,8 @@ on-whole false true P Q back f p = absurd (let no : false ≡ true → ⊥ = λ 
 pub under-same : (n : ℕ) (cache : Option ℕ) (z w : Slot) (x y : Option Under) → w.unsettled.written ≡ z.unsettled.written → w.unsettled.struck ≡ z.unsettled.struck → SameSettled z.state.sectors w.state.sectors
     → BothTell (λ (d e : Under). (e.room ≡ d.room) × (bytes_under e ≡ bytes_under d) × (e.free ≡ d.free)) x y → IsUnder n cache z x → IsUnder n cache w y
 under-same n None z w None None written struck settled same u = tt
-under-same n None z w None (Some e) written struck settled same u = absurd same
 under-same n None z w (Some d) y written struck settled same u = absurd u
 under-same n (Some room) z w None y written struck settled same u = absurd u
-under-same n (Some room) z w (Some d) None written struck settled same u = absurd same
 under-same n (Some room) z w (Some d) (Some e) written struck settled same u = (
   same.0 ∙ u.0,
   on-whole (is_cached_whole room z.unsettled) (is_cached_whole room w.unsettled) (IfSome z.state.sectors (λ k. IsBelow n room z.unsettled k d)) (IfSome w.state.sectors (λ k. IsBelow n room w.unsettled k e))
@@ -119,6 +109,7 @@ under-same n (Some room) z w (Some d) (Some e) written struck settled same u = (
       (if-below n room z.unsettled w.unsettled d e same.1 same.2 written z.state.sectors w.state.sectors settled)
       u.1,
 )
+under-same n _ z w _ _ written struck settled same u = absurd same
 
 pub settled-self : (o : Option Sectors) → SameSettled o o
 settled-self None = tt
@@ -144,20 +135,19 @@ module _ (n : ℕ) (cache : Option ℕ) (z w : Slot) (x y : Option Under) where
   struck-room room u e = none (nat_le u.written room) u.struck e
     where
       none : (a b : Bool) → b ≡ true → (a && not b) ≡ false
+      none a false e = absurd (cc)
       none true true e = refl
       none false true e = refl
-      none a false e = absurd (cc)
 
   pub under-struck : w.unsettled.struck ≡ true → BothTell (λ (d e : Under). e.room ≡ d.room) x y → IsUnder n cache z x → IsUnder n cache w y
   under-struck struck same u = go cache x y same u
     where
       go : (cache : Option ℕ) (x y : Option Under) → BothTell (λ (d e : Under). e.room ≡ d.room) x y → IsUnder n cache z x → IsUnder n cache w y
       go None None None same u = tt
-      go None None (Some e) same u = absurd same
       go None (Some d) y same u = absurd u
       go (Some room) None y same u = absurd u
-      go (Some room) (Some d) None same u = absurd same
       go (Some room) (Some d) (Some e) same u = (same ∙ u.0, subst (λ (b : Bool). OnTrue b (IfSome w.state.sectors (λ k. IsBelow n room w.unsettled k e))) (sym (struck-room room w.unsettled struck)) tt)
+      go _ _ _ same u = absurd same
 
   -- a write
   pub under-wrote : (count : ℕ) → w.unsettled.written ≡ z.unsettled.written + count → w.unsettled.struck ≡ z.unsettled.struck → SameSettled z.state.sectors w.state.sectors → BothTell (SpendsUnder count false) x y
@@ -200,9 +190,8 @@ module _ (n : ℕ) (cache : Option ℕ) (z w : Slot) (x y : Option Under) where
       if-spent : (room : ℕ) (d e : Under) → SpendsUnder count false d e → z.unsettled.written + count ≤ room → (o p : Option Sectors) → SameSettled o p
           → IfSome o (λ k. IsBelow n room z.unsettled k d) → IfSome p (λ k. IsBelow n room w.unsettled k e)
       if-spent room d e sp fit None None same b = tt
-      if-spent room d e sp fit None (Some l) same b = absurd same
-      if-spent room d e sp fit (Some k) None same b = absurd same
       if-spent room d e sp fit (Some k) (Some l) same b = spent room d e k l sp same fit b
+      if-spent room d e sp fit _ _ same b = absurd same
 
       whole-from : (room : ℕ) (d e : Under) (b c : Bool) → is_cached_whole room z.unsettled ≡ b → is_cached_whole room w.unsettled ≡ c → SpendsUnder count false d e
           → OnTrue b (IfSome z.state.sectors (λ k. IsBelow n room z.unsettled k d)) → OnTrue c (IfSome w.state.sectors (λ k. IsBelow n room w.unsettled k e))
@@ -212,11 +201,10 @@ module _ (n : ℕ) (cache : Option ℕ) (z w : Slot) (x y : Option Under) where
 
       go : (cache : Option ℕ) (x y : Option Under) → BothTell (SpendsUnder count false) x y → IsUnder n cache z x → IsUnder n cache w y
       go None None None sp u = tt
-      go None None (Some e) sp u = absurd sp
       go None (Some d) y sp u = absurd u
       go (Some room) None y sp u = absurd u
-      go (Some room) (Some d) None sp u = absurd sp
       go (Some room) (Some d) (Some e) sp u = (sp.calls.room ∙ u.0, whole-from room d e (is_cached_whole room z.unsettled) (is_cached_whole room w.unsettled) refl refl sp u.1)
+      go _ _ _ sp u = absurd sp
 
   -- a sync: what was known is settled
   pub under-synced : (shown : Option Contents) → w.unsettled ≡ all_settled → BothTell (λ (k l : Sectors). (s : ℕ) → l.settled s ≡ k.known s) z.state.sectors w.state.sectors
@@ -246,14 +234,13 @@ module _ (n : ℕ) (cache : Option ℕ) (z w : Slot) (x y : Option Under) where
 
       go : (cache : Option ℕ) (x y : Option Under) → BothTell (FreesUnder false shown) x y → IsUnder n cache z x → IsUnder n cache w y
       go None None None f u = tt
-      go None None (Some e) f u = absurd f
       go None (Some d) y f u = absurd u
       go (Some room) None y f u = absurd u
-      go (Some room) (Some d) None f u = absurd f
       go (Some room) (Some d) (Some e) f u = (
         f.calls.room ∙ u.0,
         on-any (is_cached_whole room w.unsettled) _ (if-synced room e shown z.state.sectors w.state.sectors agrees settled (f.done refl) (f.calls.room ∙ u.0)),
       )
+      go _ _ _ f u = absurd f
 
 -- WHAT A FRAME LEAVES
 
@@ -268,20 +255,11 @@ all-settled (Some k) = λ s. refl
 
 read-settled : (answer : AtaAnswer) (reply : List ℕ) (k : Sectors) (s : ℕ) → (after_read answer reply k).settled s ≡ k.settled s
 read-settled (ata.Give span) reply k s = refl
-read-settled (ata.Verify span) reply k s = refl
-read-settled (ata.Put span) reply k s = refl
-read-settled ata.Sync reply k s = refl
-read-settled ata.Abort reply k s = refl
-read-settled ata.NotFound reply k s = refl
-read-settled ata.Page reply k s = refl
-read-settled ata.Mode reply k s = refl
+read-settled _ reply k s = refl
 
 -- a slot whose store isn't called
 module _ (n : ℕ) (slot : SlotSetup) (f : List ℕ) (fate : Fate) (z : Slot) where
   idle-sectors : (v : Verdict) → calls_store v ≡ false → Allows slot.station z.state f v (fate_at fate) → SameSettled z.state.sectors (after slot.station f v (fate_at fate) z.state).sectors
-  idle-sectors verdict.Ignored c a = settled-self z.state.sectors
-  idle-sectors verdict.Silent c a = settled-self z.state.sectors
-  idle-sectors (verdict.Refused error) c a = settled-self z.state.sectors
   idle-sectors (verdict.Lists command) c a =
       let s : Step = step_of slot.station z.state.lists f command in
       subst (λ (o : Option Sectors). SameSettled z.state.sectors o) (sym (step_sectors s (fate_at fate) z.state)) (settled-self z.state.sectors)
@@ -291,14 +269,12 @@ module _ (n : ℕ) (slot : SlotSetup) (f : List ℕ) (fate : Fate) (z : Slot) wh
       none answer g r e = subst (λ (w : target.Fate). SameSettled z.state.sectors (option_map (after_ata f answer w) z.state.sectors)) (sym e) (kept-map (after_read answer r) z.state.sectors (read-settled answer r))
 
       go : (answer : AtaAnswer) (g : target.Fate) → calls_for answer ≡ false → AllowsAta slot.station z.state.sectors (fields f) d.args answer g → SameSettled z.state.sectors (option_map (after_ata f answer g) z.state.sectors)
-      go ata.Abort g c a = none ata.Abort g _ a
-      go ata.NotFound g c a = none ata.NotFound g _ a
-      go ata.Page g c a = none ata.Page g _ a
-      go ata.Mode g c a = none ata.Mode g _ a
       go (ata.Give span) g c a = absurd (cc)
       go (ata.Verify span) g c a = absurd (cc)
       go (ata.Put span) g c a = absurd (cc)
       go ata.Sync g c a = absurd (cc)
+      go e g c a = none e g _ a
+  idle-sectors _ c a = settled-self z.state.sectors
 
   idle-unsettled : (b : Bool) → b ≡ false → (if b then after_call fate z.unsettled else z.unsettled) ≡ z.unsettled
   idle-unsettled true c = absurd (cc)
@@ -326,13 +302,13 @@ module _ (n : ℕ) (slot : SlotSetup) (f : List ℕ) (z : Slot) (x y : Option Un
 
   done-then : (answer : AtaAnswer) (e : Effect) (number : ℕ) (out : List ℕ) → calls_for answer ≡ true → is_fault e ≡ false → TurnsUnder answer false shown x y → Law answer (Replied e number out)
       → IsUnder n slot.cache (called answer (Replied e number out)) y
-  done-then (ata.Give span) effect.None number out c s p a = read-then false (ata.Give span) number out p
-  done-then (ata.Verify span) effect.None number out c s p a = read-then false (ata.Verify span) number out p
   done-then (ata.Put span) (effect.Wrote w) number out c s p a =
       under-wrote n slot.cache z (called (ata.Put span) (Replied (effect.Wrote w) number out)) x y span.count (ap (λ (q : Span). z.unsettled.written + q.count) a.0) refl
       (kept-map (puts w (written (drop 24 f) w)) z.state.sectors (λ k s. refl)) p u
   done-then ata.Sync effect.Synced number out c s p a =
       under-synced n slot.cache z (called ata.Sync (Replied effect.Synced number out)) x y shown refl (all-settled z.state.sectors) agrees p u
+  done-then (ata.Give span) effect.None number out c s p a = read-then false (ata.Give span) number out p
+  done-then (ata.Verify span) effect.None number out c s p a = read-then false (ata.Verify span) number out p
   done-then ata.Abort e number out c s p a = absurd (cc)
   done-then ata.NotFound e number out c s p a = absurd (cc)
   done-then ata.Page e number out c s p a = absurd (cc)
@@ -349,16 +325,11 @@ or-left false b e = absurd (cc)
 
 struck-call : (fate : Fate) (w : Unsettled) → is_struck fate ≡ true → (after_call fate w).struck ≡ true
 struck-call Cut w e = refl
-struck-call (Replied effect.None number out) w e = absurd (cc)
-struck-call (Replied (effect.Wrote span) number out) w e = absurd (cc)
-struck-call (Replied effect.Synced number out) w e = absurd (cc)
-struck-call (Replied effect.Edited number out) w e = absurd (cc)
 struck-call (Replied (effect.WriteFault span) number out) w e = refl
 struck-call (Replied effect.ReadFault number out) w e = refl
 struck-call (Replied effect.SyncFault number out) w e = refl
 struck-call (Replied effect.EditFault number out) w e = refl
-struck-call Ignored w e = absurd (cc)
-struck-call Silent w e = absurd (cc)
+struck-call _ w e = absurd (cc)
 
 module _ (n : ℕ) (slot : SlotSetup) (f : List ℕ) (z : Slot) (x y : Option Under) where
   abbrev v : Verdict
@@ -376,13 +347,10 @@ module _ (n : ℕ) (slot : SlotSetup) (f : List ℕ) (z : Slot) (x y : Option Un
     where
       go : (w : Verdict) → calls_store w ≡ true → MovesUnder w false shown x y → Allows slot.station z.state f w (target.replied e out)
           → IsUnder n slot.cache (record { state = after slot.station f w (target.replied e out) z.state; unsettled = if calls_store w then after_call (Replied e number out) z.unsettled else z.unsettled }) y
-      go verdict.Ignored c p a = absurd (cc)
-      go verdict.Silent c p a = absurd (cc)
-      go (verdict.Refused error) c p a = absurd (cc)
-      go (verdict.Lists command) c p a = absurd (cc)
       go (verdict.Ata d) c p a =
           subst (λ (b : Bool). IsUnder n slot.cache (record { state = record z.state { sectors = option_map (after_ata f d.answer (target.replied e out)) z.state.sectors }; unsettled = if b then after_call (Replied e number out) z.unsettled else z.unsettled }) y)
           (sym c) (done-then n slot f z x y shown agrees u (fields f) d.args d.answer e number out c s p a)
+      go _ c p a = absurd (cc)
 
   -- the room of a store that was called
   pub called-room : (failed : Bool) → BothTell (CallsUnder failed) x y → BothTell (λ (d e : Under). e.room ≡ d.room) x y
@@ -390,10 +358,6 @@ module _ (n : ℕ) (slot : SlotSetup) (f : List ℕ) (z : Slot) (x y : Option Un
 
 -- a frame that is ignored or gets no reply calls no store
 replies-called : (station : Station) (k : State) (f : List ℕ) (v : Verdict) (g : target.Fate) → ((P : Effect → List ℕ → Type 0) → target.RepliesOrCut P g → ⊥) → calls_store v ≡ true → Allows station k f v g → ⊥
-replies-called station k f verdict.Ignored g unheard c a = absurd (cc)
-replies-called station k f verdict.Silent g unheard c a = absurd (cc)
-replies-called station k f (verdict.Refused error) g unheard c a = absurd (cc)
-replies-called station k f (verdict.Lists command) g unheard c a = absurd (cc)
 replies-called station k f (verdict.Ata d) g unheard c a = go d.answer c a
   where
     go : (answer : AtaAnswer) → calls_for answer ≡ true → AllowsAta station k.sectors (fields f) d.args answer g → ⊥
@@ -405,6 +369,7 @@ replies-called station k f (verdict.Ata d) g unheard c a = go d.answer c a
     go ata.NotFound c a = absurd (cc)
     go ata.Page c a = absurd (cc)
     go ata.Mode c a = absurd (cc)
+replies-called station k f _ g unheard c a = absurd (cc)
 
 -- what a target did with a frame that made it call its store
 module _ (n : ℕ) (slot : SlotSetup) (f : List ℕ) (z : Slot) (x y : Option Under) (shown : Option Contents) (fresh : ℕ) (out : List ℕ) (agrees : BothTell (AgreesWithin n) (option_map sectors_of shown) z.state.sectors) where

@@ -13,14 +13,14 @@ use Rattle.aoe_ata.specs.Decision.{answer_of, decision, is_taken, written}
 use Rattle.aoe_ata.specs.declared.command.AtaCommand.{AtaCommand}
 use Rattle.aoe_ata.specs.declared.command.AtaCommand.TheVariants as command
 use Rattle.aoe_ata.specs.declared.decision.AtaAnswer.{AtaAnswer}
-use Rattle.aoe_ata.specs.declared.decision.AtaAnswer.TheVariants.{Abort, NotFound, Page, Mode, Give, Put, Verify, Sync}
+use Rattle.aoe_ata.specs.declared.decision.AtaAnswer.TheVariants.{NotFound, Give, Put, Verify}
 use Rattle.aoe_lists.specs.Settings.{admits, may_use, Settings}
 use Rattle.aoe_target.specs.declared.heard.Effect.{Effect}
 use Rattle.aoe_target.specs.declared.heard.Effect.TheVariants as effect
 use Rattle.aoe_target.specs.declared.station.Station.{Station}
 use Rattle.aoe_target.specs.declared.verdict.Verdict.{Verdict}
 use Rattle.aoe_target.specs.declared.verdict.Verdict.TheVariants as verdict
-use Rattle.aoe_target.specs.Law.{after_ata, after_cut, after_effect, after_read, cut, ignored, replied, silent, Fate}
+use Rattle.aoe_target.specs.Law.{after_ata, after_cut, after_effect, after_read, cut, replied, Fate}
 use Rattle.aoe_target.specs.Reply.{data_of}
 use Rattle.aoe_target.specs.Sectors.{in_span, learns, puts, settles, left_by_fault, spoils, value_in, Same, Sectors}
 use Rattle.aoe_target.specs.Verdict.{ata_verdict, decided, is_heard, judged}
@@ -69,77 +69,42 @@ module _ (n : ℕ) (a b : Sectors) (ab : SameWithin n a b) where
 
   read_within : (answer : AtaAnswer) (reply : List ℕ) → SameWithin n (after_read answer reply a) (after_read answer reply b)
   read_within (Give span) reply = learns_within span (data_of span reply)
-  read_within Abort reply = ab
-  read_within NotFound reply = ab
-  read_within Page reply = ab
-  read_within Mode reply = ab
-  read_within (Put span) reply = ab
-  read_within (Verify span) reply = ab
-  read_within Sync reply = ab
+  read_within _ reply = ab
 
   cut_within : (answer : AtaAnswer) → SameWithin n (after_cut answer a) (after_cut answer b)
   cut_within (Put span) = spoils_within span
-  cut_within Abort = ab
-  cut_within NotFound = ab
-  cut_within Page = ab
-  cut_within Mode = ab
-  cut_within (Give span) = ab
-  cut_within (Verify span) = ab
-  cut_within Sync = ab
+  cut_within _ = ab
 
   effect_within : (e : Effect) (f : List ℕ) (answer : AtaAnswer) (reply : List ℕ) → SameWithin n (after_effect f answer e reply a) (after_effect f answer e reply b)
   effect_within effect.None f answer reply = read_within answer reply
   effect_within (effect.Wrote span) f answer reply = puts_within span (written (drop 24 f) span)
   effect_within (effect.WriteFault span) f answer reply = spoils_within span
   effect_within effect.Synced f answer reply = settles_within
-  effect_within effect.Edited f answer reply = ab
-  effect_within effect.ReadFault f answer reply = ab
-  effect_within effect.SyncFault f answer reply = ab
-  effect_within effect.EditFault f answer reply = ab
+  effect_within _ f answer reply = ab
 
   pub ata_within : (fate : Fate) (f : List ℕ) (answer : AtaAnswer) → SameWithin n (after_ata f answer fate a) (after_ata f answer fate b)
-  ata_within ignored f answer = ab
-  ata_within silent f answer = ab
   ata_within cut f answer = cut_within answer
   ata_within (replied e reply) f answer = effect_within e f answer reply
+  ata_within _ f answer = ab
 
 -- whether it is known what failed calls leave stays so
 
 read_exact : (answer : AtaAnswer) (reply : List ℕ) (k : Sectors) → (after_read answer reply k).exact ≡ k.exact
 read_exact (Give span) reply k = refl
-read_exact Abort reply k = refl
-read_exact NotFound reply k = refl
-read_exact Page reply k = refl
-read_exact Mode reply k = refl
-read_exact (Put span) reply k = refl
-read_exact (Verify span) reply k = refl
-read_exact Sync reply k = refl
+read_exact _ reply k = refl
 
 cut_exact : (answer : AtaAnswer) (k : Sectors) → (after_cut answer k).exact ≡ k.exact
 cut_exact (Put span) k = refl
-cut_exact Abort k = refl
-cut_exact NotFound k = refl
-cut_exact Page k = refl
-cut_exact Mode k = refl
-cut_exact (Give span) k = refl
-cut_exact (Verify span) k = refl
-cut_exact Sync k = refl
+cut_exact _ k = refl
 
 effect_exact : (e : Effect) (f : List ℕ) (answer : AtaAnswer) (reply : List ℕ) (k : Sectors) → (after_effect f answer e reply k).exact ≡ k.exact
 effect_exact effect.None f answer reply k = read_exact answer reply k
-effect_exact (effect.Wrote span) f answer reply k = refl
-effect_exact (effect.WriteFault span) f answer reply k = refl
-effect_exact effect.Synced f answer reply k = refl
-effect_exact effect.Edited f answer reply k = refl
-effect_exact effect.ReadFault f answer reply k = refl
-effect_exact effect.SyncFault f answer reply k = refl
-effect_exact effect.EditFault f answer reply k = refl
+effect_exact _ f answer reply k = refl
 
 pub ata_exact : (fate : Fate) (f : List ℕ) (answer : AtaAnswer) (k : Sectors) → (after_ata f answer fate k).exact ≡ k.exact
-ata_exact ignored f answer k = refl
-ata_exact silent f answer k = refl
 ata_exact cut f answer k = cut_exact answer k
 ata_exact (replied e reply) f answer k = effect_exact e f answer reply k
+ata_exact _ f answer k = refl
 
 -- WHAT IS READ IS WITHIN THE DEVICE
 
@@ -166,10 +131,7 @@ answer_end : (n : ℕ) (c : AtaCommand) → InEnd n (answer_of n c)
 answer_end n (command.Read span) = given_end n span (nat_le (span.at + span.count) n) refl
 answer_end n (command.Write span) = either_end n (nat_le (span.at + span.count) n) (Put span) NotFound tt tt
 answer_end n (command.Verify span) = either_end n (nat_le (span.at + span.count) n) (Verify span) NotFound tt tt
-answer_end n command.Flush = tt
-answer_end n command.Identify = tt
-answer_end n command.PowerMode = tt
-answer_end n command.Unknown = tt
+answer_end n _ = tt
 
 decided_end : (n max : ℕ) (args : List ℕ) → Ranged n (decided (decision n max args))
 unfolding decision
