@@ -11,7 +11,7 @@ use Rattle.aoe_flight.specs.declared.outstanding.Outstanding.{Outstanding}
 use Rattle.aoe_flight.specs.Order.{OrderTable}
 use Rattle.aoe_flight.specs.Outstanding.{after_finish, after_repeat}
 use Rattle.aoe_flight.specs.Table.{by_due, by_first, by_last, by_tag, by_ticket, each, flies, rests, IsIndexed, IsOrderOf}
-use Rattle.aoe_flight.proofs.IndexLemmas.{left-out, moved-but, none-out, put-in, same-order, stays-out}
+use Rattle.aoe_flight.proofs.IndexLemmas.{left-out, moved-but, none-out, put-in, same-order, stays-out, same-command}
 
 -- an entry was taken out, where it stood there
 pub record Removed (old : List Entry) (e : Entry) (new : List Entry) : Type 0 where
@@ -26,9 +26,6 @@ pub record Inserted (old : List Entry) (e : Entry) (new : List Entry) : Type 0 w
   pub there : Contains new e
   pub kept : (f : Entry) → Contains old f → Contains new f
   pub only : (f : Entry) → Contains new f → Contains old f ⊎ (f ≡ e)
-
-same-at : (slab : Slab Outstanding) (k : ℕ) (c d : Outstanding) → get slab k ≡ Some c → get slab k ≡ Some d → c ≡ d
-same-at slab k c d one two = let both : Some c ≡ Some d = sym one ∙ two in cc
 
 pub updated : (slab : Slab Outstanding) (k : ℕ) (c d : Outstanding) → get slab k ≡ Some c → Updates slab (with_value slab k d) k (Some d)
 updated slab k c d at = Updates-with_value slab k d (rw at refl)
@@ -65,7 +62,7 @@ passed slab next k test entry slot entries fails updates out o =
     stays-out next k test entry entries (λ d at. out d (sym updates.changed ∙ at)) (moved-but slab next k slot test entry entries updates (none-out slab k test entry entries fails o))
 
 rests-not : (slab : Slab Outstanding) (k : ℕ) (c : Outstanding) → get slab k ≡ Some c → c.finished ≡ false → (d : Outstanding) → get slab k ≡ Some d → rests d ≡ false
-rests-not slab k c at flying d at_d = ap rests (same-at slab k d c at_d at) ∙ flying
+rests-not slab k c at flying d at_d = ap rests (same-command slab k d c at_d at) ∙ flying
 
 pub flies-true : (c : Outstanding) → c.finished ≡ false → flies c ≡ true
 flies-true c flying = ap not flying
@@ -157,7 +154,7 @@ pub indexed-dropped : (slab next : Slab Outstanding) (k : ℕ) (c : Outstanding)
     → Removed resting.entries (by_last k c) resting_new.entries → resting_new.room ≡ resting.room
     → IsIndexed slab tags tickets dues firsts resting → IsIndexed next tags_new tickets dues firsts resting_new
 indexed-dropped slab next k c tags tags_new tickets dues firsts resting resting_new at done updates long capacity tag_out tag_room rest_out rest_room i =
-    let out : (d : Outstanding) → get slab k ≡ Some d → flies d ≡ false = λ d at_d. ap flies (same-at slab k d c at_d at) ∙ ap not done in
+    let out : (d : Outstanding) → get slab k ≡ Some d → flies d ≡ false = λ d at_d. ap flies (same-command slab k d c at_d at) ∙ ap not done in
     let none : (test : Outstanding → Bool) (d : Outstanding) → None ≡ Some d → test d ≡ false = λ test d same. absurd cc in
     let tag_less = tag_out.fewer (i.has_tags.all k c at refl) in
     let rest_less = rest_out.fewer (i.has_resting.all k c at done) in

@@ -1,12 +1,12 @@
 -- Entries in their order.
-use Rattle.std.proofs.Common.{ℕ, zero, suc, ◌≡◌, ◌≢◌, ◌+◌, ◌<◌, ◌≤◌, ◌&&◌, ◌||◌, not, Bool, true, false, List, [], ◌∷◌, length, get_or, ◌⊎◌, inl, inr, refl, sym, ap, subst, ◌∙◌, arith, nat_eq, nat_lt, Bor, Option, Some, None}
+use Rattle.std.proofs.Common.{ℕ, zero, suc, ◌≡◌, ◌≢◌, ◌+◌, ◌<◌, ◌≤◌, ◌&&◌, ◌||◌, true, false, List, [], ◌∷◌, length, get_or, ◌⊎◌, inl, inr, refl, sym, ap, subst, ◌∙◌, arith, nat_eq, nat_lt, Bor, Option, Some, None}
 use Rattle.std.specs.Prelude.{option_copied, slice_get, All, Contains, Err, IfSome, IsSome, Ok, OnErr, OnOk, OnSome, Result}
 use Rattle.std.specs.List.{insert, remove, AllWithin}
 use Rattle.std.specs.List.Sorted.{IsPartitionedBy}
 use Rattle.std.specs.Slice.{IsItemAt}
-use Rattle.std.proofs.lemmas.Bool.{and_parts, cases_Bool, cases_eq, cases_lt, eq-eqb, eqb-true, le-ltb, lt-ltb, ltb-true, ltb-false, or_cases, or_parts}
-use Rattle.std.proofs.lemmas.List.Elements.{All-cons, All-nil}
-use Rattle.std.proofs.lemmas.Option.{get_or_from_slice_get, slice_get_read}
+use Rattle.std.proofs.lemmas.Bool.{and_parts, cases_Bool, cases_eq, cases_lt, eq-eqb, eqb-true, le-ltb, lt-ltb, ltb-true, ltb-false, or_cases, or_parts, or_left, or_right, and_from}
+use Rattle.std.proofs.lemmas.List.Elements.{All-cons, All-nil, All-contains}
+use Rattle.std.proofs.lemmas.Option.{get_or_from_slice_get, slice_get_read, slice_get_past}
 use Rattle.slab.proofs.SlabLemmas.{Contains-cons, Contains-cons_cases}
 use Rattle.aoe_flight.specs.declared.order.Entry.{Entry}
 use Rattle.aoe_flight.specs.Order.{before, IsInOrder}
@@ -30,25 +30,13 @@ lower-from a b is = elim (or_cases (nat_lt a.at b.at) (nat_eq a.at b.at && (nat_
       )
 ]
 
-or-left : (a b : Bool) → a ≡ true → (a || b) ≡ true
-or-left true b is = refl
-or-left false b is = absurd cc
-
-or-right : (a b : Bool) → b ≡ true → (a || b) ≡ true
-or-right true b is = refl
-or-right false b is = is
-
-and-both : (a b : Bool) → a ≡ true → b ≡ true → (a && b) ≡ true
-and-both true b one two = two
-and-both false b one two = absurd cc
-
 to-before : (a b : Entry) → Lower a b → before a b ≡ true
 unfolding Lower
-to-before a b (inl less) = or-left (nat_lt a.at b.at) _ (lt-ltb a.at b.at less)
+to-before a b (inl less) = or_left (nat_lt a.at b.at) _ (lt-ltb a.at b.at less)
 to-before a b (inr (same, inl less)) =
-    or-right (nat_lt a.at b.at) _ (and-both (nat_eq a.at b.at) _ (eq-eqb a.at b.at same) (or-left (nat_lt a.tie b.tie) _ (lt-ltb a.tie b.tie less)))
+    or_right (nat_lt a.at b.at) _ (and_from (nat_eq a.at b.at) _ (eq-eqb a.at b.at same) (or_left (nat_lt a.tie b.tie) _ (lt-ltb a.tie b.tie less)))
 to-before a b (inr (same, inr (tied, less))) =
-    or-right (nat_lt a.at b.at) _ (and-both (nat_eq a.at b.at) _ (eq-eqb a.at b.at same) (or-right (nat_lt a.tie b.tie) _ (and-both (nat_eq a.tie b.tie) _ (eq-eqb a.tie b.tie tied) (lt-ltb a.slot b.slot less))))
+    or_right (nat_lt a.at b.at) _ (and_from (nat_eq a.at b.at) _ (eq-eqb a.at b.at same) (or_right (nat_lt a.tie b.tie) _ (and_from (nat_eq a.tie b.tie) _ (eq-eqb a.tie b.tie tied) (lt-ltb a.slot b.slot less))))
 
 lower-then : (a b c : Entry) → Lower a b → Lower b c → Lower a c
 unfolding Lower
@@ -200,9 +188,6 @@ inserted-only (x ∷ xs) (suc i) y e within there = elim (Contains-cons_cases x 
   | inr behind ↦ elim (inserted-only xs i y e (omega (arith, within)) behind) [ inl old ↦ inl (Contains-cons x e xs old) | inr new ↦ inr new ]
 ]
 
-contains-all : (P : Entry → Type 0) (xs : List Entry) (e : Entry) → All P xs → Contains xs e → P e
-contains-all P xs e all there = rw (← there.2) (all there.0 e there.1)
-
 pub removed-kept : (xs : List Entry) (i : ℕ) (y e : Entry) → slice_get xs i ≡ Some y → e ≢ y → Contains xs e → Contains (remove xs i) e
 removed-kept [] i y e is other there = absurd cc
 removed-kept (x ∷ xs) zero y e is other there = elim (Contains-cons_cases x e xs there) [
@@ -223,11 +208,11 @@ pub removed-only : (xs : List Entry) (i : ℕ) (y e : Entry) → IsInOrder xs �
 removed-only [] i y e order is there = absurd cc
 removed-only (x ∷ xs) zero y e order is there =
     let here : x ≡ y = cc in
-    let after : before x e ≡ true = contains-all (λ later. before x later ≡ true) xs e order.0 there in
+    let after : before x e ≡ true = All-contains (λ later. before x later ≡ true) xs e order.0 there in
     (Contains-cons x e xs there, λ same. apart x e after (here ∙ sym same))
 removed-only (x ∷ xs) (suc i) y e order is there = elim (Contains-cons_cases x e (remove xs i) there) [
   | inl same ↦
-      let after : before x y ≡ true = contains-all (λ later. before x later ≡ true) xs y order.0 (get-contains xs i y is) in
+      let after : before x y ≡ true = All-contains (λ later. before x later ≡ true) xs y order.0 (get-contains xs i y is) in
       ((0, omega arith, same), λ level. apart x y after (same ∙ level))
   | inr behind ↦ let rest = removed-only xs i y e order.1 is behind in (Contains-cons x e xs rest.0, rest.1)
 ]
@@ -274,22 +259,13 @@ done-ok (Err refused) P capacity long made full more = absurd (omega (arith, ful
 pub found-there : (xs : List Entry) (i : ℕ) (y : Entry) → IsInOrder xs → AllWithin (λ x. before x y ≡ true) xs 0 i → IfSome (slice_get xs i) (λ e. before y e ≡ true) → (e : Entry) → Contains xs e → e ≢ y
 found-there xs i y order low first e there = not-there xs i y low (all-behind y xs i order first) e there
 
-pub not-false : (b : Bool) → not b ≡ false → b ≡ true
-not-false true is = refl
-not-false false is = absurd cc
-
 pub taken-out : (r : Option Entry) (new xs : List Entry) (i : ℕ) (e : Entry) → OnSome r (new ≡ remove xs i) → slice_get xs i ≡ Some e → (i < length xs → IsSome r) → new ≡ remove xs i
 taken-out (Some y) new xs i e made is there = made
 taken-out None new xs i e made is there = let never = there (within xs i e is) in absurd cc
 
-get-beyond : (xs : List Entry) (i : ℕ) → length xs ≤ i → slice_get xs i ≡ None
-get-beyond [] i past = refl
-get-beyond (x ∷ xs) zero past = absurd (omega (arith, past))
-get-beyond (x ∷ xs) (suc i) past = get-beyond xs i (omega (arith, past))
-
 pub item-get : (xs : List Entry) (i : ℕ) (r : Option (Bor Entry)) → IsItemAt xs i r → option_copied r ≡ slice_get xs i
-item-get xs i None item = sym (get-beyond xs i item.3)
+item-get xs i None item = sym (slice_get_past xs i item.3)
 item-get xs i (Some x) item = sym (slice_get_read xs (length xs) i x.now refl item.3.0 item.1)
 
 pub none-behind : (xs : List Entry) (i : ℕ) (y : Entry) → IsItemAt xs i None → IfSome (slice_get xs i) (λ e. before y e ≡ true)
-none-behind xs i y item = rw (get-beyond xs i item.3) tt
+none-behind xs i y item = rw (slice_get_past xs i item.3) tt

@@ -13,7 +13,7 @@ pub record IsOrderBut (slab : Slab Outstanding) (k : ℕ) (test : Outstanding �
   pub only : (e : Entry) → Contains entries e → IsHeld slab test entry e
   pub all : (slot : ℕ) (c : Outstanding) → slot ≢ k → get slab slot ≡ Some c → test c ≡ true → Contains entries (entry slot c)
 
-same-command : (slab : Slab Outstanding) (k : ℕ) (c d : Outstanding) → get slab k ≡ Some c → get slab k ≡ Some d → c ≡ d
+pub same-command : (slab : Slab Outstanding) (k : ℕ) (c d : Outstanding) → get slab k ≡ Some c → get slab k ≡ Some d → c ≡ d
 same-command slab k c d one two = let both : Some c ≡ Some d = sym one ∙ two in cc
 
 pub left-out : (slab : Slab Outstanding) (k : ℕ) (test : Outstanding → Bool) (entry : ℕ → Outstanding → Entry) (c : Outstanding) (old new : List Entry)

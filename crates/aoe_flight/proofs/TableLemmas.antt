@@ -10,11 +10,9 @@ use Rattle.aoe_flight.specs.declared.outstanding.Outstanding.{Outstanding}
 use Rattle.aoe_flight.specs.Order.{before, entry_at, IsInOrder}
 use Rattle.aoe_flight.specs.Outstanding.{deadline, flies_as, flies_with, is_due, is_expired, is_over, is_taken, precedes, IsFirst}
 use Rattle.aoe_flight.specs.Table.{by_due, by_tag, by_ticket, each, flies, rests, IsFirstSlot, IsOrderOf}
+use Rattle.aoe_flight.proofs.IndexLemmas.{same-command}
 use Rattle.aoe_flight.proofs.EntryLemmas.{at-least, before-back, before-self}
 use Rattle.aoe_flight.proofs.ValueLemmas.{all-held, any-held, find-at, find-none, held-at, none-held}
-
-same-at : (slab : Slab Outstanding) (k : ℕ) (c d : Outstanding) → get slab k ≡ Some c → get slab k ≡ Some d → c ≡ d
-same-at slab k c d one two = let both : Some c ≡ Some d = sym one ∙ two in cc
 
 -- the first in a list in order
 pub head-least : (xs : List Entry) (e f : Entry) → IsInOrder xs → slice_get xs 0 ≡ Some e → Contains xs f → before f e ≡ false
@@ -51,7 +49,7 @@ pub first-slot : (slab : Slab Outstanding) (entries : List Entry) (ticket from s
     → ((k : ℕ) → from ≤ k → k < slot → ¬ (Contains entries (entry_at ticket k))) → get slab slot ≡ Some c → IsFirstSlot (flies_as ticket) slab from slot c
 first-slot slab entries ticket from slot c o there behind first at =
     let held = o.only (entry_at ticket slot) there in
-    let one : held.command ≡ c = same-at slab slot held.command c held.there at in
+    let one : held.command ≡ c = same-command slab slot held.command c held.there at in
     let flying : not c.finished ≡ true = ap flies (sym one) ∙ held.passes in
     let number : c.ticket.0 ≡ ticket = ap (λ (d : Outstanding). d.ticket.0) (sym one) ∙ sym (ap (λ (e : Entry). e.at) held.is) in
     record {
@@ -92,7 +90,7 @@ pub tag-found : (slab : Slab Outstanding) (entries : List Entry) (tag slot : ℕ
     → ((k : ℕ) → 0 ≤ k → k < slot → ¬ (Contains entries (entry_at tag k))) → get slab slot ≡ Some c → Some c ≡ find (flies_with tag) (values slab)
 tag-found slab entries tag slot c o there first at =
     let held = o.only (entry_at tag slot) there in
-    let one : held.command ≡ c = same-at slab slot held.command c held.there at in
+    let one : held.command ≡ c = same-command slab slot held.command c held.there at in
     let is : entry_at tag slot ≡ by_tag slot c = held.is ∙ ap (by_tag slot) one in
     let flying : not c.finished ≡ true = no-tie c.finished (ap (λ (e : Entry). e.tie) is) in
     let number : c.flying.tag ≡ tag = sym (ap (λ (e : Entry). e.at) is) in
@@ -132,7 +130,7 @@ pub head-of : (slab : Slab Outstanding) (test : Outstanding → Bool) (entry : �
     → IsOrderOf slab test entry entries → slice_get entries 0 ≡ Some e → get slab e.slot ≡ Some c → (e ≡ entry e.slot c) × (test c ≡ true)
 head-of slab test entry entries e c o head at =
     let held = o.only e (head-there entries e head) in
-    let one : held.command ≡ c = same-at slab e.slot held.command c held.there at in
+    let one : held.command ≡ c = same-command slab e.slot held.command c held.there at in
     (held.is ∙ ap (entry e.slot) one, ap test (sym one) ∙ held.passes)
 
 -- where the first of an order doesn't pass, none passes

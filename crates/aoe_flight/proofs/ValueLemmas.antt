@@ -10,7 +10,7 @@ use Rattle.aoe_flight.specs.declared.outstanding.Outstanding.{Outstanding}
 use Rattle.aoe_flight.specs.Outstanding.{best, is_over, live}
 use Rattle.aoe_flight.specs.Table.{IsFirstSlot}
 use Rattle.aoe_flight.proofs.InsertLemmas.{cons-none, cons-some, no-values}
-use Rattle.aoe_flight.proofs.SlotLemmas.{held}
+use Rattle.aoe_flight.proofs.SlotLemmas.{held, live-shorter}
 
 pub find-at : (p : Outstanding → Bool) (slots : List (Option Outstanding)) (k : ℕ) (c : Outstanding) → get_or slots k None ≡ Some c → p c ≡ true
     → ((j : ℕ) (d : Outstanding) → j < k → get_or slots j None ≡ Some d → p d ≡ false) → find p (held slots) ≡ Some c
@@ -123,18 +123,10 @@ best-nothing test before (c ∷ commands) none =
     let here : test c ≡ false = none 0 c (omega arith) in
     rw here (best-nothing test before commands (λ k d below. none (suc k) d (omega (arith, below))))
 
-shorter : (rest now : ℕ) (commands : List Outstanding) → length (live rest now commands) ≤ length commands
-shorter rest now [] = omega arith
-shorter rest now (c ∷ commands) = at (not (is_over rest now c)) (shorter rest now commands)
-  where
-    at : (b : Bool) → length (live rest now commands) ≤ length commands → length (cond b (c ∷ live rest now commands) (live rest now commands)) ≤ suc (length commands)
-    at true le = omega (arith, le)
-    at false le = omega (arith, le)
-
 pub live-less : (rest now : ℕ) (slots : List (Option Outstanding)) (k : ℕ) (c : Outstanding) → get_or slots k None ≡ Some c → is_over rest now c ≡ true → length (live rest now (held slots)) < length (held slots)
 live-less rest now [] k c is out = absurd cc
 live-less rest now (o ∷ slots) zero c is out =
-    rw (cons-some c o slots is) (rw out (omega (arith, shorter rest now (held slots))))
+    rw (cons-some c o slots is) (rw out (omega (arith, live-shorter rest now (held slots))))
 live-less rest now (None ∷ slots) (suc k) c is out = live-less rest now slots k c is out
 live-less rest now (Some d ∷ slots) (suc k) c is out = at (not (is_over rest now d)) (live-less rest now slots k c is out)
   where

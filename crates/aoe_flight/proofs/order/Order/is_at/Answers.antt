@@ -1,9 +1,9 @@
 use Rattle.std.proofs.Common.{◌≡◌, true, Some, length, refl, subst, sym, ◌∙◌}
 use Rattle.std.specs.Prelude.{slice_get}
-use Rattle.std.proofs.lemmas.Bool.{not-true}
+use Rattle.std.proofs.lemmas.Bool.{not-true, not-false}
 use Rattle.std.proofs.lemmas.Option.{slice_get_read}
 use Rattle.aoe_flight.specs.Order.{OrderTable}
-use Rattle.aoe_flight.proofs.EntryLemmas.{at-place, none-behind, not-false, past-place}
+use Rattle.aoe_flight.proofs.EntryLemmas.{at-place, none-behind, past-place}
 use Rattle.aoe_flight.proofs.order.Order.is_at.Goals as goal
 
 pub returns-in-Some-clause-here : goal.returns-in-Some-clause-here
