@@ -1,5 +1,5 @@
 -- Commands are moved from one queue to the other.
-use Rattle.std.proofs.Common.{ℕ, zero, suc, ◌≡◌, ◌+◌, ◌-◌, ◌<◌, ◌≤◌, ◌&&◌, ◌||◌, not, cond, get_or, Bool, true, false, List, [], ◌∷◌, ◌++◌, length, drop, max, take, Option, Some, None, inl, inr, refl, sym, ap, subst, ◌∙◌, arith, nat_eq, nat_le}
+use Rattle.std.proofs.Common.{ℕ, zero, suc, ◌≡◌, ◌+◌, ◌-◌, ◌<◌, ◌≤◌, ◌&&◌, ◌||◌, not, cond, get_or, Bool, true, false, List, [], ◌∷◌, length, drop, max, take, Option, Some, None, inl, inr, refl, sym, ap, subst, ◌∙◌, arith, nat_eq, nat_le}
 use Rattle.std.specs.Prelude.{All, Err, IfNone, Ok, OnErr, OnOk, Result}
 use Rattle.std.specs.List.{count_by, list_any}
 use Rattle.std.specs.List.Sorted.{IsPermutation}
@@ -54,14 +54,6 @@ inserted-room (Err refused) A B ok err room = absurd (room err)
 pub none-late : {X : Type 0} (now : ℕ) (waiters : List Waiter) (r : Option X) → IfNone r (length waiters ≡ 0) → IfNone r (All (λ w. now < w.from) waiters)
 none-late now waiters (Some w) none = tt
 none-late now waiters None none = λ k d below. absurd (omega (arith, none, below))
-
-take-suc : (xs : List Command) (i : ℕ) (d : Command) → i < length xs → take (suc i) xs ≡ take i xs ++ get_or xs i d ∷ []
-take-suc [] i d below = absurd (omega (arith, below))
-take-suc (x ∷ xs) zero d below = refl
-take-suc (x ∷ xs) (suc i) d below = ap (λ (l : List Command). x ∷ l) (take-suc xs i d (omega (arith, below)))
-
-pub take-more : (xs : List Command) (i : ℕ) (d : Command) → i < length xs → take (i + 1) xs ≡ take i xs ++ get_or xs i d ∷ []
-take-more xs i d below = let next : i + 1 ≡ suc i = omega arith in ap (λ n. take n xs) next ∙ take-suc xs i d below
 
 pub take-whole : (xs : List Command) (i : ℕ) → length xs ≤ i → take i xs ≡ xs
 take-whole [] zero least = refl

@@ -1,5 +1,6 @@
 -- Where the commands stand that keep another back.
 use Rattle.std.proofs.Common.{ℕ, zero, suc, ◌≡◌, ◌+◌, ◌<◌, ◌≤◌, ◌||◌, Bool, true, false, List, [], ◌∷◌, ◌++◌, length, get_or, map, take, drop, inl, inr, refl, sym, ap, subst, ◌∙◌, arith, nat_lt}
+use Rattle.std.proofs.lemmas.List.{take_more}
 use Rattle.std.specs.Prelude.{All}
 use Rattle.std.specs.List.{list_any}
 use Rattle.std.proofs.lemmas.Bool.{cases_lt}
@@ -12,7 +13,6 @@ use Rattle.aoe_hold.specs.HoldTable.{ArePast}
 use Rattle.aoe_hold.specs.Queue.{blocks, is_blocked, lingers, AreOutside}
 use Rattle.aoe_hold.proofs.IndexLemmas.{past-blocks, past-lingers}
 use Rattle.aoe_hold.proofs.LiveLemmas.{over-later, past-with_stage, KeepsFinished}
-use Rattle.aoe_hold.proofs.MoveLemmas.{take-more}
 
 take-at : (xs : List Command) (i k : ℕ) (d : Command) → k < i → k < length xs → (k < length (take i xs)) × (get_or (take i xs) k d ≡ get_or xs k d)
 take-at [] i k d before within = absurd (omega (arith, within))
@@ -88,4 +88,4 @@ gone-none life latest commands = All-nil (λ c. is_past life latest c ≡ true)
 
 pub gone-more : (life latest gone : ℕ) (commands : List Command) (x : Command) → gone < length commands → x ≡ get_or commands gone x → is_past life latest x ≡ true → ArePast life latest gone commands → ArePast life latest (gone + 1) commands
 gone-more life latest gone commands x within read is past =
-    rw (take-more commands gone x within ∙ ap (λ y. take gone commands ++ y ∷ []) (sym read)) (All-push (λ (c : Command). is_past life latest c ≡ true) (take gone commands) x past is)
+    rw (take_more commands gone x within ∙ ap (λ y. take gone commands ++ y ∷ []) (sym read)) (All-push (λ (c : Command). is_past life latest c ≡ true) (take gone commands) x past is)

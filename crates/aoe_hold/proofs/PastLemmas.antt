@@ -1,5 +1,6 @@
 -- The time before which none of the commands is past.
 use Rattle.std.proofs.Common.{ℕ, ◌≡◌, ◌+◌, ◌<◌, ◌≤◌, not, cond, Bool, true, false, List, [], ◌∷◌, ◌++◌, length, get_or, min, set, take, refl, sym, ap, subst, ◌∙◌, arith, nat_eq}
+use Rattle.std.proofs.lemmas.List.{take_more}
 use Rattle.std.specs.Prelude.{All}
 use Rattle.std.proofs.lemmas.List.Elements.{All-map, All-push, All-set}
 use Rattle.aoe_base.specs.declared.counted.Millis.{Millis}
@@ -8,7 +9,7 @@ use Rattle.aoe_hold.specs.declared.command.Stage.{Stage}
 use Rattle.aoe_hold.specs.declared.command.Stage.TheVariants.{Unsent, Flying, Finished}
 use Rattle.aoe_hold.specs.Commands.{after_stage, is_past, live, over, stage_sent, with_stage}
 use Rattle.aoe_hold.specs.HoldTable.{NonePastBefore}
-use Rattle.aoe_hold.proofs.MoveLemmas.{take-more, take-whole}
+use Rattle.aoe_hold.proofs.MoveLemmas.{take-whole}
 use Rattle.aoe_hold.proofs.PlaceLemmas.{filter-same}
 
 -- before that time all are kept
@@ -43,7 +44,7 @@ past-ended life from more next i commands ended is late none now before =
 pub past-more : (life from more next i : ℕ) (commands : List Command) (x : Command) → next ≡ min from more → i < length commands → x ≡ get_or commands i x → ((now : ℕ) → now < more → is_past life now x ≡ false)
     → NonePastBefore life from (take i commands) → NonePastBefore life next (take (i + 1) commands)
 past-more life from more next i commands x is below read late none now before =
-    let done : take (i + 1) commands ≡ take i commands ++ x ∷ [] = take-more commands i x below ∙ ap (λ y. take i commands ++ y ∷ []) (sym read) in
+    let done : take (i + 1) commands ≡ take i commands ++ x ∷ [] = take_more commands i x below ∙ ap (λ y. take i commands ++ y ∷ []) (sym read) in
     rw done (All-push (λ (c : Command). is_past life now c ≡ false) (take i commands) x (none now (omega (arith, is, before))) (late now (omega (arith, is, before))))
 
 pub past-whole : (life from i : ℕ) (commands : List Command) → length commands ≤ i → NonePastBefore life from (take i commands) → NonePastBefore life from commands
