@@ -1,5 +1,6 @@
 -- A disk with no loose sector, whose slots were read.
 use Rattle.std.proofs.Common.{◌≡◌, ◌≢◌, ◌⊎◌, ◌<◌, ◌+◌, ◌*◌, ◌==◌, ◌&&◌, cond, ℕ, zero, suc, Bool, true, false, Option, Some, None, IfSome, Result, Ok, Err, MatchResult, List, drop, refl, arith, sym, ◌∙◌, ap, subst, inl, inr, slice_index, nat_eq, nat_lt}
+use Rattle.std.proofs.lemmas.Option.{cond_some}
 use Rattle.std.specs.List.{starts_with}
 use Rattle.std.proofs.lemmas.Bool.{eqb-true, and_parts, ltb-true}
 use Rattle.aoe_lists.specs.Settings.{Settings, empty_settings}
@@ -14,7 +15,6 @@ use Rattle.aoe_keep.specs.Keep.{ReadsSlots}
 use Rattle.aoe_keep.specs.declared.place.Place.{Place}
 use Rattle.aoe_keep.specs.declared.mount.Present.{Present}
 use Rattle.aoe_keep.proofs.Slots.{gate_same, body_same, left_same}
-use Rattle.aoe_keep.proofs.Reading.{some_when}
 use Rattle.aoe_keep.proofs.Told.{both_map, told_last}
 
 -- a turn that was read is one of three
@@ -22,7 +22,7 @@ turn_small : (bytes : List ℕ) (b : ℕ × Settings) → decode bytes ≡ Some 
 unfolding decode is_valid
 turn_small bytes b e =
     let n = config_len bytes in
-    let w = some_when (starts_with nat_eq bytes mark && is_valid (slice_index bytes 5) n (slice_index bytes 8) (slice_index bytes 9) (drop 10 bytes)) (slice_index bytes 5, fields_of n (slice_index bytes 8) (slice_index bytes 9) (drop 10 bytes)) b e in
+    let w = cond_some (starts_with nat_eq bytes mark && is_valid (slice_index bytes 5) n (slice_index bytes 8) (slice_index bytes 9) (drop 10 bytes)) (slice_index bytes 5, fields_of n (slice_index bytes 8) (slice_index bytes 9) (drop 10 bytes)) b e in
     let valid : is_valid (slice_index bytes 5) n (slice_index bytes 8) (slice_index bytes 9) (drop 10 bytes) ≡ true = (and_parts (starts_with nat_eq bytes mark) (is_valid (slice_index bytes 5) n (slice_index bytes 8) (slice_index bytes 9) (drop 10 bytes)) w.0).1 in
     let less : slice_index bytes 5 < 3 = ltb-true (slice_index bytes 5) 3 (and_parts (nat_lt (slice_index bytes 5) 3) _ (and_parts (sizes_fit (slice_index bytes 5) n (slice_index bytes 8) (slice_index bytes 9)) _ valid).0).0 in
     let same : slice_index bytes 5 ≡ b.0 = ap (λ (p : ℕ × Settings). p.0) w.1 in

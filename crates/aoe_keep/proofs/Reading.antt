@@ -1,5 +1,6 @@
 -- A body that spells lists is their spelling, and why a body spells none.
 use Rattle.std.proofs.Common.{◌≡◌, ◌↔◌, ◌⊎◌, inl, inr, ◌≤◌, ◌<◌, ◌+◌, ◌-◌, ◌*◌, ◌==◌, ◌&&◌, cond, ℕ, zero, suc, Bool, true, false, Some, None, List, [], ◌∷◌, ◌++◌, length, take, drop, get_or, replicate, slice_index, nat_eq, nat_lt, nat_le, refl, arith, sym, ◌∙◌, ap, length-append, length-drop, take-append-drop}
+use Rattle.std.proofs.lemmas.Option.{cond_some}
 use Rattle.std.specs.Int.{w16, to_be_bytes, from_be_bytes}
 use Rattle.std.specs.List.{All, flat_map, list_all, starts_with}
 use Rattle.std.specs.Simd.{first_chunks}
@@ -36,10 +37,6 @@ whole n m r rest =
     let two : take (n + 6 * m) rest ≡ take n rest ++ take (6 * m) (drop n rest) = take-add n (6 * m) rest in
     let three : take (n + 6 * m + 6 * r) rest ≡ take n rest ++ take (6 * m) (drop n rest) ++ take (6 * r) (drop (n + 6 * m) rest) = take-add (n + 6 * m) (6 * r) rest ∙ ap (λ (l : List ℕ). l ++ take (6 * r) (drop (n + 6 * m) rest)) two in
     sym (take-append-drop (n + 6 * m + 6 * r) rest) ∙ ap (λ (l : List ℕ). l ++ drop (n + 6 * m + 6 * r) rest) three
-
-pub some_when : {X : Type 0} (t : Bool) (x y : X) → cond t (Some x) None ≡ Some y → (t ≡ true) × (x ≡ y)
-some_when true x y e = (refl, cc)
-some_when false x y e = absurd cc
 
 -- why the fields after the numbers aren't valid, and that they are
 
@@ -165,7 +162,7 @@ one_spelling body turn lists size bytes e =
     let n = config_len body in
     let m = slice_index body 8 in
     let r = slice_index body 9 in
-    let w = some_when (starts_with nat_eq body mark && is_valid (slice_index body 5) n m r (drop 10 body)) (slice_index body 5, fields_of n m r (drop 10 body)) (turn, lists) e in
+    let w = cond_some (starts_with nat_eq body mark && is_valid (slice_index body 5) n m r (drop 10 body)) (slice_index body 5, fields_of n m r (drop 10 body)) (turn, lists) e in
     let both = and_parts (starts_with nat_eq body mark) (is_valid (slice_index body 5) n m r (drop 10 body)) w.0 in
     spelling_of body n m r size bytes refl refl refl both.0 both.1 ∙ ap (λ (p : ℕ × Settings). spelling p.0 p.1) w.1
 
