@@ -110,8 +110,7 @@ flyer cs tag t found =
     let o = found.0 in
     let from = sent-from cs o found.2 in
     let c = from.0 in
-    let P : Outstanding → Type 0 = λ e. flies_with tag e ≡ true in
-    let flies : flies_with tag (outstanding c from.1.s) ≡ true = subst P from.1.is found.3 in
+    let flies : flies_with tag (outstanding c from.1.s) ≡ true = rw (← from.1.is) found.3 in
     let parts = and_parts (not c.done) (nat_eq from.1.s.tag tag) flies in (
       c,
       record {
@@ -126,8 +125,7 @@ flyer cs tag t found =
 
 flyer-tagged : (cs : List HostCommand) (tag : ℕ) (t : Ticket) (c : HostCommand) → IsFlyer cs tag t c → tagged tag c ≡ true
 flyer-tagged cs tag t c f =
-    let P : Option Sending → Type 0 = λ o. (not c.done && has_tag tag o) ≡ true in
-    subst P (sym f.sends) f.flies
+    rw f.sends f.flies
 
 -- it is the only one
 only-flyer : (host : Host) (log : List Event) (tag : ℕ) (t : Ticket) (c x : HostCommand) → Matches log host → tag_count host.flight.commands tag ≤ 1 → IsFlyer (commands log) tag t c → Contains (commands log) x → tagged tag x ≡ true → x ≡ c
@@ -159,9 +157,8 @@ none-answered host log frame h t c m is few f none =
 -- what flies is pending
 pub flyer-placed : (host : Host) (log : List Event) (tag : ℕ) (t : Ticket) (c : HostCommand) → Matches log host → IsFlyer (commands log) tag t c → place t host.pending ≢ None
 flyer-placed host log tag t c m f missing =
-    let P : List Waiting → Type 0 = λ l. Contains l (record { ticket = c.ticket; device = c.device; op = c.op }) in
     let waits = unfinished-there (commands log) c f.there f.waits in
-    let inside = subst P (sym m.pending) waits in
+    let inside = rw (← m.pending) at waits in
     let found = Contains-map_from (λ (p : Pending). record { ticket = p.ticket; device = p.device; op = p.op }) host.pending (record { ticket = c.ticket; device = c.device; op = c.op }) inside in
     let other : nat_eq found.0.ticket.0 t.0 ≡ false = not-placed (λ (p : Pending). nat_eq p.ticket.0 t.0) host.pending found.0 missing found.1 in
     let same : found.0.ticket ≡ t = ap (λ (w : Waiting). w.ticket) found.2 ∙ f.ticket in
@@ -174,8 +171,7 @@ flyer-pending host log tag at t c p m f found there =
     let is_ticket : p.ticket.0 ≡ t.0 = eqb-true p.ticket.0 t.0 (placed (λ (q : Pending). nat_eq q.ticket.0 t.0) host.pending at p found there) in
     let other = pending-command (commands log) host.pending at p m.pending there in
     let same : other.0 ≡ c = one-command (commands log) c other.0 t.0 (only 0 (commands log) c m.tickets f.there) other.1.there (ap (λ (u : Ticket). u.0) other.1.ticket ∙ is_ticket) (ap (λ (u : Ticket). u.0) f.ticket) in
-    let P : HostCommand → Type 0 = λ e. IsPending (commands log) p e in
-    subst P same other.1
+    rw (← same) other.1
 
 pub not-from : (host : Host) (log : List Event) (frame : List ℕ) (h : Header) (p : Pending) (c : HostCommand) → IsPending (commands log) p c → head frame ≡ Some h → is_from (slice_get host.devices p.device.0) p.op h ≡ false → answer_to host c frame ≡ None
 not-from host log frame h p c pending is out =
@@ -185,8 +181,7 @@ not-from host log frame h p c pending is out =
 
 pub no-answer : (host : Host) (log : List Event) (frame : List ℕ) (h : Header) (p : Pending) (c : HostCommand) → IsPending (commands log) p c → head frame ≡ Some h → answer p.op h (drop 24 frame) ≡ None → answer_to host c frame ≡ None
 no-answer host log frame h p c pending is out =
-    let P : Op → Type 0 = λ op. answer op h (drop 24 frame) ≡ None in
-    rw is (at (is_answered host c h) (subst P (sym pending.op) out))
+    rw is (at (is_answered host c h) (rw pending.op out))
   where
     at : (b : Bool) → answer c.op h (drop 24 frame) ≡ None → cond b (answer c.op h (drop 24 frame)) None ≡ None
     at true none = none
@@ -198,8 +193,7 @@ answered-by host log frame h t p c a pending f is hears from says =
     let device : c.device.0 ≡ p.device.0 = ap (λ (d : DeviceNo). d.0) pending.device in
     let here : is_from (slice_get host.devices c.device.0) c.op h ≡ true = rw (device, pending.op) from in
     let yes_answered : is_answered host c h ≡ true = all-true (is_response host h) (tagged h.tag c) (is_from (slice_get host.devices c.device.0) c.op h) hears (flyer-tagged (commands log) h.tag t c f) here in
-    let P : Op → Type 0 = λ op. answer op h (drop 24 frame) ≡ Some a in
-    rw (is, yes_answered) (subst P (sym pending.op) says)
+    rw (is, yes_answered) (rw pending.op says)
 
 pub not-from-at : (host : Host) (log : List Event) (frame : List ℕ) (h : Header) (t : Ticket) (at : ℕ) (from : Bool) (c : HostCommand) → Matches log host → head frame ≡ Some h → tag_count host.flight.commands h.tag ≤ 1 → IsFlyer (commands log) h.tag t c
     → place t host.pending ≡ Some at → from ≡ false → IfSome (slice_get host.pending at) (λ p. from ≡ is_from (slice_get host.devices p.device.0) p.op h) → All (λ x. answer_to host x frame ≡ None) (commands log)
@@ -246,8 +240,7 @@ came-on : (host : Host) (log : List Event) (frame : List ℕ) (h : Header) (p : 
 came-on host log frame h p c path m pending is from on =
     let d = from-device (slice_get host.devices p.device.0) p.op h from in
     let has = has-paths host log p.device.0 d.0 m d.1 in
-    let M : Option Device → Type 0 = λ o. IfSome o (λ e. pair_of e.paths path.0 ≡ Some (h.dst, h.src)) in
-    let pair = subst M d.1 on in
+    let pair = rw d.1 at on in
     record {
       header = h;
       read = is;

@@ -183,13 +183,11 @@ recall-get : (life n : ℕ) (cs : List HostCommand) (devices : List Device) (i :
 recall-get life n cs [] i d inside recalls = absurd (omega (arith, inside))
 recall-get life n cs (x ∷ devices) zero d inside recalls =
     let same : n ≡ n + zero = omega arith in
-    let P : ℕ → Type 0 = λ m. Recalls x.holds (entered_at m cs) in
-    (recalls.0, subst P same recalls.1)
+    (recalls.0, rw (← same) recalls.1)
 recall-get life n cs (x ∷ devices) (suc i) d inside recalls =
     let rest = recall-get life (n + 1) cs devices i d (omega (arith, inside)) recalls.2 in
     let same : n + 1 + i ≡ n + suc i = omega arith in
-    let P : ℕ → Type 0 = λ m. Recalls (get_or devices i d).holds (entered_at m cs) in
-    (rest.0, subst P same rest.1)
+    (rest.0, rw (← same) rest.1)
 
 clear-more : (life now n : ℕ) (cs : List HostCommand) (devices : List Device) (i : ℕ) → i < length devices
     → all_clear life now cs n (take (suc i) devices) ≡ all_clear life now cs n (take i devices) ++ clear_tickets life now (entered_at (n + i) cs)
@@ -233,13 +231,10 @@ pub lowest-after : (xs : List Device) (i now : ℕ) (item : Device) (lowest foun
 lowest-after xs i now item lowest found after inside read before here is life cs recalls =
     let known = recall-get life 0 cs xs i item inside recalls in
     let zero_more : 0 + i ≡ i = zero-add i in
-    let P : Device → Type 0 = λ d. (d.holds.life ≡ life) × Recalls d.holds (entered_at (0 + i) cs) in
-    let of_item = subst P (sym read) known in
-    let Q : ℕ → Type 0 = λ l. IsLowest (clear_tickets l now (entered_at (0 + i) cs)) found in
-    let found_is : IsLowest (clear_tickets life now (entered_at (0 + i) cs)) found = subst Q of_item.0 (here (entered_at (0 + i) cs) of_item.1) in
+    let of_item = rw (← read) at known in
+    let found_is : IsLowest (clear_tickets life now (entered_at (0 + i) cs)) found = rw (← of_item.0) (here (entered_at (0 + i) cs) of_item.1) in
     let next : i + 1 ≡ suc i = add-one i in
-    let R : List ℕ → Type 0 = λ l. IsLowest l (lower_of lowest found) in
-    rw (next, is) (subst R (sym (clear-more life now 0 cs xs i inside)) (lower-append (all_clear life now cs 0 (take i xs)) (clear_tickets life now (entered_at (0 + i) cs)) lowest found (before life cs recalls) found_is))
+    rw (next, is) (rw (clear-more life now 0 cs xs i inside) (lower-append (all_clear life now cs 0 (take i xs)) (clear_tickets life now (entered_at (0 + i) cs)) lowest found (before life cs recalls) found_is))
 
 -- what the search at one device gives
 pub lowest-of : (table : HoldTable) (now : ℕ) (found : Option Ticket) → IfSome found (λ ticket. (entered : List Command) → Recalls table entered → Contains (clear_tickets table.life now entered) ticket.0)

@@ -1,5 +1,5 @@
 -- The commands of a log after each event, in the words of the tables.
-use Rattle.std.proofs.Common.{ℕ, zero, suc, ◌≡◌, ◌≢◌, ◌+◌, ◌*◌, ◌^◌, ◌<◌, ◌≤◌, ◌-◌, ◌&&◌, cond, not, min, Bool, true, false, List, [], ◌∷◌, ◌++◌, length, map, get_or, Option, Some, None, inl, inr, refl, sym, ap, subst, ◌∙◌, arith, nat_eq, append-nil}
+use Rattle.std.proofs.Common.{ℕ, zero, suc, ◌≡◌, ◌≢◌, ◌+◌, ◌*◌, ◌^◌, ◌<◌, ◌≤◌, ◌-◌, ◌&&◌, cond, not, min, Bool, true, false, List, [], ◌∷◌, ◌++◌, length, map, get_or, Option, Some, None, inl, inr, refl, sym, ap, ◌∙◌, arith, nat_eq, append-nil}
 use Rattle.std.specs.List.{cons_option, count_by, filter, remove}
 use Rattle.std.specs.Prelude.{option_map, All, Contains}
 use Rattle.std.proofs.lemmas.Bool.{eq-eqb, eqb-true, ne_eqb, cases_Bool, cases_lt}
@@ -56,8 +56,7 @@ pub ascends-kept : (n : ℕ) (t : Ticket) (change : HostCommand → HostCommand)
 ascends-kept n t change [] keeps up = up
 ascends-kept n t change (c ∷ cs) keeps up =
     let same : (at_ticket t change c).ticket.0 ≡ c.ticket.0 = ap (λ (u : Ticket). u.0) (kept-ticket t change c keeps) in
-    let P : ℕ → Type 0 = λ m. (n < m) × Ascends m (map (at_ticket t change) cs) in
-    subst P (sym same) (up.0, ascends-kept c.ticket.0 t change cs keeps up.1)
+    rw same (up.0, ascends-kept c.ticket.0 t change cs keeps up.1)
 
 pub ascends-push : (n : ℕ) (cs : List HostCommand) (c : HostCommand) → Ascends n cs → n < c.ticket.0 → All (λ x. x.ticket.0 < c.ticket.0) cs → Ascends n (cs ++ c ∷ [])
 ascends-push n [] c up above all = (above, tt)
@@ -174,17 +173,14 @@ sent-repeated c s tag now path ts cs sends flying alone =
     here : as_sent (after_send tag now path ts c) ≡ option_map (change_of c.ticket.0 (after_repeat now path (record { 0 = wait_of (ts c.device.0) (s.count + 1) }))) (as_sent c)
     here =
         let is : c ≡ made c.ticket c.device c.op (Some s) false = rw (← sends, ← flying) refl in
-        let P : HostCommand → Type 0 = λ x. as_sent (after_send tag now path ts x) ≡ option_map (change_of c.ticket.0 (after_repeat now path (record { 0 = wait_of (ts c.device.0) (s.count + 1) }))) (as_sent x) in
-        subst P (sym is) (sent-repeated-one c.ticket tag now path ts s c.device c.op)
+        rw is (sent-repeated-one c.ticket tag now path ts s c.device c.op)
 
     each : (x : HostCommand) → (x.ticket.0 ≡ c.ticket.0 → x ≡ c) → as_sent (at_ticket c.ticket (after_send tag now path ts) x) ≡ option_map (change_of c.ticket.0 (after_repeat now path (record { 0 = wait_of (ts c.device.0) (s.count + 1) }))) (as_sent x)
     each x is_c = elim (cases_Bool (nat_eq x.ticket.0 c.ticket.0)) [
       | inl same ↦
-          let P : HostCommand → Type 0 = λ y. as_sent (after_send tag now path ts y) ≡ option_map (change_of c.ticket.0 (after_repeat now path (record { 0 = wait_of (ts c.device.0) (s.count + 1) }))) (as_sent y) in
-          rw same (subst P (sym (is_c (eqb-true x.ticket.0 c.ticket.0 same))) here)
+          rw same (rw (is_c (eqb-true x.ticket.0 c.ticket.0 same)) here)
       | inr other ↦
-          let Q : Bool → Type 0 = λ b. as_sent (cond b (after_send tag now path ts x) x) ≡ option_map (change_of c.ticket.0 (after_repeat now path (record { 0 = wait_of (ts c.device.0) (s.count + 1) }))) (as_sent x) in
-          subst Q (sym other) (others-sent c.ticket (after_repeat now path (record { 0 = wait_of (ts c.device.0) (s.count + 1) })) x other)
+          rw other (others-sent c.ticket (after_repeat now path (record { 0 = wait_of (ts c.device.0) (s.count + 1) })) x other)
     ]
 
 count-swap : (test : Outstanding → Bool) (a b : Outstanding) (xs ys : List Outstanding) → count_by test (a ∷ xs) ≡ count_by test ys → count_by test (a ∷ b ∷ xs) ≡ count_by test (b ∷ ys)

@@ -10,6 +10,7 @@ use Rattle.aoe_base.specs.declared.counted.DeviceNo.{DeviceNo}
 use Rattle.aoe_base.specs.declared.counted.Millis.{Millis}
 use Rattle.aoe_base.specs.declared.counted.PathNo.{PathNo}
 use Rattle.aoe_base.specs.declared.counted.Ticket.{Ticket}
+use Rattle.aoe_hold.specs.Commands.{unsent}
 use Rattle.aoe_hold.specs.HoldTable.{new_command, no_commands as nothing_entered}
 use Rattle.aoe_flight.specs.declared.outstanding.Flying.{Flying}
 use Rattle.aoe_flight.specs.declared.outstanding.Outstanding.{Outstanding}
@@ -23,8 +24,8 @@ use Rattle.aoe_initiator.specs.declared.outcome.Done.{Done}
 use Rattle.aoe_initiator.specs.declared.outcome.Outcome.{Outcome}
 use Rattle.aoe_initiator.specs.declared.pending.Pending.{Pending}
 use Rattle.aoe_initiator.specs.Devices.{change_at, device_at, device_finished, device_sent}
-use Rattle.aoe_initiator.specs.Host.{unfinished, waiting_of, with_device, Closes, Host, Matches, RecallAll, Waiting}
-use Rattle.aoe_initiator.specs.HostLog.{after_end, after_send, at_ticket, clock, commands, entered_at, is_at, outstanding, sent_of, submitted, with_ticket, Event, HostCommand, Sending}
+use Rattle.aoe_initiator.specs.Host.{unfinished, waiting_of, with_device, Closes, Host, IsSame, Matches, RecallAll, Waiting}
+use Rattle.aoe_initiator.specs.HostLog.{after_end, after_send, at_ticket, clock, commands, entered_at, is_at, outstanding, sent_of, submitted, with_ticket, Event, HostCommand, Sending, stage}
 use Rattle.aoe_initiator.specs.HostLog.Event.{Advances, Ends, Sends, Submits}
 use Rattle.aoe_initiator.specs.Op.{kind_of, span_of}
 use Rattle.aoe_initiator.proofs.DeviceLemmas.{device_entered, length-change_at, recall-at, recall-ended, recall-entered, recall-sent}
@@ -45,8 +46,7 @@ pub record IsPending (cs : List HostCommand) (p : Pending) (c : HostCommand) : T
 pub pending-command : (cs : List HostCommand) (pending : List Pending) (at : ℕ) (p : Pending) → waiting_of pending ≡ unfinished cs → slice_get pending at ≡ Some p → (c : HostCommand) × IsPending cs p c
 pending-command cs pending at p same there =
     let entry : Waiting = record { ticket = p.ticket; device = p.device; op = p.op } in
-    let P : List Waiting → Type 0 = λ l. Contains l entry in
-    let inside : Contains (unfinished cs) entry = subst P same (Contains-map (λ (q : Pending). record { ticket = q.ticket; device = q.device; op = q.op }) pending p (Contains-get pending at p there)) in
+    let inside : Contains (unfinished cs) entry = rw (← same) (Contains-map (λ (q : Pending). record { ticket = q.ticket; device = q.device; op = q.op }) pending p (Contains-get pending at p there)) in
     let found = unfinished-from cs entry inside in (
       found.0,
       record {
@@ -165,9 +165,8 @@ matches-ended log host new at path outcome s m closes flew =
     remove-map (λ (q : Pending). record { ticket = q.ticket; device = q.device; op = q.op }) host.pending at
     ∙ ap (λ (l : List Waiting). remove l at) m.pending
     ∙ unfinished-ended 0 p.ticket cs at entry m.tickets (get-within (unfinished cs) at entry there) (ap (λ (w : Waiting). w.ticket.0) (get_or_from_slice_get (unfinished cs) at entry entry there)) in
-    let P : List Outstanding → Type 0 = λ l. RecallsSent (after_change host.flight p.ticket.0 after_finish host.flight.latest) l in
     let sent : RecallsSent (after_change host.flight p.ticket.0 after_finish host.flight.latest) (sent_of (map (at_ticket p.ticket after_end) cs)) =
-    subst P (sym (sent-ended p.ticket cs)) (recalls-change host.flight _ (sent_of cs) p.ticket.0 after_finish host.flight.latest refl m.sent (omega arith)) in
+    rw (sent-ended p.ticket cs) (recalls-change host.flight _ (sent_of cs) p.ticket.0 after_finish host.flight.latest refl m.sent (omega arith)) in
     let flown : All (λ x. x.done ≡ true → IsSome x.sends) (map (at_ticket p.ticket after_end) cs) =
     All-map (λ x. x.done ≡ true → IsSome x.sends) (at_ticket p.ticket after_end) cs (λ k d below. flown_one (get_or cs k d) (m.flew k d below) (is_c k d below) (some-of c.sends s (flew c found.1))) in
     let met : with_ticket p.ticket cs ≡ Some c = found-one 0 cs c p.ticket m.tickets found.1.there ticket_same in
@@ -195,8 +194,7 @@ matches-ended log host new at path outcome s m closes flew =
       entered = recall-ended host.life 0 p.device.0 p.ticket (arrival_on host.clock path (Some s)) cs host.devices place m.entered;
       paths = have;
     } in
-    let Q : Host → Type 0 = λ h. Matches (Ends p.ticket path ∷ log) h in
-    subst Q (sym closes.after) after
+    rw closes.after after
   where
     flown_one : (x : HostCommand) → (x.done ≡ true → IsSome x.sends) → (x.ticket.0 ≡ closes.command.ticket.0 → x ≡ (pending-command (commands log) host.pending at closes.command m.pending closes.there).0)
         → IsSome (pending-command (commands log) host.pending at closes.command m.pending closes.there).0.sends → (at_ticket closes.command.ticket after_end x).done ≡ true → IsSome (at_ticket closes.command.ticket after_end x).sends
@@ -204,8 +202,7 @@ matches-ended log host new at path outcome s m closes flew =
       where
         by_ticket : (b : Bool) → nat_eq x.ticket.0 closes.command.ticket.0 ≡ b → (cond b (after_end x) x).done ≡ true → IsSome (cond b (after_end x) x).sends
         by_ticket true same done =
-            let Q : HostCommand → Type 0 = λ e. IsSome e.sends in
-            subst Q (sym (is_c (eqb-true x.ticket.0 closes.command.ticket.0 same))) sent
+            rw (is_c (eqb-true x.ticket.0 closes.command.ticket.0 same)) sent
         by_ticket false other done = before done
 
 -- ---- a send
@@ -232,21 +229,18 @@ matches-sent log host c p tag path flight m is times rest room dead sent =
     let met : with_ticket p.ticket cs ≡ Some c = found-one 0 cs c p.ticket m.tickets is.there ticket_same in
     let D : ℕ → Type 0 = λ k. HaveAll host.ports (Sends p.ticket tag path ∷ log) (change_at k (device_sent p.ticket now (path_before c.sends) path) host.devices) in
     let have : D p.device.0 = subst D (ap (λ (d : DeviceNo). d.0) is.device) (have-sent host.ports log c p.ticket tag now path host.devices met m.paths) in
-    let Q : ℕ → Type 0 = λ n. RecallsSent flight (sent_of (map (at_ticket p.ticket (after_send tag (record { 0 = n }) path ts)) cs)) in
-    let R : ℕ → Type 0 = λ n. RecallAll host.life (map (at_ticket p.ticket (after_send tag (record { 0 = n }) path ts)) cs) 0 (change_at p.device.0 (device_sent p.ticket (record { 0 = host.clock }) (path_before c.sends) path) host.devices) in
-    let F : ℕ → Type 0 = λ n. All (λ x. x.done ≡ true → IsSome x.sends) (map (at_ticket p.ticket (after_send tag (record { 0 = n }) path ts)) cs) in
     record {
       time = m.time;
       tickets = ascends-kept 0 p.ticket (after_send tag (record { 0 = clock log }) path ts) cs (send-keeps tag (record { 0 = clock log }) path ts) m.tickets;
       last = kept-last p.ticket (after_send tag (record { 0 = clock log }) path ts) cs host.last_ticket (send-keeps tag (record { 0 = clock log }) path ts) m.last;
       attached = kept-attached p.ticket (after_send tag (record { 0 = clock log }) path ts) cs (length host.devices) _ (length-change_at p.device.0 (device_sent p.ticket now (path_before c.sends) path) host.devices) (send-keeps tag (record { 0 = clock log }) path ts) m.attached;
-      flew = subst F m.time flown;
+      flew = rw (← m.time) flown;
       pending = m.pending ∙ sym (unfinished-sent p.ticket tag (record { 0 = clock log }) path ts cs);
       rest = rest ∙ m.rest;
       room = room ∙ m.room;
       dead = dead ∙ m.dead;
-      sent = subst Q m.time sent;
-      entered = subst R m.time (recall-sent host.life 0 p.device.0 p.ticket tag now path ts (path_before c.sends) cs host.devices place waits times m.entered);
+      sent = rw (← m.time) sent;
+      entered = rw (← m.time) (recall-sent host.life 0 p.device.0 p.ticket tag now path ts (path_before c.sends) cs host.devices place waits times m.entered);
       paths = have;
     }
   where
@@ -273,7 +267,6 @@ matches-submitted log host new t device op room m is inside same =
     let waiting : waiting_of (host.pending ++ entry ∷ []) ≡ unfinished (cs ++ c ∷ []) =
     map-append (λ (q : Pending). record { ticket = q.ticket; device = q.device; op = q.op }) host.pending (entry ∷ [])
     ∙ ap (λ (l : List Waiting). l ++ record { ticket = t; device = device; op = op } ∷ []) m.pending ∙ sym (unfinished-submitted cs t device op) in
-    let P : List Outstanding → Type 0 = λ l. RecallsSent host.flight l in
     let devices_same : length (change_at device.0 (device_entered (new_command t (kind_of op) (span_of op))) host.devices) ≡ length host.devices = length-change_at device.0 (device_entered (new_command t (kind_of op) (span_of op))) host.devices in
     let after : Matches (Submits t device op ∷ log) (record host {
       last_ticket = t.0;
@@ -290,12 +283,11 @@ matches-submitted log host new t device op room m is inside same =
       rest = m.rest;
       room = m.room;
       dead = m.dead;
-      sent = subst P (sym (sent-submitted cs t device op)) m.sent;
+      sent = rw (sent-submitted cs t device op) m.sent;
       entered = recall-entered host.life 0 device.0 cs t device op host.devices (omega arith) m.entered;
       paths = have-kept host.ports log (Submits t device op ∷ log) device.0 (device_entered (new_command t (kind_of op) (span_of op))) host.devices (λ n. refl) (λ d. refl) (λ d. refl) m.paths;
     } in
-    let Q : Host → Type 0 = λ h. Matches (Submits t device op ∷ log) h in
-    subst Q (sym same) after
+    rw same after
 
 -- a device that was just attached has no command
 nothing-at : (cs : List HostCommand) (n : ℕ) → All (λ c. c.device.0 < n) cs → entered_at n cs ≡ []
@@ -332,8 +324,7 @@ matches-attached log host new d m fresh paths same =
       entered = recall-attached host.life 0 cs host.devices d (All-weaker (λ c. c.device.0 < length host.devices) (λ c. c.device.0 < 0 + length host.devices) (λ c less. omega (arith, less)) cs m.attached) fresh m.entered;
       paths = have-attached host.ports log host.devices d m.attached paths m.paths;
     } in
-    let Q : Host → Type 0 = λ h. Matches log h in
-    subst Q (sym same) after
+    rw same after
 
 pub matches-advanced : (log : List Event) (host : Host) (now : Millis) (clock_now : ℕ) → clock_now ≡ max host.clock now.0 → Matches log host → Matches (Advances now ∷ log) (record host { clock = clock_now })
 matches-advanced log host now clock_now is m = record {
@@ -386,5 +377,18 @@ matches-devices log host m times = record {
 
 pub matches-cleared : (log : List Event) (host : Host) (devices : List Device) → Matches log host → All (λ d. d.holds.latest ≤ host.clock) host.devices → devices ≡ map (device_at host.clock) host.devices → Matches log (record host { devices = devices })
 matches-cleared log host devices m times is =
-    let P : List Device → Type 0 = λ l. Matches log (record host { devices = l }) in
-    subst P (sym is) (matches-devices log host m times)
+    rw is (matches-devices log host m times)
+
+pub same-then : (a b c : Host) → IsSame a b → IsSame b c → IsSame a c
+same-then a b c one two = record {
+  ports = two.ports ∙ one.ports;
+  life = two.life ∙ one.life;
+  room = two.room ∙ one.room;
+  dead = two.dead ∙ one.dead;
+  devices = two.devices ∙ one.devices;
+}
+
+pub stage-unsent : (sends : Option Sending) (done : Bool) → unsent (stage sends done) ≡ true → sends ≡ None
+stage-unsent None done is = refl
+stage-unsent (Some s) true is = absurd cc
+stage-unsent (Some s) false is = absurd cc

@@ -24,17 +24,17 @@ use Rattle.aoe_initiator.specs.declared.device.Device.{Device}
 use Rattle.aoe_initiator.specs.declared.op.Op.{Op}
 use Rattle.aoe_initiator.specs.declared.pending.Pending.{Pending}
 use Rattle.aoe_initiator.specs.declared.step.Sent.{Sent}
-use Rattle.aoe_initiator.specs.Devices.{all_clear, change_at, device_at, device_sent, IsLowest, IsRoute}
+use Rattle.aoe_initiator.specs.Devices.{all_clear, change_at, device_at, device_sent, IsLowest}
 use Rattle.aoe_initiator.specs.Host.{HasPaths, Host, IsSame, Matches, RecallAll, Waiting}
 use Rattle.aoe_initiator.specs.HostLaw.{is_clear_at, paths_to, spelled_for, IsFrameOf, IsNext, IsOnNextPath, IsQuiet, IsRepeat, IsStart}
-use Rattle.aoe_initiator.specs.HostLog.{after_send, as_entered, at_ticket, commands, entered_at, is_at, outstanding, path_log, sent_of, stage, wait_of, Event, HostCommand, Sending}
+use Rattle.aoe_initiator.specs.HostLog.{after_send, as_entered, at_ticket, commands, entered_at, is_at, outstanding, path_log, sent_of, wait_of, Event, HostCommand, Sending}
 use Rattle.aoe_initiator.specs.HostLog.Event.{Sends}
 use Rattle.aoe_initiator.specs.Request.{request}
 use Rattle.aoe_initiator.specs.Steps.{is_full, place, InTime, Launches, Repeats}
 use Rattle.aoe_initiator.proofs.DeviceLemmas.{about-change_at}
 use Rattle.aoe_initiator.proofs.ListLemmas.{not-placed, placed, Contains-cons_cases, Contains-filter, Contains-filter_from, Contains-map, Contains-map_from}
 use Rattle.aoe_initiator.proofs.LogLemmas.{only, sent-repeated, sent-started, unfinished-there, wait-capped, Only}
-use Rattle.aoe_initiator.proofs.MatchLemmas.{flying-command, matches-sent, one-command, pending-command, sent-from, IsFlying, IsPending}
+use Rattle.aoe_initiator.proofs.MatchLemmas.{flying-command, matches-sent, one-command, pending-command, sent-from, IsFlying, IsPending, stage-unsent}
 use Rattle.aoe_initiator.proofs.PathLemmas.{has-paths, path_before, route-next, route-spelled, route-timeout, timeouts_on}
 
 -- ---- options
@@ -42,8 +42,7 @@ use Rattle.aoe_initiator.proofs.PathLemmas.{has-paths, path_before, route-next, 
 pub is-placed : (host : Host) (log : List Event) (t : Ticket) (c : HostCommand) → Matches log host → Contains (commands log) c → c.done ≡ false → c.ticket.0 ≡ t.0 → place t host.pending ≢ None
 is-placed host log t c m there waits ticket missing =
     let entry : Waiting = record { ticket = c.ticket; device = c.device; op = c.op } in
-    let P : List Waiting → Type 0 = λ l. Contains l entry in
-    let inside : Contains (map (λ (p : Pending). record { ticket = p.ticket; device = p.device; op = p.op }) host.pending) entry = subst P (sym m.pending) (unfinished-there (commands log) c there waits) in
+    let inside : Contains (map (λ (p : Pending). record { ticket = p.ticket; device = p.device; op = p.op }) host.pending) entry = rw m.pending (unfinished-there (commands log) c there waits) in
     let found = Contains-map_from (λ (p : Pending). record { ticket = p.ticket; device = p.device; op = p.op }) host.pending entry inside in
     let other : nat_eq found.0.ticket.0 t.0 ≡ false = not-placed (λ (p : Pending). nat_eq p.ticket.0 t.0) host.pending found.0 missing found.1 in
     let same : found.0.ticket.0 ≡ t.0 = ap (λ (w : Waiting). w.ticket.0) found.2 ∙ ticket in
@@ -73,11 +72,6 @@ due-flies now table t found =
 
 -- ---- clear commands
 
-stage-unsent : (sends : Option Sending) (done : Bool) → unsent (stage sends done) ≡ true → sends ≡ None
-stage-unsent None done is = refl
-stage-unsent (Some s) true is = absurd cc
-stage-unsent (Some s) false is = absurd cc
-
 pub clear-unsent : (life now : ℕ) (cs : List HostCommand) (c : HostCommand) → is_clear_at life now cs c ≡ true → c.sends ≡ None
 clear-unsent life now cs c is = stage-unsent c.sends c.done (and_parts (is_unsent (as_entered c)) _ is).0
 
@@ -85,9 +79,8 @@ clear-here : (life now n : ℕ) (cs : List HostCommand) (c : HostCommand) → Co
 clear-here life now n cs c there at_n is =
     let here : is_at n c ≡ true = eq-eqb c.device.0 n at_n in
     let entered : Contains (entered_at n cs) (as_entered c) = Contains-map as_entered (filter (is_at n) cs) c (Contains-filter (is_at n) cs c there here) in
-    let P : ℕ → Type 0 = λ m. is_clear life now (entered_at m cs) (as_entered c) ≡ true in
     Contains-map (λ (d : Command). d.ticket.0) (filter (is_clear life now (entered_at n cs)) (entered_at n cs)) (as_entered c)
-    (Contains-filter (is_clear life now (entered_at n cs)) (entered_at n cs) (as_entered c) entered (subst P at_n is))
+    (Contains-filter (is_clear life now (entered_at n cs)) (entered_at n cs) (as_entered c) entered (rw (← at_n) is))
 
 clear-there : (life now n k : ℕ) (cs : List HostCommand) (devices : List Device) (c : HostCommand) → Contains cs c → c.device.0 ≡ n + k → k < length devices → is_clear_at life now cs c ≡ true → Contains (all_clear life now cs n devices) c.ticket.0
 clear-there life now n k cs [] c there place_is inside is = absurd (omega (arith, inside))
@@ -136,8 +129,7 @@ clear-all host log c m there is =
 
 pub live-count : (host : Host) (log : List Event) → Matches log host → InTime host → length (live_at host.flight host.clock) ≡ length (live (rest_time host.life) host.clock (sent_of (commands log)))
 live-count host log m time =
-    let P : ℕ → Type 0 = λ r. length (live_at host.flight host.clock) ≡ length (live r host.clock (sent_of (commands log))) in
-    subst P m.rest (length-recalled host.flight (sent_of (commands log)) host.clock m.sent time.flight)
+    rw (← m.rest) (length-recalled host.flight (sent_of (commands log)) host.clock m.sent time.flight)
 
 pub has-room : (host : Host) (log : List Event) → Matches log host → InTime host → is_full host ≡ false → length (live (rest_time host.life) host.clock (sent_of (commands log))) < host.room
 has-room host log m time room =
@@ -159,8 +151,7 @@ quiet-clear host log None m none lowest missing = record { nothing_due = none; n
     each : (c : HostCommand) → Contains (commands log) c → is_clear_at host.life host.clock (commands log) c ≡ false
     each c there = elim (cases_Bool (is_clear_at host.life host.clock (commands log) c)) [
       | inl is ↦
-          let P : List ℕ → Type 0 = λ l. Contains l c.ticket.0 in
-          let impossible = subst P lowest (clear-all host log c m there is) in
+          let impossible = rw lowest at (clear-all host log c m there is) in
           absurd (omega (arith, impossible.1))
       | inr out ↦ out
     ]
@@ -173,8 +164,7 @@ quiet-clear host log (Some t) m none lowest missing =
     open_ : {c : HostCommand} (b : Bool) → c.done ≡ b → c.sends ≡ None → Contains (commands log) c → c.done ≡ false
     open_ {c} true is unsent_is there =
         let flew = All-contains (λ x. x.done ≡ true → IsSome x.sends) (commands log) c m.flew there is in
-        let P : Option Sending → Type 0 = λ o. IsSome o in
-        let impossible = subst P unsent_is flew in
+        let impossible = rw unsent_is at flew in
         absurd cc
     open_ {c} false is unsent_is there = is
 
@@ -204,8 +194,7 @@ spelled-same host new op device path tag same =
 -- and so does the number of paths
 paths-same : (host new : Host) (n : ℕ) → IsSame host new → paths_to new n ≡ paths_to host n
 paths-same host new n same =
-    let P : List Mac → Type 0 = λ l. option_map_or (λ (d : Device). length l * length d.about.remotes.items) (slice_get new.devices n) 0 ≡ paths_to host n in
-    subst P (sym same.ports) (by_device (slice_get new.devices n) (slice_get host.devices n) (about-slice new.devices host.devices n same.devices))
+    rw same.ports (by_device (slice_get new.devices n) (slice_get host.devices n) (about-slice new.devices host.devices n same.devices))
   where
     by_device : (a b : Option Device) → option_map (λ (d : Device). d.about) a ≡ option_map (λ (d : Device). d.about) b
         → option_map_or (λ (d : Device). length host.ports * length d.about.remotes.items) a 0 ≡ option_map_or (λ (d : Device). length host.ports * length d.about.remotes.items) b 0
@@ -230,8 +219,7 @@ started host log t at p m lowest found there =
     let is_ticket : p.ticket.0 ≡ t.0 = eqb-true p.ticket.0 t.0 (placed (λ (q : Pending). nat_eq q.ticket.0 t.0) host.pending at p found there) in
     let other = pending-command (commands log) host.pending at p m.pending there in
     let same : other.0 ≡ clear.0 = one-command (commands log) clear.0 other.0 t.0 (only 0 (commands log) clear.0 m.tickets clear.1.there) other.1.there (ap (λ (u : Ticket). u.0) other.1.ticket ∙ is_ticket) clear.1.same in
-    let P : HostCommand → Type 0 = λ e. IsPending (commands log) p e in
-    (clear.0, clear.1, subst P same other.1)
+    (clear.0, clear.1, rw (← same) other.1)
 
 -- what the search for a clear command left
 pub record IsCleared (old new : Host) (t : Ticket) (at : ℕ) : Type 0 where
@@ -351,19 +339,15 @@ start-sends old h new log t at sent frame m m_h time cleared launches =
     let p_is : p.ticket ≡ t = sym c.pending.ticket ∙ c.ticket in
     let timeout : launches.route.timeout.0 ≡ ts c.command.device.0 =
     route-timeout h.ports (path_log log p.device.0) launches.device None launches.route c.has launches.routed ∙ ap (λ (d : DeviceNo). ts d.0) (sym c.pending.device) in
-    let W : ℕ → Type 0 = λ w. (before : List Outstanding) → RecallsSent h.flight before → RecallsSent new.flight (launched t sent.tag now path (record { 0 = wait_of w 1 }) ∷ before) in
-    let recalls = subst W timeout launches.recalls in
+    let recalls = rw timeout at launches.recalls in
     let more = sent-started 0 c.command sent.tag now path ts cs m.tickets c.there c.fresh c.pending.waits in
-    let S : Ticket → Type 0 = λ u. SameCommands (launched u sent.tag now path (record { 0 = wait_of (ts c.command.device.0) 1 }) ∷ sent_of cs) (sent_of (map (at_ticket u (after_send sent.tag now path ts)) cs)) in
-    let more_t = subst S c.ticket more in
+    let more_t = rw c.ticket at more in
     let recalled : RecallsSent new.flight (sent_of (map (at_ticket t (after_send sent.tag now path ts)) cs)) =
     recalls-same new.flight (launched t sent.tag now path (record { 0 = wait_of (ts c.command.device.0) 1 }) ∷ sent_of cs) (sent_of (map (at_ticket t (after_send sent.tag now path ts)) cs)) more_t (recalls (sent_of cs) m_h.sent) in
-    let Q : Ticket → Type 0 = λ u. RecallsSent new.flight (sent_of (map (at_ticket u (after_send sent.tag now path ts)) cs)) in
-    let whole = matches-sent log h c.command p sent.tag path new.flight m_h c.pending time.devices (ap (λ (f : FlightTable). f.rest) launches.flight) (ap (λ (f : FlightTable). f.room) launches.flight) (ap (λ (f : FlightTable). f.dead) launches.flight) (subst Q (sym p_is) recalled) in
+    let whole = matches-sent log h c.command p sent.tag path new.flight m_h c.pending time.devices (ap (λ (f : FlightTable). f.rest) launches.flight) (ap (λ (f : FlightTable). f.room) launches.flight) (ap (λ (f : FlightTable). f.dead) launches.flight) (rw p_is recalled) in
     let T : Ticket → Option Sending → Type 0 = λ u o. Matches (Sends u sent.tag path ∷ log) (record h { flight = new.flight; devices = change_at p.device.0 (device_sent u now (path_before o) path) h.devices }) in
     let at_t = subst (λ (u : Ticket). T u None) p_is (subst (λ (o : Option Sending). T p.ticket o) c.fresh whole) in
-    let H : Host → Type 0 = λ g. Matches (Sends t sent.tag path ∷ log) g in
-    let at_new = subst H (sym launches.after) at_t in
+    let at_new = rw (← launches.after) at at_t in
     let U : Ticket → PathNo → Type 0 = λ u q. Matches (Sends u sent.tag q ∷ log) new in
     subst (λ (q : PathNo). U sent.ticket q) (sym (ap (λ (g : Sent). g.path) launches.is)) (subst (λ (u : Ticket). U u path) (sym (ap (λ (g : Sent). g.ticket) launches.is)) at_new)
 
@@ -438,8 +422,7 @@ repeated host log t f at p m flies found there =
     let is_ticket : p.ticket.0 ≡ t.0 = eqb-true p.ticket.0 t.0 (placed (λ (q : Pending). nat_eq q.ticket.0 t.0) host.pending at p found there) in
     let other = pending-command (commands log) host.pending at p m.pending there in
     let same : other.0 ≡ flying.0 = one-command (commands log) flying.0 other.0 t.0 (only 0 (commands log) flying.0 m.tickets flying.1.there) other.1.there (ap (λ (u : Ticket). u.0) other.1.ticket ∙ is_ticket) flying.1.same in
-    let P : HostCommand → Type 0 = λ e. IsPending (commands log) p e in
-    (flying.0, flying.1, subst P same other.1)
+    (flying.0, flying.1, rw (← same) other.1)
 
 -- the commands that were sent have one for each ticket
 pub sent-one : (host : Host) (log : List Event) (o : Outstanding) (c : HostCommand) (s : Sending) → Matches log host → Contains (sent_of (commands log)) o → Contains (commands log) c → c.sends ≡ Some s → o.ticket.0 ≡ c.ticket.0 → o ≡ outstanding c s
@@ -457,9 +440,8 @@ repeat-next host new log t sent frame m repeats first =
     let o = first.0 in
     let is : o ≡ outstanding c.0 c.1.s = sent-one host log o c.0 c.1.s m first.2.there c.1.there c.1.sends (ap (λ (u : Ticket). u.0) first.1 ∙ sym c.1.same) in
     let tag : o.flying.tag ≡ repeats.flying.tag = ap (λ (e : Outstanding). e.flying.tag) is ∙ ap (λ (g : Flying). g.tag) (sym c.1.flying) in
-    let P : Sent → Type 0 = λ s. IsNext host (commands log) s in
     let repeat : IsRepeat host (commands log) (record { ticket = t; tag = repeats.flying.tag; path = repeats.route.path; again = true }) = record { command = o; first_due = first.2; ticket = first.1; tag = tag } in
-    subst P (sym repeats.is) repeat
+    rw repeats.is repeat
 
 pub repeat-frame : (host new : Host) (log : List Event) (t : Ticket) (sent : Sent) (frame : List ℕ) → Matches log host → Repeats host t sent frame new → IsFrameOf host (commands log) sent frame
 repeat-frame host new log t sent frame m repeats =
@@ -485,8 +467,7 @@ repeat-path host new log t sent frame m repeats =
     let n : ℕ = p.device.0 in
     let c = repeated host log t repeats.flying repeats.at p m repeats.flies repeats.found repeats.there in
     let has = has-paths host log n repeats.device m repeats.held in
-    let R : Option PathNo → Type 0 = λ missed. IsRoute repeats.device missed repeats.route in
-    let routed = subst R (before-repeat c.0 c.1.s repeats.flying c.1.sends c.1.flying) repeats.routed in
+    let routed = rw (before-repeat c.0 c.1.s repeats.flying c.1.sends c.1.flying) at repeats.routed in
     let path : sent.path ≡ repeats.route.path = ap (λ (s : Sent). s.path) repeats.is in
     record {
       command = c.0;
@@ -523,15 +504,12 @@ repeat-sends host new log t sent frame m time repeats =
     let W : Ticket → ℕ → Type 0 = λ u w. sent_of (map (at_ticket u (after_send sent.tag now path ts)) cs) ≡ map (change_of u.0 (after_repeat now path (record { 0 = w }))) (sent_of cs) in
     let mapped_t : sent_of (map (at_ticket t (after_send sent.tag now path ts)) cs) ≡ map (change_of t.0 (after_repeat now path (record { 0 = wait }))) (sent_of cs) =
     subst (λ (w : ℕ). W t w) (sym wait_is) (subst (λ (u : Ticket). W u (wait_of (ts c.0.device.0) (s.count + 1))) c_is mapped) in
-    let R : List Outstanding → Type 0 = λ l. RecallsSent after l in
-    let recalled : RecallsSent after (sent_of (map (at_ticket t (after_send sent.tag now path ts)) cs)) = subst R (sym mapped_t) changed in
-    let Q : Ticket → Type 0 = λ u. RecallsSent after (sent_of (map (at_ticket u (after_send sent.tag now path ts)) cs)) in
-    let whole = matches-sent log host c.0 p sent.tag path after m c.2 time.devices refl refl refl (subst Q (sym p_is) recalled) in
+    let recalled : RecallsSent after (sent_of (map (at_ticket t (after_send sent.tag now path ts)) cs)) = rw mapped_t changed in
+    let whole = matches-sent log host c.0 p sent.tag path after m c.2 time.devices refl refl refl (rw p_is recalled) in
     let T : Ticket → Option PathNo → Type 0 = λ u o. Matches (Sends u sent.tag path ∷ log) (record host { flight = after; devices = change_at p.device.0 (device_sent u now o path) host.devices }) in
     let missed : path_before c.0.sends ≡ Some f.path = sym (before-repeat c.0 s f c.1.sends c.1.flying) in
     let at_t = subst (λ (u : Ticket). T u (Some f.path)) p_is (subst (λ (o : Option PathNo). T p.ticket o) missed whole) in
-    let H : Host → Type 0 = λ g. Matches (Sends t sent.tag path ∷ log) g in
-    let at_new = subst H (sym repeats.after) at_t in
+    let at_new = rw (← repeats.after) at at_t in
     let U : Ticket → PathNo → Type 0 = λ u q. Matches (Sends u sent.tag q ∷ log) new in
     subst (λ (q : PathNo). U sent.ticket q) (sym (ap (λ (g : Sent). g.path) repeats.is)) (subst (λ (u : Ticket). U u path) (sym (ap (λ (g : Sent). g.ticket) repeats.is)) at_new)
 

@@ -54,14 +54,10 @@ have-changed : (ports : List Mac) (log later : List Event) (k : ℕ) (change : D
 have-changed ports log later k change devices others here have n = elim (cases_Bool (nat_eq n k)) [
   | inl same ↦
       let is : n ≡ k = eqb-true n k same in
-      let P : ℕ → Type 0 = λ m. IfSome (slice_get (change_at k change devices) m) (HasPaths ports (path_log later m)) in
-      let Q : Option Device → Type 0 = λ o. IfSome o (HasPaths ports (path_log later k)) in
-      subst P (sym is) (subst Q (sym (slice-changed k change devices)) (if-some-map (slice_get devices k) change (HasPaths ports (path_log log k)) (HasPaths ports (path_log later k)) here (have k)))
+      rw is (rw (slice-changed k change devices) (if-some-map (slice_get devices k) change (HasPaths ports (path_log log k)) (HasPaths ports (path_log later k)) here (have k)))
   | inr out ↦
       let other : n ≢ k = λ same. (let is : nat_eq n k ≡ true = eq-eqb n k same in absurd cc) in
-      let P : List PathEvent → Type 0 = λ happened. IfSome (slice_get devices n) (HasPaths ports happened) in
-      let Q : Option Device → Type 0 = λ o. IfSome o (HasPaths ports (path_log later n)) in
-      subst Q (sym (slice-others n k change devices other)) (subst P (sym (others n other)) (have n))
+      rw (slice-others n k change devices other) (rw (others n other) (have n))
 ]
 
 -- a change that leaves what is known of a device and its paths
@@ -124,8 +120,7 @@ have-sent ports log c t tag now path devices found have =
     here d has =
         let at_it : is_at c.device.0 c ≡ true = eq-eqb c.device.0 c.device.0 refl in
         let is : path_log (Sends t tag path ∷ log) c.device.0 ≡ Chosen path.0 ∷ missed_by c.sends (path_log log c.device.0) = rw (found, at_it) refl in
-        let P : List PathEvent → Type 0 = λ happened. HasPaths ports happened (device_sent t now (path_before c.sends) path d) in
-        subst P (sym is) (record { locals = has.locals; remotes = has.remotes; recalls = recalls-routed d.paths (path_log log c.device.0) c.sends path has.recalls })
+        rw is (record { locals = has.locals; remotes = has.remotes; recalls = recalls-routed d.paths (path_log log c.device.0) c.sends path has.recalls })
 
 -- how long an answer on a path to each device is waited for
 abbrev pub timeouts_on : List Event → PathNo → ℕ → ℕ
@@ -174,8 +169,7 @@ have-ended ports log c t (Some path) devices found have =
     here d has =
         let at_it : is_at c.device.0 c ≡ true = eq-eqb c.device.0 c.device.0 refl in
         let is : path_log (Ends t (Some path) ∷ log) c.device.0 ≡ Answered path.0 (trip_of (clock log) c.sends) ∷ path_log log c.device.0 = rw (found, at_it) refl in
-        let P : List PathEvent → Type 0 = λ happened. HasPaths ports happened (device_finished t (arrival_on (clock log) (Some path) c.sends) d) in
-        subst P (sym is) (record { locals = has.locals; remotes = has.remotes; recalls = recalls-answered d.paths (path_log log c.device.0) path.0 (trip_of (clock log) c.sends) has.recalls })
+        rw is (record { locals = has.locals; remotes = has.remotes; recalls = recalls-answered d.paths (path_log log c.device.0) path.0 (trip_of (clock log) c.sends) has.recalls })
 
 -- ---- an attachment
 

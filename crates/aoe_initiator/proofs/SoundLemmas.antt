@@ -1,5 +1,6 @@
 -- What is true of what a host keeps stays true.
 use Rattle.std.proofs.Common.{ℕ, zero, suc, ◌≡◌, ◌+◌, ◌<◌, ◌≤◌, List, [], ◌∷◌, ◌++◌, length, map, Option, sym, subst, arith}
+use Rattle.std.proofs.lemmas.List.Edits.{length-remove}
 use Rattle.std.specs.Prelude.{All}
 use Rattle.std.specs.List.{remove}
 use Rattle.std.specs.Option.{ForSome}
@@ -56,11 +57,6 @@ times-of now last devices all = All-weaker (IsAttached now last) (λ d. d.holds.
 ready-more : (n m : ℕ) (pending : List Pending) → n ≤ m → All (IsSendable n) pending → All (IsSendable m) pending
 ready-more n m pending more all =
     All-weaker (IsSendable n) (IsSendable m) (λ p ready. record { inside = omega (arith, ready.inside, more); spelled = ready.spelled; room = ready.room }) pending all
-
-pub length-remove : (xs : List Pending) (i : ℕ) → i < length xs → length (remove xs i) + 1 ≡ length xs
-length-remove [] i inside = absurd (omega (arith, inside))
-length-remove (x ∷ xs) zero inside = omega arith
-length-remove (x ∷ xs) (suc i) inside = omega (arith, length-remove xs i (omega (arith, inside)))
 
 ordered-remove : (xs : List Pending) (i : ℕ) → i < length xs → IsInOrder xs → IsInOrder (remove xs i)
 ordered-remove [] i inside order = absurd (omega (arith, inside))

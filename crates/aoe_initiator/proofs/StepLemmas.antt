@@ -48,7 +48,6 @@ pub launches-from : (old : Host) (t : Ticket) (at tag : ℕ) (p : Pending) (d : 
     → Launches old t at (record { ticket = t; tag = tag; path = route.path; again = false }) frame (record old { flight = flight; devices = devices })
 launches-from old t at tag p d route frame wait flight devices inside read held routed bytes devices_is flight_is room wait_is recalls =
     let there : slice_get old.pending at ≡ Some p = slice_get_read old.pending (length old.pending) at p refl inside read in
-    let W : ℕ → Type 0 = λ w. (before : List Outstanding) → Recalls old.flight before → Recalls flight (launched t tag (record { 0 = old.clock }) route.path (record { 0 = w }) ∷ before) in
     record {
       command = p;
       device = d;
@@ -58,7 +57,7 @@ launches-from old t at tag p d route frame wait flight devices inside read held 
       routed = routed;
       bytes = bytes;
       is = refl;
-      recalls = subst W wait_is recalls;
+      recalls = rw (← wait_is) recalls;
       after = rw devices_is refl;
       flight = flight_is;
       room = not-full old.flight.room (length (live_at old.flight old.clock)) room;

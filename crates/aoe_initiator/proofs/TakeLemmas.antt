@@ -166,11 +166,10 @@ gave-up-once host new log t at f m found flies closes first =
     let of_first = first (sent_of (commands log)) m.sent in
     let o = of_first.0 in
     let is : o ≡ outstanding c flying.1.s = sent-one host log o c flying.1.s m of_first.2.there flying.1.there flying.1.sends (ap (λ (u : Ticket). u.0) of_first.1 ∙ sym flying.1.same) in
-    let I : ℕ → Type 0 = λ dead. IsFirst (is_expired dead host.clock) lower (sent_of (commands log)) o in
     let ticket : p.ticket ≡ o.ticket = ap (λ (n : ℕ). record { 0 = n }) is_ticket ∙ sym of_first.1 in
     let sent_first : f.first ≡ o.flying.first = ap (λ (g : Flying). g.first) flying.1.flying ∙ ap (λ (e : Outstanding). e.flying.first) (sym is) in (
       matches-ended log host new at None (GaveUp f.first (record { 0 = host.clock })) flying.1.s m closes flew,
-      (o, subst I m.dead of_first.2, rw (ticket, sent_first) refl),
+      (o, rw (← m.dead) of_first.2, rw (ticket, sent_first) refl),
     )
 
 -- commands that were given up since the clock went on
@@ -199,12 +198,3 @@ gave-up-more old host new now t at dead_same before found closed first =
           let D : ℕ → Type 0 = λ n. (o : Outstanding) × IsFirst (is_expired n host.clock) lower (sent_of (commands (ended dones (Advances now ∷ log)))) o × (done ≡ given_up host.clock o) in
           (subst C (sym clock_same) (earlier.0, subst D dead_same once_more.1), once_more.0),
     )
-
-pub same-then : (a b c : Host) → IsSame a b → IsSame b c → IsSame a c
-same-then a b c one two = record {
-  ports = two.ports ∙ one.ports;
-  life = two.life ∙ one.life;
-  room = two.room ∙ one.room;
-  dead = two.dead ∙ one.dead;
-  devices = two.devices ∙ one.devices;
-}

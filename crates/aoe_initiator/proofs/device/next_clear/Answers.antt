@@ -1,4 +1,4 @@
-use Rattle.std.proofs.Common.{◌≡◌, ◌<◌, List, length, get_or, refl, subst, arith}
+use Rattle.std.proofs.Common.{◌≡◌, ◌<◌, List, length, get_or, refl, arith}
 use Rattle.aoe_initiator.specs.declared.device.Device.{Device}
 use Rattle.aoe_initiator.specs.Devices.{device_at}
 use Rattle.aoe_initiator.proofs.DeviceLemmas.{items-after, item-before, lowest-after, lowest-of}
@@ -9,8 +9,7 @@ devices-preserved c =
     let xs : List Device = c.deref_mut-device-items.result.now in
     let items : List Device = c.devices.device-items in
     let item : Device = get_or items c.devices.device-index c.device-item.result in
-    let P : Device → Type 0 = λ d. d ≡ get_or items c.devices.device-index d in
-    let is : item ≡ get_or items c.devices.device-index item = subst P c.device-item.is c.device-item.is in
+    let is : item ≡ get_or items c.devices.device-index item = rw (← c.device-item.is) c.device-item.is in
     let inside : c.devices.device-index < length xs = omega (arith, c.devices-test.true, c.devices.auto.device-items) in
     let read = item-before (device_at c.args.now.0) xs items c.devices.device-index item c.devices.invariant.devices is inside in
     let new : Device = record { about = item.about; holds = c.first_clear.new.holds; paths = item.paths } in

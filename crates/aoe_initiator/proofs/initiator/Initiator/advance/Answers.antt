@@ -1,17 +1,16 @@
 use Rattle.std.proofs.Common.{◌≡◌, ◌<◌, List, [], length, max, None, Some, refl, sym, ap, subst, ◌∙◌, arith, rules, append-nil}
-use Rattle.std.specs.Prelude.{IsSome}
-use Rattle.std.specs.List.{find, remove}
+use Rattle.std.proofs.lemmas.List.Edits.{length-remove}
+use Rattle.std.specs.List.{remove}
 use Rattle.aoe_base.specs.declared.counted.Ticket.{Ticket}
 use Rattle.aoe_flight.specs.declared.outstanding.Outstanding.{Outstanding}
 use Rattle.aoe_flight.specs.FlightTable.{Recalls}
-use Rattle.aoe_flight.specs.Outstanding.{flies_as, is_expired, lower, IsFirst}
+use Rattle.aoe_flight.specs.Outstanding.{is_expired, lower, IsFirst}
 use Rattle.aoe_initiator.specs.declared.pending.Pending.{Pending}
-use Rattle.aoe_initiator.specs.Host.{Host, Matches}
+use Rattle.aoe_initiator.specs.Host.{Host}
 use Rattle.aoe_initiator.specs.Steps.{place}
 use Rattle.aoe_initiator.proofs.ListLemmas.{get-within}
-use Rattle.aoe_initiator.proofs.MatchLemmas.{matches-advanced}
-use Rattle.aoe_initiator.proofs.SoundLemmas.{length-remove}
-use Rattle.aoe_initiator.proofs.TakeLemmas.{expired-flies, expired-placed, gave-up-more, left-closed, same-then}
+use Rattle.aoe_initiator.proofs.MatchLemmas.{matches-advanced, same-then}
+use Rattle.aoe_initiator.proofs.TakeLemmas.{expired-flies, expired-placed, gave-up-more, left-closed}
 use Rattle.aoe_initiator.proofs.initiator.Initiator.advance.Goals as goal
 
 -- the flying command with the lowest ticket that has to be given up
@@ -20,8 +19,7 @@ IsFirstExpired host t = (sent : List Outstanding) → Recalls host.flight sent �
 
 pub give_up-requires-clause-flies : goal.give_up-requires-clause-flies
 give_up-requires-clause-flies c =
-    let P : Host → Type 0 = λ h. IsSome (find (flies_as c.in-Some.ticket.0) h.flight.commands) in
-    subst P c.self-in-expired.view_is (expired-flies c.self-in-expired.inside.flight.dead c.self-in-expired.inside.clock.0 c.self-in-expired.inside.flight c.in-Some.ticket c.in-Some.ensures.first)
+    rw (← c.self-in-expired.view_is) (expired-flies c.self-in-expired.inside.flight.dead c.self-in-expired.inside.clock.0 c.self-in-expired.inside.flight c.in-Some.ticket c.in-Some.ensures.first)
 
 pub expired-smaller : goal.expired-smaller
 expired-smaller c =
@@ -37,14 +35,12 @@ expired-preserved c =
     let step = left-closed c.expired.self c.give_up.new.self c.in-Some-place_of.at None _ closes in
     let found : place c.in-Some.ticket c.self-in-expired.inside.pending.items ≡ Some c.in-Some-place_of.at =
     sym c.place_of.ensures ∙ c.in-Some-place_of.is in
-    let P : Host → Type 0 = λ h. place c.in-Some.ticket h.pending ≡ Some c.in-Some-place_of.at in
-    let Q : Host → Type 0 = λ h. IsFirstExpired h c.in-Some.ticket in
     record {
       clock = step.clock ∙ c.expired.invariant.clock;
       same = same-then c.args.self.now c.expired.self c.give_up.new.self c.expired.invariant.same step.same;
       last = step.last ∙ c.expired.invariant.last;
-      gives_up = gave-up-more c.args.self.now c.expired.self c.give_up.new.self c.args.now c.in-Some.ticket c.in-Some-place_of.at c.expired.invariant.same.dead c.expired.invariant.gives_up (subst P c.self-in-expired.view_is found) c.give_up.ensures
-          (subst Q c.self-in-expired.view_is c.in-Some.ensures.first_sent);
+      gives_up = gave-up-more c.args.self.now c.expired.self c.give_up.new.self c.args.now c.in-Some.ticket c.in-Some-place_of.at c.expired.invariant.same.dead c.expired.invariant.gives_up (rw (← c.self-in-expired.view_is) found) c.give_up.ensures
+          (rw (← c.self-in-expired.view_is) c.in-Some.ensures.first_sent);
     }
 
 pub returns-in_default-place_of-clause-gives_up : goal.returns-in_default-place_of-clause-gives_up
@@ -53,13 +49,12 @@ returns-in_default-place_of-clause-gives_up c =
     let none : c.place_of.result ≡ None = search rules in
     let missing : place c.in-Some.ticket c.self-in-expired.inside.pending.items ≡ None =
     sym c.place_of.ensures ∙ none in
-    let P : Host → Type 0 = λ h. place c.in-Some.ticket h.pending ≡ None in
     let Q : Host → Type 0 = λ h. IsFirstExpired h c.in-Some.ticket in (
       given.0,
       given.1,
       λ log m.
           let here = given.2 log m in
-          (here.0, expired-placed c.expired.self _ c.in-Some.ticket here.1 (subst Q c.self-in-expired.view_is c.in-Some.ensures.first_sent) (subst P c.self-in-expired.view_is missing), here.1),
+          (here.0, expired-placed c.expired.self _ c.in-Some.ticket here.1 (subst Q c.self-in-expired.view_is c.in-Some.ensures.first_sent) (rw (← c.self-in-expired.view_is) missing), here.1),
     )
 
 pub expired-init : goal.expired-init
@@ -75,7 +70,6 @@ expired-init c =
         [],
         rw (← c.self.view_is) (sym (append-nil c.self.inside.done.items)),
         λ log m.
-            let P : Host → Type 0 = λ h. Matches log h in
-            (tt, matches-advanced log _ c.args.now c.max.result clock_is (subst P (sym c.self.view_is) m)),
+            (tt, matches-advanced log _ c.args.now c.max.result clock_is (rw (← c.self.view_is) at m)),
       );
     }

@@ -1,10 +1,9 @@
-use Rattle.std.proofs.Common.{◌≡◌, ◌<◌, ◌∷◌, ◌++◌, [], length, None, ap, refl, sym, subst, arith, rules, ◌∙◌}
+use Rattle.std.proofs.Common.{◌≡◌, ◌<◌, ◌∷◌, ◌++◌, [], length, None, ap, refl, sym, arith, rules, ◌∙◌}
 use Rattle.arrayvec.specs.ArrayVec.{ArrayVec}
 use Rattle.aoe_base.specs.declared.address.Mac.{Mac}
 use Rattle.aoe_paths.specs.PathTable.{new_paths}
 use Rattle.aoe_hold.specs.HoldTable.{HoldTable}
 use Rattle.aoe_initiator.specs.declared.device.Device.{Device}
-use Rattle.aoe_initiator.specs.Host.{Host, Matches}
 use Rattle.aoe_initiator.proofs.MatchLemmas.{matches-attached}
 use Rattle.aoe_initiator.proofs.SoundLemmas.{sound-attached}
 use Rattle.aoe_initiator.proofs.initiator.Initiator.attach.Goals as goal
@@ -27,5 +26,4 @@ pub returns-clause-matches : goal.returns-clause-matches
 returns-clause-matches c = λ log m.
     let d : Device = record { about = record { id = c.args.id; remotes = c.copy_of.result; total = c.args.total; max = c.args.max }; holds = c.new-2.result; paths = c.in-Ok.paths } in
     let pushed : c.push.new.self.items ≡ c.self.inside.devices.items ++ d ∷ [] = search rules in
-    let P : Host → Type 0 = λ h. Matches log h in
-    matches-attached log _ _ d (subst P (sym c.self.view_is) m) c.new-2.ensures (c.in-Ok.ensures.value ∙ ap (λ (v : ArrayVec Mac). new_paths c.self.inside.ports.items v.items) (sym c.copy_of.ensures)) (rw pushed refl)
+    matches-attached log _ _ d (rw (← c.self.view_is) at m) c.new-2.ensures (c.in-Ok.ensures.value ∙ ap (λ (v : ArrayVec Mac). new_paths c.self.inside.ports.items v.items) (sym c.copy_of.ensures)) (rw pushed refl)

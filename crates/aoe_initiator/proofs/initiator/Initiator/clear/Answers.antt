@@ -1,5 +1,3 @@
-use Rattle.std.proofs.Common.{sym, subst}
-use Rattle.aoe_initiator.specs.Host.{Host, Matches}
 use Rattle.aoe_initiator.proofs.MatchLemmas.{matches-cleared}
 use Rattle.aoe_initiator.proofs.SoundLemmas.{sound-cleared, times-of}
 use Rattle.aoe_initiator.proofs.initiator.Initiator.clear.Goals as goal
@@ -15,15 +13,12 @@ invariant_of-self-2 c = sound-cleared _ c.self.inside.clock.0 _ _ c.self.inside.
 
 pub returns-in_err-ticket-clause-stays : goal.returns-in_err-ticket-clause-stays
 returns-in_err-ticket-clause-stays c = λ log m.
-    let P : Host → Type 0 = λ h. Matches log h in
-    matches-cleared log _ _ (subst P (sym c.self.view_is) m) (times-of c.self.inside.clock.0 c.self.inside.last_ticket.0 c.self.inside.devices.items c.self.invariant.attached) c.next_clear.ensures.value
+    matches-cleared log _ _ (rw (← c.self.view_is) at m) (times-of c.self.inside.clock.0 c.self.inside.last_ticket.0 c.self.inside.devices.items c.self.invariant.attached) c.next_clear.ensures.value
 
 pub returns-in_err-at-clause-stays : goal.returns-in_err-at-clause-stays
 returns-in_err-at-clause-stays c = λ log m.
-    let P : Host → Type 0 = λ h. Matches log h in
-    matches-cleared log _ _ (subst P (sym c.self.view_is) m) (times-of c.self.inside.clock.0 c.self.inside.last_ticket.0 c.self.inside.devices.items c.self.invariant.attached) c.next_clear.ensures.value
+    matches-cleared log _ _ (rw (← c.self.view_is) at m) (times-of c.self.inside.clock.0 c.self.inside.last_ticket.0 c.self.inside.devices.items c.self.invariant.attached) c.next_clear.ensures.value
 
 pub returns-clause-stays : goal.returns-clause-stays
 returns-clause-stays c = λ log m.
-    let P : Host → Type 0 = λ h. Matches log h in
-    matches-cleared log _ _ (subst P (sym c.self.view_is) m) (times-of c.self.inside.clock.0 c.self.inside.last_ticket.0 c.self.inside.devices.items c.self.invariant.attached) c.next_clear.ensures.value
+    matches-cleared log _ _ (rw (← c.self.view_is) at m) (times-of c.self.inside.clock.0 c.self.inside.last_ticket.0 c.self.inside.devices.items c.self.invariant.attached) c.next_clear.ensures.value

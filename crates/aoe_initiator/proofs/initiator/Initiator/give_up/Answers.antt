@@ -1,9 +1,8 @@
-use Rattle.std.proofs.Common.{None, ◌<◌, length, ap, sym, subst, arith}
+use Rattle.std.proofs.Common.{None, ◌<◌, length, ap, arith}
 use Rattle.aoe_flight.specs.FlightTable.{FlightTable}
 use Rattle.aoe_initiator.specs.declared.outcome.Done.{Done}
 use Rattle.aoe_initiator.specs.declared.outcome.Outcome.TheVariants.{GaveUp}
 use Rattle.aoe_initiator.specs.declared.pending.Pending.{Pending}
-use Rattle.aoe_initiator.specs.Host.{Host}
 use Rattle.aoe_initiator.proofs.SoundLemmas.{sound-closed}
 use Rattle.aoe_initiator.proofs.StepLemmas.{closes-from}
 use Rattle.aoe_initiator.proofs.initiator.Initiator.give_up.Goals as goal
@@ -12,8 +11,7 @@ pub invariant_of-self : goal.invariant_of-self
 invariant_of-self c =
     let p : Pending = c.close-command.result in
     let done : Done = record { ticket = p.ticket; outcome = GaveUp c.flying.result.first c.self.inside.clock } in
-    let P : Host → Type 0 = λ h. c.args.at < length h.pending in
-    let inside : c.args.at < length c.self.inside.pending.items = subst P (sym c.self.view_is) c.requires.there in
+    let inside : c.args.at < length c.self.inside.pending.items = rw (← c.self.view_is) at c.requires.there in
     let time = ap (λ (t : FlightTable). t.latest) c.close-command.ensures.flight in
     sound-closed _ c.self.inside.clock.0 _ p.device.0 c.args.at p.ticket None c.self.inside.flight c.close-command.new.flight c.self.inside.devices.items c.close-command.new.devices.items
     c.self.inside.pending.items c.close-command.new.pending.items c.self.inside.done.items c.push_back_reserved.new.self.items done _ _
@@ -22,8 +20,7 @@ invariant_of-self c =
 pub returns : goal.returns
 returns c =
     let p : Pending = c.close-command.result in
-    let P : Host → Type 0 = λ h. c.args.at < length h.pending in
-    let inside : c.args.at < length c.self.inside.pending.items = subst P (sym c.self.view_is) c.requires.there in
+    let inside : c.args.at < length c.self.inside.pending.items = rw (← c.self.view_is) at c.requires.there in
     rw (← c.self.view_is) (
       c.flying.result,
       c.flying.ensures.value,

@@ -1,10 +1,4 @@
-use Rattle.std.proofs.Common.{◌≡◌, List, false, subst}
-use Rattle.std.specs.Prelude.{All, IsSome}
-use Rattle.std.specs.List.{find}
-use Rattle.aoe_base.specs.declared.counted.Ticket.{Ticket}
-use Rattle.aoe_flight.specs.declared.outstanding.Outstanding.{Outstanding}
-use Rattle.aoe_flight.specs.FlightTable.{Recalls}
-use Rattle.aoe_flight.specs.Outstanding.{flies_as, is_due, precedes, IsFirst}
+use Rattle.std.proofs.Common.{List}
 use Rattle.aoe_initiator.specs.declared.step.Sent.{Sent}
 use Rattle.aoe_initiator.specs.Host.{Host}
 use Rattle.aoe_initiator.specs.HostLaw.{IsNext}
@@ -13,22 +7,13 @@ use Rattle.aoe_initiator.proofs.NextLemmas.{due-flies, idle-quiet, idle-then, le
 use Rattle.aoe_initiator.proofs.initiator.Initiator.pull.Goals as goal
 use Rattle.aoe_initiator.proofs.initiator.Initiator.pull.Goals.{In-Some, In-None}
 
--- the first of the due commands
-abbrev IsFirstDue : Host → Ticket → Type 0
-IsFirstDue host t = (sent : List Outstanding) → Recalls host.flight sent → (e : Outstanding) × (e.ticket ≡ t) × IsFirst (is_due host.clock) precedes sent e
-
-abbrev IsIdle : Host → Type 0
-IsIdle host = (sent : List Outstanding) → Recalls host.flight sent → All (λ e. is_due host.clock e ≡ false) sent
-
 pub repeat-requires : goal.repeat-requires
 repeat-requires c =
-    let P : Host → Type 0 = λ h. IsSome (find (flies_as c.in-Some.ticket.0) h.flight.commands) in
-    subst P c.self.view_is (due-flies c.self.inside.clock.0 c.self.inside.flight c.in-Some.ticket c.in-Some.ensures.first)
+    rw (← c.self.view_is) (due-flies c.self.inside.clock.0 c.self.inside.flight c.in-Some.ticket c.in-Some.ensures.first)
 
 pub returns-in-Some-clause-next : goal.returns-in-Some-clause-next
 returns-in-Some-clause-next c =
-    let P : Host → Type 0 = λ h. IsFirstDue h c.in-Some.ticket in
-    repeat-next-all c.repeat.result c.args.self.now _ c.in-Some.ticket _ c.repeat.ensures.sent (subst P c.self.view_is c.in-Some.ensures.first_sent)
+    repeat-next-all c.repeat.result c.args.self.now _ c.in-Some.ticket _ c.repeat.ensures.sent (rw (← c.self.view_is) c.in-Some.ensures.first_sent)
 
 pub returns-in-Some-clause-frame : goal.returns-in-Some-clause-frame
 returns-in-Some-clause-frame c = repeat-frame-all c.repeat.result c.args.self.now _ c.in-Some.ticket _ c.repeat.ensures.sent
@@ -41,8 +26,7 @@ returns-in-Some-clause-sends c = repeat-sends-all c.repeat.result c.args.self.no
 
 pub returns-in-Some-clause-quiet : goal.returns-in-Some-clause-quiet
 returns-in-Some-clause-quiet c =
-    let P : Host → Type 0 = λ h. IsFirstDue h c.in-Some.ticket in
-    repeat-quiet c.repeat.result c.args.self.now c.in-Some.ticket c.repeat.ensures.none (subst P c.self.view_is c.in-Some.ensures.first_sent)
+    repeat-quiet c.repeat.result c.args.self.now c.in-Some.ticket c.repeat.ensures.none (rw (← c.self.view_is) c.in-Some.ensures.first_sent)
 
 pub returns-in-Some-clause-stays : goal.returns-in-Some-clause-stays
 returns-in-Some-clause-stays c = stays-unchanged c.repeat.result c.args.self.now _ c.repeat.ensures.unchanged
@@ -54,11 +38,9 @@ returns-in-Some-clause-same c =
 
 pub returns-in-None-clause-next : goal.returns-in-None-clause-next
 returns-in-None-clause-next c =
-    let P : Host → Type 0 = λ h. IsIdle h in
     let N : Sent → Host → List Event → Type 0 = λ s h log. IsNext h (commands log) s in
-    idle-then c.start.result N c.args.self.now (subst P c.self.view_is c.in-None.ensures.none_sent) c.start.ensures.next
+    idle-then c.start.result N c.args.self.now (rw (← c.self.view_is) c.in-None.ensures.none_sent) c.start.ensures.next
 
 pub returns-in-None-clause-quiet : goal.returns-in-None-clause-quiet
 returns-in-None-clause-quiet c =
-    let P : Host → Type 0 = λ h. IsIdle h in
-    idle-quiet c.start.result c.args.self.now (subst P c.self.view_is c.in-None.ensures.none_sent) c.start.ensures.quiet
+    idle-quiet c.start.result c.args.self.now (rw (← c.self.view_is) c.in-None.ensures.none_sent) c.start.ensures.quiet

@@ -1,12 +1,10 @@
-use Rattle.std.proofs.Common.{◌≡◌, ◌+◌, ◌<◌, ◌∷◌, ◌++◌, [], List, length, Some, ap, refl, sym, subst, set, ◌∙◌, arith, rules}
+use Rattle.std.proofs.Common.{◌≡◌, ◌+◌, ◌<◌, ◌∷◌, ◌++◌, [], List, length, Some, ap, refl, set, ◌∙◌, arith, rules}
 use Rattle.std.specs.Prelude.{slice_get}
 use Rattle.std.proofs.lemmas.Option.{slice_get_read}
 use Rattle.aoe_hold.specs.declared.command.Command.{Command}
 use Rattle.aoe_hold.specs.HoldTable.{new_command, with_command}
 use Rattle.aoe_initiator.specs.declared.pending.Pending.{Pending}
 use Rattle.aoe_initiator.specs.Devices.{change_at}
-use Rattle.aoe_initiator.specs.Host.{Host, Matches}
-use Rattle.aoe_initiator.specs.HostLaw.{held_at}
 use Rattle.aoe_initiator.specs.Op.{kind_of, span_of}
 use Rattle.aoe_initiator.proofs.DeviceLemmas.{about-change_at, device_entered, set-change_at}
 use Rattle.aoe_initiator.proofs.MatchLemmas.{matches-submitted}
@@ -16,17 +14,14 @@ use Rattle.aoe_initiator.proofs.initiator.Initiator.submit.Goals as goal
 
 pub enter-requires-clause-room : goal.enter-requires-clause-room
 enter-requires-clause-room c =
-    let H : Host → Type 0 = λ h. c.args.device.0 < length h.devices in
-    let inside : c.args.device.0 < length c.self.inside.devices.items = subst H (sym c.self.view_is) c.requires.attached in
+    let inside : c.args.device.0 < length c.self.inside.devices.items = rw (← c.self.view_is) at c.requires.attached in
     let there : slice_get c.self.inside.devices.items c.args.device.0 ≡ Some c.index_mut.result.now =
     slice_get_read c.self.inside.devices.items (length c.self.inside.devices.items) c.args.device.0 c.index_mut.result.now refl inside c.index_mut.ensures.value in
-    let P : Host → Type 0 = λ h. held_at h c.args.device.0 < 65536 in
-    held-less c.self.inside.devices.items c.args.device.0 c.index_mut.result.now there (subst P (sym c.self.view_is) c.in_default.ensures.room)
+    held-less c.self.inside.devices.items c.args.device.0 c.index_mut.result.now there (rw (← c.self.view_is) at c.in_default.ensures.room)
 
 pub invariant_of-self-2 : goal.invariant_of-self-2
 invariant_of-self-2 c =
-    let H : Host → Type 0 = λ h. c.args.device.0 < length h.devices in
-    let inside : c.args.device.0 < length c.self.inside.devices.items = subst H (sym c.self.view_is) c.requires.attached in
+    let inside : c.args.device.0 < length c.self.inside.devices.items = rw (← c.self.view_is) at c.requires.attached in
     let command : Command = new_command (record { 0 = c.self.inside.last_ticket.0 + 1 }) c.kind.result c.span.result in
     let entered : c.enter.new.self ≡ with_command c.index_mut.result.now.holds command = search rules in
     let changed : set c.self.inside.devices.items c.args.device.0 (record { about = c.index_mut.result.now.about; holds = c.enter.new.self; paths = c.index_mut.result.now.paths }) ≡ change_at c.args.device.0 (device_entered command) c.self.inside.devices.items =
@@ -41,21 +36,18 @@ invariant_of-self-2 c =
 
 pub returns-clause-matches : goal.returns-clause-matches
 returns-clause-matches c = λ log m.
-    let H : Host → Type 0 = λ h. c.args.device.0 < length h.devices in
-    let inside : c.args.device.0 < length c.self.inside.devices.items = subst H (sym c.self.view_is) c.requires.attached in
+    let inside : c.args.device.0 < length c.self.inside.devices.items = rw (← c.self.view_is) at c.requires.attached in
     let command : Command = new_command (record { 0 = c.self.inside.last_ticket.0 + 1 }) (kind_of c.args.op) (span_of c.args.op) in
     let entered : c.enter.new.self ≡ with_command c.index_mut.result.now.holds command = search rules in
     let changed : set c.self.inside.devices.items c.args.device.0 (record { about = c.index_mut.result.now.about; holds = c.enter.new.self; paths = c.index_mut.result.now.paths }) ≡ change_at c.args.device.0 (device_entered command) c.self.inside.devices.items =
     rw entered (set-change_at c.self.inside.devices.items c.args.device.0 c.index_mut.result.now (device_entered command) inside c.index_mut.ensures.value) in
     let p : Pending = record { ticket = record { 0 = c.self.inside.last_ticket.0 + 1 }; device = c.args.device; op = c.args.op; room = c.in-Ok.room } in
     let pushed : c.push_back_reserved.new.self.items ≡ c.self.inside.pending.items ++ p ∷ [] = c.push_back_reserved.ensures.items ∙ ap (λ (l : List Pending). l ++ p ∷ []) c.make_room.ensures.pending in
-    let P : Host → Type 0 = λ h. Matches log h in
-    matches-submitted log _ _ (record { 0 = c.self.inside.last_ticket.0 + 1 }) c.args.device c.args.op c.in-Ok.room (subst P (sym c.self.view_is) m) refl inside (rw (changed, pushed, c.make_room.ensures.done) refl)
+    matches-submitted log _ _ (record { 0 = c.self.inside.last_ticket.0 + 1 }) c.args.device c.args.op c.in-Ok.room (rw (← c.self.view_is) at m) refl inside (rw (changed, pushed, c.make_room.ensures.done) refl)
 
 pub returns-clause-same : goal.returns-clause-same
 returns-clause-same c =
-    let H : Host → Type 0 = λ h. c.args.device.0 < length h.devices in
-    let inside : c.args.device.0 < length c.self.inside.devices.items = subst H (sym c.self.view_is) c.requires.attached in
+    let inside : c.args.device.0 < length c.self.inside.devices.items = rw (← c.self.view_is) at c.requires.attached in
     let command : Command = new_command (record { 0 = c.self.inside.last_ticket.0 + 1 }) (kind_of c.args.op) (span_of c.args.op) in
     let entered : c.enter.new.self ≡ with_command c.index_mut.result.now.holds command = search rules in
     let changed : set c.self.inside.devices.items c.args.device.0 (record { about = c.index_mut.result.now.about; holds = c.enter.new.self; paths = c.index_mut.result.now.paths }) ≡ change_at c.args.device.0 (device_entered command) c.self.inside.devices.items =
