@@ -36,7 +36,7 @@ module _ (total max at count : ℕ) (bytes : List ℕ) (stages : List Stage) (fi
         let below = place total max at count bytes stages first next left s next lt in
         let e : 512 * max * next ≡ 512 * (next * max) = grind arith in
         let n : span.count ≡ min max (count - next * max) = ap (λ (p : Span). p.count) span_is in
-        let whole = s.size in
+        let whole = s.parted.size in
         let cap : len ≡ min (512 * max) (length (drop (512 * max * next) bytes)) = omega (arith, length-drop (512 * max * next) bytes) in
         let read : piece ≡ take (512 * max) (drop (512 * max * next) bytes) = is ∙ ap (λ (l : List ℕ). take len (drop (512 * max * next) l)) same ∙ take_cap (512 * max) len (drop (512 * max * next) bytes) cap in
         rw (next_is, writes, read, span_is) refl
@@ -52,8 +52,8 @@ module _ (total max at count : ℕ) (bytes : List ℕ) (stages : List Stage) (fi
       let below = place total max at count bytes stages first next left s next lt in
       let a : span.at ≡ at + next * max = ap (λ (p : Span). p.at) span_is in
       let n : span.count ≡ min max (count - next * max) = ap (λ (p : Span). p.count) span_is in
-      let some = s.some in
-      let range = s.range in
+      let some = s.parted.some in
+      let range = s.parted.range in
       (omega arith, omega arith, omega arith)
 
   pub read_admitted : (about : Attached) → about.total ≡ total → max ≤ about.max → op_refusal about (ReadOp span) ≡ None
@@ -64,7 +64,7 @@ module _ (total max at count : ℕ) (bytes : List ℕ) (stages : List Stage) (fi
       let below = place total max at count bytes stages first next left s next lt in
       let e : 512 * max * next ≡ 512 * (next * max) = grind arith in
       let n : span.count ≡ min max (count - next * max) = ap (λ (p : Span). p.count) span_is in
-      let whole = s.size in
+      let whole = s.parted.size in
       let all : length seen ≡ length bytes = ap length same in
       ap length is ∙ length-take len (drop (512 * max * next) seen) ∙ omega (arith, length-drop (512 * max * next) seen)
 

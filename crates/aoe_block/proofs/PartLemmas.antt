@@ -1,6 +1,6 @@
 -- The parts of a block by its fields.
 use Rattle.std.proofs.Common.{◌≡◌, ◌≢◌, ◌≤◌, ◌<◌, ◌+◌, ◌-◌, ◌*◌, ℕ, zero, suc, Bool, true, false, List, [], ◌∷◌, Some, None, length, map, take, drop, set, min, replicate, arith, refl, sym, ap, ◌∙◌, length-drop}
-use Rattle.std.proofs.lemmas.List.{length-take, length-replicate, drop-drop, take-append-drop}
+use Rattle.std.proofs.lemmas.List.{length-take, length-replicate, drop-drop, take-append-drop, nil_from_length}
 use Rattle.std.proofs.lemmas.List.Elements.{All-cons, All-nil}
 use Rattle.std.specs.List.{find, list_all, All}
 use Rattle.aoe_base.specs.declared.counted.Ticket.{Ticket}
@@ -102,11 +102,7 @@ module _ (f : Part → Part) (test : Stage → Bool) (apart : (p : Part) → tes
       ) refl
 
 pub joined-parts_of : (max at count : ℕ) (stages : List Stage) (bytes : List ℕ) → length bytes ≡ 512 * count → count ≤ length stages * max → joined (parts_of max at count stages bytes) ≡ bytes
-joined-parts_of max at count [] bytes size enough = sym (empty bytes (omega arith))
-  where
-    empty : (l : List ℕ) → length l ≡ 0 → l ≡ []
-    empty [] e = refl
-    empty (x ∷ l) e = absurd (omega arith)
+joined-parts_of max at count [] bytes size enough = sym (nil_from_length bytes (omega arith))
 joined-parts_of max at count (stage ∷ stages) bytes size enough =
     let rest : length (drop (512 * max) bytes) ≡ 512 * (count - max) = omega (arith, length-drop (512 * max) bytes) in
     rw (joined-parts_of max (at + max) (count - max) stages (drop (512 * max) bytes) rest (omega arith)) (take-append-drop (512 * max) bytes)

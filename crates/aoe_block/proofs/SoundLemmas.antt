@@ -22,14 +22,16 @@ pub sound_new : (total max at count : ℕ) (bytes : List ℕ) (n : ℕ) → 0 < 
 sound_new total max at count bytes n some few range device short size enough needed =
     let len : length (replicate n Pending) ≡ n = length-replicate n Pending in
     record {
-      some = some;
-      few = few;
-      range = range;
-      device = device;
-      short = short;
-      size = size;
-      enough = rw len enough;
-      needed = rw len needed;
+      parted = rw len (record {
+        some = some;
+        few = few;
+        range = range;
+        device = device;
+        short = short;
+        size = size;
+        enough = enough;
+        needed = needed;
+      });
       ordered = omega arith;
       within = omega arith;
       past = λ j lt. absurd (omega arith);
@@ -73,14 +75,7 @@ none_handed ticket max at count (stage ∷ stages) bytes none k =
 module _ (total max at count : ℕ) (bytes : List ℕ) (stages : List Stage) (first next left : ℕ) (s : AreParts total max at count bytes stages first next left) where
   pub sound_first : (f : ℕ) → NoneBefore stages f → f ≤ next → AreParts total max at count bytes stages f next left
   sound_first f past ordered = record {
-    some = s.some;
-    few = s.few;
-    range = s.range;
-    device = s.device;
-    short = s.short;
-    size = s.size;
-    enough = s.enough;
-    needed = s.needed;
+    parted = s.parted;
     ordered = ordered;
     within = s.within;
     past = past;
@@ -109,7 +104,7 @@ module _ (total max at count : ℕ) (bytes : List ℕ) (stages : List Stage) (fi
   ]
 
   pub place : (k : ℕ) → k < length stages → k * max < count
-  place k lt = let h : (k + 1) * max ≤ length stages * max = grind arith in omega (arith, s.needed)
+  place k lt = let h : (k + 1) * max ≤ length stages * max = grind arith in omega (arith, s.parted.needed)
 
   -- the next part is handed with a new ticket
   pub handed_parts : (ticket : Ticket) → next < length stages → hand ticket (parts_of max at count stages bytes) ≡ parts_of max at count (set stages next (Handed ticket)) bytes
@@ -120,14 +115,7 @@ module _ (total max at count : ℕ) (bytes : List ℕ) (stages : List Stage) (fi
       let is : stage_at stages next ≡ Pending = s.waiting next (omega arith) in
       let len : length (set stages next (Handed ticket)) ≡ length stages = length-set stages next (Handed ticket) in
       record {
-        some = s.some;
-        few = s.few;
-        range = s.range;
-        device = s.device;
-        short = s.short;
-        size = s.size;
-        enough = rw len s.enough;
-        needed = rw len s.needed;
+        parted = rw len s.parted;
         ordered = let o = s.ordered in omega arith;
         within = omega arith;
         past = λ j before. elim (stage_at-set stages next j (Handed ticket) lt) [
@@ -185,14 +173,7 @@ module _ (total max at count : ℕ) (bytes : List ℕ) (stages : List Stage) (fi
         let len : length (set stages k stage) ≡ length stages = length-set stages k stage in
         let h = here_within in
         record {
-          some = s.some;
-          few = s.few;
-          range = s.range;
-          device = s.device;
-          short = s.short;
-          size = size ∙ s.size;
-          enough = rw len s.enough;
-          needed = rw len s.needed;
+          parted = rw (len, size) s.parted;
           ordered = s.ordered;
           within = rw len s.within;
           past = λ j before. elim (stage_at-set stages k j stage h) [
@@ -243,7 +224,7 @@ module _ (total max at count : ℕ) (bytes : List ℕ) (stages : List Stage) (fi
       fits piece len =
           let below = place k here_within in
           let e : 512 * max * k ≡ 512 * (k * max) = grind arith in
-          let size = s.size in
+          let size = s.parted.size in
           omega (arith, len, e)
 
       pub can_lay : CanLay bytes (512 * max * k) done.outcome
@@ -295,7 +276,7 @@ module _ (total max at count : ℕ) (bytes : List ℕ) (stages : List Stage) (fi
           as_read : (read : List ℕ) → done.outcome ≡ Read read → is_success write (min max (count - k * max)) (Read read) ≡ true → map (after_done write done) (parts_of max at count stages bytes) ≡ parts_of max at count (set stages k Ended) (put bytes (512 * max * k) read)
           as_read read e is_read =
               let len : length read ≡ 512 * min max (count - k * max) = eqb-true (length read) (512 * min max (count - k * max)) (and_parts (not write) (length read == 512 * min max (count - k * max)) is_read).1 in
-              map_piece (after_done write done) (is_handed done.ticket.0) (λ p out. rw out refl) Ended read max at count stages bytes k here_within (place k here_within) s.size others
+              map_piece (after_done write done) (is_handed done.ticket.0) (λ p out. rw out refl) Ended read max at count stages bytes k here_within (place k here_within) s.parted.size others
               (len ∙ ap (λ (n : ℕ). 512 * n) (sym (here_count Ended)))
               (here ∙ ap (λ (o : Outcome). record (nth max at count bytes k Ended) { bytes = bytes_after o (nth max at count bytes k Ended).bytes }) e)
 

@@ -51,17 +51,21 @@ abbrev pub count_left : List Stage → ℕ
 count_left [] = 0
 count_left (stage ∷ stages) = cond (is_ended stage) 0 1 + count_left stages
 
--- as many parts as the sectors need, handed in order, each under way with a ticket of its own; none before
--- `first` is under way, and so many weren't read or written
-pub record AreParts (total max at count : ℕ) (bytes : List ℕ) (stages : List Stage) (first next left : ℕ) : Type 0 where
+-- as many parts as the sectors need, of a range of the device with so many bytes
+pub record IsParted (total max at count bytes parts : ℕ) : Type 0 where
   pub some : 0 < max
   pub few : max ≤ 17
   pub range : at + count ≤ total
   pub device : total < 2 ^ 64
   pub short : count ≤ 32768
-  pub size : length bytes ≡ 512 * count
-  pub enough : count ≤ length stages * max
-  pub needed : length stages * max < count + max
+  pub size : bytes ≡ 512 * count
+  pub enough : count ≤ parts * max
+  pub needed : parts * max < count + max
+
+-- the parts are handed in order, each under way with a ticket of its own; none before `first` is under way, and so many
+-- weren't read or written
+pub record AreParts (total max at count : ℕ) (bytes : List ℕ) (stages : List Stage) (first next left : ℕ) : Type 0 where
+  pub parted : IsParted total max at count (length bytes) (length stages)
   pub ordered : first ≤ next
   pub within : next ≤ length stages
   pub past : NoneBefore stages first

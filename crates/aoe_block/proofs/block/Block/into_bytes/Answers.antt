@@ -5,4 +5,4 @@ use Rattle.aoe_block.proofs.block.Block.into_bytes.Goals as goal
 pub returns : goal.returns
 returns c =
     let b = c.self.inside in
-    rw (← c.self.view_is) (sym (joined-parts_of b.max b.at b.count b.stages.items b.bytes c.self.invariant.size c.self.invariant.enough))
+    rw (← c.self.view_is) (sym (joined-parts_of b.max b.at b.count b.stages.items b.bytes c.self.invariant.parted.size c.self.invariant.parted.enough))

@@ -25,7 +25,7 @@ returns-in_default-clause-parts c =
 -- the command that ended is the part that was found
 taken : (c : After-is_success)
     → TakesPart c.self.inside.total c.self.inside.max c.self.inside.at c.self.inside.count c.self.inside.bytes c.self.inside.stages.items c.first_under_way-self-inside.result c.self.inside.next c.self.inside.left
-      c.self.inside.write c.args.done c.in-Some.k c.is_success.result
+    c.self.inside.write c.args.done c.in-Some.k c.is_success.result
 taken c =
     let b = c.self.inside in
     let first = c.first_under_way-self-inside in
