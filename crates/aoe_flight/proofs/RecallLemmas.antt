@@ -1,5 +1,6 @@
 -- What a table says of all commands that were sent, of which it has those that fly or rest.
 use Rattle.std.proofs.Common.{nat_lt, ◌-◌, ℕ, ◌≡◌, ◌<◌, ◌≤◌, ◌&&◌, cond, not, Bool, true, false, List, [], ◌∷◌, length, map, Option, Some, None, inl, inr, refl, sym, ap, subst, ◌∙◌, arith, nat_eq}
+use Rattle.std.proofs.lemmas.List.Folds.{list_any_none}
 use Rattle.std.specs.List.{count_by, filter, find, list_any}
 use Rattle.std.specs.List.Sorted.{IsPermutation}
 use Rattle.std.specs.Prelude.{option_map, All, Contains, IfNone, IfSome}
@@ -194,16 +195,12 @@ any-none test (x ∷ xs) none =
     let parts = or_parts (test x) (list_any test xs) none in
     All-cons (λ c. test c ≡ false) x xs parts.0 (any-none test xs parts.1)
 
-none-any : (test : Outstanding → Bool) (xs : List Outstanding) → All (λ c. test c ≡ false) xs → list_any test xs ≡ false
-none-any test [] all = refl
-none-any test (x ∷ xs) all = rw (All-head (λ c. test c ≡ false) x xs all) (none-any test xs (All-tail (λ c. test c ≡ false) x xs all))
-
 -- a tag that no command of the table has is free among all
 pub free-recalled : (table : FlightTable) (sent : List Outstanding) (now tag : ℕ) → Recalls table sent → table.latest ≤ now → is_taken (live_at table now) tag ≡ false → is_taken (live table.rest now sent) tag ≡ false
 free-recalled table sent now tag recalls later free =
-    none-any (has_tag tag) (live table.rest now sent) (all-same (has_tag tag) (live_at table now) (live table.rest now sent) (same-at table sent now recalls later) (any-none (has_tag tag) (live_at table now) free))
+    list_any_none (has_tag tag) (live table.rest now sent) (all-same (has_tag tag) (live_at table now) (live table.rest now sent) (same-at table sent now recalls later) (any-none (has_tag tag) (live_at table now) free))
 
-find-there : (test : Outstanding → Bool) (c : Outstanding) (xs : List Outstanding) → find test xs ≡ Some c → Contains xs c × (test c ≡ true)
+pub find-there : (test : Outstanding → Bool) (c : Outstanding) (xs : List Outstanding) → find test xs ≡ Some c → Contains xs c × (test c ≡ true)
 find-there test c [] is = absurd cc
 find-there test c (x ∷ xs) is = at (test x) refl is (find-there test c xs)
   where

@@ -148,19 +148,15 @@ none-past slab test passes entry entries e wider o order head out = all-held (λ
 pub over-rests : (rest now : ℕ) (c : Outstanding) → is_over rest now c ≡ true → rests c ≡ true
 over-rests rest now c is = (and_parts c.finished (nat_lt rest (now - c.flying.last.0)) is).0
 
-pub over-past : (rest now : ℕ) (c d : Outstanding) → c.finished ≡ true → is_over rest now c ≡ false → c.flying.last.0 ≤ d.flying.last.0 → is_over rest now d ≡ false
-over-past rest now c d finished out later =
-    let here : nat_lt rest (now - c.flying.last.0) ≡ false = and_false c.finished (nat_lt rest (now - c.flying.last.0)) finished out in
-    let no : nat_lt rest (now - d.flying.last.0) ≡ false = le-ltb rest (now - d.flying.last.0) (omega (arith, ltb-false rest (now - c.flying.last.0) here, later)) in
-    and_right d.finished (nat_lt rest (now - d.flying.last.0)) no
-  where
-    and_false : (f t : Bool) → f ≡ true → (f && t) ≡ false → t ≡ false
-    and_false true t is none = none
-    and_false false t is none = absurd cc
-
 no_and : (f t : Bool) → f ≡ true → (f && t) ≡ false → t ≡ false
 no_and true t is none = none
 no_and false t is none = absurd cc
+
+pub over-past : (rest now : ℕ) (c d : Outstanding) → c.finished ≡ true → is_over rest now c ≡ false → c.flying.last.0 ≤ d.flying.last.0 → is_over rest now d ≡ false
+over-past rest now c d finished out later =
+    let here : nat_lt rest (now - c.flying.last.0) ≡ false = no_and c.finished (nat_lt rest (now - c.flying.last.0)) finished out in
+    let no : nat_lt rest (now - d.flying.last.0) ≡ false = le-ltb rest (now - d.flying.last.0) (omega (arith, ltb-false rest (now - c.flying.last.0) here, later)) in
+    and_right d.finished (nat_lt rest (now - d.flying.last.0)) no
 
 pub expired-past : (dead now : ℕ) (c d : Outstanding) → flies c ≡ true → is_expired dead now c ≡ false → c.flying.first.0 ≤ d.flying.first.0 → is_expired dead now d ≡ false
 expired-past dead now c d flying out later =

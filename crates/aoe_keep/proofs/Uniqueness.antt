@@ -3,7 +3,7 @@ use Rattle.std.proofs.Common.{◌≡◌, ◌≤◌, ◌<◌, ◌+◌, ◌&&◌, 
 use Rattle.std.specs.Simd.{first_chunks}
 use Rattle.std.proofs.lemmas.List.{drop_more, map-append}
 use Rattle.std.proofs.lemmas.List.Folds.{list_any-append}
-use Rattle.std.proofs.lemmas.Bool.{and_right}
+use Rattle.std.proofs.lemmas.Bool.{and_right, or_right}
 use Rattle.aoe_base.specs.declared.address.Mac.{Mac}
 use Rattle.aoe_base.specs.Addresses.{all_unique, holds, same_address}
 use Rattle.aoe_lists.specs.Reserves.{addresses}
@@ -14,10 +14,6 @@ take-first_chunks k zero xs h = refl
 take-first_chunks zero (suc count) xs h = absurd (omega arith)
 take-first_chunks (suc k) (suc count) xs h = ap (λ (l : List (List ℕ)). take 6 xs ∷ l) (take-first_chunks k count (drop 6 xs) (omega arith))
 
-or_true : (x : Bool) → (x || true) ≡ true
-or_true true = refl
-or_true false = refl
-
 -- an address that stands in a list and again behind it
 twice : (list : List Mac) (a : Mac) (rest : List Mac) → holds list a ≡ true → all_unique (list ++ a ∷ rest) ≡ false
 twice [] a rest e = cc
@@ -25,7 +21,7 @@ twice (x ∷ list) a rest e = at (same_address x a) refl e (λ h. twice list a r
   where
     at : (t : Bool) → same_address x a ≡ t → (t || holds list a) ≡ true → (holds list a ≡ true → all_unique (list ++ a ∷ rest) ≡ false) → (not (holds (list ++ a ∷ rest) x) && all_unique (list ++ a ∷ rest)) ≡ false
     at true same e later =
-        let again : holds (list ++ a ∷ rest) x ≡ true = list_any-append (λ b. same_address b x) list (a ∷ rest) ∙ ap (λ t. holds list x || (t || holds rest x)) (same_address-comm a x ∙ same) ∙ or_true (holds list x) in
+        let again : holds (list ++ a ∷ rest) x ≡ true = list_any-append (λ b. same_address b x) list (a ∷ rest) ∙ ap (λ t. holds list x || (t || holds rest x)) (same_address-comm a x ∙ same) ∙ or_right (holds list x) true refl in
         ap (λ t. not t && all_unique (list ++ a ∷ rest)) again
     at false same e later = and_right _ _ (later e)
 
