@@ -30,6 +30,7 @@ impl CommandCode {
     }
 
     /// The command with this code.
+    #[inline(always)]
     pub fn with_code(code: u8) -> Option<CommandCode>
         ensures { result ≡ command_with code }
     {
@@ -102,6 +103,7 @@ fn long_span_of(args: &AtaArgs) -> Span
 
 /// What the registers ask for. The code alone decides the direction and the width of the address;
 /// AFlags say nothing.
+#[inline(always)]
 pub fn classify(args: &AtaArgs) -> AtaCommand
     ensures { result ≡ command_of args.now }
 {

@@ -43,6 +43,7 @@ fn data_len(span: Span) -> usize
 
 /// Whether a command has at most `max` sectors, and a write its data among the `room` bytes behind
 /// the registers.
+#[inline(always)]
 fn takes(command: &AtaCommand, max: u8, room: usize) -> bool
     ensures { result ≡ is_taken max room command.now }
 {
@@ -63,6 +64,7 @@ fn is_within(span: Span, total: u64) -> bool
 }
 
 /// What a device of `total` sectors answers.
+#[inline(always)]
 fn answer(command: &AtaCommand, total: u64) -> AtaAnswer
     ensures { result ≡ answer_of total command.now }
 {
@@ -82,6 +84,7 @@ fn answer(command: &AtaCommand, total: u64) -> AtaAnswer
 /// bytes of a frame from byte 24 on. `BadArgument` is the error of bytes that aren't taken: too few
 /// for the registers, more sectors than `max`, or a write with less data than its sectors have.
 #[tactic(auto, unfolding(crate::specs::Decision::decision))]
+#[inline(always)]
 pub fn decide(total: u64, max: u8, bytes: &[u8]) -> Result<AtaDecision, AoeError>
     ensures decision { result ≡ decision total max bytes.now }
     ensures address { IfOk result (λ d. d.args.lba < 2 ^ 48) }

@@ -1,12 +1,13 @@
 //! The header of a frame (AoEr11, "Common AoE header").
 ghost use Rattle.aoe_frame.specs.declared.header.Header.{Header};
 ghost use Rattle.std.specs.Int.{w16, w32, to_be_bytes};
-ghost use Rattle.std.specs.Prelude.{List, ℕ, [], ◌∷◌, ◌≡◌, ◌+◌, ◌%◌, ◌^◌, ◌<◌, ◌≤◌, ◌++◌, All, drop, length, slice_index, slice_range, take};
+ghost use Rattle.std.specs.Prelude.{List, ℕ, [], ◌∷◌, ◌≡◌, ◌+◌, ◌%◌, ◌^◌, ◌<◌, ◌≤◌, ◌++◌, All, drop, length, is_some, slice_index, slice_range, take, true};
 ghost use Rattle.aoe_frame.specs.Header.{head, header_bytes, reply_header, Fits, IsFlags};
 
 use crate::Frame;
 use crate::frame::refill;
 use aoe_base::{Mac, TargetId};
+use std::marker::Model;
 
 /// The EtherType of AoE.
 pub const AOE_TYPE: [u8; 2] = [0x88, 0xa2];
@@ -47,7 +48,17 @@ pub struct Header {
     pub tag: u32,
 }
 
+/// Whether there are 24 bytes, and the type is that of AoE.
+#[inline(always)]
+fn has_header(bytes: &[u8]) -> bool
+    ensures there { result ≡ is_some (head bytes.now) }
+    ensures len { result ≡ true → 24 ≤ length bytes.now }
+{
+    bytes.len() >= HEADER_LEN && bytes[12] == AOE_TYPE[0] && bytes[13] == AOE_TYPE[1]
+}
+
 /// The `N` bytes from `at` on.
+#[inline(always)]
 fn array_at<const N: usize>(bytes: &[u8], at: usize) -> [u8; N]
     requires { at + N ≤ length bytes.now }
     ensures { result ≡ slice_range bytes.now at (at + N) }
@@ -63,7 +74,7 @@ fn array_at<const N: usize>(bytes: &[u8], at: usize) -> [u8; N]
 pub fn read_header(bytes: &[u8]) -> Option<Header>
     ensures { result ≡ head bytes.now }
 {
-    if bytes.len() < HEADER_LEN || bytes[12] != AOE_TYPE[0] || bytes[13] != AOE_TYPE[1] {
+    if !has_header(bytes) {
         return None;
     }
     Some(Header {
@@ -79,6 +90,98 @@ pub fn read_header(bytes: &[u8]) -> Option<Header>
         command: bytes[19],
         tag: u32::from_be_bytes(array_at::<4>(bytes, 20)),
     })
+}
+
+/// The header of a frame, read where it stands: a call reads the field that it gives, and no other.
+/// Contracts see it as the [`Header`] that [`read_header`] gives.
+#[derive(Drop)]
+pub struct HeaderView<'a> {
+    frame: &'a [u8],
+}
+
+impl<'a> Model for HeaderView<'a> {
+    ghost use Rattle.std.specs.Prelude.{◌≤◌, length};
+    ghost use Rattle.aoe_frame.specs.Header.{fields};
+    ghost use Rattle.aoe_frame.specs.declared.header.Header.{Header};
+
+    ghost Value = { Header };
+
+    ghost view = { λ v. fields v.frame.now };
+
+    ghost invariant = { λ v. 24 ≤ length v.frame.now };
+}
+
+impl<'a> HeaderView<'a> {
+    ghost use Rattle.std.specs.Prelude.{◌≡◌, ◌≤◌, IfSome, is_some, length};
+    ghost use Rattle.aoe_frame.specs.Header.{fields, head};
+
+    /// The header, or `None` where [`read_header`] gives none.
+    #[inline(always)]
+    pub fn of(frame: &'a [u8]) -> Option<HeaderView<'a>>
+        ensures there { is_some result ≡ is_some (head frame.now) }
+        ensures fields { IfSome result (λ view. view ≡ fields frame.now) }
+        ensures len { IfSome result (λ view. 24 ≤ length frame.now) }
+    {
+        if has_header(frame) {
+            Some(HeaderView { frame })
+        } else {
+            None
+        }
+    }
+
+    /// The destination.
+    #[inline(always)]
+    pub fn dst(&self) -> Mac
+        ensures { result ≡ self.now.dst }
+    {
+        Mac(array_at::<6>(self.frame, 0))
+    }
+
+    /// The source.
+    #[inline(always)]
+    pub fn src(&self) -> Mac
+        ensures { result ≡ self.now.src }
+    {
+        Mac(array_at::<6>(self.frame, 6))
+    }
+
+    #[inline(always)]
+    pub fn version(&self) -> u8
+        ensures { result ≡ self.now.version }
+    {
+        self.frame[14] / 16
+    }
+
+    #[inline(always)]
+    pub fn flags(&self) -> u8
+        ensures { result ≡ self.now.flags }
+    {
+        self.frame[14] & (RESPONSE_FLAG | ERROR_FLAG)
+    }
+
+    #[inline(always)]
+    pub fn id(&self) -> TargetId
+        ensures { result ≡ self.now.id }
+    {
+        TargetId {
+            major: u16::from_be_bytes(array_at::<2>(self.frame, 16)),
+            minor: self.frame[18],
+        }
+    }
+
+    #[inline(always)]
+    pub fn command(&self) -> u8
+        ensures { result ≡ self.now.command }
+    {
+        self.frame[19]
+    }
+
+    #[inline(always)]
+    pub fn tag(&self) -> u32
+        ensures { result ≡ self.now.tag }
+    {
+        u32::from_be_bytes(array_at::<4>(self.frame, 20))
+    }
 }
 
 /// Writes the fields of a header over a place of 24 bytes. The addresses come by reference, so that
@@ -140,7 +243,13 @@ fn put_header(header: &Header, out: &mut [u8])
 
 /// Writes the header of the reply that [`turn_round`] makes over a place of 24 bytes.
 #[inline(always)]
-pub fn put_turned(request: &Header, id: TargetId, port: &Mac, error: Option<u8>, out: &mut [u8])
+pub fn put_turned(
+    request: &HeaderView<'_>,
+    id: TargetId,
+    port: &Mac,
+    error: Option<u8>,
+    out: &mut [u8],
+)
     requires { length out.old ≡ 24 }
     ensures { out.new ≡ header_bytes (reply_header request.now id port.now error) }
 {
@@ -150,13 +259,13 @@ pub fn put_turned(request: &Header, id: TargetId, port: &Mac, error: Option<u8>,
         RESPONSE_FLAG
     };
     put_fields(
-        &request.src,
+        &request.src(),
         port,
         16 + flags,
         error.unwrap_or(0),
         id,
-        request.command,
-        request.tag,
+        request.command(),
+        request.tag(),
         out,
     );
 }

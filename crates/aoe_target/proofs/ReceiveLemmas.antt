@@ -1,8 +1,10 @@
 -- What a target does with a frame is a step of the law.
 use Rattle.std.proofs.Common.{◌≡◌, cond, ℕ, Bool, true, false, List, drop, refl, sym, ap, subst, ◌∙◌}
 use Rattle.std.specs.Prelude.{is_some, IfSome, Some}
+use Rattle.std.specs.Bool.{OnTrue}
 use Rattle.std.specs.Option.{option_map}
 use Rattle.aoe_disk.specs.State.{DiskState}
+use Rattle.aoe_disk.specs.Calls.{IsRun}
 use Rattle.aoe_keep.specs.Found.{Finds}
 use Rattle.aoe_frame.specs.Header.{head, fields}
 use Rattle.aoe_frame.specs.declared.header.Header.{Header}
@@ -25,6 +27,12 @@ use Rattle.aoe_target.specs.Receive.{fate_of, KeepsStep, Leaves}
 use Rattle.aoe_target.specs.Mounted.{Mounted}
 use Rattle.aoe_target.proofs.LawLemmas.{allows_less, both_ata, both_then}
 use Rattle.aoe_target.proofs.DeviceLemmas.{stepped}
+
+-- a store that is called once, or not at all, has as many sectors as before
+pub same_sectors : {S : Type 0} (state : S → DiskState) (calls failed : Bool) (old new : S) → OnTrue calls (IsRun 1 failed (state old) (state new)) → (calls ≡ false → new ≡ old)
+    → (state new).sectors ≡ (state old).sectors
+same_sectors state true failed old new run idle = run.sectors
+same_sectors state false failed old new run idle = ap (λ s. (state s).sectors) (idle refl)
 
 -- the verdict on a frame without a header, and on one with it
 pub unheard : (station : Station) (lists : Settings) (f : List ℕ) → false ≡ is_some (head f) → verdict station lists f ≡ Ignored

@@ -16,17 +16,24 @@ ghost use Rattle.aoe_target.specs.Law.{AllowsAta, Gives, AnswersSync, Verifies, 
 ghost use Rattle.aoe_target.specs.Receive.{Leaves, TurnsUnder, ata_calls, calls_for, is_fault};
 ghost use Rattle.aoe_target.specs.Mounted.{FitsStore};
 
-use crate::reply::{DATA_AT, put_front, reply_ata, reply_page};
+use crate::reply::{DATA_AT, put_front, reply_apart, reply_ata, reply_page};
 use crate::verdict::args_of;
 use crate::{Effect, Station};
 use aoe_ata::{AtaAnswer, AtaArgs, AtaDecision, AtaOutcome, put_data};
 use aoe_base::{Failed, SECTOR_LEN, Span};
-use aoe_frame::{Frame, Header, pad, stretch};
+use aoe_frame::{Frame, HeaderView, pad, stretch};
 use aoe_store::Store;
 
 /// Makes `out` the header and the registers of a reply with sectors, and room for these. The room
 /// keeps what stood there.
-fn begin_data(station: &Station, header: &Header, args: &AtaArgs, count: u32, out: &mut Frame)
+#[inline(always)]
+fn begin_data(
+    station: &Station,
+    header: &HeaderView<'_>,
+    args: &AtaArgs,
+    count: u32,
+    out: &mut Frame,
+)
     requires { count ≤ 17 }
     ensures front { take 36 out.new.items
         ≡ reply_head station.now header.now None ++ args_bytes (reply_of args.now AtaOutcome.Done) }
@@ -50,10 +57,11 @@ fn read_into<S: Store>(store: &mut S, span: Span, out: &mut Frame) -> Result<(),
 }
 
 /// Reads sectors into the reply.
+#[inline(always)]
 fn give<S: Store>(
     store: &mut S,
     station: &Station,
-    header: &Header,
+    header: &HeaderView<'_>,
     args: &AtaArgs,
     span: Span,
     out: &mut Frame,
@@ -74,17 +82,18 @@ fn give<S: Store>(
             Effect::None
         }
         Err(Failed) => {
-            reply_ata(station, header, args, AtaOutcome::Uncorrectable, out);
+            reply_apart(station, header, *args, AtaOutcome::Uncorrectable, out);
             Effect::ReadFault
         }
     }
 }
 
 /// Reads sectors, and replies without them. The frame serves as the place to read them into.
+#[inline(never)]
 fn verify<S: Store>(
     store: &mut S,
     station: &Station,
-    header: &Header,
+    header: &HeaderView<'_>,
     args: &AtaArgs,
     span: Span,
     out: &mut Frame,
@@ -100,21 +109,22 @@ fn verify<S: Store>(
     begin_data(station, header, args, span.count, out);
     match read_into(store, span, out) {
         Ok(()) => {
-            reply_ata(station, header, args, AtaOutcome::Done, out);
+            reply_apart(station, header, *args, AtaOutcome::Done, out);
             Effect::None
         }
         Err(Failed) => {
-            reply_ata(station, header, args, AtaOutcome::Uncorrectable, out);
+            reply_apart(station, header, *args, AtaOutcome::Uncorrectable, out);
             Effect::ReadFault
         }
     }
 }
 
 /// Writes the data of a frame.
+#[inline(always)]
 fn put<S: Store>(
     store: &mut S,
     station: &Station,
-    header: &Header,
+    header: &HeaderView<'_>,
     frame: &[u8],
     args: &AtaArgs,
     span: Span,
@@ -137,17 +147,18 @@ fn put<S: Store>(
             Effect::Wrote(span)
         }
         Err(Failed) => {
-            reply_ata(station, header, args, AtaOutcome::Aborted, out);
+            reply_apart(station, header, *args, AtaOutcome::Aborted, out);
             Effect::WriteFault(span)
         }
     }
 }
 
 /// Syncs the store.
+#[inline(never)]
 fn sync<S: Store>(
     store: &mut S,
     station: &Station,
-    header: &Header,
+    header: &HeaderView<'_>,
     frame: &[u8],
     args: &AtaArgs,
     out: &mut Frame,
@@ -161,21 +172,22 @@ fn sync<S: Store>(
 {
     match store.sync() {
         Ok(()) => {
-            reply_ata(station, header, args, AtaOutcome::Done, out);
+            reply_apart(station, header, *args, AtaOutcome::Done, out);
             Effect::Synced
         }
         Err(Failed) => {
-            reply_ata(station, header, args, AtaOutcome::Aborted, out);
+            reply_apart(station, header, *args, AtaOutcome::Aborted, out);
             Effect::SyncFault
         }
     }
 }
 
 /// Does what is decided on an ATA command, and makes `out` its reply.
+#[inline(always)]
 pub(crate) fn serve<S: Store>(
     store: &mut S,
     station: &Station,
-    header: &Header,
+    header: &HeaderView<'_>,
     frame: &[u8],
     decision: AtaDecision,
     out: &mut Frame,
@@ -198,19 +210,19 @@ pub(crate) fn serve<S: Store>(
     let args = &decision.args;
     match decision.answer {
         AtaAnswer::Abort => {
-            reply_ata(station, header, args, AtaOutcome::Aborted, out);
+            reply_apart(station, header, *args, AtaOutcome::Aborted, out);
             Effect::None
         }
         AtaAnswer::NotFound => {
-            reply_ata(station, header, args, AtaOutcome::NotFound, out);
+            reply_apart(station, header, *args, AtaOutcome::NotFound, out);
             Effect::None
         }
         AtaAnswer::Page => {
-            reply_page(station, header, args, out);
+            reply_page(station, header, *args, out);
             Effect::None
         }
         AtaAnswer::Mode => {
-            reply_ata(station, header, args, AtaOutcome::Active, out);
+            reply_apart(station, header, *args, AtaOutcome::Active, out);
             Effect::None
         }
         AtaAnswer::Give(span) => give(store, station, header, args, span, out),

@@ -13,7 +13,7 @@ use aoe_ata::{
     ARGS_LEN, AtaArgs, AtaOutcome, args_array, identify_page, reply_args, serial_number,
 };
 use aoe_base::AoeError;
-use aoe_frame::{Frame, HEADER_LEN, Header, MIN_FRAME, put_turned, stretch};
+use aoe_frame::{Frame, HEADER_LEN, HeaderView, MIN_FRAME, put_turned, stretch};
 
 /// Where the data of a reply stand.
 pub(crate) const DATA_AT: usize = HEADER_LEN + ARGS_LEN;
@@ -23,7 +23,7 @@ const MAX_SHORT: usize = MIN_FRAME - HEADER_LEN;
 
 /// Writes the header of a reply over a place of 24 bytes.
 #[inline(always)]
-fn put_head(station: &Station, header: &Header, error: Option<AoeError>, out: &mut [u8])
+fn put_head(station: &Station, header: &HeaderView<'_>, error: Option<AoeError>, out: &mut [u8])
     requires { length out.old ≡ 24 }
     ensures { out.new ≡ reply_head station.now header.now error }
 {
@@ -31,14 +31,14 @@ fn put_head(station: &Station, header: &Header, error: Option<AoeError>, out: &m
         Some(error) => Some(error.code()),
         None => None,
     };
-    put_turned(header, station.id, station.reply_port(header), code, out);
+    put_turned(header, station.id, &station.reply_port(header), code, out);
 }
 
 /// Writes a reply of the least length over a place of as many bytes.
 #[inline(always)]
 fn put_short(
     station: &Station,
-    header: &Header,
+    header: &HeaderView<'_>,
     error: Option<AoeError>,
     args: &[u8],
     out: &mut [u8],
@@ -55,9 +55,10 @@ fn put_short(
 }
 
 /// Writes a reply that needs no padding over a place that it fills.
+#[inline(never)]
 fn put_long(
     station: &Station,
-    header: &Header,
+    header: &HeaderView<'_>,
     error: Option<AoeError>,
     args: &[u8],
     out: &mut [u8],
@@ -76,7 +77,7 @@ fn put_long(
 #[tactic(auto, unfolding(crate::specs::Reply::spelled))]
 pub(crate) fn reply(
     station: &Station,
-    header: &Header,
+    header: &HeaderView<'_>,
     error: Option<AoeError>,
     args: &[u8],
     out: &mut Frame,
@@ -103,9 +104,11 @@ fn repeated(frame: &[u8]) -> &[u8]
 }
 
 /// Makes `out` the reply that bears an error and repeats the arguments of the request.
+#[cold]
+#[inline(never)]
 pub(crate) fn refuse(
     station: &Station,
-    header: &Header,
+    header: &HeaderView<'_>,
     frame: &[u8],
     error: AoeError,
     out: &mut Frame,
@@ -120,7 +123,7 @@ pub(crate) fn refuse(
 /// request, but for the error that tells the config string.
 pub(crate) fn reply_step(
     station: &Station,
-    header: &Header,
+    header: &HeaderView<'_>,
     frame: &[u8],
     error: Option<AoeError>,
     args: &[u8],
@@ -141,7 +144,7 @@ pub(crate) fn reply_step(
 #[inline(always)]
 pub(crate) fn put_front(
     station: &Station,
-    header: &Header,
+    header: &HeaderView<'_>,
     args: &AtaArgs,
     outcome: AtaOutcome,
     out: &mut [u8],
@@ -157,9 +160,10 @@ pub(crate) fn put_front(
 }
 
 /// Makes `out` the reply to an ATA command that has no data.
+#[inline(always)]
 pub(crate) fn reply_ata(
     station: &Station,
-    header: &Header,
+    header: &HeaderView<'_>,
     args: &AtaArgs,
     outcome: AtaOutcome,
     out: &mut Frame,
@@ -170,16 +174,32 @@ pub(crate) fn reply_ata(
     reply(station, header, None, &registers, out);
 }
 
+/// The same in a function of its own, for what comes less often.
+#[inline(never)]
+pub(crate) fn reply_apart(
+    station: &Station,
+    header: &HeaderView<'_>,
+    args: AtaArgs,
+    outcome: AtaOutcome,
+    out: &mut Frame,
+)
+    ensures { out.new.items ≡ ata_reply station.now header.now args outcome }
+{
+    reply_ata(station, header, &args, outcome, out);
+}
+
 /// Makes `out` the reply with the identify page.
+#[cold]
+#[inline(never)]
 #[tactic(auto, unfolding(crate::specs::Reply::spelled))]
-pub(crate) fn reply_page(station: &Station, header: &Header, args: &AtaArgs, out: &mut Frame)
+pub(crate) fn reply_page(station: &Station, header: &HeaderView<'_>, args: AtaArgs, out: &mut Frame)
     requires { station.now.sectors ≤ 2 ^ 40 }
-    ensures { out.new.items ≡ data_reply station.now header.now args.now (identity station.now) }
+    ensures { out.new.items ≡ data_reply station.now header.now args (identity station.now) }
 {
     let mut page = [0; 512];
     identify_page(station.sectors, &serial_number(station.id), &mut page);
     let mut told = [0; ARGS_LEN + 512];
-    told[..ARGS_LEN].copy_from_slice(&args_array(&reply_args(args, AtaOutcome::Done)));
+    told[..ARGS_LEN].copy_from_slice(&args_array(&reply_args(&args, AtaOutcome::Done)));
     told[ARGS_LEN..].copy_from_slice(&page);
     reply(station, header, None, &told, out);
 }

@@ -5,7 +5,7 @@ ghost use Rattle.aoe_target.specs.Verdict.{is_heard, facts};
 ghost use Rattle.aoe_target.specs.Reply.{reply_port};
 
 use aoe_base::{BROADCAST, Mac, Ports, TargetId};
-use aoe_frame::{Header, RESPONSE_FLAG};
+use aoe_frame::{HeaderView, RESPONSE_FLAG};
 use aoe_lists::Facts;
 
 /// The major that stands for every shelf (AoEr11, "Major").
@@ -36,39 +36,53 @@ pub struct Station {
     pub sectors: u64,
 }
 
+/// Whether an address is one of several ports.
+#[inline(never)]
+fn is_among(ports: &[Mac], address: Mac) -> bool
+    ensures { result ≡ holds ports.now address }
+{
+    ports.contains(&address)
+}
+
 impl Station {
     /// Whether an address is a port of the shelf. Most shelves have one, with which one comparison does.
-    fn has_port(&self, address: &Mac) -> bool
-        ensures { result ≡ holds self.now.ports.items address.now }
+    #[inline(always)]
+    fn has_port(&self, address: Mac) -> bool
+        ensures { result ≡ holds self.now.ports.items address }
     {
         match self.ports.as_slice() {
-            [port] => port == address,
-            ports => ports.contains(address),
+            [port] => *port == address,
+            ports => is_among(ports, address),
         }
     }
 
     /// Whether a request is for the target: it went to a port of the shelf or to all stations, is no
     /// response, and names the target, its shelf or its slot with every other, or all targets.
-    pub(crate) fn hears(&self, header: &Header) -> bool
+    #[inline(always)]
+    pub(crate) fn hears(&self, header: &HeaderView<'_>) -> bool
         ensures { result ≡ is_heard self.now header.now }
     {
-        (self.has_port(&header.dst) || header.dst == BROADCAST)
-            && header.flags < RESPONSE_FLAG
-            && (header.id.major == self.id.major || header.id.major == ANY_SHELF)
-            && (header.id.minor == self.id.minor || header.id.minor == ANY_SLOT)
+        let dst = header.dst();
+        let id = header.id();
+        (self.has_port(dst) || dst == BROADCAST)
+            && header.flags() < RESPONSE_FLAG
+            && (id.major == self.id.major || id.major == ANY_SHELF)
+            && (id.minor == self.id.minor || id.minor == ANY_SLOT)
     }
 
     /// The port that a reply comes from: the one that the request went to, and the first where it
     /// went to all stations.
-    pub(crate) fn reply_port<'a>(&'a self, header: &'a Header) -> &'a Mac
-        ensures { result.now ≡ reply_port self.now header.now }
+    #[inline(always)]
+    pub(crate) fn reply_port(&self, header: &HeaderView<'_>) -> Mac
+        ensures { result ≡ reply_port self.now header.now }
     {
-        if self.has_port(&header.dst) {
-            return &header.dst;
+        let dst = header.dst();
+        if self.has_port(dst) {
+            return dst;
         }
         match self.ports.first() {
-            Some(port) => port,
-            None => &header.dst,
+            Some(port) => *port,
+            None => dst,
         }
     }
 

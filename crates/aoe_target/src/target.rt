@@ -1,7 +1,11 @@
 //! A target: what it is told and what becomes of each frame.
-ghost use Rattle.std.specs.Prelude.{◌≡◌, ◌≢◌, ◌≤◌, [], true, false, length};
+ghost use Rattle.std.specs.Prelude.{◌≡◌, ◌≢◌, ◌≤◌, [], true, false, is_err, length, OnErr, OnOk};
 ghost use Rattle.std.specs.Bool.{OnTrue};
 ghost use Rattle.aoe_base.specs.Faults.{Rose};
+ghost use Rattle.aoe_disk.specs.Calls.{IsRun};
+ghost use Rattle.aoe_keep.specs.Calls.{ReplacesBy};
+ghost use Rattle.aoe_keep.specs.Found.{AlwaysFinds, FindsOffered};
+ghost use Rattle.aoe_keep.specs.Keep.{KeepsOthers};
 ghost use Rattle.aoe_frame.specs.Header.{fields};
 ghost use Rattle.aoe_target.specs.Law.{AllowsStep, step_of};
 ghost use Rattle.aoe_target.specs.Receive.{fate_of, is_change, is_faulty, is_unkept, KeepsStep, Replaces};
@@ -13,7 +17,7 @@ use crate::verdict::{args_of, header_of, judge, step};
 use crate::{Effect, Heard, ListCommand, Station, Verdict};
 use aoe_base::{AoeError, Failed, Ports, TargetId};
 use aoe_disk::{Arm, Armed, Disk};
-use aoe_frame::{Frame, Header};
+use aoe_frame::{Frame, HeaderView};
 use aoe_keep::Keep;
 use aoe_lists::{Answer, Lists};
 use aoe_store::{ArmedStore, Store};
@@ -42,11 +46,28 @@ impl<S: Store, D: Disk> Model for Target<S, D> {
     ghost invariant = { λ t. FitsStore t.station (S.state t.store) };
 }
 
+/// Makes `next` the lists of the keep. It stands apart, so that other requests don't make room for
+/// its pages.
+#[cold]
+#[inline(never)]
+fn replace<D: Disk>(keep: &mut Keep<D>, next: &Lists) -> Result<(), Failed>
+    ensures lists { OnOk result (keep.new.lists ≡ next.now) }
+    ensures finds { OnOk result (AlwaysFinds (D.state keep.new.disk) next.now) }
+    ensures stays { OnErr result (keep.new.lists ≡ keep.old.lists) }
+    ensures offered { OnErr result (FindsOffered (D.state keep.old.disk) (D.state keep.new.disk) keep.old.lists next.now) }
+    ensures others { KeepsOthers (D.state keep.old.disk) (D.state keep.new.disk) }
+    ensures run { IsRun 6 (is_err result) (D.state keep.old.disk) (D.state keep.new.disk) }
+    ensures calls { ReplacesBy D.state next.now (is_err result) keep.old keep.new }
+{
+    keep.replace(next)
+}
+
 /// Does what a request comes to that reads or changes the lists.
+#[inline(always)]
 fn tell<D: Disk>(
     station: &Station,
     keep: &mut Keep<D>,
-    header: &Header,
+    header: &HeaderView<'_>,
     frame: &[u8],
     command: ListCommand,
     scratch: &mut Scratch,
@@ -69,7 +90,7 @@ fn tell<D: Disk>(
     let answer = step(
         station,
         keep.lists(),
-        header.src,
+        header.src(),
         args_of(frame),
         command,
         scratch,
@@ -86,7 +107,7 @@ fn tell<D: Disk>(
                 effect: Effect::None,
             }
         }
-        Answer::Change => match keep.replace(&scratch.next) {
+        Answer::Change => match replace(keep, &scratch.next) {
             Ok(()) => {
                 reply(station, header, None, args, out);
                 Heard::Replied {
@@ -163,6 +184,7 @@ impl<S: Store, D: Disk> Target<S, D> {
     /// 7. The answer of the lists, or of the registers; or the store is called, once, or the lists of
     ///    the keep are replaced. A read that fails is answered by UNC, a write or a sync that fails by
     ///    ABRT, and lists that can't be kept by the error "device unavailable".
+    #[inline(never)]
     pub fn receive(&mut self, frame: &[u8], out: &mut Frame) -> Heard
         ensures step { (k : State) → Holds (device_of S.state D.state self.old) k
             → IsStep self.old.station k frame.now (fate_of result out.new.items) (device_of S.state D.state self.new) }

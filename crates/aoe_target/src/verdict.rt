@@ -9,7 +9,7 @@ use crate::Station;
 use crate::scratch::Scratch;
 use aoe_ata::{AtaDecision, decide};
 use aoe_base::{AoeError, Mac};
-use aoe_frame::{HEADER_LEN, Header, read_header};
+use aoe_frame::{HEADER_LEN, HeaderView};
 use aoe_lists::{Answer, Lists, admits, config_step, mask_step, may_use, reserve_step};
 
 /// The command "ATA" (AoEr11, "Command").
@@ -55,15 +55,17 @@ pub enum Verdict {
 }
 
 /// The header of a frame, where it has one.
-pub(crate) fn header_of(frame: &[u8]) -> Option<Header>
+#[inline(always)]
+pub(crate) fn header_of(frame: &[u8]) -> Option<HeaderView<'_>>
     ensures there { is_some result ≡ is_some (head frame.now) }
     ensures fields { IfSome result (λ h. h ≡ fields frame.now) }
     ensures len { IfSome result (λ h. 24 ≤ length frame.now) }
 {
-    read_header(frame)
+    HeaderView::of(frame)
 }
 
 /// The bytes behind the header of a frame.
+#[inline(always)]
 pub(crate) fn args_of(frame: &[u8]) -> &[u8]
     requires { 24 ≤ length frame.now }
     ensures { result.now ≡ drop 24 frame.now }
@@ -72,6 +74,7 @@ pub(crate) fn args_of(frame: &[u8]) -> &[u8]
 }
 
 /// What a target does with an ATA command of a station.
+#[inline(always)]
 fn judge_ata(station: &Station, lists: &Lists, source: Mac, args: &[u8]) -> Verdict
     ensures verdict { result ≡ ata_verdict station.now lists.now source args.now }
     ensures can_act { CanAct station.now args.now result }
@@ -86,21 +89,27 @@ fn judge_ata(station: &Station, lists: &Lists, source: Mac, args: &[u8]) -> Verd
 }
 
 /// What a target does with a frame that has this header and these bytes behind it.
-pub(crate) fn judge(station: &Station, lists: &Lists, header: &Header, args: &[u8]) -> Verdict
+#[inline(always)]
+pub(crate) fn judge(
+    station: &Station,
+    lists: &Lists,
+    header: &HeaderView<'_>,
+    args: &[u8],
+) -> Verdict
     ensures verdict { result ≡ judged station.now lists.now header.now args.now }
     ensures can_act { CanAct station.now args.now result }
 {
     if !station.hears(header) {
         return Verdict::Ignored;
     }
-    if !admits(lists, header.src) {
+    if !admits(lists, header.src()) {
         return Verdict::Silent;
     }
-    if header.version != AOE_VERSION {
+    if header.version() != AOE_VERSION {
         return Verdict::Refused(AoeError::UnsupportedVersion);
     }
-    match header.command {
-        ATA => judge_ata(station, lists, header.src, args),
+    match header.command() {
+        ATA => judge_ata(station, lists, header.src(), args),
         QUERY_CONFIG => Verdict::Lists(ListCommand::Config),
         MASK_LIST => Verdict::Lists(ListCommand::Masks),
         RESERVE_RELEASE => Verdict::Lists(ListCommand::Reserves),
@@ -110,6 +119,7 @@ pub(crate) fn judge(station: &Station, lists: &Lists, header: &Header, args: &[u
 
 /// What a request comes to that reads or changes the lists. The arguments of its reply and the lists
 /// that it makes stand in `scratch`.
+#[inline(always)]
 pub(crate) fn step(
     station: &Station,
     lists: &Lists,

@@ -1,15 +1,15 @@
-use Rattle.std.proofs.Common.{◌≡◌, false, refl, subst}
+use Rattle.std.proofs.Common.{◌≡◌, ◌∙◌, false, refl, subst, sym}
 use Rattle.std.specs.Bool.{OnTrue}
 use Rattle.aoe_disk.specs.Calls.{IsRun, Logs}
 use Rattle.aoe_disk.proofs.Runs.{logs_none}
 use Rattle.aoe_target.specs.Device.{State, Holds}
 use Rattle.aoe_target.specs.Law.{ignored, silent, replied, IsStep}
-use Rattle.aoe_target.specs.Receive.{calls_store, store_calls, edits, fate_of, is_edit_fault, is_fault, is_faulty, is_unkept, MovesUnder, Replaces}
+use Rattle.aoe_target.specs.Receive.{calls_for, calls_store, store_calls, edits, fate_of, is_edit_fault, is_fault, is_faulty, is_unkept, MovesUnder, Replaces}
 use Rattle.aoe_target.specs.Mounted.{Mounted, device_of}
 use Rattle.aoe_target.specs.declared.heard.Effect.TheVariants as effect
 use Rattle.aoe_target.specs.declared.verdict.Verdict.{Verdict}
 use Rattle.aoe_target.specs.declared.verdict.Verdict.TheVariants.{Ignored, Silent, Refused, Lists, Ata}
-use Rattle.aoe_target.proofs.ReceiveLemmas.{unheard, judged_is, by_verdict, ignored_step, silent_step, refused_step, lists_step, ata_step}
+use Rattle.aoe_target.proofs.ReceiveLemmas.{same_sectors, unheard, judged_is, by_verdict, ignored_step, silent_step, refused_step, lists_step, ata_step}
 use Rattle.aoe_target.proofs.target.Target.receive.Goals as goal
 
 pub returns-in_default-clause-step : goal.returns-in_default-clause-step
@@ -203,3 +203,8 @@ returns-in-Ata-clause-under g c =
     let v = judged_is c.self.inside.station c.self.inside.keep.lists c.lists.result.now c.args.frame.now c.in-Some.header c.args_of.result.now (Ata c.in-Ata.decision) c.in-Some.ensures.there c.in-Some.ensures.fields c.args_of.ensures c.lists.ensures c.in-Ata.ensures.verdict in
     let Q : Mounted _ _ → Verdict → Type 0 = λ t w. MovesUnder w (is_fault c.serve-effect.result) (g.S.Store.state t.store).contents (g.S.Store.under t.store) (g.S.Store.under c.serve-effect.new.store) in
     by_verdict _ _ c.args.frame.now (Ata c.in-Ata.decision) Q c.self.view_is v c.serve-effect.ensures.under
+
+pub invariant_of-self-in-Ata : goal.invariant_of-self-in-Ata
+invariant_of-self-in-Ata g c =
+    let same = same_sectors g.S.Store.state (calls_for c.in-Ata.decision.answer) (is_fault c.serve-effect.result) c.self.inside.store c.serve-effect.new.store c.serve-effect.ensures.call c.serve-effect.ensures.idle in
+    record { size = c.self.invariant.size ∙ sym same; bound = c.self.invariant.bound; room = c.self.invariant.room }
