@@ -1,5 +1,5 @@
 //! A file or a block device as a disk. It tells nothing of its content.
-ghost use Rattle.std.specs.Prelude.{◌≡◌, ◌≤◌, ◌^◌, IfOk, IsErr, IsTrue, None, OnErr, is_ok, length};
+ghost use Rattle.std.specs.Prelude.{◌≡◌, ◌<◌, ◌≤◌, ◌+◌, ◌^◌, IfOk, IsErr, IsTrue, None, OnErr, is_ok, length};
 ghost use Rattle.aoe_base.specs.Faults.{Rose};
 ghost use Rattle.aoe_disk.specs.Calls.{IsRange};
 ghost use Rattle.aoe_disk.specs.State.{DiskState};
@@ -8,7 +8,7 @@ use aoe_base::{Failed, SECTOR_LEN};
 use aoe_disk::Disk;
 use std::fs::{File, OpenFile, OpenOptions, TryLockError};
 use std::io;
-use std::io::{Seek, SeekFrom};
+use std::io::{ErrorKind, Seek, SeekFrom};
 use std::os::unix::fs::{FileExt, FileTypeExt};
 use std::rt::Files;
 
@@ -80,6 +80,8 @@ impl FileDisk {
     }
 
     /// Counts a failed call.
+    #[cold]
+    #[inline(never)]
     fn fail(&mut self) -> Failed
         ensures cause { Rose self.old.faults self.new.faults }
         ensures count { self.old.faults ≤ self.new.faults }
@@ -103,6 +105,41 @@ impl FileDisk {
             Err(_) => Err(self.fail()),
         }
     }
+
+    /// Reads what a call left, of which the front `done` bytes were read. It stands apart, so that
+    /// `read` makes no room for the answer of std's loop.
+    #[cold]
+    #[inline(never)]
+    fn read_on(&mut self, offset: u64, done: usize, out: &mut [u8]) -> Result<(), Failed>
+        requires done { done ≤ length out.old }
+        requires end { offset + length out.old < 2 ^ 64 }
+        ensures cause { OnErr result (Rose self.old.faults self.new.faults) }
+        ensures count { self.old.faults ≤ self.new.faults }
+        ensures sectors { self.new.sectors ≡ self.old.sectors }
+        ensures lost { self.new.is_lost ≡ self.old.is_lost }
+        ensures len { length out.new ≡ length out.old }
+    {
+        let answer = self
+            .file
+            .read_exact_at(&mut out[done..], offset + done as u64);
+        self.told(answer)
+    }
+
+    /// Writes what a call left, of which the front `done` bytes were written. It stands apart as
+    /// `read_on` does.
+    #[cold]
+    #[inline(never)]
+    fn write_on(&mut self, offset: u64, done: usize, piece: &[u8]) -> Result<(), Failed>
+        requires done { done ≤ length piece.now }
+        requires end { offset + length piece.now < 2 ^ 64 }
+        ensures cause { OnErr result (Rose self.old.faults self.new.faults) }
+        ensures count { self.old.faults ≤ self.new.faults }
+        ensures sectors { self.new.sectors ≡ self.old.sectors }
+        ensures lost { self.new.is_lost ≡ self.old.is_lost }
+    {
+        let answer = self.file.write_all_at(&piece[done..], offset + done as u64);
+        self.told(answer)
+    }
 }
 
 impl Disk for FileDisk {
@@ -123,8 +160,13 @@ impl Disk for FileDisk {
         if self.is_lost {
             return Err(self.fail());
         }
-        let answer = self.file.read_exact_at(out, at * SECTOR_LEN as u64);
-        self.told(answer)
+        let offset = at * SECTOR_LEN as u64;
+        match self.file.read_at(out, offset) {
+            Ok(n) if n == out.len() => Ok(()),
+            Ok(n) => self.read_on(offset, n, out),
+            Err(error) if error.kind() == ErrorKind::Interrupted => self.read_on(offset, 0, out),
+            Err(_) => Err(self.fail()),
+        }
     }
 
     fn write(&mut self, at: u64, piece: &[u8]) -> Result<(), Failed>
@@ -138,8 +180,13 @@ impl Disk for FileDisk {
         if self.is_lost {
             return Err(self.fail());
         }
-        let answer = self.file.write_all_at(piece, at * SECTOR_LEN as u64);
-        self.told(answer)
+        let offset = at * SECTOR_LEN as u64;
+        match self.file.write_at(piece, offset) {
+            Ok(n) if n == piece.len() => Ok(()),
+            Ok(n) => self.write_on(offset, n, piece),
+            Err(error) if error.kind() == ErrorKind::Interrupted => self.write_on(offset, 0, piece),
+            Err(_) => Err(self.fail()),
+        }
     }
 
     fn sync(&mut self) -> Result<(), Failed>

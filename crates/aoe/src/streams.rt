@@ -1,5 +1,5 @@
 //! A reader as a source, and a writer as a sink. They tell nothing of what they give and take.
-ghost use Rattle.std.specs.Prelude.{◌≡◌, ◌≢◌, ◌≤◌, ◌+◌, IfErr, IfOk, None, OnErr, OnOk, length};
+ghost use Rattle.std.specs.Prelude.{◌≡◌, ◌≢◌, ◌<◌, ◌≤◌, ◌+◌, IfErr, IfOk, None, OnErr, OnOk, length};
 ghost use Rattle.std.specs.Io.{ReadsAtMost, WritesAtMost};
 ghost use Rattle.std.specs.IoError.{error_kind};
 ghost use Rattle.aoe_base.specs.Faults.{Rose};
@@ -106,6 +106,28 @@ impl<W: Write> Output<W> {
     {
         Output { writer, faults: 0 }
     }
+
+    /// Writes once more where a signal interrupted the call, and else counts its fault. It stands apart,
+    /// so that `write` is inlined.
+    #[cold]
+    #[inline(never)]
+    fn write_on(&mut self, piece: &[u8], is_interrupted: bool) -> Result<usize, Failed>
+        ensures some { IfOk result (λ n. 0 < n) }
+        ensures within { IfOk result (λ n. n ≤ length piece.now) }
+        ensures count { self.old.faults ≤ self.new.faults }
+        ensures cause { OnErr result (Rose self.old.faults self.new.faults) }
+        ensures no_fault { OnOk result (self.new.faults ≡ self.old.faults) }
+        ensures one_fault { self.new.faults ≤ self.old.faults + 1 }
+    {
+        if is_interrupted
+            && let Ok(n) = write_through(&mut self.writer, piece)
+            && n > 0
+        {
+            return Ok(n);
+        }
+        self.faults = self.faults.saturating_add(1);
+        Err(Failed)
+    }
 }
 
 impl<W: Write> Sink for Output<W> {
@@ -113,13 +135,12 @@ impl<W: Write> Sink for Output<W> {
 
     ghost faults = { λ s. s.faults };
 
+    #[inline(always)]
     fn write(&mut self, piece: &[u8]) -> Result<usize, Failed> {
-        match write_through(&mut self.writer, piece) {
+        match self.writer.write(piece) {
             Ok(n) if n > 0 => Ok(n),
-            _ => {
-                self.faults = self.faults.saturating_add(1);
-                Err(Failed)
-            }
+            Ok(_) => self.write_on(piece, false),
+            Err(error) => self.write_on(piece, error.kind() == ErrorKind::Interrupted),
         }
     }
 }
