@@ -8,7 +8,7 @@ use Rattle.std.proofs.Math.Seq.{take-add}
 use Rattle.std.proofs.lemmas.Nat.{and_block, div-mul-add, from_be_bytes-to_be_bytes_2, from_be_bytes-to_be_bytes_4, be_bytes_2, be_bytes_4}
 use Rattle.aoe_frame.specs.declared.header.Header.{Header}
 use Rattle.aoe_base.proofs.MacLemmas.{six-is}
-use Rattle.aoe_frame.proofs.PieceLemmas.{two-at, four-at, part-small}
+use Rattle.aoe_frame.proofs.PieceLemmas.{two-at, four-at, each-small, part-small}
 use Rattle.aoe_frame.specs.Header.{Fits, IsFlags, fields, head, header_bytes}
 
 -- a flag comes back from the byte that it shares with the version
@@ -58,6 +58,10 @@ head-header_bytes h rest fits =
 
 pub head-spelled : (h : Header) (f : List ℕ) → f ≡ header_bytes h → Fits h → head f ≡ Some h
 head-spelled h f e fits = let P : List ℕ → Type 0 = λ g. head g ≡ Some h in subst P (append-nil (header_bytes h) ∙ sym e) (head-header_bytes h [] fits)
+
+-- four bytes come back from the number that they spell
+pub bytes_of_number : (bytes : List ℕ) (n : ℕ) → length bytes ≡ 4 → All (λ b. b < 2 ^ 8) bytes → n ≡ from_be_bytes w32 bytes → bytes ≡ to_be_bytes w32 n
+bytes_of_number bytes n size small n_is = sym (be_bytes_4 bytes n size (each-small bytes small) n_is)
 
 -- what a frame that is read as a header has
 record Read (h : Header) (f : List ℕ) : Type 0 where

@@ -40,11 +40,13 @@ four-at f k inside =
     let second : suc (suc k) < length f = omega arith in
     rw (drop-cons f k 0 zeroth, drop-cons f (suc k) 0 first, drop-cons f (suc (suc k)) 0 second, drop-cons f (suc (suc (suc k))) 0 inside) refl
 
+-- each element is a byte where all are
+pub each-small : (f : List ℕ) → All (λ b. b < 2 ^ 8) f → (i : ℕ) → get_or f i 0 < 256
+each-small f small i = elim (cases_lt i (length f)) [
+  | inl inside ↦ All-get_or (λ b. b < 2 ^ 8) f i 0 inside small
+  | inr past ↦ rw (get_or_past f i 0 past) (omega arith)
+]
+
 -- each element of a part of a list is a byte where all of the list are
 pub part-small : (f : List ℕ) (n k : ℕ) → All (λ b. b < 2 ^ 8) f → (i : ℕ) → get_or (take n (drop k f)) i 0 < 256
-part-small f n k small i =
-    let part : List ℕ = take n (drop k f) in
-    elim (cases_lt i (length part)) [
-      | inl inside ↦ All-get_or (λ b. b < 2 ^ 8) part i 0 inside (All-take (λ b. b < 2 ^ 8) n (drop k f) (All-drop (λ b. b < 2 ^ 8) k f small))
-      | inr past ↦ rw (get_or_past part i 0 past) (omega arith)
-    ]
+part-small f n k small i = each-small (take n (drop k f)) (All-take (λ b. b < 2 ^ 8) n (drop k f) (All-drop (λ b. b < 2 ^ 8) k f small)) i

@@ -113,6 +113,7 @@ impl<'a> Model for HeaderView<'a> {
 
 impl<'a> HeaderView<'a> {
     ghost use Rattle.std.specs.Prelude.{◌≡◌, ◌≤◌, IfSome, is_some, length};
+    ghost use Rattle.std.specs.Int.{w32, to_be_bytes};
     ghost use Rattle.aoe_frame.specs.Header.{fields, head};
 
     /// The header, or `None` where [`read_header`] gives none.
@@ -176,11 +177,13 @@ impl<'a> HeaderView<'a> {
         self.frame[19]
     }
 
+    /// The bytes of the tag.
     #[inline(always)]
-    pub fn tag(&self) -> u32
-        ensures { result ≡ self.now.tag }
+    #[tactic(auto, using(crate::proofs::HeaderLemmas::bytes_of_number))]
+    fn tag(&self) -> [u8; 4]
+        ensures { result ≡ to_be_bytes w32 self.now.tag }
     {
-        u32::from_be_bytes(array_at::<4>(self.frame, 20))
+        array_at::<4>(self.frame, 20)
     }
 }
 
@@ -194,12 +197,12 @@ fn put_fields(
     error: u8,
     id: TargetId,
     command: u8,
-    tag: u32,
+    tag: &[u8; 4],
     out: &mut [u8],
 )
     requires { length out.old ≡ 24 }
     ensures bytes { out.new ≡ dst.now.0 ++ src.now.0 ++ (136 ∷ 162 ∷ []) ++ (shared ∷ error ∷ [])
-        ++ to_be_bytes w16 id.major ++ (id.minor ∷ command ∷ []) ++ to_be_bytes w32 tag }
+        ++ to_be_bytes w16 id.major ++ (id.minor ∷ command ∷ []) ++ tag.now }
     ensures dst { length dst.now.0 ≡ 6 }
     ensures src { length src.now.0 ≡ 6 }
 {
@@ -216,7 +219,7 @@ fn put_fields(
     shared_place.copy_from_slice(&[shared, error]);
     major_place.copy_from_slice(&id.major.to_be_bytes());
     minor_place.copy_from_slice(&[id.minor, command]);
-    tag_place.copy_from_slice(&tag.to_be_bytes());
+    tag_place.copy_from_slice(tag);
 }
 
 /// Writes the header over a place of 24 bytes.
@@ -236,7 +239,7 @@ fn put_header(header: &Header, out: &mut [u8])
         header.error,
         header.id,
         header.command,
-        header.tag,
+        &header.tag.to_be_bytes(),
         out,
     );
 }
@@ -265,7 +268,7 @@ pub fn put_turned(
         error.unwrap_or(0),
         id,
         request.command(),
-        request.tag(),
+        &request.tag(),
         out,
     );
 }

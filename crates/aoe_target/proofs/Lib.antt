@@ -1,3 +1,4 @@
+mod AddressNumbers
 pub mod DeviceLemmas
 pub mod LawLemmas
 mod PieceLemmas

@@ -1,6 +1,7 @@
 //! The constant part of a target: its name, ports and size.
-ghost use Rattle.std.specs.Prelude.{◌≡◌};
-ghost use Rattle.aoe_base.specs.Addresses.{holds};
+ghost use Rattle.std.specs.Prelude.{◌≡◌, ◌<◌, ◌^◌, All, length, slice_range};
+ghost use Rattle.std.specs.Int.{w16, w32, from_be_bytes};
+ghost use Rattle.aoe_base.specs.Addresses.{holds, same_address};
 ghost use Rattle.aoe_target.specs.Verdict.{is_heard, facts};
 ghost use Rattle.aoe_target.specs.Reply.{reply_port};
 
@@ -36,6 +37,42 @@ pub struct Station {
     pub sectors: u64,
 }
 
+/// The first four bytes of an address as a number.
+#[inline(always)]
+fn front_of(address: Mac) -> u32
+    ensures value { result ≡ from_be_bytes w32 (slice_range address.0 0 4) }
+    ensures len { length address.0 ≡ 6 }
+    ensures small { All (λ b. b < 2 ^ 8) (slice_range address.0 0 4) }
+{
+    match address.0[..4].first_chunk::<4>() {
+        Some(bytes) => u32::from_be_bytes(*bytes),
+        None => unreachable!(),
+    }
+}
+
+/// The last two bytes of an address as a number.
+#[inline(always)]
+fn back_of(address: Mac) -> u16
+    ensures value { result ≡ from_be_bytes w16 (slice_range address.0 4 6) }
+    ensures small { All (λ b. b < 2 ^ 8) (slice_range address.0 4 6) }
+{
+    match address.0[4..6].first_chunk::<2>() {
+        Some(bytes) => u16::from_be_bytes(*bytes),
+        None => unreachable!(),
+    }
+}
+
+/// Whether two addresses are one. Two numbers are compared sooner than six bytes.
+#[inline(always)]
+#[tactic(auto, using(crate::proofs::AddressNumbers::numbers_tell))]
+fn is_same(one: Mac, other: Mac) -> bool
+    ensures { result ≡ same_address one other }
+{
+    let is_front = front_of(one) == front_of(other);
+    let is_back = back_of(one) == back_of(other);
+    is_front & is_back
+}
+
 /// Whether an address is one of several ports.
 #[inline(never)]
 fn is_among(ports: &[Mac], address: Mac) -> bool
@@ -51,7 +88,7 @@ impl Station {
         ensures { result ≡ holds self.now.ports.items address }
     {
         match self.ports.as_slice() {
-            [port] => *port == address,
+            [port] => is_same(*port, address),
             ports => is_among(ports, address),
         }
     }
@@ -64,7 +101,7 @@ impl Station {
     {
         let dst = header.dst();
         let id = header.id();
-        (self.has_port(dst) || dst == BROADCAST)
+        (self.has_port(dst) || is_same(dst, BROADCAST))
             && header.flags() < RESPONSE_FLAG
             && (id.major == self.id.major || id.major == ANY_SHELF)
             && (id.minor == self.id.minor || id.minor == ANY_SLOT)
