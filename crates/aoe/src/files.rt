@@ -149,6 +149,7 @@ impl Disk for FileDisk {
         self.sectors
     }
 
+    #[inline(always)]
     fn read(&mut self, at: u64, out: &mut [u8]) -> Result<(), Failed>
         requires { IsRange at (length out.old) self.old.sectors }
         ensures sectors { self.new.sectors ≡ self.old.sectors }
@@ -169,6 +170,7 @@ impl Disk for FileDisk {
         }
     }
 
+    #[inline(always)]
     fn write(&mut self, at: u64, piece: &[u8]) -> Result<(), Failed>
         requires { IsRange at (length piece.now) self.old.sectors }
         ensures sectors { self.new.sectors ≡ self.old.sectors }

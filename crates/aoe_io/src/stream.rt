@@ -7,7 +7,7 @@ ghost use Rattle.aoe_io.specs.Stream.{framed, IsFrame, IsLength, IsBroken};
 
 use crate::{Sink, Source};
 use aoe_base::Failed;
-use aoe_frame::{Frame, MAX_FRAME, stretch};
+use aoe_frame::{Frame, MAX_FRAME, MIN_FRAME, stretch};
 use thiserror::Error;
 
 /// The least length of a frame on the stream: two addresses and a type.
@@ -209,6 +209,7 @@ pub fn give_all<K: Sink>(sink: &mut K, bytes: &[u8]) -> Result<(), Failed>
 }
 
 /// Writes a short frame behind its length, in one piece.
+#[inline(always)]
 fn give_short<K: Sink>(sink: &mut K, frame: &[u8]) -> Result<(), Failed>
     requires { length frame.now ≤ 62 }
     ensures all { OnOk result (Took (K.held sink.old) (K.held sink.new) (framed frame.now)) }
@@ -236,6 +237,10 @@ pub fn give_frame<K: Sink>(sink: &mut K, frame: &[u8]) -> Result<(), Failed>
     ensures no_fault { OnOk result (K.faults sink.new ≡ K.faults sink.old) }
     ensures one_fault { K.faults sink.new ≤ K.faults sink.old + 1 }
 {
+    // Most short frames have the least length, for which the copy needs no call.
+    if frame.len() == MIN_FRAME {
+        return give_short(sink, frame);
+    }
     if frame.len() <= FRONT - 2 {
         return give_short(sink, frame);
     }
