@@ -28,10 +28,6 @@ few_ports ports e =
     (grind (arith, nat_tests), grind (arith, nat_tests))
 
 module _ (law : AddressLaw) where
-  life_is : (ms : ℕ) → ms < 2 ^ 64 → IsSaid (setup_words (Life ms)) (Declares (Life ms))
-  unfolding said
-  life_is ms small = rw (number_is ms small, number_word ms small) refl
-
   shelf_is : (name : ArrayVec ℕ) (major : ℕ) (ports : ArrayVec Mac) (mtu : ℕ) → is_name name ≡ true → major < 2 ^ 64 → are_ports ports ≡ true → mtu < 2 ^ 64 → All IsAddress ports.items
       → IsSaid (setup_words (Shelf name major ports mtu)) (Declares (Shelf name major ports mtu))
   unfolding said
@@ -64,13 +60,9 @@ module _ (law : AddressLaw) where
       rw (name_back name named, ports_back law ports.items (few_ports ports are).0 (few_ports ports are).1 fits, number_is room high, number_is dead low)
       (rw (name_word name named, macs_word law ports.items (few_ports ports are).0 fits, number_word room high, number_word dead low) refl)
 
-  attach_is : (host shelf : ArrayVec ℕ) (minor : ℕ) → is_name host ≡ true → is_name shelf ≡ true → minor < 2 ^ 64 → IsSaid (setup_words (Attach host shelf minor)) (Declares (Attach host shelf minor))
-  unfolding said
-  attach_is host shelf minor named other low =
-      rw (name_back host named, name_back shelf other, number_is minor low, name_word host named, name_word shelf other, number_word minor low) refl
-
   pub setup_is : (setup : Setup) → is_setup setup ≡ true → FitsSetup setup → IsSaid (setup_words setup) (Declares setup)
-  setup_is (Life ms) e fits = life_is ms (small_of 600000 ms (lit< tt) e)
+  unfolding said
+  setup_is (Life ms) e fits = let small = small_of 600000 ms (lit< tt) e in rw (number_is ms small, number_word ms small) refl
   setup_is (Shelf name major ports mtu) e fits =
       let h = and_parts (is_name name && nat_le major 65534 && are_ports ports) (is_within 1500 9000 mtu) e in
       let g = and_parts (is_name name && nat_le major 65534) (are_ports ports) h.0 in
@@ -88,4 +80,5 @@ module _ (law : AddressLaw) where
   setup_is (Attach host shelf minor) e fits =
       let h = and_parts (is_name host && is_name shelf) (nat_le minor 254) e in
       let g = and_parts (is_name host) (is_name shelf) h.0 in
-      attach_is host shelf minor g.0 g.1 (small_of 254 minor (lit< tt) h.1)
+      let low = small_of 254 minor (lit< tt) h.1 in
+      rw (name_back host g.0, name_back shelf g.1, number_is minor low, name_word host g.0, name_word shelf g.1, number_word minor low) refl
