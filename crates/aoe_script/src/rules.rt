@@ -2,13 +2,13 @@
 ghost use Rattle.std.specs.Prelude.{◌≡◌, ◌≤◌, true, false, not, ◌||◌, ◌&&◌, length, None};
 ghost use Rattle.std.specs.List.{list_any};
 ghost use Rattle.aoe_base.specs.Addresses.{source_of};
-ghost use Rattle.aoe_script.specs.Rules.{are_too_many, asked_why, attaches, declared_why, event_why, first_of, has_major, has_port, is_event, is_full, is_host_named, is_shelf, is_shelf_named, is_slot, is_slot_of, is_station_named, is_taken, known_why, named_why, setup_why, unless};
+ghost use Rattle.aoe_script.specs.Rules.{are_too_many, attaches, declared_why, event_why, first_of, has_major, is_event, is_full, is_host_named, is_shelf, is_shelf_named, is_slot, is_slot_of, is_taken, named_why, setup_why, unless};
 
 use crate::event::Event;
 use crate::refusal::Why;
 use crate::setup::{Name, Setup};
 use crate::standing::{Kind, any, are_too_many, is_attached, is_full, is_known, is_taken};
-use aoe_base::{Mac, TargetId};
+use aoe_base::Mac;
 
 /// The first of these causes that holds.
 fn first_of(repeat: bool, size: bool, unknown: bool) -> Option<Why>
@@ -111,42 +111,6 @@ fn because(holds: bool, why: Why) -> Option<Why>
     if holds { Some(why) } else { None }
 }
 
-/// What is wrong where the host isn't attached to the device.
-fn asked_why(setups: &[Setup], host: &Name, dev: &TargetId) -> Option<Why>
-    ensures { result ≡ asked_why setups.now host.now dev.now }
-{
-    because(!is_attached(setups, host, dev), Why::Unknown)
-}
-
-/// What is wrong where the device doesn't stand.
-fn known_why(setups: &[Setup], dev: &TargetId) -> Option<Why>
-    ensures { result ≡ known_why setups.now dev.now }
-{
-    because(!is_known(setups, dev), Why::Unknown)
-}
-
-/// What is wrong where no station has this name.
-fn station_why(setups: &[Setup], name: &Name) -> Option<Why>
-    ensures { result ≡ unless (not (list_any (is_station_named name.now) setups.now)) Why.Unknown None }
-{
-    because(!any(setups, &Kind::StationNamed(name)), Why::Unknown)
-}
-
-/// What is wrong where no shelf has this name.
-fn crash_why(setups: &[Setup], name: &Name) -> Option<Why>
-    ensures { result ≡ unless (not (list_any (is_shelf_named name.now) setups.now)) Why.Unknown None }
-{
-    because(!any(setups, &Kind::ShelfNamed(name)), Why::Unknown)
-}
-
-/// What is wrong where the frame bears the address of a station.
-fn source_why(setups: &[Setup], frame: &[u8]) -> Option<Why>
-    requires { 14 ≤ length frame.now }
-    ensures { result ≡ unless (list_any (has_port (source_of frame.now)) setups.now) Why.Station None }
-{
-    because(any(setups, &Kind::Port(&source_of(frame))), Why::Station)
-}
-
 impl Event {
     /// What this event names that doesn't stand, or must not stand.
     fn named_why(&self, setups: &[Setup]) -> Option<Why>
@@ -160,12 +124,27 @@ impl Event {
             | Event::Identify { host, dev }
             | Event::Config { host, dev, .. }
             | Event::Masks { host, dev, .. }
-            | Event::Reserve { host, dev, .. } => asked_why(setups, host, dev),
+            | Event::Reserve { host, dev, .. } => because(
+                !is_attached(setups, host, dev),
+                Why::Unknown,
+            ),
             Event::Tick { .. } | Event::Pass { .. } | Event::Skip { .. } | Event::Again => None,
-            Event::Deliver { station, .. } => station_why(setups, station),
-            Event::Inject { bytes } => source_why(setups, bytes.bytes()),
-            Event::Fail { dev, .. } | Event::Stop { dev, .. } => known_why(setups, dev),
-            Event::Crash { shelf, .. } => crash_why(setups, shelf),
+            Event::Deliver { station, .. } => because(
+                !any(setups, &Kind::StationNamed(station)),
+                Why::Unknown,
+            ),
+            Event::Inject { bytes } => because(
+                any(setups, &Kind::Port(&source_of(bytes.bytes()))),
+                Why::Station,
+            ),
+            Event::Fail { dev, .. } | Event::Stop { dev, .. } => because(
+                !is_known(setups, dev),
+                Why::Unknown,
+            ),
+            Event::Crash { shelf, .. } => because(
+                !any(setups, &Kind::ShelfNamed(shelf)),
+                Why::Unknown,
+            ),
         }
     }
 
