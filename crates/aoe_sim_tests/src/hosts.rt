@@ -1,12 +1,14 @@
 ghost use Rattle.std.specs.Prelude.{◌≡◌, true, is_some, length, position, IfOk};
 ghost use Rattle.aoe_initiator.specs.HostLaw.{same_id};
+ghost use Rattle.aoe_initiator.specs.Op.{CanSubmit};
 ghost use Rattle.aoe_base.specs.Addresses.{IsDistinct};
 ghost use Rattle.aoe_script.specs.Classes.{is_name};
 
 use aoe_base::{FrameNo, Mac, Millis, NoMemory, Ports, Span, TargetId};
 use aoe_frame::Frame;
-use aoe_history::{Entry, Run};
+use aoe_history::{Entry, History, Run};
 use aoe_initiator::{Op, Outcome, SubmitRefusal};
+use aoe_net::NetRefusal;
 use aoe_script::Name;
 use aoe_sim_hosts::NamedHost;
 use std::alloc::Global;
@@ -51,96 +53,175 @@ fn attached(alloc: Global) -> Result<NamedHost, NoMemory>
     Ok(host)
 }
 
+/// Submits the host's first command.
+fn submit(host: &mut NamedHost, run: &mut Run, op: Op) -> Result<(), NoMemory>
+    requires can { CanSubmit op }
+    requires device { is_some (position (λ d. same_id d.about.id DEVICE) host.old.core.devices) ≡ true }
+    requires tickets { host.old.core.last_ticket ≡ 0 }
+{
+    host.submit(run, DEVICE, op)
+}
+
+fn turn(host: &mut NamedHost, run: &mut Run) -> Result<(), NetRefusal> {
+    let mut out = Frame::new();
+    host.turn(run, &mut out)
+}
+
+fn take(host: &mut NamedHost, run: &mut Run) -> Result<(), NoMemory> {
+    host.take(run, FrameNo(2), &FLUSHED)
+}
+
+fn is_submitted(entry: &Entry) -> bool {
+    matches!(entry, Entry::Submitted { ticket: 1, .. })
+}
+
+fn is_sent(entry: &Entry) -> bool {
+    matches!(
+        entry,
+        Entry::Sent {
+            ticket: 1,
+            frame: 1,
+            ..
+        }
+    )
+}
+
+/// Whether the host took the response, as a stale one or not.
+fn is_taken(entry: &Entry, was_stale: bool) -> bool {
+    matches!(entry, Entry::Took { frame: 2, stale, .. } if *stale == was_stale)
+}
+
+/// Whether the first command has the outcome of a flush.
+fn is_flushed(entry: &Entry) -> bool {
+    matches!(
+        entry,
+        Entry::Done {
+            ticket: 1,
+            outcome,
+            ..
+        } if matches!(outcome.get(), Outcome::Flushed)
+    )
+}
+
+fn is_given_up(entry: &Entry) -> bool {
+    matches!(
+        entry,
+        Entry::Done {
+            ticket: 1,
+            outcome,
+            ..
+        } if matches!(outcome.get(), Outcome::GaveUp { .. })
+    )
+}
+
+/// The host asks for a flush, and gets its response twice.
+fn flush(host: &mut NamedHost, run: &mut Run) -> Result<(), Fail>
+    requires device { is_some (position (λ d. same_id d.about.id DEVICE) host.old.core.devices) ≡ true }
+    requires tickets { host.old.core.last_ticket ≡ 0 }
+{
+    submit(host, run, Op::Flush)?;
+    turn(host, run)?;
+    run.inject(&FLUSHED)?;
+    take(host, run)?;
+    turn(host, run)?;
+    take(host, run)?;
+    Ok(())
+}
+
+/// Whether the flush was sent, and ended by the first of two responses.
+fn has_one_end(history: &History) -> bool {
+    history.count() == 6
+        && is_submitted(history.entry(0))
+        && is_sent(history.entry(1))
+        && is_taken(history.entry(3), false)
+        && is_flushed(history.entry(4))
+        && is_taken(history.entry(5), true)
+}
+
+/// Whether two responses to a flush end it once.
+fn ends_once(host: &mut NamedHost, run: &mut Run) -> Result<bool, Fail>
+    requires device { is_some (position (λ d. same_id d.about.id DEVICE) host.old.core.devices) ≡ true }
+    requires tickets { host.old.core.last_ticket ≡ 0 }
+{
+    flush(host, run)?;
+    Ok(has_one_end(run.history()))
+}
+
+/// Whether all that happened is that a command was refused because it was empty.
+fn has_empty(history: &History) -> bool {
+    let empty = SubmitRefusal::Empty;
+    history.count() == 1
+        && matches!(history.entry(0), Entry::Refused { refusal, .. } if *refusal == empty)
+}
+
+/// Whether an empty read is refused.
+fn refuses_empty(host: &mut NamedHost, run: &mut Run) -> Result<bool, Fail>
+    requires device { is_some (position (λ d. same_id d.about.id DEVICE) host.old.core.devices) ≡ true }
+    requires tickets { host.old.core.last_ticket ≡ 0 }
+{
+    submit(host, run, Op::Read(Span { at: 0, count: 0 }))?;
+    Ok(has_empty(run.history()))
+}
+
+/// Whether the time until a host gives a command up went by, where none did before.
+fn wait(run: &mut Run) -> Result<bool, NoMemory> {
+    if run.clock() != Millis(0) {
+        return Ok(false);
+    }
+    run.tick(180_000)?;
+    Ok(true)
+}
+
+/// Whether the last of four entries is that the command was given up.
+fn has_given_up(history: &History) -> bool {
+    history.count() == 4 && is_given_up(history.entry(3))
+}
+
+/// Whether a flush is given up when the time has gone by.
+fn gives_up(host: &mut NamedHost, run: &mut Run) -> Result<bool, Fail>
+    requires device { is_some (position (λ d. same_id d.about.id DEVICE) host.old.core.devices) ≡ true }
+    requires tickets { host.old.core.last_ticket ≡ 0 }
+{
+    submit(host, run, Op::Flush)?;
+    turn(host, run)?;
+    let waited = wait(run)?;
+    turn(host, run)?;
+    Ok(waited && has_given_up(run.history()))
+}
+
+/// What a host does here.
+#[derive(Clone, Copy)]
+enum Course {
+    EndsOnce,
+    RefusesEmpty,
+    GivesUp,
+}
+
+/// Whether a new host does so.
+fn does(alloc: Global, course: Course) -> Result<bool, Fail> {
+    let mut host = attached(alloc)?;
+    let mut run = Run::new(alloc, Millis(2000));
+    match course {
+        Course::EndsOnce => ends_once(&mut host, &mut run),
+        Course::RefusesEmpty => refuses_empty(&mut host, &mut run),
+        Course::GivesUp => gives_up(&mut host, &mut run),
+    }
+}
+
 #[test]
 fn a_response_ends_its_command_once(rt: HostRuntime) -> Result<(), Fail> {
-    let mut run = Run::new(rt.alloc(), Millis(2000));
-    let mut host = attached(rt.alloc())?;
-    let mut out = Frame::new();
-    host.submit(&mut run, DEVICE, Op::Flush)?;
-    host.turn(&mut run, &mut out)?;
-    run.inject(&FLUSHED)?;
-    host.take(&mut run, FrameNo(2), &FLUSHED)?;
-    host.turn(&mut run, &mut out)?;
-    host.take(&mut run, FrameNo(2), &FLUSHED)?;
-    let history = run.history();
-    assert_eq!(rt; history.count(), 6);
-    assert!(rt; matches!(history.entry(0), Entry::Submitted { ticket: 1, .. }));
-    assert!(rt;
-        matches!(
-            history.entry(1),
-            Entry::Sent {
-                ticket: 1,
-                frame: 1,
-                ..
-            }
-        )
-    );
-    assert!(rt;
-        matches!(
-            history.entry(3),
-            Entry::Took {
-                frame: 2,
-                stale: false,
-                ..
-            }
-        )
-    );
-    assert!(rt;
-        matches!(
-            history.entry(4),
-            Entry::Done {
-                ticket: 1,
-                outcome,
-                ..
-            } if matches!(outcome.get(), Outcome::Flushed)
-        )
-    );
-    assert!(rt;
-        matches!(
-            history.entry(5),
-            Entry::Took {
-                frame: 2,
-                stale: true,
-                ..
-            }
-        )
-    );
+    assert!(rt; does(rt.alloc(), Course::EndsOnce)?);
     Ok(())
 }
 
 #[test]
 fn an_empty_read_is_refused(rt: HostRuntime) -> Result<(), Fail> {
-    let mut run = Run::new(rt.alloc(), Millis(2000));
-    let mut host = attached(rt.alloc())?;
-    host.submit(&mut run, DEVICE, Op::Read(Span { at: 0, count: 0 }))?;
-    let history = run.history();
-    assert_eq!(rt; history.count(), 1);
-    let empty = SubmitRefusal::Empty;
-    assert!(rt; matches!(history.entry(0), Entry::Refused { refusal, .. } if *refusal == empty));
+    assert!(rt; does(rt.alloc(), Course::RefusesEmpty)?);
     Ok(())
 }
 
 #[test]
 fn a_command_without_a_response_is_given_up(rt: HostRuntime) -> Result<(), Fail> {
-    let mut run = Run::new(rt.alloc(), Millis(2000));
-    let mut host = attached(rt.alloc())?;
-    let mut out = Frame::new();
-    host.submit(&mut run, DEVICE, Op::Flush)?;
-    host.turn(&mut run, &mut out)?;
-    assert_eq!(rt; run.clock(), Millis(0));
-    run.tick(180_000)?;
-    host.turn(&mut run, &mut out)?;
-    let history = run.history();
-    assert_eq!(rt; history.count(), 4);
-    assert!(rt;
-        matches!(
-            history.entry(3),
-            Entry::Done {
-                ticket: 1,
-                outcome,
-                ..
-            } if matches!(outcome.get(), Outcome::GaveUp { .. })
-        )
-    );
+    assert!(rt; does(rt.alloc(), Course::GivesUp)?);
     Ok(())
 }

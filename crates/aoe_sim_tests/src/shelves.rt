@@ -1,9 +1,9 @@
 ghost use Rattle.std.specs.Prelude.{◌≡◌, length, IfOk};
 
-use aoe_base::{BROADCAST, FrameNo, Mac, Millis, Ports, TargetId};
+use aoe_base::{BROADCAST, FrameNo, Mac, Millis, NoMemory, Ports, TargetId};
 use aoe_disk::Loss;
 use aoe_frame::Frame;
-use aoe_history::{Entry, Fate, Run};
+use aoe_history::{Entry, Fate, History, Run};
 use aoe_script::Which;
 use aoe_sim_shelves::MemoryRack;
 use aoe_target::Effect;
@@ -49,13 +49,27 @@ fn ata(aflags: u8, count: u8, command: u8, data: &[u8]) -> Frame {
     frame
 }
 
-/// Hands a frame over, and gives the reply of the target 1.3.
-fn asked(rack: &mut MemoryRack, run: &mut Run, frame: &Frame) -> Result<Frame, Fail> {
+/// Hands over the frame of this number.
+fn arrive(
+    rack: &mut MemoryRack,
+    run: &mut Run,
+    number: FrameNo,
+    frame: &Frame,
+) -> Result<Frame, Fail> {
     let mut out = Frame::new();
-    run.inject(frame.as_slice())?;
-    let number = FrameNo(run.frames());
     rack.arrive(run, number, frame.as_slice(), &mut out)?;
     Ok(out)
+}
+
+/// Hands a new frame over, and gives the last reply.
+fn asked(rack: &mut MemoryRack, run: &mut Run, frame: &Frame) -> Result<Frame, Fail> {
+    run.inject(frame.as_slice())?;
+    arrive(rack, run, FrameNo(run.frames()), frame)
+}
+
+/// All that happened is so many things, of which so many are frames.
+fn has(run: &Run, entries: usize, frames: u32) -> bool {
+    run.history().count() == entries && run.frames() == frames
 }
 
 fn is_answered(entry: &Entry, minor: u8, number: u64) -> bool {
@@ -73,104 +87,158 @@ fn is_answered(entry: &Entry, minor: u8, number: u64) -> bool {
     }
 }
 
+/// Whether both targets answered the first frame, in their order.
+fn has_answers(history: &History) -> bool {
+    history.count() == 3
+        && is_answered(history.entry(1), 7, 2)
+        && is_answered(history.entry(2), 3, 3)
+}
+
+/// Whether both targets of the shelf answer a frame.
+fn answers(rack: &mut MemoryRack, run: &mut Run) -> Result<bool, Fail> {
+    asked(rack, run, &set_all())?;
+    let answered = has(run, 3, 3) && has_answers(run.history());
+    Ok(answered && rack.count() == 2 && rack.major() == 1)
+}
+
+/// Arms the keeps of both targets: the power is lost in an edit of the first.
+fn arm_both(rack: &mut MemoryRack, run: &mut Run) -> Result<(), NoMemory>
+    requires { length rack.old.shelf.targets ≡ 2 }
+{
+    rack.arm(run, 0, Which::Keep, 6, Some(Loss::Old))?;
+    rack.arm(run, 1, Which::Keep, 1, None)
+}
+
+fn is_cut(entry: &Entry) -> bool {
+    matches!(
+        entry,
+        Entry::Arrived {
+            frame: 1,
+            fate: Fate::Cut,
+            ..
+        }
+    )
+}
+
+fn is_crash_of_second(entry: &Entry) -> bool {
+    matches!(
+        entry,
+        Entry::Crashed {
+            dev: TargetId { major: 1, minor: 3 },
+            mode: Loss::Old,
+            ..
+        }
+    )
+}
+
+/// Whether the frame was cut, and both targets were mounted again.
+fn has_stop(history: &History) -> bool {
+    history.count() == 6 && is_cut(history.entry(3)) && is_crash_of_second(history.entry(5))
+}
+
+/// Whether a stop in an edit of the target 1.7 cuts a frame, which both answer when it comes again:
+/// they are mounted again, and 1.3 isn't armed any more.
+fn stops_once(rack: &mut MemoryRack, run: &mut Run) -> Result<bool, Fail>
+    requires { length rack.old.shelf.targets ≡ 2 }
+{
+    let frame = set_all();
+    arm_both(rack, run)?;
+    asked(rack, run, &frame)?;
+    let stopped = has(run, 6, 1) && has_stop(run.history());
+    arrive(rack, run, FrameNo(1), &frame)?;
+    Ok(stopped && has(run, 8, 3))
+}
+
+/// Whether a target crashed, and the string of its config is `ab`.
+fn is_crash_with_string(entry: &Entry) -> bool {
+    matches!(entry, Entry::Crashed { lists, .. } if lists.get().config.as_slice() == b"ab".as_slice())
+}
+
+/// Whether the last two of five entries are such crashes.
+fn has_strings(history: &History) -> bool {
+    history.count() == 5
+        && is_crash_with_string(history.entry(3))
+        && is_crash_with_string(history.entry(4))
+}
+
+fn crash(rack: &mut MemoryRack, run: &mut Run, how: Loss) -> Result<(), NoMemory> {
+    rack.crash(run, how)
+}
+
+/// Whether a crash leaves the lists of both targets.
+fn leaves_lists(rack: &mut MemoryRack, run: &mut Run) -> Result<bool, Fail> {
+    asked(rack, run, &set_all())?;
+    crash(rack, run, Loss::Old)?;
+    Ok(has_strings(run.history()))
+}
+
+/// Writes the sector, and flushes it or not.
+fn write(rack: &mut MemoryRack, run: &mut Run, is_flushed: bool) -> Result<(), Fail> {
+    asked(rack, run, &ata(0x41, 1, 0x34, &[0x5a; 512]))?;
+    if is_flushed {
+        asked(rack, run, &ata(0x40, 0, 0xea, &[]))?;
+    }
+    Ok(())
+}
+
+/// Whether a read of the sector gives this byte first.
+fn reads(rack: &mut MemoryRack, run: &mut Run, byte: u8) -> Result<bool, Fail> {
+    let reply = asked(rack, run, &ata(0x40, 1, 0x24, &[]))?;
+    Ok(reply.as_slice().get(36) == Some(&byte))
+}
+
+/// Whether a crash leaves this of a write that was flushed or not.
+fn leaves(rack: &mut MemoryRack, run: &mut Run, is_flushed: bool, byte: u8) -> Result<bool, Fail> {
+    write(rack, run, is_flushed)?;
+    let written = reads(rack, run, 0x5a)?;
+    crash(rack, run, Loss::Keep)?;
+    Ok(written && reads(rack, run, byte)?)
+}
+
+/// What a shelf does here.
+#[derive(Clone, Copy)]
+enum Course {
+    Answers,
+    StopsOnce,
+    LeavesLists,
+    LosesWrite,
+    LeavesFlushed,
+}
+
+/// Whether a new shelf does so.
+fn does(alloc: Global, course: Course) -> Result<bool, Fail> {
+    let mut rack = shelf_of_two(alloc)?;
+    let mut run = Run::new(alloc, Millis(2000));
+    match course {
+        Course::Answers => answers(&mut rack, &mut run),
+        Course::StopsOnce => stops_once(&mut rack, &mut run),
+        Course::LeavesLists => leaves_lists(&mut rack, &mut run),
+        Course::LosesWrite => leaves(&mut rack, &mut run, false, 0),
+        Course::LeavesFlushed => leaves(&mut rack, &mut run, true, 0x5a),
+    }
+}
+
 #[test]
 fn each_target_answers(rt: HostRuntime) -> Result<(), Fail> {
-    let mut rack = shelf_of_two(rt.alloc())?;
-    let mut run = Run::new(rt.alloc(), Millis(2000));
-    let mut out = Frame::new();
-    let frame = set_all();
-    run.inject(frame.as_slice())?;
-    rack.arrive(&mut run, FrameNo(1), frame.as_slice(), &mut out)?;
-    assert_eq!(rt; run.frames(), 3);
-    assert_eq!(rt; run.history().count(), 3);
-    if run.history().count() == 3 {
-        assert!(rt; is_answered(run.history().entry(1), 7, 2));
-        assert!(rt; is_answered(run.history().entry(2), 3, 3));
-    }
-    assert_eq!(rt; rack.count(), 2);
-    assert_eq!(rt; rack.major(), 1);
+    assert!(rt; does(rt.alloc(), Course::Answers)?);
     Ok(())
 }
 
 #[test]
 fn a_stop_cuts_the_arrival(rt: HostRuntime) -> Result<(), Fail> {
-    let mut rack = shelf_of_two(rt.alloc())?;
-    let mut run = Run::new(rt.alloc(), Millis(2000));
-    let mut out = Frame::new();
-    let frame = set_all();
-    rack.arm(&mut run, 0, Which::Keep, 6, Some(Loss::Old))?;
-    rack.arm(&mut run, 1, Which::Keep, 1, None)?;
-    run.inject(frame.as_slice())?;
-    rack.arrive(&mut run, FrameNo(1), frame.as_slice(), &mut out)?;
-
-    // The target 1.7 is cut, and both are mounted again; 1.3 isn't armed any more.
-    assert_eq!(rt; run.frames(), 1);
-    assert_eq!(rt; run.history().count(), 6);
-    if run.history().count() == 6 {
-        let cut = run.history().entry(3);
-        assert!(rt;
-            matches!(
-                cut,
-                Entry::Arrived {
-                    frame: 1,
-                    fate: Fate::Cut,
-                    ..
-                }
-            )
-        );
-        let last = run.history().entry(5);
-        assert!(rt;
-            matches!(
-                last,
-                Entry::Crashed {
-                    dev: TargetId { major: 1, minor: 3 },
-                    mode: Loss::Old,
-                    ..
-                }
-            )
-        );
-    }
-    rack.arrive(&mut run, FrameNo(1), frame.as_slice(), &mut out)?;
-    assert_eq!(rt; run.frames(), 3);
-    assert_eq!(rt; run.history().count(), 8);
+    assert!(rt; does(rt.alloc(), Course::StopsOnce)?);
     Ok(())
 }
 
 #[test]
 fn a_crash_leaves_the_lists(rt: HostRuntime) -> Result<(), Fail> {
-    let mut rack = shelf_of_two(rt.alloc())?;
-    let mut run = Run::new(rt.alloc(), Millis(2000));
-    let mut out = Frame::new();
-    let frame = set_all();
-    run.inject(frame.as_slice())?;
-    rack.arrive(&mut run, FrameNo(1), frame.as_slice(), &mut out)?;
-    rack.crash(&mut run, Loss::Old)?;
-    assert_eq!(rt; run.history().count(), 5);
-    for i in 3..run.history().count() {
-        let Entry::Crashed { lists, .. } = run.history().entry(i) else {
-            return Err(Fail::from("no crash"));
-        };
-        assert_eq!(rt; lists.get().config.as_slice(), b"ab".as_slice());
-    }
+    assert!(rt; does(rt.alloc(), Course::LeavesLists)?);
     Ok(())
 }
 
 #[test]
 fn a_crash_leaves_what_was_flushed(rt: HostRuntime) -> Result<(), Fail> {
-    for is_flushed in [false, true] {
-        let mut rack = shelf_of_two(rt.alloc())?;
-        let mut run = Run::new(rt.alloc(), Millis(2000));
-        asked(&mut rack, &mut run, &ata(0x41, 1, 0x34, &[0x5a; 512]))?;
-        if is_flushed {
-            asked(&mut rack, &mut run, &ata(0x40, 0, 0xea, &[]))?;
-        }
-        let read = ata(0x40, 1, 0x24, &[]);
-        let reply = asked(&mut rack, &mut run, &read)?;
-        assert_eq!(rt; reply.as_slice().get(36), Some(&0x5a));
-        rack.crash(&mut run, Loss::Keep)?;
-        let reply = asked(&mut rack, &mut run, &read)?;
-        let left = if is_flushed { 0x5a } else { 0 };
-        assert_eq!(rt; reply.as_slice().get(36), Some(&left));
-    }
+    assert!(rt; does(rt.alloc(), Course::LosesWrite)?);
+    assert!(rt; does(rt.alloc(), Course::LeavesFlushed)?);
     Ok(())
 }
