@@ -1,12 +1,13 @@
 use aoe_cache::{AnyStore, Cached};
 use aoe_disk::{Arm, Loss, MemDisk};
 use aoe_store::{ArmedStore, Direct, Store};
+use std::alloc::Global;
 use std::test::Fail;
 
 /// A cached store with this room over a disk of 128 zero sectors.
-fn cached(rt: &HostRuntime, room: u32) -> Result<Cached<MemDisk>, Fail> {
-    let disk = MemDisk::new(rt.alloc(), 128)?;
-    match Cached::mount(rt.alloc(), disk, room.clamp(1, 65_536)) {
+fn cached(alloc: Global, room: u32) -> Result<Cached<MemDisk>, Fail> {
+    let disk = MemDisk::new(alloc, 128)?;
+    match Cached::mount(alloc, disk, room.clamp(1, 65_536)) {
         Ok(store) => Ok(store),
         Err((refused, _)) => Err(refused.into()),
     }
@@ -25,11 +26,6 @@ fn put<S: Store>(store: &mut S, at: u64, piece: &[u8]) -> bool {
     store.write(at, piece).is_ok()
 }
 
-/// Fills a sector with one byte, and says whether the write was Ok.
-fn fill<S: Store>(store: &mut S, at: u64, byte: u8) -> bool {
-    put(store, at, &[byte; 512])
-}
-
 /// The first byte of each of four sectors, where the read is Ok.
 fn four<S: Store>(store: &mut S, at: u64) -> Option<[u8; 4]> {
     let mut out = [0; 2048];
@@ -39,158 +35,251 @@ fn four<S: Store>(store: &mut S, at: u64) -> Option<[u8; 4]> {
     Some([out[0], out[512], out[1024], out[1536]])
 }
 
+/// What is done to a store, or what it then has.
+#[derive(Clone, Copy)]
+enum Step {
+    /// Writes so many sectors of a byte from a sector on: the sector, the count, the byte.
+    Put(u64, usize, u8),
+    /// Fails to write them.
+    Refuses(u64, usize, u8),
+    /// Four sectors from a sector on begin with these bytes.
+    Has(u64, [u8; 4]),
+    Syncs,
+    FailsToSync,
+    /// Four sectors from a sector on can't be read.
+    Unread(u64),
+    /// The call of the disk with this number from now on fails, and no other.
+    FailsAt(u32),
+    /// It fails, and all later ones.
+    StopsAt(u32),
+    /// Whether a stop was reached.
+    IsOut(bool),
+}
+
+/// Writes so many sectors of a byte, and says whether the write was Ok.
+fn fill<S: Store>(store: &mut S, at: u64, count: usize, byte: u8) -> bool {
+    let bytes = [byte; 512 * 65];
+    match bytes.get(..count.saturating_mul(512)) {
+        Some(piece) => put(store, at, piece),
+        None => false,
+    }
+}
+
+/// Whether a step goes as it is to.
+fn goes<S: ArmedStore>(store: &mut S, step: Step) -> bool {
+    match step {
+        Step::Put(at, count, byte) => fill(store, at, count, byte),
+        Step::Refuses(at, count, byte) => !fill(store, at, count, byte),
+        Step::Has(at, bytes) => four(store, at) == Some(bytes),
+        Step::Syncs => store.sync().is_ok(),
+        Step::FailsToSync => store.sync().is_err(),
+        Step::Unread(at) => four(store, at).is_none(),
+        Step::FailsAt(k) => {
+            store.arm(Arm::Fail(k.max(1)));
+            true
+        }
+        Step::StopsAt(k) => {
+            store.arm(Arm::Stop(k.max(1)));
+            true
+        }
+        Step::IsOut(is_out) => store.is_out() == is_out,
+    }
+}
+
+/// Whether all steps go as they are to.
+fn all_go<S: ArmedStore>(store: &mut S, steps: &[Step]) -> bool {
+    for step in steps {
+        if !goes(store, *step) {
+            return false;
+        }
+    }
+    true
+}
+
+/// Whether the steps go as they are to with a store of this room, and its disk has so many calls and
+/// these contents then.
+fn ends(
+    alloc: Global,
+    room: u32,
+    steps: &[Step],
+    calls: u64,
+    contents: &[Step],
+) -> Result<bool, Fail> {
+    let mut store = cached(alloc, room)?;
+    let has_gone = all_go(&mut store, steps);
+    let disk = store.close();
+    let is_called = disk.calls() == calls;
+    Ok(all_go(&mut Direct::new(disk), contents) && has_gone && is_called)
+}
+
 #[test]
 fn calls_its_disk_late(rt: HostRuntime) -> Result<(), Fail> {
-    let mut store = cached(&rt, 4)?;
-    for at in [5, 3, 4] {
-        assert!(rt; fill(&mut store, at, 7));
-    }
-    assert_eq!(rt; store.close().calls(), 0);
-
-    let mut store = cached(&rt, 4)?;
-    for at in [5, 3, 4] {
-        assert!(rt; fill(&mut store, at, 7));
-    }
-    assert!(rt; store.sync().is_ok());
-    let mut disk = store.close();
-    assert_eq!(rt; disk.calls(), 2);
-    assert_eq!(rt; four(&mut Direct::new(disk), 3), Some([7, 7, 7, 0]));
+    let steps = [
+        Step::Put(5, 1, 7),
+        Step::Put(3, 1, 7),
+        Step::Put(4, 1, 7),
+        Step::Syncs,
+    ];
+    assert!(rt; ends(rt.alloc(), 4, &steps[..3], 0, &[])?);
+    assert!(rt; ends(rt.alloc(), 4, &steps, 2, &[Step::Has(3, [7, 7, 7, 0])])?);
     Ok(())
 }
 
 #[test]
 fn writes_down_when_full(rt: HostRuntime) -> Result<(), Fail> {
-    let mut store = cached(&rt, 4)?;
-    for at in [0, 2, 4, 6] {
-        assert!(rt; fill(&mut store, at, 9));
-    }
-    assert_eq!(rt; store.close().calls(), 0);
-
-    let mut store = cached(&rt, 4)?;
-    for at in [0, 2, 4, 6, 8] {
-        assert!(rt; fill(&mut store, at, 9));
-    }
-    assert_eq!(rt; four(&mut store, 6), Some([9, 0, 9, 0]));
-    assert_eq!(rt; store.close().calls(), 5);
+    let steps = [
+        Step::Put(0, 1, 9),
+        Step::Put(2, 1, 9),
+        Step::Put(4, 1, 9),
+        Step::Put(6, 1, 9),
+        Step::Put(8, 1, 9),
+        Step::Has(6, [9, 0, 9, 0]),
+    ];
+    assert!(rt; ends(rt.alloc(), 4, &steps[..4], 0, &[])?);
+    assert!(rt; ends(rt.alloc(), 4, &steps, 5, &[])?);
     Ok(())
+}
+
+/// Fills all 128 sectors, each 37 behind the one before, by the sector's number.
+fn fill_scattered<S: Store>(store: &mut S) -> bool {
+    for i in 0..128 {
+        let at = i * 37 % 128;
+        if !fill(store, at, 1, at as u8) {
+            return false;
+        }
+    }
+    true
 }
 
 #[test]
 fn puts_scattered_sectors_in_order(rt: HostRuntime) -> Result<(), Fail> {
-    // All 128 sectors, each 37 behind the one before: two device writes, and the sync.
-    let mut store = cached(&rt, 128)?;
-    for i in 0..128 {
-        let at = i * 37 % 128;
-        assert!(rt; fill(&mut store, at, at as u8));
-    }
-    assert_eq!(rt; four(&mut store, 66), Some([66, 67, 68, 69]));
-    assert!(rt; fill(&mut store, 67, 1));
-    assert!(rt; store.sync().is_ok());
-    let mut disk = store.close();
-    assert_eq!(rt; disk.calls(), 4);
-    let mut store = Direct::new(disk);
-    assert_eq!(rt; four(&mut store, 62), Some([62, 63, 64, 65]));
-    assert_eq!(rt; four(&mut store, 66), Some([66, 1, 68, 69]));
+    let mut store = cached(rt.alloc(), 128)?;
+    assert!(rt; fill_scattered(&mut store));
+    let steps = [
+        Step::Has(66, [66, 67, 68, 69]),
+        Step::Put(67, 1, 1),
+        Step::Syncs,
+    ];
+    assert!(rt; all_go(&mut store, &steps));
+    // Two device writes, and the sync, and the read.
+    let disk = store.close();
+    assert!(rt; disk.calls() == 4);
+    let contents = [
+        Step::Has(62, [62, 63, 64, 65]),
+        Step::Has(66, [66, 1, 68, 69]),
+    ];
+    assert!(rt; all_go(&mut Direct::new(disk), &contents));
     Ok(())
 }
 
 #[test]
 fn joins_up_to_64_sectors(rt: HostRuntime) -> Result<(), Fail> {
-    let mut store = cached(&rt, 100)?;
-    assert!(rt; put(&mut store, 2, &[1; 512 * 64]));
-    assert!(rt; store.sync().is_ok());
-    assert_eq!(rt; store.close().calls(), 2);
-
-    let mut store = cached(&rt, 100)?;
-    assert!(rt; put(&mut store, 2, &[1; 512 * 65]));
-    assert!(rt; store.sync().is_ok());
-    assert_eq!(rt; store.close().calls(), 3);
+    for (count, calls) in [(64, 2), (65, 3)] {
+        let steps = [Step::Put(2, count, 1), Step::Syncs];
+        assert!(rt; ends(rt.alloc(), 100, &steps, calls, &[])?);
+    }
     Ok(())
 }
 
 #[test]
 fn longer_writes_go_to_the_disk(rt: HostRuntime) -> Result<(), Fail> {
-    let mut store = cached(&rt, 2)?;
-    assert!(rt; fill(&mut store, 1, 4));
-    assert!(rt; put(&mut store, 0, &[5; 512 * 3]));
-    assert!(rt; fill(&mut store, 2, 6));
-    assert_eq!(rt; four(&mut store, 0), Some([5, 5, 6, 0]));
-    let mut disk = store.close();
-    assert_eq!(rt; disk.calls(), 3);
-    assert_eq!(rt; four(&mut Direct::new(disk), 0), Some([5, 5, 5, 0]));
+    let steps = [
+        Step::Put(1, 1, 4),
+        Step::Put(0, 3, 5),
+        Step::Put(2, 1, 6),
+        Step::Has(0, [5, 5, 6, 0]),
+    ];
+    assert!(rt; ends(rt.alloc(), 2, &steps, 3, &[Step::Has(0, [5, 5, 5, 0])])?);
     Ok(())
 }
 
 #[test]
 fn shows_the_youngest_write(rt: HostRuntime) -> Result<(), Fail> {
-    let mut store = cached(&rt, 8)?;
-    assert!(rt; fill(&mut store, 3, 1));
-    assert!(rt; put(&mut store, 1, &[2; 512 * 4]));
-    assert!(rt; fill(&mut store, 2, 3));
-    assert_eq!(rt; four(&mut store, 0), Some([0, 2, 3, 2]));
-    assert_eq!(rt; four(&mut store, 3), Some([2, 2, 0, 0]));
+    let steps = [
+        Step::Put(3, 1, 1),
+        Step::Put(1, 4, 2),
+        Step::Put(2, 1, 3),
+        Step::Has(0, [0, 2, 3, 2]),
+        Step::Has(3, [2, 2, 0, 0]),
+    ];
+    assert!(rt; all_go(&mut cached(rt.alloc(), 8)?, &steps));
     Ok(())
 }
 
 #[test]
 fn keeps_what_could_not_be_written(rt: HostRuntime) -> Result<(), Fail> {
-    // The second of three runs fails: the first has left the buffer, and the disk isn't synced.
-    let mut store = cached(&rt, 4)?;
-    for at in [5, 0, 3, 2] {
-        assert!(rt; fill(&mut store, at, 8));
-    }
-    store.arm(Arm::Fail(2));
-    assert!(rt; store.sync().is_err());
-    assert_eq!(rt; four(&mut store, 2), Some([8, 8, 0, 8]));
-    assert!(rt; fill(&mut store, 3, 7));
-    assert_eq!(rt; four(&mut store, 2), Some([8, 7, 0, 8]));
-    assert!(rt; !store.is_out());
-
-    // A write that the buffer has no room for fails with the call that makes room, and puts nothing.
-    store.arm(Arm::Fail(2));
-    assert!(rt; !put(&mut store, 8, &[9; 512 * 2]));
-    assert_eq!(rt; four(&mut store, 7), Some([0, 0, 0, 0]));
-    assert_eq!(rt; four(&mut store, 2), Some([8, 7, 0, 8]));
-    assert!(rt; store.sync().is_ok());
-    assert_eq!(rt;
-        four(&mut Direct::new(store.close()), 2),
-        Some([8, 7, 0, 8])
-    );
+    let steps = [
+        Step::Put(5, 1, 8),
+        Step::Put(0, 1, 8),
+        Step::Put(3, 1, 8),
+        Step::Put(2, 1, 8),
+        // The second of three runs fails: the first has left the buffer, and the disk isn't synced.
+        Step::FailsAt(2),
+        Step::FailsToSync,
+        Step::Has(2, [8, 8, 0, 8]),
+        Step::Put(3, 1, 7),
+        Step::Has(2, [8, 7, 0, 8]),
+        Step::IsOut(false),
+        // A write that the buffer has no room for fails with the call that makes room, and puts nothing.
+        Step::FailsAt(2),
+        Step::Refuses(8, 2, 9),
+        Step::Has(7, [0, 0, 0, 0]),
+        Step::Has(2, [8, 7, 0, 8]),
+        Step::Syncs,
+    ];
+    let mut store = cached(rt.alloc(), 4)?;
+    assert!(rt; all_go(&mut store, &steps));
+    let disk = store.close();
+    assert!(rt; all_go(&mut Direct::new(disk), &[Step::Has(2, [8, 7, 0, 8])]));
     Ok(())
 }
 
 #[test]
 fn loses_what_was_not_synced(rt: HostRuntime) -> Result<(), Fail> {
-    let mut store = cached(&rt, 4)?;
-    assert!(rt; put(&mut store, 0, &[1; 512 * 2]));
-    assert!(rt; store.sync().is_ok());
-    assert!(rt; put(&mut store, 1, &[2; 512 * 2]));
-    assert_eq!(rt; four(&mut store, 0), Some([1, 2, 2, 0]));
+    let steps = [
+        Step::Put(0, 2, 1),
+        Step::Syncs,
+        Step::Put(1, 2, 2),
+        Step::Has(0, [1, 2, 2, 0]),
+    ];
+    let mut store = cached(rt.alloc(), 4)?;
+    assert!(rt; all_go(&mut store, &steps));
     let disk = store.close().crash(Loss::Old);
-    assert_eq!(rt; four(&mut Direct::new(disk), 0), Some([1, 1, 0, 0]));
-
-    // Mounted again it holds nothing back, and has its room.
-    let mut store = cached(&rt, 4)?;
-    assert!(rt; put(&mut store, 0, &[1; 512 * 2]));
-    let mut store = store.crash(Loss::Keep);
-    assert_eq!(rt; four(&mut store, 0), Some([0, 0, 0, 0]));
-    assert!(rt; put(&mut store, 0, &[2; 512 * 4]));
-    assert_eq!(rt; store.close().calls(), 1);
+    assert!(rt; all_go(&mut Direct::new(disk), &[Step::Has(0, [1, 1, 0, 0])]));
     Ok(())
 }
 
 #[test]
+fn mounted_again_it_has_its_room(rt: HostRuntime) -> Result<(), Fail> {
+    let mut store = cached(rt.alloc(), 4)?;
+    assert!(rt; all_go(&mut store, &[Step::Put(0, 2, 1)]));
+    let mut store = store.crash(Loss::Keep);
+    // It holds nothing back.
+    let steps = [Step::Has(0, [0, 0, 0, 0]), Step::Put(0, 4, 2)];
+    assert!(rt; all_go(&mut store, &steps));
+    assert!(rt; store.close().calls() == 1);
+    Ok(())
+}
+
+/// Whether a store of either kind runs, and makes so many calls of its disk.
+fn runs(mut store: AnyStore<MemDisk>, calls: u64) -> bool {
+    let steps = [
+        Step::Put(0, 1, 1),
+        Step::Put(1, 1, 2),
+        Step::Syncs,
+        Step::StopsAt(1),
+        Step::Unread(0),
+        Step::IsOut(true),
+    ];
+    let has_gone = all_go(&mut store, &steps);
+    let disk = store.close();
+    has_gone && disk.calls() == calls
+}
+
+#[test]
 fn either_store_runs(rt: HostRuntime) -> Result<(), Fail> {
-    let direct = AnyStore::Direct(Direct::new(MemDisk::new(rt.alloc(), 128)?));
-    let cached = AnyStore::Cached(cached(&rt, 4)?);
-    for (mut store, calls) in [(direct, 4), (cached, 3)] {
-        assert!(rt; fill(&mut store, 0, 1));
-        assert!(rt; fill(&mut store, 1, 2));
-        assert!(rt; store.sync().is_ok());
-        store.arm(Arm::Stop(1));
-        assert_eq!(rt; four(&mut store, 0), None);
-        assert!(rt; store.is_out());
-        assert_eq!(rt; store.close().calls(), calls);
-    }
+    let direct = Direct::new(MemDisk::new(rt.alloc(), 128)?);
+    assert!(rt; runs(AnyStore::Direct(direct), 4));
+    assert!(rt; runs(AnyStore::Cached(cached(rt.alloc(), 4)?), 3));
     Ok(())
 }

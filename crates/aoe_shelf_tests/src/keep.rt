@@ -1,7 +1,10 @@
+ghost use Rattle.std.specs.Prelude.{◌<◌};
+
 use aoe_base::Mac;
 use aoe_disk::{Arm, Disk, Loss, MemDisk};
 use aoe_keep::{Keep, MountRefusal};
-use aoe_lists::Lists;
+use aoe_lists::{AddressList, Lists};
+use std::alloc::Global;
 use std::test::Fail;
 
 /// Lists with this config string.
@@ -12,7 +15,10 @@ fn lists_of(string: &[u8]) -> Lists {
 }
 
 /// The first byte of the config string that a mounting finds, or its refusal.
-fn found(disk: MemDisk) -> Result<Option<u8>, MountRefusal> {
+type FoundString = Result<Option<u8>, MountRefusal>;
+
+/// What a mounting finds.
+fn found(disk: MemDisk) -> FoundString {
     match Keep::mount(disk) {
         Ok(keep) => Ok(keep.lists().config.as_slice().first().copied()),
         Err((refusal, _)) => Err(refusal),
@@ -56,90 +62,118 @@ fn read(disk: &mut MemDisk, at: u64) -> Option<[u8; 512]> {
     Some(sector)
 }
 
+/// An empty keep of so many zero sectors.
+fn empty_keep(alloc: Global, sectors: u64) -> Result<Keep<MemDisk>, Fail>
+    requires { sectors < 18 }
+{
+    let disk = MemDisk::new(alloc, sectors)?;
+    match Keep::mount(disk) {
+        Ok(keep) => Ok(keep),
+        Err(_) => Err(Fail::from("zeros are an empty keep")),
+    }
+}
+
+/// Whether a replacement that stops at the `k`-th call is Ok as it is to be, and leaves this string
+/// after a loss of power.
+fn stops(alloc: Global, k: u32, how: Loss, wanted: Option<u8>) -> Result<bool, Fail>
+    requires { 0 < k }
+{
+    let mut keep = empty_keep(alloc, 16)?;
+    keep.arm(Arm::Stop(k));
+    let is_done = keep.replace(&lists_of(b"ab")).is_ok();
+    let is_out = keep.is_out();
+    let left = found(keep.close().crash(how));
+    Ok(is_done == (k == 7) && is_out == (k < 7) && left == Ok(wanted))
+}
+
 #[test]
 fn outlives_a_stop_at_each_call(rt: HostRuntime) -> Result<(), Fail> {
-    let next = lists_of(b"ab");
     for k in 1..8u32 {
         for how in [Loss::Keep, Loss::Old, Loss::Torn, Loss::Mix(0)] {
-            let disk = MemDisk::new(rt.alloc(), 16)?;
-            let mut keep = Keep::mount(disk)
-                .ok()
-                .expect(&rt, "zeros are an empty keep");
-            keep.arm(Arm::Stop(k));
-            assert_eq!(rt; keep.replace(&next).is_ok(), k == 7);
-            assert_eq!(rt; keep.is_out(), k < 7);
             let is_next = k == 7 || k == 6 && how != Loss::Old;
             let wanted = if is_next { Some(b'a') } else { None };
-            assert_eq!(rt; found(keep.close().crash(how)), Ok(wanted));
+            assert!(rt; stops(rt.alloc(), k, how, wanted)?);
         }
     }
     Ok(())
 }
 
+/// Whether a mounting finds this where the slots have these turns, and the first is open or not.
+fn finds(
+    alloc: Global,
+    is_open: bool,
+    first: u8,
+    second: u8,
+    wanted: FoundString,
+) -> Result<bool, Fail> {
+    let mut disk = MemDisk::new(alloc, 16)?;
+    let body = body_of(first, b'x');
+    let is_first = if is_open {
+        open_slot(&mut disk, 0, &body)
+    } else {
+        write_body(&mut disk, 0, &body)
+    };
+    let is_second = open_slot(&mut disk, 1, &body_of(second, b'y'));
+    Ok(found(disk) == wanted && is_first && is_second)
+}
+
 #[test]
 fn finds_the_later_of_two_slots(rt: HostRuntime) -> Result<(), Fail> {
-    let turns: [(u8, u8, Result<Option<u8>, MountRefusal>); 4] = [
-        (0, 0, Err(MountRefusal::BadKeep { slot: 1 })),
-        (0, 1, Ok(Some(b'y'))),
-        (0, 2, Ok(Some(b'x'))),
-        (2, 0, Ok(Some(b'y'))),
+    let cases: [(bool, u8, u8, FoundString); 5] = [
+        (true, 0, 0, Err(MountRefusal::BadKeep { slot: 1 })),
+        (true, 0, 1, Ok(Some(b'y'))),
+        (true, 0, 2, Ok(Some(b'x'))),
+        (true, 2, 0, Ok(Some(b'y'))),
+        (false, 0, 0, Ok(Some(b'y'))),
     ];
-    for (first, second, wanted) in turns {
-        let mut disk = MemDisk::new(rt.alloc(), 16)?;
-        assert!(rt; open_slot(&mut disk, 0, &body_of(first, b'x')));
-        assert!(rt; open_slot(&mut disk, 1, &body_of(second, b'y')));
-        assert_eq!(rt; found(disk), wanted);
+    for (is_open, first, second, wanted) in cases {
+        assert!(rt; finds(rt.alloc(), is_open, first, second, wanted)?);
     }
-
-    let mut disk = MemDisk::new(rt.alloc(), 16)?;
-    assert!(rt; write_body(&mut disk, 0, &body_of(0, b'x')));
-    assert!(rt; open_slot(&mut disk, 1, &body_of(0, b'y')));
-    assert_eq!(rt; found(disk), Ok(Some(b'y')));
     Ok(())
+}
+
+/// Whether a mounting refuses a body.
+fn is_bad(alloc: Global, body: &[u8; 3584]) -> Result<bool, Fail> {
+    let mut disk = MemDisk::new(alloc, 16)?;
+    let bad = MountRefusal::BadKeep { slot: 0 };
+    let is_open = open_slot(&mut disk, 0, body);
+    Ok(found(disk) == Err(bad) && is_open)
 }
 
 #[test]
 fn refuses_bad_bodies(rt: HostRuntime) -> Result<(), Fail> {
-    let mut long = body_of(0, b'x');
-    long[6] = 4;
-    let mut twice = body_of(0, b'x');
-    twice[8] = 2;
-    let mut noisy = body_of(0, b'x');
-    noisy[3583] = 1;
-    let mut other_format = body_of(0, b'x');
-    other_format[4] = 2;
-    let mut crowded = body_of(0, b'x');
-    crowded[9] = 65;
-    let bad = [
-        body_of(3, b'x'),
-        long,
-        twice,
-        noisy,
-        other_format,
-        crowded,
-        [0; 3584],
-    ];
-    for body in bad {
-        let mut disk = MemDisk::new(rt.alloc(), 16)?;
-        assert!(rt; open_slot(&mut disk, 0, &body));
-        assert_eq!(rt; found(disk), Err(MountRefusal::BadKeep { slot: 0 }));
+    assert!(rt; is_bad(rt.alloc(), &[0; 3584])?);
+    // Where a byte of a sound body is changed: its turn, its format, its lengths, its end.
+    for (at, byte) in [(5, 3), (6, 4), (8, 2), (3583, 1), (4, 2), (9, 65)] {
+        let mut body = body_of(0, b'x');
+        if at < 3584 {
+            body[at] = byte;
+        }
+        assert!(rt; is_bad(rt.alloc(), &body)?);
     }
     Ok(())
+}
+
+/// What a mounting finds where its `k`-th call fails.
+fn found_failing(alloc: Global, k: u32) -> Result<FoundString, Fail>
+    requires { 0 < k }
+{
+    let mut disk = MemDisk::new(alloc, 16)?;
+    disk.fail_at(k);
+    Ok(found(disk))
 }
 
 #[test]
 fn refuses_small_disks_and_failures(rt: HostRuntime) -> Result<(), Fail> {
     let small = MemDisk::new(rt.alloc(), 15)?;
-    assert_eq!(rt; found(small), Err(MountRefusal::TooSmall { sectors: 15 }));
+    assert!(rt; found(small) == Err(MountRefusal::TooSmall { sectors: 15 }));
     for k in 1..5u32 {
-        let mut disk = MemDisk::new(rt.alloc(), 16)?;
-        disk.fail_at(k);
         let wanted = if k < 4 {
             Err(MountRefusal::Failed)
         } else {
             Ok(None)
         };
-        assert_eq!(rt; found(disk), wanted);
+        assert!(rt; found_failing(rt.alloc(), k)? == wanted);
     }
     Ok(())
 }
@@ -157,62 +191,81 @@ fn says_why_a_disk_is_not_mounted(rt: HostRuntime) -> Result<(), Fail> {
     ];
     for (refusal, wanted) in texts {
         let text = format!(in rt.alloc(); "{refusal}")?;
-        assert_eq!(rt; text.as_str(), wanted);
+        assert!(rt; text.as_str() == wanted);
     }
     Ok(())
+}
+
+/// Replaces the lists, and says whether that was Ok and they are these.
+fn replaces(keep: &mut Keep<MemDisk>, lists: &Lists) -> bool {
+    keep.replace(lists).is_ok() && *keep.lists() == *lists
+}
+
+/// Lists with the string `ab` and a station.
+fn lists_with_a_station() -> Lists {
+    let mut lists = lists_of(b"ab");
+    let mut masks = AddressList::new();
+    masks.push(Mac([2, 0, 0, 0, 0, 0x0a]));
+    lists.masks = masks;
+    lists
+}
+
+/// Whether a sector begins so, and is zero behind.
+fn is_sector(disk: &mut MemDisk, at: u64, begin: &[u8]) -> bool {
+    let Some(sector) = read(disk, at) else {
+        return false;
+    };
+    let zeros = [0; 512];
+    sector.as_slice().starts_with(begin)
+        && sector.as_slice().get(begin.len()..) == zeros.as_slice().get(begin.len()..)
 }
 
 #[test]
 fn writes_the_slots_in_turn(rt: HostRuntime) -> Result<(), Fail> {
-    let disk = MemDisk::new(rt.alloc(), 17)?;
-    let mut keep = Keep::mount(disk)
-        .ok()
-        .expect(&rt, "zeros are an empty keep");
-    let mut next = lists_of(b"ab");
-    let mut masks = aoe_lists::AddressList::new();
-    masks.push(Mac([2, 0, 0, 0, 0, 0x0a]));
-    next.masks = masks;
-    assert!(rt; keep.replace(&next).is_ok());
-    assert!(rt; keep.replace(&lists_of(b"c")).is_ok());
-    assert!(rt; keep.replace(&lists_of(b"d")).is_ok());
-    assert!(rt; keep.replace(&next).is_ok());
-    assert!(rt; *keep.lists() == next);
-
+    let mut keep = empty_keep(rt.alloc(), 17)?;
+    assert!(rt; replaces(&mut keep, &lists_with_a_station()));
+    assert!(rt; replaces(&mut keep, &lists_of(b"c")));
+    assert!(rt; replaces(&mut keep, &lists_of(b"d")));
+    assert!(rt; replaces(&mut keep, &lists_with_a_station()));
     let mut disk = keep.close();
     // A mounting of closed slots has three calls, and a replacement six.
-    assert_eq!(rt; disk.calls(), 27);
-    let mut open = [0; 512];
-    open[0] = 0xa7;
-    assert_eq!(rt; read(&mut disk, 0), Some(open));
-    assert_eq!(rt; read(&mut disk, 8), Some(open));
-
+    assert!(rt; disk.calls() == 27);
     // The fourth replacement is in slot 1 again, and its turn is 0 again.
-    let mut body = [0; 512];
-    let begin = [
+    let body = [
         b'A', b'o', b'E', b'K', 1, 0, 0, 2, 1, 0, b'a', b'b', 2, 0, 0, 0, 0, 0x0a,
     ];
-    body[..18].copy_from_slice(&begin);
-    assert_eq!(rt; read(&mut disk, 9), Some(body));
-    for at in [10, 15, 16] {
-        assert_eq!(rt; read(&mut disk, at), Some([0; 512]));
+    let sectors: [(u64, &[u8]); 6] = [
+        (0, b"\xa7"),
+        (8, b"\xa7"),
+        (9, &body),
+        (10, b""),
+        (15, b""),
+        (16, b""),
+    ];
+    for (at, begin) in sectors {
+        assert!(rt; is_sector(&mut disk, at, begin));
     }
-    assert_eq!(rt; found(disk), Ok(Some(b'a')));
+    assert!(rt; found(disk) == Ok(Some(b'a')));
     Ok(())
+}
+
+/// Whether a replacement fails with its `k`-th call, and leaves the lists.
+fn fails(keep: &mut Keep<MemDisk>, k: u32, lists: &Lists) -> bool
+    requires { 0 < k }
+{
+    keep.arm(Arm::Fail(k));
+    keep.replace(&lists_of(b"b")).is_err() && *keep.lists() == *lists
 }
 
 #[test]
 fn keeps_the_lists_after_a_failure(rt: HostRuntime) -> Result<(), Fail> {
-    let disk = MemDisk::new(rt.alloc(), 16)?;
-    let mut keep = Keep::mount(disk)
-        .ok()
-        .expect(&rt, "zeros are an empty keep");
-    assert!(rt; keep.replace(&lists_of(b"a")).is_ok());
+    let mut keep = empty_keep(rt.alloc(), 16)?;
+    let lists = lists_of(b"a");
+    assert!(rt; replaces(&mut keep, &lists));
     for k in 1..7u32 {
-        keep.arm(Arm::Fail(k));
-        assert!(rt; keep.replace(&lists_of(b"b")).is_err());
-        assert!(rt; *keep.lists() == lists_of(b"a"));
+        assert!(rt; fails(&mut keep, k, &lists));
     }
-    assert!(rt; keep.replace(&lists_of(b"c")).is_ok());
-    assert_eq!(rt; found(keep.close().crash(Loss::Old)), Ok(Some(b'c')));
+    assert!(rt; replaces(&mut keep, &lists_of(b"c")));
+    assert!(rt; found(keep.close().crash(Loss::Old)) == Ok(Some(b'c')));
     Ok(())
 }

@@ -109,30 +109,52 @@ fn arguments_that_are_not_taken(rt: HostRuntime) {
     }
 }
 
+/// Whether lists and their copy have this config string and no stations.
+fn is_string(lists: &Lists, string: &[u8]) -> bool {
+    lists.config.as_slice() == string
+        && lists.masks.is_empty()
+        && lists.reserves.is_empty()
+        && lists.copy() == *lists
+}
+
 #[test]
 fn a_string_is_set_once(rt: HostRuntime) {
     let set = b"\x00\x00\x00\x00\x00\x03\x00\x02ab";
     let reply = b"\x00\x10\x00\x01\x02\x13\x00\x02ab";
     let told = ask_config(&Lists::new(), set);
-    assert!(rt; is_change(&told, reply));
+    assert!(rt; is_change(&told, reply) && is_string(&told.2, b"ab"));
     let lists = told.2;
-    assert_eq!(rt; lists.config.as_slice(), b"ab".as_slice());
-    assert!(rt; lists.masks.is_empty() && lists.reserves.is_empty());
-    assert_eq!(rt; lists.copy(), lists);
-    assert_eq!(rt; Lists::default(), Lists::new());
-    assert!(rt; is_reply(&ask_config(&lists, set), None, reply));
-    let other = b"\x00\x00\x00\x00\x00\x03\x00\x02cd";
     let present = Some(AoeError::ConfigStringPresent);
-    assert!(rt; is_reply(&ask_config(&lists, other), present, reply));
-    let prefix = b"\x00\x00\x00\x00\x00\x02\x00\x01a";
-    let told = b"\x00\x10\x00\x01\x02\x12\x00\x02ab";
-    assert!(rt; is_reply(&ask_config(&lists, prefix), None, told));
+    let cases: [(&[u8], Option<AoeError>, &[u8]); 4] = [
+        (set, None, reply),
+        (b"\x00\x00\x00\x00\x00\x03\x00\x02cd", present, reply),
+        (
+            b"\x00\x00\x00\x00\x00\x02\x00\x01a",
+            None,
+            b"\x00\x10\x00\x01\x02\x12\x00\x02ab",
+        ),
+        (
+            b"\x00\x00\x00\x00\x00\xf0\xff\xff",
+            None,
+            b"\x00\x10\x00\x01\x02\x10\x00\x02ab",
+        ),
+    ];
+    for (bytes, error, reply) in cases {
+        assert!(rt; is_reply(&ask_config(&lists, bytes), error, reply));
+    }
     let test = b"\x00\x00\x00\x00\x00\x01\x00\x01a";
-    assert_eq!(rt; ask_config(&lists, test).0, Answer::Silent);
-    assert_eq!(rt; ConfigCommand::TestPrefix.code(), 2);
-    let read = b"\x00\x00\x00\x00\x00\xf0\xff\xff";
-    let whole = b"\x00\x10\x00\x01\x02\x10\x00\x02ab";
-    assert!(rt; is_reply(&ask_config(&lists, read), None, whole));
+    assert!(rt; ask_config(&lists, test).0 == Answer::Silent);
+}
+
+#[test]
+fn words_have_their_codes(rt: HostRuntime) {
+    let codes = [
+        ConfigCommand::TestPrefix.code(),
+        ReserveCommand::ForceSet.code(),
+        MaskCommand::Edit.code(),
+        MaskError::ListFull.code(),
+    ];
+    assert!(rt; codes == [2, 2, 1, 3] && Lists::default() == Lists::new());
 }
 
 /// A mask list request with an edit that adds 64 addresses, A the first of them.
@@ -144,60 +166,58 @@ fn full_list() -> Args {
     bytes
 }
 
+/// Whether a request is answered by these arguments, and the mask list is left.
+fn leaves_masks(lists: &Lists, bytes: &[u8], reply: &[u8]) -> bool {
+    is_reply(&ask_masks(lists, bytes), None, reply)
+}
+
 #[test]
-fn an_edit_is_done_whole_or_not_at_all(rt: HostRuntime) {
-    let (answer, args, lists) = ask_masks(&Lists::new(), &full_list());
-    assert_eq!(rt; answer, Answer::Change);
-    assert_eq!(rt; args.len(), 4 + 64 * 8);
-    assert_eq!(rt; lists.masks.len(), 64);
+fn an_edit_that_fails_is_not_done(rt: HostRuntime) {
+    let empty = Lists::new();
+    let unknown = b"\x00\x01\x00\x01\x00\x03\x02\x00\x00\x00\x00\x0a";
+    assert!(rt; leaves_masks(&empty, unknown, b"\x00\x01\x02\x00"));
+    assert!(rt; leaves_masks(&empty, b"\x00\x00\x00\xff", b"\x00\x00\x00\x00"));
+    let told = ask_masks(&Lists::new(), &full_list());
     let edit =
         b"\x00\x01\x00\x03\x00\x02\x02\x00\x00\x00\x00\x0b\x00\x01\x02\x00\x00\x00\x01\x00\x00\x01\x02\x00\x00\x00\x01\x01";
-    assert!(rt; is_reply(&ask_masks(&lists, edit), None, b"\x00\x01\x03\x00"));
-    assert_eq!(rt; MaskError::ListFull.code(), 3);
-    assert_eq!(rt; MaskCommand::Edit.code(), 1);
-    assert!(rt; admits(&lists, B));
-    let unknown = b"\x00\x01\x00\x01\x00\x03\x02\x00\x00\x00\x00\x0a";
-    assert!(rt;
-        is_reply(
-            &ask_masks(&Lists::new(), unknown),
-            None,
-            b"\x00\x01\x02\x00"
-        )
-    );
+    assert!(rt; leaves_masks(&told.2, edit, b"\x00\x01\x03\x00") && admits(&told.2, B));
+}
+
+#[test]
+fn an_edit_is_done_whole(rt: HostRuntime) {
+    let (answer, args, lists) = ask_masks(&Lists::new(), &full_list());
+    assert!(rt; answer == Answer::Change && args.len() == 4 + 64 * 8 && lists.masks.len() == 64);
     let delete =
         b"\x00\x01\x00\x02\x00\x02\x02\x00\x00\x00\x00\x0a\x00\x02\x02\x00\x00\x00\x00\x0a";
     let (answer, _, fewer) = ask_masks(&lists, delete);
-    assert_eq!(rt; answer, Answer::Change);
-    assert!(rt; !admits(&fewer, A));
-    assert!(rt; admits(&fewer, B));
-    let read = ask_masks(&Lists::new(), b"\x00\x00\x00\xff");
-    assert!(rt; is_reply(&read, None, b"\x00\x00\x00\x00"));
+    assert!(rt; answer == Answer::Change && !admits(&fewer, A) && admits(&fewer, B));
 }
 
 #[test]
 fn a_reservation_is_taken_by_force(rt: HostRuntime) {
-    let set = b"\x01\x01\x02\x00\x00\x00\x00\x0a";
-    let told = ask_reserves(&Lists::new(), A, set);
-    assert!(rt; is_change(&told, set));
-    let lists = told.2;
-    assert!(rt; !may_use(&lists, B));
+    let set = b"\x01\x01\x02\x00\x00\x00\x00\x0a".as_slice();
+    let force = b"\x02\x01\x02\x00\x00\x00\x00\x0b".as_slice();
+    let twice = b"\x01\x03\x02\x00\x00\x00\x00\x0b\x02\x00\x00\x00\x00\x0c\x02\x00\x00\x00\x00\x0b";
+    let once = b"\x01\x02\x02\x00\x00\x00\x00\x0b\x02\x00\x00\x00\x00\x0c";
+    // The station, its request, the reply, and whether another station may use the device then.
+    let steps: [(Mac, &[u8], &[u8], Mac, bool); 3] = [
+        (A, set, set, B, false),
+        (B, force, force, A, false),
+        (B, twice, once, C, true),
+    ];
+    let mut lists = Lists::new();
+    for (source, bytes, reply, other, is_user) in steps {
+        let told = ask_reserves(&lists, source, bytes);
+        assert!(rt; is_change(&told, reply) && may_use(&told.2, other) == is_user);
+        lists = told.2;
+        assert!(rt; admits(&lists, A));
+    }
+}
+
+#[test]
+fn a_reservation_is_kept(rt: HostRuntime) {
+    let (_, _, lists) = ask_reserves(&Lists::new(), A, b"\x01\x01\x02\x00\x00\x00\x00\x0a");
     let other = b"\x01\x01\x02\x00\x00\x00\x00\x0b";
     let reserved = Some(AoeError::TargetIsReserved);
     assert!(rt; is_reply(&ask_reserves(&lists, B, other), reserved, b""));
-    let force = b"\x02\x01\x02\x00\x00\x00\x00\x0b";
-    let told = ask_reserves(&lists, B, force);
-    assert!(rt; is_change(&told, force));
-    let lists = told.2;
-    assert_eq!(rt; ReserveCommand::ForceSet.code(), 2);
-    assert!(rt; !may_use(&lists, A));
-    assert!(rt; admits(&lists, A));
-    let twice = b"\x01\x03\x02\x00\x00\x00\x00\x0b\x02\x00\x00\x00\x00\x0c\x02\x00\x00\x00\x00\x0b";
-    let told = ask_reserves(&lists, B, twice);
-    assert!(rt;
-        is_change(
-            &told,
-            b"\x01\x02\x02\x00\x00\x00\x00\x0b\x02\x00\x00\x00\x00\x0c"
-        )
-    );
-    assert!(rt; may_use(&told.2, C));
 }

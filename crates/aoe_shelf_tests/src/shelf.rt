@@ -1,4 +1,4 @@
-ghost use Rattle.std.specs.Prelude.{◌≡◌, ◌<◌, length, IfOk};
+ghost use Rattle.std.specs.Prelude.{◌≡◌, ◌<◌, length};
 
 use aoe_base::{BROADCAST, Mac, Ports, Span, TargetId};
 use aoe_disk::{Arm, Disk, MemDisk};
@@ -28,32 +28,32 @@ fn empty_shelf(alloc: Global) -> Result<MemShelf, Fail> {
     Ok(Shelf::new(alloc, 1, ports, 1500)?)
 }
 
-/// Adds a target of 16 zero sectors without lists.
-fn add(alloc: Global, shelf: &mut MemShelf, minor: u8) -> Result<Result<(), ShelfRefusal>, Fail>
+/// The keep of 16 zero sectors.
+fn empty_keep(alloc: Global) -> Result<Keep<MemDisk>, Fail> {
+    match Keep::mount(MemDisk::new(alloc, 16)?) {
+        Ok(keep) => Ok(keep),
+        Err(_) => Err(Fail::from("no keep")),
+    }
+}
+
+/// Adds a target of 16 zero sectors without lists, and says why it was refused.
+fn add(alloc: Global, shelf: &mut MemShelf, minor: u8) -> Result<Option<ShelfRefusal>, Fail>
     requires { minor < 255 }
 {
     let store = Direct::new(MemDisk::new(alloc, 16)?);
-    let Ok(keep) = Keep::mount(MemDisk::new(alloc, 16)?) else {
-        return Err(Fail::from("no keep"));
-    };
-    match shelf.add(minor, store, keep) {
-        Ok(()) => Ok(Ok(())),
-        Err((refusal, _, _)) => Ok(Err(refusal)),
+    match shelf.add(minor, store, empty_keep(alloc)?) {
+        Ok(()) => Ok(None),
+        Err((refusal, _, _)) => Ok(Some(refusal)),
     }
 }
 
 /// The shelf with the targets 1.7 and 1.3.
-fn shelf_of_two(alloc: Global) -> Result<MemShelf, Fail>
-    ensures { IfOk result (λ shelf. length shelf.targets ≡ 2) }
-{
+fn shelf_of_two(alloc: Global) -> Result<MemShelf, Fail> {
     let mut shelf = empty_shelf(alloc)?;
     for minor in [7, 3] {
-        if add(alloc, &mut shelf, minor)?.is_err() {
+        if add(alloc, &mut shelf, minor)?.is_some() {
             return Err(Fail::from("not added"));
         }
-    }
-    if shelf.count() != 2 {
-        return Err(Fail::from("not two targets"));
     }
     Ok(shelf)
 }
@@ -74,90 +74,148 @@ fn request(to: Mac, major: [u8; 2], minor: u8, command: u8, args: &[u8]) -> Fram
     joined(&[&to.0, &STATION.0, &middle, args])
 }
 
-/// The reply of a target of the shelf 1.
-fn reply(minor: u8, command: u8, args: &[u8]) -> Frame {
-    let middle = [0x88, 0xa2, 0x18, 0, 0, 1, minor, command, 0, 0, 0, 7];
+/// The reply of a target of the shelf 1. `error` is byte 15.
+fn reply(minor: u8, error: u8, command: u8, args: &[u8]) -> Frame {
+    let flags = if error == 0 { 0x18 } else { 0x1c };
+    let middle = [0x88, 0xa2, flags, error, 0, 1, minor, command, 0, 0, 0, 7];
     let mut frame = joined(&[&STATION.0, &PORT.0, &middle, args]);
     pad(&mut frame);
     frame
 }
 
-fn replied(effect: Effect) -> Heard {
-    Heard::Replied { effect }
+/// What becomes of a frame at a slot, and whether the reply is this one.
+fn hears(shelf: &mut MemShelf, slot: usize, frame: &Frame, told: &[u8]) -> Option<Effect> {
+    if slot >= shelf.count() {
+        return None;
+    }
+    let mut out = Frame::new();
+    match shelf.receive_slot(slot, frame.as_slice(), &mut out) {
+        Heard::Replied { effect } if out.as_slice() == told => Some(effect),
+        _ => None,
+    }
+}
+
+/// The name of the target at a slot.
+fn name(shelf: &MemShelf, slot: usize) -> Option<TargetId> {
+    if slot < shelf.count() {
+        Some(shelf.id(slot))
+    } else {
+        None
+    }
 }
 
 #[test]
 fn a_frame_for_all_targets(rt: HostRuntime) -> Result<(), Fail> {
     let mut shelf = shelf_of_two(rt.alloc())?;
     let query = request(BROADCAST, [0xff, 0xff], 0xff, 1, QUERY);
-    let mut out = Frame::new();
     for (slot, minor) in [(0, 7), (1, 3)] {
-        assert!(rt; slot < shelf.count());
-        if slot < shelf.count() {
-            let heard = shelf.receive_slot(slot, query.as_slice(), &mut out);
-            assert_eq!(rt; heard, replied(Effect::None));
-            let told = reply(minor, 1, b"\0\x10\0\x01\x02\x10\0\0");
-            assert_eq!(rt; out.as_slice(), told.as_slice());
-            assert_eq!(rt; shelf.id(slot), TargetId { major: 1, minor });
-        }
+        let told = reply(minor, 0, 1, b"\0\x10\0\x01\x02\x10\0\0");
+        assert!(rt; hears(&mut shelf, slot, &query, told.as_slice()) == Some(Effect::None));
+        assert!(rt; name(&shelf, slot) == Some(TargetId { major: 1, minor }));
     }
     Ok(())
+}
+
+/// Whether a slot ignores a frame.
+fn ignores(shelf: &mut MemShelf, slot: usize, frame: &Frame) -> bool {
+    let mut out = Frame::new();
+    slot < shelf.count()
+        && shelf.receive_slot(slot, frame.as_slice(), &mut out) == Heard::Ignored
+        && out.is_empty()
+}
+
+/// Whether a slot has this config string.
+fn has_string(shelf: &MemShelf, slot: usize, string: &[u8]) -> bool {
+    slot < shelf.count() && shelf.lists(slot).config.as_slice() == string
 }
 
 #[test]
 fn a_frame_for_one_target(rt: HostRuntime) -> Result<(), Fail> {
     let mut shelf = shelf_of_two(rt.alloc())?;
-    let mut out = Frame::new();
     let set = request(PORT, [0, 1], 3, 1, SET);
-    let heard = shelf.receive_slot(0, set.as_slice(), &mut out);
-    assert_eq!(rt; heard, Heard::Ignored);
-    let heard = shelf.receive_slot(1, set.as_slice(), &mut out);
-    assert_eq!(rt; heard, replied(Effect::Edited));
-    assert_eq!(rt; shelf.lists(0).config.len(), 0);
-    assert_eq!(rt; shelf.lists(1).config.as_slice(), b"ab".as_slice());
+    let told = reply(3, 0, 1, b"\0\x10\0\x01\x02\x13\0\x02ab");
+    assert!(rt; ignores(&mut shelf, 0, &set));
+    assert!(rt; hears(&mut shelf, 1, &set, told.as_slice()) == Some(Effect::Edited));
+    assert!(rt; has_string(&shelf, 0, b"") && has_string(&shelf, 1, b"ab"));
+    Ok(())
+}
 
+/// Whether a slot is synced.
+fn syncs(shelf: &mut MemShelf, slot: usize) -> bool {
+    slot < shelf.count() && shelf.sync_slot(slot).is_ok()
+}
+
+/// Takes the last target, and gives its disk.
+fn take_disk(shelf: &mut MemShelf) -> Option<MemDisk> {
+    match shelf.take_last() {
+        Some((store, _)) => Some(store.close()),
+        None => None,
+    }
+}
+
+/// Whether so many calls of a disk were made, and its last sector has this byte.
+fn is_called(disk: &mut Option<MemDisk>, calls: u64, byte: u8) -> bool {
+    let Some(disk) = disk else {
+        return false;
+    };
+    let mut sector = [0xee; 512];
+    disk.calls() == calls
+        && disk.sectors() == 16
+        && disk.read(15, &mut sector).is_ok()
+        && sector == [byte; 512]
+}
+
+#[test]
+fn a_write_to_one_target(rt: HostRuntime) -> Result<(), Fail> {
+    let mut shelf = shelf_of_two(rt.alloc())?;
     let args = joined(&[b"\x41\0\x01\x34\x0f\0\0\0\0\0\0\0", &[7; 512]]);
     let write = request(PORT, [0, 1], 3, 0, args.as_slice());
-    let heard = shelf.receive_slot(1, write.as_slice(), &mut out);
-    assert_eq!(rt; heard, replied(Effect::Wrote(Span { at: 15, count: 1 })));
-    assert!(rt; shelf.sync_slot(0).is_ok());
-
+    let told = reply(3, 0, 0, b"\x41\0\0\x40\x0f\0\0\0\0\0\0\0");
+    let wrote = Effect::Wrote(Span { at: 15, count: 1 });
+    assert!(rt; hears(&mut shelf, 1, &write, told.as_slice()) == Some(wrote));
+    assert!(rt; syncs(&mut shelf, 0));
     // The last target made one write; the first one sync.
-    for (calls, byte) in [(1, 7), (1, 0)] {
-        let Some((store, _)) = shelf.take_last() else {
-            return Err(Fail::from("no target"));
-        };
-        let mut disk = store.close();
-        assert_eq!(rt; disk.calls(), calls);
-        let mut sector = [0; 512];
-        if disk.sectors() == 16 {
-            assert!(rt; disk.read(15, &mut sector).is_ok());
-        }
-        assert_eq!(rt; sector, [byte; 512]);
-    }
-    assert!(rt; shelf.take_last().is_none());
-    assert_eq!(rt; shelf.count(), 0);
+    assert!(rt; is_called(&mut take_disk(&mut shelf), 1, 7));
+    assert!(rt; is_called(&mut take_disk(&mut shelf), 1, 0));
+    assert!(rt; take_disk(&mut shelf).is_none() && shelf.count() == 0);
     Ok(())
+}
+
+/// Lets the store or the keep of a slot stop with its next call.
+fn stop(shelf: &mut MemShelf, slot: usize, is_keep: bool) {
+    if slot >= shelf.count() {
+        return;
+    }
+    if is_keep {
+        shelf.arm_keep(slot, Arm::Stop(1));
+    } else {
+        shelf.arm_store(slot, Arm::Stop(1));
+    }
+}
+
+/// Whether the store of a slot and its keep reached a stop.
+fn stopped(shelf: &MemShelf, slot: usize) -> Option<(bool, bool)> {
+    if slot < shelf.count() {
+        Some((shelf.store_is_out(slot), shelf.keep_is_out(slot)))
+    } else {
+        None
+    }
 }
 
 #[test]
 fn a_stop_of_one_target(rt: HostRuntime) -> Result<(), Fail> {
     let mut shelf = shelf_of_two(rt.alloc())?;
-    shelf.arm_store(1, Arm::Stop(1));
-    assert!(rt; shelf.sync_slot(0).is_ok());
-    assert!(rt; shelf.sync_slot(1).is_err());
-    assert!(rt; !shelf.store_is_out(0));
-    assert!(rt; shelf.store_is_out(1));
-
-    shelf.arm_keep(0, Arm::Stop(1));
+    stop(&mut shelf, 1, false);
+    assert!(rt; syncs(&mut shelf, 0) && !syncs(&mut shelf, 1));
+    stop(&mut shelf, 0, true);
     let set = request(BROADCAST, [0, 1], 0xff, 1, SET);
-    let mut out = Frame::new();
-    let heard = shelf.receive_slot(0, set.as_slice(), &mut out);
-    assert_eq!(rt; heard, replied(Effect::EditFault));
-    let heard = shelf.receive_slot(1, set.as_slice(), &mut out);
-    assert_eq!(rt; heard, replied(Effect::Edited));
-    assert!(rt; shelf.keep_is_out(0));
-    assert!(rt; !shelf.keep_is_out(1));
+    let failed = reply(7, 3, 1, SET);
+    let told = reply(3, 0, 1, b"\0\x10\0\x01\x02\x13\0\x02ab");
+    assert!(rt; hears(&mut shelf, 0, &set, failed.as_slice()) == Some(Effect::EditFault));
+    assert!(rt; hears(&mut shelf, 1, &set, told.as_slice()) == Some(Effect::Edited));
+    // The store of the second and the keep of the first.
+    assert!(rt; stopped(&shelf, 0) == Some((false, true)));
+    assert!(rt; stopped(&shelf, 1) == Some((true, false)));
     Ok(())
 }
 
@@ -165,21 +223,29 @@ fn a_stop_of_one_target(rt: HostRuntime) -> Result<(), Fail> {
 fn a_full_shelf(rt: HostRuntime) -> Result<(), Fail> {
     let mut shelf = empty_shelf(rt.alloc())?;
     for minor in 0..16u8 {
-        assert_eq!(rt; add(rt.alloc(), &mut shelf, minor)?, Ok(()));
+        assert!(rt; add(rt.alloc(), &mut shelf, minor)?.is_none());
     }
     for minor in [15, 16] {
-        let refused = add(rt.alloc(), &mut shelf, minor)?;
-        assert_eq!(rt; refused, Err(ShelfRefusal::Full));
+        assert!(rt; add(rt.alloc(), &mut shelf, minor)? == Some(ShelfRefusal::Full));
     }
-    assert_eq!(rt; shelf.count(), 16);
-    assert!(rt; shelf.take_last().is_some());
-    let refused = add(rt.alloc(), &mut shelf, 0)?;
-    assert_eq!(rt; refused, Err(ShelfRefusal::Repeated));
-    assert_eq!(rt; add(rt.alloc(), &mut shelf, 254)?, Ok(()));
+    assert!(rt; shelf.count() == 16 && shelf.take_last().is_some());
+    // The first of the two is there already.
+    let cases = [(0, Some(ShelfRefusal::Repeated)), (254, None)];
+    for (minor, refused) in cases {
+        assert!(rt; add(rt.alloc(), &mut shelf, minor)? == refused);
+    }
+    Ok(())
+}
 
-    let full = format!(in rt.alloc(); "{}", ShelfRefusal::Full)?;
-    assert_eq!(rt; full.as_str(), "the shelf is full");
-    let repeated = format!(in rt.alloc(); "{}", ShelfRefusal::Repeated)?;
-    assert_eq!(rt; repeated.as_str(), "the minor is taken");
+#[test]
+fn says_why_a_target_is_not_added(rt: HostRuntime) -> Result<(), Fail> {
+    let texts = [
+        (ShelfRefusal::Full, "the shelf is full"),
+        (ShelfRefusal::Repeated, "the minor is taken"),
+    ];
+    for (refusal, wanted) in texts {
+        let text = format!(in rt.alloc(); "{refusal}")?;
+        assert!(rt; text.as_str() == wanted);
+    }
     Ok(())
 }

@@ -1,4 +1,4 @@
-ghost use Rattle.std.specs.Prelude.{◌≡◌, ◌≤◌, None, length};
+ghost use Rattle.std.specs.Prelude.{◌≡◌, ◌≤◌, ◌<◌, None, length};
 ghost use Rattle.aoe_base.specs.Faults.{Rose};
 
 use aoe_base::{Failed, Mac, Ports, Span, TargetId};
@@ -23,10 +23,6 @@ const DONE: Heard = Heard::Replied {
     effect: Effect::None,
 };
 
-const EDITED: Heard = Heard::Replied {
-    effect: Effect::Edited,
-};
-
 /// The target 1.0, behind one port.
 fn target_of<S: Store, D: Disk>(store: S, keep: Keep<D>) -> Target<S, D> {
     let mut ports = Ports::new();
@@ -35,8 +31,10 @@ fn target_of<S: Store, D: Disk>(store: S, keep: Keep<D>) -> Target<S, D> {
     Target::mount(store, keep, id, ports, 1500)
 }
 
+type MemTarget = Target<Direct<MemDisk>, MemDisk>;
+
 /// The target of 16 zero sectors, with the lists of a disk.
-fn target_over(alloc: Global, keep: MemDisk) -> Result<Target<Direct<MemDisk>, MemDisk>, Fail> {
+fn target_over(alloc: Global, keep: MemDisk) -> Result<MemTarget, Fail> {
     let disk = MemDisk::new(alloc, 16)?;
     let Ok(keep) = Keep::mount(keep) else {
         return Err(Fail::from("no keep"));
@@ -45,7 +43,7 @@ fn target_over(alloc: Global, keep: MemDisk) -> Result<Target<Direct<MemDisk>, M
 }
 
 /// The target with a keep of 16 zero sectors.
-fn target(alloc: Global) -> Result<Target<Direct<MemDisk>, MemDisk>, Fail> {
+fn target(alloc: Global) -> Result<MemTarget, Fail> {
     target_over(alloc, MemDisk::new(alloc, 16)?)
 }
 
@@ -72,6 +70,13 @@ fn reply(station: &[u8; 6], error: u8, command: u8, args: &[u8]) -> Frame {
     frame
 }
 
+/// What becomes of a frame, and the reply.
+fn hear<S: Store, D: Disk>(target: &mut Target<S, D>, frame: &Frame) -> (Heard, Frame) {
+    let mut out = Frame::new();
+    let heard = target.receive(frame.as_slice(), &mut out);
+    (heard, out)
+}
+
 /// What becomes of a request of version 1, and its reply.
 fn exchange<S: Store, D: Disk>(
     target: &mut Target<S, D>,
@@ -79,14 +84,29 @@ fn exchange<S: Store, D: Disk>(
     command: u8,
     args: &[u8],
 ) -> (Heard, Frame) {
-    let mut out = Frame::new();
-    let heard = target.receive(request(station, 0x10, command, args).as_slice(), &mut out);
-    (heard, out)
+    hear(target, &request(station, 0x10, command, args))
+}
+
+/// Whether a request of version 1 has this effect.
+fn has_effect<S: Store, D: Disk>(
+    target: &mut Target<S, D>,
+    command: u8,
+    args: &[u8],
+    effect: Effect,
+) -> bool {
+    let (heard, _) = exchange(target, &A, command, args);
+    heard == Heard::Replied { effect }
+}
+
+/// Whether this becomes of a frame, and the reply is this one.
+fn is_heard(target: &mut MemTarget, frame: &Frame, wanted: Heard, told: &[u8]) -> bool {
+    let (heard, out) = hear(target, frame);
+    heard == wanted && out.as_slice() == told
 }
 
 /// Whether a request of version 1 has this effect, and the reply this error and these arguments.
-fn answers<S: Store, D: Disk>(
-    target: &mut Target<S, D>,
+fn answers(
+    target: &mut MemTarget,
     station: &[u8; 6],
     command: u8,
     args: &[u8],
@@ -94,50 +114,57 @@ fn answers<S: Store, D: Disk>(
     error: u8,
     told: &[u8],
 ) -> bool {
-    let (heard, out) = exchange(target, station, command, args);
-    heard == Heard::Replied { effect }
-        && out.as_slice() == reply(station, error, command, told).as_slice()
+    let frame = request(station, 0x10, command, args);
+    let told = reply(station, error, command, told);
+    is_heard(target, &frame, Heard::Replied { effect }, told.as_slice())
+}
+
+/// Whether the config string is `ab`.
+fn is_set(target: &MemTarget) -> bool {
+    target.lists().config.as_slice() == b"ab".as_slice()
 }
 
 #[test]
 fn the_last_sector_and_behind_it(rt: HostRuntime) -> Result<(), Fail> {
     let mut target = target(rt.alloc())?;
     let one = joined(&[b"\x41\0\x01\x34\x0f\0\0\0\0\0\0\0", &[7; 512]]);
-    let wrote = Effect::Wrote(Span { at: 15, count: 1 });
-    let done = b"\x41\0\0\x40\x0f\0\0\0\0\0\0\0";
-    assert!(rt; answers(&mut target, &A, 0, one.as_slice(), wrote, 0, done));
-
     let two = joined(&[b"\x41\0\x02\x34\x0f\0\0\0\0\0\0\0", &[8; 1024]]);
-    let behind = b"\x41\x10\0\x41\x0f\0\0\0\0\0\0\0";
-    assert!(rt; answers(&mut target, &A, 0, two.as_slice(), Effect::None, 0, behind));
-
-    let read = b"\x40\0\x01\x24\x0f\0\0\0\0\0\0\0";
     let told = joined(&[b"\x40\0\0\x40\x0f\0\0\0\0\0\0\0", &[7; 512]]);
-    assert!(rt; answers(&mut target, &A, 0, read, Effect::None, 0, told.as_slice()));
+    let wrote = Effect::Wrote(Span { at: 15, count: 1 });
+    let cases: [(&[u8], Effect, &[u8]); 3] = [
+        (one.as_slice(), wrote, b"\x41\0\0\x40\x0f\0\0\0\0\0\0\0"),
+        (
+            two.as_slice(),
+            Effect::None,
+            b"\x41\x10\0\x41\x0f\0\0\0\0\0\0\0",
+        ),
+        (
+            b"\x40\0\x01\x24\x0f\0\0\0\0\0\0\0",
+            Effect::None,
+            told.as_slice(),
+        ),
+    ];
+    for (args, effect, told) in cases {
+        assert!(rt; answers(&mut target, &A, 0, args, effect, 0, told));
+    }
     let (store, _) = target.close();
-    assert_eq!(rt; store.close().calls(), 2);
+    assert!(rt; store.close().calls() == 2);
     Ok(())
 }
 
-/// Whether a request is answered by an error reply of 60 bytes, and nothing is changed or called.
-fn refuses(
-    mut target: Target<Direct<MemDisk>, MemDisk>,
-    version: u8,
-    command: u8,
-    args: &[u8],
-    error: u8,
-) -> bool {
-    let mut out = Frame::new();
-    let heard = target.receive(request(&A, version, command, args).as_slice(), &mut out);
-    let told = reply(&A, error, command, args.get(..36).unwrap_or(args));
+/// Whether the lists are empty, and nothing was called but what mounted the keep.
+fn is_untouched(target: MemTarget) -> bool {
     let is_kept = *target.lists() == Lists::new();
     let (store, keep) = target.close();
-    heard == DONE
-        && out.as_slice() == told.as_slice()
-        && out.len() == 60
-        && is_kept
-        && store.close().calls() == 0
-        && keep.close().calls() == 3
+    let calls = (store.close().calls(), keep.close().calls());
+    is_kept && calls == (0, 3)
+}
+
+/// Whether a request is answered by an error reply of 60 bytes, and nothing is changed or called.
+fn refuses(mut target: MemTarget, version: u8, command: u8, args: &[u8], error: u8) -> bool {
+    let (heard, out) = hear(&mut target, &request(&A, version, command, args));
+    let told = reply(&A, error, command, args.get(..36).unwrap_or(args));
+    is_untouched(target) && heard == DONE && out.as_slice() == told.as_slice() && out.len() == 60
 }
 
 #[test]
@@ -170,10 +197,16 @@ fn malformed_arguments(rt: HostRuntime) -> Result<(), Fail> {
         (0x20, 255, b"", b"", 5),
     ];
     for (version, command, begin, rest, error) in cases {
-        let target = target(rt.alloc())?;
         let args = joined(&[begin, rest]);
-        let is_refused = refuses(target, version, command, args.as_slice(), error);
-        assert!(rt; is_refused, "command {command}");
+        assert!(rt;
+            refuses(
+                target(rt.alloc())?,
+                version,
+                command,
+                args.as_slice(),
+                error
+            )
+        );
     }
     Ok(())
 }
@@ -181,21 +214,18 @@ fn malformed_arguments(rt: HostRuntime) -> Result<(), Fail> {
 #[test]
 fn malformed_values(rt: HostRuntime) -> Result<(), Fail> {
     let mut target = target(rt.alloc())?;
-    let unknown = b"\0\x01\0\x01\0\x03\x02\0\0\0\0\x0a";
-    assert!(rt;
-        answers(
-            &mut target,
-            &A,
-            2,
-            unknown,
-            Effect::None,
+    // The edit's second command is unknown; the read begins behind all sectors.
+    let cases: [(u8, &[u8], &[u8]); 2] = [
+        (2, b"\0\x01\0\x01\0\x03\x02\0\0\0\0\x0a", b"\0\x01\x02\0"),
+        (
             0,
-            b"\0\x01\x02\0"
-        )
-    );
-    let behind_all = b"\x40\0\x01\x24\xff\xff\xff\xff\xff\xff\0\0";
-    let told = b"\x40\x10\0\x41\xff\xff\xff\xff\xff\xff\0\0";
-    assert!(rt; answers(&mut target, &A, 0, behind_all, Effect::None, 0, told));
+            b"\x40\0\x01\x24\xff\xff\xff\xff\xff\xff\0\0",
+            b"\x40\x10\0\x41\xff\xff\xff\xff\xff\xff\0\0",
+        ),
+    ];
+    for (command, args, told) in cases {
+        assert!(rt; answers(&mut target, &A, command, args, Effect::None, 0, told));
+    }
     assert!(rt; *target.lists() == Lists::new());
     Ok(())
 }
@@ -203,7 +233,6 @@ fn malformed_values(rt: HostRuntime) -> Result<(), Fail> {
 #[test]
 fn whom_a_request_is_for(rt: HostRuntime) -> Result<(), Fail> {
     let mut target = target(rt.alloc())?;
-    let mut out = Frame::new();
     let told = reply(&A, 0, 1, b"\0\x10\0\x01\x02\x10\0\0");
     // The destination, the shelf and the slot, and what becomes of it.
     let cases = [
@@ -214,14 +243,11 @@ fn whom_a_request_is_for(rt: HostRuntime) -> Result<(), Fail> {
         (PORT, [0, 2, 0], Heard::Ignored),
         (PORT, [0, 1, 1], Heard::Ignored),
     ];
-    for (destination, id, wanted) in cases {
-        let [high, low, minor] = id;
+    for (destination, [high, low, minor], wanted) in cases {
         let middle = [0x88, 0xa2, 0x10, 0, high, low, minor, 1, 0, 0, 0, 7];
         let frame = joined(&[&destination, &A, &middle, &[0; 8]]);
-        out.clear();
-        let heard = target.receive(frame.as_slice(), &mut out);
         let reply = if wanted == DONE { told.as_slice() } else { b"" };
-        assert!(rt; heard == wanted && out.as_slice() == reply);
+        assert!(rt; is_heard(&mut target, &frame, wanted, reply));
     }
     Ok(())
 }
@@ -231,31 +257,27 @@ fn checks_in_their_order(rt: HostRuntime) -> Result<(), Fail> {
     let mut target = target(rt.alloc())?;
     let edit = joined(&[&[0, 1, 0, 1, 0, 1], &C]);
     let told = joined(&[&[0, 1, 0, 1, 0, 0], &C]);
-    let edited = Effect::Edited;
-    assert!(rt;
-        answers(
-            &mut target,
-            &C,
-            2,
-            edit.as_slice(),
-            edited,
+    let (edit, told) = (edit.as_slice(), told.as_slice());
+    assert!(rt; answers(&mut target, &C, 2, edit, Effect::Edited, 0, told));
+    let refused = reply(&C, 5, 1, &[0; 8]);
+    // The station, the version, the command, its arguments, what becomes of it, and the reply.
+    let cases: [(&[u8; 6], u8, u8, &[u8], Heard, &[u8]); 4] = [
+        (&A, 0x10, 2, &[0; 4], Heard::Silent, b""),
+        (
+            &A,
+            0x10,
             0,
-            told.as_slice()
-        )
-    );
-
-    let silent = [
-        request(&A, 0x10, 2, &[0; 4]),
-        request(&A, 0x10, 0, b"\x40\0\x01\x24\0\0\0\0\0\0\0\0"),
-        request(&A, 0x20, 1, &[0; 8]),
+            b"\x40\0\x01\x24\0\0\0\0\0\0\0\0",
+            Heard::Silent,
+            b"",
+        ),
+        (&A, 0x20, 1, &[0; 8], Heard::Silent, b""),
+        (&C, 0x20, 1, &[0; 8], DONE, refused.as_slice()),
     ];
-    let mut out = Frame::new();
-    for frame in &silent {
-        let heard = target.receive(frame.as_slice(), &mut out);
-        assert!(rt; heard == Heard::Silent && out.is_empty());
+    for (station, version, command, args, wanted, told) in cases {
+        let frame = request(station, version, command, args);
+        assert!(rt; is_heard(&mut target, &frame, wanted, told));
     }
-    let heard = target.receive(request(&C, 0x20, 1, &[0; 8]).as_slice(), &mut out);
-    assert!(rt; heard == DONE && out.as_slice() == reply(&C, 5, 1, &[0; 8]).as_slice());
     Ok(())
 }
 
@@ -280,6 +302,14 @@ fn reservations(rt: HostRuntime) -> Result<(), Fail> {
     Ok(())
 }
 
+/// How many calls of its keep a target has made, and the target that is mounted after a loss of power.
+fn mounted_again(alloc: Global, target: MemTarget) -> Result<(u64, MemTarget), Fail> {
+    let (_, keep) = target.close();
+    let disk = keep.close();
+    let calls = disk.calls();
+    Ok((calls, target_over(alloc, disk.crash(Loss::Old))?))
+}
+
 #[test]
 fn config_strings(rt: HostRuntime) -> Result<(), Fail> {
     let mut target = target(rt.alloc())?;
@@ -294,51 +324,55 @@ fn config_strings(rt: HostRuntime) -> Result<(), Fail> {
     for (args, effect, error) in steps {
         assert!(rt; answers(&mut target, &A, 1, args, effect, error, told));
     }
-    assert_eq!(rt; target.lists().config.as_slice(), b"ab".as_slice());
-
+    assert!(rt; is_set(&target));
     // A mounting with both gates closed makes 3 calls, and the one change of the lists 6.
-    let (_, keep) = target.close();
-    let disk = keep.close();
-    assert_eq!(rt; disk.calls(), 9);
-    let target = target_over(rt.alloc(), disk.crash(Loss::Old))?;
-    assert_eq!(rt; target.lists().config.as_slice(), b"ab".as_slice());
+    let (calls, target) = mounted_again(rt.alloc(), target)?;
+    assert!(rt; calls == 9 && is_set(&target));
     Ok(())
+}
+
+/// Whether a request whose edit fails with its `k`-th call changes nothing, and the same one sets the
+/// config string then.
+fn sets_the_second_time(alloc: Global, k: u32, set: &[u8]) -> Result<bool, Fail>
+    requires { 0 < k }
+{
+    let mut target = target(alloc)?;
+    target.arm_keep(Arm::Fail(k));
+    Ok(
+        answers(&mut target, &A, 1, set, Effect::EditFault, 3, set)
+            && target.lists().config.is_empty()
+            && !target.keep_is_out()
+            && has_effect(&mut target, 1, set, Effect::Edited)
+            && is_set(&target),
+    )
 }
 
 #[test]
 fn lists_that_can_not_be_kept(rt: HostRuntime) -> Result<(), Fail> {
     let set = b"\0\0\0\0\0\x03\0\x02ab";
-    let effect = Effect::EditFault;
     // Each of the six device calls of a change fails.
     for k in 1..7u32 {
-        let mut target = target(rt.alloc())?;
-        target.arm_keep(Arm::Fail(k));
-        assert!(rt;
-            answers(&mut target, &A, 1, set, effect, 3, set),
-            "call {k}"
-        );
-        assert!(rt; target.lists().config.is_empty() && !target.keep_is_out());
-        let (heard, _) = exchange(&mut target, &A, 1, set);
-        let is_kept = heard == EDITED && target.lists().config.as_slice() == b"ab".as_slice();
-        assert!(rt; is_kept, "behind call {k}");
+        assert!(rt; sets_the_second_time(rt.alloc(), k, set)?);
     }
-
     let mut target = target(rt.alloc())?;
     target.arm_keep(Arm::Stop(1));
-    let (heard, _) = exchange(&mut target, &A, 1, set);
-    assert!(rt; heard == Heard::Replied { effect } && target.keep_is_out());
+    assert!(rt; has_effect(&mut target, 1, set, Effect::EditFault) && target.keep_is_out());
     Ok(())
+}
+
+/// An edit that adds 64 stations, of which A is the first.
+fn full_list() -> Frame {
+    let mut edit = joined(&[&[0, 1, 0, 64, 0, 1], &A]);
+    for last in 0x10..0x4f {
+        let _ = edit.try_extend_from_slice(&[0, 1, 2, 0, 0, 0, 0, last]);
+    }
+    edit
 }
 
 #[test]
 fn an_edit_that_does_not_fit(rt: HostRuntime) -> Result<(), Fail> {
     let mut target = target(rt.alloc())?;
-    let mut edit = joined(&[&[0, 1, 0, 64, 0, 1], &A]);
-    for last in 0x10..0x4f {
-        let _ = edit.try_extend_from_slice(&[0, 1, 2, 0, 0, 0, 0, last]);
-    }
-    let (heard, _) = exchange(&mut target, &A, 2, edit.as_slice());
-    assert_eq!(rt; heard, EDITED);
+    assert!(rt; has_effect(&mut target, 2, full_list().as_slice(), Effect::Edited));
     let too_many = [
         0, 1, 0, 3, 0, 2, 2, 0, 0, 0, 0, 0x10, 0, 1, 2, 0, 0, 0, 0, 0x0b, 0, 1, 2, 0, 0, 0, 0, 0x0c,
     ];
@@ -358,23 +392,37 @@ fn an_edit_that_does_not_fit(rt: HostRuntime) -> Result<(), Fail> {
     Ok(())
 }
 
+/// Whether a reply is a page whose words 10 and 60 are these.
+fn is_page(out: &Frame, serial: &[u8], sectors: &[u8]) -> bool {
+    out.len() == 548
+        && out.as_slice().get(56..60) == Some(serial)
+        && out.as_slice().get(156..160) == Some(sectors)
+}
+
 #[test]
 fn identify_and_short_addresses(rt: HostRuntime) -> Result<(), Fail> {
     let mut target = target(rt.alloc())?;
     let (heard, out) = exchange(&mut target, &A, 0, b"\0\0\x01\xec\0\0\0\xa0\0\0\0\0");
-    assert!(rt; heard == DONE && out.len() == 548);
-    assert_eq!(rt; out.as_slice().get(56..60), Some(b"1e0.".as_slice()));
-    assert_eq!(rt;
-        out.as_slice().get(156..160),
-        Some(b"\x10\0\0\0".as_slice())
-    );
-
+    assert!(rt; heard == DONE && is_page(&out, b"1e0.", b"\x10\0\0\0"));
     let write = joined(&[b"\0\0\x02\x30\x05\0\0\xe0\0\0\0\0", &[5; 512], &[6; 512]]);
     let (_, _) = exchange(&mut target, &A, 0, write.as_slice());
     let read = b"\0\0\x02\x20\x05\0\0\xe0\0\0\0\0";
     let told = joined(&[b"\0\0\0\x40\x05\0\0\xe0\0\0\0\0", &[5; 512], &[6; 512]]);
     assert!(rt; answers(&mut target, &A, 0, read, Effect::None, 0, told.as_slice()));
     Ok(())
+}
+
+/// Whether a request whose call of the store fails has this effect and reply, and the same one succeeds
+/// then with this effect.
+fn fails_once(
+    target: &mut MemTarget,
+    args: &[u8],
+    fault: Effect,
+    told: &[u8],
+    effect: Effect,
+) -> bool {
+    target.arm_store(Arm::Fail(1));
+    answers(target, &A, 0, args, fault, 0, told) && has_effect(target, 0, args, effect)
 }
 
 #[test]
@@ -402,10 +450,7 @@ fn failed_calls(rt: HostRuntime) -> Result<(), Fail> {
         (flush, Effect::SyncFault, unsynced, Effect::Synced),
     ];
     for (args, fault, told, effect) in cases {
-        target.arm_store(Arm::Fail(1));
-        assert!(rt; answers(&mut target, &A, 0, args, fault, 0, told));
-        let (heard, _) = exchange(&mut target, &A, 0, args);
-        assert!(rt; heard == Heard::Replied { effect });
+        assert!(rt; fails_once(&mut target, args, fault, told, effect));
     }
     let done = b"\x40\0\0\x40\0\0\0\0\0\0\0\0";
     assert!(rt; answers(&mut target, &A, 0, flush, Effect::Synced, 0, done));
@@ -484,35 +529,37 @@ fn a_sector_that_can_not_be_read(rt: HostRuntime) -> Result<(), Fail> {
     let store = Direct::new(BadSector::new(MemDisk::new(rt.alloc(), 16)?, 5));
     let mut target = target_of(store, keep);
     let ranges = [
-        (0, 2, true),
-        (3, 2, true),
-        (4, 1, true),
-        (4, 2, false),
-        (5, 1, false),
-        (5, 2, false),
-        (6, 1, true),
-        (6, 2, true),
-        (14, 2, true),
+        (0, 2, Effect::None),
+        (3, 2, Effect::None),
+        (4, 1, Effect::None),
+        (4, 2, Effect::ReadFault),
+        (5, 1, Effect::ReadFault),
+        (5, 2, Effect::ReadFault),
+        (6, 1, Effect::None),
+        (6, 2, Effect::None),
+        (14, 2, Effect::None),
     ];
-    for (at, count, is_read) in ranges {
+    for (at, count, effect) in ranges {
         for command in [0x24, 0x42] {
             let args = [0x40, 0, count, command, at, 0, 0, 0, 0, 0, 0, 0];
-            let effect = if is_read {
-                Effect::None
-            } else {
-                Effect::ReadFault
-            };
-            let (heard, _) = exchange(&mut target, &A, 0, &args);
-            assert!(rt; heard == Heard::Replied { effect });
+            assert!(rt; has_effect(&mut target, 0, &args, effect));
         }
     }
     Ok(())
 }
 
+/// Whether lists with a config string are mounted from a disk of which this sector can't be read.
+fn is_mounted(alloc: Global, bad: u64) -> Result<bool, Fail> {
+    let mut target = target(alloc)?;
+    let (_, _) = exchange(&mut target, &A, 1, b"\0\0\0\0\0\x03\0\x02ab");
+    let (_, keep) = target.close();
+    Ok(Keep::mount(BadSector::new(keep.close(), bad)).is_ok())
+}
+
 #[test]
 fn lists_with_a_sector_that_can_not_be_read(rt: HostRuntime) -> Result<(), Fail> {
     // Slot 0 is open: its gate and its body are read, and the gate of slot 1.
-    for (bad, is_mounted) in [
+    for (bad, wanted) in [
         (0, false),
         (1, false),
         (7, false),
@@ -520,11 +567,7 @@ fn lists_with_a_sector_that_can_not_be_read(rt: HostRuntime) -> Result<(), Fail>
         (9, true),
         (15, true),
     ] {
-        let mut target = target(rt.alloc())?;
-        let (_, _) = exchange(&mut target, &A, 1, b"\0\0\0\0\0\x03\0\x02ab");
-        let (_, keep) = target.close();
-        let disk = BadSector::new(keep.close(), bad);
-        assert_eq!(rt; Keep::mount(disk).is_ok(), is_mounted);
+        assert!(rt; is_mounted(rt.alloc(), bad)? == wanted);
     }
     Ok(())
 }

@@ -1,21 +1,18 @@
 //! Each call of a device fails in turn, or is the last one before a loss of power.
 ghost use Rattle.std.specs.Prelude.{◌<◌};
 
-use super::loops::{MemShelf, QUERY, SET, reply, shelf_of_two};
+use super::loops::{QUERY, SET, answered, first, reply, served, took};
 use aoe_base::{Blob, Mac, Ports, Span, TargetId};
 use aoe_cache::{AnyStore, Cached};
 use aoe_disk::{Arm, Loss, MemDisk};
 use aoe_frame::Frame;
 use aoe_io::{MemLink, MemSink, MemSource};
 use aoe_keep::Keep;
-use aoe_serve::{AnswerEnd, ServeEnd, answer, serve};
+use aoe_serve::{AnswerEnd, ServeEnd};
 use aoe_store::Direct;
 use aoe_target::{Effect, Heard, Target};
 use std::alloc::Global;
 use std::test::Fail;
-
-/// How many bytes a reply to a config request has on the stream.
-const LEN: usize = 62;
 
 fn joined(pieces: &[&[u8]]) -> Frame {
     let mut frame = Frame::new();
@@ -43,16 +40,6 @@ fn six_replies() -> Frame {
     all
 }
 
-/// Whether both slots have the string, and there are two.
-fn are_set(shelf: &MemShelf) -> bool {
-    for slot in 0..shelf.count() {
-        if shelf.lists(slot).config.as_slice() != b"ab".as_slice() {
-            return false;
-        }
-    }
-    shelf.count() == 2
-}
-
 #[test]
 fn stops_at_each_call_of_a_stream(rt: HostRuntime) -> Result<(), Fail> {
     let stream = joined(&[&QUERY, &SET, &QUERY]);
@@ -77,15 +64,13 @@ fn stops_at_each_call_of_a_stream(rt: HostRuntime) -> Result<(), Fail> {
         (0, 7, AnswerEnd::Ended, 6, true),
     ];
     for (reading, writing, end, count, is_set) in cases {
-        let mut shelf = shelf_of_two(rt.alloc())?;
         let mut source = MemSource::of(rt.alloc(), stream.as_slice())?;
         source.fail_at(reading);
         let mut sink = MemSink::new(rt.alloc(), 1000)?;
         sink.fail_at(writing);
-        assert_eq!(rt; answer(&mut shelf, &mut source, &mut sink), end);
-        let written = replies.as_slice().get(..LEN.saturating_mul(count));
-        assert_eq!(rt; Some(sink.bytes()), written, "calls {reading} {writing}");
-        assert_eq!(rt; are_set(&shelf), is_set, "calls {reading} {writing}");
+        let (ended, are_set) = answered(rt.alloc(), &mut source, &mut sink)?;
+        assert!(rt; ended == end && are_set == is_set);
+        assert!(rt; sink.bytes() == first(replies.as_slice(), count));
     }
     Ok(())
 }
@@ -118,17 +103,11 @@ fn stops_at_each_call_of_a_link(rt: HostRuntime) -> Result<(), Fail> {
         (10, ServeEnd::Ended, 6, true),
     ];
     for (due, end, count, is_set) in cases {
-        let mut shelf = shelf_of_two(rt.alloc())?;
         let mut link = link_of_three(rt.alloc())?;
         link.fail_at(due);
-        assert_eq!(rt; serve(&mut shelf, &mut link, 3, 9), end);
-        assert_eq!(rt; link.count(), count, "call {due}");
-        for (i, reply) in replies.as_slice().chunks(LEN).enumerate() {
-            if i < link.count() {
-                assert_eq!(rt; Some(link.frame(i)), reply.get(2..), "call {due}");
-            }
-        }
-        assert_eq!(rt; are_set(&shelf), is_set, "call {due}");
+        let (ended, are_set) = served(rt.alloc(), &mut link, 3, 9)?;
+        assert!(rt; ended == end && are_set == is_set);
+        assert!(rt; took(&link, first(replies.as_slice(), count)));
     }
     Ok(())
 }
@@ -259,18 +238,26 @@ fn failing_target(
     Ok(target)
 }
 
+/// Whether a target has the four sectors.
+fn has_sectors(target: &mut MemTarget) -> bool {
+    for sector in [0, 2, 4, 6] {
+        let (_, out) = exchange(target, &read(sector));
+        if out.as_slice().get(36..548) != Some([0x5a; 512].as_slice()) {
+            return false;
+        }
+    }
+    true
+}
+
 /// Whether a target that was flushed has the four sectors after a loss of power.
 fn outlives(alloc: Global, target: MemTarget) -> Result<bool, Fail> {
     let (store, keep) = target.close();
-    let disk = store.close().crash(Loss::Old);
-    let mut target = target_over(alloc, disk, keep.close().crash(Loss::Old), false)?;
-    for sector in [0, 2, 4, 6] {
-        let (_, out) = exchange(&mut target, &read(sector));
-        if out.as_slice().get(36..548) != Some([0x5a; 512].as_slice()) {
-            return Ok(false);
-        }
-    }
-    Ok(true)
+    let (disk, keep) = (
+        store.close().crash(Loss::Old),
+        keep.close().crash(Loss::Old),
+    );
+    let mut target = target_over(alloc, disk, keep, false)?;
+    Ok(has_sectors(&mut target))
 }
 
 /// Whether a request is answered by its fault.
@@ -287,9 +274,33 @@ fn is_done(target: &mut MemTarget, request: &Request) -> bool {
     effect == request.done
 }
 
+/// Whether a request whose `k`-th call of a disk fails is answered by its fault and the same one then
+/// succeeds, and a flush behind it keeps the four sectors.
+fn goes_on(alloc: Global, is_cached: bool, request: &Request, k: u32) -> Result<bool, Fail>
+    requires { 0 < k }
+{
+    let mut target = failing_target(alloc, is_cached, request, k)?;
+    let is_told = is_fault(&mut target, request)
+        && is_done(&mut target, request)
+        && is_done(&mut target, &flush());
+    let is_kept = outlives(alloc, target)?;
+    Ok(is_told && is_kept)
+}
+
+/// Whether a request makes so many calls of a disk: each of them can fail alone, and no other.
+fn calls(alloc: Global, is_cached: bool, request: &Request, calls: u8) -> Result<bool, Fail> {
+    let count = u32::from(calls);
+    for k in 1..=count {
+        if !goes_on(alloc, is_cached, request, k)? {
+            return Ok(false);
+        }
+    }
+    let mut target = failing_target(alloc, is_cached, request, count + 1)?;
+    Ok(is_done(&mut target, request))
+}
+
 #[test]
 fn answers_each_fault_of_a_disk(rt: HostRuntime) -> Result<(), Fail> {
-    let alloc = rt.alloc();
     // A request, and how many calls of a disk it makes with a store that writes through, and with one
     // that holds back four sectors.
     let cases: [(Request, u8, u8); 4] = [
@@ -299,22 +310,39 @@ fn answers_each_fault_of_a_disk(rt: HostRuntime) -> Result<(), Fail> {
         (flush(), 1, 5),
     ];
     for (request, direct, cached) in cases {
-        for (is_cached, calls) in [(false, direct), (true, cached)] {
-            let name = request.done;
-            // Each of the calls fails alone, and the same request succeeds then.
-            for k in 1..=u32::from(calls) {
-                let mut target = failing_target(alloc, is_cached, &request, k)?;
-                assert!(rt; is_fault(&mut target, &request), "{name:?}, call {k}");
-                assert!(rt; is_done(&mut target, &request), "{name:?}, behind {k}");
-                assert!(rt; is_done(&mut target, &flush()), "{name:?}, behind {k}");
-                assert!(rt; outlives(alloc, target)?, "{name:?}, behind {k}");
-            }
-            let behind = u32::from(calls) + 1;
-            let mut target = failing_target(alloc, is_cached, &request, behind)?;
-            assert!(rt; is_done(&mut target, &request), "{name:?}");
-        }
+        assert!(rt; calls(rt.alloc(), false, &request, direct)?);
+        assert!(rt; calls(rt.alloc(), true, &request, cached)?);
     }
     Ok(())
+}
+
+/// Whether a write of the sector 3 is done, and the flush behind it stops at its first call.
+fn stops(target: &mut MemTarget) -> bool {
+    if !is_done(target, &write(3)) {
+        return false;
+    }
+    target.arm_store(Arm::Stop(1));
+    let (effect, _) = exchange(target, &flush());
+    effect == Effect::SyncFault && target.store_is_out()
+}
+
+/// The target after a loss of power.
+fn crashed(
+    alloc: Global,
+    target: MemTarget,
+    is_cached: bool,
+    how: Loss,
+) -> Result<MemTarget, Fail> {
+    let (store, keep) = target.close();
+    let (disk, keep) = (store.close().crash(how), keep.close().crash(how));
+    target_over(alloc, disk, keep, is_cached)
+}
+
+/// Whether the halves of the sector 3 have these bytes.
+fn has_halves(target: &mut MemTarget, [first, second]: [u8; 2]) -> bool {
+    let (_, out) = exchange(target, &read(3));
+    let sector = joined(&[&[first; 256], &[second; 256]]);
+    out.as_slice().get(36..548) == Some(sector.as_slice())
 }
 
 #[test]
@@ -331,26 +359,11 @@ fn loses_power_in_a_flush(rt: HostRuntime) -> Result<(), Fail> {
         (true, Loss::Torn, [0xee, 0]),
         (true, Loss::Mix(0), [0xee, 0xee]),
     ];
-    for (is_cached, how, [first, second]) in cases {
+    for (is_cached, how, halves) in cases {
         let mut stopped = target(rt.alloc(), is_cached)?;
-        let write = write(3);
-        let (effect, _) = exchange(&mut stopped, &write);
-        assert_eq!(rt; effect, write.done);
-        stopped.arm_store(Arm::Stop(1));
-        let (effect, _) = exchange(&mut stopped, &flush());
-        assert_eq!(rt; effect, Effect::SyncFault);
-        assert!(rt; stopped.store_is_out());
-
-        let (store, keep) = stopped.close();
-        let (disk, keep) = (store.close().crash(how), keep.close().crash(how));
-        let mut target = target_over(rt.alloc(), disk, keep, is_cached)?;
-        let (_, out) = exchange(&mut target, &read(3));
-        let sector = joined(&[&[first; 256], &[second; 256]]);
-        assert_eq!(rt;
-            out.as_slice().get(36..548),
-            Some(sector.as_slice()),
-            "{how:?}"
-        );
+        assert!(rt; stops(&mut stopped));
+        let mut target = crashed(rt.alloc(), stopped, is_cached, how)?;
+        assert!(rt; has_halves(&mut target, halves));
     }
     Ok(())
 }

@@ -83,61 +83,70 @@ fn link_of_query(alloc: Global) -> Result<[MemLink; 1], Fail> {
     Ok([MemLink::of(alloc, coming, 2)?])
 }
 
-#[test]
-fn serves_all_slots(rt: HostRuntime) -> Result<(), Fail> {
-    let mut disks = disks_of(rt.alloc(), 16)?;
-    let mut links = link_of_query(rt.alloc())?;
-    let mut source = MemSource::of(rt.alloc(), b"")?;
-    let mut sink = MemSink::new(rt.alloc(), 0)?;
+/// What came of a run.
+type Run = Result<Exported, ExportRefusal>;
+
+/// What comes of serving a link that brings the query, and the link.
+fn served(alloc: Global, disks: &mut [Option<MemDisk>; 4]) -> Result<(Run, [MemLink; 1]), Fail>
+    requires { All IsSome disks.old }
+{
+    let mut links = link_of_query(alloc)?;
+    let mut source = MemSource::of(alloc, b"")?;
+    let mut sink = MemSink::new(alloc, 0)?;
     let plan = Plan::Serve { frames: 1, idle: 1 };
     let run = export(
-        rt.alloc(),
+        alloc,
         rack(0),
         plan,
         &mut source,
         &mut sink,
-        &mut disks,
+        disks,
         &mut links,
     );
+    Ok((run, links))
+}
+
+/// Whether a link took these frames.
+fn took(link: &MemLink, frames: &[Frame]) -> bool {
+    for (i, frame) in frames.iter().enumerate() {
+        if i >= link.count() || link.frame(i) != frame.as_slice() {
+            return false;
+        }
+    }
+    link.count() == frames.len()
+}
+
+#[test]
+fn serves_all_slots(rt: HostRuntime) -> Result<(), Fail> {
+    let mut disks = disks_of(rt.alloc(), 16)?;
+    let (run, links) = served(rt.alloc(), &mut disks)?;
     let end = RunEnd::Served(ServeEnd::Ended);
     let unsynced = None;
-    assert_eq!(rt; run, Ok(Exported { end, unsynced }));
+    assert!(rt; run == Ok(Exported { end, unsynced }));
     let args = b"\0\x10\0\x01\x02\x10\0\0";
-    assert_eq!(rt; links[0].count(), 2);
-    if links[0].count() == 2 {
-        assert_eq!(rt; links[0].frame(0), reply(3, args).as_slice());
-        assert_eq!(rt; links[0].frame(1), reply(4, args).as_slice());
-    }
+    assert!(rt; took(&links[0], &[reply(3, args), reply(4, args)]));
     Ok(())
+}
+
+/// How many calls of a disk were made.
+fn calls(disk: &Option<MemDisk>) -> Option<u64> {
+    match disk {
+        Some(disk) => Some(disk.calls()),
+        None => None,
+    }
 }
 
 #[test]
 fn a_small_keep(rt: HostRuntime) -> Result<(), Fail> {
     let mut disks = disks_of(rt.alloc(), 15)?;
-    let mut links = link_of_query(rt.alloc())?;
-    let mut source = MemSource::of(rt.alloc(), b"")?;
-    let mut sink = MemSink::new(rt.alloc(), 0)?;
-    let plan = Plan::Serve { frames: 1, idle: 1 };
-    let run = export(
-        rt.alloc(),
-        rack(0),
-        plan,
-        &mut source,
-        &mut sink,
-        &mut disks,
-        &mut links,
-    );
+    let (run, links) = served(rt.alloc(), &mut disks)?;
     let refusal = MountRefusal::TooSmall { sectors: 15 };
-    let refused = ExportRefusal::Keep { slot: 1, refusal };
-    assert_eq!(rt; run, Err(refused));
-    assert_eq!(rt; links[0].count(), 0);
-
+    assert!(rt; run == Err(ExportRefusal::Keep { slot: 1, refusal }));
+    assert!(rt; links[0].count() == 0);
     // The first keep was synced and its gates were read.
-    let mut calls = [0; 4];
-    for (count, disk) in calls.iter_mut().zip(&disks) {
-        *count = disk.as_ref().map_or(9, MemDisk::calls);
+    for (disk, wanted) in disks.iter().zip([0, 3, 0, 0]) {
+        assert!(rt; calls(disk) == Some(wanted));
     }
-    assert_eq!(rt; calls, [0, 3, 0, 0]);
     Ok(())
 }
 
@@ -164,13 +173,47 @@ fn says_why_nothing_was_run(rt: HostRuntime) -> Result<(), Fail> {
     ];
     for (refusal, told) in cases {
         let text = format!(in rt.alloc(); "{refusal}")?;
-        assert_eq!(rt; text.as_str(), told);
+        assert!(rt; text.as_str() == told);
     }
     Ok(())
 }
 
-/// Answers a config request of `len` bytes, and compares the end and what the sink holds: the replies
-/// of the slots with these arguments.
+/// What comes of answering a stream, and what was written.
+fn answered(
+    alloc: Global,
+    cache: u32,
+    input: &[u8],
+    disks: &mut [Option<MemDisk>],
+) -> Result<(Run, MemSink), Fail>
+    requires cache { cache ≤ 65536 }
+    requires there { All IsSome disks.old }
+    ensures { All IsSome disks.new }
+{
+    if disks.len() % 2 != 0 || disks.len() > 4 {
+        return Err(Fail::from("other disks"));
+    }
+    let mut source = MemSource::of(alloc, input)?;
+    let mut sink = MemSink::new(alloc, 1000)?;
+    let links: &mut [MemLink; 0] = &mut [];
+    let run = export(
+        alloc,
+        rack(cache),
+        Plan::Answer,
+        &mut source,
+        &mut sink,
+        disks,
+        links,
+    );
+    Ok((run, sink))
+}
+
+/// What both slots reply with these arguments, as it stands on the stream.
+fn replies(args: &[u8]) -> Frame {
+    let (first, second) = (reply(3, args), reply(4, args));
+    joined(&[b"\0\x3c", first.as_slice(), b"\0\x3c", second.as_slice()])
+}
+
+/// Whether a config request of `len` bytes is answered by replies with these arguments.
 fn answers(
     alloc: Global,
     disks: &mut [Option<MemDisk>; 4],
@@ -182,21 +225,8 @@ fn answers(
     ensures { All IsSome disks.new }
 {
     let input = joined(&[&[0, len], request(args).as_slice()]);
-    let mut source = MemSource::of(alloc, input.as_slice())?;
-    let mut sink = MemSink::new(alloc, 1000)?;
-    let links: &mut [MemLink; 0] = &mut [];
-    let run = export(
-        alloc,
-        rack(0),
-        Plan::Answer,
-        &mut source,
-        &mut sink,
-        disks,
-        links,
-    );
-    let (first, second) = (reply(3, told), reply(4, told));
-    let output = joined(&[b"\0\x3c", first.as_slice(), b"\0\x3c", second.as_slice()]);
-    Ok(run == Ok(ENDED) && sink.bytes() == output.as_slice())
+    let (run, sink) = answered(alloc, 0, input.as_slice(), disks)?;
+    Ok(run == Ok(ENDED) && sink.bytes() == replies(told).as_slice())
 }
 
 #[test]
@@ -213,28 +243,13 @@ fn lists_outlive_a_run(rt: HostRuntime) -> Result<(), Fail> {
 
 #[test]
 fn a_sync_that_fails(rt: HostRuntime) -> Result<(), Fail> {
+    let mut disks = disks_of(rt.alloc(), 16)?;
     let mut failing = MemDisk::new(rt.alloc(), 16)?;
     failing.fail_at(1);
-    let mut disks = [
-        Some(MemDisk::new(rt.alloc(), 16)?),
-        Some(MemDisk::new(rt.alloc(), 16)?),
-        Some(failing),
-        Some(MemDisk::new(rt.alloc(), 16)?),
-    ];
-    let mut source = MemSource::of(rt.alloc(), b"")?;
-    let mut sink = MemSink::new(rt.alloc(), 0)?;
-    let links: &mut [MemLink; 0] = &mut [];
-    let run = export(
-        rt.alloc(),
-        rack(0),
-        Plan::Answer,
-        &mut source,
-        &mut sink,
-        &mut disks,
-        links,
-    );
+    disks[2] = Some(failing);
+    let (run, sink) = answered(rt.alloc(), 0, b"", &mut disks)?;
     let unsynced = Some(1);
-    assert_eq!(rt; run, Ok(Exported { unsynced, ..ENDED }));
+    assert!(rt; run == Ok(Exported { unsynced, ..ENDED }) && sink.bytes().is_empty());
     Ok(())
 }
 
@@ -255,25 +270,13 @@ fn write_of(sector: u8) -> Frame {
 #[test]
 fn holds_writes_back(rt: HostRuntime) -> Result<(), Fail> {
     let input = joined(&[write_of(3).as_slice(), write_of(4).as_slice()]);
-    for (cache, calls) in [(0, 3), (4, 2)] {
+    for (cache, wanted) in [(0, 3), (4, 2)] {
         let mut disks = [
             Some(MemDisk::new(rt.alloc(), 16)?),
             Some(MemDisk::new(rt.alloc(), 16)?),
         ];
-        let mut source = MemSource::of(rt.alloc(), input.as_slice())?;
-        let mut sink = MemSink::new(rt.alloc(), 1000)?;
-        let links: &mut [MemLink; 0] = &mut [];
-        let run = export(
-            rt.alloc(),
-            rack(cache),
-            Plan::Answer,
-            &mut source,
-            &mut sink,
-            &mut disks,
-            links,
-        );
-        assert_eq!(rt; run, Ok(ENDED));
-        assert_eq!(rt; disks[0].as_ref().map_or(9, MemDisk::calls), calls);
+        let (run, _) = answered(rt.alloc(), cache, input.as_slice(), &mut disks)?;
+        assert!(rt; run == Ok(ENDED) && calls(&disks[0]) == Some(wanted));
     }
     Ok(())
 }

@@ -32,6 +32,9 @@ const REPLY: [u8; 34] = [
     0, 1, 2, 16, 0, 0,
 ];
 
+/// How many bytes a reply to a config request has on the stream.
+pub(crate) const LEN: usize = 62;
+
 /// The reply to the query by the target of the shelf 1 with this minor, as it stands on the stream.
 pub(crate) fn reply(minor: u8) -> [u8; 62] {
     let mut reply = [0u8; 62];
@@ -75,6 +78,54 @@ pub(crate) fn shelf_of_two(alloc: Global) -> Result<MemShelf, Fail> {
     Ok(shelf)
 }
 
+/// Whether both slots have the string, and there are two.
+fn are_set(shelf: &MemShelf) -> bool {
+    for slot in 0..shelf.count() {
+        if shelf.lists(slot).config.as_slice() != b"ab".as_slice() {
+            return false;
+        }
+    }
+    shelf.count() == 2
+}
+
+/// Answers a stream by the shelf: the end, and whether the slots have the string then.
+pub(crate) fn answered(
+    alloc: Global,
+    source: &mut MemSource,
+    sink: &mut MemSink,
+) -> Result<(AnswerEnd, bool), Fail> {
+    let mut shelf = shelf_of_two(alloc)?;
+    let end = answer(&mut shelf, source, sink);
+    Ok((end, are_set(&shelf)))
+}
+
+/// Serves a link by the shelf: the end, and whether the slots have the string then.
+pub(crate) fn served(
+    alloc: Global,
+    link: &mut MemLink,
+    frames: u32,
+    idle: u32,
+) -> Result<(ServeEnd, bool), Fail> {
+    let mut shelf = shelf_of_two(alloc)?;
+    let end = serve(&mut shelf, link, frames, idle);
+    Ok((end, are_set(&shelf)))
+}
+
+/// The first replies of some that stand on the stream.
+pub(crate) fn first(replies: &[u8], count: usize) -> &[u8] {
+    replies.get(..LEN.saturating_mul(count)).unwrap_or(replies)
+}
+
+/// Whether a link took these replies, of which each is given as it stands on the stream.
+pub(crate) fn took(link: &MemLink, replies: &[u8]) -> bool {
+    for (i, reply) in replies.chunks(LEN).enumerate() {
+        if i >= link.count() || Some(link.frame(i)) != reply.get(2..) {
+            return false;
+        }
+    }
+    link.count() == replies.len() / LEN
+}
+
 #[test]
 fn answers_streams(rt: HostRuntime) -> Result<(), Fail> {
     let mut response = QUERY;
@@ -88,12 +139,11 @@ fn answers_streams(rt: HostRuntime) -> Result<(), Fail> {
         (&response, AnswerEnd::Ended, b""),
         (&broken, AnswerEnd::Stream { offset: 25 }, b""),
     ];
-    for (input, end, output) in cases {
-        let mut shelf = shelf_of_two(rt.alloc())?;
+    for (input, wanted, output) in cases {
         let mut source = MemSource::of(rt.alloc(), input)?;
         let mut sink = MemSink::new(rt.alloc(), 1000)?;
-        assert_eq!(rt; answer(&mut shelf, &mut source, &mut sink), end);
-        assert_eq!(rt; sink.bytes(), output);
+        let (end, _) = answered(rt.alloc(), &mut source, &mut sink)?;
+        assert!(rt; end == wanted && sink.bytes() == output);
     }
     Ok(())
 }
@@ -108,42 +158,47 @@ fn link_of_query(alloc: Global) -> Result<MemLink, Fail> {
 #[test]
 fn serves_a_link(rt: HostRuntime) -> Result<(), Fail> {
     // The most frames and quiet turns, and how many replies the link took.
-    let cases = [(0, 9, 0), (1, 0, 0), (1, 9, 2), (2, 9, 2)];
-    for (frames, idle, count) in cases {
-        let mut shelf = shelf_of_two(rt.alloc())?;
+    let replies = replies();
+    for (frames, idle, count) in [(0, 9, 0), (1, 0, 0), (1, 9, 2), (2, 9, 2)] {
         let mut link = link_of_query(rt.alloc())?;
-        let end = serve(&mut shelf, &mut link, frames, idle);
-        assert_eq!(rt; end, ServeEnd::Ended);
-        assert_eq!(rt; link.count(), count);
-        for minor in 0..2u8 {
-            let i = usize::from(minor);
-            if i < link.count() {
-                assert_eq!(rt; link.frame(i), &reply(minor)[2..]);
-            }
-        }
+        let (end, _) = served(rt.alloc(), &mut link, frames, idle)?;
+        assert!(rt; end == ServeEnd::Ended && took(&link, first(&replies, count)));
     }
     Ok(())
 }
 
+/// A link that brings nothing for five turns, and then has ended.
+fn quiet_link(alloc: Global) -> Result<MemLink, Fail> {
+    let mut coming = Vec::new(alloc);
+    coming.push(None)?;
+    coming.push(None)?;
+    coming.push(None)?;
+    coming.push(None)?;
+    coming.push(None)?;
+    Ok(MemLink::of(alloc, coming, 2)?)
+}
+
+/// Whether the next turn of a link brings this, and a frame that it brings is this one.
+fn brings<L: Link>(link: &mut L, wanted: Got, frame: &[u8]) -> bool {
+    let mut out = Frame::new();
+    link.recv(&mut out) == Ok(wanted) && (wanted != Got::Frame || out.as_slice() == frame)
+}
+
 #[test]
 fn serves_a_quiet_link(rt: HostRuntime) -> Result<(), Fail> {
-    let mut coming = Vec::new(rt.alloc());
-    coming.push(None)?;
-    coming.push(None)?;
-    coming.push(None)?;
-    coming.push(None)?;
-    coming.push(None)?;
-    let mut link = MemLink::of(rt.alloc(), coming, 2)?;
-    let mut shelf = shelf_of_two(rt.alloc())?;
-    assert_eq!(rt; serve(&mut shelf, &mut link, 1, 3), ServeEnd::Ended);
-    assert_eq!(rt; link.count(), 0);
-
+    let mut link = quiet_link(rt.alloc())?;
+    let (end, _) = served(rt.alloc(), &mut link, 1, 3)?;
+    assert!(rt; end == ServeEnd::Ended && link.count() == 0);
     // Three of its five turns were taken.
-    let mut frame = Frame::new();
     for got in [Got::Quiet, Got::Quiet, Got::Ended] {
-        assert_eq!(rt; link.recv(&mut frame), Ok(got));
+        assert!(rt; brings(&mut link, got, b""));
     }
     Ok(())
+}
+
+/// Whether a link takes the query.
+fn takes<L: Link>(link: &mut L) -> bool {
+    link.send(&QUERY[2..]) == Ok(())
 }
 
 #[test]
@@ -151,20 +206,17 @@ fn links_a_shelf(rt: HostRuntime) -> Result<(), Fail> {
     let Ok(mut link) = ShelfLink::new(rt.alloc(), shelf_of_two(rt.alloc())?) else {
         return Err(Fail::from("no memory"));
     };
-    let mut frame = Frame::new();
-    assert_eq!(rt; link.recv(&mut frame), Ok(Got::Quiet));
-
+    assert!(rt; brings(&mut link, Got::Quiet, b""));
     // There are 66 replies, and the last two are lost.
     for _ in 0..33 {
-        assert_eq!(rt; link.send(&QUERY[2..]), Ok(()));
+        assert!(rt; takes(&mut link));
     }
     for _ in 0..32 {
         for minor in 0..2u8 {
-            assert_eq!(rt; link.recv(&mut frame), Ok(Got::Frame));
-            assert_eq!(rt; frame.as_slice(), &reply(minor)[2..]);
+            assert!(rt; brings(&mut link, Got::Frame, &reply(minor)[2..]));
         }
     }
-    assert_eq!(rt; link.recv(&mut frame), Ok(Got::Quiet));
-    assert_eq!(rt; link.close().count(), 2);
+    assert!(rt; brings(&mut link, Got::Quiet, b""));
+    assert!(rt; link.close().count() == 2);
     Ok(())
 }
