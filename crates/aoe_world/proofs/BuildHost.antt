@@ -106,9 +106,8 @@ module _ (lines : List Line) (name : ArrayVec ℕ) (ports : ArrayVec Mac) (life 
     }
 
     refusal-none : (a b : Bool) → a ≡ false → b ≡ false → (if a then Some Already else if b then Some NoPort else None) ≡ None
-    refusal-none true b e f = absurd cc
-    refusal-none false true e f = absurd cc
     refusal-none false false e f = refl
+    refusal-none _ _ e f = absurd cc
 
     new-id : (host : HostSetup) (d : Attached) → host.devices ≡ devices_of lines name → HasWords host → slice_get (devices_of lines name) (length (filter_map (attached_to lines name) (take n lines))) ≡ Some d
         → has_id d.id x.core.devices ≡ false

@@ -39,9 +39,6 @@ at-own h (z ∷ xs) (suc n) x y at some = go (h z) (at-own h xs n x y at some)
     go (Some w) more = more
 
 pub early : {X Y : Type 0} (h : X → Option Y) (xs : List X) (n k : ℕ) (a : Y) → slice_get (filter_map h (take n xs)) k ≡ Some a → slice_get (filter_map h xs) k ≡ Some a
-early h [] zero k a e = absurd (none-some a e)
-early h [] (suc n) k a e = absurd (none-some a e)
-early h (z ∷ xs) zero k a e = absurd (none-some a e)
 early h (z ∷ xs) (suc n) k a e = go (h z) k e (λ j f. early h xs n j a f)
   where
     go : (o : Option _) (k : ℕ) → slice_get (cons_option o (filter_map h (take n xs))) k ≡ Some a
@@ -49,16 +46,17 @@ early h (z ∷ xs) (suc n) k a e = go (h z) k e (λ j f. early h xs n j a f)
     go None k e more = more k e
     go (Some w) zero e more = e
     go (Some w) (suc k) e more = more k e
+early h [] (suc n) k a e = absurd (none-some a e)
+early h _ _ k a e = absurd (none-some a e)
 
 pub few-given : {X Y : Type 0} (h : X → Option Y) (xs : List X) (n : ℕ) → length (filter_map h (take n xs)) ≤ length xs
-few-given h [] zero = omega arith
-few-given h [] (suc n) = omega arith
-few-given h (z ∷ xs) zero = omega arith
 few-given h (z ∷ xs) (suc n) = go (h z) (few-given h xs n)
   where
     go : (o : Option _) → length (filter_map h (take n xs)) ≤ length xs → length (cons_option o (filter_map h (take n xs))) ≤ suc (length xs)
     go None few = omega (arith, few)
     go (Some w) few = omega (arith, few)
+few-given h [] (suc n) = omega arith
+few-given h _ _ = omega arith
 
 pub take-all : {X : Type 0} (xs : List X) → take (length xs) xs ≡ xs
 take-all [] = refl
@@ -106,14 +104,13 @@ last-or-before : {X Y : Type 0} (xs : List X) (ys : List Y) (x a : X) (y b : Y) 
     → IsBefore xs ys i a b ⊎ IsLast x a y b
 last-or-before [] [] x a y b zero same e f = inr (record { left = same_Some x a e; right = same_Some y b f })
 last-or-before [] [] x a y b (suc i) same e f = absurd (none-some a e)
-last-or-before [] (w ∷ ys) x a y b i same e f = absurd (omega (arith, same))
-last-or-before (z ∷ xs) [] x a y b i same e f = absurd (omega (arith, same))
 last-or-before (z ∷ xs) (w ∷ ys) x a y b zero same e f = inl (record { left = e; right = f })
 last-or-before (z ∷ xs) (w ∷ ys) x a y b (suc i) same e f = go (last-or-before xs ys x a y b i (omega (arith, same)) e f)
   where
     go : IsBefore xs ys i a b ⊎ IsLast x a y b → IsBefore (z ∷ xs) (w ∷ ys) (suc i) a b ⊎ IsLast x a y b
     go (inl p) = inl (record { left = p.left; right = p.right })
     go (inr p) = inr p
+last-or-before _ _ x a y b i same e f = absurd (omega (arith, same))
 
 pub along-more : {X Y : Type 0} (R : X → Y → Type 0) (xs : List X) (ys : List Y) (x : X) (y : Y) → R x y → Along R xs ys → Along R (xs ++ (x ∷ [])) (ys ++ (y ∷ []))
 along-more R xs ys x y r k = record {

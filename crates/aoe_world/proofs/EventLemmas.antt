@@ -22,8 +22,6 @@ use Rattle.aoe_world.specs.Replay.{end_of, Filled, IsSound, Plays, Stops}
 module _ (s : Setup) (lines : List Line) where
   plays_on : (events : List Event) (i : ℕ) (event : Event) (cursor : ℕ) (h : List Entry) (middle : ℕ) (m : List Entry) (behind : ℕ) (later : List Entry)
       → slice_get events i ≡ Some event → Plays s lines (take i events) cursor h middle m → Comes s lines event middle m behind later → Plays s lines (take (i + 1) events) cursor h behind later
-  plays_on [] zero event cursor h middle m behind later is plays comes = absurd cc
-  plays_on [] (suc i) event cursor h middle m behind later is plays comes = absurd cc
   plays_on (e ∷ events) zero event cursor h middle m behind later is plays comes =
       let same : event ≡ e = cc in
       let P : Event → Type 0 = λ x. Comes s lines x middle m behind later in
@@ -34,6 +32,7 @@ module _ (s : Setup) (lines : List Line) where
       let one : suc i + 1 ≡ suc (i + 1) = omega arith in
       let P : ℕ → Type 0 = λ k. Plays s lines (take k (e ∷ events)) cursor h behind later in
       subst P (sym one) (plays.0, plays.1, plays.2, plays_on events i event plays.0 plays.1 middle m behind later is plays.3 comes)
+  plays_on [] _ event cursor h middle m behind later is plays comes = absurd cc
 
 -- the first so many events of a script came in this world
 pub record IsPlayed (script : ScriptLines) (i : ℕ) (world : Stepped) : Type 0 where

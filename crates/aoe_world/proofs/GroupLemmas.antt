@@ -7,7 +7,7 @@ use Rattle.aoe_base.specs.declared.address.TargetId.{TargetId}
 use Rattle.aoe_initiator.specs.declared.op.Op.{Op}
 use Rattle.aoe_initiator.specs.declared.refusal.SubmitRefusal.{SubmitRefusal}
 use Rattle.aoe_history.specs.declared.entry.Entry.{Entry}
-use Rattle.aoe_history.specs.declared.entry.Entry.TheVariants.{Submitted, Refused, Sent, Injected, Arrived, Took, Done, Ticked, Lost, Armed, Crashed}
+use Rattle.aoe_history.specs.declared.entry.Entry.TheVariants.{Submitted, Refused, Sent, Took, Done, Ticked, Lost, Armed}
 use Rattle.aoe_history.specs.Commands.{tickets}
 use Rattle.aoe_history.specs.Frames.{arriving, clock}
 use Rattle.aoe_history.specs.Groups.{submit_entry, Act, ComesTo, Enters, Follows, Got, Group, Station, Takes, Turns}
@@ -72,14 +72,10 @@ grows-aside : (e : Entry) (h : List Entry) → is_aside e ≡ true → Grows 0 0
 grows-aside (Submitted host ticket dev op) h t = absurd cc
 grows-aside (Refused host refusal) h t = record { time_is = omega arith; tickets_are = λ host. omega arith; lines_are = λ all. All-cons IsFromLine (Refused host refusal) h tt all }
 grows-aside (Sent host ticket frame bytes) h t = record { time_is = omega arith; tickets_are = λ host. omega arith; lines_are = λ all. All-cons IsFromLine (Sent host ticket frame bytes) h tt all }
-grows-aside (Injected frame bytes) h t = record { time_is = omega arith; tickets_are = λ host. omega arith; lines_are = λ all. All-cons IsFromLine (Injected frame bytes) h tt all }
-grows-aside (Arrived dev frame fate) h t = record { time_is = omega arith; tickets_are = λ host. omega arith; lines_are = λ all. All-cons IsFromLine (Arrived dev frame fate) h tt all }
 grows-aside (Took host frame stale) h t = record { time_is = omega arith; tickets_are = λ host. omega arith; lines_are = λ all. All-cons IsFromLine (Took host frame stale) h tt all }
 grows-aside (Done host ticket outcome) h t = record { time_is = omega arith; tickets_are = λ host. omega arith; lines_are = λ all. All-cons IsFromLine (Done host ticket outcome) h tt all }
 grows-aside (Ticked ms) h t = absurd cc
-grows-aside (Lost frame) h t = record { time_is = omega arith; tickets_are = λ host. omega arith; lines_are = λ all. All-cons IsFromLine (Lost frame) h tt all }
-grows-aside (Armed dev which k mode) h t = record { time_is = omega arith; tickets_are = λ host. omega arith; lines_are = λ all. All-cons IsFromLine (Armed dev which k mode) h tt all }
-grows-aside (Crashed dev lists mode) h t = record { time_is = omega arith; tickets_are = λ host. omega arith; lines_are = λ all. All-cons IsFromLine (Crashed dev lists mode) h tt all }
+grows-aside e h t = record { time_is = omega arith; tickets_are = λ host. omega arith; lines_are = λ all. All-cons IsFromLine e h tt all }
 
 pub grows-adds : (h m : List Entry) → Adds is_aside h m → Grows 0 0 h m
 grows-adds h m a = adds-keep is_aside (λ n. Grows 0 0 h n) (λ e n t x. grows-on 0 0 h n (e ∷ n) x (grows-aside e n t)) h m a (grows-none h)
@@ -113,13 +109,12 @@ hand-adds s frame None station h got m (none, is) = one-adds (Lost frame) h m re
 hand-adds s frame (Some f) station h got m comes = comes-adds s frame f station h got m comes
 
 pub enters-adds : (s : Setup) (h : List Entry) (act : Act) (got : Option Got) (m : List Entry) → IsAside act → Enters s h act got m → Adds is_aside h m
-enters-adds s h (Submit name dev op) got m aside x = absurd aside
-enters-adds s h (Tick ms) got m aside x = absurd aside
 enters-adds s h (Inject bytes) got m aside (none, is) = one-adds _ h m refl is
 enters-adds s h (Arm dev which k mode) got m aside (none, is) = one-adds (Armed dev which k mode) h m refl is
 enters-adds s h (Crash major how) got m aside (none, crash) = crash-adds is_aside how (shelf_of s major) h m (λ i slot lists e. refl) crash
 enters-adds s h (Hand frame station) got m aside x = hand-adds s frame (arriving s.life h frame) station h got m x
 enters-adds s h (Lose frame) got m aside (none, is) = one-adds (Lost frame) h m refl is
+enters-adds s h _ got m aside x = absurd aside
 
 pub turns-add : (s : Setup) (hosts : List HostSetup) (got : Option Got) (h m : List Entry) → Turns s hosts got h m → Adds is_aside h m
 turns-add s [] got h m is = subst (Adds is_aside h) (sym is) Adds.adds_none

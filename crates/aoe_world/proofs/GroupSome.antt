@@ -11,8 +11,8 @@ use Rattle.aoe_history.specs.declared.entry.Entry.TheVariants.{Arrived, Done, Cr
 use Rattle.aoe_history.specs.declared.entry.Fate.TheVariants.{Cut}
 use Rattle.aoe_history.specs.Frames.{arriving}
 use Rattle.aoe_history.specs.Groups.{told, Act, ArriveAtSome, CrashSome, EntersSome, GivesUp, Got, IsBegun, SendsSome, TurnSome, TurnsSome}
-use Rattle.aoe_history.specs.Groups.Act.{Arm, Crash, Hand, Inject, Lose, Submit, Tick}
-use Rattle.aoe_history.specs.Groups.Station.{Shelf as ShelfStation, Host as HostStation}
+use Rattle.aoe_history.specs.Groups.Act.{Crash, Hand}
+use Rattle.aoe_history.specs.Groups.Station.{Shelf as ShelfStation}
 use Rattle.aoe_history.specs.Setup.{shelf_of, HostSetup, Setup, SlotSetup}
 use Rattle.aoe_world.proofs.AddsLemmas.{adds-more, turn-adds, Adds}
 use Rattle.aoe_world.proofs.GroupLemmas.{enters-adds, enters-grows, group-aside, group-grows, grows-adds, grows-none, grows-on, is_aside, little, AreOfLine, Grows, IsAside, IsOfLine}
@@ -44,14 +44,9 @@ hand-some s frame None major h m is = nothing h m is
 hand-some s frame (Some f) major h m x = arrive-some frame f (shelf_of s major) (shelf_of s major) h m x
 
 enters-some : (s : Setup) (h : List Entry) (act : Act) (m : List Entry) → EntersSome s h act m → Adds is_aside h m
-enters-some s h (Submit name dev op) m is = nothing h m is
-enters-some s h (Tick ms) m is = nothing h m is
-enters-some s h (Inject bytes) m is = nothing h m is
-enters-some s h (Arm dev which k mode) m is = nothing h m is
 enters-some s h (Crash major how) m x = crash-some how (shelf_of s major) h m x
 enters-some s h (Hand frame (ShelfStation major)) m x = hand-some s frame (arriving s.life h frame) major h m x
-enters-some s h (Hand frame (HostStation name)) m is = nothing h m is
-enters-some s h (Lose frame) m is = nothing h m is
+enters-some s h _ m is = nothing h m is
 
 -- TURNS
 

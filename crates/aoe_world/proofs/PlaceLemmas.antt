@@ -83,8 +83,7 @@ shelf-at-is s majors sim ready i inside = station-at-is s majors sim ready (at.S
 pub station-only : (s : Setup) (majors : List ℕ) (place : At) (station : Station) → IsAt s majors place station → station_at s majors place ≡ station
 station-only s majors (at.Shelf i) (ShelfStation major) e = ap ShelfStation (major-is majors i major e)
 station-only s majors (at.Host i) (HostStation name) (host, e, called) = ap HostStation (one-name host (name_at s i) name (name-called s i host e) called)
-station-only s majors (at.Shelf i) (HostStation name) e = absurd e
-station-only s majors (at.Host i) (ShelfStation major) e = absurd e
+station-only s majors _ _ e = absurd e
 
 -- at the place of a shelf stands a shelf, at that of a host a host
 pub shelf-station : (s : Setup) (majors : List ℕ) (to : At) (station : Station) (i : ℕ) → to ≡ at.Shelf i → IsAt s majors to station

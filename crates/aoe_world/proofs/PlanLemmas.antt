@@ -139,9 +139,8 @@ pub none-shelf : (lines : List Line) (name : ArrayVec ℕ) (result : Option At) 
 none-shelf lines name result is found none = go result (found-at lines name _ result is.found found) none
   where
     go : (o : Option At) → IsSomeAnd o (λ at. IsAt (setup_of lines) (majors_of lines) at (ShelfStation is.major)) → ((i : ℕ) → o ≡ Some (at.Shelf i) → ⊥) → ⊥
-    go None at_is none = at_is
     go (Some (at.Shelf i)) at_is none = none i refl
-    go (Some (at.Host i)) at_is none = at_is
+    go _ at_is none = at_is
 
 -- a disk of a slot is armed
 pub gives-arm : (lines : List Line) (places : List Place) (sim : Sim) (dev : TargetId) (i j : ℕ) (which : Which) (k : ℕ) (mode : Option Loss) (p : Plan) → Knows lines places sim → IsThere lines (setup_of lines) dev
@@ -216,9 +215,8 @@ pub none-host : (lines : List Line) (name : ArrayVec ℕ) (dev : TargetId) (resu
 none-host lines name dev result is found none = go result (found-at lines name _ result is.station found) none
   where
     go : (o : Option At) → IsSomeAnd o (λ at. IsAt (setup_of lines) (majors_of lines) at (HostStation name)) → ((i : ℕ) → o ≡ Some (at.Host i) → ⊥) → ⊥
-    go None at_is none = at_is
     go (Some (at.Host i)) at_is none = none i refl
-    go (Some (at.Shelf i)) at_is none = at_is
+    go _ at_is none = at_is
 
 -- what a line asks is the operation that was made of it
 pub asked-gives : (lines : List Line) (sim : Sim) (host : ArrayVec ℕ) (dev : TargetId) (asked : Option Submission) (made : Option Op) (o : Op) (r : Option Plan) → IsSomeAnd asked (λ x. x.dev ≡ dev)
@@ -339,15 +337,7 @@ nothing-asked lines (event.Identify host dev) cursor h some = inl (inl refl)
 nothing-asked lines (event.Config host dev ccmd text) cursor h some = inl (inl refl)
 nothing-asked lines (event.Masks host dev edit dirs) cursor h some = inl (inl refl)
 nothing-asked lines (event.Reserve host dev rcmd list) cursor h some = inl (inl refl)
-nothing-asked lines (event.Tick ms) cursor h some = absurd (cc)
-nothing-asked lines (event.Deliver frame name) cursor h some = absurd (cc)
-nothing-asked lines (event.Pass n) cursor h some = absurd (cc)
-nothing-asked lines (event.Skip n) cursor h some = absurd (cc)
-nothing-asked lines event.Again cursor h some = absurd (cc)
-nothing-asked lines (event.Inject bytes) cursor h some = absurd (cc)
-nothing-asked lines (event.Fail dev which k) cursor h some = absurd (cc)
-nothing-asked lines (event.Stop dev which k mode) cursor h some = absurd (cc)
-nothing-asked lines (event.Crash name mode) cursor h some = absurd (cc)
+nothing-asked lines _ cursor h some = absurd (cc)
 
 -- WHAT COMES OF A PLAN
 

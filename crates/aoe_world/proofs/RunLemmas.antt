@@ -19,10 +19,7 @@ use Rattle.aoe_world.proofs.TextLemmas.{short_none}
 pub left_alone : {T : Type 0} (end : ReplayEnd) (a : T) → LeavesSink end a a
 left_alone Ended a = tt
 left_alone SinkFault a = tt
-left_alone (Limit limit) a = refl
-left_alone (Script line why) a = refl
-left_alone SourceFault a = refl
-left_alone NoMemory a = refl
+left_alone _ a = refl
 
 -- ---- the run of a script
 
@@ -31,9 +28,7 @@ pub finished : (part : Part) (end : ReplayEnd) (script : ScriptLines) (held held
 finished part Ended script held held' run writes = (run, writes)
 finished part SinkFault script held held' run writes = (run, writes)
 finished part NoMemory script held held' run writes = writes
-finished part (Limit limit) script held held' run writes = absurd writes
-finished part (Script line why) script held held' run writes = absurd writes
-finished part SourceFault script held held' run writes = absurd writes
+finished part _ script held held' run writes = absurd writes
 
 -- all events of a script came in a world, and this part of the text of its history was written
 pub finished_in : (part : Part) (end : ReplayEnd) (script : ScriptLines) (held held' : Option (List ℕ)) (world : Stepped) (count : ℕ) (entries : List Entry)
@@ -55,12 +50,9 @@ pub stopped : (part : Part) (end : ReplayEnd) (script : ScriptLines) (held : Opt
 stopped part NoMemory script held stops = refl
 stopped part (Limit Frames) script held stops = (stops, refl)
 stopped part (Limit FrameBytes) script held stops = (stops, refl)
-stopped part (Limit ScriptBytes) script held stops = stops
-stopped part (Limit Events) script held stops = stops
-stopped part (Script line why) script held stops = stops
 stopped part Ended script held stops = absurd stops
-stopped part SourceFault script held stops = stops
 stopped part SinkFault script held stops = absurd stops
+stopped part _ script held stops = stops
 
 pub stops_no_sink : (end : ReplayEnd) (script : ScriptLines) → Stops end script → end ≡ SinkFault → ⊥
 stops_no_sink end script stops e = let P : ReplayEnd → Type 0 = λ x. Stops x script in subst P e stops
@@ -71,10 +63,7 @@ module _ (left left' held : Option (List ℕ)) where
   pub unread : (end : ReplayEnd) → Unread end left left' → Replayed end left left' held held
   unread SourceFault u = (u, refl)
   unread NoMemory u = (u, refl)
-  unread (Limit limit) u = absurd u
-  unread (Script line why) u = absurd u
-  unread Ended u = absurd u
-  unread SinkFault u = absurd u
+  unread _ u = absurd u
 
   pub unread_no_sink : (end : ReplayEnd) → Unread end left left' → end ≡ SinkFault → ⊥
   unread_no_sink end u e = let P : ReplayEnd → Type 0 = λ x. Unread x left left' in subst P e u
@@ -88,11 +77,7 @@ module _ (left left' : Option (List ℕ)) (text : List ℕ) (read : IsRead left 
   refused (Script line why) held r = ((text, gave_all r.0, r.1), refl)
   refused (Limit Events) held r = ((text, gave_all r.0, r.1), refl)
   refused (Limit ScriptBytes) held r = (record { text = text; gave = read.gave; long = r; within = read.within }, refl)
-  refused (Limit Frames) held r = absurd r
-  refused (Limit FrameBytes) held r = absurd r
-  refused Ended held r = absurd r
-  refused SourceFault held r = absurd r
-  refused SinkFault held r = absurd r
+  refused _ held r = absurd r
 
   module _ (held held' : Option (List ℕ)) (good : refusal text ≡ None) where
     spelled : (end : ReplayEnd) → Runs end (script_of text) held held' → Spells end left left' held held'
@@ -104,10 +89,7 @@ module _ (left left' : Option (List ℕ)) (text : List ℕ) (read : IsRead left 
     ran_script (Limit Frames) runs = spelled (Limit Frames) runs
     ran_script (Limit FrameBytes) runs = spelled (Limit FrameBytes) runs
     ran_script NoMemory runs = ((text, read.gave), runs)
-    ran_script (Limit ScriptBytes) runs = absurd runs
-    ran_script (Limit Events) runs = absurd runs
-    ran_script (Script line why) runs = absurd runs
-    ran_script SourceFault runs = absurd runs
+    ran_script _ runs = absurd runs
 
     pub ran : (end : ReplayEnd) (script : ScriptLines) → script ≡ script_of text → Runs end script held held' → Replayed end left left' held held'
     ran end script is runs = let P : ScriptLines → Type 0 = λ x. Runs end x held held' in ran_script end (subst P is runs)
@@ -133,11 +115,8 @@ comes_through part Ended script held held' sinks sinks' runs sink rose = inl ref
 comes_through part NoMemory script held held' sinks sinks' runs sink rose = inr tt
 comes_through part (Limit Frames) script held held' sinks sinks' runs sink rose = inr runs.0
 comes_through part (Limit FrameBytes) script held held' sinks sinks' runs sink rose = inr runs.0
-comes_through part (Limit ScriptBytes) script held held' sinks sinks' runs sink rose = absurd runs
-comes_through part (Limit Events) script held held' sinks sinks' runs sink rose = absurd runs
-comes_through part (Script line why) script held held' sinks sinks' runs sink rose = absurd runs
-comes_through part SourceFault script held held' sinks sinks' runs sink rose = absurd runs
 comes_through part SinkFault script held held' sinks sinks' runs sink rose = absurd (no_fault sinks sinks' sink (rose refl))
+comes_through part _ script held held' sinks sinks' runs sink rose = absurd runs
 
 -- ---- what is refused is refused for its text alone
 
@@ -174,7 +153,6 @@ module _ (left left' held held' : Option (List ℕ)) (bytes : List ℕ) (sources
       let more = r.0 in
       let f = front_of left left' bytes more.text is more.gave in
       omega (arith, short_none bytes good, more.long, ap length f.2, length-append more.text f.0))
-  goes_through (Limit Events) r a b = absurd (no_refusal left left' bytes _ is good r.0)
-  goes_through (Script line why) r a b = absurd (no_refusal left left' bytes _ is good r.0)
   goes_through SourceFault r a b = absurd (no_fault sources sources' source (a refl))
   goes_through SinkFault r a b = absurd (no_fault sinks sinks' sink (b refl))
+  goes_through _ r a b = absurd (no_refusal left left' bytes _ is good r.0)

@@ -4,11 +4,11 @@ use Rattle.std.specs.Option.{option_and_then}
 use Rattle.std.proofs.lemmas.Bool.Decides.{nat_tests}
 use Rattle.aoe_net.specs.Network.{fresh_bytes, numbered, SentFrame}
 use Rattle.aoe_history.specs.declared.entry.Entry.{Entry}
-use Rattle.aoe_history.specs.declared.entry.Entry.TheVariants.{Submitted, Refused, Sent, Injected, Arrived, Took, Done, Ticked, Lost, Armed, Crashed}
-use Rattle.aoe_history.specs.declared.entry.Fate.TheVariants.{Ignored, Silent, Cut, Replied}
+use Rattle.aoe_history.specs.declared.entry.Entry.TheVariants.{Sent, Injected, Arrived, Took, Ticked, Lost}
+use Rattle.aoe_history.specs.declared.entry.Fate.TheVariants.{Replied}
 use Rattle.aoe_history.specs.Frames.{arriving, clock, frames, network}
 use Rattle.aoe_history.specs.Groups.{Act, ComesTo, Enters, Follows, Got, Group, Station, Takes, Turns}
-use Rattle.aoe_history.specs.Groups.Act.{Arm, Crash, Hand, Inject, Lose, Submit, Tick}
+use Rattle.aoe_history.specs.Groups.Act.{Crash, Hand, Submit}
 use Rattle.aoe_history.specs.Groups.Station.{Shelf as ShelfStation, Host as HostStation}
 use Rattle.aoe_history.specs.Setup.{shelf_of, HostSetup, Setup}
 use Rattle.aoe_world.proofs.AddsLemmas.{adds-keep, adds-more, arrive-adds, crash-adds, turn-adds, Adds}
@@ -22,20 +22,8 @@ is_timeless e = true
 -- FRAMES
 
 pub frames-grow : (e : Entry) (h : List Entry) → length (frames h) ≤ length (frames (e ∷ h))
-frames-grow (Submitted name ticket dev op) h = omega arith
-frames-grow (Refused name refusal) h = omega arith
-frames-grow (Sent name ticket number bytes) h = omega arith
-frames-grow (Injected number bytes) h = omega arith
-frames-grow (Arrived dev frame Ignored) h = omega arith
-frames-grow (Arrived dev frame Silent) h = omega arith
-frames-grow (Arrived dev frame Cut) h = omega arith
 frames-grow (Arrived dev frame (Replied effect number bytes)) h = omega arith
-frames-grow (Took name number stale) h = omega arith
-frames-grow (Done name ticket outcome) h = omega arith
-frames-grow (Ticked ms) h = omega arith
-frames-grow (Lost frame) h = omega arith
-frames-grow (Armed dev which k mode) h = omega arith
-frames-grow (Crashed dev lists how) h = omega arith
+frames-grow _ h = omega arith
 
 pub adds-grow : (p : Entry → Bool) (h m : List Entry) → Adds p h m → length (frames h) ≤ length (frames m)
 adds-grow p h m a =
@@ -63,20 +51,11 @@ module _ (life number : ℕ) (f : List ℕ) where
   more h bytes x = fresh-more life (clock h) (fresh_bytes (network life h) (clock h)) (record { bytes = bytes; birth = clock h }) (frames h) number f x
 
   pub entry-keeps : (e : Entry) (h : List Entry) → is_timeless e ≡ true → arriving life h number ≡ Some f → arriving life (e ∷ h) number ≡ Some f
-  entry-keeps (Submitted name ticket dev op) h t x = x
-  entry-keeps (Refused name refusal) h t x = x
   entry-keeps (Sent name ticket k bytes) h t x = more h bytes x
   entry-keeps (Injected k bytes) h t x = more h bytes x
-  entry-keeps (Arrived dev frame Ignored) h t x = x
-  entry-keeps (Arrived dev frame Silent) h t x = x
-  entry-keeps (Arrived dev frame Cut) h t x = x
   entry-keeps (Arrived dev frame (Replied effect k bytes)) h t x = more h bytes x
-  entry-keeps (Took name k stale) h t x = x
-  entry-keeps (Done name ticket outcome) h t x = x
   entry-keeps (Ticked ms) h t x = absurd (cc)
-  entry-keeps (Lost frame) h t x = x
-  entry-keeps (Armed dev which k mode) h t x = x
-  entry-keeps (Crashed dev lists how) h t x = x
+  entry-keeps _ h t x = x
 
   pub adds-fresh : (h m : List Entry) → Adds is_timeless h m → arriving life h number ≡ Some f → arriving life m number ≡ Some f
   adds-fresh h m a x = adds-keep is_timeless (λ n. arriving life n number ≡ Some f) entry-keeps h m a x
@@ -127,13 +106,10 @@ single e h m is = let more = frames-grow e h in subst (λ n. length (frames h) �
 
 enters-grow : (s : Setup) (act : Act) (h m : List Entry) (got : Option Got) → Enters s h act got m → length (frames h) ≤ length (frames m)
 enters-grow s (Submit name dev op) h m got (is, (host, called, e)) = single _ h m e
-enters-grow s (Tick ms) h m got (is, e) = single _ h m e
-enters-grow s (Inject bytes) h m got (is, e) = single _ h m e
-enters-grow s (Arm dev which k mode) h m got (is, e) = single _ h m e
 enters-grow s (Crash major how) h m got (is, crash) =
     adds-grow is_timeless h m (crash-adds is_timeless how (shelf_of s major) h m (λ i slot lists e. refl) crash)
 enters-grow s (Hand frame station) h m got e = adds-grow is_timeless h m (hands is_timeless (λ x t. t) s frame station h m got e)
-enters-grow s (Lose frame) h m got (is, e) = single _ h m e
+enters-grow s _ h m got (is, e) = single _ h m e
 
 pub group-grows : (s : Setup) (act : Act) (h m : List Entry) → Group s h act m → length (frames h) ≤ length (frames m)
 group-grows s act h m g =

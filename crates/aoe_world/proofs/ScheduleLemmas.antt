@@ -77,9 +77,6 @@ module _ (f : List ℕ) where
 
   -- those so far are the first of all
   pub addressees-begin : (stations : List Placed) (k : ℕ) → addressees stations f ≡ addressees (take k stations) f ++ addressees (drop k stations) f
-  addressees-begin [] zero = refl
-  addressees-begin [] (suc k) = refl
-  addressees-begin (x ∷ stations) zero = refl
   addressees-begin (x ∷ stations) (suc k) = go (gets f x) refl (addressees-begin stations k)
     where
       go : (b : Bool) → gets f x ≡ b → addressees stations f ≡ addressees (take k stations) f ++ addressees (drop k stations) f
@@ -87,6 +84,8 @@ module _ (f : List ℕ) where
           ≡ map (λ (q : Placed). q.station) (cond b (x ∷ filter (gets f) (take k stations)) (filter (gets f) (take k stations))) ++ addressees (drop k stations) f
       go true is same = ap (λ ys. x.station ∷ ys) same
       go false is same = same
+  addressees-begin [] (suc k) = refl
+  addressees-begin _ _ = refl
 
 -- PLACES
 
@@ -96,8 +95,7 @@ at-inside s majors (at.Shelf i) (ShelfStation major) sim ready e =
     let w = slice_get_within majors i major e in omega (arith, w, ready.shelves_are.count)
 at-inside s majors (at.Host i) (HostStation name) sim ready (host, e, called) =
     let w = slice_get_within s.hosts i host e in omega (arith, w, ready.hosts_are.count)
-at-inside s majors (at.Shelf i) (HostStation name) sim ready e = absurd e
-at-inside s majors (at.Host i) (ShelfStation major) sim ready e = absurd e
+at-inside s majors _ _ sim ready e = absurd e
 
 -- STEPS OF THE CODE
 

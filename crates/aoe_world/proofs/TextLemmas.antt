@@ -10,9 +10,8 @@ use Rattle.aoe_script.specs.declared.refusal.ScriptRefusal.TheVariants.{BadLine,
 use Rattle.aoe_script.specs.Lines.{ScriptLines, first_refusal, line_refusal, refusal, refusal_at, refused_for, said_by}
 
 never_long_line : (number : ℕ) (w : Option Why) (over : Bool) → refused_for number w over ≡ Some TooLong → ⊥
-never_long_line number (Some cause) over e = cc
 never_long_line number None true e = cc
-never_long_line number None false e = cc
+never_long_line number _ _ e = cc
 
 never_long_first : (said : List Line) (n : ℕ) → first_refusal said n ≡ Some TooLong → ⊥
 never_long_first said zero e = cc

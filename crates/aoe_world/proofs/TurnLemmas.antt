@@ -23,11 +23,9 @@ use Rattle.aoe_initiator.proofs.ListLemmas.{get-there as there-is}
 -- LISTS
 
 pub get-set : {X : Type 0} (xs : List X) (i j : ℕ) (y : X) → j ≢ i → slice_get (slice_set xs i y) j ≡ slice_get xs j
-get-set [] i j y apart = refl
 get-set (x ∷ xs) zero zero y apart = absurd (apart refl)
-get-set (x ∷ xs) zero (suc j) y apart = refl
-get-set (x ∷ xs) (suc i) zero y apart = refl
 get-set (x ∷ xs) (suc i) (suc j) y apart = get-set xs i j y (λ same. apart (ap suc same))
+get-set _ _ _ y apart = refl
 
 pub set-get : {X : Type 0} (xs : List X) (i : ℕ) (x y : X) → slice_get xs i ≡ Some x → slice_get (slice_set xs i y) i ≡ Some y
 set-get [] i x y e = absurd (cc)
@@ -35,9 +33,8 @@ set-get (z ∷ xs) zero x y e = refl
 set-get (z ∷ xs) (suc i) x y e = set-get xs i x y e
 
 pub length-set : {X : Type 0} (xs : List X) (i : ℕ) (y : X) → length (slice_set xs i y) ≡ length xs
-length-set [] i y = refl
-length-set (x ∷ xs) zero y = refl
 length-set (x ∷ xs) (suc i) y = ap suc (length-set xs i y)
+length-set _ _ y = refl
 
 -- TURNS
 

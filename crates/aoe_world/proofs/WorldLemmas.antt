@@ -19,7 +19,7 @@ use Rattle.aoe_history.specs.Run.{IsWithin}
 use Rattle.aoe_script.specs.Lines.{ScriptLines}
 use Rattle.aoe_script.specs.Rules.{is_event}
 use Rattle.aoe_script.specs.declared.event.Event.{Event}
-use Rattle.aoe_script.specs.declared.event.Event.TheVariants.{Read, Write, Flush, Identify, Config, Masks, Reserve, Tick as TickLine, Deliver, Pass, Skip, Again, Inject as InjectLine, Fail, Stop, Crash}
+use Rattle.aoe_script.specs.declared.event.Event.TheVariants.{Read, Write, Flush, Identify, Config, Masks, Reserve, Tick as TickLine, Pass, Skip, Again}
 use Rattle.aoe_script.specs.declared.setup.Setup.{Setup as Line}
 use Rattle.aoe_history.specs.Asks.{op_of}
 use Rattle.aoe_transcript.specs.Print.{IsFromLine}
@@ -75,14 +75,10 @@ are-of-line s lines cursor h (Config host dev ccmd text) good can = asked host d
 are-of-line s lines cursor h (Masks host dev edit dirs) good can = asked host dev _ (Masks host dev edit dirs) good refl
 are-of-line s lines cursor h (Reserve host dev rcmd list) good can = asked host dev _ (Reserve host dev rcmd list) good refl
 are-of-line s lines cursor h (TickLine ms) good can = inr (Tick ms, refl, can.1)
-are-of-line s lines cursor h (Deliver frame name) good can = alone _ tt
 are-of-line s lines cursor h (Pass n) good can = inl (All-nil IsAside)
 are-of-line s lines cursor h (Skip n) good can = inl (All-nil IsAside)
 are-of-line s lines cursor h Again good can = inl (handings-aside s (stations_of lines) h (cursor - 1))
-are-of-line s lines cursor h (InjectLine bytes) good can = alone _ tt
-are-of-line s lines cursor h (Fail dev which k) good can = alone _ tt
-are-of-line s lines cursor h (Stop dev which k mode) good can = alone _ tt
-are-of-line s lines cursor h (Crash name mode) good can = alone _ tt
+are-of-line s lines cursor h _ good can = alone _ tt
 
 module _ (s : Setup) (acts : List Entry → ℕ → List Act) (all : (k : List Entry) (frame : ℕ) → All IsAside (acts k frame)) (cursor : ℕ) (h : List Entry) where
   moves-aside : (n behind : ℕ) (m : List Entry) → Moves s acts cursor h n behind m → Grows 0 0 h m
