@@ -3,7 +3,7 @@ use Rattle.std.proofs.Common.{ℕ, ◌≡◌, ◌<◌, ◌&&◌, ◌||◌, not, 
 use Rattle.std.specs.Prelude.{All}
 use Rattle.std.specs.List.{filter, list_all}
 use Rattle.std.specs.BTreeSet.{BTreeSet}
-use Rattle.std.proofs.lemmas.Bool.{cases_lt, ltb-true, ne_eqb, not-true, or_parts, true≢false}
+use Rattle.std.proofs.lemmas.Bool.{cases_lt, ltb-true, ne_eqb, not-true, or_parts, true≢false, and_left, and_right}
 use Rattle.std.proofs.lemmas.List.Elements.{All-cons, All-head, All-map, All-nil, All-push, All-tail}
 use Rattle.aoe_base.specs.Spans.{overlap}
 use Rattle.aoe_hold.specs.declared.command.Command.{Command}
@@ -12,7 +12,7 @@ use Rattle.aoe_hold.specs.declared.command.Kind.TheVariants.{Read, Write, Flush,
 use Rattle.aoe_hold.specs.declared.command.Stage.{Stage}
 use Rattle.aoe_hold.specs.declared.extent.Extent.{Extent}
 use Rattle.aoe_hold.specs.declared.keys.Key.{Key}
-use Rattle.aoe_hold.specs.Commands.{after_stage, all_gone, conflict, finished, has_effect, is_edit, is_flush, is_past, is_write, live, rests_on_effects, with_stage}
+use Rattle.aoe_hold.specs.Commands.{after_stage, conflict, is_edit, is_flush, is_past, is_write, live, with_stage}
 use Rattle.aoe_hold.specs.Extents.{goes_by_span, widened, Covers, HasKey, IsNonePast, IsWithin}
 use Rattle.aoe_hold.specs.HoldTable.{is_ascending}
 use Rattle.aoe_hold.specs.Queue.{blocks, lingers}
@@ -106,18 +106,10 @@ covers-left extent kept old more new life latest held reserved first then up sam
 -- ---- what a command can conflict with
 
 pub no-block : (c e : Command) → conflict e c ≡ false → blocks c e ≡ false
-no-block c e out = rw out (closed (nat_lt e.ticket.0 c.ticket.0))
-  where
-    closed : (b : Bool) → ((b && false) && not (finished e.stage)) ≡ false
-    closed true = refl
-    closed false = refl
+no-block c e out = rw out (and_left (nat_lt e.ticket.0 c.ticket.0 && false) _ (and_right (nat_lt e.ticket.0 c.ticket.0) false refl))
 
 pub no-linger : (life now : ℕ) (c e : Command) → conflict e c ≡ false → lingers life now c e ≡ false
-no-linger life now c e out = rw out (closed (nat_lt e.ticket.0 c.ticket.0))
-  where
-    closed : (b : Bool) → ((b && false) && has_effect e.kind && rests_on_effects c.kind && finished e.stage && not (all_gone life now e.stage)) ≡ false
-    closed true = refl
-    closed false = refl
+no-linger life now c e out = rw out (and_left _ _ (and_left _ _ (and_left _ _ (and_left _ _ (and_right (nat_lt e.ticket.0 c.ticket.0) false refl)))))
 
 abbrev conflict-by : Bool → Kind → Kind → Bool
 conflict-by over a b =

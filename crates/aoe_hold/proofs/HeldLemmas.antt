@@ -2,7 +2,7 @@
 use Rattle.std.proofs.Common.{ℕ, ◌≡◌, ◌+◌, ◌&&◌, ◌||◌, not, cond, get_or, Bool, true, false, List, [], ◌∷◌, ◌++◌, inl, inr, refl, sym, ap, ◌∙◌, arith, nat_eq}
 use Rattle.std.specs.Prelude.{All}
 use Rattle.std.specs.List.{count_by, filter, list_any}
-use Rattle.std.proofs.lemmas.Bool.{and_parts, cases_Bool, eq-eqb, eqb-false, eqb-true, ne_eqb, not-false, or_cases, or_parts}
+use Rattle.std.proofs.lemmas.Bool.{and_parts, cases_Bool, eq-eqb, eqb-false, eqb-true, ne_eqb, not-false, or_cases, or_parts, or_right, and_right}
 use Rattle.std.proofs.lemmas.List.Sums.{sum_by_push}
 use Rattle.aoe_base.specs.declared.counted.Millis.{Millis}
 use Rattle.aoe_hold.specs.declared.command.Command.{Command}
@@ -24,17 +24,9 @@ abbrev pub HasAll : List Command → List Waiter → List Waiter → List Waiter
 HasAll commands timed ready blocked =
     (test : Command → Bool) → count_by (λ w. test w.command) timed + count_by (λ w. test w.command) ready + count_by (λ w. test w.command) blocked ≡ count_by (λ c. is_unsent c && test c) commands
 
-and-none : (a : Bool) → (a && false) ≡ false
-and-none true = refl
-and-none false = refl
-
 and-true : (a : Bool) → (a && true) ≡ a
 and-true true = refl
 and-true false = refl
-
-or-true : (a : Bool) → (a || true) ≡ true
-or-true true = refl
-or-true false = refl
 
 both : (a b c d : Bool) → a ≡ b → c ≡ d → (a && c) ≡ (b && d)
 both a b c d first second = ap (λ x. x && c) first ∙ ap (λ x. b && x) second
@@ -43,7 +35,7 @@ pub any-weaker : (p q : Command → Bool) (xs : List Command) → list_any (λ x
 any-weaker p q [] is = absurd cc
 any-weaker p q (x ∷ xs) is = elim (or_cases (p x && q x) (list_any (λ y. p y && q y) xs) is) [
   | inl here ↦ ap (λ b. b || list_any q xs) (and_parts (p x) (q x) here).1
-  | inr there ↦ ap (λ b. q x || b) (any-weaker p q xs there) ∙ or-true (q x)
+  | inr there ↦ ap (λ b. q x || b) (any-weaker p q xs there) ∙ or_right (q x) true refl
 ]
 
 pub held-blocked : (commands : List Command) (waiters : List Waiter) → All (IsHeldBy commands) waiters → All (λ w. is_blocked commands w.command ≡ true) waiters
@@ -69,7 +61,7 @@ pub held-live : (life latest : ℕ) (commands : List Command) (waiters : List Wa
 held-live life latest commands waiters held = λ k d below.
     let w = get_or waiters k d in
     list_any-filter (λ (e : Command). not (is_past life latest e)) (λ e. nat_eq e.ticket.0 w.from && blocks w.command e)
-    (λ e out. ap (λ b. nat_eq e.ticket.0 w.from && b) (past-blocks life latest w.command e (not-false (is_past life latest e) out)) ∙ and-none (nat_eq e.ticket.0 w.from)) commands
+    (λ e out. ap (λ b. nat_eq e.ticket.0 w.from && b) (past-blocks life latest w.command e (not-false (is_past life latest e) out)) ∙ and_right (nat_eq e.ticket.0 w.from) false refl) commands
     ∙ held k d below
 
 pub held-pushed : (kept after : List Command) (c : Command) (waiters : List Waiter) → after ≡ kept ++ c ∷ [] → All (IsHeldBy kept) waiters → All (IsHeldBy after) waiters
@@ -116,7 +108,7 @@ all-sent ticket now commands after timed ready blocked timed_after ready_after b
     one c = at (nat_eq c.ticket.0 ticket)
       where
         at : (b : Bool) → (is_unsent (cond b (record c { stage = stage_sent now c.stage }) c) && test (cond b (record c { stage = stage_sent now c.stage }) c)) ≡ (is_unsent c && (not b && test c))
-        at true = rw (sent-unsent now c.stage) (sym (and-none (is_unsent c)))
+        at true = rw (sent-unsent now c.stage) (sym (and_right (is_unsent c) false refl))
         at false = refl
 
 -- ---- a command ended
@@ -148,7 +140,7 @@ ended-any ticket commands after ended p e =
 
 pub ended-done : (ticket : ℕ) (commands after : List Command) (ended new c : Command) → Ended ticket commands after ended → new ≡ ends ticket ended → finished new.stage ≡ true → list_any (λ e. nat_eq e.ticket.0 ticket && blocks c e) after ≡ false
 ended-done ticket commands after ended new c e new_is done =
-    ended-any ticket commands after ended (blocks c) e ∙ ap (blocks c) (sym new_is) ∙ ap (λ b. comes_first new c && not b) done ∙ and-none (comes_first new c)
+    ended-any ticket commands after ended (blocks c) e ∙ ap (blocks c) (sym new_is) ∙ ap (λ b. comes_first new c && not b) done ∙ and_right (comes_first new c) false refl
 
 fresh-stage : (s : Stage) → finished (stage_finished s) ≡ false → unsent s ≡ true
 fresh-stage Unsent out = refl

@@ -13,7 +13,7 @@ use Rattle.aoe_hold.specs.HoldTable.{is_ascending, is_up_to}
 use Rattle.aoe_hold.specs.Queue.{is_blocked, ticket_of, waited_for, AreHeld, IsHeldBy, IsInOrder, IsIndex, Knows, Moved, QueueTable, Released}
 use Rattle.aoe_base.proofs.CountLemmas.{all-none, count-all, none-all}
 use Rattle.aoe_hold.proofs.HeldLemmas.{all-sent, free-ended, held-blocked, held-ended, held-live, held-pushed, held-sent, unsent-all, unsent-ended, unsent-entered, waiters-all, HasAll}
-use Rattle.aoe_hold.proofs.IndexLemmas.{bit, entered-waits, keeps, knows-entered, knows-live, knows-sent, sent-waits, waiters-few, waiters-free}
+use Rattle.aoe_hold.proofs.IndexLemmas.{bit, entered-waits, keeps, knows-entered, knows-live, knows-sent, sent-waits, waiters-few, waiters-free, either}
 use Rattle.aoe_hold.proofs.ReleaseLemmas.{ends, knows-ended, Ended}
 use Rattle.aoe_hold.proofs.WaitLemmas.{length-tickets, ready-is}
 
@@ -112,12 +112,6 @@ held-entered life latest unsent commands kept after c timed ready blocked timed_
       held = held-pushed kept after c blocked_new.waiters after_is (λ k d below. now k d below refl);
       room = omega (arith, room, enough);
     }
-  where
-    either : (b t : Bool) → bit (not b && t) + bit (b && t) ≡ bit t
-    either true true = refl
-    either true false = refl
-    either false true = refl
-    either false false = refl
 
 pub held-gone : (unsent less ticket : ℕ) (now : Millis) (commands after : List Command) (timed ready blocked timed_new ready_new blocked_new : QueueTable) → after ≡ after_stage ticket (stage_sent now) commands → less ≤ unsent
     → timed_new.waiters ≡ filter (keeps ticket) timed.waiters → ready_new.waiters ≡ filter (keeps ticket) ready.waiters → blocked_new.waiters ≡ filter (keeps ticket) blocked.waiters → blocked_new.room ≡ blocked.room

@@ -3,7 +3,7 @@ use Rattle.std.proofs.Common.{ℕ, ◌≡◌, ◌+◌, ◌<◌, ◌≤◌, ◌&&
 use Rattle.std.specs.Prelude.{All}
 use Rattle.std.specs.List.{count_by, filter, list_all, list_any}
 use Rattle.std.specs.Option.{ForSome}
-use Rattle.std.proofs.lemmas.Bool.{and_parts, le-ltb, leb-true, not-false}
+use Rattle.std.proofs.lemmas.Bool.{and_parts, le-ltb, leb-true, not-false, and_right, and_left}
 use Rattle.std.proofs.lemmas.List.Elements.{All-cons}
 use Rattle.std.proofs.lemmas.List.Sums.{sum_by_push}
 use Rattle.aoe_base.specs.declared.counted.Millis.{Millis}
@@ -21,6 +21,12 @@ use Rattle.aoe_hold.proofs.WaitLemmas.{any-alike, any-map, any-push}
 
 abbrev pub bit : Bool → ℕ
 bit b = cond b 1 0
+
+pub either : (b t : Bool) → bit (not b && t) + bit (b && t) ≡ bit t
+either true true = refl
+either true false = refl
+either false true = refl
+either false false = refl
 
 -- the counts of what waits
 abbrev pub HasWaiters : List Command → List Waiter → List Waiter → Type 0
@@ -62,16 +68,10 @@ waiters-free commands timed ready same =
 -- ---- commands that are past leave
 
 past-bool : (l c e r g : Bool) → ((l && c) && e && r && true && not true) ≡ false
-past-bool false c e r g = refl
-past-bool true false e r g = refl
-past-bool true true false r g = refl
-past-bool true true true false g = refl
-past-bool true true true true g = refl
+past-bool l c e r g = and_right (l && c && e && r && true) false refl
 
 past-block : (l c : Bool) → ((l && c) && not true) ≡ false
-past-block false c = refl
-past-block true false = refl
-past-block true true = refl
+past-block l c = and_right (l && c) false refl
 
 pub past-blocks : (life latest : ℕ) (c e : Command) → is_past life latest e ≡ true → blocks c e ≡ false
 past-blocks life latest c e is = rw ((past-finished life latest e.stage is).0) (past-block (nat_lt e.ticket.0 c.ticket.0) (conflict e c))
@@ -94,11 +94,7 @@ knows-live life latest commands waiters knows = λ k d below now later.
 -- ---- a command is entered
 
 unsent-bool : (l c e r n : Bool) → ((l && c) && e && r && false && n) ≡ false
-unsent-bool false c e r n = refl
-unsent-bool true false e r n = refl
-unsent-bool true true false r n = refl
-unsent-bool true true true false n = refl
-unsent-bool true true true true n = refl
+unsent-bool l c e r n = and_left (l && c && e && r && false) n (and_right (l && c && e && r) false refl)
 
 or-none : (a b : Bool) → b ≡ false → (a || b) ≡ a
 or-none true b none = refl

@@ -12,7 +12,7 @@ use Rattle.std.specs.BTreeMap.{is_at}
 use Rattle.std.specs.BTreeMap.Range.{range_contains}
 use Rattle.std.specs.BTreeSet.{contains, BTreeSet}
 use Rattle.std.specs.declared.ops.Bound.TheVariants.{Included, Excluded}
-use Rattle.std.proofs.lemmas.Bool.{and_parts, cases_lt, eq-eqb, ltb-true, or_cases, true≢false}
+use Rattle.std.proofs.lemmas.Bool.{and_parts, cases_lt, eq-eqb, ltb-true, or_cases, true≢false, or_right}
 use Rattle.std.proofs.lemmas.Cmp.{ranked}
 use Rattle.std.proofs.lemmas.Map.Views.{any-filter_same}
 use Rattle.aoe_base.specs.Spans.{overlap}
@@ -119,12 +119,8 @@ any-ticket : (key : Key) (keys : List Key) → list_any (is_at (key_cmp key)) ke
 any-ticket key [] is = absurd cc
 any-ticket key (k ∷ keys) is = elim (or_cases (is_at (key_cmp key) k) (list_any (is_at (key_cmp key)) keys) is) [
   | inl here ↦ ap (λ b. b || list_any (λ k. nat_eq key.ticket.0 k.ticket.0) keys) (eq-eqb key.ticket.0 k.ticket.0 (same-key key k here).2)
-  | inr there ↦ ap (λ b. nat_eq key.ticket.0 k.ticket.0 || b) (any-ticket key keys there) ∙ or-true (nat_eq key.ticket.0 k.ticket.0)
+  | inr there ↦ ap (λ b. nat_eq key.ticket.0 k.ticket.0 || b) (any-ticket key keys there) ∙ or_right (nat_eq key.ticket.0 k.ticket.0) true refl
 ]
-  where
-    or-true : (a : Bool) → (a || true) ≡ true
-    or-true true = refl
-    or-true false = refl
 
 -- the key of a command whose span overlaps another is met in the range of that
 pub key-met : (keys : BTreeSet Key) (near : List Key) (low high : Key) (writes : Bool) (reach : ℕ) (e c : Command) → near ≡ filter (range_contains key_cmp (Included low) (Excluded high)) keys.keys

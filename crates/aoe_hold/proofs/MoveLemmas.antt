@@ -11,7 +11,7 @@ use Rattle.aoe_hold.specs.declared.command.Command.{Command}
 use Rattle.aoe_hold.specs.declared.command.Kind.TheVariants.{Read}
 use Rattle.aoe_hold.specs.declared.command.Stage.TheVariants.{Unsent}
 use Rattle.aoe_hold.specs.declared.queue.Waiter.{Waiter}
-use Rattle.aoe_hold.proofs.IndexLemmas.{bit}
+use Rattle.aoe_hold.proofs.IndexLemmas.{bit, either}
 use Rattle.aoe_hold.specs.Commands.{finished}
 use Rattle.aoe_hold.specs.Queue.{blocks, is_blocked, lingers, waited_for, IsHeldBy, Knows, Moved, Queued, QueueTable, Released}
 
@@ -126,12 +126,6 @@ released-more life latest commands ended old_timed old_blocked timed blocked one
   blocked_room = queued.blocked_room ∙ room ∙ r.blocked_room;
 }
   where
-    either : (b t : Bool) → bit (not b && t) + bit (b && t) ≡ bit t
-    either true true = refl
-    either true false = refl
-    either false true = refl
-    either false false = refl
-
     never : (b : Bool) → bit (not b && b) ≡ 0
     never true = refl
     never false = refl

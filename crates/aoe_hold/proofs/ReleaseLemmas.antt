@@ -1,5 +1,6 @@
 -- The commands that wait, after one ended.
 use Rattle.std.proofs.Common.{ℕ, zero, suc, ◌≡◌, ◌<◌, ◌≤◌, ◌&&◌, ◌||◌, not, cond, get_or, Bool, true, false, List, [], ◌∷◌, length, Some, refl, sym, ap, ◌∙◌, arith, nat_eq, nat_lt}
+use Rattle.aoe_hold.proofs.StageLemmas.{end-unsent}
 use Rattle.std.specs.Prelude.{position, All}
 use Rattle.std.specs.List.{list_all, list_any}
 use Rattle.std.proofs.lemmas.Bool.{and_parts, eqb-true, ltb-true, ne_eqb, or_parts}
@@ -16,11 +17,6 @@ use Rattle.aoe_hold.proofs.WaitLemmas.{any-agree, any-alike, any-map, any-or}
 
 abbrev pub ends : ℕ → Command → Command
 ends ticket c = with_stage ticket stage_finished c
-
-end-unsent : (s : Stage) → unsent (stage_finished s) ≡ unsent s
-end-unsent Unsent = refl
-end-unsent (Flying last) = refl
-end-unsent (Finished last) = refl
 
 -- what is finished stays so
 end-blocks : (cf : Bool) (s : Stage) → (cf && not (finished s)) ≡ ((cf && not (finished (stage_finished s))) || (cf && not (finished s)))

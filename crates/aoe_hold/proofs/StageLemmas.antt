@@ -83,18 +83,18 @@ count-sent now commands i command stage within read stage_is =
     flies (Flying last) = refl
     flies (Finished last) = refl
 
+pub end-unsent : (s : Stage) → unsent (stage_finished s) ≡ unsent s
+end-unsent Unsent = refl
+end-unsent (Flying last) = refl
+end-unsent (Finished last) = refl
+
 pub count-finished : (commands : List Command) (i : ℕ) (command : Command) (stage : Stage) → i < length commands → command ≡ get_or commands i command → stage ≡ stage_finished command.stage
     → unsent_count (set commands i (record command { stage = stage })) ≡ unsent_count commands
 count-finished commands i command stage within read stage_is =
-    let same : unsent stage ≡ is_unsent command = ap unsent stage_is ∙ kept command.stage in
+    let same : unsent stage ≡ is_unsent command = ap unsent stage_is ∙ end-unsent command.stage in
     let whole = changed-count commands i command stage within read in
     let turned : unsent_count (set commands i (record command { stage = stage })) + cond (is_unsent command) 1 0 ≡ unsent_count commands + cond (is_unsent command) 1 0 = whole ∙ rw same refl in
     omega (arith, turned)
-  where
-    kept : (s : Stage) → unsent (stage_finished s) ≡ unsent s
-    kept Unsent = refl
-    kept (Flying last) = refl
-    kept (Finished last) = refl
 
 pub place-within : (ticket : ℕ) (commands : List Command) (i : ℕ) (d : Command) → position (λ c. nat_eq c.ticket.0 ticket) commands ≡ Some i → i < length commands
 place-within ticket commands i d found = (position-Some (λ (c : Command). nat_eq c.ticket.0 ticket) commands i d found).0
