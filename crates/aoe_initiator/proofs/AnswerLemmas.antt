@@ -1,8 +1,8 @@
 -- Which command a frame answers.
-use Rattle.std.proofs.Common.{ℕ, ◌≡◌, ◌≢◌, ◌≤◌, ◌+◌, ◌*◌, ◌&&◌, length, ◌∷◌, [], cond, not, Bool, true, false, List, drop, Option, Some, None, inl, inr, refl, sym, ap, subst, ◌∙◌, arith, nat_eq}
+use Rattle.std.proofs.Common.{ℕ, ◌≡◌, ◌≢◌, ◌≤◌, ◌+◌, ◌*◌, ◌&&◌, length, cond, not, Bool, true, false, List, drop, Option, Some, None, inl, inr, refl, sym, ap, subst, ◌∙◌, arith, nat_eq}
 use Rattle.std.specs.Prelude.{option_map, slice_get, All, Contains, IfNone, IfSome, IsSome}
 use Rattle.std.specs.List.{find}
-use Rattle.std.proofs.lemmas.Bool.{and_parts, cases_Bool, eq-eqb, eqb-true, not-true}
+use Rattle.std.proofs.lemmas.Bool.{and_parts, cases_Bool, eq-eqb, eqb-true, not-true, and_right, and_left, and_from}
 use Rattle.std.proofs.lemmas.List.Elements.{All-contains, All-weaker, All-contains_itself}
 use Rattle.aoe_base.specs.declared.address.Mac.{Mac}
 use Rattle.aoe_base.specs.declared.counted.PathNo.{PathNo}
@@ -18,7 +18,7 @@ use Rattle.aoe_initiator.specs.declared.device.Device.{Device}
 use Rattle.aoe_flight.specs.declared.outstanding.Outstanding.{Outstanding}
 use Rattle.aoe_flight.specs.Outstanding.{flies_as, flies_with, tag_count}
 use Rattle.aoe_flight.specs.FlightTable.{FlightTable}
-use Rattle.aoe_flight.proofs.RecallLemmas.{tagged-once}
+use Rattle.aoe_flight.proofs.RecallLemmas.{tagged-once, find-there}
 use Rattle.aoe_initiator.specs.declared.op.Op.{Op}
 use Rattle.aoe_initiator.specs.declared.pending.Pending.{Pending}
 use Rattle.aoe_initiator.specs.declared.response.Answer.{Answer}
@@ -28,7 +28,7 @@ use Rattle.aoe_initiator.specs.HostLog.{commands, outstanding, sent_of, Event, H
 use Rattle.aoe_initiator.specs.Response.{answer, has_flag}
 use Rattle.aoe_initiator.specs.Op.{command_of}
 use Rattle.aoe_initiator.specs.Steps.{place}
-use Rattle.aoe_initiator.proofs.ListLemmas.{get-past, Contains-cons, not-placed, placed, placed-inside, Contains-map_from}
+use Rattle.aoe_initiator.proofs.ListLemmas.{get-past, not-placed, placed, placed-inside, Contains-map_from}
 use Rattle.aoe_initiator.proofs.LogLemmas.{only, unfinished-there}
 use Rattle.aoe_initiator.proofs.PathLemmas.{has-paths}
 use Rattle.aoe_initiator.proofs.NextLemmas.{find-flies}
@@ -37,17 +37,6 @@ use Rattle.aoe_initiator.proofs.MatchLemmas.{one-command, pending-command, sent-
 -- a frame answers no command
 abbrev pub AnswersNone : Host → List ℕ → Type 0
 AnswersNone host frame = (log : List Event) → Matches log host → All (λ c. answer_to host c frame ≡ None) (commands log)
-
--- the first element that passes a test stands in the list
-find-found : (test : Outstanding → Bool) (xs : List Outstanding) (c : Outstanding) → find test xs ≡ Some c → Contains xs c × (test c ≡ true)
-find-found test [] c is = absurd cc
-find-found test (x ∷ xs) c is = at (test x) refl is (find-found test xs c)
-  where
-    at : (b : Bool) → test x ≡ b → cond b (Some x) (find test xs) ≡ Some c → (find test xs ≡ Some c → Contains xs c × (test c ≡ true)) → Contains (x ∷ xs) c × (test c ≡ true)
-    at true passes same rest =
-        let here : x ≡ c = cc in
-        ((0, omega arith, here), ap test (sym here) ∙ passes)
-    at false fails same rest = let behind = rest same in (Contains-cons x c xs behind.0, behind.1)
 
 pub if-none : {T : Type 0} (o : Option T) (host : Host) (frame : List ℕ) → AnswersNone host frame → IfNone o (AnswersNone host frame)
 if-none None host frame none = none
@@ -58,20 +47,13 @@ abbrev pub tagged : ℕ → HostCommand → Bool
 tagged tag c = not c.done && has_tag tag c.sends
 
 and-false : (a b c : Bool) → b ≡ false → (a && b && c) ≡ false
-and-false true true c is = absurd cc
-and-false true false c is = refl
-and-false false b c is = refl
+and-false a b c is = and_left (a && b) c (and_right a b is)
 
 last-false : (a b c : Bool) → c ≡ false → (a && b && c) ≡ false
-last-false true true c is = is
-last-false true false c is = refl
-last-false false b c is = refl
+last-false a b c is = and_right (a && b) c is
 
 all-true : (a b c : Bool) → a ≡ true → b ≡ true → c ≡ true → (a && b && c) ≡ true
-all-true true true true x y z = refl
-all-true true true false x y z = absurd cc
-all-true true false c x y z = absurd cc
-all-true false b c x y z = absurd cc
+all-true a b c x y z = and_from (a && b) c (and_from a b x y) z
 
 -- a frame whose header isn't that of a response to the command
 not-answered : (host : Host) (c : HostCommand) (frame : List ℕ) (h : Header) → head frame ≡ Some h → is_answered host c h ≡ false → answer_to host c frame ≡ None
@@ -85,11 +67,7 @@ no-flyer : (cs : List HostCommand) (tag : ℕ) (c : HostCommand) → All (λ o. 
 no-flyer cs tag c none there = at c.sends refl
   where
     at : (o : Option Sending) → c.sends ≡ o → (not c.done && has_tag tag o) ≡ false
-    at None is = never (not c.done)
-      where
-        never : (b : Bool) → (b && false) ≡ false
-        never true = refl
-        never false = refl
+    at None is = and_right (not c.done) false refl
     at (Some s) is = All-contains (λ o. flies_with tag o ≡ false) (sent_of cs) (outstanding c s) none (sent-there cs c s there is)
 
 pub all-untagged : (host : Host) (log : List Event) (frame : List ℕ) (h : Header) → head frame ≡ Some h → All (λ o. flies_with h.tag o ≡ false) (sent_of (commands log)) → All (λ c. answer_to host c frame ≡ None) (commands log)
@@ -274,7 +252,7 @@ flies-found tag table t is = by_find (find (flies_with tag) table.commands) refl
     by_find : (o : Option Outstanding) → find (flies_with tag) table.commands ≡ o → option_map (λ (c : Outstanding). c.ticket) o ≡ Some t → IsSome (find (flies_as t.0) table.commands)
     by_find None none given = absurd cc
     by_find (Some c) some given =
-        let found = find-found (flies_with tag) table.commands c some in
+        let found = find-there (flies_with tag) c table.commands some in
         let parts = and_parts (not c.finished) (nat_eq c.flying.tag tag) found.1 in
         let ticket : c.ticket ≡ t = cc in
         let same : nat_eq c.ticket.0 t.0 ≡ true = eq-eqb c.ticket.0 t.0 (ap (λ (u : Ticket). u.0) ticket) in
