@@ -1,6 +1,6 @@
 -- What follows from the calls of a block.
-use Rattle.std.proofs.Common.{◌≡◌, ◌≤◌, ◌<◌, ◌*◌, ◌||◌, ℕ, suc, Bool, true, false, List, [], ◌∷◌, Option, Some, None, length, map, if◌then◌else◌, arith, refl, sym, ap, ◌∙◌, eq-eqb, nat_eq}
-use Rattle.std.proofs.lemmas.Bool.{eqb-true}
+use Rattle.std.proofs.Common.{◌≡◌, ◌≤◌, ◌<◌, ◌*◌, ◌||◌, ℕ, suc, Bool, true, false, List, [], ◌∷◌, Option, Some, None, length, map, if◌then◌else◌, arith, refl, sym, ap, ◌∙◌, eq-eqb}
+use Rattle.std.proofs.lemmas.Bool.{eqb-true, ne_eqb}
 use Rattle.std.specs.List.{list_all, list_any, All}
 use Rattle.aoe_base.specs.declared.counted.Ticket.{Ticket}
 use Rattle.aoe_initiator.specs.declared.op.Op.{Op}
@@ -187,13 +187,9 @@ pub later-hand : (later : ℕ) (ticket : Ticket) → ticket.0 < later → (parts
 later-hand later ticket past [] free = refl
 later-hand later ticket past (p ∷ parts) free = at_head (is_handed later p.stage) refl (later-hand later ticket past parts)
   where
-    other : (b : Bool) → nat_eq ticket.0 later ≡ b → b ≡ false
-    other true is = absurd (let e = eqb-true ticket.0 later is in omega arith)
-    other false is = refl
-
     at_stage : (b : Bool) → is_handed later p.stage ≡ false → part_of later parts ≡ None → part_of later (hand ticket parts) ≡ None
         → part_of later (if b then record p { stage = Handed ticket } ∷ parts else p ∷ hand ticket parts) ≡ None
-    at_stage true out rest behind = rw (other (nat_eq ticket.0 later) refl) rest
+    at_stage true out rest behind = rw (ne_eqb ticket.0 later (λ e. omega (arith, e, past))) rest
     at_stage false out rest behind = rw out behind
 
     at_head : (b : Bool) → is_handed later p.stage ≡ b → (part_of later parts ≡ None → part_of later (hand ticket parts) ≡ None) → part_of later (hand ticket (p ∷ parts)) ≡ None
