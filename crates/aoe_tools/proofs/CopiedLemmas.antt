@@ -1,15 +1,14 @@
 -- What a transfer has copied, turn by turn.
 use Rattle.aoe_base.specs.declared.counted.Ticket.{Ticket}
-use Rattle.std.proofs.Common.{ℕ, ◌≡◌, ◌+◌, ◌-◌, ◌*◌, ◌/◌, ◌<◌, ◌⊎◌, cond, not, nat_eq, Bool, true, false, List, [], ◌∷◌, ◌++◌, length, map, reverse, replicate, Option, Some, None, refl, sym, ap, subst, ◌∙◌, arith, inl, inr}
+use Rattle.std.proofs.Common.{ℕ, ◌≡◌, ◌+◌, ◌-◌, ◌*◌, ◌/◌, ◌<◌, cond, not, nat_eq, Bool, true, false, List, [], ◌∷◌, ◌++◌, length, map, reverse, replicate, Option, Some, None, refl, sym, ap, subst, ◌∙◌, arith, inl, inr}
 use Rattle.std.specs.Prelude.{Ok, option_map, All, Contains}
 use Rattle.std.proofs.lemmas.Bool.{and_parts, eqb-true}
 use Rattle.std.proofs.lemmas.List.{get_or-reverse, length-append, length-replicate, length-reverse}
-use Rattle.std.proofs.lemmas.List.Elements.{All-head, All-tail}
-use Rattle.aoe_block.specs.Calls.{after_done as part_after, are_ended, hand, is_success, next_part, op_of, part_of, settle, took, took_as as took_by}
+use Rattle.std.proofs.lemmas.List.Elements.{All-head, All-tail, Contains-append_left, Contains-append_right, Contains-append_cases}
+use Rattle.aoe_block.specs.Calls.{after_done as part_after, are_ended, is_success, next_part, op_of, part_of, settle, took, took_as as took_by}
 use Rattle.aoe_block.specs.Parts.{joined, AreFull, Part, Transfer}
 use Rattle.aoe_block.specs.declared.took.Took.{Took}
 use Rattle.aoe_block.specs.declared.took.Took.TheVariants as took_as
-use Rattle.aoe_initiator.specs.declared.op.Op.{Op}
 use Rattle.aoe_initiator.specs.declared.op.Op.TheVariants as op
 use Rattle.aoe_initiator.specs.declared.outcome.Done.{Done}
 use Rattle.aoe_initiator.specs.declared.outcome.Outcome.{Outcome}
@@ -23,7 +22,7 @@ use Rattle.aoe_tools.specs.declared.end.ToolRefusal.{ToolRefusal}
 use Rattle.aoe_tools.specs.TransferCourse.{after_done, after_dones, after_parts, end_by, ending, ending_by, failure, hand_in, handed, is_flushed, is_last, is_over_in, next_in, next_op, note_in, or_later, submitted, unless_ended, AreNext, End, Submission}
 use Rattle.aoe_tools.specs.TransferAsks.{LinkState}
 use Rattle.aoe_tools.specs.TransferCopies.{first_phase, read_of, write_of, IsFresh, Range, RunsAll}
-use Rattle.aoe_tools.specs.TransferData.{came_in, outcomes, submissions, AreCopied, FollowsWrites, HasRead, HasWritten, IsCopied}
+use Rattle.aoe_tools.specs.TransferData.{came_in, outcomes, submissions, AreCopied, FollowsWrites, HasRead, HasWritten}
 use Rattle.aoe_tools.specs.declared.lookup.Device.{Device}
 use Rattle.aoe_tools.specs.declared.question.Ask.{Ask}
 use Rattle.aoe_base.specs.declared.address.TargetId.{TargetId}
@@ -32,24 +31,6 @@ use Rattle.aoe_initiator.proofs.ListLemmas.{Contains-cons, Contains-cons_cases}
 
 abbrev Into : {X : Type 0} → List X → List X → Type 0
 Into {X} xs ys = (x : X) → Contains xs x → Contains ys x
-
-in-left : {X : Type 0} (xs ys : List X) (x : X) → Contains xs x → Contains (xs ++ ys) x
-in-left [] ys x p = absurd (omega (arith, p.1))
-in-left (y ∷ xs) ys x p = elim (Contains-cons_cases y x xs p) [
-  | inl same ↦ (0, omega arith, same)
-  | inr behind ↦ Contains-cons y x (xs ++ ys) (in-left xs ys x behind)
-]
-
-in-right : {X : Type 0} (xs ys : List X) (x : X) → Contains ys x → Contains (xs ++ ys) x
-in-right [] ys x p = p
-in-right (y ∷ xs) ys x p = Contains-cons y x (xs ++ ys) (in-right xs ys x p)
-
-in-either : {X : Type 0} (xs ys : List X) (x : X) → Contains (xs ++ ys) x → Contains xs x ⊎ Contains ys x
-in-either [] ys x p = inr p
-in-either (y ∷ xs) ys x p = elim (Contains-cons_cases y x (xs ++ ys) p) [
-  | inl same ↦ inl (0, omega arith, same)
-  | inr behind ↦ elim (in-either xs ys x behind) [ inl left ↦ inl (Contains-cons y x xs left) | inr right ↦ inr right ]
-]
 
 in-reverse : {X : Type 0} (xs : List X) (x : X) → Contains (reverse xs) x → Contains xs x
 in-reverse xs x p =
@@ -76,6 +57,15 @@ pub record IsFlushed (D : List Done) (c : Course) : Type 0 where
   pub ticket : Ticket
   pub flushing : c.phase ≡ phase.Flushing ticket
   pub acknowledged : Contains D (record { ticket = ticket; outcome = outcome.Flushed })
+
+whole-ended : (write : Bool) (d : Done) (o : Option Part) (b : Bool) → took_by write d o b ≡ took_as.Whole → b ≡ true
+whole-ended write d None b e = absurd cc
+whole-ended write d (Some p) b e = at-success (is_success write p.count d.outcome) b e
+  where
+    at-success : (a b : Bool) → cond a (cond b took_as.Whole took_as.More) (took_as.Part d.outcome) ≡ took_as.Whole → b ≡ true
+    at-success true true e = refl
+    at-success true false e = absurd cc
+    at-success false b e = absurd cc
 
 module _ (w : Bool) (at count : ℕ) (bytes : List ℕ) where
   more-so : (S S' : List Submission) (D D' : List Done) (c : Course) → Into S S' → Into D D' → IsSo w at count bytes S D c → IsSo w at count bytes S' D' c
@@ -105,10 +95,9 @@ module _ (w : Bool) (at count : ℕ) (bytes : List ℕ) where
       by : (p : Phase) → c.phase ≡ p → next_in p c ≡ Some s.op → PhaseIs c.block.parts p → IsSo w at count bytes (s ∷ S) D (hand_in p s.ticket c)
       by phase.Parts is next y =
           let found = some-part c.block.write (next_part c.block.parts) next in
-          let P : Op → Type 0 = λ o. AreSo w (record { ticket = s.ticket; op = o } ∷ S) D at (hand s.ticket c.block.parts) in
           let same : op_of w found.0 ≡ s.op = ap (λ b. op_of b found.0) (sym x.write) ∙ found.2 in
           record {
-            parts = subst P same (so-handed w S D s.ticket at c.block.parts found.0 found.1 x.parts);
+            parts = rw (← same) (so-handed w S D s.ticket at c.block.parts found.0 found.1 x.parts);
             write = x.write;
             flushes = x.flushes;
             sectors_are = sectors-handed s.ticket c.block.parts ∙ x.sectors_are;
@@ -130,8 +119,7 @@ module _ (w : Bool) (at count : ℕ) (bytes : List ℕ) where
 
       parts' : AreSo w S (d ∷ D) at block'.parts
       parts' =
-          let P : Bool → Type 0 = λ b. AreSo w S (d ∷ D) at (map (part_after b d) c.block.parts) in
-          subst P (sym x.write) (so-settled w S D d at c.block.parts x.parts)
+          rw x.write (so-settled w S D d at c.block.parts x.parts)
 
       count' : sectors block'.parts ≡ count
       count' =
@@ -149,15 +137,6 @@ module _ (w : Bool) (at count : ℕ) (bytes : List ℕ) where
       same-phase : c.phase ≡ phase.Parts → IsSo w at count bytes S (d ∷ D) (record c { block = block'; under_way = c.under_way - 1 })
       same-phase is = record { parts = parts'; write = x.write; flushes = x.flushes; sectors_are = count'; kept = kept'; phase_is = rw is tt }
 
-      whole-ended : (o : Option Part) (b : Bool) → took_by c.block.write d o b ≡ took_as.Whole → b ≡ true
-      whole-ended None b e = absurd cc
-      whole-ended (Some p) b e = at-success (is_success c.block.write p.count d.outcome) b e
-        where
-          at-success : (a b : Bool) → cond a (cond b took_as.Whole took_as.More) (took_as.Part d.outcome) ≡ took_as.Whole → b ≡ true
-          at-success true true e = refl
-          at-success true false e = absurd cc
-          at-success false b e = absurd cc
-
       parts-over : (t : Took) → took c.block d ≡ t → c.phase ≡ phase.Parts → IsSo w at count bytes S (d ∷ D) (after_parts t (record c { block = block'; under_way = c.under_way - 1 }))
       parts-over took_as.More e is = same-phase is
       parts-over (took_as.NotMine f) e is = same-phase is
@@ -165,7 +144,7 @@ module _ (w : Bool) (at count : ℕ) (bytes : List ℕ) where
       parts-over took_as.Whole e is = choose c.flushes
         where
           choose : (b : Bool) → IsSo w at count bytes S (d ∷ D) (cond b (record c { block = block'; phase = phase.Flush; under_way = c.under_way - 1 }) (record c { block = block'; under_way = c.under_way - 1 }))
-          choose true = settled phase.Flush (whole-ended (part_of d.ticket.0 c.block.parts) (are_ended block'.parts) e)
+          choose true = settled phase.Flush (whole-ended c.block.write d (part_of d.ticket.0 c.block.parts) (are_ended block'.parts) e)
           choose false = same-phase is
 
       stays : (p : Phase) → c.phase ≡ p → IsSo w at count bytes S (d ∷ D) (record c { under_way = c.under_way - 1 })
@@ -197,12 +176,12 @@ module _ (w : Bool) (at count : ℕ) (bytes : List ℕ) where
 
   told-came : (rounds : List Round) → Into (told rounds) (outcomes rounds)
   told-came [] d there = there
-  told-came (r ∷ rounds) d there = in-left (told_by r.heard) (r.gave_up ++ outcomes rounds) d there
+  told-came (r ∷ rounds) d there = Contains-append_left (told_by r.heard) (r.gave_up ++ outcomes rounds) d there
 
   dones-came : (rounds : List Round) (gave_up : List Done) → Into (dones (told rounds) gave_up) (gave_up ++ outcomes rounds)
-  dones-came rounds gave_up d there = elim (in-either (told rounds) (reverse gave_up) d there) [
-    | inl before ↦ in-right gave_up (outcomes rounds) d (told-came rounds d before)
-    | inr now ↦ in-left gave_up (outcomes rounds) d (in-reverse gave_up d now)
+  dones-came rounds gave_up d there = elim (Contains-append_cases (told rounds) (reverse gave_up) d there) [
+    | inl before ↦ Contains-append_right gave_up (outcomes rounds) d (told-came rounds d before)
+    | inr now ↦ Contains-append_left gave_up (outcomes rounds) d (in-reverse gave_up d now)
   ]
 
   -- the course of a turn before a command is asked for
@@ -213,13 +192,13 @@ module _ (w : Bool) (at count : ℕ) (bytes : List ℕ) where
       let c = course_of turns start rounds in
       let ds = dones (told rounds) r.gave_up in
       submits-so (submissions rounds) (came_in rounds r.gave_up) (after_dones turns c ds) submits are
-      (dones-so turns (submissions rounds) (outcomes rounds) (came_in rounds r.gave_up) c ds (λ d there. in-right r.gave_up (outcomes rounds) d there) (dones-came rounds r.gave_up) before)
+      (dones-so turns (submissions rounds) (outcomes rounds) (came_in rounds r.gave_up) c ds (λ d there. Contains-append_right r.gave_up (outcomes rounds) d there) (dones-came rounds r.gave_up) before)
 
   rounds-so : (base : Host) (turns : ℕ) (start : Course) (rounds : List Round) → IsSo w at count bytes [] [] start → AreRounds base turns start rounds → IsSo w at count bytes (submissions rounds) (outcomes rounds) (course_of turns start rounds)
   rounds-so base turns start [] x are = x
   rounds-so base turns start (r ∷ rounds) x are =
       let S = r.submits ++ submissions rounds in
-      more-so S S (came_in rounds r.gave_up) (outcomes (r ∷ rounds)) (course_of turns start (r ∷ rounds)) (λ s there. there) (λ d there. in-right (told_by r.heard) (came_in rounds r.gave_up) d there)
+      more-so S S (came_in rounds r.gave_up) (outcomes (r ∷ rounds)) (course_of turns start (r ∷ rounds)) (λ s there. there) (λ d there. Contains-append_right (told_by r.heard) (came_in rounds r.gave_up) d there)
       (asks-so base turns start r rounds r.submits are.2.submits (rounds-so base turns start rounds x are.0))
 
   -- the flush was asked for behind the writes
@@ -267,17 +246,14 @@ module _ (w : Bool) (at count : ℕ) (bytes : List ℕ) where
       by phase.Flush is next y = λ flush e.
           let at_flush : op.Flush ≡ s.op = cc in
           let ticket : s.ticket ≡ flush = cc in
-          let P : Bool → Type 0 = λ b. All (IsCopied b (before ++ submissions rounds) (came_in rounds r.gave_up)) c.block.parts in
-          let Q : Op → Type 0 = λ o. r.submits ≡ record { ticket = s.ticket; op = o } ∷ before in
-          let R : Ticket → Type 0 = λ t. r.submits ≡ record { ticket = t; op = op.Flush } ∷ before in
           record {
             later = [];
             turn = r;
             earlier = rounds;
             order = refl;
             before = before;
-            asked = subst R ticket (subst Q (sym at_flush) same);
-            written = subst P writes (each-so w (before ++ submissions rounds) (came_in rounds r.gave_up) at c.block.parts x.parts y);
+            asked = rw (← ticket) (rw at_flush same);
+            written = rw (← writes) (each-so w (before ++ submissions rounds) (came_in rounds r.gave_up) at c.block.parts x.parts y);
           }
 
   asked-turn : (base : Host) (turns : ℕ) (start : Course) (r : Round) (rounds : List Round) (submits : List Submission) → w ≡ true → r.submits ≡ submits
@@ -316,16 +292,7 @@ module _ (w : Bool) (at count : ℕ) (bytes : List ℕ) where
         where
           choose : (b : Bool) → c.flushes ≡ b → not b ≡ true → Over all (cond b (record c { block = settle c.block d; phase = phase.Flush; under_way = c.under_way - 1 }) (record c { block = settle c.block d; under_way = c.under_way - 1 }))
           choose true f z = absurd cc
-          choose false f z = (whole-ended (part_of d.ticket.0 c.block.parts) (are_ended (settle c.block d).parts) e, λ writes. absurd (let a = x.flushes in cc))
-            where
-              whole-ended : (o : Option Part) (b : Bool) → took_by c.block.write d o b ≡ took_as.Whole → b ≡ true
-              whole-ended None b e = absurd cc
-              whole-ended (Some p) b e = at-success (is_success c.block.write p.count d.outcome) b e
-                where
-                  at-success : (a b : Bool) → cond a (cond b took_as.Whole took_as.More) (took_as.Part d.outcome) ≡ took_as.Whole → b ≡ true
-                  at-success true true e = refl
-                  at-success true false e = absurd cc
-                  at-success false b e = absurd cc
+          choose false f z = (whole-ended c.block.write d (part_of d.ticket.0 c.block.parts) (are_ended (settle c.block d).parts) e, λ writes. absurd (let a = x.flushes in cc))
 
       flushed : (o : Outcome) → is_flushed o ≡ true → o ≡ outcome.Flushed
       flushed outcome.Flushed e = refl
@@ -342,9 +309,8 @@ module _ (w : Bool) (at count : ℕ) (bytes : List ℕ) where
       by (phase.Flushing ticket) is over y =
           let both = and_parts (nat_eq d.ticket.0 ticket.0) (is_flushed d.outcome) over in
           let same : d.ticket.0 ≡ ticket.0 = eqb-true d.ticket.0 ticket.0 both.0 in
-          let P : ℕ → Type 0 = λ n. Contains all (record { ticket = record { 0 = n }; outcome = d.outcome }) in
           let Q : Outcome → Type 0 = λ o. Contains all (record { ticket = ticket; outcome = o }) in
-          (y, λ writes. record { ticket = ticket; flushing = is; acknowledged = subst Q (flushed d.outcome both.1) (subst P same (into d (0, omega arith, refl))) })
+          (y, λ writes. record { ticket = ticket; flushing = is; acknowledged = subst Q (flushed d.outcome both.1) (rw (← same) (into d (0, omega arith, refl))) })
 
   over-so : (turns : ℕ) (S : List Submission) (D all : List Done) (c : Course) (ds : List Done) → Into D all → Into ds all → end_by turns c ds ≡ Some (Ok record {}) → IsSo w at count bytes S D c → Over all (after_dones turns c ds)
   over-so turns S D all c [] into these e x = absurd cc
@@ -372,12 +338,9 @@ module _ (w : Bool) (at count : ℕ) (bytes : List ℕ) where
       let before = rounds-so base turns start rounds fresh are in
       let ds = dones (told rounds) e.gave_up in
       let last = course_of turns start rounds in
-      let mine : Into (outcomes rounds) all = λ d there. in-right e.gave_up (outcomes rounds) d there in
-      let P : Course → Type 0 = λ x. IsSo w at count bytes S all x in
-      let Q : Course → Type 0 = λ x. Over all x in
-      let R : Course → Type 0 = λ x. Asked rounds x in
-      let x = subst P (sym is) (dones-so turns S (outcomes rounds) all last ds mine (dones-came rounds e.gave_up) before) in
-      let over = subst Q (sym is) (over-so turns S (outcomes rounds) all last ds mine (dones-came rounds e.gave_up) e.by before) in (
+      let mine : Into (outcomes rounds) all = λ d there. Contains-append_right e.gave_up (outcomes rounds) d there in
+      let x = rw (← is) at (dones-so turns S (outcomes rounds) all last ds mine (dones-came rounds e.gave_up) before) in
+      let over = rw (← is) at (over-so turns S (outcomes rounds) all last ds mine (dones-came rounds e.gave_up) e.by before) in (
         record {
           adjacent = adjacent-so w S all at c.block.parts x.parts;
           whole = whole-so w S all at c.block.parts x.parts;
@@ -386,7 +349,7 @@ module _ (w : Bool) (at count : ℕ) (bytes : List ℕ) where
         },
         λ writes.
             let f = over.1 writes in
-            let asked : Asked rounds c = subst R (sym is) (asked-dones turns rounds last ds (asked-rounds base turns start rounds writes fresh unasked are)) in
+            let asked : Asked rounds c = rw is (asked-dones turns rounds last ds (asked-rounds base turns start rounds writes fresh unasked are)) in
             (x.kept writes, f, asked f.ticket f.flushing),
       )
 
@@ -436,8 +399,7 @@ read-law ask id d at count start c before after answers answers' fresh x =
     let many : sectors start.block.parts ≡ count = omega (arith, size, ap (λ (l : List ℕ). length l) fresh.cut.together, zeros) in
     let e = x.runs.ends in
     let r = run-so false at count (replicate {A = ℕ} (512 * count) 0) (host_of ask.port id d) ask.turns e.0 start x.last x.runs.rounds (fresh-so (read_of at count) d start fresh many) (unasked (read_of at count) d start fresh) x.runs.are e.1 e.2 in
-    let P : Course → Type 0 = λ y. HasRead at count x.runs.rounds (joined y.block.parts) in
-    subst P (sym x.gives) (record { parts = x.last.block.parts; gave_up = e.1.gave_up; copied = r.0; together = refl })
+    rw x.gives (record { parts = x.last.block.parts; gave_up = e.1.gave_up; copied = r.0; together = refl })
 
 pub write-law : (ask : Ask) (id : TargetId) (d : Device) (at : ℕ) (bytes : List ℕ) (start c : Course) (before after : LinkState) (answers answers' : Option (List ℕ)) → IsFresh (write_of at bytes) d start
     → (x : RunsAll (Ok c) ask id d start before after answers answers') → HasWritten at bytes x.runs.rounds

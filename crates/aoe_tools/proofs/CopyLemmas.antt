@@ -1,5 +1,5 @@
 -- The tools that copy sectors, step by step.
-use Rattle.std.proofs.Common.{ℕ, ◌≡◌, ◌+◌, ◌*◌, ◌≤◌, ◌<◌, Bool, true, false, List, [], ◌∷◌, length, Option, refl, ap, subst, arith, inl, inr, length-append}
+use Rattle.std.proofs.Common.{ℕ, ◌≡◌, ◌+◌, ◌*◌, ◌≤◌, ◌<◌, Bool, true, false, List, [], ◌∷◌, length, Option, refl, ap, arith, inl, inr, length-append}
 use Rattle.std.specs.Prelude.{Result, Ok, Err, All}
 use Rattle.std.specs.List.{count_by}
 use Rattle.std.proofs.lemmas.Bool.{cases_lt}
@@ -10,7 +10,7 @@ use Rattle.aoe_block.specs.Calls.{AreUpTo}
 use Rattle.aoe_block.specs.Parts.{joined, AreFull, Part}
 use Rattle.aoe_block.specs.Stages.{is_pending}
 use Rattle.aoe_initiator.specs.Host.{Host}
-use Rattle.aoe_tools.proofs.TransferHost.{count-most}
+use Rattle.std.proofs.lemmas.List.Sums.{count_by-le-length}
 use Rattle.aoe_tools.specs.Asking.{Answers}
 use Rattle.aoe_tools.specs.declared.course.Course.{Course}
 use Rattle.aoe_tools.specs.declared.course.Phase.{Phase}
@@ -47,7 +47,7 @@ fit-fresh range c port id d some short fresh tickets = record {
 }
   where
     most : count_by waits c.block.parts ≤ 32768
-    most = omega (arith, count-most waits c.block.parts, few-parts d.max c.block.parts some fresh.cut.full fresh.cut.whole, ap (λ (l : List ℕ). length l) fresh.cut.together, short)
+    most = omega (arith, count_by-le-length waits c.block.parts, few-parts d.max c.block.parts some fresh.cut.full fresh.cut.whole, ap (λ (l : List ℕ). length l) fresh.cut.together, short)
 
     one : (b : Bool) → count_if b ≤ 1
     one true = omega arith
@@ -109,13 +109,9 @@ module _ (ask : Ask) (id : TargetId) (range : Range) (least first : ℕ) (before
 pub ran-ok : (ask : Ask) (id : TargetId) (d : Device) (host : Host) (start first last : Course) (before after : LinkState) (answers answers' : Option (List ℕ)) → host ≡ host_of ask.port id d → first ≡ start
     → Runs (Ok record {}) host ask.turns first last before.turns after.turns before.given after.given before.taken after.taken answers answers' → MayRun (Ok last) ask id d start before after answers answers'
 ran-ok ask id d host start first last before after answers answers' host_is start_is runs =
-    let P : Host → Type 0 = λ h. Runs (Ok record {}) h ask.turns first last before.turns after.turns before.given after.given before.taken after.taken answers answers' in
-    let Q : Course → Type 0 = λ x. Runs (Ok record {}) (host_of ask.port id d) ask.turns x last before.turns after.turns before.given after.given before.taken after.taken answers answers' in
-    inr (record { last = last; runs = subst Q start_is (subst P host_is runs); gives = refl })
+    inr (record { last = last; runs = rw (← start_is) (rw (← host_is) runs); gives = refl })
 
 pub ran-err : (e : ToolRefusal) (ask : Ask) (id : TargetId) (d : Device) (host : Host) (start first last : Course) (before after : LinkState) (answers answers' : Option (List ℕ)) → host ≡ host_of ask.port id d → first ≡ start
     → Runs (Err e) host ask.turns first last before.turns after.turns before.given after.given before.taken after.taken answers answers' → MayRun (Err e) ask id d start before after answers answers'
 ran-err e ask id d host start first last before after answers answers' host_is start_is runs =
-    let P : Host → Type 0 = λ h. Runs (Err e) h ask.turns first last before.turns after.turns before.given after.given before.taken after.taken answers answers' in
-    let Q : Course → Type 0 = λ x. Runs (Err e) (host_of ask.port id d) ask.turns x last before.turns after.turns before.given after.given before.taken after.taken answers answers' in
-    inr (record { last = last; runs = subst Q start_is (subst P host_is runs); gives = tt })
+    inr (record { last = last; runs = rw (← start_is) (rw (← host_is) runs); gives = tt })

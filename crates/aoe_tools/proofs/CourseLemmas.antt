@@ -1,6 +1,6 @@
 -- The course of a transfer, outcome by outcome and command by command.
-use Rattle.std.proofs.Common.{ℕ, ◌≡◌, ◌≤◌, ◌<◌, ◌+◌, cond, Bool, true, false, List, [], ◌∷◌, length, map, Option, Some, None, refl, sym, ap, subst, ◌∙◌, arith, ◌-◌}
-use Rattle.std.specs.Prelude.{Ok, Err, option_map}
+use Rattle.std.proofs.Common.{ℕ, ◌≡◌, ◌≤◌, ◌<◌, ◌+◌, cond, Bool, true, false, List, [], ◌∷◌, length, map, Option, Some, None, refl, sym, subst, ◌∙◌, arith, ◌-◌}
+use Rattle.std.specs.Prelude.{option_map}
 use Rattle.std.specs.List.{count_by}
 use Rattle.aoe_base.specs.declared.counted.Ticket.{Ticket}
 use Rattle.aoe_block.specs.Calls.{after_done as part_after, after_outcome, hand, is_success, next_part, op_of, settle, took, AreUpTo}
@@ -16,51 +16,7 @@ use Rattle.aoe_initiator.specs.declared.outcome.Done.{Done}
 use Rattle.aoe_tools.specs.declared.course.Course.{Course}
 use Rattle.aoe_tools.specs.declared.course.Phase.{Phase}
 use Rattle.aoe_tools.specs.declared.course.Phase.TheVariants as phase
-use Rattle.aoe_tools.specs.declared.end.ToolRefusal.{ToolRefusal}
-use Rattle.aoe_tools.specs.TransferCourse.{after_done, after_dones, after_parts, count_if, end_by, ending, ending_by, failure, hand_in, handed, is_over_in, left, left_in, next_in, next_op, note_in, or_later, submitted, unless_ended, AreNext, End, Submission}
-use Rattle.aoe_tools.specs.TransferSteps.{UnlessFailed}
-
-no-refusal : (o : Option ToolRefusal) (over : Bool) → ending_by o over ≡ None → o ≡ None
-no-refusal None over e = refl
-no-refusal (Some r) over e = absurd cc
-
-no-refusal-over : (o : Option ToolRefusal) (over : Bool) → ending_by o over ≡ Some (Ok record {}) → o ≡ None
-no-refusal-over None over e = refl
-no-refusal-over (Some r) over e = absurd cc
-
-pub not-failed : (turns : ℕ) (c : Course) (d : Done) → ending turns c d ≡ None → failure turns d.outcome ≡ None
-not-failed turns c d e = no-refusal (failure turns d.outcome) (is_over_in c.phase c d) e
-
--- an outcome that doesn't end the transfer
-pub end-after : (turns : ℕ) (c c' : Course) (d : Done) (waiting rest : List Done) → waiting ≡ d ∷ rest → ending turns c d ≡ None → c' ≡ after_done d c → end_by turns c waiting ≡ end_by turns c' rest
-end-after turns c c' d waiting rest is goes_on after =
-    ap (end_by turns c) is ∙ ap (λ e. or_later e (end_by turns (after_done d c) rest)) goes_on ∙ ap (λ x. end_by turns x rest) (sym after)
-
-pub course-after : (turns : ℕ) (c c' : Course) (d : Done) (waiting rest : List Done) → waiting ≡ d ∷ rest → ending turns c d ≡ None → c' ≡ after_done d c → after_dones turns c waiting ≡ after_dones turns c' rest
-course-after turns c c' d waiting rest is goes_on after =
-    ap (after_dones turns c) is ∙ ap (λ e. unless_ended e (after_dones turns (after_done d c) rest) (after_done d c)) goes_on ∙ ap (λ x. after_dones turns x rest) (sym after)
-
--- one that ends it
-pub end-here : (turns : ℕ) (c : Course) (d : Done) (waiting rest : List Done) (end : End) → waiting ≡ d ∷ rest → ending turns c d ≡ Some end → end_by turns c waiting ≡ Some end
-end-here turns c d waiting rest end is ends = ap (end_by turns c) is ∙ ap (λ e. or_later e (end_by turns (after_done d c) rest)) ends
-
-pub course-here : (turns : ℕ) (c c' start : Course) (d : Done) (waiting rest begun : List Done) (end : End) → waiting ≡ d ∷ rest → ending turns c d ≡ Some end → (failure turns d.outcome ≡ None → c' ≡ after_done d c)
-    → after_dones turns start begun ≡ after_dones turns c waiting → UnlessFailed (Some end) (c' ≡ after_dones turns start begun)
-course-here turns c c' start d waiting rest begun (Err refusal) is ends after same = tt
-course-here turns c c' start d waiting rest begun (Ok done) is ends after same =
-    let passes = no-refusal-over (failure turns d.outcome) (is_over_in c.phase c d) ends in
-    let last : after_dones turns c waiting ≡ after_done d c =
-    ap (after_dones turns c) is ∙ ap (λ e. unless_ended e (after_dones turns (after_done d c) rest) (after_done d c)) ends in
-    after passes ∙ sym last ∙ sym same
-
--- what was submitted once more is under way once more
-pub one-more : (ticket : Ticket) (c : Course) → (handed ticket c).under_way ≡ c.under_way + 1
-one-more ticket c = at c.phase
-  where
-    at : (p : Phase) → (hand_in p ticket c).under_way ≡ c.under_way + 1
-    at phase.Parts = refl
-    at phase.Flush = refl
-    at (phase.Flushing flush) = refl
+use Rattle.aoe_tools.specs.TransferCourse.{after_done, after_dones, after_parts, count_if, ending, hand_in, handed, left, left_in, next_in, next_op, note_in, submitted, unless_ended, AreNext, End, Submission}
 
 abbrev waits : Part → Bool
 waits p = is_pending p.stage

@@ -9,7 +9,6 @@ use Rattle.aoe_block.specs.Parts.{joined, AreAdjacent, Part}
 use Rattle.aoe_block.specs.Stages.{is_ended, is_handed, is_pending}
 use Rattle.aoe_block.specs.declared.stage.Stage.{Stage}
 use Rattle.aoe_block.specs.declared.stage.Stage.TheVariants.{Pending, Handed, Ended, Failed}
-use Rattle.aoe_initiator.specs.declared.op.Op.{Op}
 use Rattle.aoe_initiator.specs.declared.outcome.Done.{Done}
 use Rattle.aoe_initiator.specs.declared.outcome.Outcome.{Outcome}
 use Rattle.aoe_initiator.specs.declared.outcome.Outcome.TheVariants as outcome
@@ -68,8 +67,7 @@ so-handed w S D ticket at (p ∷ parts) q e x = by (is_pending p.stage) refl e (
         → AreSo w (record { ticket = ticket; op = op_of w q } ∷ S) D at (cond b (record p { stage = Handed ticket } ∷ parts) (p ∷ hand ticket parts))
     by true is found rest =
         let same : p ≡ q = cc in
-        let P : Op → Type 0 = λ o. Contains (record { ticket = ticket; op = op_of w q } ∷ S) (record { ticket = ticket; op = o }) in
-        (x.0, x.1, subst P (sym (ap (op_of w) same) ∙ sym (op-same w p)) (head-in (record { ticket = ticket; op = op_of w q }) S), more)
+        (x.0, x.1, rw (← (sym (ap (op_of w) same) ∙ sym (op-same w p))) (head-in (record { ticket = ticket; op = op_of w q }) S), more)
     by false is found rest =
         (x.0, x.1, stage-more w S (record { ticket = ticket; op = op_of w q } ∷ S) D D (λ s there. Contains-cons (record { ticket = ticket; op = op_of w q }) s S there) (λ d there. there) p p.stage x.2, rest found x.3)
 
@@ -100,8 +98,7 @@ module _ (w : Bool) (S : List Submission) (D : List Done) (d : Done) (p : Part) 
   handed-is Pending e x = absurd cc
   handed-is (Handed own) e x =
       let same : own.0 ≡ d.ticket.0 = eqb-true own.0 d.ticket.0 e in
-      let P : ℕ → Type 0 = λ n. Contains S (record { ticket = record { 0 = n }; op = op_of w p }) in
-      subst P same x
+      rw (← same) x
   handed-is Ended e x = absurd cc
   handed-is Failed e x = absurd cc
 
@@ -117,9 +114,8 @@ module _ (w : Bool) (S : List Submission) (D : List Done) (d : Done) (p : Part) 
       ended true is there =
           let ok = succeeds is in
           let q : Part = record p { bytes = bytes_after d.outcome p.bytes; stage = Ended } in
-          let P : Op → Type 0 = λ o. Contains S (record { ticket = d.ticket; op = o }) in
           let Q : Outcome → Type 0 = λ o. Contains (d ∷ D) (record { ticket = d.ticket; outcome = o }) in
-          (refl, refl, ok.2 size, record { ticket = d.ticket; asked = subst P (sym ok.1) there; acknowledged = subst Q ok.0 (head-in d D) })
+          (refl, refl, ok.2 size, record { ticket = d.ticket; asked = rw ok.1 there; acknowledged = subst Q ok.0 (head-in d D) })
       ended false is there = (refl, refl, size, tt)
 
       at : (b : Bool) → is_handed d.ticket.0 p.stage ≡ b → ((abbrev-of b).at ≡ p.at) × ((abbrev-of b).count ≡ p.count) × (length (abbrev-of b).bytes ≡ 512 * p.count) × StageIs w S (d ∷ D) (abbrev-of b) (abbrev-of b).stage
@@ -130,8 +126,7 @@ pub so-settled : (w : Bool) (S : List Submission) (D : List Done) (d : Done) (at
 so-settled w S D d at [] x = x
 so-settled w S D d at (p ∷ parts) x =
     let q = so-part w S D d p x.1 x.2 in
-    let P : ℕ → Type 0 = λ n. AreSo w S (d ∷ D) (at + n) (map (part_after w d) parts) in
-    (q.0 ∙ x.0, q.2 ∙ ap (λ n. 512 * n) (sym q.1), q.3, subst P (sym q.1) (so-settled w S D d (at + p.count) parts x.3))
+    (q.0 ∙ x.0, q.2 ∙ ap (λ n. 512 * n) (sym q.1), q.3, rw q.1 (so-settled w S D d (at + p.count) parts x.3))
 
 -- the sectors stay as many
 pub sectors-handed : (ticket : Ticket) (parts : List Part) → sectors (hand ticket parts) ≡ sectors parts

@@ -1,5 +1,5 @@
 -- The turns of a request that goes on behind its responses.
-use Rattle.std.proofs.Common.{ℕ, zero, suc, ◌≡◌, ◌+◌, List, [], ◌∷◌, ◌++◌, append_assoc, drop, length, length-append, Option, Some, None, refl, sym, ap, subst, ◌∙◌, arith}
+use Rattle.std.proofs.Common.{ℕ, zero, suc, ◌≡◌, ◌+◌, List, [], ◌∷◌, ◌++◌, append_assoc, drop, length, length-append, Option, Some, None, refl, sym, ap, ◌∙◌, arith}
 use Rattle.std.specs.Prelude.{Result, Ok, Err}
 use Rattle.aoe_base.specs.declared.failure.Failed.{Failed}
 use Rattle.aoe_io.proofs.LinkLemmas.{Added-then, turned-nothing, turned-then}
@@ -55,10 +55,8 @@ module _ (q : Question) (request : List ℕ) (limit now : ℕ) (found : List See
     (then last : ℕ) (frame : List ℕ) (given'' : Option (List Turn)) (taken'' : Option Frames) where
   took-then : (n m : ℕ) → m ≡ n + length s.turns → Added taken' taken'' (asked_from request now n) → Added taken taken'' (asked request m)
   took-then n m e took =
-      let P : ℕ → Type 0 = λ i. Added taken' taken'' (asked_from request i n) in
-      let Q : Frames → Type 0 = λ l. Added taken taken'' l in
       let begins : now ≡ 0 + length s.turns = omega (arith, s.passed) in
-      subst Q (sym (asked-then request 0 (length s.turns) n m e)) (Added-then taken taken' taken'' (asked request (length s.turns)) (asked_from request (0 + length s.turns) n) s.took (subst P begins took))
+      rw (asked-then request 0 (length s.turns) n m e) (Added-then taken taken' taken'' (asked request (length s.turns)) (asked_from request (0 + length s.turns) n) s.took (rw (← begins) took))
 
   took-turns : (later : List Turn) → Added taken' taken'' (asked_from request now (length later)) → Added taken taken'' (asked request (length (later ++ s.turns)))
   took-turns later took = took-then (length later) (length (later ++ s.turns)) (length-append later s.turns) took
@@ -89,11 +87,9 @@ module _ (q : Question) (request : List ℕ) (limit now : ℕ) (found : List See
 
       by : (list : List Seen) → result ≡ unless_none limit list → Ends result q request limit turns taken taken''
       by [] e =
-          let P : Result (List Seen) ToolRefusal → Type 0 = λ v. Ends v q request limit turns taken taken'' in
-          subst P (sym e) (all, sym e ∙ says, took-turns l.turns l.waits.2)
+          rw e (all, sym e ∙ says, took-turns l.turns l.waits.2)
       by (d ∷ list) e =
-          let P : Result (List Seen) ToolRefusal → Type 0 = λ v. Ends v q request limit turns taken taken'' in
-          subst P (sym e) (all, sym e ∙ says, took-turns l.turns l.waits.2)
+          rw e (all, sym e ∙ says, took-turns l.turns l.waits.2)
 
   -- the link failed
   pub fails : (e : Failed) → Listens (Err e) q request limit now then frame mid last given' given'' taken' taken''

@@ -1,5 +1,6 @@
 -- The second part of a turn, of its three steps.
-use Rattle.std.proofs.Common.{ℕ, ◌≡◌, ◌+◌, ◌≤◌, Bool, true, false, List, [], ◌++◌, Option, Some, None, sym, ap, subst, ◌∙◌, inl, inr}
+use Rattle.std.proofs.Common.{ℕ, ◌≡◌, ◌+◌, Bool, true, false, List, [], ◌++◌, Option, Some, None, sym, ap, subst, ◌∙◌, inl, inr}
+use Rattle.aoe_initiator.proofs.MatchLemmas.{same-then}
 use Rattle.std.specs.Prelude.{Ok, Err}
 use Rattle.aoe_base.specs.declared.failure.Failed.{Failed}
 use Rattle.aoe_initiator.specs.declared.outcome.Done.{Done}
@@ -8,18 +9,16 @@ use Rattle.aoe_initiator.specs.HostLog.{Event}
 use Rattle.aoe_io.specs.Link.{Turn}
 use Rattle.aoe_tools.proofs.ListenLemmas.{Frames}
 use Rattle.aoe_tools.proofs.SubmitLemmas.{as-many}
-use Rattle.aoe_tools.proofs.TransferHost.{same-then}
 use Rattle.aoe_tools.specs.declared.course.Course.{Course}
-use Rattle.aoe_tools.specs.TransferCourse.{left, submitted, IsFilled}
+use Rattle.aoe_tools.specs.TransferCourse.{submitted, IsFilled}
 use Rattle.aoe_tools.specs.TransferRun.{after_frames, after_submits, told_by, Heard, IsFit}
 use Rattle.aoe_tools.specs.TransferSteps.{is_heard, Broken, Exchanged, HearsOne, IsHeld, SendsSome, SubmitsSome}
 
 pub fit-held : (host host' : Host) (c : Course) → IsHeld host host' → IsFit host c → IsFit host' c
 fit-held host host' c held fit =
-    let P : ℕ → Type 0 = λ n. n + left c ≤ 65536 in
     record {
       attached = as-many host host' held.same ∙ fit.attached;
-      few = subst P (sym held.last) fit.few;
+      few = rw held.last fit.few;
       tickets = rw held.last fit.tickets;
     }
 

@@ -7,7 +7,6 @@ mod DiscoverLemmas
 mod ExchangeLemmas
 mod FoundLemmas
 mod HearLemmas
-mod InputLemmas
 mod JoinLemmas
 mod ListenLemmas
 mod OneLemmas

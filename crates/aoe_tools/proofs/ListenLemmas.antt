@@ -1,8 +1,8 @@
 -- The turns of a request, one by one.
-use Rattle.std.proofs.Common.{ℕ, suc, ◌≡◌, ◌≤◌, ◌<◌, ◌+◌, List, [], ◌∷◌, length, Option, Some, None, refl, sym, ap, subst, ◌∙◌, arith, inl, inr}
+use Rattle.std.proofs.Common.{ℕ, suc, ◌≡◌, ◌<◌, ◌+◌, List, [], ◌∷◌, length, Option, Some, None, refl, sym, ap, subst, ◌∙◌, arith, inl, inr}
 use Rattle.std.specs.Prelude.{◌⊎◌, Ok, Err}
 use Rattle.aoe_base.specs.declared.failure.Failed.{Failed}
-use Rattle.aoe_io.proofs.LinkLemmas.{Added-then, turned-nothing, turned-then}
+use Rattle.aoe_io.proofs.LinkLemmas.{Added-then, turned-then}
 use Rattle.aoe_io.specs.Link.{Added, Turn, Turned}
 use Rattle.aoe_tools.specs.Asking.{TookSome, asked_at, asked_from, responses, with_response}
 use Rattle.aoe_tools.specs.Listening.{Listens, TakesTurn}
@@ -24,27 +24,16 @@ pub record SoFar (q : Question) (request : List ℕ) (from now start turned' : �
   pub silent : responses q turns ≡ []
   pub took : Added taken taken' (asked_from request from (length turns))
 
-pub begun : (q : Question) (request : List ℕ) (from start : ℕ) (given : Option (List Turn)) (taken : Option Frames) → SoFar q request from from start start given given taken taken
-begun q request from start given taken = record {
-  turns = [];
-  turned = turned-nothing start given;
-  passed = omega arith;
-  silent = refl;
-  took = added-nothing taken;
-}
-
 module _ (q : Question) (request : List ℕ) (from now start mid last : ℕ) (given given' given'' : Option (List Turn)) (taken taken' taken'' : Option Frames)
     (s : SoFar q request from now start mid given given' taken taken') where
   took-more : Added taken' taken'' (asked_at request now) → Added taken taken'' (asked_from request from (suc (length s.turns)))
   took-more took =
-      let P : ℕ → Type 0 = λ n. Added taken' taken'' (asked_at request n) in
-      Added-then taken taken' taken'' (asked_from request from (length s.turns)) (asked_at request (from + length s.turns)) s.took (subst P s.passed took)
+      Added-then taken taken' taken'' (asked_from request from (length s.turns)) (asked_at request (from + length s.turns)) s.took (rw (← s.passed) took)
 
   module _ (turns : List Turn) (t : Turn) (is : turns ≡ t ∷ []) (turned : Turned mid last given' given'' turns) where
     turned-on : Turned start last given given'' (t ∷ s.turns)
     turned-on =
-        let P : List Turn → Type 0 = λ l. Turned mid last given' given'' l in
-        turned-then start mid last given given' given'' s.turns (t ∷ []) s.turned (subst P is turned)
+        turned-then start mid last given given' given'' s.turns (t ∷ []) s.turned (rw (← is) turned)
 
   module _ (frame : List ℕ) where
     pub goes-on : TakesTurn (Ok None) q request now frame mid last given' given'' taken' taken'' → SoFar q request from (now + 1) start last given given'' taken taken''
@@ -70,10 +59,9 @@ module _ (q : Question) (request : List ℕ) (from now start mid last : ℕ) (gi
 
     pub fails : (limit : ℕ) (failed : Failed) → now < limit → TakesTurn (Err failed) q request now frame mid last given' given'' taken' taken'' → Listens (Err failed) q request limit from now frame start last given given'' taken taken''
     fails limit failed below one =
-        let P : List Turn → Type 0 = λ l. Turned mid last given' given'' l in
         record {
           turns = s.turns;
-          turned = turned-then start mid last given given' given'' s.turns [] s.turned (subst P one.brings.0 one.turned);
+          turned = turned-then start mid last given given' given'' s.turns [] s.turned (rw (← one.brings.0) one.turned);
           passed = s.passed;
           waits = (s.silent, below, took-some one.brings.1);
         }
@@ -83,12 +71,3 @@ module _ (q : Question) (request : List ℕ) (from now start mid last : ℕ) (gi
             let P : Option Frames → Type 0 = λ o. Added taken o (asked_from request from (length s.turns)) in
             record { count = length s.turns; least = omega arith; most = omega arith; took = subst P (sym same) s.took }
         took-some (inr took) = record { count = suc (length s.turns); least = omega arith; most = omega arith; took = took-more took }
-
-pub falls-silent : (q : Question) (request : List ℕ) (limit from now : ℕ) (frame : List ℕ) (start mid : ℕ) (given given' : Option (List Turn)) (taken taken' : Option Frames)
-    → SoFar q request from now start mid given given' taken taken' → limit ≤ now → now ≤ limit → Listens (Ok None) q request limit from now frame start mid given given' taken taken'
-falls-silent q request limit from now frame start mid given given' taken taken' s over within = record {
-  turns = s.turns;
-  turned = s.turned;
-  passed = s.passed;
-  waits = (s.silent, omega (arith, over, within), s.took);
-}

@@ -1,6 +1,6 @@
 -- A request that waits for one response.
-use Rattle.std.proofs.Common.{ℕ, ◌≡◌, ◌≤◌, ◌<◌, ◌+◌, ◌||◌, Bool, true, false, List, [], ◌∷◌, drop, length, Option, Some, None, refl, sym, ap, subst, ◌∙◌, arith}
-use Rattle.std.proofs.lemmas.Bool.{eq-eqb, eqb-true}
+use Rattle.std.proofs.Common.{ℕ, ◌≡◌, ◌≤◌, ◌<◌, ◌+◌, ◌||◌, true, false, List, [], ◌∷◌, drop, length, Option, Some, None, sym, ap, ◌∙◌, arith}
+use Rattle.std.proofs.lemmas.Bool.{eq-eqb, ne_eqb}
 use Rattle.std.specs.Prelude.{Result, Ok, Err, nat_eq, nat_lt}
 use Rattle.arrayvec.specs.ArrayVec.{ArrayVec}
 use Rattle.aoe_base.specs.declared.failure.Failed.{Failed}
@@ -15,17 +15,10 @@ use Rattle.aoe_tools.specs.declared.question.Question.{Question}
 use Rattle.aoe_tools.specs.declared.question.Reply.{Reply}
 use Rattle.aoe_tools.proofs.ListenLemmas.{Frames}
 
-less-not-equal : (a b : ℕ) → a < b → nat_eq a b ≡ false
-less-not-equal a b less = at (nat_eq a b) refl
-  where
-    at : (t : Bool) → nat_eq a b ≡ t → nat_eq a b ≡ false
-    at true e = absurd (omega (arith, eqb-true a b e, less))
-    at false e = e
-
 -- no response came, and there are more turns
 pub waits-on : (q : Question) (limit : ℕ) (turns : List Turn) → responses q turns ≡ [] → length turns < limit → is_done q limit turns ≡ false
 waits-on q limit turns silent below =
-    ap (λ l. nat_lt 0 (length l) || nat_eq (length turns) limit) silent ∙ less-not-equal (length turns) limit below
+    ap (λ l. nat_lt 0 (length l) || nat_eq (length turns) limit) silent ∙ ne_eqb (length turns) limit (λ e. omega (arith, e, below))
 
 silent-before : (o : Option Response) (rs : List Response) → with_response o rs ≡ [] → rs ≡ []
 silent-before None rs e = e
@@ -37,20 +30,52 @@ went-on q limit (t ∷ turns) silent within =
     let before = silent-before (brought q t) (responses q turns) silent in
     (waits-on q limit turns before (omega (arith, within)), went-on q limit turns before (omega (arith, within)))
 
+-- what a request heard until it ended: these responses, of which there is one at most
+pub record Heard (q : Question) (request : List ℕ) (limit start last : ℕ) (given given' : Option (List Turn)) (taken taken' : Option Frames) (came : List Response) : Type 0 where
+  pub turns : List Turn
+  pub turned : Turned start last given given' turns
+  pub goes_on : GoesOn q limit turns
+  pub done : is_done q limit turns ≡ true
+  pub says : responses q turns ≡ came
+  pub took : Added taken taken' (asked request (length turns))
+
 module _ (q : Question) (request : List ℕ) (limit now : ℕ) (frame : List ℕ) (start last : ℕ) (given given' : Option (List Turn)) (taken taken' : Option Frames) where
-  pub unanswered : Listens (Ok None) q request limit 0 now frame start last given given' taken taken' → AsksOne (Err (tool.Unanswered limit)) q request limit start last given given' taken taken'
-  unanswered l =
+  pub heard-none : Listens (Ok None) q request limit 0 now frame start last given given' taken taken' → Heard q request limit start last given given' taken taken' []
+  heard-none l =
       let all : length l.turns ≡ limit = omega (arith, l.passed, l.waits.1) in
       record {
         turns = l.turns;
         turned = l.turned;
         goes_on = went-on q limit l.turns l.waits.0 (omega (arith, all));
-        ends = (
-          ap (λ rs. nat_lt 0 (length rs) || nat_eq (length l.turns) limit) l.waits.0 ∙ eq-eqb (length l.turns) limit all,
-          sym (ap (said q limit) l.waits.0),
-          l.waits.2,
-        );
+        done = ap (λ rs. nat_lt 0 (length rs) || nat_eq (length l.turns) limit) l.waits.0 ∙ eq-eqb (length l.turns) limit all;
+        says = l.waits.0;
+        took = l.waits.2;
       }
+
+  -- the last turn brought the response
+  pub heard-one : (r : Reply) → Listens (Ok (Some r)) q request limit 0 now frame start last given given' taken taken'
+      → Heard q request limit start last given given' taken taken' (record { reply = r; args = drop 24 frame } ∷ [])
+  heard-one r l = at l.turns l.turned l.passed l.waits
+    where
+      response : Response
+      response = record { reply = r; args = drop 24 frame }
+
+      at : (turns : List Turn) → Turned start last given given' turns → now ≡ 0 + length turns → Waits (Ok (Some r)) q request limit 0 now frame turns taken taken' → Heard q request limit start last given given' taken taken' (response ∷ [])
+      at [] turned passed waits = absurd waits
+      at (t ∷ turns) turned passed waits =
+          let before : length turns < limit = omega (arith, passed, waits.2) in
+          let says : responses q (t ∷ turns) ≡ response ∷ [] = ap (λ o. with_response o (responses q turns)) waits.0 ∙ ap (λ rs. response ∷ rs) waits.1 in
+          record {
+            turns = t ∷ turns;
+            turned = turned;
+            goes_on = (waits-on q limit turns waits.1 before, went-on q limit turns waits.1 (omega (arith, before)));
+            done = ap (λ rs. nat_lt 0 (length rs) || nat_eq (length (t ∷ turns)) limit) says;
+            says = says;
+            took = waits.3;
+          }
+
+  pub unanswered : Listens (Ok None) q request limit 0 now frame start last given given' taken taken' → AsksOne (Err (tool.Unanswered limit)) q request limit start last given given' taken taken'
+  unanswered l = let h = heard-none l in record { turns = h.turns; turned = h.turned; goes_on = h.goes_on; ends = (h.done, sym (ap (said q limit) h.says), h.took) }
 
   pub failed : (e : Failed) → Listens (Err e) q request limit 0 now frame start last given given' taken taken' → AsksOne (Err tool.LinkFault) q request limit start last given given' taken taken'
   failed e l =
@@ -62,39 +87,16 @@ module _ (q : Question) (request : List ℕ) (limit now : ℕ) (frame : List ℕ
         ends = (waits-on q limit l.turns l.waits.0 below, l.waits.2);
       }
 
-  -- the last turn brought the response
   pub answered : (r : Reply) (result : Result (ArrayVec ℕ) ToolRefusal) → Listens (Ok (Some r)) q request limit 0 now frame start last given given' taken taken'
       → result ≡ unless_refused (refusal_of q.subject r.answer (drop 24 frame)) (args_of (record { reply = r; args = drop 24 frame }))
       → AsksOne result q request limit start last given given' taken taken'
-  answered r result l is = at l.turns l.turned l.passed l.waits
+  answered r result l is =
+      let h = heard-one r l in
+      record { turns = h.turns; turned = h.turned; goes_on = h.goes_on; ends = ended h (refusal_of q.subject r.answer (drop 24 frame)) is }
     where
       response : Response
       response = record { reply = r; args = drop 24 frame }
 
-      says : (turns : List Turn) → responses q turns ≡ response ∷ [] → Added taken taken' (asked request (length turns)) → Ends result q request limit turns taken taken'
-      says turns came took = by (refusal_of q.subject r.answer (drop 24 frame)) is
-        where
-          done : is_done q limit turns ≡ true
-          done = ap (λ rs. nat_lt 0 (length rs) || nat_eq (length turns) limit) came
-
-          right : (v : Result (ArrayVec ℕ) ToolRefusal) → v ≡ unless_refused (refusal_of q.subject r.answer (drop 24 frame)) (args_of response) → v ≡ said q limit (responses q turns)
-          right v e = e ∙ sym (ap (said q limit) came)
-
-          by : (o : Option Refusal) → result ≡ unless_refused o (args_of response) → Ends result q request limit turns taken taken'
-          by None e =
-              let P : Result (ArrayVec ℕ) ToolRefusal → Type 0 = λ v. Ends v q request limit turns taken taken' in
-              subst P (sym e) (done, sym e ∙ right result is, took)
-          by (Some refusal) e =
-              let P : Result (ArrayVec ℕ) ToolRefusal → Type 0 = λ v. Ends v q request limit turns taken taken' in
-              subst P (sym e) (done, sym e ∙ right result is, took)
-
-      at : (turns : List Turn) → Turned start last given given' turns → now ≡ 0 + length turns → Waits (Ok (Some r)) q request limit 0 now frame turns taken taken' → AsksOne result q request limit start last given given' taken taken'
-      at [] turned passed waits = absurd waits
-      at (t ∷ turns) turned passed waits =
-          let before : length turns < limit = omega (arith, passed, waits.2) in
-          record {
-            turns = t ∷ turns;
-            turned = turned;
-            goes_on = (waits-on q limit turns waits.1 before, went-on q limit turns waits.1 (omega (arith, before)));
-            ends = says (t ∷ turns) (ap (λ o. with_response o (responses q turns)) waits.0 ∙ ap (λ rs. response ∷ rs) waits.1) waits.3;
-          }
+      ended : (h : Heard q request limit start last given given' taken taken' (response ∷ [])) (o : Option Refusal) → result ≡ unless_refused o (args_of response) → Ends result q request limit h.turns taken taken'
+      ended h None e = rw e (h.done, sym e ∙ is ∙ sym (ap (said q limit) h.says), h.took)
+      ended h (Some refusal) e = rw e (h.done, sym e ∙ is ∙ sym (ap (said q limit) h.says), h.took)

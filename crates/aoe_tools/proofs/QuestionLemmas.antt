@@ -1,5 +1,5 @@
 -- Which frames count.
-use Rattle.std.proofs.Common.{ℕ, ◌≡◌, true, false, List, drop, Some, None, refl}
+use Rattle.std.proofs.Common.{ℕ, ◌≡◌, true, List, drop, Some, refl}
 use Rattle.aoe_frame.specs.Header.{head}
 use Rattle.aoe_frame.specs.declared.header.Header.{Header}
 use Rattle.aoe_tools.specs.Asking.{counted, is_response, reply_by}
@@ -8,7 +8,3 @@ use Rattle.aoe_tools.specs.declared.question.Question.{Question}
 pub counted-by : (q : Question) (frame : List ℕ) (h : Header) → Some h ≡ head frame → is_response q h ≡ true → counted q frame ≡ reply_by q h (drop 24 frame)
 unfolding counted
 counted-by q frame h is here = rw (← is, here) refl
-
-pub not-counted : (q : Question) (frame : List ℕ) (h : Header) → Some h ≡ head frame → is_response q h ≡ false → counted q frame ≡ None
-unfolding counted
-not-counted q frame h is here = rw (← is, here) refl

@@ -1,10 +1,11 @@
 -- The turns of a transfer, one after another, and how many there can be.
-use Rattle.std.proofs.Common.{ℕ, ◌≡◌, ◌+◌, ◌-◌, ◌*◌, ◌≤◌, ◌<◌, ◌&&◌, cond, drop, not, Bool, true, false, nat_eq, List, [], ◌∷◌, ◌++◌, length, map, Option, Some, None, refl, sym, ap, subst, ◌∙◌, arith, inl, inr, rules}
+use Rattle.std.proofs.Common.{ℕ, ◌≡◌, ◌+◌, ◌-◌, ◌*◌, ◌≤◌, ◌<◌, ◌&&◌, cond, drop, not, Bool, true, false, nat_eq, List, [], ◌∷◌, ◌++◌, length, map, Option, Some, None, refl, sym, ap, subst, ◌∙◌, arith, inl, inr}
+use Rattle.std.proofs.lemmas.List.Sums.{length-filter}
 use Rattle.std.specs.Prelude.{Result, Ok, Err, IfSome, slice_get}
 use Rattle.std.specs.List.{count_by, filter}
 use Rattle.std.specs.Option.{option_and_then}
 use Rattle.std.proofs.Math.Nat.{mul-le-mul_left}
-use Rattle.std.proofs.lemmas.Bool.{and_parts}
+use Rattle.std.proofs.lemmas.Bool.{and_parts, eq-eqb}
 use Rattle.std.proofs.lemmas.List.{length-map}
 use Rattle.aoe_base.specs.declared.counted.Ticket.{Ticket}
 use Rattle.aoe_base.proofs.CountLemmas.{count-alike, count-cons, count-map}
@@ -36,14 +37,6 @@ unended c = not c.done
 
 abbrev pub open_in : List Event → ℕ
 open_in log = count_by unended (commands log)
-
-length-filter : {A : Type 0} (p : A → Bool) (xs : List A) → length (filter p xs) ≡ count_by p xs
-length-filter p [] = refl
-length-filter p (x ∷ xs) = at (p x) refl (length-filter p xs)
-  where
-    at : (b : Bool) → p x ≡ b → length (filter p xs) ≡ count_by p xs → length (cond b (x ∷ filter p xs) (filter p xs)) ≡ count_by p (x ∷ xs)
-    at true is rest = omega (arith, rest, (let e : count_by p (x ∷ xs) ≡ 1 + count_by p xs = count-cons p x xs ∙ rw is refl in e))
-    at false is rest = omega (arith, rest, (let e : count_by p (x ∷ xs) ≡ 0 + count_by p xs = count-cons p x xs ∙ rw is refl in e))
 
 -- a host holds as many
 pub pending-open : (host : Host) (log : List Event) → Matches log host → length host.pending ≡ open_in log
@@ -111,12 +104,9 @@ count_heard (Some h) = 1
 open-heard : (base : Host) (log : List Event) (t : Turn) (heard : Option Heard) → Hears base log t heard → open_in (after_heard heard log) + count_heard heard ≤ open_in log
 open-heard base log t None hears = omega arith
 open-heard base log (came frame) (Some h) a =
-    let own : nat_eq a.command.ticket.0 h.ticket.0 ≡ true = ap (λ (t : Ticket). nat_eq t.0 h.ticket.0) a.ticket ∙ same h.ticket.0 in
+    let own : nat_eq a.command.ticket.0 h.ticket.0 ≡ true = ap (λ (t : Ticket). nat_eq t.0 h.ticket.0) a.ticket ∙ eq-eqb h.ticket.0 h.ticket.0 refl in
     let gone : unended (at_ticket h.ticket after_end a.command) ≡ false = ap (λ (b : Bool). unended (cond b (after_end a.command) a.command)) own in
     count-one-fewer unended (at_ticket h.ticket after_end) (ended-fewer h.ticket) (commands log) a.command a.there (answered-open a.host a.command frame a.answer a.answers) gone
-  where
-    same : (n : ℕ) → nat_eq n n ≡ true
-    same n = search rules
 open-heard base log link_quiet (Some h) hears = absurd hears
 open-heard base log link_ended (Some h) hears = absurd hears
 
@@ -217,9 +207,7 @@ module _ (turns quiet : ℕ) (base host : Host) (start c : Course) (from turned'
 
   still-turned : IsUnused turned' turned'' given' given'' → Turned from turned'' given given'' (map (λ r. r.brought) s.rounds)
   still-turned u =
-      let P : ℕ → Type 0 = λ n. Turned from n given given' (map (λ (r : Round). r.brought) s.rounds) in
-      let Q : Option (List Turn) → Type 0 = λ g. Turned from turned'' given g (map (λ (r : Round). r.brought) s.rounds) in
-      subst Q (sym u.given_is) (subst P (sym u.turns) s.turned)
+      rw u.given_is (rw u.turns s.turned)
 
   ran : (result : Result Unit ToolRefusal) → IsUnused turned' turned'' given' given'' → RunEnds result base turns start c' s.rounds (now ∷ nows_of s.rounds) taken' taken''
       → Runs result base turns start c' from turned'' given given'' taken taken'' answers later
@@ -238,8 +226,7 @@ module _ (turns quiet : ℕ) (base host : Host) (start c : Course) (from turned'
   -- all is done
   pub is-over : Turns (Ok passed.Over) base turns start s.rounds now host' c c' turned' turned'' given' given'' taken' taken'' → Runs (Ok record {}) base turns start c' from turned'' given given'' taken taken'' answers later
   is-over t =
-      let P : Course → Type 0 = λ x. Turns (Ok passed.Over) base turns start s.rounds now host' x c' turned' turned'' given' given'' taken' taken'' in
-      let x : Turns (Ok passed.Over) base turns start s.rounds now host' (course_of turns start s.rounds) c' turned' turned'' given' given'' taken' taken'' = subst P s.running.course t in
+      let x : Turns (Ok passed.Over) base turns start s.rounds now host' (course_of turns start s.rounds) c' turned' turned'' given' given'' taken' taken'' = rw (← s.running.course) t in
       ran (Ok record {}) x.3 (now, x.0, x.1, refl, x.2)
 
   -- or it broke off
@@ -254,18 +241,3 @@ module _ (turns quiet : ℕ) (base host : Host) (start c : Course) (from turned'
       at tool.NoMemory x = ran (Err tool.NoMemory) x.1 (now, refl, x.0)
       at (tool.Unanswered n) x = ran (Err (tool.Unanswered n)) x.2 (inr (now, x.0, refl, x.1))
       at (tool.Refused q) x = ran (Err (tool.Refused q)) x.2 (inr (now, x.0, refl, x.1))
-
--- so many consecutive turns ended no command
-pub is-unanswered : (turns quiet : ℕ) (base host : Host) (start c : Course) (from turned' : ℕ) (given given' : Option (List Turn)) (taken taken' : Option Frames) (answers answers' : Option (List ℕ)) → So turns quiet base host start c from turned' given given' taken taken' answers answers'
-    → quiet ≡ turns → Runs (Err (tool.Unanswered turns)) base turns start c from turned' given given' taken taken' answers answers'
-is-unanswered turns quiet base host start c from turned' given given' taken taken' answers answers' s all = record {
-  rounds = s.rounds;
-  are = s.running.rounds_are;
-  turned = s.turned;
-  mid = taken';
-  took = s.took;
-  goes_on = inr refl;
-  nows = nows_of s.rounds;
-  told = s.told;
-  ends = inl (refl, sym s.quiet_is ∙ all, refl, refl);
-}

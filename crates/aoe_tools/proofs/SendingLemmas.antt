@@ -1,5 +1,6 @@
 -- The frames of a turn, one by one.
-use Rattle.std.proofs.Common.{ℕ, ◌≡◌, ◌≤◌, ◌+◌, List, [], ◌∷◌, map, Option, Some, None, refl, ◌∙◌, arith}
+use Rattle.std.proofs.Common.{ℕ, ◌≡◌, ◌≤◌, ◌+◌, List, [], ◌∷◌, map, Option, Some, None, ◌∙◌, arith}
+use Rattle.aoe_initiator.proofs.MatchLemmas.{same-then}
 use Rattle.std.specs.Prelude.{Ok, Err, IfNone, IfSome, is_some, true, false}
 use Rattle.aoe_base.specs.declared.failure.Failed.{Failed}
 use Rattle.aoe_initiator.specs.declared.step.Sent.{Sent}
@@ -9,8 +10,8 @@ use Rattle.aoe_initiator.specs.HostLog.{commands, Event}
 use Rattle.aoe_initiator.specs.HostLog.Event.{Sends}
 use Rattle.aoe_io.proofs.LinkLemmas.{Added-then}
 use Rattle.aoe_io.specs.Link.{Added}
-use Rattle.aoe_tools.proofs.ListenLemmas.{Frames, added-nothing}
-use Rattle.aoe_tools.proofs.TransferHost.{active, few-active, next-active, none-active, same-self, same-then}
+use Rattle.aoe_tools.proofs.ListenLemmas.{Frames}
+use Rattle.aoe_tools.proofs.TransferHost.{active, few-active, next-active, none-active}
 use Rattle.aoe_tools.specs.TransferRun.{after_frames, AreSent, MaySend, Outgoing}
 use Rattle.aoe_tools.specs.TransferSteps.{IsHeld, SendsSome}
 
@@ -21,15 +22,6 @@ pub record Sending (n : ℕ) (host host' : Host) (before after : Option Frames) 
   pub sends : (base : Host) (log : List Event) → IsSame base host → Matches log host → AreSent base log sent × Matches (after_frames sent log) host' × (active (after_frames sent log) + n ≤ active log)
   pub held : IsHeld host host'
   pub waiting : host'.waiting ≡ host.waiting
-
-pub sends-none : (host : Host) (taken : Option Frames) → Sending 0 host host taken taken
-sends-none host taken = record {
-  sent = [];
-  took = added-nothing taken;
-  sends = λ base log same m. (tt, m, omega arith);
-  held = record { same = same-self host; last = refl };
-  waiting = refl;
-}
 
 -- what the next frame does to the host
 pub record Pulls (host host' : Host) (sent : Sent) (frame : List ℕ) : Type 0 where

@@ -1,5 +1,6 @@
 -- The commands of a turn, one by one.
-use Rattle.std.proofs.Common.{ℕ, ◌≡◌, ◌<◌, ◌+◌, List, [], ◌∷◌, length, Some, refl, sym, ap, subst, ◌∙◌, arith}
+use Rattle.std.proofs.Common.{ℕ, ◌≡◌, ◌<◌, ◌+◌, List, ◌∷◌, length, Some, sym, ap, subst, ◌∙◌, arith}
+use Rattle.aoe_initiator.proofs.MatchLemmas.{same-then}
 use Rattle.std.proofs.lemmas.List.{length-map}
 use Rattle.aoe_base.specs.declared.counted.Ticket.{Ticket}
 use Rattle.aoe_block.specs.Calls.{hand, AreUpTo}
@@ -11,7 +12,6 @@ use Rattle.aoe_initiator.specs.Host.{Host, IsSame, Matches}
 use Rattle.aoe_initiator.specs.HostLog.{Event}
 use Rattle.aoe_initiator.specs.HostLog.Event.{Submits}
 use Rattle.aoe_tools.proofs.CourseLemmas.{left-handed, up-to-handed}
-use Rattle.aoe_tools.proofs.TransferHost.{same-self, same-then}
 use Rattle.aoe_tools.specs.declared.course.Course.{Course}
 use Rattle.aoe_tools.specs.TransferCourse.{handed, next_op}
 use Rattle.aoe_tools.specs.TransferRun.{after_submits, IsFit}
@@ -29,7 +29,6 @@ pub submits-one : (host host' : Host) (c c' : Course) (op : Op) (ticket : Ticket
     → SubmitsOne host host' c c'
 submits-one host host' c c' op ticket fit next is after matches same law =
     let later : host.last_ticket < ticket.0 = omega (arith, is) in
-    let P : ℕ → Type 0 = λ n. AreUpTo n (handed ticket c).block.parts in
     let Q : Course → Type 0 = λ x. IsFit host' x in
     record {
       is = record { ticket = ticket; op = op };
@@ -41,28 +40,16 @@ submits-one host host' c c' op ticket fit next is after matches same law =
       fit = subst Q (sym after) (record {
         attached = as-many host host' same.0 ∙ fit.attached;
         few = omega (arith, same.2, is, fit.few, left-handed ticket c op next);
-        tickets = subst P (sym same.2) (up-to-handed host.last_ticket ticket c law fit.tickets later);
+        tickets = rw same.2 (up-to-handed host.last_ticket ticket c law fit.tickets later);
       });
     }
-
-pub submits-none : (host : Host) (c : Course) → IsFit host c → SubmitsSome host host c c
-submits-none host c fit = record {
-  submits = [];
-  are = tt;
-  course = refl;
-  matches = λ log m. m;
-  same = same-self host;
-  waiting = refl;
-  fit = fit;
-}
 
 pub submits-more : (start host host' : Host) (first c c' : Course) → SubmitsSome start host first c → c.under_way < 64 → SubmitsOne host host' c c' → SubmitsSome start host' first c'
 submits-more start host host' first c c' s few one =
     let is = s.course in
-    let P : Course → Type 0 = λ x. x.under_way < 64 in
     record {
       submits = one.is ∷ s.submits;
-      are = (s.are, ap next_op (sym is) ∙ one.next, subst P is few);
+      are = (s.are, ap next_op (sym is) ∙ one.next, rw (← is) few);
       course = one.course ∙ ap (handed one.is.ticket) is;
       matches = λ log m. one.matches (after_submits s.submits log) (s.matches log m);
       same = same-then start host host' s.same one.same;

@@ -1,9 +1,11 @@
 -- The host of a transfer: what never changes of it, and how many of its commands can still be sent or answered.
-use Rattle.std.proofs.Common.{ℕ, ◌≡◌, ◌≤◌, ◌<◌, ◌+◌, ◌*◌, ◌-◌, ◌^◌, ◌&&◌, cond, not, Bool, true, false, nat_eq, nat_le, List, [], ◌∷◌, length, map, Option, Some, None, refl, sym, ap, subst, ◌∙◌, arith, inl, inr, rules}
+use Rattle.std.proofs.Common.{ℕ, ◌≡◌, ◌≤◌, ◌<◌, ◌+◌, ◌*◌, ◌-◌, ◌^◌, ◌&&◌, cond, not, Bool, true, false, nat_eq, nat_le, List, [], ◌∷◌, length, map, Option, Some, None, refl, sym, ap, subst, ◌∙◌, arith, inl, inr}
+use Rattle.aoe_initiator.proofs.MatchLemmas.{stage-unsent, sent-from}
 use Rattle.std.specs.Prelude.{option_map, All, Contains}
 use Rattle.std.specs.List.{count_by, list_any}
 use Rattle.std.proofs.Math.Nat.{mul-le-mul_left}
-use Rattle.std.proofs.lemmas.Bool.{and_parts, cases_Bool, leb-true}
+use Rattle.std.proofs.lemmas.List.Sums.{count_by-le-length}
+use Rattle.std.proofs.lemmas.Bool.{and_parts, cases_Bool, leb-true, and_right, eq-eqb}
 use Rattle.std.proofs.lemmas.List.Elements.{All-cons, All-head, All-nil, All-tail, All-weaker}
 use Rattle.std.proofs.lemmas.Nat.{pow_pos}
 use Rattle.aoe_base.specs.declared.counted.PathNo.{PathNo}
@@ -11,25 +13,15 @@ use Rattle.aoe_base.specs.declared.counted.Ticket.{Ticket}
 use Rattle.aoe_base.proofs.CountLemmas.{count-cons, none-all}
 use Rattle.aoe_flight.specs.declared.outstanding.Outstanding.{Outstanding}
 use Rattle.aoe_flight.specs.Outstanding.{is_due}
-use Rattle.aoe_hold.specs.Commands.{keeps_back}
+use Rattle.aoe_hold.specs.Commands.{keeps_back, unsent}
 use Rattle.aoe_initiator.specs.declared.step.Sent.{Sent}
 use Rattle.aoe_initiator.specs.Host.{Ascends, Host, IsSame, Matches}
 use Rattle.aoe_initiator.specs.HostLaw.{is_clear_at, IsNext, IsNextBy, IsQuiet}
 use Rattle.aoe_initiator.specs.HostLog.{after_send, as_entered, as_sent, at_ticket, clock, commands, entered_at, one_more, outstanding, path_log, sent_of, stage, wait_of, Event, HostCommand, Sending}
 use Rattle.aoe_initiator.specs.HostLog.Event.{Sends}
-use Rattle.aoe_hold.specs.Commands.{unsent}
 use Rattle.aoe_paths.specs.PathLog.{timeout_on, trips_on}
 use Rattle.aoe_paths.specs.Timeout.{greatest, last_trips, timeout_of}
-use Rattle.aoe_initiator.proofs.ListLemmas.{Contains-cons, Contains-cons_cases}
-
-pub same-then : (a b c : Host) → IsSame a b → IsSame b c → IsSame a c
-same-then a b c one two = record {
-  ports = two.ports ∙ one.ports;
-  life = two.life ∙ one.life;
-  room = two.room ∙ one.room;
-  dead = two.dead ∙ one.dead;
-  devices = two.devices ∙ one.devices;
-}
+use Rattle.aoe_initiator.proofs.ListLemmas.{Contains-cons_cases}
 
 pub same-self : (a : Host) → IsSame a a
 same-self a = record { ports = refl; life = refl; room = refl; dead = refl; devices = refl }
@@ -59,10 +51,6 @@ count-one-fewer {A} p f fewer (x ∷ xs) c there passes fails = elim (Contains-c
       omega (arith, count-cons p (f x) (map f xs), count-cons p x xs, fewer-one (p (f x)) (p x) (fewer x), count-one-fewer p f fewer xs c behind passes fails)
 ]
 
-pub count-most : {A : Type 0} (p : A → Bool) (xs : List A) → count_by p xs ≤ length xs
-count-most p [] = omega arith
-count-most p (x ∷ xs) = omega (arith, count-cons p x xs, fewer-one (p x) true (λ e. refl), count-most p xs)
-
 -- a command that wasn't sent, or that is due
 abbrev pub active_by : ℕ → Bool → Option Sending → Bool
 active_by now done None = true
@@ -88,12 +76,8 @@ some-wait timeout n some =
 not-due : (now wait : ℕ) (done : Bool) → 0 < wait → (not done && nat_le wait (now - now)) ≡ false
 not-due now wait done some = elim (cases_Bool (nat_le wait (now - now))) [
   | inl is ↦ absurd (omega (arith, leb-true wait (now - now) is, some))
-  | inr is ↦ rw is (by done)
+  | inr is ↦ rw is (and_right (not done) false refl)
 ]
-  where
-    by : (d : Bool) → (not d && false) ≡ false
-    by true = refl
-    by false = refl
 
 sent-inactive : (now tag timeout : ℕ) (path : PathNo) (c : HostCommand) → 0 < timeout → active_by now c.done (Some (one_more tag (record { 0 = now }) path timeout c.sends)) ≡ false
 sent-inactive now tag timeout path c some = at c.sends
@@ -119,33 +103,9 @@ module _ (log : List Event) (ticket : Ticket) (tag : ℕ) (path : PathNo) where
   -- after a frame of an active command there is one less
   pub active-sent : (c : HostCommand) → Contains (commands log) c → c.ticket ≡ ticket → is_active (clock log) c ≡ true → active (Sends ticket tag path ∷ log) + 1 ≤ active log
   active-sent c there is before =
-      let own : nat_eq c.ticket.0 ticket.0 ≡ true = ap (λ (t : Ticket). nat_eq t.0 ticket.0) is ∙ same ticket.0 in
+      let own : nat_eq c.ticket.0 ticket.0 ≡ true = ap (λ (t : Ticket). nat_eq t.0 ticket.0) is ∙ eq-eqb ticket.0 ticket.0 refl in
       let after : is_active (clock log) (at_ticket ticket sends c) ≡ false = ap (λ (b : Bool). is_active (clock log) (cond b (sends c) c)) own ∙ inactive-sent c in
       count-one-fewer (is_active (clock log)) (at_ticket ticket sends) fewer-active (commands log) c there before after
-    where
-      same : (n : ℕ) → nat_eq n n ≡ true
-      same n = search rules
-
-unsent-none : (o : Option Sending) (done : Bool) → unsent (stage o done) ≡ true → o ≡ None
-unsent-none None done e = refl
-unsent-none (Some s) true e = absurd cc
-unsent-none (Some s) false e = absurd cc
-
-abbrev with : Option Outstanding → List Outstanding → List Outstanding
-with None l = l
-with (Some x) l = x ∷ l
-
--- a command that was sent, among all commands
-sent-from : (cs : List HostCommand) (o : Outstanding) → Contains (sent_of cs) o → (c : HostCommand) × Contains cs c × (as_sent c ≡ Some o)
-sent-from [] o there = absurd (omega (arith, there.1))
-sent-from (c ∷ cs) o there = at (as_sent c) refl there (sent-from cs o)
-  where
-    at : (x : Option Outstanding) → as_sent c ≡ x → Contains (with x (sent_of cs)) o → (Contains (sent_of cs) o → (d : HostCommand) × Contains cs d × (as_sent d ≡ Some o)) → (d : HostCommand) × Contains (c ∷ cs) d × (as_sent d ≡ Some o)
-    at None is inside rest = let found = rest inside in (found.0, Contains-cons c found.0 cs found.1, found.2)
-    at (Some x) is inside rest = elim (Contains-cons_cases x o (sent_of cs) inside) [
-      | inl same ↦ (c, (0, omega arith, refl), is ∙ ap Some same)
-      | inr behind ↦ let found = rest behind in (found.0, Contains-cons c found.0 cs found.1, found.2)
-    ]
 
 due-active : (now : ℕ) (c : HostCommand) (o : Outstanding) → as_sent c ≡ Some o → is_due now o ≡ is_active now c
 due-active now c o e = at c.sends e
@@ -160,22 +120,21 @@ next-active host log sent m next = at sent.again next
   where
     at : (b : Bool) → IsNextBy b host (commands log) sent → active (Sends sent.ticket sent.tag sent.path ∷ log) + 1 ≤ active log
     at true r =
-        let found = sent-from (commands log) r.command r.first_due.there in
+        let from = sent-from (commands log) r.command r.first_due.there in
+        let c = from.0 in
+        let is : as_sent c ≡ Some r.command = ap (option_map (outstanding c)) from.1.sends ∙ ap Some (sym from.1.is) in
         let due : is_due (clock log) r.command ≡ true = ap (λ (n : ℕ). is_due n r.command) (sym m.time) ∙ r.first_due.passes in
-        let own : found.0.ticket ≡ sent.ticket = ticket-of found.0 r.command found.2 ∙ r.ticket in
-        active-sent log sent.ticket sent.tag sent.path found.0 found.1 own (sym (due-active (clock log) found.0 r.command found.2) ∙ due)
-      where
-        ticket-of : (c : HostCommand) (o : Outstanding) → as_sent c ≡ Some o → c.ticket ≡ o.ticket
-        ticket-of c o e = by c.sends e
-          where
-            by : (s : Option Sending) → option_map (outstanding c) s ≡ Some o → c.ticket ≡ o.ticket
-            by None e = absurd cc
-            by (Some s) e = let is : outstanding c s ≡ o = cc in ap (λ (x : Outstanding). x.ticket) is
+        let own : c.ticket ≡ sent.ticket = ap (λ (o : Outstanding). o.ticket) (sym from.1.is) ∙ r.ticket in
+        active-sent log sent.ticket sent.tag sent.path c from.1.there own (sym (due-active (clock log) c r.command is) ∙ due)
     at false s =
         let c = s.command in
         let none : c.sends ≡ None =
-        unsent-none c.sends c.done (and_parts (unsent (stage c.sends c.done)) (not (list_any (λ earlier. keeps_back host.life host.clock earlier (as_entered c)) (entered_at c.device.0 (commands log)))) s.clear).0 in
+        stage-unsent c.sends c.done (and_parts (unsent (stage c.sends c.done)) (not (list_any (λ earlier. keeps_back host.life host.clock earlier (as_entered c)) (entered_at c.device.0 (commands log)))) s.clear).0 in
         active-sent log sent.ticket sent.tag sent.path c s.there s.ticket (ap (active_by (clock log) c.done) none)
+
+abbrev with : Option Outstanding → List Outstanding → List Outstanding
+with None l = l
+with (Some x) l = x ∷ l
 
 -- where nothing is active nothing may be sent
 pub none-active : (host : Host) (log : List Event) → Matches log host → active log ≡ 0 → IsQuiet host (commands log)
@@ -216,4 +175,4 @@ few-commands n last (c ∷ cs) within up all =
     omega (arith, up.0, few-commands c.ticket.0 last cs (All-head (λ x. x.ticket.0 ≤ last) c cs all) up.1 (All-tail (λ x. x.ticket.0 ≤ last) c cs all))
 
 pub few-active : (host : Host) (log : List Event) → Matches log host → active log ≤ host.last_ticket
-few-active host log m = omega (arith, count-most (is_active (clock log)) (commands log), few-commands 0 host.last_ticket (commands log) (omega arith) m.tickets m.last)
+few-active host log m = omega (arith, count_by-le-length (is_active (clock log)) (commands log), few-commands 0 host.last_ticket (commands log) (omega arith) m.tickets m.last)

@@ -1,5 +1,6 @@
 -- A turn of a transfer, of its two parts.
 use Rattle.std.proofs.Common.{ℕ, ◌≡◌, ◌<◌, max, Bool, true, false, List, [], ◌∷◌, ◌++◌, map, reverse, Option, Some, None, refl, sym, ap, subst, ◌∙◌, arith}
+use Rattle.aoe_initiator.proofs.MatchLemmas.{same-then}
 use Rattle.std.specs.Prelude.{Result, Ok, Err, All}
 use Rattle.aoe_block.specs.Calls.{settle, AreUpTo}
 use Rattle.aoe_block.specs.Parts.{Transfer}
@@ -13,7 +14,6 @@ use Rattle.aoe_io.specs.Link.{Turn}
 use Rattle.aoe_tools.proofs.CourseLemmas.{left-dones, up-to-dones}
 use Rattle.aoe_tools.proofs.ListenLemmas.{Frames}
 use Rattle.aoe_tools.proofs.SubmitLemmas.{as-many}
-use Rattle.aoe_tools.proofs.TransferHost.{same-then}
 use Rattle.aoe_tools.specs.declared.course.Course.{Course}
 use Rattle.aoe_initiator.specs.declared.outcome.Outcome.{Outcome}
 use Rattle.aoe_initiator.specs.declared.outcome.Outcome.TheVariants as outcome
@@ -51,11 +51,10 @@ module _ (host advanced h1 : Host) (now : ℕ) (gave_up : List Done) (a : Advanc
   fit-turn turns c c1 waiting fit after law =
       let last : h1.last_ticket ≡ host.last_ticket = ap (λ (x : Host). x.last_ticket) is ∙ a.last in
       let P : Course → Type 0 = λ x. IsFit h1 x in
-      let Q : ℕ → Type 0 = λ n. AreUpTo n (after_dones turns c waiting).block.parts in
       subst P (sym after) (record {
         attached = as-many advanced h1 (retold-same advanced h1 is) ∙ as-many host advanced a.same ∙ fit.attached;
         few = omega (arith, last, fit.few, left-dones turns c waiting);
-        tickets = subst Q (sym last) (up-to-dones host.last_ticket turns c waiting law fit.tickets);
+        tickets = rw last (up-to-dones host.last_ticket turns c waiting law fit.tickets);
       })
 
   module _ (base : Host) (turns : ℕ) (start : Course) (rounds : List Round) (c : Course) (run : Running base turns start rounds host c) (matches1 : (log : List Event) → Matches log advanced → Matches log h1) where
@@ -72,11 +71,8 @@ module _ (host advanced h1 : Host) (now : ℕ) (gave_up : List Done) (a : Advanc
     gives-up =
         let g = a.gives log run.matches in
         let dead : host.dead ≡ base.dead = run.same.dead in
-        let P : ℕ → Type 0 = λ n. GaveUpInTurn n advanced.clock (Advances (record { 0 = now }) ∷ log) gave_up in
-        let Q : ℕ → Type 0 = λ n. GaveUpInTurn base.dead n (Advances (record { 0 = now }) ∷ log) gave_up in
-        let R : ℕ → Type 0 = λ n. All (λ o. is_expired n advanced.clock o ≡ false) (sent_of (commands (after_tick now gave_up log))) in
         let S : ℕ → Type 0 = λ n. All (λ o. is_expired base.dead n o ≡ false) (sent_of (commands (after_tick now gave_up log))) in
-        record { in_turn = subst Q time (subst P dead g.0); all = subst S time (subst R dead g.1) }
+        record { in_turn = rw (← time) (rw (← dead) g.0); all = subst S time (rw (← dead) g.1) }
 
     matches-tick : Matches (after_tick now gave_up log) h1
     matches-tick = matches1 (after_tick now gave_up log) (a.gives log run.matches).2
@@ -112,8 +108,7 @@ module _ (host advanced h1 : Host) (now : ℕ) (gave_up : List Done) (a : Advanc
       -- the link failed
       pub breaks-turn : (taken taken' : Option Frames) → Broken base (after_tick now gave_up log) c1 taken taken' → Breaks base turns c (told rounds) log now taken taken'
       breaks-turn taken taken' broken =
-          let P : Course → Type 0 = λ x. Broken base (after_tick now gave_up log) x taken taken' in
-          let b = subst P now-course broken in
+          let b = rw now-course at broken in
           record {
             gave_up = gave_up;
             gives_up = gives-up;
@@ -131,10 +126,8 @@ module _ (host advanced h1 : Host) (now : ℕ) (gave_up : List Done) (a : Advanc
           → Exchanged base (after_tick now gave_up log) c1 c' h' heard from turned' given given' taken taken'
           → TakesRound base turns start rounds now heard h' c' from turned' given given' taken taken'
       takes-turn below c' h' heard from turned' given given' taken taken' x' =
-          let P : Course → Type 0 = λ y. Exchanged base (after_tick now gave_up log) y c' h' heard from turned' given given' taken taken' in
-          let x = subst P now-course x' in
+          let x = rw now-course at x' in
           let r : Round = record { now = now; gave_up = gave_up; submits = x.submits; sent = x.sent; brought = x.brought; heard = heard } in
-          let Q : Course → Type 0 = λ y. IsRound base turns y (told rounds) log r in
           let round : IsRound base turns c (told rounds) log r = record {
             gives_up = gives-up;
             goes_on = goes-on;
@@ -149,7 +142,7 @@ module _ (host advanced h1 : Host) (now : ℕ) (gave_up : List Done) (a : Advanc
             now_is = refl;
             heard_is = refl;
             running = record {
-              rounds_are = (run.rounds_are, below, subst Q run.course round);
+              rounds_are = (run.rounds_are, below, rw (← run.course) round);
               same = x.same;
               matches = x.matches;
               waiting = x.waiting;

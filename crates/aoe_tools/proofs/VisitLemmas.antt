@@ -1,15 +1,15 @@
 -- The devices are asked for their pages, one after the other.
-use Rattle.std.proofs.Common.{ℕ, zero, suc, ◌≡◌, ◌≤◌, ◌<◌, ◌+◌, ◌||◌, List, [], ◌∷◌, ◌++◌, append_assoc, drop, length, length-append, Option, Some, None, refl, sym, ap, subst, ◌∙◌, arith, inl, inr}
+use Rattle.std.proofs.Common.{ℕ, zero, suc, ◌≡◌, ◌≤◌, ◌<◌, ◌+◌, ◌||◌, List, [], ◌∷◌, ◌++◌, append_assoc, drop, length, length-append, Option, Some, None, refl, sym, ap, ◌∙◌, arith, inl, inr, subst}
 use Rattle.std.proofs.lemmas.Bool.{cases_lt, eq-eqb}
-use Rattle.std.proofs.lemmas.List.{append-nil}
+use Rattle.std.proofs.lemmas.List.{append-nil, nil_from_length}
 use Rattle.std.specs.Prelude.{Result, Ok, Err, nat_eq, nat_lt, slice_get, slice_set}
 use Rattle.aoe_base.specs.declared.address.Mac.{Mac}
 use Rattle.aoe_base.specs.declared.failure.Failed.{Failed}
 use Rattle.aoe_initiator.specs.Request.{request}
 use Rattle.aoe_initiator.specs.declared.op.Op.TheVariants as op
-use Rattle.aoe_io.proofs.LinkLemmas.{Added-then, turned-nothing, turned-then}
+use Rattle.aoe_io.proofs.LinkLemmas.{Added-then, turned-then}
 use Rattle.aoe_io.specs.Link.{Added, Turn, Turned}
-use Rattle.aoe_tools.specs.Asking.{Response, TookSome, asked, asked_at, asked_from, responses, tag_of, with_response}
+use Rattle.aoe_tools.specs.Asking.{Response, TookSome, asked, asked_at, responses, tag_of, with_response, asked_from}
 use Rattle.aoe_tools.specs.Listening.{Listens, Waits}
 use Rattle.aoe_tools.specs.Page.{known, known_by, with_known}
 use Rattle.aoe_tools.specs.Visits.{AreOver, AsksPage, EndsVisit, TookFront, Visit, VisitsAll, VisitsOne, devices, first_port, learned, number, page_question, page_request, request_of, visit_asked, visit_turns}
@@ -18,7 +18,7 @@ use Rattle.aoe_tools.specs.declared.found.Seen.{Seen}
 use Rattle.aoe_tools.specs.declared.question.Question.{Question}
 use Rattle.aoe_tools.specs.declared.question.Reply.{Reply}
 use Rattle.aoe_tools.specs.declared.question.Subject.TheVariants as subject
-use Rattle.aoe_tools.proofs.ListenLemmas.{Frames, added-nothing}
+use Rattle.aoe_tools.proofs.ListenLemmas.{Frames}
 use Rattle.aoe_tools.proofs.OneLemmas.{waits-on, went-on}
 
 -- ---- one request
@@ -81,9 +81,7 @@ module _ (first : ℕ) (port : Mac) (limit i : ℕ) (found : List Seen) (s : See
   asks-it : (result : Result Known Failed) → AsksIt result tag bytes → AsksIt result (tag_of first (i + 1)) (page_request first port (i + 1) s)
   asks-it result a =
       let bytes_is : bytes ≡ page_request first port (i + 1) s = bytes_are ∙ ap (request op.Identify s.id (first_port s.ports.items) port) tag_is in
-      let P : List ℕ → Type 0 = λ b. AsksIt result (tag_of first (i + 1)) b in
-      let Q : ℕ → Type 0 = λ t. AsksIt result t bytes in
-      subst P bytes_is (subst Q tag_is a)
+      rw (← bytes_is) (rw (← tag_is) a)
 
   pub visited : (found' : List Seen) (k : Known) (x : Seen) → slice_get found i ≡ Some x → found' ≡ slice_set found i (with_known x k) → AsksIt (Ok k) tag bytes
       → VisitsOne (Ok tt) first port limit i found found' start last given given' taken taken'
@@ -128,8 +126,7 @@ took-front request n before after t = elim (cases_lt n t.count) [
 pub front-then : (a b c : Option Frames) (earlier next sent : Frames) → Added a b earlier → TookFront next sent b c → TookFront next (sent ++ earlier) a c
 front-then a b c earlier next sent whole (inl took) = inl (Added-then a b c earlier sent whole took)
 front-then a b c earlier next sent whole (inr took) =
-    let P : Frames → Type 0 = λ l. Added a c l in
-    inr (subst P (append_assoc next sent earlier) (Added-then a b c earlier (next ++ sent) whole took))
+    inr (rw (← (append_assoc next sent earlier)) (Added-then a b c earlier (next ++ sent) whole took))
 
 at-rest : (done rest : List Seen) (i : ℕ) (s : Seen) → i ≡ length done → slice_get (done ++ rest) i ≡ Some s → rest ≡ s ∷ drop 1 rest
 at-rest [] [] zero s e at = absurd cc
@@ -159,18 +156,6 @@ pub record Visiting (first : ℕ) (port : Mac) (limit i : ℕ) (found now : List
   pub over : AreOver first port limit visits
   pub took : Added taken taken' (visit_asked first port visits)
 
-pub begun : (first : ℕ) (port : Mac) (limit : ℕ) (found : List Seen) (start : ℕ) (given : Option (List Turn)) (taken : Option Frames) → Visiting first port limit 0 found found start start given given taken taken
-begun first port limit found start given taken = record {
-  visits = [];
-  rest = found;
-  turned = turned-nothing start given;
-  count = refl;
-  found_is = refl;
-  now_is = refl;
-  over = tt;
-  took = added-nothing taken;
-}
-
 module _ (first : ℕ) (port : Mac) (limit i : ℕ) (found now : List Seen) (start mid : ℕ) (given given' : Option (List Turn)) (taken taken' : Option Frames)
     (s : Visiting first port limit i found now start mid given given' taken taken') where
   -- there are as many devices as before
@@ -187,8 +172,8 @@ module _ (first : ℕ) (port : Mac) (limit i : ℕ) (found now : List Seen) (sta
     visits = s.visits;
     turned = s.turned;
     ends = (
-      sym (s.found_is ∙ ap (λ l. devices s.visits ++ l) (no-rest s.rest empty) ∙ append-nil (devices s.visits)),
-      s.now_is ∙ ap (λ l. learned first port s.visits ++ l) (no-rest s.rest empty) ∙ append-nil (learned first port s.visits),
+      sym (s.found_is ∙ ap (λ l. devices s.visits ++ l) (nil_from_length s.rest empty) ∙ append-nil (devices s.visits)),
+      s.now_is ∙ ap (λ l. learned first port s.visits ++ l) (nil_from_length s.rest empty) ∙ append-nil (learned first port s.visits),
       s.over,
       s.took,
     );
@@ -196,10 +181,6 @@ module _ (first : ℕ) (port : Mac) (limit i : ℕ) (found now : List Seen) (sta
     where
       empty : length s.rest ≡ 0
       empty = omega (arith, all, s.count, count-stays, ap length s.now_is, length-append (learned first port s.visits) s.rest, length-learned first port s.visits)
-
-      no-rest : (rest : List Seen) → length rest ≡ 0 → rest ≡ []
-      no-rest [] e = refl
-      no-rest (x ∷ rest) e = absurd (omega (arith, e))
 
   module _ (now' : List Seen) (last : ℕ) (given'' : Option (List Turn)) (taken'' : Option Frames) where
     pub turned-on : (v : Visit) → Turned mid last given' given'' v.turns → Turned start last given given'' (visit_turns (v ∷ s.visits))

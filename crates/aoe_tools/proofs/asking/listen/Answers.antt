@@ -15,8 +15,7 @@ turns-preserved g c =
 
 pub returns-in-Ok-Some-clause-listens : goal.returns-in-Ok-Some-clause-listens
 returns-in-Ok-Some-clause-listens g c =
-    let P : Option Reply → Type 0 = λ o. TakesTurn (Ok o) c.args.question.now c.args.request.now.items c.turns.passed c.take_turn.new.frame.items (g.L.Link.turns c.turns.link) (g.L.Link.turns c.take_turn.new.link) (g.L.Link.given c.turns.link) (g.L.Link.given c.take_turn.new.link) (g.L.Link.taken c.turns.link) (g.L.Link.taken c.take_turn.new.link) in
-    ends-with _ _ _ _ _ _ _ _ _ _ _ _ _ c.turns.invariant.0 c.take_turn.new.frame.items c.args.limit c.in-Ok-Some.reply (omega (arith, c.turns-test.true)) (subst P c.in-Ok-Some.field-0-is c.in-Ok-Some.ensures.turn)
+    ends-with _ _ _ _ _ _ _ _ _ _ _ _ _ c.turns.invariant.0 c.take_turn.new.frame.items c.args.limit c.in-Ok-Some.reply (omega (arith, c.turns-test.true)) (rw (← c.in-Ok-Some.field-0-is) c.in-Ok-Some.ensures.turn)
 
 pub returns-in-Err-clause-listens : goal.returns-in-Err-clause-listens
 returns-in-Err-clause-listens g c =

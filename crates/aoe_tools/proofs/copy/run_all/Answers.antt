@@ -1,16 +1,10 @@
-use Rattle.std.proofs.Common.{sym, subst}
-use Rattle.aoe_initiator.specs.Host.{Host}
 use Rattle.aoe_tools.proofs.CopyLemmas.{ran-err, ran-ok}
 use Rattle.aoe_tools.specs.TransferAsks.{LinkState}
-use Rattle.aoe_tools.specs.TransferRun.{IsFit}
-use Rattle.aoe_tools.specs.declared.course.Course.{Course}
 use Rattle.aoe_tools.proofs.copy.run_all.Goals as goal
 
 pub run-requires-clause-fit : goal.run-requires-clause-fit
 run-requires-clause-fit g c =
-    let P : Course → Type 0 = λ x. IsFit c.in-Ok.transfer.host x in
-    let Q : Host → Type 0 = λ h. IsFit h c.args.course in
-    subst P (sym c.in-Ok.ensures.course) (subst Q (sym c.in-Ok.ensures.host) (c.requires.fit c.args.ask.now.port c.args.id))
+    rw c.in-Ok.ensures.course (rw c.in-Ok.ensures.host (c.requires.fit c.args.ask.now.port c.args.id))
 
 pub returns-in-Ok-run-clause-runs : goal.returns-in-Ok-run-clause-runs
 returns-in-Ok-run-clause-runs g c =

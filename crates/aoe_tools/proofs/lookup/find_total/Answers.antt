@@ -1,10 +1,9 @@
-use Rattle.std.proofs.Common.{ℕ, ◌≡◌, ◌-◌, List, Some, ◌∙◌, ap, subst, drop, length, take}
+use Rattle.std.proofs.Common.{◌≡◌, ◌-◌, ◌∙◌, ap, drop, length, take}
 use Rattle.std.proofs.lemmas.List.{take_rest}
 use Rattle.std.specs.Prelude.{Ok, Result}
 use Rattle.aoe_initiator.specs.declared.op.Op.TheVariants as op
-use Rattle.aoe_initiator.specs.Request.{request}
 use Rattle.aoe_tools.specs.Asking.{Response}
-use Rattle.aoe_tools.specs.TransferAsks.{total_of, Asks, LinkState}
+use Rattle.aoe_tools.specs.TransferAsks.{total_of, LinkState}
 use Rattle.aoe_tools.specs.declared.end.ToolRefusal.{ToolRefusal}
 use Rattle.aoe_tools.specs.declared.question.Subject.TheVariants as subject
 use Rattle.aoe_tools.proofs.lookup.find_total.Goals as goal
@@ -15,6 +14,4 @@ returns-in-Ok-clause-asks g c =
     let before : LinkState = record { turns = g.L.Link.turns c.args.link.now; given = g.L.Link.given c.args.link.now; taken = g.L.Link.taken c.args.link.now } in
     let after : LinkState = record { turns = g.L.Link.turns c.ask.new.link; given = g.L.Link.given c.ask.new.link; taken = g.L.Link.taken c.ask.new.link } in
     let r : Result Response ToolRefusal = Ok record { reply = c.in-Ok.reply; args = drop 24 c.ask.new.frame.items } in
-    let P : List ℕ → Type 0 = λ f. Asks r (record { subject = subject.Page; id = Some c.args.id; port = c.args.ask_by.now.port; tag = c.tag_of.result }) f c.args.ask_by.now.turns before after in
-    let Q : ℕ → Type 0 = λ t. Asks r (record { subject = subject.Page; id = Some c.args.id; port = c.args.ask_by.now.port; tag = t }) (request op.Identify c.args.id c.args.remote c.args.ask_by.now.port t) c.args.ask_by.now.turns before after in
-    (r, subst Q c.tag_of.ensures (subst P c.write_request.ensures.bytes c.in-Ok.ensures.asks), ap Ok (c.total_of.ensures.value ∙ ap (total_of c.in-Ok.reply.answer) args))
+    (r, rw (← c.tag_of.ensures) (rw (← c.write_request.ensures.bytes) c.in-Ok.ensures.asks), ap Ok (c.total_of.ensures.value ∙ ap (total_of c.in-Ok.reply.answer) args))

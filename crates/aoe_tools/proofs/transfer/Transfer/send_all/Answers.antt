@@ -1,9 +1,8 @@
-use Rattle.std.proofs.Common.{ℕ, List, [], ◌∷◌, ◌≡◌, subst, arith, ◌∙◌}
-use Rattle.aoe_io.specs.Link.{Added}
+use Rattle.std.proofs.Common.{List, ◌≡◌, arith, ◌∙◌}
 use Rattle.aoe_initiator.specs.Host.{Matches}
 use Rattle.aoe_initiator.specs.HostLaw.{IsQuiet}
 use Rattle.aoe_initiator.specs.HostLog.{commands, Event}
-use Rattle.aoe_tools.proofs.SendingLemmas.{pulls, sends-all, sends-full, sends-last, sends-more, when-none, Sending}
+use Rattle.aoe_tools.proofs.SendingLemmas.{pulls, sends-all, sends-full, sends-last, sends-more, when-none}
 use Rattle.aoe_tools.proofs.transfer.Transfer.send_all.Goals as goal
 
 pub returns-then-is_none-clause-some : goal.returns-then-is_none-clause-some
@@ -24,10 +23,9 @@ pub loop-preserved : goal.loop-preserved
 loop-preserved g c =
     let a = c.pull.ensures in
     let p = pulls c.loop.self.host c.pull.new.self c.pull.result c.pull.new.out.items c.if-is_none.ensures a.next a.frame a.path a.sends (record { same = a.same.0; last = a.same.2 }) a.same.3 in
-    let P : List ℕ → Type 0 = λ f. Added (g.L.Link.taken c.loop.link) (g.L.Link.taken c.send.new.self) (f ∷ []) in
     let i = c.loop.invariant in
     record {
-      sending = sends-more c.loop.counter c.args.self.now.host c.loop.self.host c.pull.new.self _ _ i.sending p.0 c.pull.new.out.items p.1 _ (subst P c.as_slice.ensures.value c.in-Ok.ensures.took);
+      sending = sends-more c.loop.counter c.args.self.now.host c.loop.self.host c.pull.new.self _ _ i.sending p.0 c.pull.new.out.items p.1 _ (rw (← c.as_slice.ensures.value) c.in-Ok.ensures.took);
       course = i.course;
       given = c.send.ensures.given ∙ i.given;
       turns = c.send.ensures.turns ∙ i.turns;
@@ -37,5 +35,4 @@ loop-preserved g c =
 pub returns-clause-some : goal.returns-clause-some
 returns-clause-some g c =
     let full : c.loop.counter ≡ 65536 = omega (arith, c.loop-test.false, c.loop.auto.counter-end) in
-    let P : ℕ → Type 0 = λ n. Sending n c.args.self.now.host c.loop.self.host (g.L.Link.taken c.args.link.now) (g.L.Link.taken c.loop.link) in
-    sends-full c.args.self.now.host c.loop.self.host (g.L.Link.taken c.args.link.now) (g.L.Link.taken c.loop.link) c.requires (subst P full c.loop.invariant.sending)
+    sends-full c.args.self.now.host c.loop.self.host (g.L.Link.taken c.args.link.now) (g.L.Link.taken c.loop.link) c.requires (rw (← full) c.loop.invariant.sending)

@@ -1,8 +1,8 @@
-use Rattle.std.proofs.Common.{◌≡◌, Some, sym, ap, refl, subst, ◌∙◌, arith}
+use Rattle.std.proofs.Common.{◌≡◌, Some, sym, ap, refl, ◌∙◌, arith, subst}
+use Rattle.aoe_tools.specs.TransferSteps.{UnlessFailed}
 use Rattle.std.specs.Prelude.{Ok, Err}
 use Rattle.aoe_tools.proofs.TurnLemmas.{by-exchange, ends-turn, fit-turn, not-link, of-outcome, over-turn, refused-turn, Advanced}
-use Rattle.aoe_tools.specs.TransferCourse.{after_dones, end_by, End}
-use Rattle.aoe_tools.specs.TransferSteps.{UnlessFailed}
+use Rattle.aoe_tools.specs.TransferCourse.{end_by, after_dones, End}
 use Rattle.aoe_tools.specs.declared.end.ToolRefusal.TheVariants as tool
 use Rattle.aoe_tools.proofs.transfer.Transfer.turn.Goals as goal
 
