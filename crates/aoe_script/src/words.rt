@@ -74,6 +74,7 @@ impl<'a> Words<'a> {
         let list = self.list.as_slice();
         if i < list.len() { list[i] } else { &[] }
     }
+
     /// The number at a place.
     pub(crate) fn number(&self, i: usize) -> Option<u64>
         ensures { result ≡ number (word_at self.now i) }
