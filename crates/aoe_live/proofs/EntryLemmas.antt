@@ -28,9 +28,6 @@ drop-more new xs ys is =
     let front : length ys - length xs ≡ length new = omega (arith, count) in
     ap (λ k. drop k ys) front ∙ ap (drop (length new)) is ∙ drop-front new xs
 
-pub none-dropped : {X : Type 0} (xs : List X) → drop (length xs - length xs) xs ≡ xs
-none-dropped xs = let none_left : length xs - length xs ≡ 0 = omega arith in ap (λ k. drop k xs) none_left
-
 -- the entry with so many behind it
 pub entry-back : {X : Type 0} (xs : List X) (back count : ℕ) (x : X) → count ≡ length xs → back < length xs → slice_get (reverse xs) (count - 1 - back) ≡ Some x
     → drop back xs ≡ x ∷ drop (back + 1) xs

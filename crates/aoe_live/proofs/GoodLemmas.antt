@@ -64,16 +64,13 @@ module _ (sectors : ℕ) (some : 1 ≤ sectors) (most : sectors ≤ 65536) where
 
   at-place : (k : ℕ) → IfSome (slice_get (stations sectors) k) (λ setup. setup_why (take k (stations sectors)) false setup ≡ None)
   unfolding setup_why are_ports is_name
-  at-place zero = refl
-  at-place (suc zero) = refl
   at-place (suc (suc zero)) =
       let least : nat_le 1 sectors ≡ true = grind (arith, nat_tests) in
       let greatest : nat_le sectors 65536 ≡ true = grind (arith, nat_tests) in
       let few : nat_lt 262144 (0 + sectors) ≡ false = grind (arith, nat_tests) in
       rw (least, greatest, few) refl
-  at-place (suc (suc (suc zero))) = refl
-  at-place (suc (suc (suc (suc zero)))) = refl
   at-place (suc (suc (suc (suc (suc k))))) = tt
+  at-place _ = refl
 
   pub is-script : IsScript script
   is-script = record {

@@ -5,7 +5,7 @@ use Rattle.aoe_base.specs.declared.address.TargetId.{TargetId}
 use Rattle.aoe_initiator.specs.declared.op.Op.{Op}
 use Rattle.aoe_initiator.specs.declared.refusal.SubmitRefusal.{SubmitRefusal}
 use Rattle.aoe_history.specs.declared.entry.Entry.{Entry}
-use Rattle.aoe_history.specs.declared.entry.Entry.TheVariants.{Submitted, Refused, Sent, Injected, Arrived, Took, Done, Ticked, Lost, Armed, Crashed}
+use Rattle.aoe_history.specs.declared.entry.Entry.TheVariants.{Submitted, Refused, Ticked}
 use Rattle.aoe_history.specs.Commands.{tickets}
 use Rattle.aoe_history.specs.Frames.{clock}
 use Rattle.aoe_history.specs.Groups.{submit_entry, submitted_as, Follows, Station, Turns}
@@ -65,16 +65,8 @@ record Left (h m : List Entry) : Type 0 where
 
 one-leaves : (e : Entry) (k : List Entry) → is_aside e ≡ true → Left k (e ∷ k)
 one-leaves (Submitted host ticket dev op) k t = absurd cc
-one-leaves (Refused host refusal) k t = record { clock_is = refl; submissions_are = refl }
-one-leaves (Sent host ticket frame bytes) k t = record { clock_is = refl; submissions_are = refl }
-one-leaves (Injected frame bytes) k t = record { clock_is = refl; submissions_are = refl }
-one-leaves (Arrived dev frame fate) k t = record { clock_is = refl; submissions_are = refl }
-one-leaves (Took host frame stale) k t = record { clock_is = refl; submissions_are = refl }
-one-leaves (Done host ticket outcome) k t = record { clock_is = refl; submissions_are = refl }
 one-leaves (Ticked ms) k t = absurd cc
-one-leaves (Lost frame) k t = record { clock_is = refl; submissions_are = refl }
-one-leaves (Armed dev which j mode) k t = record { clock_is = refl; submissions_are = refl }
-one-leaves (Crashed dev lists mode) k t = record { clock_is = refl; submissions_are = refl }
+one-leaves _ k t = record { clock_is = refl; submissions_are = refl }
 
 leaves : (h m : List Entry) → Aside h m → Left h m
 leaves h m a =

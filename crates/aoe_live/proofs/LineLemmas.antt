@@ -3,7 +3,7 @@ use Rattle.std.proofs.Common.{ℕ, ◌≡◌, true, List, [], ◌∷◌, ◌++�
 use Rattle.aoe_history.specs.declared.entry.Entry.{Entry}
 use Rattle.aoe_history.specs.Setup.{Setup}
 use Rattle.aoe_script.specs.declared.event.Event.{Event}
-use Rattle.aoe_script.specs.declared.event.Event.TheVariants.{Read, Write, Flush, Identify, Config, Masks, Reserve, Tick, Deliver, Pass, Skip, Again, Inject, Fail, Stop, Crash}
+use Rattle.aoe_script.specs.declared.event.Event.TheVariants.{Read, Write, Flush, Tick, Deliver}
 use Rattle.aoe_script.specs.declared.setup.Setup.{Setup as Line}
 use Rattle.aoe_world.specs.Replay.{Plays}
 use Rattle.aoe_world.specs.Schedule.{Comes}
@@ -17,38 +17,18 @@ pub cursor-stays : (s : Setup) (lines : List Line) (e : Event) (cursor behind : 
 cursor-stays s lines (Read host dev at count) cursor behind h m t comes = comes.0
 cursor-stays s lines (Write host dev at count fill) cursor behind h m t comes = comes.0
 cursor-stays s lines (Flush host dev) cursor behind h m t comes = comes.0
-cursor-stays s lines (Identify host dev) cursor behind h m t comes = absurd cc
-cursor-stays s lines (Config host dev ccmd text) cursor behind h m t comes = absurd cc
-cursor-stays s lines (Masks host dev edit dirs) cursor behind h m t comes = absurd cc
-cursor-stays s lines (Reserve host dev rcmd list) cursor behind h m t comes = absurd cc
 cursor-stays s lines (Tick ms) cursor behind h m t comes = comes.0
 cursor-stays s lines (Deliver frame name) cursor behind h m t comes = comes.0
-cursor-stays s lines (Pass n) cursor behind h m t comes = absurd cc
-cursor-stays s lines (Skip n) cursor behind h m t comes = absurd cc
-cursor-stays s lines Again cursor behind h m t comes = absurd cc
-cursor-stays s lines (Inject bytes) cursor behind h m t comes = absurd cc
-cursor-stays s lines (Fail dev which k) cursor behind h m t comes = absurd cc
-cursor-stays s lines (Stop dev which k mode) cursor behind h m t comes = absurd cc
-cursor-stays s lines (Crash name mode) cursor behind h m t comes = absurd cc
+cursor-stays s lines _ cursor behind h m t comes = absurd cc
 
 -- what came before it stays
 pub line-tail : (sectors : ℕ) (e : Event) (h m : List Entry) → is_recorded e ≡ true → LineComes sectors e h m → (new : List Entry) × (m ≡ new ++ h)
 line-tail sectors (Read host dev at count) h m t comes = let a = asked _ host dev _ h m comes.1 in tail-behind a.entry h m a.aside
 line-tail sectors (Write host dev at count fill) h m t comes = let a = asked _ host dev _ h m comes.1 in tail-behind a.entry h m a.aside
 line-tail sectors (Flush host dev) h m t comes = let a = asked _ host dev _ h m comes.1 in tail-behind a.entry h m a.aside
-line-tail sectors (Identify host dev) h m t comes = absurd cc
-line-tail sectors (Config host dev ccmd text) h m t comes = absurd cc
-line-tail sectors (Masks host dev edit dirs) h m t comes = absurd cc
-line-tail sectors (Reserve host dev rcmd list) h m t comes = absurd cc
 line-tail sectors (Tick ms) h m t comes = tail-behind _ h m (ticked _ ms h m comes.1)
 line-tail sectors (Deliver frame name) h m t comes = aside-tail h m (handed _ frame _ h m comes.1)
-line-tail sectors (Pass n) h m t comes = absurd cc
-line-tail sectors (Skip n) h m t comes = absurd cc
-line-tail sectors Again h m t comes = absurd cc
-line-tail sectors (Inject bytes) h m t comes = absurd cc
-line-tail sectors (Fail dev which k) h m t comes = absurd cc
-line-tail sectors (Stop dev which k mode) h m t comes = absurd cc
-line-tail sectors (Crash name mode) h m t comes = absurd cc
+line-tail sectors _ h m t comes = absurd cc
 
 -- lines behind lines
 plays-then : (s : Setup) (lines : List Line) (xs ys : List Event) (a b c : ℕ) (h m n : List Entry) → Plays s lines xs a h b m → Plays s lines ys b m c n → Plays s lines (xs ++ ys) a h c n

@@ -4,9 +4,9 @@ use Rattle.std.specs.Option.{option_map_or}
 use Rattle.std.specs.Str.{bytes_eq}
 use Rattle.std.proofs.lemmas.Bool.{le-ltb, lt-ltb}
 use Rattle.aoe_history.specs.declared.entry.Entry.{Entry}
-use Rattle.aoe_history.specs.declared.entry.Entry.TheVariants.{Submitted, Refused, Sent, Injected, Arrived, Took, Done, Ticked, Lost, Armed, Crashed}
+use Rattle.aoe_history.specs.declared.entry.Entry.TheVariants.{Sent, Arrived}
 use Rattle.aoe_history.specs.declared.entry.Fate.{Fate}
-use Rattle.aoe_history.specs.declared.entry.Fate.TheVariants.{Ignored, Silent, Cut, Replied}
+use Rattle.aoe_history.specs.declared.entry.Fate.TheVariants.{Replied}
 use Rattle.aoe_live.specs.declared.frames.Sender.{Sender}
 use Rattle.aoe_live.specs.declared.frames.Sender.TheVariants as sender
 use Rattle.aoe_live.specs.Frames.{frame_by, matching, ms_of, newest, number_of, replied_by, reply_of, sent_by, Numbered}
@@ -18,16 +18,7 @@ sent-found (Sent host ticket number b) bytes f is same =
     let e : b ≡ bytes = cc in
     let t : bytes_eq b f ≡ true = ap (λ x. bytes_eq x f) e ∙ same in
     rw t refl
-sent-found (Submitted host ticket dev op) bytes f is same = absurd cc
-sent-found (Refused host refusal) bytes f is same = absurd cc
-sent-found (Injected number b) bytes f is same = absurd cc
-sent-found (Arrived dev frame fate) bytes f is same = absurd cc
-sent-found (Took host frame stale) bytes f is same = absurd cc
-sent-found (Done host ticket outcome) bytes f is same = absurd cc
-sent-found (Ticked ms) bytes f is same = absurd cc
-sent-found (Lost frame) bytes f is same = absurd cc
-sent-found (Armed dev which k mode) bytes f is same = absurd cc
-sent-found (Crashed dev lists mode) bytes f is same = absurd cc
+sent-found _ bytes f is same = absurd cc
 
 reply-found : (fate : Fate) (bytes f : List ℕ) → option_map (λ (x : Numbered). x.bytes) (reply_of fate) ≡ Some bytes → bytes_eq bytes f ≡ true
     → matching f (reply_of fate) ≡ Some (option_map_or (λ (x : Numbered). x.number) (reply_of fate) 0)
@@ -35,22 +26,11 @@ reply-found (Replied effect number b) bytes f is same =
     let e : b ≡ bytes = cc in
     let t : bytes_eq b f ≡ true = ap (λ x. bytes_eq x f) e ∙ same in
     rw t refl
-reply-found Ignored bytes f is same = absurd cc
-reply-found Silent bytes f is same = absurd cc
-reply-found Cut bytes f is same = absurd cc
+reply-found _ bytes f is same = absurd cc
 
 replied-found : (e : Entry) (bytes f : List ℕ) → option_map (λ (x : Numbered). x.bytes) (replied_by e) ≡ Some bytes → bytes_eq bytes f ≡ true → matching f (replied_by e) ≡ Some (number_of e)
 replied-found (Arrived dev frame fate) bytes f is same = reply-found fate bytes f is same
-replied-found (Sent host ticket number b) bytes f is same = absurd cc
-replied-found (Submitted host ticket dev op) bytes f is same = absurd cc
-replied-found (Refused host refusal) bytes f is same = absurd cc
-replied-found (Injected number b) bytes f is same = absurd cc
-replied-found (Took host frame stale) bytes f is same = absurd cc
-replied-found (Done host ticket outcome) bytes f is same = absurd cc
-replied-found (Ticked ms) bytes f is same = absurd cc
-replied-found (Lost frame) bytes f is same = absurd cc
-replied-found (Armed dev which k mode) bytes f is same = absurd cc
-replied-found (Crashed dev lists mode) bytes f is same = absurd cc
+replied-found _ bytes f is same = absurd cc
 
 pub matching-found : (s : Sender) (e : Entry) (bytes f : List ℕ) → option_map (λ (x : Numbered). x.bytes) (frame_by s e) ≡ Some bytes → bytes_eq bytes f ≡ true → matching f (frame_by s e) ≡ Some (number_of e)
 matching-found sender.Host e bytes f is same = sent-found e bytes f is same

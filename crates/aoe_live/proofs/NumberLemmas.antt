@@ -4,9 +4,9 @@ use Rattle.std.specs.Prelude.{IsSomeAnd, if◌then◌else◌}
 use Rattle.std.specs.Option.{option_or}
 use Rattle.std.specs.Str.{bytes_eq}
 use Rattle.aoe_history.specs.declared.entry.Entry.{Entry}
-use Rattle.aoe_history.specs.declared.entry.Entry.TheVariants.{Submitted, Refused, Sent, Injected, Arrived, Took, Done, Ticked, Lost, Armed, Crashed}
+use Rattle.aoe_history.specs.declared.entry.Entry.TheVariants.{Sent, Arrived}
 use Rattle.aoe_history.specs.declared.entry.Fate.{Fate}
-use Rattle.aoe_history.specs.declared.entry.Fate.TheVariants.{Ignored, Silent, Cut, Replied}
+use Rattle.aoe_history.specs.declared.entry.Fate.TheVariants.{Replied}
 use Rattle.aoe_history.specs.Frames.{frames, next_number}
 use Rattle.aoe_history.specs.HostLaw.{IsSent}
 use Rattle.aoe_history.specs.Lawful.{IsArrival, IsLawful, IsNumbered, MayCome}
@@ -42,33 +42,12 @@ newly n number h m same is count = (omega (arith, same, is), omega (arith, same,
 by-host : (s : Setup) (e : Entry) (h : List Entry) (f : List ℕ) (n : ℕ) → MayCome s h e → matching f (frame_by sender.Host e) ≡ Some n → IsOne n (e ∷ h)
 by-host s (Sent host ticket number bytes) h f n may is =
     newly n number h (Sent host ticket number bytes ∷ h) (matching-number f (record { number = number; bytes = bytes }) n is) (sent-number s h (host_called s host) ticket number bytes may) refl
-by-host s (Submitted host ticket dev op) h f n may is = absurd cc
-by-host s (Refused host refusal) h f n may is = absurd cc
-by-host s (Injected number b) h f n may is = absurd cc
-by-host s (Arrived dev frame fate) h f n may is = absurd cc
-by-host s (Took host frame stale) h f n may is = absurd cc
-by-host s (Done host ticket outcome) h f n may is = absurd cc
-by-host s (Ticked ms) h f n may is = absurd cc
-by-host s (Lost frame) h f n may is = absurd cc
-by-host s (Armed dev which k mode) h f n may is = absurd cc
-by-host s (Crashed dev lists mode) h f n may is = absurd cc
+by-host s _ h f n may is = absurd cc
 
 by-shelf : (s : Setup) (e : Entry) (h : List Entry) (f : List ℕ) (n : ℕ) → MayCome s h e → matching f (frame_by sender.Shelf e) ≡ Some n → IsOne n (e ∷ h)
 by-shelf s (Arrived dev frame (Replied effect number bytes)) h f n may is =
     newly n number h (Arrived dev frame (Replied effect number bytes) ∷ h) (matching-number f (record { number = number; bytes = bytes }) n is) (reply-number s h (slot_of s dev) frame (Replied effect number bytes) may) refl
-by-shelf s (Arrived dev frame Ignored) h f n may is = absurd cc
-by-shelf s (Arrived dev frame Silent) h f n may is = absurd cc
-by-shelf s (Arrived dev frame Cut) h f n may is = absurd cc
-by-shelf s (Sent host ticket number bytes) h f n may is = absurd cc
-by-shelf s (Submitted host ticket dev op) h f n may is = absurd cc
-by-shelf s (Refused host refusal) h f n may is = absurd cc
-by-shelf s (Injected number b) h f n may is = absurd cc
-by-shelf s (Took host frame stale) h f n may is = absurd cc
-by-shelf s (Done host ticket outcome) h f n may is = absurd cc
-by-shelf s (Ticked ms) h f n may is = absurd cc
-by-shelf s (Lost frame) h f n may is = absurd cc
-by-shelf s (Armed dev which k mode) h f n may is = absurd cc
-by-shelf s (Crashed dev lists mode) h f n may is = absurd cc
+by-shelf s _ h f n may is = absurd cc
 
 by : (x : Sender) (s : Setup) (e : Entry) (h : List Entry) (f : List ℕ) (n : ℕ) → MayCome s h e → matching f (frame_by x e) ≡ Some n → IsOne n (e ∷ h)
 by sender.Host s e h f n may is = by-host s e h f n may is

@@ -7,14 +7,14 @@ use Rattle.std.proofs.lemmas.Bool.Decides.{nat_tests}
 use Rattle.aoe_base.specs.declared.address.TargetId.{TargetId}
 use Rattle.aoe_initiator.specs.declared.op.Op.{Op}
 use Rattle.aoe_history.specs.declared.entry.Entry.{Entry}
-use Rattle.aoe_history.specs.declared.entry.Entry.TheVariants.{Submitted, Refused, Sent, Injected, Arrived, Took, Done, Ticked, Lost, Armed, Crashed}
+use Rattle.aoe_history.specs.declared.entry.Entry.TheVariants.{Submitted, Done, Ticked}
 use Rattle.aoe_history.specs.Asks.{submission_in}
 use Rattle.aoe_history.specs.Commands.{Submission}
 use Rattle.aoe_history.specs.Frames.{clock}
 use Rattle.aoe_history.specs.Setup.{Setup}
-use Rattle.aoe_io.specs.Link.{Turn, came, quiet, ended}
+use Rattle.aoe_io.specs.Link.{Turn, came}
 use Rattle.aoe_script.specs.declared.event.Event.{Event}
-use Rattle.aoe_script.specs.declared.event.Event.TheVariants.{Read, Write, Flush, Identify, Config, Masks, Reserve, Tick, Deliver, Pass, Skip, Again, Inject, Fail, Stop, Crash}
+use Rattle.aoe_script.specs.declared.event.Event.TheVariants.{Read, Write, Flush, Tick, Deliver}
 use Rattle.aoe_script.specs.declared.setup.Setup.{Setup as Line}
 use Rattle.aoe_sim_setup.specs.Layout.{setup_of}
 use Rattle.aoe_world.specs.Replay.{Plays}
@@ -39,16 +39,7 @@ equal n = search rules
 pub begun-is : (h : List Entry) → length (submissions h) < 2 ^ 64 - 1 → (tally_of h).begun ≡ length (submissions h)
 begun-is [] small = refl
 begun-is (Submitted host ticket dev op ∷ h) small = let b = begun-is h (omega (arith, small)) in omega (arith, b, small)
-begun-is (Refused host refusal ∷ h) small = begun-is h small
-begun-is (Sent host ticket number bytes ∷ h) small = begun-is h small
-begun-is (Injected number bytes ∷ h) small = begun-is h small
-begun-is (Arrived dev frame fate ∷ h) small = begun-is h small
-begun-is (Took host frame stale ∷ h) small = begun-is h small
-begun-is (Done host ticket outcome ∷ h) small = begun-is h small
-begun-is (Ticked ms ∷ h) small = begun-is h small
-begun-is (Lost frame ∷ h) small = begun-is h small
-begun-is (Armed dev which k mode ∷ h) small = begun-is h small
-begun-is (Crashed dev lists mode ∷ h) small = begun-is h small
+begun-is (_ ∷ h) small = begun-is h small
 
 -- the one that ended last has its outcome
 ended-has : (h : List Entry) (n : ℕ) → (tally_of h).ended ≡ n → 1 ≤ n → has_outcome n h ≡ true
@@ -57,16 +48,7 @@ ended-has [] n is some = absurd (none_yet (omega (arith, is, some)))
     none_yet : 1 ≤ 0 → ⊥
     none_yet x = omega (arith, x)
 ended-has (Done host ticket outcome ∷ h) n is some = let same : (ticket == n) ≡ true = ap (λ x. x == n) is ∙ equal n in rw same refl
-ended-has (Submitted host ticket dev op ∷ h) n is some = ended-has h n is some
-ended-has (Refused host refusal ∷ h) n is some = ended-has h n is some
-ended-has (Sent host ticket number bytes ∷ h) n is some = ended-has h n is some
-ended-has (Injected number bytes ∷ h) n is some = ended-has h n is some
-ended-has (Arrived dev frame fate ∷ h) n is some = ended-has h n is some
-ended-has (Took host frame stale ∷ h) n is some = ended-has h n is some
-ended-has (Ticked ms ∷ h) n is some = ended-has h n is some
-ended-has (Lost frame ∷ h) n is some = ended-has h n is some
-ended-has (Armed dev which k mode ∷ h) n is some = ended-has h n is some
-ended-has (Crashed dev lists mode ∷ h) n is some = ended-has h n is some
+ended-has (_ ∷ h) n is some = ended-has h n is some
 
 has-more : (new h : List Entry) (n : ℕ) → has_outcome n h ≡ true → has_outcome n (new ++ h) ≡ true
 has-more [] h n is = is
@@ -75,16 +57,7 @@ has-more (Done host ticket outcome ∷ new) h n is = go (ticket == n) (has-more 
     go : (b : Bool) → has_outcome n (new ++ h) ≡ true → (b || has_outcome n (new ++ h)) ≡ true
     go true e = refl
     go false e = e
-has-more (Submitted host ticket dev op ∷ new) h n is = has-more new h n is
-has-more (Refused host refusal ∷ new) h n is = has-more new h n is
-has-more (Sent host ticket number bytes ∷ new) h n is = has-more new h n is
-has-more (Injected number bytes ∷ new) h n is = has-more new h n is
-has-more (Arrived dev frame fate ∷ new) h n is = has-more new h n is
-has-more (Took host frame stale ∷ new) h n is = has-more new h n is
-has-more (Ticked ms ∷ new) h n is = has-more new h n is
-has-more (Lost frame ∷ new) h n is = has-more new h n is
-has-more (Armed dev which k mode ∷ new) h n is = has-more new h n is
-has-more (Crashed dev lists mode ∷ new) h n is = has-more new h n is
+has-more (_ ∷ new) h n is = has-more new h n is
 
 -- LINES THAT SUBMIT NOTHING
 
@@ -132,20 +105,7 @@ one-keeps s lines (Deliver frame name) a b h m t comes =
     let x = handed s frame _ h m comes.1 in
     let tail = aside-tail h m x in
     record { same = aside-submissions h m x; new = tail.0; tail = tail.1; time = let e = aside-clock h m x in omega (arith, e) }
-one-keeps s lines (Read host dev at count) a b h m t comes = absurd cc
-one-keeps s lines (Write host dev at count fill) a b h m t comes = absurd cc
-one-keeps s lines (Flush host dev) a b h m t comes = absurd cc
-one-keeps s lines (Identify host dev) a b h m t comes = absurd cc
-one-keeps s lines (Config host dev ccmd text) a b h m t comes = absurd cc
-one-keeps s lines (Masks host dev edit dirs) a b h m t comes = absurd cc
-one-keeps s lines (Reserve host dev rcmd list) a b h m t comes = absurd cc
-one-keeps s lines (Pass n) a b h m t comes = absurd cc
-one-keeps s lines (Skip n) a b h m t comes = absurd cc
-one-keeps s lines Again a b h m t comes = absurd cc
-one-keeps s lines (Inject bytes) a b h m t comes = absurd cc
-one-keeps s lines (Fail dev which k) a b h m t comes = absurd cc
-one-keeps s lines (Stop dev which k mode) a b h m t comes = absurd cc
-one-keeps s lines (Crash name mode) a b h m t comes = absurd cc
+one-keeps s lines _ a b h m t comes = absurd cc
 
 plays-keep : (s : Setup) (lines : List Line) (es : List Event) (a b : ℕ) (h m : List Entry) → ArePassive es → Plays s lines es a h b m → Keeps (times es) h m
 plays-keep s lines [] a b h m p x = keeps-none h m x.1
@@ -191,8 +151,7 @@ delivery-keeps s (Some number) = ((refl, tt), refl)
 
 handing-keeps : (s : Sender) (t : Turn) (h : List Entry) → ArePassive (handing s t h) × (times (handing s t h) ≡ 0)
 handing-keeps s (came bytes) h = delivery-keeps s (newest s 2000 h bytes)
-handing-keeps s quiet h = (tt, refl)
-handing-keeps s ended h = (tt, refl)
+handing-keeps s _ h = (tt, refl)
 
 -- A LINE THAT ASKS
 

@@ -181,10 +181,9 @@ module _ (sectors count turns quiet : ℕ) (last : Option ℕ) (h : List Entry) 
 
       at : (r : LiveRefusal) → TurnEnds sectors count turns (now - last_now g.rounds now) r events h k mid.one new.one mid.two new.two → Lives sectors count turns (Err r) old new
       at (live.Unanswered t) x = (x.0, inr (unfinished x.1))
-      at (live.Full frames bytes) x = unfinished x
-      at live.TooMany x = unfinished x
       at (live.LinkFault link) x = x
       at live.NoMemory x = tt
+      at _ x = unfinished x
 
 -- HOW MANY TURNS THERE CAN BE
 

@@ -46,13 +46,6 @@ over-then f s f' s' h m n a b c a2 b2 c2 x y = record {
 come-as : (s s' : ℕ) (lines : List Event) (h m : List Entry) → s ≡ s' → LinesCome s lines h m → LinesCome s' lines h m
 come-as s s' lines h m same x = let P : ℕ → Type 0 = λ n. LinesCome n lines h m in subst P same x
 
-pub recorded-none : (r : Recorder) (l : Links) → Recorded [] [] [] r r l l
-recorded-none r l = record {
-  come = come-none r.sectors r.world.entries;
-  lines_are = sym (append-nil r.script.events);
-  over = over-none r.world.entries l.one l.two;
-}
-
 module _ (f s f' s' : List Turn) (xs ys : List Event) (p q r : Recorder) (k l m : Links) (same : q.sectors ≡ p.sectors) (first : Recorded f s xs p q k l) (next : Recorded f' s' ys q r l m) where
   pub recorded-then : Recorded (f' ++ f) (s' ++ s) (xs ++ ys) p r k m
   recorded-then = record {
@@ -82,11 +75,9 @@ steps-as result xs ys p q k l same x = let P : List Event → Type 0 = λ es. St
 -- ONE LINE
 
 fails-why : (sectors : ℕ) (r : LiveRefusal) (events : List Event) (e : Event) (h k : List Entry) → Fails sectors r events e h k → is_of_line r ≡ true
-fails-why sectors (live.Full frames bytes) events e h k x = refl
-fails-why sectors live.TooMany events e h k x = refl
 fails-why sectors (live.Unanswered turns) events e h k x = absurd x
 fails-why sectors (live.LinkFault link) events e h k x = x
-fails-why sectors live.NoMemory events e h k x = refl
+fails-why sectors _ events e h k x = refl
 
 -- which found no room
 pub line-fails : {T : Type 0} (r : LiveRefusal) (e : Event) (p q : Recorder) (l : Links) → q.sectors ≡ p.sectors → q.commands ≡ p.commands
@@ -112,18 +103,13 @@ line-fails r e p q l same same_count fails =
     }
 
 link-why : (r : LiveRefusal) → is_link r ≡ true → is_of_line r ≡ true
-link-why (live.Full frames bytes) t = refl
-link-why live.TooMany t = refl
 link-why (live.Unanswered turns) t = absurd cc
 link-why (live.LinkFault link) t = t
-link-why live.NoMemory t = refl
+link-why _ t = refl
 
 link-no-limit : (r : LiveRefusal) → is_link r ≡ true → is_limit r ≡ true → ⊥
 link-no-limit (live.Full frames bytes) t u = absurd cc
-link-no-limit live.TooMany t u = absurd cc
-link-no-limit (live.Unanswered turns) t u = absurd cc
-link-no-limit (live.LinkFault link) t u = absurd cc
-link-no-limit live.NoMemory t u = absurd cc
+link-no-limit _ t u = absurd cc
 
 -- which came, while its frames were sent
 module _ (p q r : Recorder) (k l : Links) (e : Event) (tail : List Entry) (is : q.world.entries ≡ tail ++ p.world.entries) (told : q.told ≡ length p.world.entries)
@@ -217,9 +203,7 @@ stands-among part xs ys rest lines next is s = record {
 
 pub among-moves : (sectors : ℕ) (part xs ys rest : List Event) (m : List Entry) → part ≡ xs ++ (ys ++ rest) → Moves sectors (Among ys) (Among part) [] [] xs m
 among-moves sectors part xs ys rest m is [] [] n lines next come s = stands-among part xs ys rest lines next is s
-among-moves sectors part xs ys rest m is [] (t ∷ second) n lines next come s = absurd s
-among-moves sectors part xs ys rest m is (t ∷ first) [] n lines next come s = absurd s
-among-moves sectors part xs ys rest m is (t ∷ first) (u ∷ second) n lines next come s = absurd s
+among-moves sectors part xs ys rest m is _ _ n lines next come s = absurd s
 
 -- in a part of one line
 pub record Alone (part lines : List Event) (next : Event) (m n : List Entry) : Type 0 where

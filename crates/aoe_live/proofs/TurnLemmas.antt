@@ -3,7 +3,7 @@ use Rattle.std.proofs.Common.{ℕ, ◌≡◌, ◌≤◌, not, Bool, true, false,
 use Rattle.std.specs.Prelude.{◌==◌, ◌&&◌, nat_lt, Result, Err}
 use Rattle.aoe_history.specs.declared.entry.Entry.{Entry}
 use Rattle.aoe_io.proofs.LinkLemmas.{turned-by, turned-nothing}
-use Rattle.aoe_io.specs.Link.{came, ended, quiet, turn_of, GaveTurns, Turn}
+use Rattle.aoe_io.specs.Link.{came, turn_of, GaveTurns, Turn}
 use Rattle.aoe_io.specs.Memory.{counted}
 use Rattle.aoe_io.specs.declared.links.Got.{Got}
 use Rattle.aoe_io.specs.declared.links.Got.TheVariants as got
@@ -26,12 +26,7 @@ use Rattle.aoe_live.proofs.StepLemmas.{alone, does-behind, fails-behind, recorde
 
 -- THE LINES OF A PART
 
--- what comes of a frame that a link brought, or of nothing
-pub handing-other : (s : Sender) (g : Got) (bytes : List ℕ) (h : List Entry) → (g ≡ got.Frame → ⊥) → handing s (turn_of g bytes) h ≡ []
-handing-other s got.Frame bytes h other = absurd (other refl)
-handing-other s got.Quiet bytes h other = refl
-handing-other s got.Ended bytes h other = refl
-
+-- what comes of a frame that a link brought
 pub handing-frame : (s : Sender) (g : Got) (bytes : List ℕ) (h : List Entry) (number : Option ℕ) → g ≡ got.Frame → number ≡ newest s 2000 h bytes → handing s (turn_of g bytes) h ≡ delivery s number
 handing-frame s g bytes h number is found = ap (λ x. handing s (turn_of x bytes) h) is ∙ ap (delivery s) (sym found)
 
@@ -41,8 +36,7 @@ delivery-short s (Some number) = omega arith
 
 handing-short : (s : Sender) (turn : Turn) (h : List Entry) → length (handing s turn h) ≤ 1
 handing-short s (came bytes) h = delivery-short s (newest s 2000 h bytes)
-handing-short s quiet h = omega arith
-handing-short s ended h = omega arith
+handing-short s _ h = omega arith
 
 one-short : (b : Bool) (e : Event) → length (if b then e ∷ [] else []) ≤ 1
 one-short true e = omega arith
@@ -83,9 +77,7 @@ first-moves : (sectors : ℕ) (one : Turn) (h : List Entry) → Moves sectors (A
 first-moves sectors one h [] [] n lines next come s =
     let x = alone sectors (handing sender.Host one h) (handing-short sender.Host one h) lines next h n come s in
     (x.here, x.no_lines, ap (handing sender.Host one) x.here ∙ x.part_is)
-first-moves sectors one h [] (t ∷ second) n lines next come s = absurd s
-first-moves sectors one h (t ∷ first) [] n lines next come s = absurd s
-first-moves sectors one h (t ∷ first) (u ∷ second) n lines next come s = absurd s
+first-moves sectors one h _ _ n lines next come s = absurd s
 
 -- or that of the host's link
 second-moves : (sectors : ℕ) (one two : Turn) (h m : List Entry) → LinesCome sectors (handing sender.Host one h) h m
@@ -97,9 +89,7 @@ second-moves sectors one two h m before [] [] n lines next come s =
       ap (λ l. handing sender.Host one h ++ l) x.no_lines ∙ append-nil (handing sender.Host one h),
       ap (handing sender.Shelf two) x.here ∙ x.part_is,
     )
-second-moves sectors one two h m before [] (t ∷ second) n lines next come s = absurd s
-second-moves sectors one two h m before (t ∷ first) [] n lines next come s = absurd s
-second-moves sectors one two h m before (t ∷ first) (u ∷ second) n lines next come s = absurd s
+second-moves sectors one two h m before _ _ n lines next come s = absurd s
 
 module _ (p q : Recorder) (k k' l : Links) (first : Turn) (asked : OverLinks (first ∷ []) [] p.world.entries p.world.entries k.one k'.one k.two k'.two) where
   pub exchange-fails-first : {T U : Type 0} (x : LiveRefusal) → Steps {T = T} (handing sender.Host first p.world.entries) (Err x) p q k' l → Exchanges {T = U} (Err x) p q k l
@@ -141,11 +131,10 @@ module _ (p q : Recorder) (k k' l : Links) (first : Turn) (asked : OverLinks (fi
 -- how a turn ends by such a refusal
 ends-by : (sectors count turns ms : ℕ) (r : LiveRefusal) (before : List Event) (h k : List Entry) (a b a2 b2 : Wire) → is_of_line r ≡ true
     → (is_limit r ≡ true → Stopped sectors (InTurn sectors count ms h) r before h k a b a2 b2) → TurnEnds sectors count turns ms r before h k a b a2 b2
-ends-by sectors count turns ms (live.Full frames bytes) before h k a b a2 b2 why stops = stops refl
-ends-by sectors count turns ms live.TooMany before h k a b a2 b2 why stops = stops refl
 ends-by sectors count turns ms (live.Unanswered t) before h k a b a2 b2 why stops = absurd cc
 ends-by sectors count turns ms (live.LinkFault link) before h k a b a2 b2 why stops = why
 ends-by sectors count turns ms live.NoMemory before h k a b a2 b2 why stops = tt
+ends-by sectors count turns ms _ before h k a b a2 b2 why stops = stops refl
 
 module _ (sectors sectors' count ms : ℕ) (same : sectors' ≡ sectors) (h m : List Entry) (time : LinesCome sectors (ticks ms) h m) (goes_on : (tally_of m).gave_up ≡ false) where
   exchange-moves : Moves sectors (InExchange sectors' m) (InTurn sectors count ms h) [] [] (ticks ms) m
@@ -160,11 +149,7 @@ module _ (sectors sectors' count ms : ℕ) (same : sectors' ≡ sectors) (h m : 
   exchange-moves (one ∷ []) (two ∷ []) n lines next come (to_shelf, is, hands) =
       let P : ℕ → Type 0 = λ s. LinesCome s (handing sender.Host one m) m n in
       inl (record { passed = m; time = time; goes_on = goes_on; to_shelf = subst P same to_shelf; lines_are = ap (λ l. ticks ms ++ l) is; hands = hands })
-  exchange-moves [] [] n lines next come s = absurd s
-  exchange-moves [] (t ∷ second) n lines next come s = absurd s
-  exchange-moves (one ∷ []) (two ∷ t ∷ second) n lines next come s = absurd s
-  exchange-moves (one ∷ t ∷ first) [] n lines next come s = absurd s
-  exchange-moves (one ∷ t ∷ first) (two ∷ second) n lines next come s = absurd s
+  exchange-moves _ _ n lines next come s = absurd s
 
   module _ (one two : Turn) (handed : List Event) (a : List Entry) (exchange : IsExchange sectors one two m a handed) (part : List Event) (part_is : part ≡ asking sectors count (tally_of a)) where
     asking-moves : Moves sectors (Among part) (InTurn sectors count ms h) (one ∷ []) (two ∷ []) (ticks ms ++ handed) a
@@ -184,9 +169,7 @@ module _ (sectors sectors' count ms : ℕ) (same : sectors' ≡ sectors) (h m : 
       where
         ask-few : length part ≤ 1
         ask-few = let P : List Event → Type 0 = λ l. length l ≤ 1 in subst P (sym part_is) (asking-short sectors count (tally_of a))
-    asking-moves [] (t ∷ second) n lines next come s = absurd s
-    asking-moves (t ∷ first) [] n lines next come s = absurd s
-    asking-moves (t ∷ first) (u ∷ second) n lines next come s = absurd s
+    asking-moves _ _ n lines next come s = absurd s
 
 -- of the same stations, commands and outcomes
 asking-as : (s s' count count' : ℕ) (t t' : Tally) → s ≡ s' → count ≡ count' → t ≡ t' → asking s count t ≡ asking s' count' t'
