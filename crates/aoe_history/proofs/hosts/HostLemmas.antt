@@ -7,7 +7,7 @@ use Rattle.aoe_frame.specs.Header.{fields}
 use Rattle.aoe_history.specs.declared.entry.Entry.{Entry}
 use Rattle.aoe_history.specs.declared.entry.Entry.TheVariants.{Submitted, Sent, Injected, Arrived, Done}
 use Rattle.aoe_history.specs.declared.entry.Fate.{Fate}
-use Rattle.aoe_history.specs.declared.entry.Fate.TheVariants.{Ignored, Silent, Cut, Replied}
+use Rattle.aoe_history.specs.declared.entry.Fate.TheVariants.{Replied}
 use Rattle.aoe_history.specs.CommandView.{view}
 use Rattle.aoe_history.specs.Frames.{clock, frames}
 use Rattle.aoe_history.specs.HostLaw.{IsDone, IsSent, IsSubmitted}
@@ -60,9 +60,6 @@ module _ (s : Setup) (host : HostSetup) (mine : IsNamed s host) (ok : IsSetup s)
       }
 
   arrived : (h : List Entry) (dev : TargetId) (frame : ℕ) (fate : Fate) → IsSomeAnd (slot_of s dev) (λ slot. IsArrival s slot h frame fate) → Holds s host h → Holds s host (Arrived dev frame fate ∷ h)
-  arrived h dev frame Ignored law x = kept h (Arrived dev frame Ignored ∷ h) (record { sends = λ c. refl; done = λ c e. e; ended = λ c e. inl e; time = omega arith; count = omega arith; submissions = λ c le. refl }) refl x
-  arrived h dev frame Silent law x = kept h (Arrived dev frame Silent ∷ h) (record { sends = λ c. refl; done = λ c e. e; ended = λ c e. inl e; time = omega arith; count = omega arith; submissions = λ c le. refl }) refl x
-  arrived h dev frame Cut law x = kept h (Arrived dev frame Cut ∷ h) (record { sends = λ c. refl; done = λ c e. e; ended = λ c e. inl e; time = omega arith; count = omega arith; submissions = λ c le. refl }) refl x
   arrived h dev frame (Replied e number r) law x =
       let k : Keeps host h (Arrived dev frame (Replied e number r) ∷ h) = record { sends = λ c. refl; done = λ c d. d; ended = λ c d. inl d; time = omega arith; count = omega arith; submissions = λ c le. refl } in
       let slot = some-such (λ slot. IsArrival s slot h frame (Replied e number r)) (slot_of s dev) law in
@@ -73,6 +70,7 @@ module _ (s : Setup) (host : HostSetup) (mine : IsNamed s host) (ok : IsSetup s)
             (keeps-frames s.life host h (Arrived dev frame (Replied e number r) ∷ h) (frames h) k x.base x.frames);
         gone = keeps-gone s.life host h (Arrived dev frame (Replied e number r) ∷ h) k x.base x.gone;
       }
+  arrived h dev frame fate law x = kept h (Arrived dev frame fate ∷ h) (record { sends = λ c. refl; done = λ c e. e; ended = λ c e. inl e; time = omega arith; count = omega arith; submissions = λ c le. refl }) refl x
 
   pub holds : (h : List Entry) → IsLawful s h → Holds s host h
   holds [] l = record {

@@ -73,19 +73,8 @@ step-still station f (step.Change next args) c (Replied effect.EditFault n r) s 
 step-still station f (step.Change next args) c fate s a = absurd a
 
 pub step-sectors : (x : Step) (fate : Fate) (k : State) → (after_step x (fate_at fate) k).sectors ≡ k.sectors
-step-sectors step.Silent fate k = refl
-step-sectors (step.Reply error args) fate k = refl
-step-sectors (step.Change next args) Ignored k = refl
-step-sectors (step.Change next args) Silent k = refl
-step-sectors (step.Change next args) Cut k = refl
-step-sectors (step.Change next args) (Replied effect.None n r) k = refl
-step-sectors (step.Change next args) (Replied effect.ReadFault n r) k = refl
-step-sectors (step.Change next args) (Replied (effect.Wrote z) n r) k = refl
-step-sectors (step.Change next args) (Replied (effect.WriteFault z) n r) k = refl
-step-sectors (step.Change next args) (Replied effect.Synced n r) k = refl
-step-sectors (step.Change next args) (Replied effect.SyncFault n r) k = refl
-step-sectors (step.Change next args) (Replied effect.Edited n r) k = refl
 step-sectors (step.Change next args) (Replied effect.EditFault n r) k = refl
+step-sectors _ _ k = refl
 
 still : (v : Verdict) (f : List ℕ) (fate : Fate) (s : ℕ) (o o2 : Option Sectors) → o2 ≡ o → (stores fate s ≡ false) × (breaks v fate s ≡ false) → Act v f fate s (known_in o s) (known_in o2 s) (marked_in o s) (marked_in o2 s)
 still v f fate s o o2 e p = subst (λ z. Act v f fate s (known_in o s) (known_in z s) (marked_in o s) (marked_in z s)) (sym e) (idles v f fate s (known_in o s) (marked_in o s) p.0 p.1)

@@ -25,6 +25,10 @@ pub none-allowed : (may : Option (List (List ℕ))) → IsAllowed None may → m
 none-allowed None a = refl
 none-allowed (Some ws) a = absurd a
 
+both : (x y : Bool) → (x && y) ≡ true → (x ≡ true) × (y ≡ true)
+both true true e = (refl, refl)
+both _ _ e = absurd (cc)
+
 module _ (flying active : ℕ → Type 0) (wr : ℕ → Option (List ℕ)) (landed : ℕ → Bool) (holds : Option (List ℕ)) (mark alone safe spoiled : Bool) (may : Option (List (List ℕ)))
     (s : Sector flying active wr landed holds mark alone safe spoiled may) where
   -- of the commands that write to the sector no more are under way, and no more have landed
@@ -92,10 +96,6 @@ module _ (flying active : ℕ → Type 0) (wr : ℕ → Option (List ℕ)) (land
     clean = λ al sa. let p = both own_it alone al in absurd (s.still p.1 sa c v (it p.0).0 (it p.0).1);
     still = λ al sa d w ac wd. let p = both own_it alone al in s.still p.1 sa d w (a d ac) wd;
   }
-    where
-      both : (x y : Bool) → (x && y) ≡ true → (x ≡ true) × (y ≡ true)
-      both true true e = (refl, refl)
-      both _ _ e = absurd (cc)
 
   -- an arrival breaks the sector, by a frame of c where it is the host's
   pub breaks_it : (c : ℕ) (v : List ℕ) (own_it : Bool) (active2 : ℕ → Type 0) (holds2 : Option (List ℕ)) → ((d : ℕ) → active2 d → active d) → (own_it ≡ true → active c × (wr c ≡ Some v)) →
@@ -108,10 +108,6 @@ module _ (flying active : ℕ → Type 0) (wr : ℕ → Option (List ℕ)) (land
     clean = λ al sa. let p = both own_it alone al in absurd (s.still p.1 sa c v (it p.0).0 (it p.0).1);
     still = λ al sa d w ac wd. let p = both own_it alone al in s.still p.1 sa d w (a d ac) wd;
   }
-    where
-      both : (x y : Bool) → (x && y) ≡ true → (x ≡ true) × (y ≡ true)
-      both true true e = (refl, refl)
-      both _ _ e = absurd (cc)
 
   -- an arrival shows the sector
   pub learns : (shown : Option (List ℕ)) (active2 : ℕ → Type 0) → ((d : ℕ) → active2 d → active d) → Sector flying active2 wr landed (option_or holds shown) mark alone safe spoiled may
