@@ -1,8 +1,7 @@
 -- Events that come one after the other.
-use Rattle.std.proofs.Common.{◌≡◌, ◌∙◌, ◌+◌, ◌≤◌, ◌<◌, if◌then◌else◌, nat_le, Bool, true, false, ℕ, zero, suc, List, [], ◌∷◌, length, take, Some, None, refl, sym, subst, arith}
+use Rattle.std.proofs.Common.{◌≡◌, ◌∙◌, ◌+◌, ◌≤◌, ◌<◌, if◌then◌else◌, nat_le, Bool, true, false, ℕ, zero, suc, List, [], ◌∷◌, take, Some, None, refl, sym, subst, arith}
 use Rattle.std.specs.Prelude.{slice_get}
 use Rattle.std.proofs.lemmas.Bool.Decides.{nat_tests}
-use Rattle.std.proofs.lemmas.List.{take_all}
 use Rattle.aoe_history.specs.declared.entry.Entry.{Entry}
 use Rattle.aoe_history.specs.Setup.{Setup}
 use Rattle.aoe_sim_setup.specs.Layout.{setup_of}
@@ -41,11 +40,6 @@ pub record IsPlayed (script : ScriptLines) (i : ℕ) (world : Stepped) : Type 0 
   pub goes_on : world.refused ≡ None
   pub plays : Plays (setup_of script.setups) script.setups (take i script.events) 1 [] world.cursor world.entries
 
-pub none_played : (script : ScriptLines) (world : Stepped) → world ≡ record { lines = script.setups; entries = []; cursor = 1; events = 0; refused = None } → IsPlayed script 0 world
-none_played script world e =
-    let P : Stepped → Type 0 = λ w. IsPlayed script 0 w in
-    subst P (sym e) record { lines_are = refl; counted = refl; goes_on = refl; plays = (refl, refl) }
-
 -- one more came
 pub one_played : (script : ScriptLines) (i : ℕ) (old new : Stepped) (event : Event) → IsPlayed script i old → slice_get script.events i ≡ Some event
     → Comes (setup_of old.lines) old.lines event old.cursor old.entries new.cursor new.entries → new.lines ≡ old.lines → new.events ≡ old.events + 1 → new.refused ≡ None → IsPlayed script (i + 1) new
@@ -57,12 +51,6 @@ one_played script i old new event before is comes lines counted goes =
       goes_on = goes;
       plays = plays_on (setup_of script.setups) script.setups script.events i event 1 [] old.cursor old.entries new.cursor new.entries is before.plays (subst P before.lines_are comes);
     }
-
--- all came
-pub all_played : (script : ScriptLines) (i : ℕ) (world : Stepped) → IsPlayed script i world → length script.events ≤ i → Plays (setup_of script.setups) script.setups script.events 1 [] world.cursor world.entries
-all_played script i world played all =
-    let P : List Event → Type 0 = λ l. Plays (setup_of script.setups) script.setups l 1 [] world.cursor world.entries in
-    subst P (take_all i script.events all) played.plays
 
 -- of the next a part came
 module _ (script : ScriptLines) (i : ℕ) (old new : Stepped) (event : Event) (before : IsPlayed script i old) (is : slice_get script.events i ≡ Some event)

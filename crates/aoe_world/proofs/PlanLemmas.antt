@@ -325,20 +325,6 @@ module _ (lines : List Line) (sim : Sim) (host : ArrayVec ℕ) (o : Option Plan)
   asked-planned dev w (inr (inr (inr (inr (inr (inr ((rcmd, list, is)))))))) d = one-kind (event.Reserve host dev rcmd list) w is
       (asked-line (event.Reserve host dev rcmd list) (Submit host dev (op.Reserve rcmd list)) (λ c b h m y. y) (λ c h m y. y)) d
 
--- where there is no memory for a line, nothing came of it
-pub nothing-injected : (lines : List Line) (e : Event) (bytes : List ℕ) (cursor : ℕ) (h : List Entry) → e ≡ event.Inject bytes → ComesSome (setup_of lines) lines e cursor h h
-nothing-injected lines e bytes cursor h is = subst (λ x. ComesSome (setup_of lines) lines x cursor h h) (sym is) (inl (inl refl))
-
-pub nothing-asked : (lines : List Line) (e : Event) (cursor : ℕ) (h : List Entry) → is_some (submission_in e) ≡ true → ComesSome (setup_of lines) lines e cursor h h
-nothing-asked lines (event.Read host dev at count) cursor h some = inl (inl refl)
-nothing-asked lines (event.Write host dev at count fill) cursor h some = inl (inl refl)
-nothing-asked lines (event.Flush host dev) cursor h some = inl (inl refl)
-nothing-asked lines (event.Identify host dev) cursor h some = inl (inl refl)
-nothing-asked lines (event.Config host dev ccmd text) cursor h some = inl (inl refl)
-nothing-asked lines (event.Masks host dev edit dirs) cursor h some = inl (inl refl)
-nothing-asked lines (event.Reserve host dev rcmd list) cursor h some = inl (inl refl)
-nothing-asked lines _ cursor h some = absurd (cc)
-
 -- WHAT COMES OF A PLAN
 
 pub planned-is : (lines : List Line) (sim : Sim) (e : Event) (o : Option Plan) (p q : Plan) → o ≡ Some p → p ≡ q → IsSomeAnd o (IsPlanned lines sim e) → IsPlanned lines sim e q

@@ -65,9 +65,6 @@ module _ (left left' held : Option (List ℕ)) where
   unread NoMemory u = (u, refl)
   unread _ u = absurd u
 
-  pub unread_no_sink : (end : ReplayEnd) → Unread end left left' → end ≡ SinkFault → ⊥
-  unread_no_sink end u e = let P : ReplayEnd → Type 0 = λ x. Unread x left left' in subst P e u
-
 module _ (left left' : Option (List ℕ)) (text : List ℕ) (read : IsRead left left' text) where
   gave_all : length text ≤ 16777216 → GaveAll left left' text
   gave_all short = record { gave = read.gave; ended = read.ended short; short = short }
@@ -93,15 +90,6 @@ module _ (left left' : Option (List ℕ)) (text : List ℕ) (read : IsRead left 
 
     pub ran : (end : ReplayEnd) (script : ScriptLines) → script ≡ script_of text → Runs end script held held' → Replayed end left left' held held'
     ran end script is runs = let P : ScriptLines → Type 0 = λ x. Runs end x held held' in ran_script end (subst P is runs)
-
-pub refused_no_source : (end : ReplayEnd) (text : List ℕ) → IsRefusedAs end text → end ≡ SourceFault → ⊥
-refused_no_source end text r e = let P : ReplayEnd → Type 0 = λ x. IsRefusedAs x text in subst P e r
-
-pub refused_no_sink : (end : ReplayEnd) (text : List ℕ) → IsRefusedAs end text → end ≡ SinkFault → ⊥
-refused_no_sink end text r e = let P : ReplayEnd → Type 0 = λ x. IsRefusedAs x text in subst P e r
-
-pub runs_no_source : (end : ReplayEnd) (script : ScriptLines) (held held' : Option (List ℕ)) → Runs end script held held' → end ≡ SourceFault → ⊥
-runs_no_source end script held held' r e = let P : ReplayEnd → Type 0 = λ x. Runs x script held held' in subst P e r
 
 -- ---- a script of no text
 

@@ -149,9 +149,6 @@ pub record Going (old now : Sim) (i end : ℕ) : Type 0 where
   pub turns : (s : Setup) (majors : List ℕ) (got : Option Got) → IsNetwork s majors → IsTurning s majors got 0 old
       → Turns s (take i s.hosts) got old.run.entries now.run.entries × IsTurning s majors got i now
 
-pub going-none : (old : Sim) → Going old old 0 (length old.hosts.items)
-going-none old = record { upto = omega arith; count = refl; frame = refl; turns = λ s majors got net k. (refl, k) }
-
 -- one turn more
 pub going-on : (old now new : Sim) (i end : ℕ) (x y : NamedHost) → Going old now i end → slice_get now.hosts.items i ≡ Some x
     → ((s : Setup) (host : HostSetup) (got : Option Got) → Awaits s host got now.run.entries x → IsLawful s now.run.entries
