@@ -1,4 +1,4 @@
-use super::checks::holds;
+use crate::checks::holds;
 use aoe_base::{Blob, NoMemory, TargetId};
 use aoe_script::{Event, Script, ScriptRefusal, Setup, Which, Why, print_script, read_script};
 use std::alloc::{AllocError, Global};

@@ -1,7 +1,7 @@
 ghost use Rattle.std.specs.Prelude.{All, IfOk, OnOk};
 ghost use Rattle.aoe_transcript.specs.Print.{CanPrint, HasCause, IsAsked};
 
-use super::checks::holds;
+use crate::checks::holds;
 use aoe_base::{Blob, Mac, Millis, NoMemory, Span, TargetId};
 use aoe_disk::Loss;
 use aoe_history::{Boxed, Entry, Fate, History};

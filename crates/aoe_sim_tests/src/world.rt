@@ -10,7 +10,7 @@ mod repeats;
 mod replays;
 mod soaks;
 
-use super::checks::holds;
+use crate::checks::holds;
 use aoe_base::{Blob, NoMemory};
 use aoe_script::{Script, ScriptRefusal, read_script};
 use aoe_transcript::print_run;

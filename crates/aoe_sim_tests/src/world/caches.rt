@@ -1,6 +1,6 @@
 //! Slots whose store is a write-behind cache.
-use super::super::checks::holds;
 use super::gives;
+use crate::checks::holds;
 use std::alloc::Global;
 use std::test::Fail;
 

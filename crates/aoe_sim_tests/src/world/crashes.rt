@@ -1,6 +1,6 @@
 //! Crashes and faults of devices.
-use super::super::checks::holds;
 use super::{all_print, prints};
+use crate::checks::holds;
 use std::alloc::Global;
 use std::test::Fail;
 
