@@ -113,19 +113,20 @@ fn prints_the_flush_of_a_cache(rt: HostRuntime) -> Result<(), Fail> {
     Ok(())
 }
 
-/// Whether the last of five writes has this effect and this outcome, where this device call of the
-/// disk fails.
-fn writes_beyond(alloc: Global, k: u32, effect: &str, outcome: &str) -> Result<bool, Fail> {
-    let lines = format!(in alloc;
-        "fail e1.0 store {k}
+/// Writes of five sectors that don't join.
+const FIVE_WRITES: &str = "\
 write a e1.0 0 1 5a
 write a e1.0 2 1 5a
 write a e1.0 4 1 5a
 write a e1.0 6 1 5a
 write a e1.0 8 1 5a
 pass 10
-"
-    )?;
+";
+
+/// Whether the last of five writes has this effect and this outcome, where this device call of the
+/// disk fails.
+fn writes_beyond(alloc: Global, k: u32, effect: &str, outcome: &str) -> Result<bool, Fail> {
+    let lines = format!(in alloc; "fail e1.0 store {k}\n{FIVE_WRITES}")?;
     let text = format!(in alloc;
         "armed e1.0 store fail {k}
 submit a 1 write e1.0 0 1 5a
