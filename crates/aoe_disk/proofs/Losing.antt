@@ -39,9 +39,6 @@ length-left_of Old s now settled en es = es
 length-left_of Torn s now settled en es = length-torn now settled en es
 length-left_of (Mix x) s now settled en es = length-mixed ((x + s) % 2 ^ 64 % 4) now settled en es
 
-pub left_begins : (how : Loss) (now settled : List ℕ) (loose : List Bool) → LeftTo 0 how now settled loose now
-left_begins how now settled loose = record { size = refl; kept = λ s e. refl; lost = λ s l e. absurd (omega arith); rest = λ s l. refl }
-
 -- one sector more, which is loose
 pub left_more : (k : ℕ) (how : Loss) (now settled : List ℕ) (loose : List Bool) (image : List ℕ) → 512 * k + 512 ≤ length now → 512 * k + 512 ≤ length settled → is_loose loose k ≡ true
     → LeftTo k how now settled loose image → LeftTo (k + 1) how now settled loose (with_piece image (512 * k) (left_of how k (sector image k) (sector settled k)))

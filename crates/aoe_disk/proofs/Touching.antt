@@ -119,11 +119,3 @@ may_settle_calm old new e = record { bytes = e.bytes; marks = e.marks; kept = e.
 -- after an Ok sync no sector is loose
 pub settles_kept : (old new : Contents) → Settles old new → (s : ℕ) → is_loose new.loose s ≡ false
 settles_kept old new e s = ap (λ (l : List Bool). is_loose l s) e.loose ∙ is_loose-replicate (length old.loose) s
-
--- where no sector is loose, a crash leaves the bytes
-pub can_leave_settled : (sectors : ℕ) (c : Contents) (image : List ℕ) → HasShape sectors c → ((s : ℕ) → is_loose c.loose s ≡ false) → CanLeave c image → image ≡ c.bytes
-can_leave_settled sectors c image shape kept leaves = image_same sectors image c.bytes (leaves.size ∙ shape.bytes) shape.bytes (λ s _. leaves.kept s (kept s))
-
--- what a crash can leave after a call that leaves all but a range, outside that range, it could leave before
-pub can_leave_outside : (at n : ℕ) (old new : Contents) (image : List ℕ) (s : ℕ) → Touches at n old new → IsOutside at n s → is_loose old.loose s ≡ false → CanLeave new image → sector image s ≡ sector old.bytes s
-can_leave_outside at n old new image s touches out kept leaves = leaves.kept s (touches.kept s out kept) ∙ touches.same s out

@@ -7,22 +7,6 @@ use Rattle.std.proofs.lemmas.List.{get_or_past}
 use Rattle.std.proofs.lemmas.List.Elements.{All-get_or, All-take, All-drop}
 use Rattle.aoe_base.proofs.MacLemmas.{six-is}
 
--- a list with a piece laid over it
-abbrev pub Laid : List ℕ → ℕ → List ℕ → List ℕ → Type 0
-Laid under n piece over = over ≡ take n under ++ piece ++ drop (n + length piece) under
-
--- two addresses and twelve bytes, each laid in its place
-pub three-laid : (d s r x y z : List ℕ) → length d ≡ 6 → length s ≡ 6 → length r ≡ 12
-    → Laid (replicate 24 0) 0 d x → Laid x 6 s y → Laid y 12 r z → z ≡ d ++ s ++ r
-three-laid d s r x y z six six' twelve first second third =
-    let six-d : List ℕ = get_or d 0 0 ∷ get_or d 1 0 ∷ get_or d 2 0 ∷ get_or d 3 0 ∷ get_or d 4 0 ∷ get_or d 5 0 ∷ [] in
-    let six-s : List ℕ = get_or s 0 0 ∷ get_or s 1 0 ∷ get_or s 2 0 ∷ get_or s 3 0 ∷ get_or s 4 0 ∷ get_or s 5 0 ∷ [] in
-    let x_is : x ≡ six-d ++ replicate 18 0 = first ∙ ap (λ (d : List ℕ). take 0 (replicate 24 0) ++ d ++ drop (0 + length d) (replicate 24 0)) (six-is d six) in
-    let y_is : y ≡ six-d ++ six-s ++ replicate 12 0 = second ∙ (λ i. take 6 (x_is i) ++ six-is s six' i ++ drop (6 + length (six-is s six' i)) (x_is i)) in
-    let z_is : z ≡ six-d ++ six-s ++ r ++ [] = third ∙ (λ i. take 12 (y_is i) ++ r ++ drop (12 + twelve i) (y_is i)) in
-    let same : d ++ s ++ r ≡ six-d ++ six-s ++ r = (λ i. six-is d six i ++ six-is s six' i ++ r) in
-    z_is ∙ ap (λ (l : List ℕ). six-d ++ six-s ++ l) (append-nil r) ∙ sym same
-
 -- twelve elements behind a list, all at once and piece by piece
 pub behind : (l : List ℕ) (a b c d e f g h i j k m : ℕ) → l ++ (a ∷ b ∷ c ∷ d ∷ e ∷ f ∷ g ∷ h ∷ i ∷ j ∷ k ∷ m ∷ [])
     ≡ l ++ (a ∷ b ∷ []) ++ (c ∷ d ∷ []) ++ (e ∷ f ∷ []) ++ (g ∷ h ∷ []) ++ (i ∷ j ∷ k ∷ m ∷ [])

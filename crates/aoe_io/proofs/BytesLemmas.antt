@@ -15,10 +15,6 @@ pub Gave-then : (a b c : Option (List ℕ)) (p q : List ℕ) → Gave a b p → 
 Gave-then a b None p q e f = e ∙ ap (option_map (λ rest. p ++ rest)) f
 Gave-then a b (Some r) p q e f = e ∙ ap (option_map (λ rest. p ++ rest)) f ∙ ap Some (sym (append_assoc p q r))
 
--- a source that gave bytes and then failed
-pub Gave-failed : (a b c : Option (List ℕ)) (p : List ℕ) → Gave a b p → c ≡ b → GaveSome a c
-Gave-failed a b c p e same = let P : Option (List ℕ) → Type 0 = λ o. GaveSome a o in subst P (sym same) (p, e)
-
 pub GaveSome-then : (a b c : Option (List ℕ)) (p : List ℕ) → Gave a b p → GaveSome b c → GaveSome a c
 GaveSome-then a b c p e some = (p ++ some.0, Gave-then a b c p some.0 e some.1)
 
@@ -78,13 +74,6 @@ Gave-piece left xs ys piece d n left_is same piece_is =
     let Q : List ℕ → Type 0 = λ zs. piece ≡ take n zs in
     let front : piece ≡ take n (drop d xs) = subst Q (take_rest xs d) (subst P same piece_is) in
     ap Some (left_is ∙ sym (take-append-drop n (drop d xs)) ∙ ap (λ (t : List ℕ). take n (drop d xs) ++ t) (drop-drop n d xs) ∙ ap (λ (t : List ℕ). t ++ drop (d + n) xs) (sym front))
-
--- two pieces that make up a list were taken, the second as far as it went
-pub Took-both : (a b c : Option (List ℕ)) (p q r xs : List ℕ) → p ++ q ≡ xs → r ≡ q → Took a b p → Took b c r → Took a c xs
-Took-both a b c p q r xs whole same first second =
-    let P : List ℕ → Type 0 = λ ys. Took b c ys in
-    let Q : List ℕ → Type 0 = λ ys. Took a c ys in
-    subst Q whole (Took-then a b c p q first (subst P same second))
 
 pub TookSome-both : (a b c : Option (List ℕ)) (p q r xs : List ℕ) → p ++ q ≡ xs → r ≡ q → Took a b p → TookSome b c r → TookSome a c xs
 TookSome-both a b c p q r xs whole same first second =

@@ -63,13 +63,6 @@ given-passed all at turns is long most = elim (cases_lt at (length all)) [
       ]
 ]
 
-pub turned-passed : (count at turns : ℕ) → IsTurned count at turns → count ≤ 2 ^ 64 - 1 → IsTurned count (min (at + 1) count) (min (turns + 1) (2 ^ 64 - 1))
-turned-passed count at turns is few = record {
-  within = omega arith;
-  asked = omega (arith, is.within, is.asked);
-  each = λ more. omega (arith, is.each (omega arith));
-}
-
 pub passed-is : (l : Linking) (coming : List (Option (List ℕ))) (given : List Turn) (turns : ℕ) → coming ≡ drop 1 l.coming
     → given ≡ (if nat_lt l.turns (2 ^ 64 - 1) then turn_next l.coming ∷ l.given else l.given) → turns ≡ counted l.turns
     → record l { coming = coming; given = given; turns = turns } ≡ passed l

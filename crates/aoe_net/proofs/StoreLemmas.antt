@@ -36,10 +36,6 @@ numbered-frames_of kept i =
     ∙ ap (λ (xs : List SentFrame). slice_get xs i) (reverse-reverse (map frame_of kept))
     ∙ slice_get-map frame_of kept i
 
-pub frames_of-push : (kept : List Kept) (k : Kept) → frames_of (kept ++ k ∷ []) ≡ frame_of k ∷ frames_of kept
-frames_of-push kept k =
-    ap (λ (xs : List SentFrame). reverse xs) (map-append frame_of kept (k ∷ [])) ∙ reverse-append (map frame_of kept) (frame_of k ∷ [])
-
 sum-reverse : (xs : List SentFrame) → sum_by (λ frame. length frame.bytes) (reverse xs) ≡ sum_by (λ frame. length frame.bytes) xs
 sum-reverse [] = refl
 sum-reverse (x ∷ xs) =

@@ -34,33 +34,6 @@ pub shown-faults : (most : ℕ) (held : List HeldSector) (disk : DiskState) → 
 shown-faults zero held disk = refl
 shown-faults (suc most) held disk = refl
 
-pub over-none : {D : Type 0} (most : ℕ) (disk : D) → most ≡ 0 → (Direct disk ≡ over most disk) × HoldsBack most (Direct disk)
-over-none zero disk e = (refl, tt)
-over-none (suc most) disk e = absurd (omega (arith, e))
-
-pub over-some : {D : Type 0} (most room : ℕ) (cache : Cache D) (disk : D) → (room ≡ 0 → ⊥) → room ≡ most → cache ≡ record { disk = disk; held = []; room = room } → (Cached cache ≡ over most disk) × HoldsBack most (Cached cache)
-over-some zero room cache disk some same is = absurd (some same)
-over-some {D} (suc most) room cache disk some same is =
-    let made : cache ≡ record { disk = disk; held = []; room = suc most } = is ∙ ap (λ (n : ℕ). let c : Cache D = record { disk = disk; held = []; room = n } in c) same in
-    (ap Cached made, (ap (λ (c : Cache D). c.room) made, omega (arith, ap (λ (c : Cache D). length c.held) made)))
-
--- What the disk has.
-
-keeps-same : (c : Option Contents) → BothTell KeepsSettled c c
-keeps-same None = tt
-keeps-same (Some c) = record { kept = λ s settled. (settled, refl) }
-
-pub under-direct : {D : Type 0} (state : D → DiskState) (most : ℕ) (disk : D) → HoldsBack most (Direct disk) → IsUnder most (state disk) (state disk)
-under-direct state zero disk holds = record { held = []; few = omega arith; is = refl; kept = keeps-same (state disk).contents }
-under-direct state (suc most) disk holds = absurd holds
-
-pub under-cached : {D : Type 0} (state : D → DiskState) (most : ℕ) (cache : Cache D) → HoldsBack most (Cached cache) → BothTell KeepsSettled (state_of state cache).contents (state cache.disk).contents
-    → IsUnder most (state cache.disk) (state_of state cache)
-under-cached state zero cache holds kept = absurd holds
-under-cached state (suc most) cache holds kept = record { held = cache.held; few = holds.1; is = refl; kept = kept }
-
--- What the calls leave in the buffer.
-
 runs-fewer : (calls : ℕ) (held rest : List HeldSector) (old new : DiskState) → WritesRuns calls held rest old new → length rest ≤ length held
 runs-fewer zero held rest old new runs = omega (arith, ap length runs.0)
 runs-fewer (suc calls) held rest old new (n, next, run, more) = omega (arith, runs-fewer calls (drop n held) rest next new more, length-drop n held)
@@ -91,12 +64,6 @@ holds-then R (suc most) (Cached a) (Cached b) keeps stays holds =
     (k.room ∙ holds.0, omega (arith, holds.0, k.few (omega (arith, holds.0, holds.1))))
 
 module _ {D T E : Type 0} (state : D → DiskState) (most : ℕ) (result : Result T E) (old new : AnyStore D) where
-  pub holds-read : (at n : ℕ) → StaysWith (CacheReads state at n result) old new → HoldsBack most old → HoldsBack most new
-  holds-read at n = holds-then (CacheReads state at n result) most old new keeps
-    where
-      keeps : (a b : Cache D) → CacheReads state at n result a b → KeepsRoom a b
-      keeps a b r = record { room = r.room; few = λ few. omega (arith, few, ap length r.held) }
-
   pub holds-write : (at : ℕ) (piece : List ℕ) → StaysWith (CacheWrites state at piece result) old new → HoldsBack most old → HoldsBack most new
   holds-write at piece = holds-then (CacheWrites state at piece result) most old new keeps
     where

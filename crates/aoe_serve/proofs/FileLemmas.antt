@@ -141,10 +141,6 @@ module _ {D : Type 0} (state : D → DiskState) (most : ℕ) (all others pair : 
       let there : IsSeatedOn state (name (minor + length middle)) (over most file) keep s.target = subst (λ (n : ℕ → ℕ → Station). IsSeatedOn state (n (minor + length middle)) (over most file) keep s.target) same here in
       subst P (sym joined) (subst Q (sym s.added) (seated-more state most name minor others middle file keep s.target seated there))
 
-  -- there is no memory for its store
-  pub no-memory : (pair' : List (Option D)) (file' : D) → file' ≡ file → pair' ≡ Some file' ∷ Some keep ∷ [] → others ++ pair' ≡ all
-  no-memory pair' file' same is = ap (λ (xs : List (Option D)). others ++ xs) is ∙ ap (λ (f : D). ends_with others f keep) same ∙ sym joined
-
   -- nothing is run for another cause
   pub given-then : (e : ExportRefusal) (others' pair' : List (Option D)) (store : AnyStore D) (file' : D) → store ≡ over most file → file' ≡ any_disk store → pair' ≡ Some file' ∷ Some keep ∷ []
       → AreGivenBack state e others others' → AreGivenBack state e all (others' ++ pair')
@@ -171,17 +167,6 @@ back-then {D} state most others' pair' file' keep' old new is l back =
     let P : List (Option D) → Type 0 = λ xs. AreBack state most (others' ++ xs) old in
     let Q : List (Mounted (AnyStore D) D) → Type 0 = λ ts. AreBack state most (ends_with others' file' keep') ts in
     subst P (sym is) (subst Q (sym l.last) (back-more state most others' new file' keep' l.target back l.left))
-
-pub none-seated : {D : Type 0} (state : D → DiskState) (most : ℕ) (name : ℕ → ℕ → Station) (minor : ℕ) (disks : List (Option D)) (targets : List (Mounted (AnyStore D) D)) → length disks ≡ 0 → targets ≡ []
-    → AreSeated state most name minor disks targets
-none-seated state most name minor [] [] none_there empty = refl
-none-seated state most name minor (d ∷ disks) targets none_there empty = absurd (omega (arith, none_there))
-none-seated state most name minor disks (t ∷ targets) none_there empty = absurd (omega (arith, ap length empty))
-
-pub none-back : {D : Type 0} (state : D → DiskState) (most : ℕ) (disks : List (Option D)) (targets : List (Mounted (AnyStore D) D)) → length disks ≡ 0 → length targets ≡ 0 → AreBack state most disks targets
-none-back state most [] [] none_there empty = refl
-none-back state most (d ∷ disks) targets none_there empty = absurd (omega (arith, none_there))
-none-back state most disks (t ∷ targets) none_there empty = absurd (omega (arith, empty))
 
 pub all-there : {D : Type 0} (others' pair' : List (Option D)) (file' keep' : D) → pair' ≡ Some file' ∷ Some keep' ∷ [] → All IsSome others' → All IsSome (others' ++ pair')
 all-there others' pair' file' keep' is there = subst (λ (xs : List (Option _)). All IsSome (others' ++ xs)) (sym is) (behind others' there)

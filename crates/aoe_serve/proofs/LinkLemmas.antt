@@ -43,10 +43,6 @@ none_of true b c x y z = absurd (let no : true ≡ false → ⊥ = λ q. (cc) in
 none_of false true c x y z = absurd (let no : true ≡ false → ⊥ = λ q. (cc) in no y)
 none_of false false true x y z = absurd (let no : true ≡ false → ⊥ = λ q. (cc) in no z)
 
-first_of : (a b c : Bool) → a ≡ true → (a || b || c) ≡ true
-first_of true b c e = refl
-first_of false b c e = absurd (let no : false ≡ true → ⊥ = λ q. (cc) in no e)
-
 second_of : (a b c : Bool) → b ≡ true → (a || b || c) ≡ true
 second_of true b c e = refl
 second_of false true c e = refl
@@ -193,19 +189,6 @@ module _ (limit idle start now : ℕ) (given0 given : Option (List Turn)) (taken
       goes_on = waited limit idle s.turns count s.counted few s.loud s.going n (omega (arith, short)) s.goes_on;
       finishes = inl (waits limit idle s.turns count s.counted few s.loud s.going n short, s.sends);
     }
-
--- as many frames came as were asked for
-pub fills : (limit idle start now : ℕ) (given0 given : Option (List Turn)) (taken0 taken : Option Frames) (old mid : List Slot) (count : ℕ) → count ≡ limit
-    → SoFar limit idle start now given0 given taken0 taken old mid count → Served end.Ended limit idle start now given0 given taken0 taken old mid
-fills limit idle start now given0 given taken0 taken old mid count e s = record {
-  turns = s.turns;
-  arrivals = s.arrivals;
-  frames_are = s.frames_are;
-  served = s.served;
-  turned = s.turned;
-  goes_on = s.goes_on;
-  finishes = (first_of (nat_eq (length (came_in s.turns)) limit) (nat_eq (quiet_since s.turns) idle) (has_ended s.turns) (eq-eqb (length (came_in s.turns)) limit (s.counted ∙ e)), s.sends);
-}
 
 -- what a wait said
 abbrev pub AfterWait : Result Got Failed → ℕ → List ℕ → ℕ → ℕ → Option (List Turn) → Option (List Turn) → Type 0

@@ -142,11 +142,6 @@ stays left0 left held0 held held' old now new offset count s held_is same =
     let Q : List Slot → Type 0 = λ d. SoFar left0 left held0 held old d offset count in
     subst P (sym held_is) (subst Q (sym same) s)
 
--- as many frames came as are answered at most
-pub limited : (left0 left held0 held : Option (List ℕ)) (old new : List Slot) (offset count : ℕ) → SoFar left0 left held0 held old new offset count → count ≡ 4294967295 → Answered end.Limit left0 left held0 held old new
-limited left0 left held0 held old new offset count s e =
-    record { arrivals = s.arrivals; whole = s.whole; served = s.served; behind = left; gave = s.gave; stops = (s.count_is ∙ e, refl); took = s.took }
-
 -- a turn ended the run
 pub ends : (e : AnswerEnd) (left0 left left' held0 held held' : Option (List ℕ)) (old now new : List Slot) (offset count : ℕ)
     → count < 4294967295 → SoFar left0 left held0 held old now offset count → Ends e offset left left' held held' now new → Answered e left0 left' held0 held' old new

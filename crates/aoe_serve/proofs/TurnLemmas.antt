@@ -90,8 +90,5 @@ module _ {S D : Type 0} (store : S → DiskState) (keep : D → DiskState) (f : 
 pub rest_then : {S D : Type 0} (a b c : Rack S D) → b ≡ record a { targets = b.targets } → c ≡ record b { targets = c.targets } → c ≡ record a { targets = c.targets }
 rest_then a b c one two = two ∙ ap (λ (x : Rack _ _). record x { targets = c.targets }) one
 
-pub same_slots : {S D : Type 0} (store : S → DiskState) (keep : D → DiskState) (a b : Rack S D) → b ≡ a → slots_of store keep b.targets ≡ slots_of store keep a.targets
-same_slots store keep a b e = ap (λ (x : Rack _ _). slots_of store keep x.targets) e
-
 pub count_slots : {S D : Type 0} (store : S → DiskState) (keep : D → DiskState) (targets : List (Mounted S D)) → length (slots_of store keep targets) ≡ length targets
 count_slots store keep targets = length-map targets (slot_of store keep)

@@ -23,26 +23,6 @@ slot-within slot Change xs ys c = slice_get_within xs slot c.before c.found
 pub length-changed : {X : Type 0} (slot : ℕ) (Change : X → X → Type 0) (xs ys : List X) → ChangesAt slot Change xs ys → length ys ≡ length xs
 length-changed slot Change xs ys c = ap length c.others ∙ length-set xs slot c.after
 
--- those in front of the slot stay
-pub take-changed : {X : Type 0} (slot : ℕ) (Change : X → X → Type 0) (xs ys : List X) → ChangesAt slot Change xs ys → take slot ys ≡ take slot xs
-take-changed slot Change xs ys c = ap (take slot) c.others ∙ take-set xs slot c.after
-
--- those behind the slot stay
-pub drop-changed : {X : Type 0} (slot : ℕ) (Change : X → X → Type 0) (xs ys : List X) → ChangesAt slot Change xs ys → drop (slot + 1) ys ≡ drop (slot + 1) xs
-drop-changed slot Change xs ys c = ap (drop (slot + 1)) c.others ∙ drop-set-lt (slot + 1) xs slot c.after (omega (arith))
-
--- those from the slot on, before and after
-pub drop-before : {X : Type 0} (slot : ℕ) (Change : X → X → Type 0) (xs ys : List X) (c : ChangesAt slot Change xs ys) → drop slot xs ≡ c.before ∷ drop (slot + 1) xs
-drop-before slot Change xs ys c =
-    drop_more xs slot c.before (slot-within slot Change xs ys c) ∙ ap (λ x. x ∷ drop (slot + 1) xs) (get_or_from_slice_get xs slot c.before c.before c.found)
-
-pub drop-after : {X : Type 0} (slot : ℕ) (Change : X → X → Type 0) (xs ys : List X) (c : ChangesAt slot Change xs ys) → drop slot ys ≡ c.after ∷ drop (slot + 1) xs
-drop-after slot Change xs ys c = ap (drop slot) c.others ∙ drop-set xs slot c.after (slot-within slot Change xs ys c)
-
--- those up to the slot, after the change
-pub take-after : {X : Type 0} (slot : ℕ) (Change : X → X → Type 0) (xs ys : List X) (c : ChangesAt slot Change xs ys) → take (slot + 1) ys ≡ take slot xs ++ c.after ∷ []
-take-after slot Change xs ys c = ap (take (slot + 1)) c.others ∙ take_more_set xs slot c.after (slot-within slot Change xs ys c)
-
 -- the element at the slot after the change
 pub get-after : {X : Type 0} (slot : ℕ) (Change : X → X → Type 0) (xs ys : List X) (c : ChangesAt slot Change xs ys) → slice_get ys slot ≡ Some c.after
 get-after slot Change xs ys c =

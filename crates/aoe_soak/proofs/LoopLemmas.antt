@@ -59,18 +59,6 @@ pub record IsSoaked (seed count i : ℕ) (script : ScriptLines) : Type 0 where
   pub script_is : script ≡ record { setups = stations; events = commands seed count i }
   pub lines : length script.events ≡ lines_of i + crash_lines count i
 
-pub none_soaked : (seed count : ℕ) (script : ScriptLines) → script ≡ record { setups = stations; events = [] } → IsSoaked seed count 0 script
-none_soaked seed count script is =
-    let low : nat_lt (count / 2) 0 ≡ false = grind (arith, nat_tests) in
-    record { script_is = is; lines = rw (is, low) refl }
-
-pub room : (seed count i : ℕ) (script : ScriptLines) → IsSoaked seed count i script → i < count → count ≤ 16000 → length script.events + 11 ≤ 50000
-room seed count i script h below most = go (nat_lt (count / 2) i) h.lines
-  where
-    go : (b : Bool) → length script.events ≡ lines_of i + (if b then 6 else 0) → length script.events + 11 ≤ 50000
-    go true e = omega (arith, e, below, most)
-    go false e = omega (arith, e, below, most)
-
 one_soaked : (seed count i : ℕ) (old new : ScriptLines) → IsSoaked seed count i old → new ≡ with_events old (command seed count i) → IsSoaked seed count (suc i) new
 one_soaked seed count i old new h is = record {
   script_is =
@@ -84,9 +72,3 @@ one_soaked seed count i old new h is = record {
 
 pub next_soaked : (seed count i : ℕ) (old new : ScriptLines) → IsSoaked seed count i old → new ≡ with_events old (command seed count i) → IsSoaked seed count (i + 1) new
 next_soaked seed count i old new h is = let one : i + 1 ≡ suc i = omega arith in rw one (one_soaked seed count i old new h is)
-
-pub all_lines : (seed count : ℕ) (script : ScriptLines) → IsSoaked seed count count script → 1 ≤ count
-    → length script.events ≡ 2 * count + 3 * ((count + 6) / 10) + 2 * ((count + 3) / 10) + 6
-all_lines seed count script h some =
-    let past : nat_lt (count / 2) count ≡ true = grind (arith, nat_tests) in
-    h.lines ∙ rw past refl

@@ -27,10 +27,6 @@ front_of xs ys long = take_at (take 36 xs) ys 36 (length-take-le 36 xs long)
 pub back_of : (xs ys : List ℕ) → 36 ≤ length xs → drop 36 (take 36 xs ++ ys) ≡ ys
 back_of xs ys long = drop_at (take 36 xs) ys 36 (length-take-le 36 xs long)
 
--- a frame whose first 36 bytes are a header and registers
-pub parted : (out head args : List ℕ) → take 36 out ≡ head ++ args → out ≡ head ++ (args ++ drop 36 out)
-parted out head args e = sym (take-append-drop 36 out) ∙ ap (λ (l : List ℕ). l ++ drop 36 out) e ∙ append_assoc head args (drop 36 out)
-
 -- the data in a padded reply
 pub data_in : (out : List ℕ) (n : ℕ) → length out ≡ 36 + n → take (36 + n - 36) (drop 36 (padded out)) ≡ drop 36 out
 data_in out n size =

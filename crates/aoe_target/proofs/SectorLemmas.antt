@@ -150,10 +150,6 @@ spoil_agrees span n old new sectors size some end shape may = at (is_some old.se
         unknown true s = tt
         unknown false s = tt
 
--- a read, of whose sectors each is known
-pub learn_agrees : (span : Span) (bytes : List ℕ) (c : Contents) → Agrees (sectors_of c) (learns span bytes (sectors_of c))
-learn_agrees span bytes c = agrees_same (sectors_of c) (learns span bytes (sectors_of c)) (record { known = λ s. refl; marks = λ s. refl; settled = λ s. refl; exact = refl })
-
 settled_same : (x y : Option (List ℕ)) (now : List ℕ) → BothTell (λ _ settled. settled ≡ now) x y → is_some x ≡ true → (s : ℕ) → option_map (λ bytes. sector bytes s) y ≡ Some (sector now s)
 settled_same None None now told e s = absurd (no_truth (sym e))
 settled_same None (Some y) now told e s = absurd told
@@ -203,10 +199,3 @@ both_agree g R sectors None None shape told each = tt
 both_agree g R sectors None (Some y) shape told each = absurd told
 both_agree g R sectors (Some x) None shape told each = absurd told
 both_agree g R sectors (Some x) (Some y) shape told each = each x y shape told
-
-pub same_agree : (g : Sectors → Sectors) (old new : Option Contents) → new ≡ old → ((c : Contents) → Agrees (sectors_of c) (g (sectors_of c))) → BothTell Agrees (option_map sectors_of new) (option_map g (option_map sectors_of old))
-same_agree g old new e each = let P : Option Contents → Type 0 = λ o. BothTell Agrees (option_map sectors_of o) (option_map g (option_map sectors_of old)) in subst P (sym e) (here old)
-  where
-    here : (o : Option Contents) → BothTell Agrees (option_map sectors_of o) (option_map g (option_map sectors_of o))
-    here None = tt
-    here (Some c) = each c

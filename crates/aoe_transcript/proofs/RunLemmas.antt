@@ -74,18 +74,6 @@ text_begins start new bytes rest run is new_is =
     ap (λ runs. start ++ join_with_byte 44 (map repeated_text runs)) is ∙ ap (λ t. start ++ t) (join_first run (longest_runs rest))
     ∙ sym (append_assoc start (repeated_text run) (behind (longest_runs rest))) ∙ ap (λ t. t ++ behind (longest_runs rest)) (sym new_is)
 
-pub text_goes_on : (whole out mid new rest more : List ℕ) (run : Run) → whole ≡ out ++ behind (longest_runs rest) → longest_runs rest ≡ run ∷ longest_runs more
-    → mid ≡ out ++ 44 ∷ [] → new ≡ mid ++ repeated_text run → whole ≡ new ++ behind (longest_runs more)
-text_goes_on whole out mid new rest more run so_far is mid_is new_is =
-    so_far ∙ ap (λ runs. out ++ behind runs) is
-    ∙ sym (append_assoc out (44 ∷ repeated_text run) (behind (longest_runs more)))
-    ∙ ap (λ t. t ++ behind (longest_runs more)) (sym (append_assoc out (44 ∷ []) (repeated_text run)) ∙ ap (λ t. t ++ repeated_text run) (sym mid_is) ∙ sym new_is)
-
-pub text_ends : (whole out rest : List ℕ) → whole ≡ out ++ behind (longest_runs rest) → longest_runs rest ≡ [] → out ≡ whole
-text_ends whole out rest so_far is = sym (so_far ∙ ap (λ runs. out ++ behind runs) is ∙ append-nil out)
-
--- ---- the law
-
 whole_more : (b : ℕ) (runs : List Run) → flat_map (λ run. replicate run.count run.byte) (led_by b runs) ≡ b ∷ flat_map (λ run. replicate run.count run.byte) runs
 whole_more b [] = refl
 whole_more b (run ∷ runs) = go (run.byte == b) refl
