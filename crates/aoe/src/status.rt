@@ -1,11 +1,11 @@
 //! How a run ends.
-ghost use Rattle.std.specs.Prelude.{◌≡◌, IfOk, string_bytes};
+ghost use Rattle.std.specs.Prelude.{◌≡◌, IfOk};
 ghost use Rattle.aoe.specs.Ending.{code_of, limit_text, text_of, word_of};
 
 use aoe_base::{Blob, NoMemory};
 use aoe_script::Why;
 use aoe_tools::{Refusal, ToolRefusal};
-use std::alloc::{AllocError, Global};
+use std::alloc::Global;
 
 /// How a run ended.
 #[derive(Clone, Copy, Debug, PartialEq, Eq)]
@@ -117,22 +117,15 @@ fn word_of(why: Why) -> &'static str
     }
 }
 
-/// The bytes of a text, where there was memory to make it.
-fn blob_of(alloc: Global, text: Result<String, AllocError>) -> Result<Blob, NoMemory>
-    ensures { IfOk result (λ bytes. IfOk text (λ made. bytes ≡ string_bytes made)) }
-{
-    match text {
-        Ok(text) => Blob::of(alloc, text.as_bytes()),
-        Err(_) => Err(NoMemory),
-    }
-}
-
 /// The text for a bad line of a script.
 fn script_text(alloc: Global, line: u32, why: Why) -> Result<Blob, NoMemory>
     ensures { IfOk result (λ text. text ≡ text_of (Status.Script line why)) }
 {
     let word = word_of(why);
-    blob_of(alloc, format!(in alloc; "aoe: script line {line}: {word}"))
+    match format!(in alloc; "aoe: script line {line}: {word}") {
+        Ok(text) => Blob::of(alloc, text.as_bytes()),
+        Err(_) => Err(NoMemory),
+    }
 }
 
 /// The text for a limit.
@@ -152,39 +145,48 @@ fn limit_text(alloc: Global, what: What) -> Result<Blob, NoMemory>
 fn stream_text(alloc: Global, offset: u64) -> Result<Blob, NoMemory>
     ensures { IfOk result (λ text. text ≡ text_of (Status.Stream offset)) }
 {
-    blob_of(alloc, format!(in alloc; "aoe: bad stream at byte {offset}"))
+    match format!(in alloc; "aoe: bad stream at byte {offset}") {
+        Ok(text) => Blob::of(alloc, text.as_bytes()),
+        Err(_) => Err(NoMemory),
+    }
 }
 
 /// The text for a disk that failed.
 fn disk_text(alloc: Global, disk: u32) -> Result<Blob, NoMemory>
     ensures { IfOk result (λ text. text ≡ text_of (Status.DiskFault disk)) }
 {
-    blob_of(alloc, format!(in alloc; "aoe: disk fault on file {disk}"))
+    match format!(in alloc; "aoe: disk fault on file {disk}") {
+        Ok(text) => Blob::of(alloc, text.as_bytes()),
+        Err(_) => Err(NoMemory),
+    }
 }
 
 /// The text for a link that failed.
 fn link_text(alloc: Global, link: u32) -> Result<Blob, NoMemory>
     ensures { IfOk result (λ text. text ≡ text_of (Status.LinkFault link)) }
 {
-    blob_of(alloc, format!(in alloc; "aoe: link fault on port {link}"))
+    match format!(in alloc; "aoe: link fault on port {link}") {
+        Ok(text) => Blob::of(alloc, text.as_bytes()),
+        Err(_) => Err(NoMemory),
+    }
 }
 
 /// The text for a keep that is too small.
 fn small_text(alloc: Global, disk: u32, sectors: u64) -> Result<Blob, NoMemory>
     ensures { IfOk result (λ text. text ≡ text_of (Status.KeepSmall disk sectors)) }
 {
-    blob_of(
-        alloc,
-        format!(in alloc; "aoe: keep {disk}: {sectors} sectors, 16 needed"),
-    )
+    match format!(in alloc; "aoe: keep {disk}: {sectors} sectors, 16 needed") {
+        Ok(text) => Blob::of(alloc, text.as_bytes()),
+        Err(_) => Err(NoMemory),
+    }
 }
 
 /// The text for a keep that holds no lists.
 fn bad_text(alloc: Global, disk: u32, slot: u8) -> Result<Blob, NoMemory>
     ensures { IfOk result (λ text. text ≡ text_of (Status.KeepBad disk slot)) }
 {
-    blob_of(
-        alloc,
-        format!(in alloc; "aoe: keep {disk}: slot {slot} holds no lists"),
-    )
+    match format!(in alloc; "aoe: keep {disk}: slot {slot} holds no lists") {
+        Ok(text) => Blob::of(alloc, text.as_bytes()),
+        Err(_) => Err(NoMemory),
+    }
 }
