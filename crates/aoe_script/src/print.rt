@@ -1,5 +1,6 @@
 //! The text of a script.
-ghost use Rattle.std.specs.Prelude.{◌≡◌, ◌≤◌, ◌++◌, length, true, IfOk, None, OnOk};
+ghost use Rattle.std.specs.Prelude.{◌≡◌, ◌≤◌, ◌∷◌, ◌++◌, drop, length, true, IfOk, None, OnOk};
+ghost use Rattle.aoe_base.specs.Names.{device_text};
 ghost use Rattle.aoe_script.specs.Lines.{IsScript, refusal, script_of};
 ghost use Rattle.aoe_script.specs.Print.{event_words, is_submission, optional_word, script_text, setup_words, spaced, spelled};
 ghost use Rattle.aoe_script.specs.Spelling.{word_text, words_text};
@@ -45,16 +46,23 @@ fn put_word(out: &mut Vec<u8>, word: &Word) -> Result<(), NoMemory>
     }
 }
 
-/// Adds a first word, and others behind it.
-fn put_words(out: &mut Vec<u8>, first: &[u8], words: &[Word]) -> Result<(), NoMemory>
-    ensures { OnOk result (out.new.items ≡ out.old.items ++ (first.now ++ words_text words.now)) }
+/// Adds words, each behind a space.
+fn put_rest(out: &mut Vec<u8>, words: &[Word]) -> Result<(), NoMemory>
+    ensures { OnOk result (out.new.items ≡ out.old.items ++ words_text words.now) }
 {
-    put(out, first)?;
     'words: for word in words {
         put(out, b" ")?;
         put_word(out, word)?;
     }
     Ok(())
+}
+
+/// Adds a first word, and others behind it.
+fn put_words(out: &mut Vec<u8>, first: &[u8], words: &[Word]) -> Result<(), NoMemory>
+    ensures { OnOk result (out.new.items ≡ out.old.items ++ (first.now ++ words_text words.now)) }
+{
+    put(out, first)?;
+    put_rest(out, words)
 }
 
 /// Adds a number behind a space, where there is one.
@@ -125,83 +133,54 @@ fn put_setup(out: &mut Vec<u8>, setup: &Setup) -> Result<(), NoMemory>
     }
 }
 
+/// How a submission begins: its first word, its host and its device.
+fn beginning(event: &Event) -> (&[u8], &Name, &TargetId)
+    requires { is_submission event.now ≡ true }
+    ensures { event_words event.now ≡ result.0.now ∷ result.1.now.items ∷ device_text result.2.now ∷ drop 3 (event_words event.now) }
+{
+    match event {
+        Event::Read { host, dev, .. } => (b"read", host, dev),
+        Event::Write { host, dev, .. } => (b"write", host, dev),
+        Event::Flush { host, dev } => (b"flush", host, dev),
+        Event::Identify { host, dev } => (b"identify", host, dev),
+        Event::Config { host, dev, .. } => (b"config", host, dev),
+        Event::Masks { host, dev, .. } => (b"masks", host, dev),
+        Event::Reserve { host, dev, .. } => (b"reserve", host, dev),
+        _ => unreachable!(),
+    }
+}
+
+/// Adds the words of a submission behind its device.
+fn put_details(out: &mut Vec<u8>, event: &Event) -> Result<(), NoMemory>
+    requires { is_submission event.now ≡ true }
+    ensures { OnOk result (out.new.items ≡ out.old.items ++ spaced (drop 3 (event_words event.now))) }
+{
+    match event {
+        Event::Read { at, count, .. } => put_rest(out, &[Word::Number(*at), Word::Number(*count)]),
+        Event::Write {
+            at,
+            count,
+            fill,
+            ..
+        } => put_rest(
+            out,
+            &[Word::Number(*at), Word::Number(*count), Word::Byte(*fill)],
+        ),
+        Event::Config { ccmd, text, .. } => put_config_words(out, *ccmd, text),
+        Event::Masks { edit, dirs, .. } => put_masks_words(out, *edit, dirs),
+        Event::Reserve { rcmd, list, .. } => put_reserve_words(out, *rcmd, list),
+        _ => Ok(()),
+    }
+}
+
 /// Adds a submission, without its end.
 fn put_submission(out: &mut Vec<u8>, event: &Event) -> Result<(), NoMemory>
     requires { is_submission event.now ≡ true }
     ensures { OnOk result (out.new.items ≡ out.old.items ++ spelled (event_words event.now)) }
 {
-    match event {
-        Event::Read {
-            host,
-            dev,
-            at,
-            count,
-        } => put_words(
-            out,
-            b"read",
-            &[
-                Word::Name(host),
-                Word::Device(dev),
-                Word::Number(*at),
-                Word::Number(*count),
-            ],
-        ),
-        Event::Write {
-            host,
-            dev,
-            at,
-            count,
-            fill,
-        } => put_words(
-            out,
-            b"write",
-            &[
-                Word::Name(host),
-                Word::Device(dev),
-                Word::Number(*at),
-                Word::Number(*count),
-                Word::Byte(*fill),
-            ],
-        ),
-        Event::Flush { host, dev } => put_words(
-            out,
-            b"flush",
-            &[Word::Name(host), Word::Device(dev)],
-        ),
-        Event::Identify { host, dev } => put_words(
-            out,
-            b"identify",
-            &[Word::Name(host), Word::Device(dev)],
-        ),
-        Event::Config {
-            host,
-            dev,
-            ccmd,
-            text,
-        } => {
-            put_words(out, b"config", &[Word::Name(host), Word::Device(dev)])?;
-            put_config_words(out, *ccmd, text)
-        }
-        Event::Masks {
-            host,
-            dev,
-            edit,
-            dirs,
-        } => {
-            put_words(out, b"masks", &[Word::Name(host), Word::Device(dev)])?;
-            put_masks_words(out, *edit, dirs)
-        }
-        Event::Reserve {
-            host,
-            dev,
-            rcmd,
-            list,
-        } => {
-            put_words(out, b"reserve", &[Word::Name(host), Word::Device(dev)])?;
-            put_reserve_words(out, *rcmd, list)
-        }
-        _ => unreachable!(),
-    }
+    let (first, host, dev) = beginning(event);
+    put_words(out, first, &[Word::Name(host), Word::Device(dev)])?;
+    put_details(out, event)
 }
 
 /// Adds an event line, without its end.

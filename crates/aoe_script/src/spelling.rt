@@ -116,29 +116,29 @@ pub(crate) fn put_mode(out: &mut Vec<u8>, mode: Loss) -> Result<(), NoMemory>
     }
 }
 
-/// Adds an action on the config string.
+/// Adds an action on the config string behind a space.
 fn put_ccmd(out: &mut Vec<u8>, ccmd: u8) -> Result<(), NoMemory>
-    ensures { OnOk result (out.new.items ≡ out.old.items ++ ccmd_text ccmd) }
+    ensures { OnOk result (out.new.items ≡ out.old.items ++ 32 ∷ ccmd_text ccmd) }
 {
     match ccmd {
-        0 => put(out, b"read"),
-        1 => put(out, b"test"),
-        2 => put(out, b"prefix"),
-        3 => put(out, b"set"),
-        4 => put(out, b"force"),
-        _ => put_number(out, u64::from(ccmd)),
+        0 => put(out, b" read"),
+        1 => put(out, b" test"),
+        2 => put(out, b" prefix"),
+        3 => put(out, b" set"),
+        4 => put(out, b" force"),
+        _ => put_count(out, b"", u64::from(ccmd)),
     }
 }
 
-/// Adds an action on the reserve list.
+/// Adds an action on the reserve list behind a space.
 fn put_rcmd(out: &mut Vec<u8>, rcmd: u8) -> Result<(), NoMemory>
-    ensures { OnOk result (out.new.items ≡ out.old.items ++ rcmd_text rcmd) }
+    ensures { OnOk result (out.new.items ≡ out.old.items ++ 32 ∷ rcmd_text rcmd) }
 {
     match rcmd {
-        0 => put(out, b"read"),
-        1 => put(out, b"set"),
-        2 => put(out, b"force"),
-        _ => put_number(out, u64::from(rcmd)),
+        0 => put(out, b" read"),
+        1 => put(out, b" set"),
+        2 => put(out, b" force"),
+        _ => put_count(out, b"", u64::from(rcmd)),
     }
 }
 
@@ -146,7 +146,6 @@ fn put_rcmd(out: &mut Vec<u8>, rcmd: u8) -> Result<(), NoMemory>
 pub fn put_config_words(out: &mut Vec<u8>, ccmd: u8, text: &Blob) -> Result<(), NoMemory>
     ensures { OnOk result (out.new.items ≡ out.old.items ++ spaced (config_words ccmd text.now)) }
 {
-    put(out, b" ")?;
     put_ccmd(out, ccmd)?;
     if ccmd == 0 {
         return Ok(());
@@ -178,7 +177,6 @@ pub fn put_reserve_words(
 ) -> Result<(), NoMemory>
     ensures { OnOk result (out.new.items ≡ out.old.items ++ spaced (reserve_words rcmd list.now.items)) }
 {
-    put(out, b" ")?;
     put_rcmd(out, rcmd)?;
     if rcmd == 0 {
         return Ok(());
