@@ -237,6 +237,12 @@ link_count (Soak soak) = 0
 link_count (Live live) = 2
 link_count _ = 1
 
+-- what holds of a command with what clap found for it: it is possible, and has its files and its links
+pub record Fits (rows : List Row) (c : Command) : Type 0 where
+  pub range : IsInRange c
+  pub files : length (files_of c rows) ≡ file_count c
+  pub links : length (links_of c rows) ≡ link_count c
+
 -- ---- words without options
 
 -- a word that is no option: 1 to 4096 bytes, of which the first is no hyphen

@@ -1,8 +1,8 @@
 //! What arguments spell.
-ghost use Rattle.std.specs.Prelude.{◌≡◌, ◌≤◌, ◌*◌, [], ◌∷◌, ◌++◌, length, map, option_map, string_bytes, IfOk, IfSome, IsSome, OnOk};
+ghost use Rattle.std.specs.Prelude.{◌≡◌, ◌≤◌, length, map, option_map, string_bytes, IfOk, IfSome, IsSome};
 ghost use Rattle.std.specs.List.{list_all};
 ghost use Rattle.clap.specs.Words.{found_of, rows_of};
-ghost use Rattle.aoe_words.specs.Words.{CanAnswer, CanLive, CanRun, CanServe, CanSoak, IsInRange, answer_of, asked_of, command, command_of, file_count, file_names, files, files_of, is_word, link_count, links_of, list_tool_of, live_of, parsed, port_words, serve_of, serve_with, soak_of, spelled, tool_of, two_ends};
+ghost use Rattle.aoe_words.specs.Words.{CanRun, CanServe, Fits, IsInRange, answer_of, asked_of, command, command_of, file_count, file_names, files_of, is_word, link_count, links_of, list_tool_of, live_of, parsed, port_words, serve_of, serve_with, soak_of, spelled, tool_of, two_ends};
 ghost use Rattle.aoe_words.specs.Values.{link};
 
 use crate::app::matches;
@@ -110,15 +110,14 @@ fn parsed<'a>(
 
 /// What the arguments of `answer` ask for.
 #[tactic(auto, unfolding(crate::specs::Words::answer_of))]
-fn answer_of(found: &ArgMatches) -> Option<Answer>
-    ensures value { result ≡ answer_of (rows_of (found_of found.now)) }
-    ensures range { IfSome result CanAnswer }
-    ensures files { IfSome result (λ answer. length (files (rows_of (found_of found.now))) ≡ 2) }
+fn answer_of(found: &ArgMatches) -> Option<Command>
+    ensures value { result ≡ option_map Command.Answer (answer_of (rows_of (found_of found.now))) }
+    ensures fits { IfSome result (Fits (rows_of (found_of found.now))) }
 {
     if texts(found, "files")?.len() != ANSWER_FILES {
         return None;
     }
-    Some(Answer {
+    Some(Command::Answer(Answer {
         id: TargetId {
             major: number(found, "shelf", LAST_MAJOR)? as u16,
             minor: number(found, "slot", LAST_MINOR)? as u8,
@@ -126,19 +125,16 @@ fn answer_of(found: &ArgMatches) -> Option<Answer>
         port: port_or_default(found, "port", DEFAULT_PORT)?,
         mtu: number_or(found, "mtu", &MTU)?,
         cache: number_or(found, "cache", &CACHE)?,
-    })
+    }))
 }
 
-/// What the arguments of `serve` ask for, of so many slots, where the ends of the link are named.
+/// What the arguments of `serve` ask for, of so many slots.
 #[tactic(auto, unfolding(crate::specs::Words::serve_with))]
 fn serve_with(found: &ArgMatches, slots: u8) -> Option<Serve>
-    requires slots { (1 ≤ slots) × (slots ≤ 16) }
-    requires files { length (files (rows_of (found_of found.now))) ≡ 2 * slots }
-    requires link { IsSome (link (rows_of (found_of found.now))) }
+    requires { (1 ≤ slots) × (slots ≤ 16) }
     ensures value { result ≡ serve_with slots (rows_of (found_of found.now)) }
     ensures range { IfSome result CanServe }
-    ensures files { IfSome result (λ serve. length (files (rows_of (found_of found.now))) ≡ 2 * serve.slots) }
-    ensures links { IfSome result (λ serve. IsSome (link (rows_of (found_of found.now)))) }
+    ensures slots { IfSome result (λ serve. serve.slots ≡ slots) }
 {
     Some(Serve {
         shelf: number(found, "shelf", LAST_MAJOR)? as u16,
@@ -153,30 +149,28 @@ fn serve_with(found: &ArgMatches, slots: u8) -> Option<Serve>
 
 /// What the arguments of `serve` ask for.
 #[tactic(auto, unfolding(crate::specs::Words::serve_of))]
-fn serve_of(found: &ArgMatches) -> Option<Serve>
-    ensures value { result ≡ serve_of (rows_of (found_of found.now)) }
-    ensures range { IfSome result CanServe }
-    ensures files { IfSome result (λ serve. length (files (rows_of (found_of found.now))) ≡ 2 * serve.slots) }
-    ensures links { IfSome result (λ serve. IsSome (link (rows_of (found_of found.now)))) }
+fn serve_of(found: &ArgMatches) -> Option<Command>
+    ensures value { result ≡ option_map Command.Serve (serve_of (rows_of (found_of found.now))) }
+    ensures fits { IfSome result (Fits (rows_of (found_of found.now))) }
 {
     let files = texts(found, "files")?.len();
     if files % 2 != 0 || files < 2 || files > MOST_FILES {
         return None;
     }
     let _ends = link(found)?;
-    serve_with(found, (files / 2) as u8)
+    Some(Command::Serve(serve_with(found, (files / 2) as u8)?))
 }
 
 /// What the arguments of `soak` ask for.
 #[tactic(auto, unfolding(crate::specs::Words::soak_of))]
-fn soak_of(found: &ArgMatches) -> Option<Soak>
-    ensures value { result ≡ soak_of (rows_of (found_of found.now)) }
-    ensures range { IfSome result CanSoak }
+fn soak_of(found: &ArgMatches) -> Option<Command>
+    ensures value { result ≡ option_map Command.Soak (soak_of (rows_of (found_of found.now))) }
+    ensures fits { IfSome result (Fits (rows_of (found_of found.now))) }
 {
-    Some(Soak {
+    Some(Command::Soak(Soak {
         seed: number(found, "seed", LAST_SEED)? as u16,
         count: number_from(found, "count", 1, MOST_COMMANDS)?,
-    })
+    }))
 }
 
 /// The texts of the two ends of `live`.
@@ -189,17 +183,16 @@ fn two_ends<'a>(found: &ArgMatches<'a>) -> Option<(&'a str, &'a str)>
 
 /// What the arguments of `live` ask for.
 #[tactic(auto, unfolding(crate::specs::Words::live_of))]
-fn live_of(found: &ArgMatches) -> Option<Live>
-    ensures value { result ≡ live_of (rows_of (found_of found.now)) }
-    ensures range { IfSome result CanLive }
-    ensures links { IfSome result (λ live. IsSome (two_ends (rows_of (found_of found.now)))) }
+fn live_of(found: &ArgMatches) -> Option<Command>
+    ensures value { result ≡ option_map Command.Live (live_of (rows_of (found_of found.now))) }
+    ensures fits { IfSome result (Fits (rows_of (found_of found.now))) }
 {
     let _ends = two_ends(found)?;
-    Some(Live {
+    Some(Command::Live(Live {
         sectors: number_from(found, "sectors", 1, MOST_LIVE_SECTORS)?,
         count: number_from(found, "count", 1, MOST_LIVE_COMMANDS)?,
         turns: number_or(found, "turns", &LIVE_TURNS)?,
-    })
+    }))
 }
 
 /// What the arguments of the tool of this name ask for, of those that read and edit what a device
@@ -208,14 +201,14 @@ fn live_of(found: &ArgMatches) -> Option<Live>
 fn list_tool_of(name: &str, found: &ArgMatches) -> Option<Tool>
     ensures value { result ≡ list_tool_of name.now (rows_of (found_of found.now)) }
     ensures range { IfSome result CanRun }
-    ensures links { IfSome result (λ tool. length (links_of (Command.Ask tool) (rows_of (found_of found.now))) ≡ 1) }
+    ensures link { IfSome result (λ tool. IsSome (link (rows_of (found_of found.now)))) }
 {
     if name == "cfg" {
-        Some(Tool::Cfg(cfg_of(found)?))
+        cfg_of(found)
     } else if name == "mask" {
-        Some(Tool::Mask(mask_of(found)?))
+        mask_of(found)
     } else if name == "reserve" {
-        Some(Tool::Reserve(reserve_of(found)?))
+        reserve_of(found)
     } else {
         None
     }
@@ -226,7 +219,7 @@ fn list_tool_of(name: &str, found: &ArgMatches) -> Option<Tool>
 fn tool_of(name: &str, found: &ArgMatches) -> Option<Tool>
     ensures value { result ≡ tool_of name.now (rows_of (found_of found.now)) }
     ensures range { IfSome result CanRun }
-    ensures links { IfSome result (λ tool. length (links_of (Command.Ask tool) (rows_of (found_of found.now))) ≡ 1) }
+    ensures link { IfSome result (λ tool. IsSome (link (rows_of (found_of found.now)))) }
 {
     if name == "discover" {
         Some(Tool::Discover(plain_of(found)?))
@@ -241,9 +234,7 @@ fn tool_of(name: &str, found: &ArgMatches) -> Option<Tool>
 #[tactic(auto, unfolding(crate::specs::Words::asked_of))]
 fn asked_of(name: &str, found: &ArgMatches) -> Option<Command>
     ensures value { result ≡ asked_of name.now (rows_of (found_of found.now)) }
-    ensures range { IfSome result IsInRange }
-    ensures files { IfSome result (λ c. length (files_of c (rows_of (found_of found.now))) ≡ file_count c) }
-    ensures links { IfSome result (λ c. length (links_of c (rows_of (found_of found.now))) ≡ link_count c) }
+    ensures fits { IfSome result (Fits (rows_of (found_of found.now))) }
 {
     if name == "get" {
         Some(Command::Get(get_of(found)?))
@@ -258,20 +249,18 @@ fn asked_of(name: &str, found: &ArgMatches) -> Option<Command>
 #[tactic(auto, unfolding(crate::specs::Words::command_of))]
 fn command_of(name: &str, found: &ArgMatches) -> Option<Command>
     ensures value { result ≡ command_of name.now (rows_of (found_of found.now)) }
-    ensures range { IfSome result IsInRange }
-    ensures files { IfSome result (λ c. length (files_of c (rows_of (found_of found.now))) ≡ file_count c) }
-    ensures links { IfSome result (λ c. length (links_of c (rows_of (found_of found.now))) ≡ link_count c) }
+    ensures fits { IfSome result (Fits (rows_of (found_of found.now))) }
 {
     if name == "answer" {
-        Some(Command::Answer(answer_of(found)?))
+        answer_of(found)
     } else if name == "serve" {
-        Some(Command::Serve(serve_of(found)?))
+        serve_of(found)
     } else if name == "replay" {
         Some(Command::Replay)
     } else if name == "soak" {
-        Some(Command::Soak(soak_of(found)?))
+        soak_of(found)
     } else if name == "live" {
-        Some(Command::Live(live_of(found)?))
+        live_of(found)
     } else {
         asked_of(name, found)
     }
@@ -280,9 +269,7 @@ fn command_of(name: &str, found: &ArgMatches) -> Option<Command>
 /// The command that the arguments spell, with what clap found for it.
 fn spelled<'a>(alloc: Global, words: &'a [String]) -> Result<Option<Found<'a>>, NoMemory>
     ensures value { IfOk result (λ r. option_map (λ s. (s.command, rows_of (found_of s.matches))) r ≡ spelled (map string_bytes words.entry.now)) }
-    ensures range { IfOk result (λ r. IfSome r (λ s. IsInRange s.command)) }
-    ensures files { IfOk result (λ r. IfSome r (λ s. length (files_of s.command (rows_of (found_of s.matches))) ≡ file_count s.command)) }
-    ensures links { IfOk result (λ r. IfSome r (λ s. length (links_of s.command (rows_of (found_of s.matches))) ≡ link_count s.command)) }
+    ensures fits { IfOk result (λ r. IfSome r (λ s. Fits (rows_of (found_of s.matches)) s.command)) }
 {
     let Some((name, matches)) = parsed(alloc, words)? else {
         return Ok(None);
@@ -312,14 +299,22 @@ fn copies(alloc: Global, texts: &[&str]) -> Result<Vec<String>, NoMemory>
 {
     let mut names = Vec::new(alloc);
     'texts: for text in texts {
-        match String::from_str(alloc, text) {
-            Ok(name) => {
-                names.push(name)?;
-            }
-            Err(_) => return Err(NoMemory),
-        }
+        names.push(String::from_str(alloc, text)?)?;
     }
     Ok(names)
+}
+
+/// The names of the files that a command works on.
+fn files_in(alloc: Global, found: &Found) -> Result<Vec<String>, NoMemory>
+    ensures { IfOk result (λ names. map string_bytes names.items ≡ files_of found.now.command (rows_of (found_of found.now.matches))) }
+{
+    match found.command {
+        Command::Answer(_) | Command::Serve(_) => match texts(&found.matches, "files") {
+            Some(texts) => copies(alloc, texts),
+            None => Ok(Vec::new(alloc)),
+        },
+        _ => Ok(Vec::new(alloc)),
+    }
 }
 
 /// The names of the files that `answer` or `serve` works on, in their order; none for the other
@@ -327,58 +322,50 @@ fn copies(alloc: Global, texts: &[&str]) -> Result<Vec<String>, NoMemory>
 pub fn files_of(alloc: Global, words: &[String]) -> Result<Vec<String>, NoMemory>
     ensures { IfOk result (λ names. map string_bytes names.items ≡ file_names (map string_bytes words.now)) }
 {
-    let Some(Found { command, matches }) = spelled(alloc, words)? else {
-        return Ok(Vec::new(alloc));
-    };
-    match command {
-        Command::Answer(_) | Command::Serve(_) => match texts(&matches, "files") {
-            Some(texts) => copies(alloc, texts),
+    match spelled(alloc, words)? {
+        Some(found) => files_in(alloc, &found),
+        None => Ok(Vec::new(alloc)),
+    }
+}
+
+/// The texts of a link.
+fn port_words(alloc: Global, local: &str, peers: &str) -> Result<PortWords, NoMemory>
+    ensures { IfOk result (λ link. link ≡ record { local = local.now; peers = peers.now }) }
+{
+    Ok(PortWords {
+        local: Blob::of(alloc, local.as_bytes())?,
+        peers: Blob::of(alloc, peers.as_bytes())?,
+    })
+}
+
+/// The texts of links, each its own end and its peers.
+fn all_links(alloc: Global, ends: &[(&str, &str)]) -> Result<Vec<PortWords>, NoMemory>
+    ensures { IfOk result (λ links. links.items ≡ map (λ end. record { local = end.0.now; peers = end.1.now }) ends.now) }
+{
+    let mut links = Vec::new(alloc);
+    'ends: for (local, peers) in ends {
+        links.push(port_words(alloc, local, peers)?)?;
+    }
+    Ok(links)
+}
+
+/// The ends of the links that a command works on.
+fn links_in(alloc: Global, found: &Found) -> Result<Vec<PortWords>, NoMemory>
+    ensures { IfOk result (λ links. links.items ≡ links_of found.now.command (rows_of (found_of found.now.matches))) }
+{
+    match found.command {
+        Command::Answer(_) | Command::Replay | Command::Soak(_) => Ok(Vec::new(alloc)),
+        Command::Live(_) => match two_ends(&found.matches) {
+            Some((one, two)) => all_links(alloc, &[(one, two), (two, one)]),
             None => Ok(Vec::new(alloc)),
         },
-        Command::Replay
-        | Command::Soak(_)
-        | Command::Live(_)
-        | Command::Ask(_)
-        | Command::Get(_)
-        | Command::Put(_) => Ok(Vec::new(alloc)),
+        Command::Serve(_) | Command::Ask(_) | Command::Get(_) | Command::Put(_) => match link(
+            &found.matches,
+        ) {
+            Some((local, peers)) => all_links(alloc, &[(local, peers)]),
+            None => Ok(Vec::new(alloc)),
+        },
     }
-}
-
-/// Puts a link behind the others.
-fn add_link(
-    alloc: Global,
-    links: &mut Vec<PortWords>,
-    local: &str,
-    peers: &str,
-) -> Result<(), NoMemory>
-    ensures { OnOk result (links.new.items ≡ links.old.items ++ record { local = local.now; peers = peers.now } ∷ []) }
-{
-    let local = Blob::of(alloc, local.as_bytes())?;
-    let peers = Blob::of(alloc, peers.as_bytes())?;
-    if links.push(PortWords { local, peers }).is_err() {
-        return Err(NoMemory);
-    }
-    Ok(())
-}
-
-/// A list of one link.
-fn one_link(alloc: Global, local: &str, peers: &str) -> Result<Vec<PortWords>, NoMemory>
-    ensures { IfOk result (λ links. links.items ≡ record { local = local.now; peers = peers.now } ∷ []) }
-{
-    let mut links = Vec::new(alloc);
-    add_link(alloc, &mut links, local, peers)?;
-    Ok(links)
-}
-
-/// A list of two links, of which each is the other's peer.
-fn two_links(alloc: Global, one: &str, two: &str) -> Result<Vec<PortWords>, NoMemory>
-    ensures { IfOk result (λ links. links.items
-        ≡ record { local = one.now; peers = two.now } ∷ record { local = two.now; peers = one.now } ∷ []) }
-{
-    let mut links = Vec::new(alloc);
-    add_link(alloc, &mut links, one, two)?;
-    add_link(alloc, &mut links, two, one)?;
-    Ok(links)
 }
 
 /// The ends of the links that the command works on: one for `serve` and for each tool, two for
@@ -386,20 +373,8 @@ fn two_links(alloc: Global, one: &str, two: &str) -> Result<Vec<PortWords>, NoMe
 pub fn ports_of(alloc: Global, words: &[String]) -> Result<Vec<PortWords>, NoMemory>
     ensures { IfOk result (λ links. links.items ≡ port_words (map string_bytes words.now)) }
 {
-    let Some(Found { command, matches }) = spelled(alloc, words)? else {
-        return Ok(Vec::new(alloc));
-    };
-    match command {
-        Command::Answer(_) | Command::Replay | Command::Soak(_) => Ok(Vec::new(alloc)),
-        Command::Live(_) => match two_ends(&matches) {
-            Some((one, two)) => two_links(alloc, one, two),
-            None => Ok(Vec::new(alloc)),
-        },
-        Command::Serve(_) | Command::Ask(_) | Command::Get(_) | Command::Put(_) => match link(
-            &matches,
-        ) {
-            Some((local, peers)) => one_link(alloc, local, peers),
-            None => Ok(Vec::new(alloc)),
-        },
+    match spelled(alloc, words)? {
+        Some(found) => links_in(alloc, &found),
+        None => Ok(Vec::new(alloc)),
     }
 }

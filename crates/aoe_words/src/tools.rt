@@ -1,14 +1,15 @@
 //! What the arguments of the tools spell.
-ghost use Rattle.std.specs.Prelude.{◌≡◌, ◌≤◌, ◌<◌, ◌^◌, IfSome, IsSome};
+ghost use Rattle.std.specs.Prelude.{◌≡◌, ◌≤◌, ◌<◌, ◌^◌, option_map, IfSome, IsSome};
 ghost use Rattle.clap.specs.Words.{found_of, rows_of};
-ghost use Rattle.aoe_words.specs.Tools.{CanAsk, CanCfg, CanGet, CanMask, CanPut, CanReserve, IsDevice, asking_of, ccmd_alone, ccmd_with_text, cfg_of, device, get_of, mask_of, put_of, rcmd_alone, rcmd_with_list, reserve_of, sector};
+ghost use Rattle.aoe_words.specs.Tools.{CanAsk, CanGet, CanPut, IsDevice, asking_of, ccmd_alone, ccmd_with_text, cfg_of, device, get_of, mask_of, put_of, rcmd_alone, rcmd_with_list, reserve_of, sector};
 ghost use Rattle.aoe_words.specs.Values.{link};
+ghost use Rattle.aoe_words.specs.Words.{CanRun};
 
 use crate::lists::{read_dirs, read_macs, read_text};
 use crate::values::{
     NumberOption, TOOL_PORT, link, number, number_from, number_or, port_or_default, text, texts,
 };
-use crate::{Asking, Cfg, Get, Mask, Put, Reserve};
+use crate::{Asking, Cfg, Get, Mask, Put, Reserve, Tool};
 use aoe_base::{TargetId, device_law, read_device};
 use arrayvec::ArrayVec;
 use clap::ArgMatches;
@@ -91,51 +92,51 @@ fn ccmd_with_text(action: &str) -> Option<u8>
 
 /// What the arguments of `cfg` ask for.
 #[tactic(auto, unfolding(crate::specs::Tools::cfg_of))]
-pub(crate) fn cfg_of(found: &ArgMatches) -> Option<Cfg>
-    ensures value { result ≡ cfg_of (rows_of (found_of found.now)) }
-    ensures range { IfSome result CanCfg }
-    ensures link { IfSome result (λ cfg. IsSome (link (rows_of (found_of found.now)))) }
+pub(crate) fn cfg_of(found: &ArgMatches) -> Option<Tool>
+    ensures value { result ≡ option_map Tool.Cfg (cfg_of (rows_of (found_of found.now))) }
+    ensures range { IfSome result CanRun }
+    ensures link { IfSome result (λ tool. IsSome (link (rows_of (found_of found.now)))) }
 {
     let asking = asking_of(found, TOOL_TURNS)?;
     let id = device_of(found)?;
     let action = text(found, "action")?;
     match text(found, "text") {
-        None => Some(Cfg {
+        None => Some(Tool::Cfg(Cfg {
             asking,
             id,
             ccmd: ccmd_alone(action)?,
             text: ArrayVec::new(),
-        }),
-        Some(string) => Some(Cfg {
+        })),
+        Some(string) => Some(Tool::Cfg(Cfg {
             asking,
             id,
             ccmd: ccmd_with_text(action)?,
             text: read_text(string.as_bytes())?,
-        }),
+        })),
     }
 }
 
 /// What the arguments of `mask` ask for.
 #[tactic(auto, unfolding(crate::specs::Tools::mask_of))]
-pub(crate) fn mask_of(found: &ArgMatches) -> Option<Mask>
-    ensures value { result ≡ mask_of (rows_of (found_of found.now)) }
-    ensures range { IfSome result CanMask }
-    ensures link { IfSome result (λ mask. IsSome (link (rows_of (found_of found.now)))) }
+pub(crate) fn mask_of(found: &ArgMatches) -> Option<Tool>
+    ensures value { result ≡ option_map Tool.Mask (mask_of (rows_of (found_of found.now))) }
+    ensures range { IfSome result CanRun }
+    ensures link { IfSome result (λ tool. IsSome (link (rows_of (found_of found.now)))) }
 {
     let asking = asking_of(found, TOOL_TURNS)?;
     let id = device_of(found)?;
     let action = text(found, "action")?;
     match texts(found, "dirs") {
-        None if action == "read" => Some(Mask {
+        None if action == "read" => Some(Tool::Mask(Mask {
             asking,
             id,
             dirs: None,
-        }),
-        Some(words) if action == "edit" => Some(Mask {
+        })),
+        Some(words) if action == "edit" => Some(Tool::Mask(Mask {
             asking,
             id,
             dirs: Some(read_dirs(words)?),
-        }),
+        })),
         _ => None,
     }
 }
@@ -166,27 +167,27 @@ fn rcmd_with_list(action: &str) -> Option<u8>
 
 /// What the arguments of `reserve` ask for.
 #[tactic(auto, unfolding(crate::specs::Tools::reserve_of))]
-pub(crate) fn reserve_of(found: &ArgMatches) -> Option<Reserve>
-    ensures value { result ≡ reserve_of (rows_of (found_of found.now)) }
-    ensures range { IfSome result CanReserve }
-    ensures link { IfSome result (λ reserve. IsSome (link (rows_of (found_of found.now)))) }
+pub(crate) fn reserve_of(found: &ArgMatches) -> Option<Tool>
+    ensures value { result ≡ option_map Tool.Reserve (reserve_of (rows_of (found_of found.now))) }
+    ensures range { IfSome result CanRun }
+    ensures link { IfSome result (λ tool. IsSome (link (rows_of (found_of found.now)))) }
 {
     let asking = asking_of(found, TOOL_TURNS)?;
     let id = device_of(found)?;
     let action = text(found, "action")?;
     match texts(found, "macs") {
-        None => Some(Reserve {
+        None => Some(Tool::Reserve(Reserve {
             asking,
             id,
             rcmd: rcmd_alone(action)?,
             list: ArrayVec::new(),
-        }),
-        Some(words) => Some(Reserve {
+        })),
+        Some(words) => Some(Tool::Reserve(Reserve {
             asking,
             id,
             rcmd: rcmd_with_list(action)?,
             list: read_macs(words)?,
-        }),
+        })),
     }
 }
 
