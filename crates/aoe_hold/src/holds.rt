@@ -203,10 +203,10 @@ fn pop_past<L: Ledger>(timed: &mut Queue, now: Millis, steps: &mut Steps<L>) -> 
     ensures room { timed.new.room ≡ timed.old.room }
     ensures step { steps.new ≡ steps.old + 1 }
 {
-    if timed.look(steps)?.from > u128::from(now.0) {
-        return None;
+    match timed.look(steps) {
+        Some(first) if first.from <= u128::from(now.0) => timed.pop(),
+        Some(_) | None => None,
     }
-    timed.pop()
 }
 
 /// Moves the commands whose time is past to those that may be sent.
