@@ -5,7 +5,7 @@ ghost use Rattle.aoe_block.specs.Stages.{is_handed, is_under_way};
 use aoe_base::Ticket;
 
 /// How far a part is.
-#[derive(Clone, Copy, Debug)]
+#[derive(Clone, Copy)]
 pub enum Stage {
     /// It wasn't handed to a host.
     Pending,
