@@ -1,16 +1,11 @@
 -- A request that waits for one response.
-use Rattle.std.proofs.Common.{ℕ, ◌≡◌, ◌≤◌, ◌<◌, ◌+◌, ◌||◌, true, false, List, [], ◌∷◌, drop, length, Option, Some, None, sym, ap, ◌∙◌, arith}
+use Rattle.std.proofs.Common.{ℕ, ◌≡◌, ◌≤◌, ◌<◌, ◌+◌, ◌||◌, true, false, List, [], ◌∷◌, drop, length, Option, Some, None, ap, ◌∙◌, arith}
 use Rattle.std.proofs.lemmas.Bool.{eq-eqb, ne_eqb}
-use Rattle.std.specs.Prelude.{Result, Ok, Err, nat_eq, nat_lt}
-use Rattle.arrayvec.specs.ArrayVec.{ArrayVec}
-use Rattle.aoe_base.specs.declared.failure.Failed.{Failed}
+use Rattle.std.specs.Prelude.{Ok, nat_eq, nat_lt}
 use Rattle.aoe_io.specs.Link.{Added, Turn, Turned}
 use Rattle.aoe_tools.specs.Asking.{Response, asked, brought, responses, with_response}
 use Rattle.aoe_tools.specs.Listening.{Listens, Waits}
-use Rattle.aoe_tools.specs.One.{AsksOne, Ends, GoesOn, args_of, is_done, refusal_of, said, unless_refused}
-use Rattle.aoe_tools.specs.declared.end.Refusal.{Refusal}
-use Rattle.aoe_tools.specs.declared.end.ToolRefusal.{ToolRefusal}
-use Rattle.aoe_tools.specs.declared.end.ToolRefusal.TheVariants as tool
+use Rattle.aoe_tools.specs.One.{GoesOn, is_done}
 use Rattle.aoe_tools.specs.declared.question.Question.{Question}
 use Rattle.aoe_tools.specs.declared.question.Reply.{Reply}
 use Rattle.aoe_tools.proofs.ListenLemmas.{Frames}
@@ -73,30 +68,3 @@ module _ (q : Question) (request : List ℕ) (limit now : ℕ) (frame : List ℕ
             says = says;
             took = waits.3;
           }
-
-  pub unanswered : Listens (Ok None) q request limit 0 now frame start last given given' taken taken' → AsksOne (Err (tool.Unanswered limit)) q request limit start last given given' taken taken'
-  unanswered l = let h = heard-none l in record { turns = h.turns; turned = h.turned; goes_on = h.goes_on; ends = (h.done, sym (ap (said q limit) h.says), h.took) }
-
-  pub failed : (e : Failed) → Listens (Err e) q request limit 0 now frame start last given given' taken taken' → AsksOne (Err tool.LinkFault) q request limit start last given given' taken taken'
-  failed e l =
-      let below : length l.turns < limit = omega (arith, l.passed, l.waits.1) in
-      record {
-        turns = l.turns;
-        turned = l.turned;
-        goes_on = went-on q limit l.turns l.waits.0 (omega (arith, below));
-        ends = (waits-on q limit l.turns l.waits.0 below, l.waits.2);
-      }
-
-  pub answered : (r : Reply) (result : Result (ArrayVec ℕ) ToolRefusal) → Listens (Ok (Some r)) q request limit 0 now frame start last given given' taken taken'
-      → result ≡ unless_refused (refusal_of q.subject r.answer (drop 24 frame)) (args_of (record { reply = r; args = drop 24 frame }))
-      → AsksOne result q request limit start last given given' taken taken'
-  answered r result l is =
-      let h = heard-one r l in
-      record { turns = h.turns; turned = h.turned; goes_on = h.goes_on; ends = ended h (refusal_of q.subject r.answer (drop 24 frame)) is }
-    where
-      response : Response
-      response = record { reply = r; args = drop 24 frame }
-
-      ended : (h : Heard q request limit start last given given' taken taken' (response ∷ [])) (o : Option Refusal) → result ≡ unless_refused o (args_of response) → Ends result q request limit h.turns taken taken'
-      ended h None e = rw e (h.done, sym e ∙ is ∙ sym (ap (said q limit) h.says), h.took)
-      ended h (Some refusal) e = rw e (h.done, sym e ∙ is ∙ sym (ap (said q limit) h.says), h.took)

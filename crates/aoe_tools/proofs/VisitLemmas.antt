@@ -9,7 +9,7 @@ use Rattle.aoe_initiator.specs.Request.{request}
 use Rattle.aoe_initiator.specs.declared.op.Op.TheVariants as op
 use Rattle.aoe_io.proofs.LinkLemmas.{Added-then, turned-then}
 use Rattle.aoe_io.specs.Link.{Added, Turn, Turned}
-use Rattle.aoe_tools.specs.Asking.{Response, TookSome, asked, asked_at, responses, tag_of, with_response, asked_from}
+use Rattle.aoe_tools.specs.Asking.{Response, TookSome, asked, asked_at, responses, with_response, asked_from}
 use Rattle.aoe_tools.specs.Listening.{Listens, Waits}
 use Rattle.aoe_tools.specs.Page.{known, known_by, with_known}
 use Rattle.aoe_tools.specs.Visits.{AreOver, AsksPage, EndsVisit, TookFront, Visit, VisitsAll, VisitsOne, devices, first_port, learned, number, page_question, page_request, request_of, visit_asked, visit_turns}
@@ -17,7 +17,6 @@ use Rattle.aoe_tools.specs.declared.found.Known.{Known}
 use Rattle.aoe_tools.specs.declared.found.Seen.{Seen}
 use Rattle.aoe_tools.specs.declared.question.Question.{Question}
 use Rattle.aoe_tools.specs.declared.question.Reply.{Reply}
-use Rattle.aoe_tools.specs.declared.question.Subject.TheVariants as subject
 use Rattle.aoe_tools.proofs.ListenLemmas.{Frames}
 use Rattle.aoe_tools.proofs.OneLemmas.{waits-on, went-on}
 
@@ -74,16 +73,18 @@ module _ (q : Question) (request : List ℕ) (limit now : ℕ) (frame : List ℕ
 -- ---- one device
 
 module _ (first : ℕ) (port : Mac) (limit i : ℕ) (found : List Seen) (s : Seen) (start last : ℕ) (given given' : Option (List Turn)) (taken taken' : Option Frames)
-    (tag : ℕ) (bytes : List ℕ) (at : slice_get found i ≡ Some s) (tag_is : tag ≡ tag_of first (i + 1)) (bytes_are : bytes ≡ request op.Identify s.id (first_port s.ports.items) port tag) where
-  abbrev AsksIt : Result Known Failed → ℕ → List ℕ → Type 0
-  AsksIt result t b = AsksPage result (record { subject = subject.Page; id = Some s.id; port = port; tag = t }) b limit start last given given' taken taken'
+    (q : Question) (bytes : List ℕ) (at : slice_get found i ≡ Some s) (q_is : q ≡ page_question first port (i + 1) s) (bytes_are : bytes ≡ request op.Identify s.id (first_port s.ports.items) port q.tag) where
+  abbrev AsksIt : Result Known Failed → Question → List ℕ → Type 0
+  AsksIt result x b = AsksPage result x b limit start last given given' taken taken'
 
-  asks-it : (result : Result Known Failed) → AsksIt result tag bytes → AsksIt result (tag_of first (i + 1)) (page_request first port (i + 1) s)
+  asks-it : (result : Result Known Failed) → AsksIt result q bytes → AsksIt result (page_question first port (i + 1) s) (page_request first port (i + 1) s)
   asks-it result a =
-      let bytes_is : bytes ≡ page_request first port (i + 1) s = bytes_are ∙ ap (request op.Identify s.id (first_port s.ports.items) port) tag_is in
-      rw (← bytes_is) (rw (← tag_is) a)
+      let bytes_is : bytes ≡ page_request first port (i + 1) s = bytes_are ∙ ap (λ (x : Question). request op.Identify s.id (first_port s.ports.items) port x.tag) q_is in
+      let B : List ℕ → Type 0 = λ b. AsksIt result q b in
+      let Q : Question → Type 0 = λ x. AsksIt result x (page_request first port (i + 1) s) in
+      subst Q q_is (subst B bytes_is a)
 
-  pub visited : (found' : List Seen) (k : Known) (x : Seen) → slice_get found i ≡ Some x → found' ≡ slice_set found i (with_known x k) → AsksIt (Ok k) tag bytes
+  pub visited : (found' : List Seen) (k : Known) (x : Seen) → slice_get found i ≡ Some x → found' ≡ slice_set found i (with_known x k) → AsksIt (Ok k) q bytes
       → VisitsOne (Ok tt) first port limit i found found' start last given given' taken taken'
   visited found' k x at_x is asks =
       let a = asks-it (Ok k) asks in
@@ -96,7 +97,7 @@ module _ (first : ℕ) (port : Mac) (limit i : ℕ) (found : List Seen) (s : See
         ends = (a.ends.0, is ∙ ap (λ d. slice_set found i (with_known d k)) same ∙ ap (λ y. slice_set found i (with_known s y)) a.ends.1, a.ends.2);
       }
 
-  pub visit-failed : (e : Failed) (found' : List Seen) → AsksIt (Err e) tag bytes → VisitsOne (Err e) first port limit i found found' start last given given' taken taken'
+  pub visit-failed : (e : Failed) (found' : List Seen) → AsksIt (Err e) q bytes → VisitsOne (Err e) first port limit i found found' start last given given' taken taken'
   visit-failed e found' asks =
       let a = asks-it (Err e) asks in
       record {

@@ -1,15 +1,14 @@
 -- The two requests before a transfer: where a device is, and how long it is.
-use Rattle.std.specs.Prelude.{ℕ, ◌≡◌, true, false, nat_lt, List, [], ◌∷◌, length, drop, Option, Some, None, Result, Ok, Err, if◌then◌else◌, slice_index, slice_range, unwrap_or}
-use Rattle.aoe_ata.specs.Identify.{declared}
+use Rattle.std.specs.Prelude.{ℕ, ◌≡◌, true, false, nat_lt, List, [], ◌∷◌, length, drop, Option, Some, None, Result, Ok, Err, if◌then◌else◌, slice_index, unwrap_or}
 use Rattle.aoe_base.specs.declared.address.Mac.{Mac}
 use Rattle.aoe_base.specs.declared.address.TargetId.{TargetId}
 use Rattle.aoe_base.specs.Addresses.{broadcast}
 use Rattle.aoe_initiator.specs.declared.op.Op.TheVariants as op
 use Rattle.aoe_initiator.specs.declared.response.Answer.{Answer}
-use Rattle.aoe_initiator.specs.declared.response.Answer.TheVariants as answer
 use Rattle.aoe_initiator.specs.Request.{request}
 use Rattle.aoe_io.specs.Link.{Added, Turn, Turned}
 use Rattle.aoe_tools.specs.Asking.{Response, TookSome, asked, responses, tag_of}
+use Rattle.aoe_tools.specs.Page.{total_in as declared_in}
 use Rattle.aoe_tools.specs.One.{is_done, refusal_of, GoesOn}
 use Rattle.aoe_tools.specs.declared.end.Refusal.{Refusal}
 use Rattle.aoe_tools.specs.declared.end.ToolRefusal.{ToolRefusal}
@@ -60,12 +59,7 @@ max_of args = if nat_lt 1 (slice_index args 4) then 2 else 1
 
 -- how many sectors a device has: none where its page declares no number
 abbrev pub total_of : Answer → List ℕ → ℕ
-total_of (answer.Data len) args = unwrap_or (declared (slice_range args 12 524)) 0
-total_of (answer.Told len) args = 0
-total_of answer.Written args = 0
-total_of answer.Flushed args = 0
-total_of (answer.AtaError status error) args = 0
-total_of (answer.AoeError error) args = 0
+total_of a args = unwrap_or (declared_in a args) 0
 
 abbrev pub config_question : Ask → TargetId → ℕ → Question
 config_question ask id first = record { subject = subject.Config; id = Some id; port = ask.port; tag = tag_of first 0 }

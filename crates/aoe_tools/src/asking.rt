@@ -1,13 +1,17 @@
 //! The loop of every request: it is sent, and a response is waited for.
-ghost use Rattle.std.specs.Prelude.{◌≡◌, ◌≤◌, IfOk, IfSome, OnErr, OnOk, is_err, true};
+ghost use Rattle.std.specs.Prelude.{◌≡◌, ◌≢◌, ◌≤◌, Err, IfErr, IfOk, IfSome, None, OnErr, OnOk, is_err, true};
 ghost use Rattle.aoe_base.specs.Faults.{Blamed};
 ghost use Rattle.aoe_tools.specs.Asking.{asked_at, CanRead};
 ghost use Rattle.aoe_tools.specs.Listening.{Listens, TakesTurn};
+ghost use Rattle.aoe_tools.specs.One.{mask_refusal, refusal_of};
+ghost use Rattle.aoe_tools.specs.TransferAsks.{unless_refusing, with_args, Asks};
 ghost use Rattle.aoe_io.specs.Link.{Added};
 
-use crate::question::{Question, Reply};
+use crate::end::{Refusal, ToolRefusal};
+use crate::question::{Question, Reply, Subject};
 use aoe_base::Failed;
-use aoe_frame::Frame;
+use aoe_frame::{Frame, HEADER_LEN};
+use aoe_initiator::Answer;
 use aoe_io::{Got, Link};
 
 /// After how many turns a request that isn't answered is sent again: a tenth of a second over a silent
@@ -83,4 +87,62 @@ pub(crate) fn listen<L: Link>(
         }
     }
     Ok(None)
+}
+
+/// What the field MError of a mask list response says, where the device refused.
+fn mask_refusal(subject: Subject, args: &[u8]) -> Option<Refusal>
+    ensures { result ≡ mask_refusal subject args.now }
+{
+    match subject {
+        Subject::Masks => match args.get(2) {
+            Some(error) if *error != 0 => Some(Refusal::Mask(*error)),
+            _ => None,
+        },
+        Subject::Config | Subject::Reserve | Subject::Page => None,
+    }
+}
+
+/// How a response refuses.
+fn refusal_of(subject: Subject, answer: Answer, args: &[u8]) -> Option<Refusal>
+    ensures { result ≡ refusal_of subject answer args.now }
+{
+    match answer {
+        Answer::AoeError(error) => Some(Refusal::Aoe(error)),
+        Answer::AtaError { status, error } => Some(Refusal::Ata { status, error }),
+        Answer::Told { .. } => mask_refusal(subject, args),
+        Answer::Data { .. } | Answer::Written | Answer::Flushed => None,
+    }
+}
+
+/// A response, where it doesn't refuse.
+fn unless_refused(subject: Subject, reply: Reply, args: &[u8]) -> Result<Reply, ToolRefusal>
+    ensures accepted { IfOk result (λ r. (r ≡ reply) × (refusal_of subject reply.answer args.now ≡ None)) }
+    ensures refused { IfErr result (λ e. unless_refusing (refusal_of subject reply.answer args.now) (record { reply = reply; args = args.now }) ≡ Err e) }
+    ensures untold { result ≢ Err ToolRefusal.LinkFault }
+{
+    match refusal_of(subject, reply.answer, args) {
+        Some(refusal) => Err(ToolRefusal::Refused(refusal)),
+        None => Ok(reply),
+    }
+}
+
+/// Asks until the first response that counts, which `frame` holds then.
+pub(crate) fn ask<L: Link>(
+    question: &Question,
+    request: &Frame,
+    turns: u32,
+    link: &mut L,
+    frame: &mut Frame,
+) -> Result<Reply, ToolRefusal>
+    ensures asks { Asks (with_args frame.new.items result) question.now request.now.items turns (record { turns = L.turns link.old; given = L.given link.old; taken = L.taken link.old }) (record { turns = L.turns link.new; given = L.given link.new; taken = L.taken link.new }) }
+    ensures here { IfOk result (λ r. CanRead r.answer frame.new.items) }
+    ensures count { L.faults link.old ≤ L.faults link.new }
+    ensures link { Blamed (result ≡ Err ToolRefusal.LinkFault) (L.faults link.old) (L.faults link.new) }
+{
+    let mut passed = 0;
+    match listen(question, request, turns, &mut passed, link, frame) {
+        Ok(Some(reply)) => unless_refused(question.subject, reply, &frame[HEADER_LEN..]),
+        Ok(None) => Err(ToolRefusal::Unanswered { turns }),
+        Err(Failed) => Err(ToolRefusal::LinkFault),
+    }
 }

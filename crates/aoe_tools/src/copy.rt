@@ -111,7 +111,7 @@ fn run_all<L: Link, C: Clock>(
         Err(NoMemory) => return Err(ToolRefusal::NoMemory),
     };
     match transfer.run(ask.turns, link, clock) {
-        Ok(()) => Ok(transfer.course),
+        Ok(()) => Ok(transfer.into_course()),
         Err(refusal) => Err(refusal),
     }
 }

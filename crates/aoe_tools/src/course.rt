@@ -13,7 +13,7 @@ use aoe_initiator::{Done, Op, Outcome};
 pub(crate) const MAX_OPEN: u32 = 64;
 
 /// What a transfer waits for.
-#[derive(Clone, Copy, Debug)]
+#[derive(Clone, Copy)]
 pub(crate) enum Phase {
     /// The parts of its block.
     Parts,

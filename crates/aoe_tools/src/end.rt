@@ -87,10 +87,8 @@ impl ToolRefusal {
 fn unanswered_text(alloc: Global, turns: u32) -> Result<Blob, NoMemory>
     ensures { IfOk result (λ text. text ≡ text_of (ToolRefusal.Unanswered turns)) }
 {
-    match format!(in alloc; "aoe: no answer in {turns} turns") {
-        Ok(text) => Blob::of(alloc, text.as_bytes()),
-        Err(_) => Err(NoMemory),
-    }
+    let text = format!(in alloc; "aoe: no answer in {turns} turns")?;
+    Blob::of(alloc, text.as_bytes())
 }
 
 impl CopyRefusal {
@@ -125,10 +123,8 @@ impl CopyRefusal {
 fn stream_text(alloc: Global, offset: u64) -> Result<Blob, NoMemory>
     ensures { IfOk result (λ text. text ≡ copy_text (CopyRefusal.Stream offset)) }
 {
-    match format!(in alloc; "aoe: bad stream at byte {offset}") {
-        Ok(text) => Blob::of(alloc, text.as_bytes()),
-        Err(_) => Err(NoMemory),
-    }
+    let text = format!(in alloc; "aoe: bad stream at byte {offset}")?;
+    Blob::of(alloc, text.as_bytes())
 }
 
 /// The text for a refusal.
@@ -147,10 +143,8 @@ fn refused_text(alloc: Global, refusal: Refusal) -> Result<Blob, NoMemory>
 fn aoe_text(alloc: Global, error: u8) -> Result<Blob, NoMemory>
     ensures { IfOk result (λ text. text ≡ refusal_text (Refusal.Aoe error)) }
 {
-    match format!(in alloc; "aoe: refused: AoE error {error}") {
-        Ok(text) => Blob::of(alloc, text.as_bytes()),
-        Err(_) => Err(NoMemory),
-    }
+    let text = format!(in alloc; "aoe: refused: AoE error {error}")?;
+    Blob::of(alloc, text.as_bytes())
 }
 
 /// The text for the registers of an ATA command that failed, in hexadecimal.
@@ -169,8 +163,6 @@ fn ata_text(alloc: Global, status: u8, error: u8) -> Result<Blob, NoMemory>
 fn mask_text(alloc: Global, error: u8) -> Result<Blob, NoMemory>
     ensures { IfOk result (λ text. text ≡ refusal_text (Refusal.Mask error)) }
 {
-    match format!(in alloc; "aoe: refused: mask error {error}") {
-        Ok(text) => Blob::of(alloc, text.as_bytes()),
-        Err(_) => Err(NoMemory),
-    }
+    let text = format!(in alloc; "aoe: refused: mask error {error}")?;
+    Blob::of(alloc, text.as_bytes())
 }

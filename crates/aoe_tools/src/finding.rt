@@ -7,7 +7,7 @@ ghost use Rattle.aoe_tools.specs.Runs.{RunsDiscovery, told};
 use crate::asking::listen;
 use crate::end::ToolRefusal;
 use crate::found::Found;
-use crate::question::{Ask, Question, Subject, tag_of};
+use crate::question::{Ask, Question, Subject};
 use crate::request::config_request;
 use aoe_base::{Failed, NoMemory, TargetId};
 use aoe_frame::Frame;
@@ -71,15 +71,9 @@ pub(crate) fn find<L: Link>(
     ensures count { L.faults link.old ≤ L.faults link.new }
     ensures link { Blamed (result ≡ Err ToolRefusal.LinkFault) (L.faults link.old) (L.faults link.new) }
 {
-    let tag = tag_of(first, 0);
-    let question = Question {
-        subject: Subject::Config,
-        id: None,
-        port: ask.port,
-        tag,
-    };
+    let question = ask.question(Subject::Config, None, first, 0);
     let mut request = Frame::new();
-    config_request(0, b"", EVERYONE, ask.port, tag, &mut request);
+    config_request(0, b"", EVERYONE, ask.port, question.tag, &mut request);
     find_all(alloc, &question, &request, ask.turns, link)
 }
 

@@ -28,7 +28,7 @@ pub enum State {
 }
 
 /// What a device said of itself when it was asked for its page.
-#[derive(Clone, Copy, Debug, PartialEq, Eq)]
+#[derive(Clone, Copy)]
 pub(crate) struct Known {
     pub(crate) total: Option<u64>,
     pub(crate) state: State,

@@ -2,43 +2,18 @@
 ghost use Rattle.std.specs.Prelude.{◌≡◌, ◌≤◌, Err, length, option_copied};
 ghost use Rattle.aoe_base.specs.Faults.{Blamed};
 ghost use Rattle.aoe_initiator.specs.Response.{CanFill};
-ghost use Rattle.aoe_tools.specs.One.{AsksOne, args_of, edits_by, mask_refusal, refusal_of, told_len, unless_refused};
+ghost use Rattle.aoe_tools.specs.One.{AsksOne, args_of, edits_by, told_len};
 ghost use Rattle.aoe_tools.specs.Runs.{RunsConfig, RunsMasks, RunsReserves, told};
 
-use crate::asking::listen;
-use crate::end::{Refusal, ToolRefusal};
-use crate::question::{Ask, Question, Reply, Subject, tag_of};
+use crate::asking::ask;
+use crate::end::ToolRefusal;
+use crate::question::{Ask, Question, Reply, Subject};
 use crate::request::{config_request, mask_request, reserve_request};
-use aoe_base::{Failed, Mac, TargetId, append};
+use aoe_base::{Mac, TargetId, append};
 use aoe_frame::{Frame, HEADER_LEN};
 use aoe_initiator::Answer;
 use aoe_io::{Clock, Link};
 use aoe_lists::{Args, Dir};
-
-/// What the field MError of a mask list response says, where the device refused.
-fn mask_refusal(subject: Subject, args: &[u8]) -> Option<Refusal>
-    ensures { result ≡ mask_refusal subject args.now }
-{
-    match subject {
-        Subject::Masks => match args.get(2) {
-            Some(error) if *error != 0 => Some(Refusal::Mask(*error)),
-            _ => None,
-        },
-        Subject::Config | Subject::Reserve | Subject::Page => None,
-    }
-}
-
-/// How a response refuses.
-pub(crate) fn refusal_of(subject: Subject, answer: Answer, args: &[u8]) -> Option<Refusal>
-    ensures { result ≡ refusal_of subject answer args.now }
-{
-    match answer {
-        Answer::AoeError(error) => Some(Refusal::Aoe(error)),
-        Answer::AtaError { status, error } => Some(Refusal::Ata { status, error }),
-        Answer::Told { .. } => mask_refusal(subject, args),
-        Answer::Data { .. } | Answer::Written | Answer::Flushed => None,
-    }
-}
 
 /// How many bytes of arguments an answer has.
 fn told_len(answer: Answer) -> usize
@@ -54,20 +29,17 @@ fn told_len(answer: Answer) -> usize
     }
 }
 
-/// The arguments of a response, or how it refuses.
-fn said(subject: Subject, reply: Reply, args: &[u8]) -> Result<Args, ToolRefusal>
+/// The arguments of a response.
+fn args_of(reply: Reply, args: &[u8]) -> Args
     requires { CanFill reply.answer args.now 512 }
-    ensures { result ≡ unless_refused (refusal_of subject reply.answer args.now) (args_of (record { reply = reply; args = args.now })) }
+    ensures { result ≡ args_of (record { reply = reply; args = args.now }) }
 {
-    if let Some(refusal) = refusal_of(subject, reply.answer, args) {
-        return Err(ToolRefusal::Refused(refusal));
-    }
     let mut told = Args::new();
     append(&mut told, &args[..told_len(reply.answer)]);
-    Ok(told)
+    told
 }
 
-/// Asks until the first response that counts.
+/// Asks until the first response that counts, and gives its arguments.
 fn ask_one<L: Link>(
     question: &Question,
     request: &Frame,
@@ -79,11 +51,9 @@ fn ask_one<L: Link>(
     ensures link { Blamed (result ≡ Err ToolRefusal.LinkFault) (L.faults link.old) (L.faults link.new) }
 {
     let mut frame = Frame::new();
-    let mut passed = 0;
-    match listen(question, request, turns, &mut passed, link, &mut frame) {
-        Ok(Some(reply)) => said(question.subject, reply, &frame[HEADER_LEN..]),
-        Ok(None) => Err(ToolRefusal::Unanswered { turns }),
-        Err(Failed) => Err(ToolRefusal::LinkFault),
+    match ask(question, request, turns, link, &mut frame) {
+        Ok(reply) => Ok(args_of(reply, &frame[HEADER_LEN..])),
+        Err(refusal) => Err(refusal),
     }
 }
 
@@ -104,15 +74,9 @@ pub fn cfg<L: Link, C: Clock>(
     ensures count { L.faults link.old ≤ L.faults link.new }
     ensures link { Blamed (result ≡ Err ToolRefusal.LinkFault) (L.faults link.old) (L.faults link.new) }
 {
-    let tag = tag_of(clock.now(), 0);
-    let question = Question {
-        subject: Subject::Config,
-        id: Some(id),
-        port: ask.port,
-        tag,
-    };
+    let question = ask.question(Subject::Config, Some(id), clock.now(), 0);
     let mut request = Frame::new();
-    config_request(ccmd, text, id, ask.port, tag, &mut request);
+    config_request(ccmd, text, id, ask.port, question.tag, &mut request);
     ask_one(&question, &request, ask.turns, link)
 }
 
@@ -130,17 +94,11 @@ pub fn mask<L: Link, C: Clock>(
     ensures count { L.faults link.old ≤ L.faults link.new }
     ensures link { Blamed (result ≡ Err ToolRefusal.LinkFault) (L.faults link.old) (L.faults link.new) }
 {
-    let tag = tag_of(clock.now(), 0);
-    let question = Question {
-        subject: Subject::Masks,
-        id: Some(id),
-        port: ask.port,
-        tag,
-    };
+    let question = ask.question(Subject::Masks, Some(id), clock.now(), 0);
     let mut request = Frame::new();
     match dirs {
-        Some(dirs) => mask_request(true, dirs, id, ask.port, tag, &mut request),
-        None => mask_request(false, &[], id, ask.port, tag, &mut request),
+        Some(dirs) => mask_request(true, dirs, id, ask.port, question.tag, &mut request),
+        None => mask_request(false, &[], id, ask.port, question.tag, &mut request),
     }
     ask_one(&question, &request, ask.turns, link)
 }
@@ -161,14 +119,8 @@ pub fn reserve<L: Link, C: Clock>(
     ensures count { L.faults link.old ≤ L.faults link.new }
     ensures link { Blamed (result ≡ Err ToolRefusal.LinkFault) (L.faults link.old) (L.faults link.new) }
 {
-    let tag = tag_of(clock.now(), 0);
-    let question = Question {
-        subject: Subject::Reserve,
-        id: Some(id),
-        port: ask.port,
-        tag,
-    };
+    let question = ask.question(Subject::Reserve, Some(id), clock.now(), 0);
     let mut request = Frame::new();
-    reserve_request(rcmd, list, id, ask.port, tag, &mut request);
+    reserve_request(rcmd, list, id, ask.port, question.tag, &mut request);
     ask_one(&question, &request, ask.turns, link)
 }

@@ -1,25 +1,22 @@
 //! The device that a transfer goes to: where it is, and how long it is.
-ghost use Rattle.std.specs.Prelude.{◌≡◌, ◌≢◌, ◌≤◌, ◌<◌, ◌^◌, Err, IfErr, IfOk, None, Result};
+ghost use Rattle.std.specs.Prelude.{◌≡◌, ◌≤◌, ◌<◌, ◌^◌, Err, IfOk, Result};
 ghost use Rattle.aoe_base.specs.Faults.{Blamed};
-ghost use Rattle.aoe_initiator.specs.Response.{CanFill};
-ghost use Rattle.aoe_tools.specs.Asking.{CanRead, Response};
-ghost use Rattle.aoe_tools.specs.One.{refusal_of};
+ghost use Rattle.aoe_tools.specs.Asking.{Response};
 ghost use Rattle.aoe_tools.specs.declared.end.ToolRefusal.{ToolRefusal as Refused};
-ghost use Rattle.aoe_tools.specs.TransferAsks.{config_frame, config_question, max_of, page_frame, page_question, port_in, total_in, total_of, unless_refusing, with_args, Asks, Finds};
+ghost use Rattle.aoe_tools.specs.TransferAsks.{config_frame, config_question, max_of, page_frame, page_question, port_in, total_in, Asks, Finds};
 
-use crate::asking::listen;
+use crate::asking::ask;
 use crate::end::ToolRefusal;
-use crate::lists::refusal_of;
-use crate::question::{Ask, Question, Reply, Subject, tag_of};
+use crate::question::{Ask, Subject};
 use crate::request::config_request;
-use aoe_ata::read_identify;
-use aoe_base::{Failed, Mac, TargetId};
+use crate::visiting::total_in;
+use aoe_base::{Mac, TargetId};
 use aoe_frame::{Frame, HEADER_LEN};
-use aoe_initiator::{Answer, Op, write_request};
+use aoe_initiator::{Op, write_request};
 use aoe_io::Link;
 
 /// A device that answered.
-#[derive(Clone, Copy, Debug, PartialEq, Eq)]
+#[derive(Clone, Copy)]
 pub(crate) struct Device {
     /// The address that it answered from.
     pub(crate) port: Mac,
@@ -31,39 +28,6 @@ pub(crate) struct Device {
     pub(crate) total: u64,
 }
 
-/// A response, where it doesn't refuse.
-fn unless_refused(subject: Subject, reply: Reply, args: &[u8]) -> Result<Reply, ToolRefusal>
-    ensures accepted { IfOk result (λ r. (r ≡ reply) × (refusal_of subject reply.answer args.now ≡ None)) }
-    ensures refused { IfErr result (λ e. unless_refusing (refusal_of subject reply.answer args.now) (record { reply = reply; args = args.now }) ≡ Err e) }
-    ensures untold { result ≢ Err ToolRefusal.LinkFault }
-{
-    match refusal_of(subject, reply.answer, args) {
-        Some(refusal) => Err(ToolRefusal::Refused(refusal)),
-        None => Ok(reply),
-    }
-}
-
-/// Asks until the first response that counts, which `frame` holds then.
-fn ask<L: Link>(
-    question: &Question,
-    request: &Frame,
-    turns: u32,
-    link: &mut L,
-    frame: &mut Frame,
-) -> Result<Reply, ToolRefusal>
-    ensures asks { Asks (with_args frame.new.items result) question.now request.now.items turns (record { turns = L.turns link.old; given = L.given link.old; taken = L.taken link.old }) (record { turns = L.turns link.new; given = L.given link.new; taken = L.taken link.new }) }
-    ensures here { IfOk result (λ r. CanRead r.answer frame.new.items) }
-    ensures count { L.faults link.old ≤ L.faults link.new }
-    ensures link { Blamed (result ≡ Err ToolRefusal.LinkFault) (L.faults link.old) (L.faults link.new) }
-{
-    let mut passed = 0;
-    match listen(question, request, turns, &mut passed, link, frame) {
-        Ok(Some(reply)) => unless_refused(question.subject, reply, &frame[HEADER_LEN..]),
-        Ok(None) => Err(ToolRefusal::Unanswered { turns }),
-        Err(Failed) => Err(ToolRefusal::LinkFault),
-    }
-}
-
 /// How many sectors a command has at most, by the arguments of a query config response: as many as
 /// the device says (AoEr11, "Query Config Information", Sector Count), but one or two.
 fn max_of(args: &[u8]) -> u32
@@ -72,27 +36,6 @@ fn max_of(args: &[u8]) -> u32
     match args.get(4) {
         Some(count) if *count > 1 => 2,
         _ => 1,
-    }
-}
-
-/// How many sectors a device has, by the response to IDENTIFY DEVICE; none where its page declares
-/// no number.
-fn total_of(answer: Answer, args: &[u8]) -> u64
-    requires { CanFill answer args.now 512 }
-    ensures value { result ≡ total_of answer args.now }
-    ensures bound { result < 2 ^ 48 }
-{
-    match answer {
-        Answer::Data { .. } => {
-            let mut page = [0u8; 512];
-            page.copy_from_slice(&args[12..524]);
-            read_identify(&page).unwrap_or(0)
-        }
-        Answer::Told { .. }
-        | Answer::Written
-        | Answer::Flushed
-        | Answer::AtaError { .. }
-        | Answer::AoeError(_) => 0,
     }
 }
 
@@ -109,12 +52,7 @@ fn find_port<L: Link>(
     ensures count { L.faults link.old ≤ L.faults link.new }
     ensures link { Blamed (result ≡ Err ToolRefusal.LinkFault) (L.faults link.old) (L.faults link.new) }
 {
-    let question = Question {
-        subject: Subject::Config,
-        id: Some(id),
-        port: ask_by.port,
-        tag: tag_of(first, 0),
-    };
+    let question = ask_by.question(Subject::Config, Some(id), first, 0);
     let mut request = Frame::new();
     config_request(0, b"", id, ask_by.port, question.tag, &mut request);
     let mut frame = Frame::new();
@@ -124,7 +62,7 @@ fn find_port<L: Link>(
     }
 }
 
-/// Asks a device at a port how many sectors it has.
+/// Asks a device at a port how many sectors it has: none where its page declares no number.
 fn find_total<L: Link>(
     ask_by: &Ask,
     id: TargetId,
@@ -138,12 +76,7 @@ fn find_total<L: Link>(
     ensures count { L.faults link.old ≤ L.faults link.new }
     ensures link { Blamed (result ≡ Err ToolRefusal.LinkFault) (L.faults link.old) (L.faults link.new) }
 {
-    let question = Question {
-        subject: Subject::Page,
-        id: Some(id),
-        port: ask_by.port,
-        tag: tag_of(first, 1),
-    };
+    let question = ask_by.question(Subject::Page, Some(id), first, 1);
     let mut request = Frame::new();
     write_request(
         &Op::Identify,
@@ -155,7 +88,7 @@ fn find_total<L: Link>(
     );
     let mut frame = Frame::new();
     match ask(&question, &request, ask_by.turns, link, &mut frame) {
-        Ok(reply) => Ok(total_of(reply.answer, &frame[HEADER_LEN..])),
+        Ok(reply) => Ok(total_in(reply.answer, &frame[HEADER_LEN..]).unwrap_or(0)),
         Err(refusal) => Err(refusal),
     }
 }

@@ -18,8 +18,28 @@ pub struct Ask {
     pub turns: u32,
 }
 
+impl Ask {
+    /// The question of a tool's request number `i`, from 0, by the clock's first answer.
+    pub(crate) fn question(
+        &self,
+        subject: Subject,
+        id: Option<TargetId>,
+        first: u64,
+        i: u64,
+    ) -> Question
+        ensures { result ≡ record { subject = subject; id = id; port = self.now.port; tag = tag_of first i } }
+    {
+        Question {
+            subject,
+            id,
+            port: self.port,
+            tag: tag_of(first, i),
+        }
+    }
+}
+
 /// What a request asks for.
-#[derive(Clone, Copy, Debug, PartialEq, Eq)]
+#[derive(Clone, Copy)]
 pub(crate) enum Subject {
     /// The config string.
     Config,
@@ -49,7 +69,7 @@ impl Subject {
 }
 
 /// What was asked, as far as a response must agree with it.
-#[derive(Clone, Copy, Debug, PartialEq, Eq)]
+#[derive(Clone, Copy)]
 pub(crate) struct Question {
     pub(crate) subject: Subject,
 
@@ -61,7 +81,7 @@ pub(crate) struct Question {
 }
 
 /// A response that counts.
-#[derive(Clone, Copy, Debug, PartialEq, Eq)]
+#[derive(Clone, Copy)]
 pub(crate) struct Reply {
     pub(crate) id: TargetId,
     pub(crate) source: Mac,
@@ -70,7 +90,7 @@ pub(crate) struct Reply {
 
 /// The tag of a tool's request number `i`, from 0, by the clock's first answer. An initiator's tags
 /// begin at 1, so that those of a copy never come near.
-pub(crate) fn tag_of(first: u64, i: u64) -> u32
+fn tag_of(first: u64, i: u64) -> u32
     ensures { result ≡ tag_of first i }
 {
     let low = (u128::from(first) + u128::from(i)) % 0x8000_0000;

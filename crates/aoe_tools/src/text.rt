@@ -13,10 +13,8 @@ fn put_device(alloc: Global, out: &mut Vec<u8>, id: TargetId) -> Result<(), NoMe
     ensures { OnOk result (out.new.items ≡ out.old.items ++ device_text id) }
 {
     let TargetId { major, minor } = id;
-    match format!(in alloc; "e{major}.{minor}") {
-        Ok(name) => put(out, name.as_bytes()),
-        Err(_) => Err(NoMemory),
-    }
+    let name = format!(in alloc; "e{major}.{minor}")?;
+    put(out, name.as_bytes())
 }
 
 /// Adds the line of a device that was found.
@@ -53,10 +51,8 @@ fn put_thousandths(alloc: Global, out: &mut Vec<u8>, n: u64) -> Result<(), NoMem
     ensures { OnOk result (out.new.items ≡ out.old.items ++ thousandths_text n) }
 {
     let whole = n / 1000;
-    match format!(in alloc; "{whole}.") {
-        Ok(text) => put(out, text.as_bytes())?,
-        Err(_) => return Err(NoMemory),
-    }
+    let text = format!(in alloc; "{whole}.")?;
+    put(out, text.as_bytes())?;
     put(out, &[digit_of(n, 100), digit_of(n, 10), digit_of(n, 1)])
 }
 

@@ -34,7 +34,7 @@ const MOST_COMMANDS: u32 = 65_536;
 const DEVICE: DeviceNo = DeviceNo(0);
 
 /// What a turn came to.
-#[derive(Clone, Copy, Debug, PartialEq, Eq)]
+#[derive(Clone, Copy)]
 enum Passed {
     /// All is done, and the turn broke off.
     Over,
@@ -50,7 +50,7 @@ enum Passed {
 #[derive(Drop)]
 pub(crate) struct Transfer {
     host: Initiator,
-    pub(crate) course: Course,
+    course: Course,
 }
 
 /// A list of one port.
@@ -254,5 +254,12 @@ impl Transfer {
             }
         }
         Err(ToolRefusal::Unanswered { turns })
+    }
+
+    /// How far the transfer came.
+    pub(crate) fn into_course(self) -> Course
+        ensures { result ≡ self.course }
+    {
+        self.course
     }
 }

@@ -1,5 +1,5 @@
 //! The tool that finds the devices and asks them for their pages.
-ghost use Rattle.std.specs.Prelude.{◌≡◌, ◌≤◌, ◌<◌, ◌-◌, ◌^◌, Err, length, is_err, true};
+ghost use Rattle.std.specs.Prelude.{◌≡◌, ◌≤◌, ◌<◌, ◌-◌, ◌^◌, Err, IfSome, length, is_err, true};
 ghost use Rattle.aoe_base.specs.Faults.{Blamed};
 ghost use Rattle.aoe_initiator.specs.Response.{CanFill};
 ghost use Rattle.aoe_initiator.specs.declared.op.Op.TheVariants as op;
@@ -12,7 +12,7 @@ use crate::asking::listen;
 use crate::end::ToolRefusal;
 use crate::finding::find;
 use crate::found::{Found, Known, Seen, State};
-use crate::question::{Ask, Question, Subject, tag_of};
+use crate::question::{Ask, Question, Subject};
 use aoe_ata::read_identify;
 use aoe_base::{BROADCAST, Failed, Mac};
 use aoe_frame::{Frame, HEADER_LEN};
@@ -27,9 +27,10 @@ const IS_RESERVED: u8 = 6;
 const REGISTERS_LEN: usize = 12;
 
 /// How many sectors the page of a response declares.
-fn total_in(answer: Answer, args: &[u8]) -> Option<u64>
+pub(crate) fn total_in(answer: Answer, args: &[u8]) -> Option<u64>
     requires { CanFill answer args.now 512 }
-    ensures { result ≡ total_in answer args.now }
+    ensures value { result ≡ total_in answer args.now }
+    ensures bound { IfSome result (λ total. total < 2 ^ 48) }
 {
     match answer {
         Answer::Data { .. } => match args[REGISTERS_LEN..].first_chunk::<512>() {
@@ -121,15 +122,9 @@ fn visit<L: Link>(
     ensures link { Blamed (is_err result ≡ true) (L.faults link.old) (L.faults link.new) }
 {
     let seen = found.device(i);
-    let tag = tag_of(first, i as u64 + 1);
-    let question = Question {
-        subject: Subject::Page,
-        id: Some(seen.id),
-        port: ask.port,
-        tag,
-    };
+    let question = ask.question(Subject::Page, Some(seen.id), first, i as u64 + 1);
     let mut request = Frame::new();
-    page_request(seen, ask.port, tag, &mut request);
+    page_request(seen, ask.port, question.tag, &mut request);
     match ask_page(&question, &request, ask.turns, link) {
         Ok(known) => {
             found.learn(i, known);

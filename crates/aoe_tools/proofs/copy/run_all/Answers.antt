@@ -10,7 +10,7 @@ pub returns-in-Ok-run-clause-runs : goal.returns-in-Ok-run-clause-runs
 returns-in-Ok-run-clause-runs g c =
     let before : LinkState = record { turns = g.L.Link.turns c.args.link.now; given = g.L.Link.given c.args.link.now; taken = g.L.Link.taken c.args.link.now } in
     let after : LinkState = record { turns = g.L.Link.turns c.run.new.link; given = g.L.Link.given c.run.new.link; taken = g.L.Link.taken c.run.new.link } in
-    ran-ok c.args.ask.now c.args.id c.args.device.now c.in-Ok.transfer.host c.args.course c.in-Ok.transfer.course c.run.new.self.course before after _ _ c.in-Ok.ensures.host c.in-Ok.ensures.course c.in-Ok-run.ensures.run
+    rw c.into_course.ensures (ran-ok c.args.ask.now c.args.id c.args.device.now c.in-Ok.transfer.host c.args.course c.in-Ok.transfer.course c.run.new.self.course before after _ _ c.in-Ok.ensures.host c.in-Ok.ensures.course c.in-Ok-run.ensures.run)
 
 pub returns-in-Err-run-clause-runs : goal.returns-in-Err-run-clause-runs
 returns-in-Err-run-clause-runs g c =

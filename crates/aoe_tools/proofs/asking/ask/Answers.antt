@@ -1,9 +1,8 @@
-use Rattle.std.proofs.Common.{◌≡◌, ◌-◌, None, ◌∙◌, ap, drop, length, take}
+use Rattle.std.proofs.Common.{◌≡◌, ◌-◌, ◌∙◌, ap, drop, length, take}
 use Rattle.std.proofs.lemmas.List.{take_rest}
-use Rattle.std.specs.Prelude.{Err}
 use Rattle.aoe_tools.proofs.AskLemmas.{asks-failed, asks-taken, asks-unanswered}
 use Rattle.aoe_tools.specs.TransferAsks.{LinkState}
-use Rattle.aoe_tools.proofs.lookup.ask.Goals as goal
+use Rattle.aoe_tools.proofs.asking.ask.Goals as goal
 
 pub returns-in-Ok-Some-clause-asks : goal.returns-in-Ok-Some-clause-asks
 returns-in-Ok-Some-clause-asks g c =
