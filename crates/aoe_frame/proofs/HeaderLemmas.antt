@@ -1,10 +1,10 @@
 -- What is written as a header is read as it, and what is read as a header was written so.
-use Rattle.std.proofs.Common.{◌≡◌, ℕ, ◌+◌, ◌*◌, ◌/◌, ◌%◌, ◌^◌, ◌<◌, ◌≤◌, inl, inr, List, [], ◌∷◌, ◌++◌, append-nil, length, get_or, drop, take, Some, None, true, false, Bool, refl, sym, ap, subst, ◌∙◌, arith, bit_and}
+use Rattle.std.proofs.Common.{◌≡◌, ℕ, suc, ◌+◌, ◌*◌, ◌/◌, ◌%◌, ◌^◌, ◌<◌, ◌≤◌, inl, inr, List, [], ◌∷◌, ◌++◌, append-nil, length, get_or, drop, take, Some, None, true, false, Bool, refl, sym, ap, subst, ◌∙◌, arith, bit_and}
 use Rattle.std.specs.Prelude.{nat_le, All, if◌then◌else◌, ◌&&◌, ◌==◌}
 use Rattle.std.specs.Int.Bits.{and_zero_r}
 use Rattle.std.proofs.lemmas.Bool.{le-leb, cases_lt}
 use Rattle.std.specs.Int.{w16, w32, to_be_bytes, from_be_bytes}
-use Rattle.std.proofs.Math.Seq.{take-add}
+use Rattle.std.proofs.Math.Seq.{drop-cons, take-add}
 use Rattle.std.proofs.lemmas.Nat.{and_block, div-mul-add, from_be_bytes-to_be_bytes_2, from_be_bytes-to_be_bytes_4, be_bytes_2, be_bytes_4}
 use Rattle.aoe_frame.specs.declared.header.Header.{Header}
 use Rattle.aoe_base.proofs.MacLemmas.{six-is}
@@ -62,6 +62,18 @@ head-spelled h f e fits = let P : List ℕ → Type 0 = λ g. head g ≡ Some h 
 -- four bytes come back from the number that they spell
 pub bytes_of_number : (bytes : List ℕ) (n : ℕ) → length bytes ≡ 4 → All (λ b. b < 2 ^ 8) bytes → n ≡ from_be_bytes w32 bytes → bytes ≡ to_be_bytes w32 n
 bytes_of_number bytes n size small n_is = sym (be_bytes_4 bytes n size (each-small bytes small) n_is)
+
+-- five bytes from the 19th on are the command and the tag
+pub command_and_tag : (f bytes : List ℕ) → 24 ≤ length f → All (λ b. b < 2 ^ 8) bytes → bytes ≡ take 5 (drop 19 f)
+    → bytes ≡ get_or f 19 0 ∷ to_be_bytes w32 (from_be_bytes w32 (take 4 (drop 20 f)))
+command_and_tag f bytes long small is =
+    let inside : 19 < length f = omega arith in
+    let split : take 5 (drop 19 f) ≡ get_or f 19 0 ∷ take 4 (drop 20 f) = rw (drop-cons f 19 0 inside) refl in
+    let size : length (take 4 (drop 20 f)) ≡ 4 = ap length (four-at f 20 (omega arith)) in
+    let P : List ℕ → Type 0 = λ l. All (λ b. b < 2 ^ 8) l in
+    let whole : P (get_or f 19 0 ∷ take 4 (drop 20 f)) = subst P (is ∙ split) small in
+    let each : P (take 4 (drop 20 f)) = λ k d below. whole (suc k) d (omega arith) in
+    is ∙ split ∙ ap (λ (l : List ℕ). get_or f 19 0 ∷ l) (bytes_of_number (take 4 (drop 20 f)) (from_be_bytes w32 (take 4 (drop 20 f))) size each refl)
 
 -- what a frame that is read as a header has
 record Read (h : Header) (f : List ℕ) : Type 0 where

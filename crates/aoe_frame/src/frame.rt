@@ -19,9 +19,10 @@ pub const MAX_FRAME: usize = 9018;
 /// Zeros for the bytes that a frame grows by.
 static ZEROS: [u8; MAX_FRAME] = [0; MAX_FRAME];
 
-/// Makes `out` `len` bytes long. They are what stood there, and zeros behind it. A frame of that
-/// length isn't written to.
-pub fn stretch(out: &mut Frame, len: usize)
+/// Makes `out` `len` bytes long, where it has another length.
+#[cold]
+#[inline(never)]
+fn change_len(out: &mut Frame, len: usize)
     requires { len ≤ 9018 }
     ensures bytes { out.new.items ≡ stretched len out.old.items }
     ensures len { length out.new.items ≡ len }
@@ -31,6 +32,19 @@ pub fn stretch(out: &mut Frame, len: usize)
     } else if out.len() < len {
         let missing = len - out.len();
         append(out, &ZEROS[..missing]);
+    }
+}
+
+/// Makes `out` `len` bytes long. They are what stood there, and zeros behind it. A frame of that
+/// length isn't written to.
+#[inline(always)]
+pub fn stretch(out: &mut Frame, len: usize)
+    requires { len ≤ 9018 }
+    ensures bytes { out.new.items ≡ stretched len out.old.items }
+    ensures len { length out.new.items ≡ len }
+{
+    if out.len() != len {
+        change_len(out, len);
     }
 }
 

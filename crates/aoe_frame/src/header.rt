@@ -112,7 +112,7 @@ impl<'a> Model for HeaderView<'a> {
 }
 
 impl<'a> HeaderView<'a> {
-    ghost use Rattle.std.specs.Prelude.{◌≡◌, ◌≤◌, IfSome, is_some, length};
+    ghost use Rattle.std.specs.Prelude.{◌≡◌, ◌≤◌, ◌∷◌, IfSome, is_some, length};
     ghost use Rattle.std.specs.Int.{w32, to_be_bytes};
     ghost use Rattle.aoe_frame.specs.Header.{fields, head};
 
@@ -177,18 +177,18 @@ impl<'a> HeaderView<'a> {
         self.frame[19]
     }
 
-    /// The bytes of the tag.
+    /// The bytes of the command and the tag, which a reply repeats.
     #[inline(always)]
-    #[tactic(auto, using(crate::proofs::HeaderLemmas::bytes_of_number))]
-    fn tag(&self) -> [u8; 4]
-        ensures { result ≡ to_be_bytes w32 self.now.tag }
+    #[tactic(auto, using(crate::proofs::HeaderLemmas::command_and_tag))]
+    fn ending(&self) -> [u8; 5]
+        ensures { result ≡ self.now.command ∷ to_be_bytes w32 self.now.tag }
     {
-        array_at::<4>(self.frame, 20)
+        array_at::<5>(self.frame, 19)
     }
 }
 
-/// Writes the fields of a header over a place of 24 bytes. The addresses come by reference, so that
-/// each is copied once.
+/// Writes the fields of a header over a place of 24 bytes, with the bytes of the command and the tag
+/// at its end. The addresses come by reference, so that each is copied once.
 #[inline(always)]
 fn put_fields(
     dst: &Mac,
@@ -196,13 +196,12 @@ fn put_fields(
     shared: u8,
     error: u8,
     id: TargetId,
-    command: u8,
-    tag: &[u8; 4],
+    ending: &[u8; 5],
     out: &mut [u8],
 )
     requires { length out.old ≡ 24 }
     ensures bytes { out.new ≡ dst.now.0 ++ src.now.0 ++ (136 ∷ 162 ∷ []) ++ (shared ∷ error ∷ [])
-        ++ to_be_bytes w16 id.major ++ (id.minor ∷ command ∷ []) ++ tag.now }
+        ++ to_be_bytes w16 id.major ++ (id.minor ∷ []) ++ ending.now }
     ensures dst { length dst.now.0 ≡ 6 }
     ensures src { length src.now.0 ≡ 6 }
 {
@@ -212,14 +211,14 @@ fn put_fields(
     let (type_place, out) = out.split_at_mut(2);
     let (shared_place, out) = out.split_at_mut(2);
     let (major_place, out) = out.split_at_mut(2);
-    let (minor_place, tag_place) = out.split_at_mut(2);
+    let (minor_place, end_place) = out.split_at_mut(1);
     dst_place.copy_from_slice(&dst.0);
     src_place.copy_from_slice(&src.0);
     type_place.copy_from_slice(&[type_high, type_low]);
     shared_place.copy_from_slice(&[shared, error]);
     major_place.copy_from_slice(&id.major.to_be_bytes());
-    minor_place.copy_from_slice(&[id.minor, command]);
-    tag_place.copy_from_slice(tag);
+    minor_place.copy_from_slice(&[id.minor]);
+    end_place.copy_from_slice(ending);
 }
 
 /// Writes the header over a place of 24 bytes.
@@ -232,14 +231,14 @@ fn put_header(header: &Header, out: &mut [u8])
     ensures fits { Fits header.now }
 {
     let shared = header.version * 16 + header.flags;
+    let [a, b, c, d] = header.tag.to_be_bytes();
     put_fields(
         &header.dst,
         &header.src,
         shared,
         header.error,
         header.id,
-        header.command,
-        &header.tag.to_be_bytes(),
+        &[header.command, a, b, c, d],
         out,
     );
 }
@@ -267,8 +266,7 @@ pub fn put_turned(
         16 + flags,
         error.unwrap_or(0),
         id,
-        request.command(),
-        &request.tag(),
+        &request.ending(),
         out,
     );
 }
