@@ -3,3 +3,4 @@ mod AnswerLemmas
 pub mod ChangeLemmas
 mod EditLemmas
 mod PieceLemmas
+mod ReadLemmas

@@ -8,10 +8,11 @@
 //! | 5 | 1 | AoE version (high 4 bits), CCmd (low 4 bits) |
 //! | 6 | 2 | length of the string |
 //! | 8 | | string |
-ghost use Rattle.std.specs.Prelude.{◌≡◌, ◌≢◌, ◌≤◌, IfSome, length};
+ghost use Rattle.std.specs.Prelude.{◌≡◌, ◌≢◌, ◌+◌, ◌≤◌, [], ◌∷◌, ◌++◌, IfSome, length};
+ghost use Rattle.std.specs.Int.{w16, to_be_bytes};
 ghost use Rattle.std.specs.Option.{option_map};
 ghost use Rattle.aoe_lists.specs.Config.{config_answer, config_args, config_code, config_command_of, config_result, config_request};
-ghost use Rattle.aoe_lists.specs.Step.{step_with, success_of};
+ghost use Rattle.aoe_lists.specs.Step.{reply_of, step_with, success_of};
 
 use crate::lists::refill;
 use crate::{Answer, Args, Lists, MAX_CONFIG};
@@ -106,29 +107,35 @@ fn read_request(bytes: &[u8]) -> Option<(ConfigCommand, &[u8])>
     Some((command, &rest[..len]))
 }
 
+/// The bytes in front of a string of this length in the arguments of a reply.
+#[inline(always)]
+fn front(facts: &Facts, command: ConfigCommand, len: u16) -> [u8; 8]
+    ensures { result ≡ to_be_bytes w16 facts.now.buffers ++ to_be_bytes w16 facts.now.firmware
+        ++ (facts.now.max ∷ (16 + config_code command) ∷ []) ++ to_be_bytes w16 len }
+{
+    let [buffers_high, buffers_low] = facts.buffers.to_be_bytes();
+    let [firmware_high, firmware_low] = facts.firmware.to_be_bytes();
+    let version_command = AOE_VERSION * 16 + command.code();
+    let [len_high, len_low] = len.to_be_bytes();
+    [
+        buffers_high,
+        buffers_low,
+        firmware_high,
+        firmware_low,
+        facts.max,
+        version_command,
+        len_high,
+        len_low,
+    ]
+}
+
 /// Makes `args` those of a reply, with the string that stands after the request.
 fn write_args(facts: &Facts, command: ConfigCommand, string: &[u8], args: &mut Args)
     requires { length string.now ≤ 1024 }
     ensures { args.new.items ≡ config_args facts.now command string.now }
 {
-    let [buffers_high, buffers_low] = facts.buffers.to_be_bytes();
-    let [firmware_high, firmware_low] = facts.firmware.to_be_bytes();
-    let version_command = AOE_VERSION * 16 + command.code();
-    let [len_high, len_low] = (string.len() as u16).to_be_bytes();
     args.clear();
-    append(
-        args,
-        &[
-            buffers_high,
-            buffers_low,
-            firmware_high,
-            firmware_low,
-            facts.max,
-            version_command,
-            len_high,
-            len_low,
-        ],
-    );
+    append(args, &front(facts, command, string.len() as u16));
     append(args, string);
 }
 
@@ -199,6 +206,18 @@ fn act(
             set(lists, facts, command, string, next, args)
         }
     }
+}
+
+/// The arguments of the reply to a request that reads an empty string, and `None` for any other
+/// request. They are what [`config_step`] writes, without a step.
+#[inline(always)]
+pub fn empty_config_args(lists: &Lists, facts: &Facts, bytes: &[u8]) -> Option<[u8; 8]>
+    ensures { IfSome result (λ args. config_answer lists.now facts.now bytes.now ≡ reply_of args) }
+{
+    if !lists.config.is_empty() || bytes.len() < STRING_AT || bytes[5] % 16 != 0 {
+        return None;
+    }
+    Some(front(facts, ConfigCommand::Read, 0))
 }
 
 /// What a query config request comes to. `bytes` are those of its frame from byte 24 on. `args`

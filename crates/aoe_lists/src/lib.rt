@@ -19,10 +19,11 @@ mod reserves;
 
 pub use answer::Answer;
 pub use args::{Args, MAX_ARGS};
-pub use config::{ConfigCommand, Facts, config_step};
+pub use config::{ConfigCommand, Facts, config_step, empty_config_args};
 pub use dir::{Dir, MAX_DIRS};
 pub use lists::{
-    AddressList, Lists, MAX_ADDRESSES, MAX_CONFIG, admits, may_use, same_settings_is_equality,
+    AddressList, Lists, MAX_ADDRESSES, MAX_CONFIG, admits, answers_all, may_use,
+    same_settings_is_equality, serves_all,
 };
 pub use masks::{Directive, MaskCommand, MaskError, mask_step};
 pub use reserves::{ReserveCommand, reserve_step, reserves_are_the_given_stations};

@@ -82,7 +82,26 @@ impl Lists {
     }
 }
 
+/// Whether every station is answered: the mask list is empty.
+#[inline(always)]
+pub fn answers_all(lists: &Lists) -> bool
+    ensures means { IsTrue result ↔ (lists.now.masks ≡ []) }
+    ensures all { result ≡ true → (source : Mac) → is_admitted lists.now source ≡ true }
+{
+    lists.masks.is_empty()
+}
+
+/// Whether every station's ATA commands are done: the reserve list is empty.
+#[inline(always)]
+pub fn serves_all(lists: &Lists) -> bool
+    ensures means { IsTrue result ↔ (lists.now.reserves ≡ []) }
+    ensures all { result ≡ true → (source : Mac) → is_user lists.now source ≡ true }
+{
+    lists.reserves.is_empty()
+}
+
 /// Whether a station is answered at all: the mask list is empty or has it.
+#[inline(never)]
 pub fn admits(lists: &Lists, source: Mac) -> bool
     ensures value { result ≡ is_admitted lists.now source }
     ensures means { IsTrue result ↔ ((lists.now.masks ≡ []) ⊎ Contains lists.now.masks source) }
@@ -91,6 +110,7 @@ pub fn admits(lists: &Lists, source: Mac) -> bool
 }
 
 /// Whether a station's ATA commands are done: the reserve list is empty or has it.
+#[inline(never)]
 pub fn may_use(lists: &Lists, source: Mac) -> bool
     ensures value { result ≡ is_user lists.now source }
     ensures means { IsTrue result ↔ ((lists.now.reserves ≡ []) ⊎ Contains lists.now.reserves source) }
