@@ -2,6 +2,7 @@ mod AddressNumbers
 pub mod DeviceLemmas
 pub mod LawLemmas
 mod PieceLemmas
+mod PortLemmas
 mod ReceiveLemmas
 mod ReplyLemmas
 pub mod SectorLemmas

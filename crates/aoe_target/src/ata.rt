@@ -1,5 +1,5 @@
 //! What the ATA commands that reach the store do to it.
-ghost use Rattle.std.specs.Prelude.{◌≡◌, ◌+◌, ◌*◌, ◌≤◌, [], ◌∷◌, ◌++◌, None, true, false, is_err, length, take, drop};
+ghost use Rattle.std.specs.Prelude.{◌≡◌, ◌+◌, ◌*◌, ◌≤◌, [], ◌∷◌, ◌++◌, None, true, false, is_err, length, take, drop, OnErr, OnOk};
 ghost use Rattle.std.specs.Bool.{OnTrue};
 ghost use Rattle.std.specs.Option.{option_map};
 ghost use Rattle.aoe_base.specs.Faults.{Rose};
@@ -88,33 +88,35 @@ fn give<S: Store>(
     }
 }
 
-/// Reads sectors, and replies without them. The frame serves as the place to read them into.
+/// Reads sectors, and replies without them. The frame serves as the place to read them into. The
+/// result is a small one, for which the caller makes no room.
 #[inline(never)]
 fn verify<S: Store>(
     store: &mut S,
     station: &Station,
     header: &HeaderView<'_>,
-    args: &AtaArgs,
+    args: AtaArgs,
     span: Span,
     out: &mut Frame,
-) -> Effect
+) -> Result<(), Failed>
     requires mounted { FitsStore station.now (S.state store.old) }
     requires range { InRange station.now.sectors station.now.max span }
-    ensures verifies { Verifies station.now header.now args.now result out.new.items }
+    ensures done { OnOk result (Verifies station.now header.now args Effect.None out.new.items) }
+    ensures failed { OnErr result (Verifies station.now header.now args Effect.ReadFault out.new.items) }
     ensures same { (S.state store.new).contents ≡ (S.state store.old).contents }
-    ensures call { IsRun 1 (is_fault result) (S.state store.old) (S.state store.new) }
+    ensures call { IsRun 1 (is_err result) (S.state store.old) (S.state store.new) }
     ensures log { Logs (ata_calls [] (AtaAnswer.Verify span)) (S.state store.old) (S.state store.new) }
-    ensures under { BothTell (ReadsUnder (is_fault result)) (S.under store.old) (S.under store.new) }
+    ensures under { BothTell (ReadsUnder (is_err result)) (S.under store.old) (S.under store.new) }
 {
-    begin_data(station, header, args, span.count, out);
+    begin_data(station, header, &args, span.count, out);
     match read_into(store, span, out) {
         Ok(()) => {
-            reply_apart(station, header, *args, AtaOutcome::Done, out);
-            Effect::None
+            reply_apart(station, header, args, AtaOutcome::Done, out);
+            Ok(())
         }
         Err(Failed) => {
-            reply_apart(station, header, *args, AtaOutcome::Uncorrectable, out);
-            Effect::ReadFault
+            reply_apart(station, header, args, AtaOutcome::Uncorrectable, out);
+            Err(Failed)
         }
     }
 }
@@ -160,24 +162,27 @@ fn sync<S: Store>(
     station: &Station,
     header: &HeaderView<'_>,
     frame: &[u8],
-    args: &AtaArgs,
+    args: AtaArgs,
     out: &mut Frame,
-) -> Effect
-    ensures syncs { AnswersSync station.now header.now args.now result out.new.items }
-    ensures leaves { Leaves frame.now AtaAnswer.Sync result out.new.items
-        (S.state store.old).contents (S.state store.new).contents }
-    ensures call { IsRun 1 (is_fault result) (S.state store.old) (S.state store.new) }
+) -> Result<(), Failed>
+    ensures done { OnOk result (AnswersSync station.now header.now args Effect.Synced out.new.items) }
+    ensures failed { OnErr result (AnswersSync station.now header.now args Effect.SyncFault out.new.items) }
+    ensures kept { OnOk result (Leaves frame.now AtaAnswer.Sync Effect.Synced out.new.items
+        (S.state store.old).contents (S.state store.new).contents) }
+    ensures left { OnErr result (Leaves frame.now AtaAnswer.Sync Effect.SyncFault out.new.items
+        (S.state store.old).contents (S.state store.new).contents) }
+    ensures call { IsRun 1 (is_err result) (S.state store.old) (S.state store.new) }
     ensures log { Logs (ata_calls frame.now AtaAnswer.Sync) (S.state store.old) (S.state store.new) }
-    ensures under { BothTell (FreesUnder (is_fault result) (S.state store.old).contents) (S.under store.old) (S.under store.new) }
+    ensures under { BothTell (FreesUnder (is_err result) (S.state store.old).contents) (S.under store.old) (S.under store.new) }
 {
     match store.sync() {
         Ok(()) => {
-            reply_apart(station, header, *args, AtaOutcome::Done, out);
-            Effect::Synced
+            reply_apart(station, header, args, AtaOutcome::Done, out);
+            Ok(())
         }
         Err(Failed) => {
-            reply_apart(station, header, *args, AtaOutcome::Aborted, out);
-            Effect::SyncFault
+            reply_apart(station, header, args, AtaOutcome::Aborted, out);
+            Err(Failed)
         }
     }
 }
@@ -227,7 +232,13 @@ pub(crate) fn serve<S: Store>(
         }
         AtaAnswer::Give(span) => give(store, station, header, args, span, out),
         AtaAnswer::Put(span) => put(store, station, header, frame, args, span, out),
-        AtaAnswer::Verify(span) => verify(store, station, header, args, span, out),
-        AtaAnswer::Sync => sync(store, station, header, frame, args, out),
+        AtaAnswer::Verify(span) => match verify(store, station, header, *args, span, out) {
+            Ok(()) => Effect::None,
+            Err(Failed) => Effect::ReadFault,
+        },
+        AtaAnswer::Sync => match sync(store, station, header, frame, *args, out) {
+            Ok(()) => Effect::Synced,
+            Err(Failed) => Effect::SyncFault,
+        },
     }
 }

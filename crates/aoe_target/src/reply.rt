@@ -1,12 +1,12 @@
 //! The bytes of replies.
 ghost use Rattle.std.specs.Prelude.{◌≡◌, ◌^◌, ◌≤◌, ◌++◌, ◌+◌, Some, None, take, length, slice_range};
 ghost use Rattle.std.specs.Option.{option_map};
-ghost use Rattle.aoe_frame.specs.Header.{fields, padded};
+ghost use Rattle.aoe_frame.specs.Header.{fields, header_bytes, padded, reply_header};
 ghost use Rattle.aoe_base.specs.Refusal.{code_of_error};
 ghost use Rattle.aoe_ata.specs.Args.{args_bytes};
 ghost use Rattle.aoe_ata.specs.Reply.{reply_of};
 ghost use Rattle.aoe_ata.specs.declared.reply.AtaOutcome.{AtaOutcome};
-ghost use Rattle.aoe_target.specs.Reply.{reply_head, spelled, step_reply, ata_reply, data_reply, identity};
+ghost use Rattle.aoe_target.specs.Reply.{reply_head, reply_port, spelled, step_reply, ata_reply, data_reply, identity};
 
 use crate::Station;
 use aoe_ata::{
@@ -21,6 +21,16 @@ pub(crate) const DATA_AT: usize = HEADER_LEN + ARGS_LEN;
 /// The most arguments of a reply that has no more than the least length.
 const MAX_SHORT: usize = MIN_FRAME - HEADER_LEN;
 
+/// Writes the header of a reply of a shelf with several ports over a place of 24 bytes.
+#[cold]
+#[inline(never)]
+fn put_head_of(station: &Station, header: &HeaderView<'_>, code: Option<u8>, out: &mut [u8])
+    requires { length out.old ≡ 24 }
+    ensures { out.new ≡ header_bytes (reply_header header.now station.now.id (reply_port station.now header.now) code) }
+{
+    put_turned(header, station.id, &station.reply_port(header), code, out);
+}
+
 /// Writes the header of a reply over a place of 24 bytes.
 #[inline(always)]
 fn put_head(station: &Station, header: &HeaderView<'_>, error: Option<AoeError>, out: &mut [u8])
@@ -31,7 +41,10 @@ fn put_head(station: &Station, header: &HeaderView<'_>, error: Option<AoeError>,
         Some(error) => Some(error.code()),
         None => None,
     };
-    put_turned(header, station.id, &station.reply_port(header), code, out);
+    match station.only_port() {
+        Some(port) => put_turned(header, station.id, &port, code, out),
+        None => put_head_of(station, header, code, out),
+    }
 }
 
 /// Writes a reply of the least length over a place of as many bytes.

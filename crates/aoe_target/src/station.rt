@@ -1,7 +1,8 @@
 //! The constant part of a target: its name, ports and size.
-ghost use Rattle.std.specs.Prelude.{◌≡◌, ◌<◌, ◌^◌, All, length, slice_range};
+ghost use Rattle.std.specs.Prelude.{◌≡◌, ◌<◌, ◌^◌, All, IfSome, length, slice_range};
 ghost use Rattle.std.specs.Int.{w16, w32, from_be_bytes};
 ghost use Rattle.aoe_base.specs.Addresses.{holds, same_address};
+ghost use Rattle.aoe_frame.specs.declared.header.Header.{Header};
 ghost use Rattle.aoe_target.specs.Verdict.{is_heard, facts};
 ghost use Rattle.aoe_target.specs.Reply.{reply_port};
 
@@ -82,14 +83,15 @@ fn is_among(ports: &[Mac], address: Mac) -> bool
 }
 
 impl Station {
-    /// Whether an address is a port of the shelf. Most shelves have one, with which one comparison does.
+    /// Whether a request went to a port of the shelf. Most shelves have one, with which one comparison
+    /// does.
     #[inline(always)]
-    fn has_port(&self, address: Mac) -> bool
-        ensures { result ≡ holds self.now.ports.items address }
+    fn has_port(&self, header: &HeaderView<'_>) -> bool
+        ensures { result ≡ holds self.now.ports.items header.now.dst }
     {
         match self.ports.as_slice() {
-            [port] => is_same(*port, address),
-            ports => is_among(ports, address),
+            [port] => is_same(*port, header.dst()),
+            ports => is_among(ports, header.dst()),
         }
     }
 
@@ -99,22 +101,31 @@ impl Station {
     pub(crate) fn hears(&self, header: &HeaderView<'_>) -> bool
         ensures { result ≡ is_heard self.now header.now }
     {
-        let dst = header.dst();
         let id = header.id();
-        (self.has_port(dst) || is_same(dst, BROADCAST))
+        (self.has_port(header) || is_same(header.dst(), BROADCAST))
             && header.flags() < RESPONSE_FLAG
             && (id.major == self.id.major || id.major == ANY_SHELF)
             && (id.minor == self.id.minor || id.minor == ANY_SLOT)
     }
 
+    /// The port of a shelf that has one, from which each of its replies comes.
+    #[inline(always)]
+    pub(crate) fn only_port(&self) -> Option<Mac>
+        ensures { IfSome result (λ port. (h : Header) → reply_port self.now h ≡ port) }
+    {
+        match self.ports.as_slice() {
+            [port] => Some(*port),
+            _ => None,
+        }
+    }
+
     /// The port that a reply comes from: the one that the request went to, and the first where it
     /// went to all stations.
-    #[inline(always)]
     pub(crate) fn reply_port(&self, header: &HeaderView<'_>) -> Mac
         ensures { result ≡ reply_port self.now header.now }
     {
         let dst = header.dst();
-        if self.has_port(dst) {
+        if is_among(self.ports.as_slice(), dst) {
             return dst;
         }
         match self.ports.first() {

@@ -1,5 +1,5 @@
 //! A target: what it is told and what becomes of each frame.
-ghost use Rattle.std.specs.Prelude.{◌≡◌, ◌≢◌, ◌≤◌, [], true, false, is_err, length, OnErr, OnOk};
+ghost use Rattle.std.specs.Prelude.{◌≡◌, ◌≢◌, ◌≤◌, [], true, false, is_err, length, IfSome, OnErr, OnOk};
 ghost use Rattle.std.specs.Bool.{OnTrue};
 ghost use Rattle.aoe_base.specs.Faults.{Rose};
 ghost use Rattle.aoe_disk.specs.Calls.{IsRun};
@@ -7,6 +7,7 @@ ghost use Rattle.aoe_keep.specs.Calls.{ReplacesBy};
 ghost use Rattle.aoe_keep.specs.Found.{AlwaysFinds, FindsOffered};
 ghost use Rattle.aoe_keep.specs.Keep.{KeepsOthers};
 ghost use Rattle.aoe_frame.specs.Header.{fields};
+ghost use Rattle.aoe_lists.specs.Step.{reply_of};
 ghost use Rattle.aoe_target.specs.Law.{AllowsStep, step_of};
 ghost use Rattle.aoe_target.specs.Receive.{fate_of, is_change, is_faulty, is_unkept, KeepsStep, Replaces};
 
@@ -19,7 +20,7 @@ use aoe_base::{AoeError, Failed, Ports, TargetId};
 use aoe_disk::{Arm, Armed, Disk};
 use aoe_frame::{Frame, HeaderView};
 use aoe_keep::Keep;
-use aoe_lists::{Answer, Lists};
+use aoe_lists::{Answer, Lists, empty_config_args};
 use aoe_store::{ArmedStore, Store};
 use std::marker::Model;
 
@@ -62,9 +63,9 @@ fn replace<D: Disk>(keep: &mut Keep<D>, next: &Lists) -> Result<(), Failed>
     keep.replace(next)
 }
 
-/// Does what a request comes to that reads or changes the lists.
-#[inline(always)]
-fn tell<D: Disk>(
+/// Does what a request comes to that reads or changes the lists, by a step.
+#[inline(never)]
+fn tell_step<D: Disk>(
     station: &Station,
     keep: &mut Keep<D>,
     header: &HeaderView<'_>,
@@ -121,6 +122,59 @@ fn tell<D: Disk>(
                 }
             }
         },
+    }
+}
+
+/// The arguments of the reply to a query of an empty config string, which needs no step.
+#[inline(always)]
+fn empty_string(
+    station: &Station,
+    lists: &Lists,
+    frame: &[u8],
+    command: ListCommand,
+) -> Option<[u8; 8]>
+    requires { 24 ≤ length frame.now }
+    ensures { IfSome result (λ args. step_of station.now lists.now frame.now command ≡ reply_of args) }
+{
+    match command {
+        ListCommand::Config => empty_config_args(lists, &station.facts(), args_of(frame)),
+        ListCommand::Masks | ListCommand::Reserves => None,
+    }
+}
+
+/// Does what a request comes to that reads or changes the lists.
+#[inline(always)]
+fn tell<D: Disk>(
+    station: &Station,
+    keep: &mut Keep<D>,
+    header: &HeaderView<'_>,
+    frame: &[u8],
+    command: ListCommand,
+    scratch: &mut Scratch,
+    out: &mut Frame,
+) -> Heard
+    requires header { header.now ≡ fields frame.now }
+    requires len { 24 ≤ length frame.now }
+    ensures allowed { AllowsStep station.now frame.now (step_of station.now keep.old.lists frame.now command)
+        (fate_of result out.new.items) }
+    ensures keeps { KeepsStep (step_of station.now keep.old.lists frame.now command) result
+        keep.old.lists keep.new.lists (D.state keep.old.disk) (D.state keep.new.disk) }
+    ensures no_fault { is_faulty result ≡ false }
+    ensures heard { result ≢ Heard.Ignored }
+    ensures empty { result ≡ Heard.Silent → out.new.items ≡ [] }
+    ensures edit { OnTrue (is_change (step_of station.now keep.old.lists frame.now command))
+        (Replaces (is_unkept result) (D.state keep.old.disk) (D.state keep.new.disk)) }
+    ensures idle { is_change (step_of station.now keep.old.lists frame.now command) ≡ false → keep.new ≡ keep.old }
+    ensures unkept { is_unkept result ≡ true → Rose (D.state keep.old.disk).faults (D.state keep.new.disk).faults }
+{
+    match empty_string(station, keep.lists(), frame, command) {
+        Some(args) => {
+            reply(station, header, None, &args, out);
+            Heard::Replied {
+                effect: Effect::None,
+            }
+        }
+        None => tell_step(station, keep, header, frame, command, scratch, out),
     }
 }
 

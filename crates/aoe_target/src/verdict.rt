@@ -2,6 +2,7 @@
 //! decides.
 ghost use Rattle.std.specs.Prelude.{◌≡◌, ◌≤◌, IfSome, drop, is_some, length};
 ghost use Rattle.aoe_frame.specs.Header.{fields, head};
+ghost use Rattle.aoe_lists.specs.Settings.{admits, may_use};
 ghost use Rattle.aoe_lists.specs.Step.{step_with};
 ghost use Rattle.aoe_target.specs.Verdict.{ata_verdict, judged, list_step, CanAct};
 
@@ -10,7 +11,9 @@ use crate::scratch::Scratch;
 use aoe_ata::{AtaDecision, decide};
 use aoe_base::{AoeError, Mac};
 use aoe_frame::{HEADER_LEN, HeaderView};
-use aoe_lists::{Answer, Lists, admits, config_step, mask_step, may_use, reserve_step};
+use aoe_lists::{
+    Answer, Lists, admits, answers_all, config_step, mask_step, may_use, reserve_step, serves_all,
+};
 
 /// The command "ATA" (AoEr11, "Command").
 const ATA: u8 = 0;
@@ -73,13 +76,30 @@ pub(crate) fn args_of(frame: &[u8]) -> &[u8]
     &frame[HEADER_LEN..]
 }
 
-/// What a target does with an ATA command of a station.
+/// Whether the target answers the source of a frame. Where it answers every station, the source isn't
+/// read.
 #[inline(always)]
-fn judge_ata(station: &Station, lists: &Lists, source: Mac, args: &[u8]) -> Verdict
-    ensures verdict { result ≡ ata_verdict station.now lists.now source args.now }
+fn is_admitted(lists: &Lists, header: &HeaderView<'_>) -> bool
+    ensures { result ≡ admits lists.now header.now.src }
+{
+    answers_all(lists) || admits(lists, header.src())
+}
+
+/// Whether the target does ATA commands of the source of a frame.
+#[inline(always)]
+fn is_served(lists: &Lists, header: &HeaderView<'_>) -> bool
+    ensures { result ≡ may_use lists.now header.now.src }
+{
+    serves_all(lists) || may_use(lists, header.src())
+}
+
+/// What a target does with an ATA command.
+#[inline(always)]
+fn judge_ata(station: &Station, lists: &Lists, header: &HeaderView<'_>, args: &[u8]) -> Verdict
+    ensures verdict { result ≡ ata_verdict station.now lists.now header.now.src args.now }
     ensures can_act { CanAct station.now args.now result }
 {
-    if !may_use(lists, source) {
+    if !is_served(lists, header) {
         return Verdict::Refused(AoeError::TargetIsReserved);
     }
     match decide(station.sectors, station.max, args) {
@@ -102,14 +122,14 @@ pub(crate) fn judge(
     if !station.hears(header) {
         return Verdict::Ignored;
     }
-    if !admits(lists, header.src()) {
+    if !is_admitted(lists, header) {
         return Verdict::Silent;
     }
     if header.version() != AOE_VERSION {
         return Verdict::Refused(AoeError::UnsupportedVersion);
     }
     match header.command() {
-        ATA => judge_ata(station, lists, header.src(), args),
+        ATA => judge_ata(station, lists, header, args),
         QUERY_CONFIG => Verdict::Lists(ListCommand::Config),
         MASK_LIST => Verdict::Lists(ListCommand::Masks),
         RESERVE_RELEASE => Verdict::Lists(ListCommand::Reserves),
