@@ -8,7 +8,7 @@
 //! | 5 | 1 | AoE version (high 4 bits), CCmd (low 4 bits) |
 //! | 6 | 2 | length of the string |
 //! | 8 | | string |
-ghost use Rattle.std.specs.Prelude.{◌≡◌, ◌≢◌, ◌+◌, ◌≤◌, [], ◌∷◌, ◌++◌, IfSome, length};
+ghost use Rattle.std.specs.Prelude.{◌≡◌, ◌≢◌, ◌+◌, ◌≤◌, [], ◌∷◌, ◌++◌, IfSome, IsSome, Some, length};
 ghost use Rattle.std.specs.Int.{w16, to_be_bytes};
 ghost use Rattle.std.specs.Option.{option_map};
 ghost use Rattle.aoe_lists.specs.Config.{config_answer, config_args, config_code, config_command_of, config_result, config_request};
@@ -212,7 +212,8 @@ fn act(
 /// request. They are what [`config_step`] writes, without a step.
 #[inline(always)]
 pub fn empty_config_args(lists: &Lists, facts: &Facts, bytes: &[u8]) -> Option<[u8; 8]>
-    ensures { IfSome result (λ args. config_answer lists.now facts.now bytes.now ≡ reply_of args) }
+    ensures args { IfSome result (λ args. config_answer lists.now facts.now bytes.now ≡ reply_of args) }
+    ensures told { lists.now.config ≡ [] → config_request bytes.now ≡ Some (ConfigCommand.Read, []) → IsSome result }
 {
     if !lists.config.is_empty() || bytes.len() < STRING_AT || bytes[5] % 16 != 0 {
         return None;
