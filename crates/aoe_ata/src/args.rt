@@ -117,30 +117,3 @@ pub fn args_spelling_is_one()
     ensures { (args : AtaArgs) (bytes : List ℕ) → All (λ b. b < 2 ^ 8) bytes → slice_index bytes 10 ≡ 0 → slice_index bytes 11 ≡ 0
         → args_of bytes ≡ Some args → take 12 bytes ≡ args_bytes args }
 {}
-
-#[cfg(test)]
-mod tests {
-    use super::*;
-    use crate::CommandCode;
-
-    #[test]
-    fn registers_go_both_ways(rt: HostRuntime) {
-        let bytes = [
-            0x41, 0, 2, 0x34, 0x0f, 0x0e, 0x0d, 0x0c, 0x0b, 0x0a, 0xee, 0xee,
-        ];
-        let args = AtaArgs {
-            aflags: AFLAG_EXTENDED | AFLAG_WRITE,
-            feature: 0,
-            count: 2,
-            code: CommandCode::WriteSectorsExt.code(),
-            lba: 0x0a0b_0c0d_0e0f,
-        };
-        assert_eq!(rt; read_args(&bytes), Some(args));
-        assert_eq!(rt; read_args(&bytes[..11]), None);
-
-        let mut out = Frame::new();
-        write_args(&args, &mut out);
-        assert_eq!(rt; &out[..10], &bytes[..10]);
-        assert_eq!(rt; &out[10..], [0, 0].as_slice());
-    }
-}

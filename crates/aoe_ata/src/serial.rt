@@ -34,19 +34,3 @@ pub fn serial_number(id: TargetId) -> [u8; 20]
     serial[..name.len()].copy_from_slice(name.as_slice());
     serial
 }
-
-#[cfg(test)]
-mod tests {
-    use super::*;
-
-    #[test]
-    fn names_filled_with_spaces(rt: HostRuntime) {
-        let first = TargetId { major: 1, minor: 0 };
-        assert_eq!(rt; &serial_number(first), b"e1.0                ");
-        let last = TargetId {
-            major: 65534,
-            minor: 254,
-        };
-        assert_eq!(rt; &serial_number(last), b"e65534.254          ");
-    }
-}

@@ -85,24 +85,3 @@ pub fn copy_of<T: Copy + Default + Drop, const CAP: usize>(
     let _ = copy.try_extend_from_slice(list.as_slice());
     copy
 }
-
-#[cfg(test)]
-mod tests {
-    use super::*;
-    use std::test::Fail;
-
-    #[test]
-    fn keeps_its_bytes(rt: HostRuntime) -> Result<(), Fail> {
-        let blob = Blob::of(rt.alloc(), b"e1.0")?;
-        assert_eq!(rt; blob.bytes(), b"e1.0".as_slice());
-        let mut room = Blob::zeros(rt.alloc(), 2)?;
-        assert_eq!(rt; room.bytes(), [0, 0].as_slice());
-        room.fill(b"ab");
-        assert_eq!(rt; room.bytes(), b"ab".as_slice());
-        room.overwrite(1, b"c");
-        assert_eq!(rt; room.bytes(), b"ac".as_slice());
-        let same = Blob::from_vec(Vec::from_slice(rt.alloc(), b"cd")?);
-        assert_eq!(rt; same.bytes(), b"cd".as_slice());
-        Ok(())
-    }
-}

@@ -36,25 +36,3 @@ pub fn read_number(text: &[u8], max: u64) -> Option<u64>
     }
     Some(value as u64)
 }
-
-#[cfg(test)]
-mod tests {
-    use super::*;
-
-    #[test]
-    fn reads_numbers(rt: HostRuntime) {
-        let cases: [(&[u8], u64, Option<u64>); 8] = [
-            (b"0", 0, Some(0)),
-            (b"65534", 65534, Some(65534)),
-            (b"65535", 65534, None),
-            (b"007", 254, Some(7)),
-            (b"", 9, None),
-            (b"+1", 9, None),
-            (b"18446744073709551615", u64::MAX, Some(u64::MAX)),
-            (b"000000000000000000001", 9, None),
-        ];
-        for (text, max, number) in cases {
-            assert_eq!(rt; read_number(text, max), number);
-        }
-    }
-}

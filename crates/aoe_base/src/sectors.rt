@@ -22,28 +22,3 @@ impl Span {
         first - self.at < u64::from(self.count) && first - other.at < u64::from(other.count)
     }
 }
-
-#[cfg(test)]
-mod tests {
-    use super::*;
-
-    fn span(at: u64, count: u32) -> Span {
-        Span { at, count }
-    }
-
-    #[test]
-    fn overlaps_where_a_sector_lies_in_both(rt: HostRuntime) {
-        let cases = [
-            (span(4, 2), span(5, 1), true),
-            (span(4, 2), span(6, 1), false),
-            (span(4, 2), span(2, 2), false),
-            (span(4, 2), span(0, 9), true),
-            (span(4, 2), span(5, 0), false),
-            (span(u64::MAX, 2), span(u64::MAX, 1), true),
-        ];
-        for (a, b, both) in cases {
-            assert_eq!(rt; a.overlaps(&b), both);
-            assert_eq!(rt; b.overlaps(&a), both);
-        }
-    }
-}

@@ -44,26 +44,3 @@ impl<L: Ledger> Steps<L> {
         self.taken.add(&mut self.share, 1);
     }
 }
-
-#[cfg(test)]
-mod tests {
-    use super::*;
-    use std::marker::Brand;
-    use std::mem::size_of;
-
-    fn two_steps<L: Ledger>(blank: Blank)
-        requires name { blank.name ≡ L.name }
-        requires parts { blank.parts ≡ L.parts }
-        requires some { 0 < blank.parts }
-    {
-        let mut steps = Steps::<L>::new(blank);
-        steps.tick();
-        steps.tick();
-    }
-
-    #[test]
-    fn has_no_bytes(rt: HostRuntime) {
-        assert_eq!(rt; size_of::<Steps<Brand>>(), 0);
-        two_steps::<Brand>(Blank::new(1));
-    }
-}

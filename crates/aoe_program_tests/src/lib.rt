@@ -1,9 +1,18 @@
-//! Tests of what the program reads and writes, by public calls: streams, links, and the arguments.
+//! Tests of what the program stands on and of what it reads and writes, by public calls: addresses and
+//! numbers, the registers of ATA, streams, links, and the arguments.
 //!
 //! They stand beside the crates, since a crate with tests inside it is proved once more with them.
 #![tactic(auto)]
 
 #[cfg(test)]
+mod ata;
+#[cfg(test)]
+mod base;
+#[cfg(test)]
+mod checks;
+#[cfg(test)]
 mod streams;
+#[cfg(test)]
+mod udp;
 #[cfg(test)]
 mod words;

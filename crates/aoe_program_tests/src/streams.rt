@@ -4,6 +4,7 @@ use aoe_io::{
     Clock, Got, JoinedLink, Link, MemLink, MemSink, MemSource, Next, SetClock, Sink, Source,
     StreamRefusal, give_frame, next_frame,
 };
+use std::alloc::Global;
 use std::test::Fail;
 
 /// Takes a frame of a source that has given so many bytes.
@@ -59,50 +60,103 @@ fn a_failed_call_of_a_source_is_the_last(rt: HostRuntime) -> Result<(), Fail> {
     Ok(())
 }
 
+/// What a link does.
+#[derive(Clone, Copy)]
+enum Turn {
+    /// It brings these bytes as a frame.
+    Brings,
+    /// It brings no frame, and this comes of it.
+    Gives(Result<Got, Failed>),
+    /// It takes a frame of these bytes.
+    Takes,
+    /// It fails to take it.
+    Refuses,
+}
+
+/// Whether a link brings these bytes as a frame.
+fn brings<L: Link>(link: &mut L, bytes: &[u8]) -> bool {
+    let mut frame = Frame::new();
+    link.recv(&mut frame) == Ok(Got::Frame) && frame.as_slice() == bytes
+}
+
+/// Whether the turn of a link goes as it is to.
+fn goes<L: Link>(link: &mut L, turn: Turn, bytes: &[u8]) -> bool {
+    match turn {
+        Turn::Brings => brings(link, bytes),
+        Turn::Gives(got) => link.recv(&mut Frame::new()) == got,
+        Turn::Takes => link.send(bytes).is_ok(),
+        Turn::Refuses => link.send(bytes) == Err(Failed),
+    }
+}
+
+const QUIET: Turn = Turn::Gives(Ok(Got::Quiet));
+
+const ENDED: Turn = Turn::Gives(Ok(Got::Ended));
+
+/// A link with room for one frame that brings a frame, then nothing, and then has ended.
+fn link_of_one(alloc: Global) -> Result<MemLink, Fail> {
+    let mut coming = Vec::new(alloc);
+    coming.push(Some(Blob::of(alloc, b"first")?))?;
+    coming.push(None)?;
+    Ok(MemLink::of(alloc, coming, 1)?)
+}
+
 #[test]
 fn links_in_memory(rt: HostRuntime) -> Result<(), Fail> {
-    let mut coming = Vec::new(rt.alloc());
-    coming.push(Some(Blob::of(rt.alloc(), b"first")?))?;
-    coming.push(None)?;
-    let mut link = MemLink::of(rt.alloc(), coming, 1)?;
-    let mut frame = Frame::new();
+    let turns: [(Turn, &[u8]); 7] = [
+        (Turn::Brings, b"first"),
+        (Turn::Gives(Err(Failed)), b""),
+        (QUIET, b""),
+        (ENDED, b""),
+        (ENDED, b""),
+        (Turn::Takes, b"answer"),
+        (Turn::Refuses, b"more"),
+    ];
+    let mut link = link_of_one(rt.alloc())?;
     link.fail_at(2);
-    assert_eq!(rt; link.recv(&mut frame), Ok(Got::Frame));
-    assert_eq!(rt; frame.as_slice(), b"first".as_slice());
-    assert_eq!(rt; link.recv(&mut frame), Err(Failed));
-    for got in [Got::Quiet, Got::Ended, Got::Ended] {
-        assert_eq!(rt; link.recv(&mut frame), Ok(got));
+    for (turn, bytes) in &turns {
+        assert!(rt; goes(&mut link, *turn, bytes));
     }
-    link.send(b"answer")?;
-    assert_eq!(rt; link.send(b"more"), Err(Failed));
-    assert_eq!(rt; link.count(), 1);
-    assert_eq!(rt; link.frame(0), b"answer".as_slice());
+    assert!(rt; link.count() == 1 && link.frame(0) == b"answer".as_slice());
     Ok(())
 }
 
 #[test]
 fn joined_links_give_what_the_other_took(rt: HostRuntime) -> Result<(), Fail> {
+    let long = [0; 9019];
+    // Whether it is the turn of the first end, what it does, and the bytes.
+    let turns: [(bool, Turn, &[u8]); 14] = [
+        (false, QUIET, b""),
+        (true, Turn::Takes, b"first"),
+        (true, Turn::Takes, b"second"),
+        (true, Turn::Refuses, b"third"),
+        (true, QUIET, b""),
+        (false, Turn::Takes, b"back"),
+        (false, Turn::Brings, b"first"),
+        (true, Turn::Takes, b"fourth"),
+        (false, Turn::Brings, b"second"),
+        (false, Turn::Brings, b"fourth"),
+        (false, QUIET, b""),
+        (true, Turn::Brings, b"back"),
+        (false, Turn::Refuses, &long),
+        (true, QUIET, b""),
+    ];
     let (mut one, mut two) = JoinedLink::pair(rt.alloc(), 2)?;
-    let mut frame = Frame::new();
-    assert_eq!(rt; two.recv(&mut frame), Ok(Got::Quiet));
-    one.send(b"first")?;
-    one.send(b"second")?;
-    assert_eq!(rt; one.send(b"third"), Err(Failed));
-    assert_eq!(rt; one.recv(&mut frame), Ok(Got::Quiet));
-    two.send(b"back")?;
-    assert_eq!(rt; two.recv(&mut frame), Ok(Got::Frame));
-    assert_eq!(rt; frame.as_slice(), b"first".as_slice());
-    one.send(b"fourth")?;
-    for sent in [b"second".as_slice(), b"fourth".as_slice()] {
-        assert_eq!(rt; two.recv(&mut frame), Ok(Got::Frame));
-        assert_eq!(rt; frame.as_slice(), sent);
+    for (is_first, turn, bytes) in &turns {
+        let has_gone = if *is_first {
+            goes(&mut one, *turn, bytes)
+        } else {
+            goes(&mut two, *turn, bytes)
+        };
+        assert!(rt; has_gone);
     }
-    assert_eq!(rt; two.recv(&mut frame), Ok(Got::Quiet));
-    assert_eq!(rt; one.recv(&mut frame), Ok(Got::Frame));
-    assert_eq!(rt; frame.as_slice(), b"back".as_slice());
-    assert_eq!(rt; two.send(&[0; 9019]), Err(Failed));
-    assert_eq!(rt; one.recv(&mut frame), Ok(Got::Quiet));
     Ok(())
+}
+
+/// Whether a clock answers so.
+fn answers(start: u64, step: u64, answers: &[u64; 3]) -> bool {
+    let mut clock = SetClock::new(start, step);
+    [clock.now(), clock.now(), clock.now()] == *answers
 }
 
 #[test]
@@ -112,10 +166,7 @@ fn clocks_go_by_steps(rt: HostRuntime) {
         (5, 0, [5, 5, 5]),
         (u64::MAX - 1, 10, [u64::MAX - 1, u64::MAX, u64::MAX]),
     ];
-    for (start, step, answers) in cases {
-        let mut clock = SetClock::new(start, step);
-        for answer in answers {
-            assert_eq!(rt; clock.now(), answer);
-        }
+    for (start, step, told) in &cases {
+        assert!(rt; answers(*start, *step, told));
     }
 }

@@ -1,0 +1,114 @@
+//! Links over UDP on the loopback.
+use crate::checks::holds;
+use aoe_frame::{Frame, MAX_FRAME};
+use aoe_io::{Got, Link};
+use aoe_udp::{OpenRefusal, UdpLink};
+use std::net::{SocketAddr, UdpSocket};
+use std::test::Fail;
+
+/// A query config read from all shelves and slots, by 02:00:00:00:00:0a.
+const QUERY: &[u8] =
+    b"\xff\xff\xff\xff\xff\xff\x02\0\0\0\0\x0a\x88\xa2\x10\0\xff\xff\xff\x01\0\0\0\x07\0\0\0\0\0\0\0\0";
+
+/// Any port of the loopback.
+const ANY: &[u8] = b"127.0.0.1:0";
+
+/// A link on a port that the system chose, and the text of its address, from which its peer got a
+/// frame.
+fn bound(rt: &HostRuntime) -> Result<(UdpLink, String), Fail> {
+    let Ok(any) = SocketAddr::parse_ascii(ANY) else {
+        return Err(Fail::from("no address"));
+    };
+    let peer = UdpSocket::bind(rt, any)?;
+    let at = peer.local_addr()?;
+    let text = format!(in rt.alloc(); "{at}")?;
+    let mut link = UdpLink::open(rt, rt.alloc(), ANY, text.as_bytes())?;
+    link.send(QUERY)?;
+    let (_, address) = peer.recv_from(&mut [0; 60])?;
+    Ok((link, format!(in rt.alloc(); "{address}")?))
+}
+
+/// Whether the next call of the link brings these bytes as a frame.
+fn brings(link: &mut UdpLink, bytes: &[u8]) -> bool {
+    let mut frame = Frame::new();
+    link.recv(&mut frame) == Ok(Got::Frame) && frame.as_slice() == bytes
+}
+
+/// Whether the link brings these bytes as a frame, and then nothing.
+fn brings_last(link: &mut UdpLink, bytes: &[u8]) -> bool {
+    brings(link, bytes) && link.recv(&mut Frame::new()) == Ok(Got::Quiet)
+}
+
+#[test]
+fn hands_a_frame_to_every_peer(rt: HostRuntime) -> Result<(), Fail> {
+    let (mut one, first) = bound(&rt)?;
+    let (mut two, second) = bound(&rt)?;
+    // Nobody listens on the discard port: a frame to it is lost.
+    let peers = format!(in rt.alloc(); "127.0.0.1:9,{first},{second}")?;
+    let mut three = UdpLink::open(&rt, rt.alloc(), ANY, peers.as_bytes())?;
+    let is_sent = three.send(QUERY).is_ok();
+    assert!(rt; is_sent && brings_last(&mut one, QUERY) && brings_last(&mut two, QUERY));
+    Ok(())
+}
+
+/// Whether a link sends a frame of so many bytes.
+fn sends(link: &mut UdpLink, bytes: &[u8]) -> bool {
+    link.send(bytes).is_ok()
+}
+
+#[test]
+fn drops_long_datagrams(rt: HostRuntime) -> Result<(), Fail> {
+    let (mut one, address) = bound(&rt)?;
+    let mut two = UdpLink::open(&rt, rt.alloc(), ANY, address.as_bytes())?;
+    // The longest frame; two datagrams that are none, and no silence; and a frame again.
+    let (frame, long) = ([7u8; MAX_FRAME], [7u8; MAX_FRAME + 1]);
+    let are_sent = sends(&mut two, &frame)
+        && sends(&mut two, &long)
+        && sends(&mut two, &long)
+        && sends(&mut two, QUERY);
+    assert!(rt; are_sent && brings(&mut one, &frame) && brings_last(&mut one, QUERY));
+    Ok(())
+}
+
+/// Why a link between these addresses isn't open.
+fn refusal_of(rt: &HostRuntime, local: &str, peers: &str) -> Option<OpenRefusal> {
+    match UdpLink::open(rt, rt.alloc(), local.as_bytes(), peers.as_bytes()) {
+        Ok(_) => None,
+        Err(refusal) => Some(refusal),
+    }
+}
+
+#[test]
+fn reads_addresses(rt: HostRuntime) {
+    let cases = [
+        ("127.0.0.1:0", "127.0.0.1:7000", None),
+        ("127.0.0.1:0", "127.0.0.1:7000,[::1]:7001", None),
+        ("127.0.0.1:0", "127.0.0.1:7000,", Some(OpenRefusal::Peers)),
+        ("127.0.0.1:0", "127.0.0.1", Some(OpenRefusal::Peers)),
+        ("x", "127.0.0.1:7000", Some(OpenRefusal::Local)),
+        (
+            "127.0.0.1:65536",
+            "127.0.0.1:7000",
+            Some(OpenRefusal::Local),
+        ),
+        ("127.0.0.1:0", "y", Some(OpenRefusal::Peers)),
+        ("x", "127.0.0.1:7000,y", Some(OpenRefusal::Peers)),
+    ];
+    for (local, peers, refusal) in &cases {
+        holds(&rt, refusal_of(&rt, local, peers) == *refusal, peers);
+    }
+}
+
+#[test]
+fn says_why_a_link_is_not_open(rt: HostRuntime) -> Result<(), Fail> {
+    let cases = [
+        (OpenRefusal::NoMemory, "no memory"),
+        (OpenRefusal::Peers, "no addresses of peers"),
+        (OpenRefusal::Local, "no local socket"),
+    ];
+    for (refusal, told) in &cases {
+        let text = format!(in rt.alloc(); "{refusal}")?;
+        holds(&rt, text.as_str() == *told, told);
+    }
+    Ok(())
+}
