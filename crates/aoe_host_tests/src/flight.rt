@@ -22,39 +22,57 @@ fn due(flight: &Flight, now: u64) -> Option<Ticket>
     due_counted::<Brand>(flight, Millis(now), Blank::new(1))
 }
 
-#[test]
-fn a_command_is_due_by_its_waits(rt: HostRuntime) -> Result<(), Fail> {
-    let path = PathNo(0);
-    let mut flight = Flight::new(rt.alloc(), 16, Millis(2000), Millis(30_000))?;
-    let tag = flight
-        .launch(Ticket(1), Millis(0), path, Millis(1000))
-        .expect(&rt, "room");
-    assert_eq!(rt; tag, 1);
-    let sent = Flying {
-        tag: 1,
-        first: Millis(0),
-        last: Millis(0),
-        path,
-        sends: 1,
-    };
-    assert_eq!(rt; flight.flying(Ticket(1)), sent);
-    assert_eq!(rt; due(&flight, 999), None);
-    assert_eq!(rt; due(&flight, 1000), Some(Ticket(1)));
-    flight.repeat(Ticket(1), Millis(1000), path, Millis(2000));
-    assert_eq!(rt; flight.match_tag(1), Some(Ticket(1)));
-    assert_eq!(rt; due(&flight, 2999), None);
-    assert_eq!(rt; due(&flight, 3000), Some(Ticket(1)));
-    assert_eq!(rt; flight.expired(Millis(29_999)), None);
-    assert_eq!(rt; flight.expired(Millis(30_000)), Some(Ticket(1)));
-    Ok(())
-}
-
-/// The tag of a command that is sent by the only path and waits for a second.
-fn launch(flight: &mut Flight, ticket: u64, now: u64) -> Option<u32>
+/// The tag of a command that is sent by the only path and waits so long.
+fn launch(flight: &mut Flight, ticket: u64, now: u64, wait: u64) -> Option<u32>
     requires { flight.old.latest ≤ now }
     ensures { flight.new.latest ≡ now }
 {
-    flight.launch(Ticket(ticket), Millis(now), PathNo(0), Millis(1000))
+    flight.launch(Ticket(ticket), Millis(now), PathNo(0), Millis(wait))
+}
+
+/// Whether a command is sent with the tag 1, and flies as it is to.
+fn flies(flight: &mut Flight, ticket: u64, now: u64, wait: u64) -> bool
+    requires { flight.old.latest ≤ now }
+    ensures { flight.new.latest ≡ now }
+{
+    let Some(tag) = flight.launch(Ticket(ticket), Millis(now), PathNo(0), Millis(wait)) else {
+        return false;
+    };
+    let sent = Flying {
+        tag: 1,
+        first: Millis(now),
+        last: Millis(now),
+        path: PathNo(0),
+        sends: 1,
+    };
+    tag == 1 && flight.flying(Ticket(ticket)) == sent
+}
+
+/// A command is sent again, and waits so long.
+fn repeat(flight: &mut Flight, ticket: u64, now: u64, wait: u64)
+    requires { flight.old.latest ≤ now }
+    ensures { flight.new.latest ≡ now }
+{
+    flight.repeat(Ticket(ticket), Millis(now), PathNo(0), Millis(wait));
+}
+
+/// Which command is given up at a time.
+fn expired(flight: &Flight, now: u64) -> Option<Ticket> {
+    flight.expired(Millis(now))
+}
+
+#[test]
+fn a_command_is_due_by_its_waits(rt: HostRuntime) -> Result<(), Fail> {
+    let mut flight = Flight::new(rt.alloc(), 16, Millis(2000), Millis(30_000))?;
+    let sent = flies(&mut flight, 1, 0, 1000);
+    let first = [due(&flight, 999), due(&flight, 1000)];
+    repeat(&mut flight, 1, 1000, 2000);
+    let second = [due(&flight, 2999), due(&flight, 3000)];
+    let last = [expired(&flight, 29_999), expired(&flight, 30_000)];
+    let wanted = [None, Some(Ticket(1))];
+    assert!(rt; sent && first == wanted && second == wanted && last == wanted);
+    assert!(rt; flight.match_tag(1) == Some(Ticket(1)));
+    Ok(())
 }
 
 /// Whether a command that has its outcome isn't known by its tag.
@@ -77,44 +95,37 @@ fn is_full(flight: &mut Flight, now: u64) -> bool
 #[test]
 fn a_finished_command_rests_for_two_lifetimes(rt: HostRuntime) -> Result<(), Fail> {
     let mut flight = Flight::new(rt.alloc(), 1, Millis(2000), Millis(30_000))?;
-    let first = launch(&mut flight, 5, 0);
+    let first = launch(&mut flight, 5, 0, 1000);
     let finished = finishes(&mut flight, 5, 1);
     let full = is_full(&mut flight, 4000);
     let rested = !flight.is_full(Millis(4001));
-    let next = launch(&mut flight, 6, 4001);
+    let next = launch(&mut flight, 6, 4001, 1000);
     assert!(rt; first.is_some() && finished && full && rested && next == Some(2));
     Ok(())
 }
 
 #[test]
 fn a_deadline_can_be_beyond_the_latest_time(rt: HostRuntime) -> Result<(), Fail> {
-    let (path, last) = (PathNo(0), u64::MAX);
+    let last = u64::MAX;
     let mut flight = Flight::new(rt.alloc(), 4, Millis(2000), Millis(30_000))?;
-    flight
-        .launch(Ticket(1), Millis(last), path, Millis(last))
-        .expect(&rt, "room");
-    assert_eq!(rt; due(&flight, last), None);
-    flight
-        .launch(Ticket(2), Millis(last), path, Millis(0))
-        .expect(&rt, "room");
-    assert_eq!(rt; due(&flight, last), Some(Ticket(2)));
+    let one = launch(&mut flight, 1, last, last);
+    let first = due(&flight, last);
+    let two = launch(&mut flight, 2, last, 0);
+    let second = due(&flight, last);
+    assert!(rt; one.is_some() && first.is_none() && two.is_some() && second == Some(Ticket(2)));
     Ok(())
 }
 
 #[test]
 fn the_command_that_was_due_first_comes_first(rt: HostRuntime) -> Result<(), Fail> {
-    let path = PathNo(0);
     let mut flight = Flight::new(rt.alloc(), 4, Millis(2000), Millis(30_000))?;
-    flight
-        .launch(Ticket(1), Millis(0), path, Millis(4000))
-        .expect(&rt, "room");
-    flight
-        .launch(Ticket(2), Millis(10), path, Millis(1000))
-        .expect(&rt, "room");
-    flight
-        .launch(Ticket(3), Millis(10), path, Millis(1000))
-        .expect(&rt, "room");
-    assert_eq!(rt; due(&flight, 5000), Some(Ticket(2)));
-    assert_eq!(rt; flight.expired(Millis(40_000)), Some(Ticket(1)));
+    let tags = [
+        launch(&mut flight, 1, 0, 4000),
+        launch(&mut flight, 2, 10, 1000),
+        launch(&mut flight, 3, 10, 1000),
+    ];
+    let first = due(&flight, 5000);
+    assert!(rt; tags == [Some(1), Some(2), Some(3)] && first == Some(Ticket(2)));
+    assert!(rt; expired(&flight, 40_000) == Some(Ticket(1)));
     Ok(())
 }

@@ -33,7 +33,7 @@ pub(super) fn one(port: Mac) -> Ports
     ports
 }
 
-fn two(first: u8, second: u8) -> Ports
+pub(super) fn two(first: u8, second: u8) -> Ports
     requires { first ≢ second }
     ensures two { length result.items ≡ 2 }
     ensures differ { IsDistinct result.items }

@@ -1,5 +1,5 @@
-//! Tests of the host's crates by their public calls: the order and the times of commands, an initiator,
-//! what it asks and understands, reads and writes of any length, and the tools.
+//! Tests of the host's crates by their public calls: paths, the order and the times of commands, an
+//! initiator, what it asks and understands, reads and writes of any length, and the tools.
 //!
 //! They stand beside the crates, since a crate with tests inside it is proved once more with them.
 #![tactic(auto)]
@@ -16,6 +16,8 @@ mod flight;
 mod holds;
 #[cfg(test)]
 mod initiator;
+#[cfg(test)]
+mod paths;
 #[cfg(test)]
 mod requests;
 #[cfg(test)]

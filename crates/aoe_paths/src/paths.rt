@@ -179,6 +179,3 @@ impl Paths {
         self.paths[p.0 as usize].timeout()
     }
 }
-
-#[cfg(test)]
-mod tests;
