@@ -218,6 +218,3 @@ impl Armed for MemDisk {
         self.is_out()
     }
 }
-
-#[cfg(test)]
-mod tests;

@@ -37,7 +37,7 @@ fn four<S: Store>(store: &mut S, at: u64) -> Option<[u8; 4]> {
 
 /// What is done to a store, or what it then has.
 #[derive(Clone, Copy)]
-enum Step {
+pub(super) enum Step {
     /// Writes so many sectors of a byte from a sector on: the sector, the count, the byte.
     Put(u64, usize, u8),
     /// Fails to write them.
@@ -87,7 +87,7 @@ fn goes<S: ArmedStore>(store: &mut S, step: Step) -> bool {
 }
 
 /// Whether all steps go as they are to.
-fn all_go<S: ArmedStore>(store: &mut S, steps: &[Step]) -> bool {
+pub(super) fn all_go<S: ArmedStore>(store: &mut S, steps: &[Step]) -> bool {
     for step in steps {
         if !goes(store, *step) {
             return false;

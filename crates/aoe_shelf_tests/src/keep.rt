@@ -104,7 +104,7 @@ fn finds(
     is_open: bool,
     first: u8,
     second: u8,
-    wanted: FoundString,
+    wanted: &FoundString,
 ) -> Result<bool, Fail> {
     let mut disk = MemDisk::new(alloc, 16)?;
     let body = body_of(first, b'x');
@@ -114,7 +114,7 @@ fn finds(
         write_body(&mut disk, 0, &body)
     };
     let is_second = open_slot(&mut disk, 1, &body_of(second, b'y'));
-    Ok(found(disk) == wanted && is_first && is_second)
+    Ok(found(disk) == *wanted && is_first && is_second)
 }
 
 #[test]
@@ -126,8 +126,8 @@ fn finds_the_later_of_two_slots(rt: HostRuntime) -> Result<(), Fail> {
         (true, 2, 0, Ok(Some(b'y'))),
         (false, 0, 0, Ok(Some(b'y'))),
     ];
-    for (is_open, first, second, wanted) in cases {
-        assert!(rt; finds(rt.alloc(), is_open, first, second, wanted)?);
+    for (is_open, first, second, wanted) in &cases {
+        assert!(rt; finds(rt.alloc(), *is_open, *first, *second, wanted)?);
     }
     Ok(())
 }
@@ -189,9 +189,9 @@ fn says_why_a_disk_is_not_mounted(rt: HostRuntime) -> Result<(), Fail> {
         (MountRefusal::BadKeep { slot: 0 }, "slot 0 holds no lists"),
         (MountRefusal::BadKeep { slot: 1 }, "slot 1 holds no lists"),
     ];
-    for (refusal, wanted) in texts {
+    for (refusal, wanted) in &texts {
         let text = format!(in rt.alloc(); "{refusal}")?;
-        assert!(rt; text.as_str() == wanted);
+        assert!(rt; text.as_str() == *wanted);
     }
     Ok(())
 }
@@ -242,8 +242,8 @@ fn writes_the_slots_in_turn(rt: HostRuntime) -> Result<(), Fail> {
         (15, b""),
         (16, b""),
     ];
-    for (at, begin) in sectors {
-        assert!(rt; is_sector(&mut disk, at, begin));
+    for (at, begin) in &sectors {
+        assert!(rt; is_sector(&mut disk, *at, begin));
     }
     assert!(rt; found(disk) == Ok(Some(b'a')));
     Ok(())

@@ -1,11 +1,13 @@
-//! Tests of the shelf's crates by their public calls: lists, a cache, a keep, a target, a shelf, and the
-//! loops that serve it.
+//! Tests of the shelf's crates by their public calls: lists, a disk, a store, a cache, a keep, a target,
+//! a shelf, and the loops that serve it.
 //!
 //! They stand beside the crates, since a crate with tests inside it is proved once more with them.
 #![tactic(auto)]
 
 #[cfg(test)]
 mod cache;
+#[cfg(test)]
+mod disk;
 #[cfg(test)]
 mod keep;
 #[cfg(test)]
@@ -14,5 +16,7 @@ mod lists;
 mod serve;
 #[cfg(test)]
 mod shelf;
+#[cfg(test)]
+mod store;
 #[cfg(test)]
 mod target;

@@ -82,8 +82,8 @@ fn arguments_that_are_not_taken(rt: HostRuntime) {
         (b"\x00\x00\x00\x00\x00\x02\x00\x03", 10),
         (b"\x00\x00\x00\x00\x00\x04\x00\x03", 10),
     ];
-    for (head, len) in config {
-        assert!(rt; is_reply(&ask_config(&lists, &zeroed(head, len)), bad, b""));
+    for (head, len) in &config {
+        assert!(rt; is_reply(&ask_config(&lists, &zeroed(head, *len)), bad, b""));
     }
     let masks: [(&[u8], usize); 5] = [
         (b"", 0),
@@ -92,8 +92,8 @@ fn arguments_that_are_not_taken(rt: HostRuntime) {
         (b"\x00\x01\x00\xff", 4 + 2039),
         (b"\x00\x01\x00\x01\x00\x01\x02\x00\x00\x00\x00", 11),
     ];
-    for (head, len) in masks {
-        assert!(rt; is_reply(&ask_masks(&lists, &zeroed(head, len)), bad, b""));
+    for (head, len) in &masks {
+        assert!(rt; is_reply(&ask_masks(&lists, &zeroed(head, *len)), bad, b""));
     }
     let reserves: [(&[u8], usize); 7] = [
         (b"", 0),
@@ -104,8 +104,8 @@ fn arguments_that_are_not_taken(rt: HostRuntime) {
         (b"\x01\x02", 2 + 11),
         (b"\x02\x01", 2 + 5),
     ];
-    for (head, len) in reserves {
-        assert!(rt; is_reply(&ask_reserves(&lists, A, &zeroed(head, len)), bad, b""));
+    for (head, len) in &reserves {
+        assert!(rt; is_reply(&ask_reserves(&lists, A, &zeroed(head, *len)), bad, b""));
     }
 }
 
@@ -139,8 +139,8 @@ fn a_string_is_set_once(rt: HostRuntime) {
             b"\x00\x10\x00\x01\x02\x10\x00\x02ab",
         ),
     ];
-    for (bytes, error, reply) in cases {
-        assert!(rt; is_reply(&ask_config(&lists, bytes), error, reply));
+    for (bytes, error, reply) in &cases {
+        assert!(rt; is_reply(&ask_config(&lists, bytes), *error, reply));
     }
     let test = b"\x00\x00\x00\x00\x00\x01\x00\x01a";
     assert!(rt; ask_config(&lists, test).0 == Answer::Silent);
@@ -206,9 +206,9 @@ fn a_reservation_is_taken_by_force(rt: HostRuntime) {
         (B, twice, once, C, true),
     ];
     let mut lists = Lists::new();
-    for (source, bytes, reply, other, is_user) in steps {
-        let told = ask_reserves(&lists, source, bytes);
-        assert!(rt; is_change(&told, reply) && may_use(&told.2, other) == is_user);
+    for (source, bytes, reply, other, is_user) in &steps {
+        let told = ask_reserves(&lists, *source, bytes);
+        assert!(rt; is_change(&told, reply) && may_use(&told.2, *other) == *is_user);
         lists = told.2;
         assert!(rt; admits(&lists, A));
     }

@@ -29,33 +29,35 @@ fn empty_shelf(alloc: Global) -> Result<MemShelf, Fail> {
 }
 
 /// The keep of 16 zero sectors.
-fn empty_keep(alloc: Global) -> Result<Keep<MemDisk>, Fail> {
-    match Keep::mount(MemDisk::new(alloc, 16)?) {
-        Ok(keep) => Ok(keep),
-        Err(_) => Err(Fail::from("no keep")),
-    }
+fn empty_keep(alloc: Global) -> Option<Keep<MemDisk>> {
+    let disk = MemDisk::new(alloc, 16).ok()?;
+    Keep::mount(disk).ok()
 }
 
-/// Adds a target of 16 zero sectors without lists, and says why it was refused.
-fn add(alloc: Global, shelf: &mut MemShelf, minor: u8) -> Result<Option<ShelfRefusal>, Fail>
+/// Whether this comes of adding a target of 16 zero sectors without lists.
+fn adds(alloc: Global, shelf: &mut MemShelf, minor: u8, refused: Option<ShelfRefusal>) -> bool
     requires { minor < 255 }
 {
-    let store = Direct::new(MemDisk::new(alloc, 16)?);
-    match shelf.add(minor, store, empty_keep(alloc)?) {
-        Ok(()) => Ok(None),
-        Err((refusal, _, _)) => Ok(Some(refusal)),
+    let Some(keep) = empty_keep(alloc) else {
+        return false;
+    };
+    let Ok(disk) = MemDisk::new(alloc, 16) else {
+        return false;
+    };
+    match shelf.add(minor, Direct::new(disk), keep) {
+        Ok(()) => refused.is_none(),
+        Err((refusal, _, _)) => refused == Some(refusal),
     }
 }
 
 /// The shelf with the targets 1.7 and 1.3.
 fn shelf_of_two(alloc: Global) -> Result<MemShelf, Fail> {
     let mut shelf = empty_shelf(alloc)?;
-    for minor in [7, 3] {
-        if add(alloc, &mut shelf, minor)?.is_some() {
-            return Err(Fail::from("not added"));
-        }
+    if adds(alloc, &mut shelf, 7, None) && adds(alloc, &mut shelf, 3, None) {
+        Ok(shelf)
+    } else {
+        Err(Fail::from("not added"))
     }
-    Ok(shelf)
 }
 
 fn joined(pieces: &[&[u8]]) -> Frame {
@@ -223,17 +225,15 @@ fn a_stop_of_one_target(rt: HostRuntime) -> Result<(), Fail> {
 fn a_full_shelf(rt: HostRuntime) -> Result<(), Fail> {
     let mut shelf = empty_shelf(rt.alloc())?;
     for minor in 0..16u8 {
-        assert!(rt; add(rt.alloc(), &mut shelf, minor)?.is_none());
+        assert!(rt; adds(rt.alloc(), &mut shelf, minor, None));
     }
     for minor in [15, 16] {
-        assert!(rt; add(rt.alloc(), &mut shelf, minor)? == Some(ShelfRefusal::Full));
+        assert!(rt; adds(rt.alloc(), &mut shelf, minor, Some(ShelfRefusal::Full)));
     }
     assert!(rt; shelf.count() == 16 && shelf.take_last().is_some());
     // The first of the two is there already.
-    let cases = [(0, Some(ShelfRefusal::Repeated)), (254, None)];
-    for (minor, refused) in cases {
-        assert!(rt; add(rt.alloc(), &mut shelf, minor)? == refused);
-    }
+    assert!(rt; adds(rt.alloc(), &mut shelf, 0, Some(ShelfRefusal::Repeated)));
+    assert!(rt; adds(rt.alloc(), &mut shelf, 254, None));
     Ok(())
 }
 
@@ -243,9 +243,9 @@ fn says_why_a_target_is_not_added(rt: HostRuntime) -> Result<(), Fail> {
         (ShelfRefusal::Full, "the shelf is full"),
         (ShelfRefusal::Repeated, "the minor is taken"),
     ];
-    for (refusal, wanted) in texts {
+    for (refusal, wanted) in &texts {
         let text = format!(in rt.alloc(); "{refusal}")?;
-        assert!(rt; text.as_str() == wanted);
+        assert!(rt; text.as_str() == *wanted);
     }
     Ok(())
 }

@@ -144,8 +144,8 @@ fn the_last_sector_and_behind_it(rt: HostRuntime) -> Result<(), Fail> {
             told.as_slice(),
         ),
     ];
-    for (args, effect, told) in cases {
-        assert!(rt; answers(&mut target, &A, 0, args, effect, 0, told));
+    for (args, effect, told) in &cases {
+        assert!(rt; answers(&mut target, &A, 0, args, *effect, 0, told));
     }
     let (store, _) = target.close();
     assert!(rt; store.close().calls() == 2);
@@ -196,15 +196,15 @@ fn malformed_arguments(rt: HostRuntime) -> Result<(), Fail> {
         (0x10, 255, b"", b"", 1),
         (0x20, 255, b"", b"", 5),
     ];
-    for (version, command, begin, rest, error) in cases {
-        let args = joined(&[begin, rest]);
+    for (version, command, begin, rest, error) in &cases {
+        let args = joined(&[*begin, *rest]);
         assert!(rt;
             refuses(
                 target(rt.alloc())?,
-                version,
-                command,
+                *version,
+                *command,
                 args.as_slice(),
-                error
+                *error
             )
         );
     }
@@ -223,8 +223,8 @@ fn malformed_values(rt: HostRuntime) -> Result<(), Fail> {
             b"\x40\x10\0\x41\xff\xff\xff\xff\xff\xff\0\0",
         ),
     ];
-    for (command, args, told) in cases {
-        assert!(rt; answers(&mut target, &A, command, args, Effect::None, 0, told));
+    for (command, args, told) in &cases {
+        assert!(rt; answers(&mut target, &A, *command, args, Effect::None, 0, told));
     }
     assert!(rt; *target.lists() == Lists::new());
     Ok(())
@@ -274,9 +274,9 @@ fn checks_in_their_order(rt: HostRuntime) -> Result<(), Fail> {
         (&A, 0x20, 1, &[0; 8], Heard::Silent, b""),
         (&C, 0x20, 1, &[0; 8], DONE, refused.as_slice()),
     ];
-    for (station, version, command, args, wanted, told) in cases {
-        let frame = request(station, version, command, args);
-        assert!(rt; is_heard(&mut target, &frame, wanted, told));
+    for (station, version, command, args, wanted, told) in &cases {
+        let frame = request(station, *version, *command, args);
+        assert!(rt; is_heard(&mut target, &frame, *wanted, told));
     }
     Ok(())
 }
@@ -296,8 +296,8 @@ fn reservations(rt: HostRuntime) -> Result<(), Fail> {
         (B, 3, by_force, Effect::Edited, 0),
         (A, 0, read, Effect::None, 6),
     ];
-    for (station, command, args, effect, error) in steps {
-        assert!(rt; answers(&mut target, &station, command, args, effect, error, args));
+    for (station, command, args, effect, error) in &steps {
+        assert!(rt; answers(&mut target, station, *command, args, *effect, *error, args));
     }
     Ok(())
 }
@@ -321,8 +321,8 @@ fn config_strings(rt: HostRuntime) -> Result<(), Fail> {
         (set, Effect::None, 0),
         (other, Effect::None, 4),
     ];
-    for (args, effect, error) in steps {
-        assert!(rt; answers(&mut target, &A, 1, args, effect, error, told));
+    for (args, effect, error) in &steps {
+        assert!(rt; answers(&mut target, &A, 1, args, *effect, *error, told));
     }
     assert!(rt; is_set(&target));
     // A mounting with both gates closed makes 3 calls, and the one change of the lists 6.
@@ -449,8 +449,8 @@ fn failed_calls(rt: HostRuntime) -> Result<(), Fail> {
         ),
         (flush, Effect::SyncFault, unsynced, Effect::Synced),
     ];
-    for (args, fault, told, effect) in cases {
-        assert!(rt; fails_once(&mut target, args, fault, told, effect));
+    for (args, fault, told, effect) in &cases {
+        assert!(rt; fails_once(&mut target, args, *fault, *told, *effect));
     }
     let done = b"\x40\0\0\x40\0\0\0\0\0\0\0\0";
     assert!(rt; answers(&mut target, &A, 0, flush, Effect::Synced, 0, done));

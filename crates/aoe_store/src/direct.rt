@@ -73,29 +73,3 @@ impl<D: Armed> ArmedStore for Direct<D> {
         self.disk.is_out()
     }
 }
-
-#[cfg(test)]
-mod tests {
-    use super::*;
-    use aoe_disk::{Loss, MemDisk};
-    use std::test::Fail;
-
-    #[test]
-    fn calls_its_disk_once(rt: HostRuntime) -> Result<(), Fail> {
-        let mut store = Direct::new(MemDisk::new(rt.alloc(), 2)?);
-        let mut out = [0; 512];
-        if store.sectors() == 2 {
-            assert!(rt; store.write(1, &[3; 512]).is_ok());
-            assert!(rt; store.sync().is_ok());
-            assert!(rt; store.read(1, &mut out).is_ok());
-        }
-        assert_eq!(rt; [out[0], out[511]], [3, 3]);
-        store.arm(Arm::Stop(1));
-        assert!(rt; store.sync().is_err());
-        assert!(rt; store.is_out());
-        let disk = store.close();
-        assert_eq!(rt; disk.calls(), 4);
-        assert!(rt; !disk.crash(Loss::Keep).is_out());
-        Ok(())
-    }
-}

@@ -40,6 +40,23 @@ fn six_replies() -> Frame {
     all
 }
 
+/// Whether a stream whose source and sink fail in these calls ends so, and these bytes were written.
+fn ends(
+    alloc: Global,
+    stream: &[u8],
+    reading: u32,
+    writing: u32,
+    end: (AnswerEnd, bool),
+    told: &[u8],
+) -> Result<bool, Fail> {
+    let mut source = MemSource::of(alloc, stream)?;
+    let mut sink = MemSink::new(alloc, 1000)?;
+    source.fail_at(reading);
+    sink.fail_at(writing);
+    let ended = answered(alloc, &mut source, &mut sink)?;
+    Ok(ended == end && sink.bytes() == told)
+}
+
 #[test]
 fn stops_at_each_call_of_a_stream(rt: HostRuntime) -> Result<(), Fail> {
     let stream = joined(&[&QUERY, &SET, &QUERY]);
@@ -63,14 +80,18 @@ fn stops_at_each_call_of_a_stream(rt: HostRuntime) -> Result<(), Fail> {
         (0, 6, AnswerEnd::SinkFault, 5, true),
         (0, 7, AnswerEnd::Ended, 6, true),
     ];
-    for (reading, writing, end, count, is_set) in cases {
-        let mut source = MemSource::of(rt.alloc(), stream.as_slice())?;
-        source.fail_at(reading);
-        let mut sink = MemSink::new(rt.alloc(), 1000)?;
-        sink.fail_at(writing);
-        let (ended, are_set) = answered(rt.alloc(), &mut source, &mut sink)?;
-        assert!(rt; ended == end && are_set == is_set);
-        assert!(rt; sink.bytes() == first(replies.as_slice(), count));
+    for (reading, writing, end, count, is_set) in &cases {
+        let told = first(replies.as_slice(), *count);
+        assert!(rt;
+            ends(
+                rt.alloc(),
+                stream.as_slice(),
+                *reading,
+                *writing,
+                (*end, *is_set),
+                told
+            )?
+        );
     }
     Ok(())
 }
@@ -83,6 +104,14 @@ fn link_of_three(alloc: Global) -> Result<MemLink, Fail> {
     coming.push(Some(Blob::of(alloc, &SET[2..])?))?;
     coming.push(Some(Blob::of(alloc, &QUERY[2..])?))?;
     Ok(MemLink::of(alloc, coming, 6)?)
+}
+
+/// Whether a link that fails in this call ends so, and took these replies.
+fn serves(alloc: Global, due: u32, end: (ServeEnd, bool), told: &[u8]) -> Result<bool, Fail> {
+    let mut link = link_of_three(alloc)?;
+    link.fail_at(due);
+    let ended = served(alloc, &mut link, 3, 9)?;
+    Ok(ended == end && took(&link, told))
 }
 
 #[test]
@@ -102,12 +131,9 @@ fn stops_at_each_call_of_a_link(rt: HostRuntime) -> Result<(), Fail> {
         (9, ServeEnd::LinkFault, 5, true),
         (10, ServeEnd::Ended, 6, true),
     ];
-    for (due, end, count, is_set) in cases {
-        let mut link = link_of_three(rt.alloc())?;
-        link.fail_at(due);
-        let (ended, are_set) = served(rt.alloc(), &mut link, 3, 9)?;
-        assert!(rt; ended == end && are_set == is_set);
-        assert!(rt; took(&link, first(replies.as_slice(), count)));
+    for (due, end, count, is_set) in &cases {
+        let told = first(replies.as_slice(), *count);
+        assert!(rt; serves(rt.alloc(), *due, (*end, *is_set), told)?);
     }
     Ok(())
 }
@@ -299,6 +325,11 @@ fn calls(alloc: Global, is_cached: bool, request: &Request, calls: u8) -> Result
     Ok(is_done(&mut target, request))
 }
 
+/// Whether it makes so many with a store that writes through, and so many with one that doesn't.
+fn makes(alloc: Global, request: &Request, direct: u8, cached: u8) -> Result<bool, Fail> {
+    Ok(calls(alloc, false, request, direct)? && calls(alloc, true, request, cached)?)
+}
+
 #[test]
 fn answers_each_fault_of_a_disk(rt: HostRuntime) -> Result<(), Fail> {
     // A request, and how many calls of a disk it makes with a store that writes through, and with one
@@ -309,9 +340,8 @@ fn answers_each_fault_of_a_disk(rt: HostRuntime) -> Result<(), Fail> {
         (write(8), 1, 4),
         (flush(), 1, 5),
     ];
-    for (request, direct, cached) in cases {
-        assert!(rt; calls(rt.alloc(), false, &request, direct)?);
-        assert!(rt; calls(rt.alloc(), true, &request, cached)?);
+    for (request, direct, cached) in &cases {
+        assert!(rt; makes(rt.alloc(), request, *direct, *cached)?);
     }
     Ok(())
 }
@@ -345,6 +375,14 @@ fn has_halves(target: &mut MemTarget, [first, second]: [u8; 2]) -> bool {
     out.as_slice().get(36..548) == Some(sector.as_slice())
 }
 
+/// Whether a loss of power in a flush leaves these halves of the sector 3.
+fn leaves(alloc: Global, is_cached: bool, how: Loss, halves: [u8; 2]) -> Result<bool, Fail> {
+    let mut stopped = target(alloc, is_cached)?;
+    let has_stopped = stops(&mut stopped);
+    let mut target = crashed(alloc, stopped, is_cached, how)?;
+    Ok(has_stopped && has_halves(&mut target, halves))
+}
+
 #[test]
 fn loses_power_in_a_flush(rt: HostRuntime) -> Result<(), Fail> {
     // Whether the store is cached, so that the last call of its disk is the write of the sector and not
@@ -359,11 +397,8 @@ fn loses_power_in_a_flush(rt: HostRuntime) -> Result<(), Fail> {
         (true, Loss::Torn, [0xee, 0]),
         (true, Loss::Mix(0), [0xee, 0xee]),
     ];
-    for (is_cached, how, halves) in cases {
-        let mut stopped = target(rt.alloc(), is_cached)?;
-        assert!(rt; stops(&mut stopped));
-        let mut target = crashed(rt.alloc(), stopped, is_cached, how)?;
-        assert!(rt; has_halves(&mut target, halves));
+    for (is_cached, how, halves) in &cases {
+        assert!(rt; leaves(rt.alloc(), *is_cached, *how, *halves)?);
     }
     Ok(())
 }

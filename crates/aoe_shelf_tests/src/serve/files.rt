@@ -171,9 +171,9 @@ fn says_why_nothing_was_run(rt: HostRuntime) -> Result<(), Fail> {
             "keep of slot 3: slot 1 holds no lists",
         ),
     ];
-    for (refusal, told) in cases {
+    for (refusal, told) in &cases {
         let text = format!(in rt.alloc(); "{refusal}")?;
-        assert!(rt; text.as_str() == told);
+        assert!(rt; text.as_str() == *told);
     }
     Ok(())
 }

@@ -51,31 +51,53 @@ fn replies() -> [u8; 124] {
     both
 }
 
-/// Adds a target of 16 zero sectors without lists.
-fn add(alloc: Global, shelf: &mut MemShelf, minor: u8, store: AnyStore<MemDisk>) -> Result<(), Fail>
+/// The keep of 16 zero sectors.
+fn empty_keep(alloc: Global) -> Option<Keep<MemDisk>> {
+    let disk = MemDisk::new(alloc, 16).ok()?;
+    Keep::mount(disk).ok()
+}
+
+/// A store of 16 zero sectors that writes through.
+fn direct(alloc: Global) -> Option<AnyStore<MemDisk>> {
+    let disk = MemDisk::new(alloc, 16).ok()?;
+    Some(AnyStore::Direct(Direct::new(disk)))
+}
+
+/// One that writes to its disk later.
+fn cached(alloc: Global) -> Option<AnyStore<MemDisk>> {
+    let disk = MemDisk::new(alloc, 16).ok()?;
+    let store = Cached::mount(alloc, disk, 4).ok()?;
+    Some(AnyStore::Cached(store))
+}
+
+/// Whether a target with this store and without lists is added.
+fn adds(alloc: Global, shelf: &mut MemShelf, minor: u8, store: Option<AnyStore<MemDisk>>) -> bool
     requires { minor < 255 }
 {
-    let Ok(keep) = Keep::mount(MemDisk::new(alloc, 16)?) else {
-        return Err(Fail::from("no keep"));
+    let Some(store) = store else {
+        return false;
     };
-    if shelf.add(minor, store, keep).is_err() {
-        return Err(Fail::from("not added"));
-    }
-    Ok(())
+    let Some(keep) = empty_keep(alloc) else {
+        return false;
+    };
+    shelf.add(minor, store, keep).is_ok()
+}
+
+/// The shelf 1 without targets.
+fn empty_shelf(alloc: Global) -> Result<MemShelf, Fail> {
+    let mut ports = Ports::new();
+    ports.push(Mac([2, 0, 0, 0, 0, 1]));
+    Ok(Shelf::new(alloc, 1, ports, 1500)?)
 }
 
 /// The shelf 1 with the targets 1.0 and 1.1, of which the second writes to its disk later.
 pub(crate) fn shelf_of_two(alloc: Global) -> Result<MemShelf, Fail> {
-    let mut ports = Ports::new();
-    ports.push(Mac([2, 0, 0, 0, 0, 1]));
-    let mut shelf = Shelf::new(alloc, 1, ports, 1500)?;
-    let Ok(cached) = Cached::mount(alloc, MemDisk::new(alloc, 16)?, 4) else {
-        return Err(Fail::from("no memory"));
-    };
-    let direct = Direct::new(MemDisk::new(alloc, 16)?);
-    add(alloc, &mut shelf, 0, AnyStore::Direct(direct))?;
-    add(alloc, &mut shelf, 1, AnyStore::Cached(cached))?;
-    Ok(shelf)
+    let mut shelf = empty_shelf(alloc)?;
+    if adds(alloc, &mut shelf, 0, direct(alloc)) && adds(alloc, &mut shelf, 1, cached(alloc)) {
+        Ok(shelf)
+    } else {
+        Err(Fail::from("not added"))
+    }
 }
 
 /// Whether both slots have the string, and there are two.
@@ -126,6 +148,14 @@ pub(crate) fn took(link: &MemLink, replies: &[u8]) -> bool {
     link.count() == replies.len() / LEN
 }
 
+/// Whether a stream ends so, and these bytes were written.
+fn answers(alloc: Global, input: &[u8], wanted: AnswerEnd, output: &[u8]) -> Result<bool, Fail> {
+    let mut source = MemSource::of(alloc, input)?;
+    let mut sink = MemSink::new(alloc, 1000)?;
+    let (end, _) = answered(alloc, &mut source, &mut sink)?;
+    Ok(end == wanted && sink.bytes() == output)
+}
+
 #[test]
 fn answers_streams(rt: HostRuntime) -> Result<(), Fail> {
     let mut response = QUERY;
@@ -139,11 +169,8 @@ fn answers_streams(rt: HostRuntime) -> Result<(), Fail> {
         (&response, AnswerEnd::Ended, b""),
         (&broken, AnswerEnd::Stream { offset: 25 }, b""),
     ];
-    for (input, wanted, output) in cases {
-        let mut source = MemSource::of(rt.alloc(), input)?;
-        let mut sink = MemSink::new(rt.alloc(), 1000)?;
-        let (end, _) = answered(rt.alloc(), &mut source, &mut sink)?;
-        assert!(rt; end == wanted && sink.bytes() == output);
+    for (input, end, output) in &cases {
+        assert!(rt; answers(rt.alloc(), input, *end, output)?);
     }
     Ok(())
 }
@@ -155,14 +182,19 @@ fn link_of_query(alloc: Global) -> Result<MemLink, Fail> {
     Ok(MemLink::of(alloc, coming, 2)?)
 }
 
+/// Whether serving the link ends with it, and it took these replies.
+fn serves(alloc: Global, frames: u32, idle: u32, told: &[u8]) -> Result<bool, Fail> {
+    let mut link = link_of_query(alloc)?;
+    let (end, _) = served(alloc, &mut link, frames, idle)?;
+    Ok(end == ServeEnd::Ended && took(&link, told))
+}
+
 #[test]
 fn serves_a_link(rt: HostRuntime) -> Result<(), Fail> {
     // The most frames and quiet turns, and how many replies the link took.
     let replies = replies();
     for (frames, idle, count) in [(0, 9, 0), (1, 0, 0), (1, 9, 2), (2, 9, 2)] {
-        let mut link = link_of_query(rt.alloc())?;
-        let (end, _) = served(rt.alloc(), &mut link, frames, idle)?;
-        assert!(rt; end == ServeEnd::Ended && took(&link, first(&replies, count)));
+        assert!(rt; serves(rt.alloc(), frames, idle, first(&replies, count))?);
     }
     Ok(())
 }
