@@ -1,5 +1,5 @@
-//! Tests of the simulator's crates by their public calls: scripts, histories and their texts, hosts and
-//! shelves over a network, whole runs, and runs over links.
+//! Tests of the simulator's crates by their public calls: a network, scripts, histories and their texts,
+//! hosts and shelves over a network, whole runs, and runs over links.
 //!
 //! They stand beside the crates, since a crate with tests inside it is proved once more with them.
 #![tactic(auto)]
@@ -12,6 +12,8 @@ mod history;
 mod hosts;
 #[cfg(test)]
 mod live;
+#[cfg(test)]
+mod net;
 #[cfg(test)]
 mod script;
 #[cfg(test)]

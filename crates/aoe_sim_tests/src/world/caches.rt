@@ -1,21 +1,15 @@
 //! Slots whose store is a write-behind cache.
-use super::gives;
-use crate::checks::holds;
-use std::alloc::Global;
+use super::{Words, all_print_with};
 use std::test::Fail;
 
-/// Whether the run of these lines prints this text, where the slot is declared so.
-fn prints_over(alloc: Global, slot: &str, lines: &str, text: &str) -> Result<bool, Fail> {
-    let script = format!(in alloc;
-        "life 2000
+/// The stations, with the line of the slot.
+const STATIONS: &str = "\
+life 2000
 shelf s 1 02:00:00:00:00:01 1500
-{slot}
+@
 host a 02:00:00:00:00:0a
 attach a s 0
-{lines}"
-    )?;
-    gives(alloc, script.as_str(), text)
-}
+";
 
 /// A write of a sector, a crash, and a read of the sector.
 const CRASH: &str = "\
@@ -26,10 +20,8 @@ read a e1.0 3 1
 pass 2
 ";
 
-/// Whether the sector is read so behind the crash, where the slot is declared so.
-fn crosses(alloc: Global, slot: &str, sector: &str) -> Result<bool, Fail> {
-    let text = format!(in alloc;
-        "submit a 1 write e1.0 3 1 5a
+const CRASHED: &str = "\
+submit a 1 write e1.0 3 1 5a
 sent a 1 1
 arrive e1.0 1 wrote 3 1 reply 2
 took a 2
@@ -39,28 +31,23 @@ submit a 2 read e1.0 3 1
 sent a 2 3
 arrive e1.0 3 none reply 4
 took a 4
-done a 2 read {sector}
+done a 2 read @
 summary events 5 frames 4 sent 2 again 0 arrived 2 done 2 lost 0 crashed 1
-"
-    )?;
-    prints_over(alloc, slot, CRASH, text.as_str())
-}
+";
 
 /// A write that stands in the cache alone is lost with the power, whatever the disk keeps.
 #[test]
 fn prints_a_crash_of_a_cache(rt: HostRuntime) -> Result<(), Fail> {
-    let cases = [("slot s 0 16 8", "00*512"), ("slot s 0 16", "5a*512")];
-    for (slot, sector) in &cases {
-        holds(&rt, crosses(rt.alloc(), slot, sector)?, slot);
-    }
-    Ok(())
+    let cases: [Words; 2] = [
+        (&["slot s 0 16 8"], &["00*512"]),
+        (&["slot s 0 16"], &["5a*512"]),
+    ];
+    all_print_with(&rt, rt.alloc(), [STATIONS, CRASH, CRASHED], &cases)
 }
 
-/// Whether the flush of three writes in a cache has this effect and this outcome, where this device
-/// call of the disk fails.
-fn flushes(alloc: Global, k: u32, effect: &str, outcome: &str) -> Result<bool, Fail> {
-    let lines = format!(in alloc;
-        "fail e1.0 store {k}
+/// Three writes in a cache and a flush, where a device call of the disk fails.
+const FLUSH: &str = "\
+fail e1.0 store @
 write a e1.0 5 1 5a
 write a e1.0 3 1 5a
 write a e1.0 4 1 5a
@@ -68,10 +55,10 @@ pass 6
 tick 2001
 flush a e1.0
 pass 2
-"
-    )?;
-    let text = format!(in alloc;
-        "armed e1.0 store fail {k}
+";
+
+const FLUSHED: &str = "\
+armed e1.0 store fail @
 submit a 1 write e1.0 5 1 5a
 sent a 1 1
 submit a 2 write e1.0 3 1 5a
@@ -90,31 +77,29 @@ done a 3 written
 tick 2001
 submit a 4 flush e1.0
 sent a 4 7
-arrive e1.0 7 {effect} reply 8
+arrive e1.0 7 @ reply 8
 took a 8
-done a 4 {outcome}
+done a 4 @
 summary events 8 frames 8 sent 4 again 0 arrived 4 done 4 lost 0 crashed 0
-"
-    )?;
-    prints_over(alloc, "slot s 0 16 4", lines.as_str(), text.as_str())
-}
+";
+
+/// A slot whose cache holds four sectors.
+const FOUR: &str = "slot s 0 16 4";
 
 /// Three writes in a cache make no call of the disk, and a flush of them two: one write, one sync.
 #[test]
 fn prints_the_flush_of_a_cache(rt: HostRuntime) -> Result<(), Fail> {
-    let cases = [
-        (1, "sync-fault", "ata 41 04"),
-        (2, "sync-fault", "ata 41 04"),
-        (3, "synced", "flushed"),
+    let cases: [Words; 3] = [
+        (&[FOUR, "1"], &["1", "sync-fault", "ata 41 04"]),
+        (&[FOUR, "2"], &["2", "sync-fault", "ata 41 04"]),
+        (&[FOUR, "3"], &["3", "synced", "flushed"]),
     ];
-    for (k, effect, outcome) in &cases {
-        holds(&rt, flushes(rt.alloc(), *k, effect, outcome)?, effect);
-    }
-    Ok(())
+    all_print_with(&rt, rt.alloc(), [STATIONS, FLUSH, FLUSHED], &cases)
 }
 
-/// Writes of five sectors that don't join.
+/// Writes of five sectors that don't join, where a device call of the disk fails.
 const FIVE_WRITES: &str = "\
+fail e1.0 store @
 write a e1.0 0 1 5a
 write a e1.0 2 1 5a
 write a e1.0 4 1 5a
@@ -123,12 +108,8 @@ write a e1.0 8 1 5a
 pass 10
 ";
 
-/// Whether the last of five writes has this effect and this outcome, where this device call of the
-/// disk fails.
-fn writes_beyond(alloc: Global, k: u32, effect: &str, outcome: &str) -> Result<bool, Fail> {
-    let lines = format!(in alloc; "fail e1.0 store {k}\n{FIVE_WRITES}")?;
-    let text = format!(in alloc;
-        "armed e1.0 store fail {k}
+const FIVE_WRITTEN: &str = "\
+armed e1.0 store fail @
 submit a 1 write e1.0 0 1 5a
 sent a 1 1
 submit a 2 write e1.0 2 1 5a
@@ -143,7 +124,7 @@ arrive e1.0 1 wrote 0 1 reply 6
 arrive e1.0 2 wrote 2 1 reply 7
 arrive e1.0 3 wrote 4 1 reply 8
 arrive e1.0 4 wrote 6 1 reply 9
-arrive e1.0 5 {effect} 8 1 reply 10
+arrive e1.0 5 @ 8 1 reply 10
 took a 6
 done a 1 written
 took a 7
@@ -153,19 +134,21 @@ done a 3 written
 took a 9
 done a 4 written
 took a 10
-done a 5 {outcome}
+done a 5 @
 summary events 7 frames 10 sent 5 again 0 arrived 5 done 5 lost 0 crashed 0
-"
-    )?;
-    prints_over(alloc, "slot s 0 16 4", lines.as_str(), text.as_str())
-}
+";
 
 /// Four sectors that don't join stand in a cache without a call of the disk, and a fifth makes four.
 #[test]
 fn prints_a_write_beyond_a_cache(rt: HostRuntime) -> Result<(), Fail> {
-    let cases = [(4, "write-fault", "ata 41 04"), (5, "wrote", "written")];
-    for (k, effect, outcome) in &cases {
-        holds(&rt, writes_beyond(rt.alloc(), *k, effect, outcome)?, effect);
-    }
-    Ok(())
+    let cases: [Words; 2] = [
+        (&[FOUR, "4"], &["4", "write-fault", "ata 41 04"]),
+        (&[FOUR, "5"], &["5", "wrote", "written"]),
+    ];
+    all_print_with(
+        &rt,
+        rt.alloc(),
+        [STATIONS, FIVE_WRITES, FIVE_WRITTEN],
+        &cases,
+    )
 }

@@ -1,0 +1,70 @@
+ghost use Rattle.std.specs.Prelude.{◌≤◌, length};
+
+use crate::checks::holds;
+use aoe_base::{FrameNo, Millis};
+use aoe_net::{Net, NetRefusal};
+use std::test::Fail;
+
+/// Whether a frame that is sent at a time has this number.
+fn sends(net: &mut Net, now: u64, frame: &[u8], number: u32) -> bool
+    requires len { length frame.now ≤ 9018 }
+    requires time { net.old.latest ≤ now }
+    ensures { net.new.latest ≤ now }
+{
+    net.send(Millis(now), frame) == Ok(FrameNo(number))
+}
+
+/// Whether this comes of handing over a frame.
+fn hands_over(net: &Net, number: u32, now: u64, frame: Option<&[u8]>) -> bool {
+    net.fetch(FrameNo(number), Millis(now)) == frame
+}
+
+#[test]
+fn hands_over_within_the_lifetime(rt: HostRuntime) {
+    let mut net = Net::new(rt.alloc(), Millis(2000));
+    let first = sends(&mut net, 5, b"first", 1);
+    let second = sends(&mut net, 7, b"", 2);
+    assert!(rt; first && second && net.count() == 2 && net.total_bytes() == 5);
+    // The number, the time, and what comes.
+    let cases: [(u32, u64, Option<&[u8]>); 6] = [
+        (1, 5, Some(b"first")),
+        (1, 2005, Some(b"first")),
+        (1, 2006, None),
+        (2, 2006, Some(b"")),
+        (0, 7, None),
+        (3, 7, None),
+    ];
+    for (number, now, frame) in &cases {
+        assert!(rt; hands_over(&net, *number, *now, *frame));
+    }
+}
+
+#[test]
+fn finds_the_latest_of_equal_frames(rt: HostRuntime) {
+    let mut net = Net::new(rt.alloc(), Millis(0));
+    let first = sends(&mut net, 1, b"ask", 1);
+    let second = sends(&mut net, 2, b"ask", 2);
+    let third = sends(&mut net, 9, b"answer", 3);
+    assert!(rt; first && second && third);
+    let cases = [
+        ("ask", Some(FrameNo(2))),
+        ("answer", Some(FrameNo(3))),
+        ("as", None),
+    ];
+    for (frame, number) in &cases {
+        holds(&rt, net.newest_equal(frame.as_bytes()) == *number, frame);
+    }
+}
+
+#[test]
+fn says_why_a_frame_is_not_sent(rt: HostRuntime) -> Result<(), Fail> {
+    let cases = [
+        (NetRefusal::Full, "the network is full"),
+        (NetRefusal::NoMemory, "no memory"),
+    ];
+    for (refusal, text) in &cases {
+        let told = format!(in rt.alloc(); "{refusal}")?;
+        holds(&rt, told.as_str() == *text, text);
+    }
+    Ok(())
+}
