@@ -95,13 +95,21 @@ fn page_of(pieces: &[(usize, &[u8])]) -> [u8; 512] {
     page
 }
 
+/// The page of a device with so many sectors.
+fn own_page(total: u64) -> [u8; 512]
+    requires { total ≤ 2 ^ 40 }
+{
+    let mut page = [0xff; 512];
+    identify_page(total, b"e1.0                ", &mut page);
+    page
+}
+
 /// Whether the page of a device with so many sectors is the stated one, with these words for the short
 /// and for the long count, and tells that count.
 fn tells<'a>(total: u64, short: &'a [u8; 4], long: &'a [u8; 8]) -> bool
     requires { total ≤ 2 ^ 40 }
 {
-    let mut page = [0xff; 512];
-    identify_page(total, b"e1.0                ", &mut page);
+    let page = own_page(total);
     let wanted = page_of(&[
         (20, b"1e0.                "),
         (46, b"OA1E    "),
