@@ -10,7 +10,8 @@
 //! and starts no thread.
 #![tactic(auto)]
 
-ghost use Rattle.std.specs.Prelude.{◌≡◌, All, IfOk, IsSome, length};
+ghost use Rattle.std.specs.Prelude.{◌≡◌, All, IfOk, IsSome, length, map, string_bytes};
+ghost use Rattle.aoe_words.specs.Words.{file_names, port_words};
 
 mod clock;
 mod files;
@@ -27,7 +28,7 @@ use clock::SystemClock;
 use files::{FileDisk, FileRefusal};
 use status::Status;
 use std::fs::File;
-use std::io::{BufReader, ErrorKind};
+use std::io::{BufReader, ErrorKind, Read};
 use std::process::ExitCode;
 use std::{env, io};
 use streams::{Input, Output};
@@ -138,6 +139,31 @@ fn tell(rt: &HostRuntime, status: Status) -> u8 {
     status.code()
 }
 
+/// Runs the command over its files and links, the standard streams and the clock.
+fn run_over<R: Read>(
+    rt: &HostRuntime,
+    words: &[String],
+    source: &mut Input<R>,
+    disks: &mut [Option<FileDisk>],
+    links: &mut [UdpLink],
+) -> Status
+    requires count { length disks.old ≡ length (file_names (map string_bytes words.now)) }
+    requires there { All IsSome disks.old }
+    requires links { length links.old ≡ length (port_words (map string_bytes words.now)) }
+{
+    let mut sink = Output::new(rt.stdout());
+    let mut clock = SystemClock::new(rt);
+    aoe(
+        rt.alloc(),
+        words,
+        source,
+        &mut sink,
+        disks,
+        links,
+        &mut clock,
+    )
+}
+
 /// Runs the command that the arguments spell on its files, its links and the standard streams, and gives
 /// the exit status.
 fn run_words(rt: &HostRuntime, words: &[String]) -> u8 {
@@ -162,16 +188,12 @@ fn run_words(rt: &HostRuntime, words: &[String]) -> u8 {
         return tell(rt, Status::NoMemory);
     };
     let mut source = Input::new(reader);
-    let mut sink = Output::new(rt.stdout());
-    let mut clock = SystemClock::new(rt);
-    let status = aoe(
-        rt.alloc(),
+    let status = run_over(
+        rt,
         words,
         &mut source,
-        &mut sink,
         disks.as_mut_slice(),
         links.as_mut_slice(),
-        &mut clock,
     );
     tell(rt, status)
 }
