@@ -1,4 +1,4 @@
-use crate::checks::{filled, holds, joined};
+use crate::checks::holds;
 use aoe_base::{Blob, NoMemory, TargetId};
 use aoe_script::{Event, Script, ScriptRefusal, Setup, Which, Why, print_script, read_script};
 use std::alloc::{AllocError, Global};
@@ -16,7 +16,7 @@ fn bad(line: u32, why: Why) -> ScriptRefusal {
 
 /// A text behind these setup lines.
 fn behind(alloc: Global, text: &str) -> Result<String, AllocError> {
-    joined(alloc, START, text)
+    format!(in alloc; "{START}{text}")
 }
 
 /// What a text spells, without what is proved of it.
@@ -252,46 +252,30 @@ fn judges_lines_by_those_before_them(rt: HostRuntime) -> Result<(), Fail> {
     judges(&rt, rt.alloc(), &JUDGED)
 }
 
-/// The numbers from 1 to 16, each decimal and hexadecimal.
-const NUMBERS: [(&str, &str); 16] = [
-    ("1", "01"),
-    ("2", "02"),
-    ("3", "03"),
-    ("4", "04"),
-    ("5", "05"),
-    ("6", "06"),
-    ("7", "07"),
-    ("8", "08"),
-    ("9", "09"),
-    ("10", "0a"),
-    ("11", "0b"),
-    ("12", "0c"),
-    ("13", "0d"),
-    ("14", "0e"),
-    ("15", "0f"),
-    ("16", "10"),
-];
+/// Setup lines of which only so many may stand.
+#[derive(Clone, Copy)]
+enum Limited {
+    Slot,
+    LargeSlot,
+    Shelf,
+    Host,
+}
 
-/// Setup lines of which only so many may stand: their numbers are at each `@`.
-const SLOT: &str = "slot s @ 1\n";
+/// The line of this number.
+fn spelled(alloc: Global, kind: Limited, n: u8) -> Result<String, AllocError> {
+    match kind {
+        Limited::Slot => format!(in alloc; "slot s {n} 1\n"),
+        Limited::LargeSlot => format!(in alloc; "slot s {n} 65536\n"),
+        Limited::Shelf => { format!(in alloc; "shelf t{n} {n}0 02:00:00:00:01:{n:02x} 1500\n") }
+        Limited::Host => format!(in alloc; "host h{n} 02:00:00:00:02:{n:02x}\n"),
+    }
+}
 
-const LARGE_SLOT: &str = "slot s @ 65536\n";
-
-const SHELF: &str = "shelf t@ @0 02:00:00:00:01:@ 1500\n";
-
-const HOST: &str = "host h@ 02:00:00:00:02:@\n";
-
-/// The lines of this form from 1 up to a number, and another behind them. The last number of a line is
-/// hexadecimal where it has several.
-fn lines_of(alloc: Global, form: &str, last: usize, other: &str) -> Result<String, AllocError> {
+/// The lines from 1 up to this number, and another behind them.
+fn lines_of(alloc: Global, kind: Limited, last: u8, other: &str) -> Result<String, AllocError> {
     let mut text = String::new(alloc);
-    for (number, hex) in NUMBERS.iter().take(last) {
-        let words = if form == SHELF {
-            [*number, *number, *hex]
-        } else {
-            [*number, *hex, ""]
-        };
-        text.push_str(filled(alloc, form, &words)?.as_str())?;
+    for n in 0..last {
+        text.push_str(spelled(alloc, kind, n + 1)?.as_str())?;
     }
     text.push_str(other)?;
     Ok(text)
@@ -300,26 +284,27 @@ fn lines_of(alloc: Global, form: &str, last: usize, other: &str) -> Result<Strin
 /// Whether these lines have one too many, in this line.
 fn is_over(
     alloc: Global,
-    form: &str,
-    last: usize,
+    kind: Limited,
+    last: u8,
     other: &str,
     line: u32,
 ) -> Result<bool, AllocError> {
-    let text = lines_of(alloc, form, last, other)?;
+    let text = lines_of(alloc, kind, last, other)?;
     is_bad(alloc, text.as_str(), line, Why::Size)
 }
 
 #[test]
 fn counts_what_may_stand(rt: HostRuntime) -> Result<(), Fail> {
     let cases = [
-        (SLOT, 16, "", 21),
-        (SHELF, 16, "", 21),
-        (HOST, 16, "", 21),
-        (LARGE_SLOT, 4, "", 9),
-        (SLOT, 16, "slot t 0 1", 21),
+        (Limited::Slot, 16, "", 21),
+        (Limited::Shelf, 16, "", 21),
+        (Limited::Host, 16, "", 21),
+        (Limited::LargeSlot, 4, "", 9),
+        (Limited::Slot, 16, "slot t 0 1", 21),
     ];
-    for (form, last, other, line) in &cases {
-        holds(&rt, is_over(rt.alloc(), form, *last, other, *line)?, form);
+    for (kind, last, other, line) in &cases {
+        let over = is_over(rt.alloc(), *kind, *last, other, *line)?;
+        assert!(rt; over);
     }
     Ok(())
 }

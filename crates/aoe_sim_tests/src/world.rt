@@ -10,7 +10,7 @@ mod repeats;
 mod replays;
 mod soaks;
 
-use crate::checks::{filled, holds, joined};
+use crate::checks::holds;
 use aoe_base::{Blob, NoMemory};
 use aoe_script::{Script, ScriptRefusal, read_script};
 use aoe_transcript::print_run;
@@ -44,21 +44,11 @@ fn text_of(alloc: Global, world: &World) -> Result<Blob, NoMemory> {
     print_run(alloc, u64::from(world.events()), world.history())
 }
 
-/// The text of what happens where all events of a script run through its world.
-fn told(alloc: Global, world: &mut World, script: &Script) -> Result<Blob, Fail>
-    requires lines { world.old.lines ≡ script.now.setups }
-    requires first { world.old.events ≡ 0 }
-{
-    run_all(world, script)?;
-    Ok(text_of(alloc, world)?)
-}
-
 /// What a script's run prints.
 fn ran(alloc: Global, script: &Script) -> Result<Blob, Fail> {
-    match World::new(alloc, script) {
-        Ok(mut world) => told(alloc, &mut world, script),
-        Err(refusal) => Err(refusal.into()),
-    }
+    let mut world = World::new(alloc, script)?;
+    run_all(&mut world, script)?;
+    Ok(text_of(alloc, &world)?)
 }
 
 /// The script that a text spells, without what is proved of it.
@@ -75,7 +65,7 @@ fn gives(alloc: Global, script: &str, text: &str) -> Result<bool, Fail> {
 
 /// Whether the run of these lines, behind the lines of the stations, prints this text.
 fn prints(alloc: Global, lines: &str, text: &str) -> Result<bool, Fail> {
-    let script = joined(alloc, STATIONS, lines)?;
+    let script = format!(in alloc; "{STATIONS}{lines}")?;
     gives(alloc, script.as_str(), text)
 }
 
@@ -91,37 +81,6 @@ fn all_give(rt: &impl Abort, alloc: Global, cases: &[(&str, &str)]) -> Result<()
 fn all_print(rt: &impl Abort, alloc: Global, cases: &[(&str, &str)]) -> Result<(), Fail> {
     for (lines, text) in cases {
         holds(rt, prints(alloc, lines, text)?, text);
-    }
-    Ok(())
-}
-
-/// Whether the run of these lines, behind the lines of some stations, prints this text, where each `@`
-/// stands for the next of the words of the script, and of those of the text.
-fn prints_with(
-    alloc: Global,
-    [stations, lines, text]: [&str; 3],
-    words: &[&str],
-    told: &[&str],
-) -> Result<bool, Fail> {
-    let whole = joined(alloc, stations, lines)?;
-    let script = filled(alloc, whole.as_str(), words)?;
-    let wanted = filled(alloc, text, told)?;
-    gives(alloc, script.as_str(), wanted.as_str())
-}
-
-/// The words of a script, and those of its text.
-type Words<'a> = (&'a [&'a str], &'a [&'a str]);
-
-/// The lines print the text with each pair of words.
-fn all_print_with(
-    rt: &impl Abort,
-    alloc: Global,
-    texts: [&str; 3],
-    cases: &[Words],
-) -> Result<(), Fail> {
-    for (words, told) in cases {
-        let printed = prints_with(alloc, texts, words, told)?;
-        holds(rt, printed, told.first().map_or("", |word| *word));
     }
     Ok(())
 }

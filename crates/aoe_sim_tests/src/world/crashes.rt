@@ -1,5 +1,7 @@
 //! Crashes and faults of devices.
-use super::{STATIONS, Words, all_print, all_print_with};
+use super::{all_print, prints};
+use crate::checks::holds;
+use std::alloc::Global;
 use std::test::Fail;
 
 /// The shelf crashes between a write and the coming of its response.
@@ -51,20 +53,21 @@ fn prints_crashes(rt: HostRuntime) -> Result<(), Fail> {
     all_print(&rt, rt.alloc(), &[ACKNOWLEDGED_LATE, FAILED])
 }
 
-/// A sector of which a write is lost in a flush with the power, in some mode.
-const STOP_IN_A_FLUSH: &str = "\
-write a e1.0 3 1 5a
+/// Whether a sector of which a write is lost in a flush with the power, in this mode, is read so.
+fn stops_in_a_flush(alloc: Global, mode: &str, sector: &str) -> Result<bool, Fail> {
+    let lines = format!(in alloc;
+        "write a e1.0 3 1 5a
 pass 2
-stop e1.0 store 1 @
+stop e1.0 store 1 {mode}
 tick 2001
 flush a e1.0
 pass 1
 read a e1.0 3 1
 pass 2
-";
-
-const STOPPED_IN_A_FLUSH: &str = "\
-submit a 1 write e1.0 3 1 5a
+"
+    )?;
+    let text = format!(in alloc;
+        "submit a 1 write e1.0 3 1 5a
 sent a 1 1
 arrive e1.0 1 wrote 3 1 reply 2
 took a 2
@@ -79,38 +82,47 @@ submit a 3 read e1.0 3 1
 sent a 3 4
 arrive e1.0 4 none reply 5
 took a 5
-done a 3 read @
+done a 3 read {sector}
 summary events 8 frames 5 sent 3 again 0 arrived 3 done 2 lost 0 crashed 1
-";
+"
+    )?;
+    prints(alloc, lines.as_str(), text.as_str())
+}
 
 /// The power is lost in a flush: what stands in the sector goes by the mode.
 #[test]
 fn prints_a_stop_in_a_flush(rt: HostRuntime) -> Result<(), Fail> {
-    let cases: [Words; 4] = [
-        (&["keep"], &["5a*512"]),
-        (&["old"], &["00*512"]),
-        (&["torn"], &["5a*256,00*256"]),
-        (&["mix:0"], &["ee*512"]),
+    let cases = [
+        ("keep", "5a*512"),
+        ("old", "00*512"),
+        ("torn", "5a*256,00*256"),
+        ("mix:0", "ee*512"),
     ];
-    let texts = [STATIONS, STOP_IN_A_FLUSH, STOPPED_IN_A_FLUSH];
-    all_print_with(&rt, rt.alloc(), texts, &cases)
+    for (mode, sector) in &cases {
+        holds(&rt, stops_in_a_flush(rt.alloc(), mode, sector)?, mode);
+    }
+    Ok(())
 }
 
-/// An edit of the config in which the power is lost at a device call, in some mode.
-const STOP_IN_AN_EDIT: &str = "\
-stop e1.0 keep @ @
+/// Whether an edit of the config in which the power is lost at this device call leaves this.
+fn stops_in_an_edit(alloc: Global, k: u32, mode: &str, config: &str) -> Result<bool, Fail> {
+    let lines = format!(in alloc;
+        "stop e1.0 keep {k} {mode}
 config a e1.0 force 6162
 pass 1
-";
-
-const STOPPED_IN_AN_EDIT: &str = "\
-armed e1.0 keep stop @
+"
+    )?;
+    let text = format!(in alloc;
+        "armed e1.0 keep stop {k}
 submit a 1 config e1.0 force 6162
 sent a 1 1
 arrive e1.0 1 cut
-crashed e1.0 config @ masks - reserves -
+crashed e1.0 config {config} masks - reserves -
 summary events 3 frames 1 sent 1 again 0 arrived 1 done 0 lost 0 crashed 1
-";
+"
+    )?;
+    prints(alloc, lines.as_str(), text.as_str())
+}
 
 /// The seventh device call isn't made.
 const NOT_STOPPED: (&str, &str) = (
@@ -127,25 +139,23 @@ summary events 3 frames 2 sent 1 again 0 arrived 1 done 0 lost 0 crashed 0
 /// The power is lost in an edit of the lists: one of its six device calls is the last.
 #[test]
 fn prints_a_stop_in_an_edit(rt: HostRuntime) -> Result<(), Fail> {
-    let cases: [Words; 12] = [
-        (&["1", "keep"], &["1", "-"]),
-        (&["1", "old"], &["1", "-"]),
-        (&["2", "keep"], &["2", "-"]),
-        (&["2", "old"], &["2", "-"]),
-        (&["3", "keep"], &["3", "-"]),
-        (&["3", "old"], &["3", "-"]),
-        (&["4", "keep"], &["4", "-"]),
-        (&["4", "old"], &["4", "-"]),
-        (&["5", "keep"], &["5", "-"]),
-        (&["5", "old"], &["5", "-"]),
-        (&["6", "keep"], &["6", "6162"]),
-        (&["6", "old"], &["6", "-"]),
+    let cases = [
+        (1, "keep", "-"),
+        (1, "old", "-"),
+        (2, "keep", "-"),
+        (2, "old", "-"),
+        (3, "keep", "-"),
+        (3, "old", "-"),
+        (4, "keep", "-"),
+        (4, "old", "-"),
+        (5, "keep", "-"),
+        (5, "old", "-"),
+        (6, "keep", "6162"),
+        (6, "old", "-"),
     ];
-    let texts = [STATIONS, STOP_IN_AN_EDIT, STOPPED_IN_AN_EDIT];
-    all_print_with(&rt, rt.alloc(), texts, &cases)
-}
-
-#[test]
-fn prints_an_edit_behind_which_it_would_stop(rt: HostRuntime) -> Result<(), Fail> {
+    for (k, mode, config) in &cases {
+        let stopped = stops_in_an_edit(rt.alloc(), *k, mode, config)?;
+        assert!(rt; stopped, "{k} {mode}");
+    }
     all_print(&rt, rt.alloc(), &[NOT_STOPPED])
 }
