@@ -29,9 +29,25 @@ impl CommandCode {
         self as u8
     }
 
-    /// The command with this code.
+    /// The command with this code. Reads and writes with an address of 48 bits come most often, and
+    /// are looked for first.
     #[inline(always)]
     pub fn with_code(code: u8) -> Option<CommandCode>
+        ensures { result ≡ command_with code }
+    {
+        if code == 0x24 {
+            return Some(CommandCode::ReadSectorsExt);
+        }
+        if code == 0x34 {
+            return Some(CommandCode::WriteSectorsExt);
+        }
+        CommandCode::with_code_apart(code)
+    }
+
+    /// The same in a function of its own.
+    #[cold]
+    #[inline(never)]
+    fn with_code_apart(code: u8) -> Option<CommandCode>
         ensures { result ≡ command_with code }
     {
         match code {

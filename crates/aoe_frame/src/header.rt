@@ -130,6 +130,15 @@ impl<'a> HeaderView<'a> {
         }
     }
 
+    /// The same view once more. What stands in a function of its own gets a copy, so that the view itself
+    /// needn't stand in memory for it.
+    #[inline(always)]
+    pub fn copy(&self) -> HeaderView<'a>
+        ensures { result ≡ self.now }
+    {
+        HeaderView { frame: self.frame }
+    }
+
     /// The destination.
     #[inline(always)]
     pub fn dst(&self) -> Mac

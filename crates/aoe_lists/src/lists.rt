@@ -101,6 +101,7 @@ pub fn serves_all(lists: &Lists) -> bool
 }
 
 /// Whether a station is answered at all: the mask list is empty or has it.
+#[cold]
 #[inline(never)]
 pub fn admits(lists: &Lists, source: Mac) -> bool
     ensures value { result ≡ is_admitted lists.now source }
@@ -110,6 +111,7 @@ pub fn admits(lists: &Lists, source: Mac) -> bool
 }
 
 /// Whether a station's ATA commands are done: the reserve list is empty or has it.
+#[cold]
 #[inline(never)]
 pub fn may_use(lists: &Lists, source: Mac) -> bool
     ensures value { result ≡ is_user lists.now source }

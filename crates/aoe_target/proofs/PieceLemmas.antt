@@ -27,6 +27,12 @@ front_of xs ys long = take_at (take 36 xs) ys 36 (length-take-le 36 xs long)
 pub back_of : (xs ys : List ℕ) → 36 ≤ length xs → drop 36 (take 36 xs ++ ys) ≡ ys
 back_of xs ys long = drop_at (take 36 xs) ys 36 (length-take-le 36 xs long)
 
+-- a reply that has data isn't padded
+pub padded_whole : (out : List ℕ) → 60 ≤ length out → out ≡ padded out
+padded_whole out long =
+    let none : 60 - length out ≡ 0 = omega (arith, long) in
+    sym (ap (λ (n : ℕ). out ++ replicate n 0) none ∙ append-nil out)
+
 -- the data in a padded reply
 pub data_in : (out : List ℕ) (n : ℕ) → length out ≡ 36 + n → take (36 + n - 36) (drop 36 (padded out)) ≡ drop 36 out
 data_in out n size =

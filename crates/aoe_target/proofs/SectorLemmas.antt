@@ -12,7 +12,7 @@ use Rattle.aoe_disk.proofs.Pieces.{is_loose-with_marks_inside, is_loose-with_mar
 use Rattle.aoe_disk.proofs.Touching.{sector-with_piece, sector-with_sector, sector-with_sector_other, puts_touch, settles_kept}
 use Rattle.aoe_store.specs.Store.{MaySpoil}
 use Rattle.aoe_store.proofs.Spoiling.{may_spoil_touch}
-use Rattle.aoe_target.specs.Sectors.{Sectors, Same, Agrees, in_span, value_in, sectors_of, puts, spoils, left_by_fault, learns, settles}
+use Rattle.aoe_target.specs.Sectors.{Sectors, Same, Agrees, in_span, value_in, sectors_of, puts, spoils, left_by_fault, settles}
 
 before_span : (at n s : ℕ) → s < at → (nat_le at s && nat_lt s (at + n)) ≡ false
 before_span at n s h = grind (arith, nat_tests)

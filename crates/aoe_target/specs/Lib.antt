@@ -6,4 +6,5 @@ pub mod Law
 pub mod Receive
 pub mod Mounted
 pub mod History
+pub mod Told
 pub mod Turn

@@ -1,5 +1,5 @@
 -- What a target does with a frame: the first check that applies decides (AoEr11, "Common AoE header" and the four commands).
-use Rattle.std.specs.Prelude.{ℕ, ◌^◌, ◌<◌, Bool, ◌&&◌, ◌||◌, ◌==◌, not, List, drop, nat_lt, Result, Ok, Err, if◌then◌else◌, is_some}
+use Rattle.std.specs.Prelude.{ℕ, ◌^◌, ◌<◌, Bool, ◌&&◌, ◌||◌, ◌==◌, not, List, drop, nat_lt, Option, Some, None, Result, Ok, Err, if◌then◌else◌, is_some}
 use Rattle.aoe_base.specs.declared.address.Mac.{Mac}
 use Rattle.aoe_frame.specs.Header.{head, fields}
 use Rattle.aoe_frame.specs.declared.header.Header.{Header}
@@ -37,6 +37,14 @@ abbrev pub ata_verdict : Station → Settings → Mac → List ℕ → Verdict
 ata_verdict station lists source args =
     if not (may_use lists source) then Refused TargetIsReserved
     else decided (decision station.sectors station.max args)
+
+-- the part of the lists that a command is about
+abbrev pub list_command_of : ℕ → Option ListCommand
+list_command_of command =
+    if command == 1 then Some Config
+    else if command == 2 then Some Masks
+    else if command == 3 then Some Reserves
+    else None
 
 -- a request with this header and these bytes behind it
 abbrev pub judged : Station → Settings → Header → List ℕ → Verdict

@@ -15,13 +15,14 @@ ghost use Rattle.aoe_target.specs.Sectors.{sectors_of};
 ghost use Rattle.aoe_target.specs.Law.{AllowsAta, Gives, AnswersSync, Verifies, AnswersWrite, replied};
 ghost use Rattle.aoe_target.specs.Receive.{Leaves, TurnsUnder, ata_calls, calls_for, is_fault};
 ghost use Rattle.aoe_target.specs.Mounted.{FitsStore};
+ghost use Rattle.aoe_target.specs.Told.{Names};
 
 use crate::reply::{DATA_AT, put_front, reply_apart, reply_ata, reply_page};
 use crate::verdict::args_of;
 use crate::{Effect, Station};
 use aoe_ata::{AtaAnswer, AtaArgs, AtaDecision, AtaOutcome, put_data};
 use aoe_base::{Failed, SECTOR_LEN, Span};
-use aoe_frame::{Frame, HeaderView, pad, stretch};
+use aoe_frame::{Frame, HeaderView, stretch};
 use aoe_store::Store;
 
 /// Makes `out` the header and the registers of a reply with sectors, and room for these. The room
@@ -77,12 +78,9 @@ fn give<S: Store>(
 {
     begin_data(station, header, args, span.count, out);
     match read_into(store, span, out) {
-        Ok(()) => {
-            pad(out);
-            Effect::None
-        }
+        Ok(()) => Effect::None,
         Err(Failed) => {
-            reply_apart(station, header, *args, AtaOutcome::Uncorrectable, out);
+            reply_apart(station, header, args, AtaOutcome::Uncorrectable, out);
             Effect::ReadFault
         }
     }
@@ -90,6 +88,7 @@ fn give<S: Store>(
 
 /// Reads sectors, and replies without them. The frame serves as the place to read them into. The
 /// result is a small one, for which the caller makes no room.
+#[cold]
 #[inline(never)]
 fn verify<S: Store>(
     store: &mut S,
@@ -111,17 +110,17 @@ fn verify<S: Store>(
     begin_data(station, header, &args, span.count, out);
     match read_into(store, span, out) {
         Ok(()) => {
-            reply_apart(station, header, args, AtaOutcome::Done, out);
+            reply_apart(station, header, &args, AtaOutcome::Done, out);
             Ok(())
         }
         Err(Failed) => {
-            reply_apart(station, header, args, AtaOutcome::Uncorrectable, out);
+            reply_apart(station, header, &args, AtaOutcome::Uncorrectable, out);
             Err(Failed)
         }
     }
 }
 
-/// Writes the data of a frame.
+/// Writes the data of a frame, and puts the sectors into `wrote`.
 #[inline(always)]
 fn put<S: Store>(
     store: &mut S,
@@ -130,6 +129,7 @@ fn put<S: Store>(
     frame: &[u8],
     args: &AtaArgs,
     span: Span,
+    wrote: &mut Span,
     out: &mut Frame,
 ) -> Effect
     requires mounted { FitsStore station.now (S.state store.old) }
@@ -142,20 +142,23 @@ fn put<S: Store>(
     ensures call { IsRun 1 (is_fault result) (S.state store.old) (S.state store.new) }
     ensures log { Logs (ata_calls frame.now (AtaAnswer.Put span)) (S.state store.old) (S.state store.new) }
     ensures under { BothTell (SpendsUnder span.count (is_fault result)) (S.under store.old) (S.under store.new) }
+    ensures names { Names result wrote.new }
 {
+    *wrote = span;
     match store.write(span.at, put_data(args_of(frame), span)) {
         Ok(()) => {
             reply_ata(station, header, args, AtaOutcome::Done, out);
             Effect::Wrote(span)
         }
         Err(Failed) => {
-            reply_apart(station, header, *args, AtaOutcome::Aborted, out);
+            reply_apart(station, header, args, AtaOutcome::Aborted, out);
             Effect::WriteFault(span)
         }
     }
 }
 
 /// Syncs the store.
+#[cold]
 #[inline(never)]
 fn sync<S: Store>(
     store: &mut S,
@@ -177,17 +180,18 @@ fn sync<S: Store>(
 {
     match store.sync() {
         Ok(()) => {
-            reply_apart(station, header, args, AtaOutcome::Done, out);
+            reply_apart(station, header, &args, AtaOutcome::Done, out);
             Ok(())
         }
         Err(Failed) => {
-            reply_apart(station, header, args, AtaOutcome::Aborted, out);
+            reply_apart(station, header, &args, AtaOutcome::Aborted, out);
             Err(Failed)
         }
     }
 }
 
-/// Does what is decided on an ATA command, and makes `out` its reply.
+/// Does what is decided on an ATA command, and makes `out` its reply. The sectors of a write are put
+/// into `wrote`.
 #[inline(always)]
 pub(crate) fn serve<S: Store>(
     store: &mut S,
@@ -195,6 +199,7 @@ pub(crate) fn serve<S: Store>(
     header: &HeaderView<'_>,
     frame: &[u8],
     decision: AtaDecision,
+    wrote: &mut Span,
     out: &mut Frame,
 ) -> Effect
     requires mounted { FitsStore station.now (S.state store.old) }
@@ -211,32 +216,33 @@ pub(crate) fn serve<S: Store>(
         (S.under store.old) (S.under store.new) }
     ensures idle { calls_for decision.answer ≡ false → store.new ≡ store.old }
     ensures fault { is_fault result ≡ true → Rose (S.state store.old).faults (S.state store.new).faults }
+    ensures names { Names result wrote.new }
 {
     let args = &decision.args;
     match decision.answer {
         AtaAnswer::Abort => {
-            reply_apart(station, header, *args, AtaOutcome::Aborted, out);
+            reply_apart(station, header, args, AtaOutcome::Aborted, out);
             Effect::None
         }
         AtaAnswer::NotFound => {
-            reply_apart(station, header, *args, AtaOutcome::NotFound, out);
+            reply_apart(station, header, args, AtaOutcome::NotFound, out);
             Effect::None
         }
         AtaAnswer::Page => {
-            reply_page(station, header, *args, out);
+            reply_page(station, &header.copy(), *args, out);
             Effect::None
         }
         AtaAnswer::Mode => {
-            reply_apart(station, header, *args, AtaOutcome::Active, out);
+            reply_apart(station, header, args, AtaOutcome::Active, out);
             Effect::None
         }
         AtaAnswer::Give(span) => give(store, station, header, args, span, out),
-        AtaAnswer::Put(span) => put(store, station, header, frame, args, span, out),
-        AtaAnswer::Verify(span) => match verify(store, station, header, *args, span, out) {
+        AtaAnswer::Put(span) => put(store, station, header, frame, args, span, wrote, out),
+        AtaAnswer::Verify(span) => match verify(store, station, &header.copy(), *args, span, out) {
             Ok(()) => Effect::None,
             Err(Failed) => Effect::ReadFault,
         },
-        AtaAnswer::Sync => match sync(store, station, header, frame, *args, out) {
+        AtaAnswer::Sync => match sync(store, station, &header.copy(), frame, *args, out) {
             Ok(()) => Effect::Synced,
             Err(Failed) => Effect::SyncFault,
         },

@@ -43,7 +43,7 @@ fn put_head(station: &Station, header: &HeaderView<'_>, error: Option<AoeError>,
     };
     match station.only_port() {
         Some(port) => put_turned(header, station.id, &port, code, out),
-        None => put_head_of(station, header, code, out),
+        None => put_head_of(station, &header.copy(), code, out),
     }
 }
 
@@ -149,7 +149,7 @@ pub(crate) fn reply_step(
 {
     match error {
         None | Some(AoeError::ConfigStringPresent) => reply(station, header, error, args, out),
-        Some(error) => refuse(station, header, frame, error, out),
+        Some(error) => refuse(station, &header.copy(), frame, error, out),
     }
 }
 
@@ -187,18 +187,33 @@ pub(crate) fn reply_ata(
     reply(station, header, None, &registers, out);
 }
 
-/// The same in a function of its own, for what comes less often.
+/// Makes `out` the reply with these registers, in a function of its own for what comes less often.
+#[cold]
 #[inline(never)]
+fn reply_registers(
+    station: &Station,
+    header: &HeaderView<'_>,
+    registers: [u8; ARGS_LEN],
+    out: &mut Frame,
+)
+    ensures { out.new.items ≡ spelled station.now header.now None registers }
+{
+    reply(station, header, None, &registers, out);
+}
+
+/// The same as [`reply_ata`], for what comes less often.
+#[inline(always)]
 pub(crate) fn reply_apart(
     station: &Station,
     header: &HeaderView<'_>,
-    args: AtaArgs,
+    args: &AtaArgs,
     outcome: AtaOutcome,
     out: &mut Frame,
 )
-    ensures { out.new.items ≡ ata_reply station.now header.now args outcome }
+    ensures { out.new.items ≡ ata_reply station.now header.now args.now outcome }
 {
-    reply_ata(station, header, &args, outcome, out);
+    let registers = args_array(&reply_args(args, outcome));
+    reply_registers(station, &header.copy(), registers, out);
 }
 
 /// Makes `out` the reply with the identify page.

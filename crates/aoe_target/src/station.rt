@@ -75,6 +75,7 @@ fn is_same(one: Mac, other: Mac) -> bool
 }
 
 /// Whether an address is one of several ports.
+#[cold]
 #[inline(never)]
 fn is_among(ports: &[Mac], address: Mac) -> bool
     ensures { result ≡ holds ports.now address }

@@ -12,11 +12,12 @@ ghost use Rattle.aoe_target.specs.Law.{AllowsStep, step_of};
 ghost use Rattle.aoe_target.specs.Receive.{fate_of, is_change, is_faulty, is_unkept, KeepsStep, Replaces};
 
 use crate::ata::serve;
+use crate::heard::{Told, heard_of, tell_of};
 use crate::reply::{refuse, reply, reply_step};
 use crate::scratch::Scratch;
 use crate::verdict::{args_of, header_of, judge, step};
 use crate::{Effect, Heard, ListCommand, Station, Verdict};
-use aoe_base::{AoeError, Failed, Ports, TargetId};
+use aoe_base::{AoeError, Failed, Ports, Span, TargetId};
 use aoe_disk::{Arm, Armed, Disk};
 use aoe_frame::{Frame, HeaderView};
 use aoe_keep::Keep;
@@ -174,7 +175,7 @@ fn tell<D: Disk>(
                 effect: Effect::None,
             }
         }
-        None => tell_step(station, keep, header, frame, command, scratch, out),
+        None => tell_step(station, keep, &header.copy(), frame, command, scratch, out),
     }
 }
 
@@ -187,6 +188,8 @@ impl<S: Store, D: Disk> Target<S, D> {
     ghost use Rattle.aoe_target.specs.Law.{IsStep};
     ghost use Rattle.aoe_target.specs.Receive.{calls_store, store_calls, edits, fate_of, is_faulty, is_unkept, MovesUnder, Replaces};
     ghost use Rattle.aoe_target.specs.Mounted.{device_of, station_of};
+    ghost use Rattle.aoe_target.specs.Told.{heard_as, NamesIn};
+    ghost use Rattle.aoe_target.specs.Turn.{Receives, TurnsDisk};
     ghost use Rattle.aoe_target.specs.Verdict.{verdict};
 
     /// A target named `id`, behind the ports of its shelf, whose frames carry up to `mtu` bytes. Its
@@ -238,7 +241,7 @@ impl<S: Store, D: Disk> Target<S, D> {
     /// 7. The answer of the lists, or of the registers; or the store is called, once, or the lists of
     ///    the keep are replaced. A read that fails is answered by UNC, a write or a sync that fails by
     ///    ABRT, and lists that can't be kept by the error "device unavailable".
-    #[inline(never)]
+    #[inline(always)]
     pub fn receive(&mut self, frame: &[u8], out: &mut Frame) -> Heard
         ensures step { (k : State) → Holds (device_of S.state D.state self.old) k
             → IsStep self.old.station k frame.now (fate_of result out.new.items) (device_of S.state D.state self.new) }
@@ -264,6 +267,45 @@ impl<S: Store, D: Disk> Target<S, D> {
             → self.new.keep ≡ self.old.keep }
         ensures edit_fault { is_unkept result ≡ true → Rose (D.state self.old.keep.disk).faults (D.state self.new.keep.disk).faults }
     {
+        let mut span = Span { at: 0, count: 0 };
+        heard_of(self.receive_apart(frame, out, &mut span), span)
+    }
+
+    /// The same in a function of its own, whose result is a small one, for which the caller makes no
+    /// room. The sectors of a write are put into `span`.
+    #[inline(never)]
+    fn receive_apart(&mut self, frame: &[u8], out: &mut Frame, span: &mut Span) -> Told
+        ensures receives { Receives S.state D.state self.old self.new frame.now (heard_as result span.new) out.new.items }
+        ensures under { TurnsDisk S.state S.under frame.now (heard_as result span.new) self.old self.new }
+    {
+        let heard = self.hear(frame, out, span);
+        tell_of(heard)
+    }
+
+    /// Does what a frame asks for, and puts the sectors of a write into `span`.
+    #[inline(always)]
+    fn hear(&mut self, frame: &[u8], out: &mut Frame, span: &mut Span) -> Heard
+        ensures step { (k : State) → Holds (device_of S.state D.state self.old) k
+            → IsStep self.old.station k frame.now (fate_of result out.new.items) (device_of S.state D.state self.new) }
+        ensures station { self.new.station ≡ self.old.station }
+        ensures silent { result ≡ Heard.Silent → out.new.items ≡ [] }
+        ensures ignored { result ≡ Heard.Ignored → out.new.items ≡ [] }
+        ensures call { OnTrue (calls_store (verdict self.old.station self.old.keep.lists frame.now))
+            (IsRun 1 (is_faulty result) (S.state self.old.store) (S.state self.new.store)) }
+        ensures log { Logs (store_calls frame.now (verdict self.old.station self.old.keep.lists frame.now))
+            (S.state self.old.store) (S.state self.new.store) }
+        ensures idle { calls_store (verdict self.old.station self.old.keep.lists frame.now) ≡ false
+            → self.new.store ≡ self.old.store }
+        ensures fault { is_faulty result ≡ true → Rose (S.state self.old.store).faults (S.state self.new.store).faults }
+        ensures under { MovesUnder (verdict self.old.station self.old.keep.lists frame.now) (is_faulty result)
+            (S.state self.old.store).contents (S.under self.old.store) (S.under self.new.store) }
+        ensures edit { OnTrue (edits self.old.station self.old.keep.lists frame.now (verdict self.old.station self.old.keep.lists frame.now))
+            (Replaces (is_unkept result) (D.state self.old.keep.disk) (D.state self.new.keep.disk)) }
+        ensures unedited { edits self.old.station self.old.keep.lists frame.now (verdict self.old.station self.old.keep.lists frame.now) ≡ false
+            → self.new.keep ≡ self.old.keep }
+        ensures edit_fault { is_unkept result ≡ true → Rose (D.state self.old.keep.disk).faults (D.state self.new.keep.disk).faults }
+        ensures names { NamesIn result span.new }
+    {
         let Some(header) = header_of(frame) else {
             out.clear();
             return Heard::Ignored;
@@ -278,7 +320,7 @@ impl<S: Store, D: Disk> Target<S, D> {
                 Heard::Silent
             }
             Verdict::Refused(error) => {
-                refuse(&self.station, &header, frame, error, out);
+                refuse(&self.station, &header.copy(), frame, error, out);
                 Heard::Replied {
                     effect: Effect::None,
                 }
@@ -301,6 +343,7 @@ impl<S: Store, D: Disk> Target<S, D> {
                     &header,
                     frame,
                     decision,
+                    span,
                     out,
                 );
                 Heard::Replied { effect }

@@ -4,7 +4,7 @@ ghost use Rattle.std.specs.Prelude.{◌≡◌, ◌≤◌, IfSome, drop, is_some,
 ghost use Rattle.aoe_frame.specs.Header.{fields, head};
 ghost use Rattle.aoe_lists.specs.Settings.{admits, may_use};
 ghost use Rattle.aoe_lists.specs.Step.{step_with};
-ghost use Rattle.aoe_target.specs.Verdict.{ata_verdict, judged, list_step, CanAct};
+ghost use Rattle.aoe_target.specs.Verdict.{ata_verdict, judged, list_command_of, list_step, CanAct};
 
 use crate::Station;
 use crate::scratch::Scratch;
@@ -108,6 +108,19 @@ fn judge_ata(station: &Station, lists: &Lists, header: &HeaderView<'_>, args: &[
     }
 }
 
+/// The part of the lists that a command is about, where it is one of those.
+#[inline(never)]
+fn list_command(command: u8) -> Option<ListCommand>
+    ensures { result ≡ list_command_of command }
+{
+    match command {
+        QUERY_CONFIG => Some(ListCommand::Config),
+        MASK_LIST => Some(ListCommand::Masks),
+        RESERVE_RELEASE => Some(ListCommand::Reserves),
+        _ => None,
+    }
+}
+
 /// What a target does with a frame that has this header and these bytes behind it.
 #[inline(always)]
 pub(crate) fn judge(
@@ -128,12 +141,12 @@ pub(crate) fn judge(
     if header.version() != AOE_VERSION {
         return Verdict::Refused(AoeError::UnsupportedVersion);
     }
-    match header.command() {
-        ATA => judge_ata(station, lists, header, args),
-        QUERY_CONFIG => Verdict::Lists(ListCommand::Config),
-        MASK_LIST => Verdict::Lists(ListCommand::Masks),
-        RESERVE_RELEASE => Verdict::Lists(ListCommand::Reserves),
-        _ => Verdict::Refused(AoeError::UnrecognizedCommand),
+    if header.command() == ATA {
+        return judge_ata(station, lists, header, args);
+    }
+    match list_command(header.command()) {
+        Some(command) => Verdict::Lists(command),
+        None => Verdict::Refused(AoeError::UnrecognizedCommand),
     }
 }
 

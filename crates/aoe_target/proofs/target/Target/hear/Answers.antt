@@ -10,7 +10,7 @@ use Rattle.aoe_target.specs.declared.heard.Effect.TheVariants as effect
 use Rattle.aoe_target.specs.declared.verdict.Verdict.{Verdict}
 use Rattle.aoe_target.specs.declared.verdict.Verdict.TheVariants.{Ignored, Silent, Refused, Lists, Ata}
 use Rattle.aoe_target.proofs.ReceiveLemmas.{same_sectors, unheard, judged_is, by_verdict, ignored_step, silent_step, refused_step, lists_step, ata_step}
-use Rattle.aoe_target.proofs.target.Target.receive.Goals as goal
+use Rattle.aoe_target.proofs.target.Target.hear.Goals as goal
 
 pub returns-in_default-clause-step : goal.returns-in_default-clause-step
 returns-in_default-clause-step g c k h =
@@ -70,7 +70,7 @@ returns-in-Refused-clause-step g c =
     let v = judged_is c.self.inside.station c.self.inside.keep.lists c.lists.result.now c.args.frame.now c.in-Some.header c.args_of.result.now (Refused c.in-Refused.error) c.in-Some.ensures.there c.in-Some.ensures.fields c.args_of.ensures c.lists.ensures c.in-Refused.ensures.verdict in
     let device = device_of g.S.Store.state g.D.Disk.state in
     let P : Mounted _ _ → Type 0 = λ t. (k : State) → Holds (device t) k → IsStep t.station k c.args.frame.now (replied effect.None c.refuse.new.out.items) (device t) in
-    subst P c.self.view_is (λ k h. refused_step c.self.inside.station _ _ k c.args.frame.now h c.in-Some.header c.in-Refused.error c.refuse.new.out.items v c.in-Some.ensures.fields c.refuse.ensures refl)
+    subst P c.self.view_is (λ k h. refused_step c.self.inside.station _ _ k c.args.frame.now h c.copy.result c.in-Refused.error c.refuse.new.out.items v (c.copy.ensures ∙ c.in-Some.ensures.fields) c.refuse.ensures refl)
 
 pub returns-in-Refused-clause-call : goal.returns-in-Refused-clause-call
 returns-in-Refused-clause-call g c =
