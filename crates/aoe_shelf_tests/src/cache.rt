@@ -1,5 +1,5 @@
 use aoe_cache::{AnyStore, Cached};
-use aoe_disk::{Arm, Loss, MemDisk};
+use aoe_disk::{Arm, MemDisk};
 use aoe_store::{ArmedStore, Direct, Store};
 use std::alloc::Global;
 use std::test::Fail;
@@ -140,72 +140,6 @@ fn writes_down_when_full(rt: HostRuntime) -> Result<(), Fail> {
     Ok(())
 }
 
-/// Fills all 128 sectors, each 37 behind the one before, by the sector's number.
-fn fill_scattered<S: Store>(store: &mut S) -> bool {
-    for i in 0..128 {
-        let at = i * 37 % 128;
-        if !fill(store, at, 1, at as u8) {
-            return false;
-        }
-    }
-    true
-}
-
-#[test]
-fn puts_scattered_sectors_in_order(rt: HostRuntime) -> Result<(), Fail> {
-    let mut store = cached(rt.alloc(), 128)?;
-    assert!(rt; fill_scattered(&mut store));
-    let steps = [
-        Step::Has(66, [66, 67, 68, 69]),
-        Step::Put(67, 1, 1),
-        Step::Syncs,
-    ];
-    assert!(rt; all_go(&mut store, &steps));
-    // Two device writes, and the sync, and the read.
-    let disk = store.close();
-    assert!(rt; disk.calls() == 4);
-    let contents = [
-        Step::Has(62, [62, 63, 64, 65]),
-        Step::Has(66, [66, 1, 68, 69]),
-    ];
-    assert!(rt; all_go(&mut Direct::new(disk), &contents));
-    Ok(())
-}
-
-#[test]
-fn joins_up_to_64_sectors(rt: HostRuntime) -> Result<(), Fail> {
-    for (count, calls) in [(64, 2), (65, 3)] {
-        let steps = [Step::Put(2, count, 1), Step::Syncs];
-        assert!(rt; ends(rt.alloc(), 100, &steps, calls, &[])?);
-    }
-    Ok(())
-}
-
-#[test]
-fn longer_writes_go_to_the_disk(rt: HostRuntime) -> Result<(), Fail> {
-    let steps = [
-        Step::Put(1, 1, 4),
-        Step::Put(0, 3, 5),
-        Step::Put(2, 1, 6),
-        Step::Has(0, [5, 5, 6, 0]),
-    ];
-    assert!(rt; ends(rt.alloc(), 2, &steps, 3, &[Step::Has(0, [5, 5, 5, 0])])?);
-    Ok(())
-}
-
-#[test]
-fn shows_the_youngest_write(rt: HostRuntime) -> Result<(), Fail> {
-    let steps = [
-        Step::Put(3, 1, 1),
-        Step::Put(1, 4, 2),
-        Step::Put(2, 1, 3),
-        Step::Has(0, [0, 2, 3, 2]),
-        Step::Has(3, [2, 2, 0, 0]),
-    ];
-    assert!(rt; all_go(&mut cached(rt.alloc(), 8)?, &steps));
-    Ok(())
-}
-
 #[test]
 fn keeps_what_could_not_be_written(rt: HostRuntime) -> Result<(), Fail> {
     let steps = [
@@ -231,33 +165,6 @@ fn keeps_what_could_not_be_written(rt: HostRuntime) -> Result<(), Fail> {
     assert!(rt; all_go(&mut store, &steps));
     let disk = store.close();
     assert!(rt; all_go(&mut Direct::new(disk), &[Step::Has(2, [8, 7, 0, 8])]));
-    Ok(())
-}
-
-#[test]
-fn loses_what_was_not_synced(rt: HostRuntime) -> Result<(), Fail> {
-    let steps = [
-        Step::Put(0, 2, 1),
-        Step::Syncs,
-        Step::Put(1, 2, 2),
-        Step::Has(0, [1, 2, 2, 0]),
-    ];
-    let mut store = cached(rt.alloc(), 4)?;
-    assert!(rt; all_go(&mut store, &steps));
-    let disk = store.close().crash(Loss::Old);
-    assert!(rt; all_go(&mut Direct::new(disk), &[Step::Has(0, [1, 1, 0, 0])]));
-    Ok(())
-}
-
-#[test]
-fn mounted_again_it_has_its_room(rt: HostRuntime) -> Result<(), Fail> {
-    let mut store = cached(rt.alloc(), 4)?;
-    assert!(rt; all_go(&mut store, &[Step::Put(0, 2, 1)]));
-    let mut store = store.crash(Loss::Keep);
-    // It holds nothing back.
-    let steps = [Step::Has(0, [0, 0, 0, 0]), Step::Put(0, 4, 2)];
-    assert!(rt; all_go(&mut store, &steps));
-    assert!(rt; store.close().calls() == 1);
     Ok(())
 }
 

@@ -1,5 +1,4 @@
 use aoe_disk::{Arm, Armed, Disk, Loss, MemDisk};
-use std::alloc::Global;
 use std::test::Fail;
 
 /// What is done to a disk, or what it then has.
@@ -11,9 +10,7 @@ enum Step {
     Has(u64, Option<[u8; 4]>),
     /// Syncs, which is done or fails.
     Syncs(bool),
-    /// The call with this number from now on fails, and no other.
-    FailsAt(u32),
-    /// It fails, and all later ones.
+    /// The call with this number from now on fails, and all later ones.
     StopsAt(u32),
     /// Whether a stop was reached.
     IsOut(bool),
@@ -39,10 +36,6 @@ fn goes(disk: &mut MemDisk, step: Step) -> bool {
         Step::Fills(at, byte, is_done) => fill(disk, at, byte) == is_done,
         Step::Has(at, bytes) => halves(disk, at) == bytes,
         Step::Syncs(is_done) => disk.sync().is_ok() == is_done,
-        Step::FailsAt(k) => {
-            disk.arm(Arm::Fail(k.max(1)));
-            true
-        }
         Step::StopsAt(k) => {
             disk.arm(Arm::Stop(k.max(1)));
             true
@@ -67,55 +60,6 @@ fn outlives(mut disk: MemDisk, steps: &[Step], calls: u64, how: Loss, then: &[St
     let has_gone = all_go(&mut disk, steps) && disk.calls() == calls;
     let mut disk = disk.crash(how);
     has_gone && all_go(&mut disk, then)
-}
-
-/// Whether a loss of power leaves this of a sector that is loose, and a further one leaves it so.
-fn leaves(alloc: Global, how: Loss, left: [u8; 4]) -> Result<bool, Fail> {
-    let steps = [
-        Step::Fills(2, 0x22, true),
-        Step::Fills(3, 0x11, true),
-        Step::Syncs(true),
-        Step::Fills(3, 0x5a, true),
-    ];
-    let then = [Step::Has(2, Some([0x22; 4])), Step::Has(3, Some(left))];
-    let mut disk = MemDisk::new(alloc, 16)?;
-    let has_gone = all_go(&mut disk, &steps);
-    Ok(has_gone && outlives(disk.crash(how), &then, 6, Loss::Old, &then))
-}
-
-#[test]
-fn loses_what_is_loose(rt: HostRuntime) -> Result<(), Fail> {
-    // Sector 3 is loose. Mix adds that number, and the sum wraps.
-    let losses = [
-        (Loss::Keep, [0x5a, 0x5a, 0x5a, 0x5a]),
-        (Loss::Old, [0x11, 0x11, 0x11, 0x11]),
-        (Loss::Torn, [0x5a, 0x5a, 0x11, 0x11]),
-        (Loss::Mix(0), [0xee, 0xee, 0xee, 0xee]),
-        (Loss::Mix(1), [0x5a, 0x5a, 0x5a, 0x5a]),
-        (Loss::Mix(2), [0x11, 0x11, 0x11, 0x11]),
-        (Loss::Mix(3), [0x5a, 0x5a, 0x11, 0x11]),
-        (Loss::Mix(u64::MAX), [0x5a, 0x5a, 0x11, 0x11]),
-    ];
-    for (how, left) in &losses {
-        assert!(rt; leaves(rt.alloc(), *how, *left)?);
-    }
-    Ok(())
-}
-
-#[test]
-fn fails_the_call_that_it_is_armed_for(rt: HostRuntime) -> Result<(), Fail> {
-    let steps = [
-        Step::StopsAt(1),
-        Step::FailsAt(3),
-        Step::Fills(0, 1, true),
-        Step::Syncs(true),
-        Step::Fills(0, 2, false),
-        Step::Has(0, Some([0xee; 4])),
-        Step::Syncs(true),
-        Step::IsOut(false),
-    ];
-    assert!(rt; outlives(MemDisk::new(rt.alloc(), 4)?, &steps, 5, Loss::Old, &[]));
-    Ok(())
 }
 
 #[test]

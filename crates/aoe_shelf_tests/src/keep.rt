@@ -1,9 +1,8 @@
 ghost use Rattle.std.specs.Prelude.{◌<◌};
 
-use aoe_base::Mac;
 use aoe_disk::{Arm, Disk, Loss, MemDisk};
 use aoe_keep::{Keep, MountRefusal};
-use aoe_lists::{AddressList, Lists};
+use aoe_lists::Lists;
 use std::alloc::Global;
 use std::test::Fail;
 
@@ -51,15 +50,6 @@ fn open_slot(disk: &mut MemDisk, slot: u64, body: &[u8; 3584]) -> bool {
     gate[0] = 0xa7;
     let at = if slot == 0 { 0 } else { 8 };
     disk.sectors() >= 16 && disk.write(at, &gate).is_ok() && write_body(disk, slot, body)
-}
-
-/// A sector, where it can be read.
-fn read(disk: &mut MemDisk, at: u64) -> Option<[u8; 512]> {
-    let mut sector = [0; 512];
-    if at >= disk.sectors() || disk.read(at, &mut sector).is_err() {
-        return None;
-    }
-    Some(sector)
 }
 
 /// An empty keep of so many zero sectors.
@@ -151,121 +141,5 @@ fn refuses_bad_bodies(rt: HostRuntime) -> Result<(), Fail> {
         }
         assert!(rt; is_bad(rt.alloc(), &body)?);
     }
-    Ok(())
-}
-
-/// What a mounting finds where its `k`-th call fails.
-fn found_failing(alloc: Global, k: u32) -> Result<FoundString, Fail>
-    requires { 0 < k }
-{
-    let mut disk = MemDisk::new(alloc, 16)?;
-    disk.fail_at(k);
-    Ok(found(disk))
-}
-
-#[test]
-fn refuses_small_disks_and_failures(rt: HostRuntime) -> Result<(), Fail> {
-    let small = MemDisk::new(rt.alloc(), 15)?;
-    assert!(rt; found(small) == Err(MountRefusal::TooSmall { sectors: 15 }));
-    for k in 1..5u32 {
-        let wanted = if k < 4 {
-            Err(MountRefusal::Failed)
-        } else {
-            Ok(None)
-        };
-        assert!(rt; found_failing(rt.alloc(), k)? == wanted);
-    }
-    Ok(())
-}
-
-#[test]
-fn says_why_a_disk_is_not_mounted(rt: HostRuntime) -> Result<(), Fail> {
-    let texts = [
-        (MountRefusal::Failed, "a device call failed"),
-        (
-            MountRefusal::TooSmall { sectors: 15 },
-            "15 sectors, 16 needed",
-        ),
-        (MountRefusal::BadKeep { slot: 0 }, "slot 0 holds no lists"),
-        (MountRefusal::BadKeep { slot: 1 }, "slot 1 holds no lists"),
-    ];
-    for (refusal, wanted) in &texts {
-        let text = format!(in rt.alloc(); "{refusal}")?;
-        assert!(rt; text.as_str() == *wanted);
-    }
-    Ok(())
-}
-
-/// Replaces the lists, and says whether that was Ok and they are these.
-fn replaces(keep: &mut Keep<MemDisk>, lists: &Lists) -> bool {
-    keep.replace(lists).is_ok() && *keep.lists() == *lists
-}
-
-/// Lists with the string `ab` and a station.
-fn lists_with_a_station() -> Lists {
-    let mut lists = lists_of(b"ab");
-    let mut masks = AddressList::new();
-    masks.push(Mac([2, 0, 0, 0, 0, 0x0a]));
-    lists.masks = masks;
-    lists
-}
-
-/// Whether a sector begins so, and is zero behind.
-fn is_sector(disk: &mut MemDisk, at: u64, begin: &[u8]) -> bool {
-    let Some(sector) = read(disk, at) else {
-        return false;
-    };
-    let zeros = [0; 512];
-    sector.as_slice().starts_with(begin)
-        && sector.as_slice().get(begin.len()..) == zeros.as_slice().get(begin.len()..)
-}
-
-#[test]
-fn writes_the_slots_in_turn(rt: HostRuntime) -> Result<(), Fail> {
-    let mut keep = empty_keep(rt.alloc(), 17)?;
-    assert!(rt; replaces(&mut keep, &lists_with_a_station()));
-    assert!(rt; replaces(&mut keep, &lists_of(b"c")));
-    assert!(rt; replaces(&mut keep, &lists_of(b"d")));
-    assert!(rt; replaces(&mut keep, &lists_with_a_station()));
-    let mut disk = keep.close();
-    // A mounting of closed slots has three calls, and a replacement six.
-    assert!(rt; disk.calls() == 27);
-    // The fourth replacement is in slot 1 again, and its turn is 0 again.
-    let body = [
-        b'A', b'o', b'E', b'K', 1, 0, 0, 2, 1, 0, b'a', b'b', 2, 0, 0, 0, 0, 0x0a,
-    ];
-    let sectors: [(u64, &[u8]); 6] = [
-        (0, b"\xa7"),
-        (8, b"\xa7"),
-        (9, &body),
-        (10, b""),
-        (15, b""),
-        (16, b""),
-    ];
-    for (at, begin) in &sectors {
-        assert!(rt; is_sector(&mut disk, *at, begin));
-    }
-    assert!(rt; found(disk) == Ok(Some(b'a')));
-    Ok(())
-}
-
-/// Whether a replacement fails with its `k`-th call, and leaves the lists.
-fn fails(keep: &mut Keep<MemDisk>, k: u32, lists: &Lists) -> bool
-    requires { 0 < k }
-{
-    keep.arm(Arm::Fail(k));
-    keep.replace(&lists_of(b"b")).is_err() && *keep.lists() == *lists
-}
-
-#[test]
-fn keeps_the_lists_after_a_failure(rt: HostRuntime) -> Result<(), Fail> {
-    let mut keep = empty_keep(rt.alloc(), 16)?;
-    let lists = lists_of(b"a");
-    assert!(rt; replaces(&mut keep, &lists));
-    for k in 1..7u32 {
-        assert!(rt; fails(&mut keep, k, &lists));
-    }
-    assert!(rt; replaces(&mut keep, &lists_of(b"c")));
-    assert!(rt; found(keep.close().crash(Loss::Old)) == Ok(Some(b'c')));
     Ok(())
 }

@@ -1,7 +1,7 @@
-ghost use Rattle.std.specs.Prelude.{◌≡◌, ◌<◌, length};
+ghost use Rattle.std.specs.Prelude.{◌<◌};
 
-use aoe_base::{BROADCAST, Mac, Ports, Span, TargetId};
-use aoe_disk::{Arm, Disk, MemDisk};
+use aoe_base::{BROADCAST, Mac, Ports};
+use aoe_disk::{Arm, MemDisk};
 use aoe_frame::{Frame, pad};
 use aoe_keep::Keep;
 use aoe_shelf::{Shelf, ShelfRefusal};
@@ -15,9 +15,6 @@ type MemShelf = Shelf<Direct<MemDisk>, MemDisk>;
 const PORT: Mac = Mac([2, 0, 0, 0, 0, 1]);
 
 const STATION: Mac = Mac([2, 0, 0, 0, 0, 0x0a]);
-
-/// A request for the config string, and one that sets it to `ab`.
-const QUERY: &[u8] = b"\0\0\0\0\0\0\0\0";
 
 const SET: &[u8] = b"\0\0\0\0\0\x03\0\x02ab";
 
@@ -97,90 +94,9 @@ fn hears(shelf: &mut MemShelf, slot: usize, frame: &Frame, told: &[u8]) -> Optio
     }
 }
 
-/// The name of the target at a slot.
-fn name(shelf: &MemShelf, slot: usize) -> Option<TargetId> {
-    if slot < shelf.count() {
-        Some(shelf.id(slot))
-    } else {
-        None
-    }
-}
-
-#[test]
-fn a_frame_for_all_targets(rt: HostRuntime) -> Result<(), Fail> {
-    let mut shelf = shelf_of_two(rt.alloc())?;
-    let query = request(BROADCAST, [0xff, 0xff], 0xff, 1, QUERY);
-    for (slot, minor) in [(0, 7), (1, 3)] {
-        let told = reply(minor, 0, 1, b"\0\x10\0\x01\x02\x10\0\0");
-        assert!(rt; hears(&mut shelf, slot, &query, told.as_slice()) == Some(Effect::None));
-        assert!(rt; name(&shelf, slot) == Some(TargetId { major: 1, minor }));
-    }
-    Ok(())
-}
-
-/// Whether a slot ignores a frame.
-fn ignores(shelf: &mut MemShelf, slot: usize, frame: &Frame) -> bool {
-    let mut out = Frame::new();
-    slot < shelf.count()
-        && shelf.receive_slot(slot, frame.as_slice(), &mut out) == Heard::Ignored
-        && out.is_empty()
-}
-
-/// Whether a slot has this config string.
-fn has_string(shelf: &MemShelf, slot: usize, string: &[u8]) -> bool {
-    slot < shelf.count() && shelf.lists(slot).config.as_slice() == string
-}
-
-#[test]
-fn a_frame_for_one_target(rt: HostRuntime) -> Result<(), Fail> {
-    let mut shelf = shelf_of_two(rt.alloc())?;
-    let set = request(PORT, [0, 1], 3, 1, SET);
-    let told = reply(3, 0, 1, b"\0\x10\0\x01\x02\x13\0\x02ab");
-    assert!(rt; ignores(&mut shelf, 0, &set));
-    assert!(rt; hears(&mut shelf, 1, &set, told.as_slice()) == Some(Effect::Edited));
-    assert!(rt; has_string(&shelf, 0, b"") && has_string(&shelf, 1, b"ab"));
-    Ok(())
-}
-
 /// Whether a slot is synced.
 fn syncs(shelf: &mut MemShelf, slot: usize) -> bool {
     slot < shelf.count() && shelf.sync_slot(slot).is_ok()
-}
-
-/// Takes the last target, and gives its disk.
-fn take_disk(shelf: &mut MemShelf) -> Option<MemDisk> {
-    match shelf.take_last() {
-        Some((store, _)) => Some(store.close()),
-        None => None,
-    }
-}
-
-/// Whether so many calls of a disk were made, and its last sector has this byte.
-fn is_called(disk: &mut Option<MemDisk>, calls: u64, byte: u8) -> bool {
-    let Some(disk) = disk else {
-        return false;
-    };
-    let mut sector = [0xee; 512];
-    disk.calls() == calls
-        && disk.sectors() == 16
-        && disk.read(15, &mut sector).is_ok()
-        && sector == [byte; 512]
-}
-
-#[test]
-fn a_write_to_one_target(rt: HostRuntime) -> Result<(), Fail> {
-    let mut shelf = shelf_of_two(rt.alloc())?;
-    let args = joined(&[b"\x41\0\x01\x34\x0f\0\0\0\0\0\0\0", &[7; 512]]);
-    let write = request(PORT, [0, 1], 3, 0, args.as_slice());
-    let told = reply(3, 0, 0, b"\x41\0\0\x40\x0f\0\0\0\0\0\0\0");
-    let wrote = Effect::Wrote(Span { at: 15, count: 1 });
-    assert!(rt; hears(&mut shelf, 1, &write, told.as_slice()) == Some(wrote));
-    assert!(rt; syncs(&mut shelf, 0));
-    // The last target made one write; the first one sync.
-    assert!(rt; is_called(&mut take_disk(&mut shelf), 1, 7));
-    assert!(rt; is_called(&mut take_disk(&mut shelf), 1, 0));
-    assert!(rt; take_disk(&mut shelf).is_none() && shelf.count() == 0);
-    Ok(())
 }
 
 /// Lets the store or the keep of a slot stop with its next call.

@@ -1,6 +1,6 @@
 ghost use Rattle.std.specs.Prelude.{◌<◌};
 
-use aoe_base::{Blob, Mac, Ports};
+use aoe_base::{Mac, Ports};
 use aoe_cache::{AnyStore, Cached};
 use aoe_disk::MemDisk;
 use aoe_frame::Frame;
@@ -41,14 +41,6 @@ pub(crate) fn reply(minor: u8) -> [u8; 62] {
     reply[..34].copy_from_slice(&REPLY);
     reply[20] = minor;
     reply
-}
-
-/// The replies of both targets.
-fn replies() -> [u8; 124] {
-    let mut both = [0u8; 124];
-    both[..62].copy_from_slice(&reply(0));
-    both[62..].copy_from_slice(&reply(1));
-    both
 }
 
 /// The keep of 16 zero sectors.
@@ -148,84 +140,10 @@ pub(crate) fn took(link: &MemLink, replies: &[u8]) -> bool {
     link.count() == replies.len() / LEN
 }
 
-/// Whether a stream ends so, and these bytes were written.
-fn answers(alloc: Global, input: &[u8], wanted: AnswerEnd, output: &[u8]) -> Result<bool, Fail> {
-    let mut source = MemSource::of(alloc, input)?;
-    let mut sink = MemSink::new(alloc, 1000)?;
-    let (end, _) = answered(alloc, &mut source, &mut sink)?;
-    Ok(end == wanted && sink.bytes() == output)
-}
-
-#[test]
-fn answers_streams(rt: HostRuntime) -> Result<(), Fail> {
-    let mut response = QUERY;
-    response[16] = 0x18;
-    let mut broken = [0u8; 37];
-    broken[1] = 23;
-    broken[26] = 32;
-    let cases: [(&[u8], AnswerEnd, &[u8]); 4] = [
-        (b"", AnswerEnd::Ended, b""),
-        (&QUERY, AnswerEnd::Ended, &replies()),
-        (&response, AnswerEnd::Ended, b""),
-        (&broken, AnswerEnd::Stream { offset: 25 }, b""),
-    ];
-    for (input, end, output) in &cases {
-        assert!(rt; answers(rt.alloc(), input, *end, output)?);
-    }
-    Ok(())
-}
-
-/// A link with room for two frames that brings the query, and then has ended.
-fn link_of_query(alloc: Global) -> Result<MemLink, Fail> {
-    let mut coming = Vec::new(alloc);
-    coming.push(Some(Blob::of(alloc, &QUERY[2..])?))?;
-    Ok(MemLink::of(alloc, coming, 2)?)
-}
-
-/// Whether serving the link ends with it, and it took these replies.
-fn serves(alloc: Global, frames: u32, idle: u32, told: &[u8]) -> Result<bool, Fail> {
-    let mut link = link_of_query(alloc)?;
-    let (end, _) = served(alloc, &mut link, frames, idle)?;
-    Ok(end == ServeEnd::Ended && took(&link, told))
-}
-
-#[test]
-fn serves_a_link(rt: HostRuntime) -> Result<(), Fail> {
-    // The most frames and quiet turns, and how many replies the link took.
-    let replies = replies();
-    for (frames, idle, count) in [(0, 9, 0), (1, 0, 0), (1, 9, 2), (2, 9, 2)] {
-        assert!(rt; serves(rt.alloc(), frames, idle, first(&replies, count))?);
-    }
-    Ok(())
-}
-
-/// A link that brings nothing for five turns, and then has ended.
-fn quiet_link(alloc: Global) -> Result<MemLink, Fail> {
-    let mut coming = Vec::new(alloc);
-    coming.push(None)?;
-    coming.push(None)?;
-    coming.push(None)?;
-    coming.push(None)?;
-    coming.push(None)?;
-    Ok(MemLink::of(alloc, coming, 2)?)
-}
-
 /// Whether the next turn of a link brings this, and a frame that it brings is this one.
 fn brings<L: Link>(link: &mut L, wanted: Got, frame: &[u8]) -> bool {
     let mut out = Frame::new();
     link.recv(&mut out) == Ok(wanted) && (wanted != Got::Frame || out.as_slice() == frame)
-}
-
-#[test]
-fn serves_a_quiet_link(rt: HostRuntime) -> Result<(), Fail> {
-    let mut link = quiet_link(rt.alloc())?;
-    let (end, _) = served(rt.alloc(), &mut link, 1, 3)?;
-    assert!(rt; end == ServeEnd::Ended && link.count() == 0);
-    // Three of its five turns were taken.
-    for got in [Got::Quiet, Got::Quiet, Got::Ended] {
-        assert!(rt; brings(&mut link, got, b""));
-    }
-    Ok(())
 }
 
 /// Whether a link takes the query.
