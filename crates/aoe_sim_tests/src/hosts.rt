@@ -103,17 +103,6 @@ fn is_flushed(entry: &Entry) -> bool {
     )
 }
 
-fn is_given_up(entry: &Entry) -> bool {
-    matches!(
-        entry,
-        Entry::Done {
-            ticket: 1,
-            outcome,
-            ..
-        } if matches!(outcome.get(), Outcome::GaveUp { .. })
-    )
-}
-
 /// The host asks for a flush, and gets its response twice.
 fn flush(host: &mut NamedHost, run: &mut Run) -> Result<(), Fail>
     requires device { is_some (position (λ d. same_id d.about.id DEVICE) host.old.core.devices) ≡ true }
@@ -163,38 +152,11 @@ fn refuses_empty(host: &mut NamedHost, run: &mut Run) -> Result<bool, Fail>
     Ok(has_empty(run.history()))
 }
 
-/// Whether the time until a host gives a command up went by, where none did before.
-fn wait(run: &mut Run) -> Result<bool, NoMemory> {
-    if run.clock() != Millis(0) {
-        return Ok(false);
-    }
-    run.tick(180_000)?;
-    Ok(true)
-}
-
-/// Whether the last of four entries is that the command was given up.
-fn has_given_up(history: &History) -> bool {
-    history.count() == 4 && is_given_up(history.entry(3))
-}
-
-/// Whether a flush is given up when the time has gone by.
-fn gives_up(host: &mut NamedHost, run: &mut Run) -> Result<bool, Fail>
-    requires device { is_some (position (λ d. same_id d.about.id DEVICE) host.old.core.devices) ≡ true }
-    requires tickets { host.old.core.last_ticket ≡ 0 }
-{
-    submit(host, run, Op::Flush)?;
-    turn(host, run)?;
-    let waited = wait(run)?;
-    turn(host, run)?;
-    Ok(waited && has_given_up(run.history()))
-}
-
 /// What a host does here.
 #[derive(Clone, Copy)]
 enum Course {
     EndsOnce,
     RefusesEmpty,
-    GivesUp,
 }
 
 /// Whether a new host does so.
@@ -204,7 +166,6 @@ fn does(alloc: Global, course: Course) -> Result<bool, Fail> {
     match course {
         Course::EndsOnce => ends_once(&mut host, &mut run),
         Course::RefusesEmpty => refuses_empty(&mut host, &mut run),
-        Course::GivesUp => gives_up(&mut host, &mut run),
     }
 }
 
@@ -217,11 +178,5 @@ fn a_response_ends_its_command_once(rt: HostRuntime) -> Result<(), Fail> {
 #[test]
 fn an_empty_read_is_refused(rt: HostRuntime) -> Result<(), Fail> {
     assert!(rt; does(rt.alloc(), Course::RefusesEmpty)?);
-    Ok(())
-}
-
-#[test]
-fn a_command_without_a_response_is_given_up(rt: HostRuntime) -> Result<(), Fail> {
-    assert!(rt; does(rt.alloc(), Course::GivesUp)?);
     Ok(())
 }

@@ -1,5 +1,5 @@
 use aoe_base::Blob;
-use aoe_io::{Clock, JoinedLink, MemSink, MemSource, SetClock};
+use aoe_io::{JoinedLink, MemSink, MemSource, SetClock};
 use aoe_live::{LiveRefusal, live};
 use aoe_world::{ReplayEnd, replay};
 use std::alloc::Global;
@@ -48,29 +48,5 @@ fn a_replay_of_what_was_recorded_finishes_all_commands(rt: HostRuntime) -> Resul
     let script = recorded(rt.alloc())?;
     let text = replayed(rt.alloc(), script.bytes())?;
     assert!(rt; text.is_some_and(|text| count_done(text.bytes()) == 11));
-    Ok(())
-}
-
-/// Why a run with a command over two links that nobody answers ends, and what its clock answers then.
-fn unanswered(alloc: Global, step: u64, turns: u32) -> Result<(Option<LiveRefusal>, u64), Fail> {
-    let (mut one, _far_one) = JoinedLink::pair(alloc, 64)?;
-    let (mut two, _far_two) = JoinedLink::pair(alloc, 64)?;
-    let mut clock = SetClock::new(0, step);
-    let ended = run(alloc, 1, turns, &mut one, &mut two, &mut clock);
-    Ok((ended.err(), clock.now()))
-}
-
-#[test]
-fn twenty_quiet_turns_end_a_run(rt: HostRuntime) -> Result<(), Fail> {
-    let (refusal, clock) = unanswered(rt.alloc(), 10, 20)?;
-    assert!(rt; refusal == Some(LiveRefusal::Unanswered { turns: 20 }) && clock == 200);
-    Ok(())
-}
-
-#[test]
-fn a_command_that_is_given_up_ends_a_run(rt: HostRuntime) -> Result<(), Fail> {
-    let (refusal, clock) = unanswered(rt.alloc(), 200_000, 5000)?;
-    assert!(rt; refusal == Some(LiveRefusal::Unanswered { turns: 5000 }));
-    assert!(rt; clock < 5000 * 200_000);
     Ok(())
 }

@@ -40,23 +40,6 @@ fn hands_over_within_the_lifetime(rt: HostRuntime) {
 }
 
 #[test]
-fn finds_the_latest_of_equal_frames(rt: HostRuntime) {
-    let mut net = Net::new(rt.alloc(), Millis(0));
-    let first = sends(&mut net, 1, b"ask", 1);
-    let second = sends(&mut net, 2, b"ask", 2);
-    let third = sends(&mut net, 9, b"answer", 3);
-    assert!(rt; first && second && third);
-    let cases = [
-        ("ask", Some(FrameNo(2))),
-        ("answer", Some(FrameNo(3))),
-        ("as", None),
-    ];
-    for (frame, number) in &cases {
-        holds(&rt, net.newest_equal(frame.as_bytes()) == *number, frame);
-    }
-}
-
-#[test]
 fn says_why_a_frame_is_not_sent(rt: HostRuntime) -> Result<(), Fail> {
     let cases = [
         (NetRefusal::Full, "the network is full"),

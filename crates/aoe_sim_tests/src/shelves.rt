@@ -37,18 +37,6 @@ fn shelf_of_two(alloc: Global) -> Result<MemoryRack, Fail>
     Ok(rack)
 }
 
-/// A request to the target 1.3 with an ATA command on the sector 2, and these bytes behind it.
-fn ata(aflags: u8, count: u8, command: u8, data: &[u8]) -> Frame {
-    let mut frame = Frame::new();
-    let head = [0x88, 0xa2, 0x10, 0, 0, 1, 3, 0, 0, 0, 0, 7];
-    let args = [aflags, 0, count, command, 2, 0, 0, 0, 0, 0, 0, 0];
-    let pieces: [&[u8]; 5] = [&PORT.0, &STATION.0, &head, &args, data];
-    for piece in pieces {
-        let _ = frame.try_extend_from_slice(piece);
-    }
-    frame
-}
-
 /// Hands over the frame of this number.
 fn arrive(
     rack: &mut MemoryRack,
@@ -149,60 +137,11 @@ fn stops_once(rack: &mut MemoryRack, run: &mut Run) -> Result<bool, Fail>
     Ok(stopped && has(run, 8, 3))
 }
 
-/// Whether a target crashed, and the string of its config is `ab`.
-fn is_crash_with_string(entry: &Entry) -> bool {
-    matches!(entry, Entry::Crashed { lists, .. } if lists.get().config.as_slice() == b"ab".as_slice())
-}
-
-/// Whether the last two of five entries are such crashes.
-fn has_strings(history: &History) -> bool {
-    history.count() == 5
-        && is_crash_with_string(history.entry(3))
-        && is_crash_with_string(history.entry(4))
-}
-
-fn crash(rack: &mut MemoryRack, run: &mut Run, how: Loss) -> Result<(), NoMemory> {
-    rack.crash(run, how)
-}
-
-/// Whether a crash leaves the lists of both targets.
-fn leaves_lists(rack: &mut MemoryRack, run: &mut Run) -> Result<bool, Fail> {
-    asked(rack, run, &set_all())?;
-    crash(rack, run, Loss::Old)?;
-    Ok(has_strings(run.history()))
-}
-
-/// Writes the sector, and flushes it or not.
-fn write(rack: &mut MemoryRack, run: &mut Run, is_flushed: bool) -> Result<(), Fail> {
-    asked(rack, run, &ata(0x41, 1, 0x34, &[0x5a; 512]))?;
-    if is_flushed {
-        asked(rack, run, &ata(0x40, 0, 0xea, &[]))?;
-    }
-    Ok(())
-}
-
-/// Whether a read of the sector gives this byte first.
-fn reads(rack: &mut MemoryRack, run: &mut Run, byte: u8) -> Result<bool, Fail> {
-    let reply = asked(rack, run, &ata(0x40, 1, 0x24, &[]))?;
-    Ok(reply.as_slice().get(36) == Some(&byte))
-}
-
-/// Whether a crash leaves this of a write that was flushed or not.
-fn leaves(rack: &mut MemoryRack, run: &mut Run, is_flushed: bool, byte: u8) -> Result<bool, Fail> {
-    write(rack, run, is_flushed)?;
-    let written = reads(rack, run, 0x5a)?;
-    crash(rack, run, Loss::Keep)?;
-    Ok(written && reads(rack, run, byte)?)
-}
-
 /// What a shelf does here.
 #[derive(Clone, Copy)]
 enum Course {
     Answers,
     StopsOnce,
-    LeavesLists,
-    LosesWrite,
-    LeavesFlushed,
 }
 
 /// Whether a new shelf does so.
@@ -212,9 +151,6 @@ fn does(alloc: Global, course: Course) -> Result<bool, Fail> {
     match course {
         Course::Answers => answers(&mut rack, &mut run),
         Course::StopsOnce => stops_once(&mut rack, &mut run),
-        Course::LeavesLists => leaves_lists(&mut rack, &mut run),
-        Course::LosesWrite => leaves(&mut rack, &mut run, false, 0),
-        Course::LeavesFlushed => leaves(&mut rack, &mut run, true, 0x5a),
     }
 }
 
@@ -227,18 +163,5 @@ fn each_target_answers(rt: HostRuntime) -> Result<(), Fail> {
 #[test]
 fn a_stop_cuts_the_arrival(rt: HostRuntime) -> Result<(), Fail> {
     assert!(rt; does(rt.alloc(), Course::StopsOnce)?);
-    Ok(())
-}
-
-#[test]
-fn a_crash_leaves_the_lists(rt: HostRuntime) -> Result<(), Fail> {
-    assert!(rt; does(rt.alloc(), Course::LeavesLists)?);
-    Ok(())
-}
-
-#[test]
-fn a_crash_leaves_what_was_flushed(rt: HostRuntime) -> Result<(), Fail> {
-    assert!(rt; does(rt.alloc(), Course::LosesWrite)?);
-    assert!(rt; does(rt.alloc(), Course::LeavesFlushed)?);
     Ok(())
 }

@@ -1,6 +1,5 @@
 ghost use Rattle.std.specs.Prelude.{◌≤◌};
 
-use aoe_base::NoMemory;
 use aoe_script::print_script;
 use aoe_soak::soak;
 use std::alloc::Global;
@@ -91,22 +90,5 @@ fn gives_the_stated_lines(rt: HostRuntime) -> Result<(), Fail> {
     let first = gives(rt.alloc(), 0, 10, TEN)?;
     let last = gives(rt.alloc(), 65_535, 5, WRAPPED)?;
     assert!(rt; first && last);
-    Ok(())
-}
-
-/// Whether the script of a count has so many events.
-fn has(alloc: Global, count: u32, events: usize) -> Result<bool, NoMemory>
-    requires some { 1 ≤ count }
-    requires most { count ≤ 16000 }
-{
-    let script = soak(alloc, 7, count)?;
-    Ok(script.count() == events)
-}
-
-#[test]
-fn has_so_many_events(rt: HostRuntime) -> Result<(), Fail> {
-    let alloc = rt.alloc();
-    assert!(rt; has(alloc, 1, 8)? && has(alloc, 10, 31)?);
-    assert!(rt; has(alloc, 2_000, 5_006)? && has(alloc, 16_000, 40_006)?);
     Ok(())
 }

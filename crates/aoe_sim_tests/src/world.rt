@@ -7,7 +7,6 @@ mod network;
 mod paths;
 mod refusals;
 mod repeats;
-mod replays;
 mod soaks;
 
 use crate::checks::holds;

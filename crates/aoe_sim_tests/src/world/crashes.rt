@@ -48,9 +48,27 @@ summary events 3 frames 2 sent 1 again 0 arrived 1 done 1 lost 0 crashed 0
 ",
 );
 
+/// A flush fails on the disk.
+const UNSYNCED: (&str, &str) = (
+    "\
+fail e1.0 store 1
+flush a e1.0
+pass 2
+",
+    "\
+armed e1.0 store fail 1
+submit a 1 flush e1.0
+sent a 1 1
+arrive e1.0 1 sync-fault reply 2
+took a 2
+done a 1 ata 41 04
+summary events 3 frames 2 sent 1 again 0 arrived 1 done 1 lost 0 crashed 0
+",
+);
+
 #[test]
 fn prints_crashes(rt: HostRuntime) -> Result<(), Fail> {
-    all_print(&rt, rt.alloc(), &[ACKNOWLEDGED_LATE, FAILED])
+    all_print(&rt, rt.alloc(), &[ACKNOWLEDGED_LATE, FAILED, UNSYNCED])
 }
 
 /// Whether a sector of which a write is lost in a flush with the power, in this mode, is read so.
@@ -155,7 +173,7 @@ fn prints_a_stop_in_an_edit(rt: HostRuntime) -> Result<(), Fail> {
     ];
     for (k, mode, config) in &cases {
         let stopped = stops_in_an_edit(rt.alloc(), *k, mode, config)?;
-        assert!(rt; stopped, "{k} {mode}");
+        assert!(rt; stopped);
     }
     all_print(&rt, rt.alloc(), &[NOT_STOPPED])
 }
