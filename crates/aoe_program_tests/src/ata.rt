@@ -2,57 +2,11 @@
 ghost use Rattle.std.specs.Prelude.{◌≤◌, ◌<◌, ◌^◌};
 
 use aoe_ata::{
-    AFLAG_EXTENDED, AFLAG_WRITE, AtaAnswer, AtaArgs, AtaCommand, AtaOutcome, CommandCode,
-    STATUS_DF, STATUS_DRDY, STATUS_DRQ, classify, decide, identify_page, is_failed, put_data,
-    read_args, read_identify, reply_args, serial_number, write_args,
+    AFLAG_EXTENDED, AFLAG_WRITE, AtaAnswer, AtaArgs, CommandCode, decide, identify_page, read_args,
+    read_identify, write_args,
 };
-use aoe_base::{AoeError, Span, TargetId};
+use aoe_base::{AoeError, Span};
 use aoe_frame::Frame;
-
-/// A request to write two sectors from 15 on.
-const WRITE: AtaArgs = AtaArgs {
-    aflags: 0x41,
-    feature: 9,
-    count: 2,
-    code: 0x34,
-    lba: 15,
-};
-
-/// Whether the reply to the request has these registers, and says that the request failed or not.
-fn replies(outcome: AtaOutcome, code: u8, feature: u8, count: u8, failed: bool) -> bool {
-    let reply = reply_args(&WRITE, outcome);
-    let wanted = AtaArgs {
-        feature,
-        count,
-        code,
-        ..WRITE
-    };
-    reply == wanted && is_failed(&reply) == failed
-}
-
-#[test]
-fn replies_by_outcomes(rt: HostRuntime) {
-    let cases = [
-        (AtaOutcome::Done, 0x40, 0, 0, false),
-        (AtaOutcome::Active, 0x40, 0, 0xff, false),
-        (AtaOutcome::Aborted, 0x41, 0x04, 0, true),
-        (AtaOutcome::NotFound, 0x41, 0x10, 0, true),
-        (AtaOutcome::Uncorrectable, 0x41, 0x40, 0, true),
-    ];
-    for (outcome, code, feature, count, failed) in &cases {
-        assert!(rt; replies(*outcome, *code, *feature, *count, *failed));
-    }
-}
-
-/// Whether a reply with this status says that its request failed.
-fn has_failed(code: u8) -> bool {
-    is_failed(&AtaArgs { code, ..WRITE })
-}
-
-#[test]
-fn a_fault_is_a_failure(rt: HostRuntime) {
-    assert!(rt; has_failed(STATUS_DRDY | STATUS_DF) && !has_failed(STATUS_DRDY | STATUS_DRQ));
-}
 
 /// Whether registers are written as these bytes, and read from them and two more, but not from fewer.
 fn go_both_ways(args: &AtaArgs, bytes: &[u8; 12]) -> bool
@@ -134,47 +88,6 @@ fn pages_of_its_own(rt: HostRuntime) {
     assert!(rt; tells(300_000_000, &short, &long));
 }
 
-/// The count that a page with these words 49 and 83 tells.
-fn told(capabilities: u16, supported: u16) -> Option<u64> {
-    let capabilities = capabilities.to_le_bytes();
-    let supported = supported.to_le_bytes();
-    read_identify(&page_of(&[
-        (98, &capabilities),
-        (120, &[1, 2, 3, 4]),
-        (166, &supported),
-        (200, &[1, 2, 3, 4, 5, 6, 7, 8]),
-    ]))
-}
-
-#[test]
-fn pages_of_others(rt: HostRuntime) {
-    let cases = [
-        (0x0200, 0x4400, Some(0x0605_0403_0201)),
-        (0x0000, 0x4400, Some(0x0605_0403_0201)),
-        (0x0200, 0xc400, Some(0x0403_0201)),
-        (0x0200, 0x0400, Some(0x0403_0201)),
-        (0x0200, 0x4000, Some(0x0403_0201)),
-        (0x0000, 0x0400, None),
-        (0xfdff, 0xbbff, None),
-    ];
-    for (capabilities, supported, total) in &cases {
-        assert!(rt; told(*capabilities, *supported) == *total);
-    }
-}
-
-#[test]
-fn names_are_filled_with_spaces(rt: HostRuntime) {
-    let first = TargetId { major: 1, minor: 0 };
-    let last = TargetId {
-        major: 65534,
-        minor: 254,
-    };
-    assert!(rt;
-        serial_number(first) == *b"e1.0                "
-            && serial_number(last) == *b"e65534.254          "
-    );
-}
-
 /// What 16 sectors, at most 2 in a command, answer to twelve bytes and at most 1024 zeros of data.
 fn answer_to(args: &[u8; 12], len: usize) -> Result<AtaAnswer, AoeError> {
     let zeros = [0; 1024];
@@ -215,68 +128,5 @@ fn answers_by_registers(rt: HostRuntime) {
     ];
     for (args, len, answer) in &cases {
         assert!(rt; answer_to(args, *len) == *answer);
-    }
-}
-
-#[test]
-fn counts_that_are_taken(rt: HostRuntime) {
-    for (count, taken) in [(0, false), (1, true), (2, true), (3, false)] {
-        for code in [0x20, 0x24, 0x40, 0x42] {
-            let args = [0x40, 0, count, code, 0, 0, 0, 0, 0, 0, 0, 0];
-            assert!(rt; answer_to(&args, 0).is_ok() == taken);
-        }
-    }
-}
-
-#[test]
-fn gives_the_data_of_a_write(rt: HostRuntime) {
-    let last = Span { at: 15, count: 1 };
-    assert!(rt; put_data(&[7; 1036], last) == [7; 512].as_slice());
-}
-
-fn short(count: u32) -> Span {
-    Span {
-        at: 0x0e00_0005,
-        count,
-    }
-}
-
-fn long(count: u32) -> Span {
-    Span {
-        at: 0xa5e0_0e00_0005,
-        count,
-    }
-}
-
-/// The command of these registers.
-fn command_of(code: u8, count: u8) -> AtaCommand {
-    classify(&AtaArgs {
-        aflags: 0,
-        feature: 0,
-        count,
-        code,
-        lba: 0xa5e0_0e00_0005,
-    })
-}
-
-#[test]
-fn commands_by_their_codes(rt: HostRuntime) {
-    let cases = [
-        (0x20, 2, AtaCommand::Read(short(2))),
-        (0x20, 0, AtaCommand::Read(short(256))),
-        (0x24, 0, AtaCommand::Read(long(65536))),
-        (0x30, 1, AtaCommand::Write(short(1))),
-        (0x34, 1, AtaCommand::Write(long(1))),
-        (0x40, 1, AtaCommand::Verify(short(1))),
-        (0x42, 1, AtaCommand::Verify(long(1))),
-        (0xe5, 0, AtaCommand::PowerMode),
-        (0xe7, 0, AtaCommand::Flush),
-        (0xea, 0, AtaCommand::Flush),
-        (0xec, 1, AtaCommand::Identify),
-        (0x25, 1, AtaCommand::Unknown),
-        (0x00, 1, AtaCommand::Unknown),
-    ];
-    for (code, count, command) in &cases {
-        assert!(rt; command_of(*code, *count) == *command);
     }
 }

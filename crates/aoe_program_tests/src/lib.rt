@@ -1,5 +1,5 @@
-//! Tests of what the program stands on and of what it reads and writes, by public calls: addresses and
-//! numbers, the registers of ATA, streams, links, and the arguments.
+//! Tests of what the program stands on and of what it reads and writes, by public calls: numbers, the
+//! registers of ATA, streams, links, and the arguments.
 //!
 //! They stand beside the crates, since a crate with tests inside it is proved once more with them.
 #![tactic(auto)]

@@ -1,10 +1,8 @@
-use aoe_base::{Blob, Failed};
+use aoe_base::Failed;
 use aoe_frame::Frame;
 use aoe_io::{
-    Clock, Got, JoinedLink, Link, MemLink, MemSink, MemSource, Next, SetClock, Sink, Source,
-    StreamRefusal, give_frame, next_frame,
+    Got, JoinedLink, Link, MemSink, MemSource, Next, StreamRefusal, give_frame, next_frame,
 };
-use std::alloc::Global;
 use std::test::Fail;
 
 /// Takes a frame of a source that has given so many bytes.
@@ -91,36 +89,6 @@ fn goes<L: Link>(link: &mut L, turn: Turn, bytes: &[u8]) -> bool {
 
 const QUIET: Turn = Turn::Gives(Ok(Got::Quiet));
 
-const ENDED: Turn = Turn::Gives(Ok(Got::Ended));
-
-/// A link with room for one frame that brings a frame, then nothing, and then has ended.
-fn link_of_one(alloc: Global) -> Result<MemLink, Fail> {
-    let mut coming = Vec::new(alloc);
-    coming.push(Some(Blob::of(alloc, b"first")?))?;
-    coming.push(None)?;
-    Ok(MemLink::of(alloc, coming, 1)?)
-}
-
-#[test]
-fn links_in_memory(rt: HostRuntime) -> Result<(), Fail> {
-    let turns: [(Turn, &[u8]); 7] = [
-        (Turn::Brings, b"first"),
-        (Turn::Gives(Err(Failed)), b""),
-        (QUIET, b""),
-        (ENDED, b""),
-        (ENDED, b""),
-        (Turn::Takes, b"answer"),
-        (Turn::Refuses, b"more"),
-    ];
-    let mut link = link_of_one(rt.alloc())?;
-    link.fail_at(2);
-    for (turn, bytes) in &turns {
-        assert!(rt; goes(&mut link, *turn, bytes));
-    }
-    assert!(rt; link.count() == 1 && link.frame(0) == b"answer".as_slice());
-    Ok(())
-}
-
 #[test]
 fn joined_links_give_what_the_other_took(rt: HostRuntime) -> Result<(), Fail> {
     let long = [0; 9019];
@@ -151,22 +119,4 @@ fn joined_links_give_what_the_other_took(rt: HostRuntime) -> Result<(), Fail> {
         assert!(rt; has_gone);
     }
     Ok(())
-}
-
-/// Whether a clock answers so.
-fn answers(start: u64, step: u64, answers: &[u64; 3]) -> bool {
-    let mut clock = SetClock::new(start, step);
-    [clock.now(), clock.now(), clock.now()] == *answers
-}
-
-#[test]
-fn clocks_go_by_steps(rt: HostRuntime) {
-    let cases = [
-        (0, 10, [0, 10, 20]),
-        (5, 0, [5, 5, 5]),
-        (u64::MAX - 1, 10, [u64::MAX - 1, u64::MAX, u64::MAX]),
-    ];
-    for (start, step, told) in &cases {
-        assert!(rt; answers(*start, *step, told));
-    }
 }

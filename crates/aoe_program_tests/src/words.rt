@@ -276,21 +276,3 @@ fn names_files_and_links(rt: HostRuntime) -> Result<(), Fail> {
     ];
     opens(&rt, rt.alloc(), &cases)
 }
-
-#[test]
-fn names_links_of_tools(rt: HostRuntime) -> Result<(), Fail> {
-    let link = "0.0.0.0:1>10.0.0.1:1";
-    let cases = [
-        ("discover --local 0.0.0.0:1 --peers 10.0.0.1:1", link),
-        ("stat --peers=10.0.0.1:1 --local=0.0.0.0:1", link),
-        ("cfg e1.2 set x --local 0.0.0.0:1 --peers 10.0.0.1:1", link),
-        ("mask e1.2 read --local 0.0.0.0:1 --peers 10.0.0.1:1", link),
-        (
-            "reserve --local 0.0.0.0:1 e1.2 --peers 10.0.0.1:1 release",
-            link,
-        ),
-        ("get e1.2 --local 0.0.0.0:1 --peers 10.0.0.1:1 0 1", link),
-        ("put --local 0.0.0.0:1 --peers 10.0.0.1:1 e1.2 0", link),
-    ];
-    opens(&rt, rt.alloc(), &cases)
-}
