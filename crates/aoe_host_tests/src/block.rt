@@ -112,26 +112,7 @@ fn a_read_is_its_parts_in_order(rt: HostRuntime) -> Result<(), Fail> {
 }
 
 #[test]
-fn a_write_that_failed_is_never_whole(rt: HostRuntime) -> Result<(), Fail> {
-    let mut block = Block::write(rt.alloc(), 16, 2, 13, sectors(&rt, 7, 3)?)?;
-    let first = block.pending()?;
-    assert!(rt; first.is_some() && matches!(first, Some(Op::Write { at: 13, .. })));
-    block.handed(Ticket(1));
-    let second = block.pending()?;
-    assert!(rt; second.is_some() && matches!(second, Some(Op::Write { at: 15, .. })));
-    block.handed(Ticket(2));
-    assert!(rt;
-        matches!(
-            block.take(ended(2, Outcome::AoeError(2))),
-            Took::Part(Outcome::AoeError(2))
-        )
-    );
-    assert!(rt; matches!(block.take(ended(1, Outcome::Written)), Took::More));
-    Ok(())
-}
-
-#[test]
-fn a_range_is_within_the_device(rt: HostRuntime) -> Result<(), Fail> {
+fn a_range_is_within_the_device(rt: HostRuntime) {
     let cases = [
         (16, 12, 5, false),
         (16, 12, 4, true),
@@ -142,10 +123,6 @@ fn a_range_is_within_the_device(rt: HostRuntime) -> Result<(), Fail> {
     ];
     for (total, at, count, is_within) in cases {
         let block = Block::read(rt.alloc(), total, 2, at, count);
-        assert_eq!(rt; block.is_ok(), is_within);
+        assert!(rt; block.is_ok() == is_within);
     }
-    let mut empty = Block::read(rt.alloc(), 16, 2, 16, 0)?;
-    assert!(rt; empty.pending()?.is_none());
-    assert!(rt; matches!(empty.take(ended(1, Outcome::Written)), Took::NotMine(_)));
-    Ok(())
 }

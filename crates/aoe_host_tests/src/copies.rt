@@ -5,7 +5,7 @@ ghost use Rattle.aoe_io.specs.LinkMemory.{IsShort};
 use aoe_base::{Blob, Mac, NoMemory, TargetId};
 use aoe_frame::Frame;
 use aoe_io::{MemLink, MemSink, MemSource, SetClock};
-use aoe_tools::{Ask, CopyRefusal, Refusal, ToolRefusal, get, put};
+use aoe_tools::{Ask, CopyRefusal, get, put};
 use std::alloc::Global;
 use std::test::Fail;
 
@@ -97,16 +97,6 @@ fn gets_sectors(rt: HostRuntime) -> Result<(), Fail> {
     Ok(())
 }
 
-#[test]
-fn gets_no_sectors_beyond_the_end(rt: HostRuntime) -> Result<(), Fail> {
-    let mut link = link_of(rt.alloc(), &[])?;
-    let mut sink = MemSink::new(rt.alloc(), 2000)?;
-    let got = gets(rt.alloc(), 15, 2, &mut sink, &mut link);
-    let refusal = ToolRefusal::Refused(Refusal::Range);
-    assert!(rt; got == Err(CopyRefusal::Tool(refusal)));
-    Ok(())
-}
-
 /// How `put` ends, with so much time from one question of the clock to the next.
 fn puts(
     alloc: Global,
@@ -146,9 +136,6 @@ fn puts_sectors(rt: HostRuntime) -> Result<(), Fail> {
 #[test]
 fn refuses_inputs(rt: HostRuntime) -> Result<(), Fail> {
     let mut link = link_of(rt.alloc(), &[])?;
-    let mut source = MemSource::of(rt.alloc(), &[1; 513])?;
-    let broken = puts(rt.alloc(), 0, &mut source, &mut link, 10);
-    assert!(rt; broken == Err(CopyRefusal::Stream { offset: 512 }) && link.count() == 0);
     let mut source = MemSource::of(rt.alloc(), &[1; 1024])?;
     source.fail_at(2);
     let failed = puts(rt.alloc(), 0, &mut source, &mut link, 10);

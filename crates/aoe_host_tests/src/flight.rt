@@ -103,29 +103,3 @@ fn a_finished_command_rests_for_two_lifetimes(rt: HostRuntime) -> Result<(), Fai
     assert!(rt; first.is_some() && finished && full && rested && next == Some(2));
     Ok(())
 }
-
-#[test]
-fn a_deadline_can_be_beyond_the_latest_time(rt: HostRuntime) -> Result<(), Fail> {
-    let last = u64::MAX;
-    let mut flight = Flight::new(rt.alloc(), 4, Millis(2000), Millis(30_000))?;
-    let one = launch(&mut flight, 1, last, last);
-    let first = due(&flight, last);
-    let two = launch(&mut flight, 2, last, 0);
-    let second = due(&flight, last);
-    assert!(rt; one.is_some() && first.is_none() && two.is_some() && second == Some(Ticket(2)));
-    Ok(())
-}
-
-#[test]
-fn the_command_that_was_due_first_comes_first(rt: HostRuntime) -> Result<(), Fail> {
-    let mut flight = Flight::new(rt.alloc(), 4, Millis(2000), Millis(30_000))?;
-    let tags = [
-        launch(&mut flight, 1, 0, 4000),
-        launch(&mut flight, 2, 10, 1000),
-        launch(&mut flight, 3, 10, 1000),
-    ];
-    let first = due(&flight, 5000);
-    assert!(rt; tags == [Some(1), Some(2), Some(3)] && first == Some(Ticket(2)));
-    assert!(rt; expired(&flight, 40_000) == Some(Ticket(1)));
-    Ok(())
-}

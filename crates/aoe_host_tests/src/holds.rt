@@ -1,5 +1,4 @@
 ghost use Rattle.std.specs.Prelude.{◌≡◌, ◌<◌, ◌≤◌, None};
-ghost use Rattle.std.specs.Option.{ForSome};
 ghost use Rattle.aoe_hold.specs.Commands.{unsent_count};
 ghost use Rattle.aoe_hold.specs.HoldTable.{at_time};
 
@@ -49,20 +48,6 @@ fn enter_writes(holds: &mut Holds, count: u32) -> bool
     true
 }
 
-/// Enters a write of a sector.
-fn enter(holds: &mut Holds, ticket: u64, sector: u64) -> bool
-    requires above { ForSome holds.old.greatest (λ greatest. greatest < ticket) }
-    ensures greatest { ForSome holds.new.greatest (λ greatest. greatest ≤ ticket) }
-    ensures latest { holds.new.latest ≡ holds.old.latest }
-{
-    if holds.held() > 9 {
-        return false;
-    }
-    holds
-        .enter(Ticket(ticket), Kind::Write, span(sector, 1))
-        .is_ok()
-}
-
 fn sent(holds: &mut Holds, ticket: u64, now: u64)
     requires { holds.old.latest ≤ now }
     ensures greatest { holds.new.greatest ≡ holds.old.greatest }
@@ -97,25 +82,4 @@ fn a_thousand_writes_of_a_sector_go_one_by_one(rt: HostRuntime) {
     finished(&mut holds, 1);
     let second = is_next(&mut holds, 5000, Some(Ticket(2)));
     assert!(rt; entered && first && waits && second && holds.held() == 999);
-}
-
-#[test]
-fn commands_that_are_clear_go_by_their_tickets(rt: HostRuntime) {
-    let mut holds = Holds::new(rt.alloc(), Millis(2000));
-    let first = [enter(&mut holds, 1, 3), enter(&mut holds, 2, 4)];
-    let clear = is_next(&mut holds, 0, Some(Ticket(1)));
-    sent(&mut holds, 1, 1000);
-    sent(&mut holds, 2, 1000);
-    sent(&mut holds, 2, 1500);
-    let second = [enter(&mut holds, 3, 4), enter(&mut holds, 4, 3)];
-    finished(&mut holds, 1);
-    finished(&mut holds, 2);
-    let then = [
-        is_next(&mut holds, 3000, None),
-        is_next(&mut holds, 3001, Some(Ticket(4))),
-        is_next(&mut holds, 3501, Some(Ticket(3))),
-    ];
-    assert!(rt;
-        first == [true, true] && clear && second == [true, true] && then == [true, true, true]
-    );
 }

@@ -1,13 +1,11 @@
 //! Tests of the host's crates by their public calls: paths, the order and the times of commands, an
-//! initiator, what it asks and understands, reads and writes of any length, and the tools.
+//! initiator, reads and writes of any length, and the tools.
 //!
 //! They stand beside the crates, since a crate with tests inside it is proved once more with them.
 #![tactic(auto)]
 
 #[cfg(test)]
 mod block;
-#[cfg(test)]
-mod conflicts;
 #[cfg(test)]
 mod copies;
 #[cfg(test)]
@@ -18,7 +16,5 @@ mod holds;
 mod initiator;
 #[cfg(test)]
 mod paths;
-#[cfg(test)]
-mod requests;
 #[cfg(test)]
 mod tools;

@@ -90,23 +90,3 @@ fn waits_four_times_the_greatest_of_eight_trips(rt: HostRuntime) -> Result<(), F
     assert!(rt; wait_between(&paths, 0xa, 2) == Some(Millis(1000)));
     Ok(())
 }
-
-/// The number of the path between two ports, where that path has these ports.
-fn number_of(paths: &Paths, local: u8, remote: u8) -> Option<PathNo> {
-    let path = paths.find(port(local), port(remote))?;
-    (paths.pair(path) == (port(local), port(remote))).then_some(path)
-}
-
-#[test]
-fn numbers_the_pairs(rt: HostRuntime) -> Result<(), Fail> {
-    let cases = [
-        (0xb, 1, Some(PathNo(2))),
-        (0xa, 2, Some(PathNo(1))),
-        (1, 0xa, None),
-    ];
-    let paths = four_paths(rt.alloc())?;
-    for (local, remote, number) in &cases {
-        assert!(rt; number_of(&paths, *local, *remote) == *number);
-    }
-    Ok(())
-}

@@ -5,11 +5,7 @@ ghost use Rattle.aoe_io.specs.LinkMemory.{IsShort};
 use aoe_base::{Blob, Mac, NoMemory, TargetId};
 use aoe_frame::Frame;
 use aoe_io::{MemLink, SetClock};
-use aoe_lists::Dir;
-use aoe_tools::{
-    Ask, Found, Refusal, ToolRefusal, cfg, discover, mask, print_config, print_found, print_masks,
-    print_reserves, print_stat, reserve, stat,
-};
+use aoe_tools::{Ask, Found, Refusal, ToolRefusal, discover, print_found, print_stat, stat};
 use std::alloc::Global;
 use std::test::Fail;
 
@@ -50,16 +46,6 @@ fn link_of(alloc: Global, turns: &[Option<([u8; 5], &[u8])>]) -> Result<MemLink,
         coming.push(turn(alloc, told)?)?;
     }
     Ok(MemLink::of(alloc, coming, 10)?)
-}
-
-/// A link that brings a response to another request, and then one from port 1 and slot 0.
-fn answering(alloc: Global, command: u8, error: u8, args: &[u8]) -> Result<MemLink, Fail> {
-    let turns = [
-        None,
-        Some(([1, 0, command, 0, 7], args)),
-        Some(([1, 0, command, error, 0], args)),
-    ];
-    link_of(alloc, &turns)
 }
 
 /// The last frame that was sent, or no bytes.
@@ -188,95 +174,15 @@ fn asks_for_pages(rt: HostRuntime) -> Result<(), Fail> {
     Ok(())
 }
 
-/// Whether a config string is read from these arguments, and printed so.
-fn reads_config(alloc: Global, args: &[u8], text: &[u8]) -> Result<bool, Fail> {
-    let ask = Ask { port: A, turns: 50 };
-    let mut link = answering(alloc, 1, 0, args)?;
-    let Ok(told) = cfg(&ask, DEVICE, 0, b"", &mut link, &mut SetClock::new(0, 10)) else {
-        return Ok(false);
-    };
-    let printed = print_config(alloc, &told)?;
-    Ok(told.as_slice() == args && printed.bytes() == text)
-}
-
-/// Whether these arguments tell how a mask list is after an edit, and are printed so.
-fn edits_masks(alloc: Global, args: &[u8], text: &[u8]) -> Result<bool, Fail> {
-    let ask = Ask { port: A, turns: 50 };
-    let dirs = [Dir { add: true, mac: A }];
-    let mut link = answering(alloc, 2, 0, args)?;
-    let mut clock = SetClock::new(0, 10);
-    let Ok(told) = mask(&ask, DEVICE, Some(&dirs), &mut link, &mut clock) else {
-        return Ok(false);
-    };
-    let printed = print_masks(alloc, &told)?;
-    Ok(told.as_slice() == args && printed.bytes() == text)
-}
-
-/// Whether these arguments tell how a reserve list is after it was set, and are printed so.
-fn sets_reserves(alloc: Global, args: &[u8], text: &[u8]) -> Result<bool, Fail> {
-    let ask = Ask { port: A, turns: 50 };
-    let mut link = answering(alloc, 3, 0, args)?;
-    let Ok(told) = reserve(&ask, DEVICE, 1, &[A], &mut link, &mut SetClock::new(0, 10)) else {
-        return Ok(false);
-    };
-    let printed = print_reserves(alloc, &told)?;
-    Ok(told.as_slice() == args && printed.bytes() == text)
-}
-
-#[test]
-fn asks_for_lists(rt: HostRuntime) -> Result<(), Fail> {
-    let string = [0, 16, 0, 1, 2, 0x10, 0, 2, b'a', b'b'];
-    assert!(rt; reads_config(rt.alloc(), &string, b"ab\n")?);
-    let masks = [0, 1, 0, 1, 0, 0, 2, 0, 0, 0, 0, 0x0a];
-    assert!(rt; edits_masks(rt.alloc(), &masks, b"02:00:00:00:00:0a\n")?);
-    let reserves = [1, 2, 2, 0, 0, 0, 0, 0x0a, 2, 0, 0, 0, 0, 0x0b];
-    let text = b"02:00:00:00:00:0a\n02:00:00:00:00:0b\n";
-    assert!(rt; sets_reserves(rt.alloc(), &reserves, text)?);
-    Ok(())
-}
-
-/// How `cfg` is refused.
-fn cfg_refusal(link: &mut MemLink, ccmd: u8, text: &[u8]) -> Option<ToolRefusal>
-    requires command { ccmd ≤ 4 }
-    requires text { length text.now ≤ 1024 }
-{
-    let ask = Ask { port: A, turns: 50 };
-    match cfg(&ask, DEVICE, ccmd, text, link, &mut SetClock::new(0, 10)) {
-        Ok(_) => None,
-        Err(refusal) => Some(refusal),
-    }
-}
-
-/// How the read of a mask list is refused.
-fn mask_refusal(link: &mut MemLink) -> Option<ToolRefusal> {
-    let ask = Ask { port: A, turns: 50 };
-    match mask(&ask, DEVICE, None, link, &mut SetClock::new(0, 10)) {
-        Ok(_) => None,
-        Err(refusal) => Some(refusal),
-    }
-}
-
 #[test]
 fn tells_refusals(rt: HostRuntime) -> Result<(), Fail> {
     let alloc = rt.alloc();
-    let set = cfg_refusal(&mut answering(alloc, 1, 4, &[])?, 3, b"cd");
-    let edited = mask_refusal(&mut answering(alloc, 2, 0, &[0, 1, 3, 0])?);
+    let edited = Some(ToolRefusal::Refused(Refusal::Mask(3)));
     let ata = Some(ToolRefusal::Refused(Refusal::Ata {
         status: 0x41,
         error: 0x10,
     }));
-    assert!(rt; code(set) == Some(10));
-    assert!(rt; says(alloc, set, b"aoe: refused: AoE error 4")?);
     assert!(rt; says(alloc, edited, b"aoe: refused: mask error 3")?);
     assert!(rt; says(alloc, ata, b"aoe: refused: ATA status 41 error 10")?);
-    Ok(())
-}
-
-#[test]
-fn ends_with_its_link(rt: HostRuntime) -> Result<(), Fail> {
-    let mut link = answering(rt.alloc(), 1, 0, &[0, 16, 0, 1, 2, 0x10, 0, 0])?;
-    link.fail_at(3);
-    let read = cfg_refusal(&mut link, 0, b"");
-    assert!(rt; code(read) == Some(6) && link.count() == 1);
     Ok(())
 }
