@@ -34,9 +34,6 @@ use std::{env, io};
 use streams::{Input, Output};
 use top::aoe;
 
-#[cfg(test)]
-mod tests;
-
 /// How much of standard input is read at a time, in bytes.
 const READ_AHEAD: usize = 65536;
 
