@@ -4,5 +4,6 @@ pub mod LawLemmas
 mod PieceLemmas
 mod PortLemmas
 mod ReceiveLemmas
+mod ReceivesLemmas
 mod ReplyLemmas
 pub mod SectorLemmas

@@ -285,25 +285,8 @@ impl<S: Store, D: Disk> Target<S, D> {
     /// Does what a frame asks for, and puts the sectors of a write into `span`.
     #[inline(always)]
     fn hear(&mut self, frame: &[u8], out: &mut Frame, span: &mut Span) -> Heard
-        ensures step { (k : State) → Holds (device_of S.state D.state self.old) k
-            → IsStep self.old.station k frame.now (fate_of result out.new.items) (device_of S.state D.state self.new) }
-        ensures station { self.new.station ≡ self.old.station }
-        ensures silent { result ≡ Heard.Silent → out.new.items ≡ [] }
-        ensures ignored { result ≡ Heard.Ignored → out.new.items ≡ [] }
-        ensures call { OnTrue (calls_store (verdict self.old.station self.old.keep.lists frame.now))
-            (IsRun 1 (is_faulty result) (S.state self.old.store) (S.state self.new.store)) }
-        ensures log { Logs (store_calls frame.now (verdict self.old.station self.old.keep.lists frame.now))
-            (S.state self.old.store) (S.state self.new.store) }
-        ensures idle { calls_store (verdict self.old.station self.old.keep.lists frame.now) ≡ false
-            → self.new.store ≡ self.old.store }
-        ensures fault { is_faulty result ≡ true → Rose (S.state self.old.store).faults (S.state self.new.store).faults }
-        ensures under { MovesUnder (verdict self.old.station self.old.keep.lists frame.now) (is_faulty result)
-            (S.state self.old.store).contents (S.under self.old.store) (S.under self.new.store) }
-        ensures edit { OnTrue (edits self.old.station self.old.keep.lists frame.now (verdict self.old.station self.old.keep.lists frame.now))
-            (Replaces (is_unkept result) (D.state self.old.keep.disk) (D.state self.new.keep.disk)) }
-        ensures unedited { edits self.old.station self.old.keep.lists frame.now (verdict self.old.station self.old.keep.lists frame.now) ≡ false
-            → self.new.keep ≡ self.old.keep }
-        ensures edit_fault { is_unkept result ≡ true → Rose (D.state self.old.keep.disk).faults (D.state self.new.keep.disk).faults }
+        ensures receives { Receives S.state D.state self.old self.new frame.now result out.new.items }
+        ensures under { TurnsDisk S.state S.under frame.now result self.old self.new }
         ensures names { NamesIn result span.new }
     {
         let Some(header) = header_of(frame) else {
