@@ -13,7 +13,6 @@ ghost use Rattle.aoe_live.specs.Tally.{tally_of};
 
 use crate::frames::{Sender, frame_by};
 use crate::refusal::LiveRefusal;
-use crate::stations::memory_alone;
 use crate::tally::Tally;
 use aoe_base::{Failed, NoMemory};
 use aoe_history::Entry;
@@ -87,7 +86,7 @@ impl Recorder<'_> {
         }
         match self.script.push(event) {
             Ok(()) => Ok(()),
-            Err(refusal) => match memory_alone(refusal) {
+            Err(refusal) => match refusal.memory_alone() {
                 NoMemory => Err(LiveRefusal::NoMemory),
             },
         }

@@ -1,12 +1,11 @@
 //! The stations: one shelf with one slot, and one host that is attached to it.
-ghost use Rattle.std.specs.Prelude.{◌≡◌, ◌≤◌, [], ◌∷◌, IfOk, Err, None};
-ghost use Rattle.aoe_script.specs.Lines.{FailsFor, ScriptLines};
+ghost use Rattle.std.specs.Prelude.{◌≡◌, ◌≤◌, [], ◌∷◌, IfOk};
 ghost use Rattle.aoe_script.specs.Print.{script_text};
 ghost use Rattle.aoe_live.specs.Stations.{stations};
 
 use aoe_base::{NoMemory, TargetId, put};
 use aoe_script::spelling::put_count;
-use aoe_script::{Name, Script, ScriptRefusal, printed_script_reads_back, read_script};
+use aoe_script::{Name, Script, printed_script_reads_back, read_script};
 use std::alloc::Global;
 
 pub(crate) const DEVICE: TargetId = TargetId { major: 1, minor: 0 };
@@ -18,18 +17,6 @@ pub(crate) fn named(letter: u8) -> Name
     let mut name = Name::new();
     name.push(letter);
     name
-}
-
-/// What is left of a refusal of lines with which nothing is wrong.
-pub(crate) fn memory_alone(refusal: ScriptRefusal) -> NoMemory
-    requires { FailsFor {T = ScriptLines} None (Err refusal) }
-{
-    match refusal {
-        ScriptRefusal::NoMemory => NoMemory,
-        ScriptRefusal::BadLine { .. } | ScriptRefusal::TooMany | ScriptRefusal::TooLong => {
-            unreachable!()
-        }
-    }
 }
 
 /// The text of the setup lines, where the slot has so many sectors.
@@ -56,6 +43,6 @@ pub(crate) fn stations(alloc: Global, sectors: u64) -> Result<Script, NoMemory>
     let text = setup_text(alloc, sectors)?;
     match read_script(alloc, text.as_slice()) {
         Ok(script) => Ok(script),
-        Err(refusal) => Err(memory_alone(refusal)),
+        Err(refusal) => Err(refusal.memory_alone()),
     }
 }

@@ -45,3 +45,20 @@ impl From<NoMemory> for ScriptRefusal {
         ScriptRefusal::NoMemory
     }
 }
+
+impl ScriptRefusal {
+    ghost use Rattle.std.specs.Prelude.{Err, None};
+    ghost use Rattle.aoe_script.specs.Lines.{FailsFor, ScriptLines};
+
+    /// What is left of a refusal of lines with which nothing is wrong.
+    pub fn memory_alone(self) -> NoMemory
+        requires { FailsFor {T = ScriptLines} None (Err self) }
+    {
+        match self {
+            ScriptRefusal::NoMemory => NoMemory,
+            ScriptRefusal::BadLine { .. } | ScriptRefusal::TooMany | ScriptRefusal::TooLong => {
+                unreachable!()
+            }
+        }
+    }
+}

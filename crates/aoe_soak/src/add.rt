@@ -3,7 +3,6 @@ ghost use Rattle.std.specs.Prelude.{◌≡◌, ◌+◌, ◌<◌, ◌≤◌, ◌+
 ghost use Rattle.aoe_script.specs.Rules.{event_why};
 ghost use Rattle.aoe_soak.specs.Adds.{Takes, with_events};
 
-use crate::memory::memory_alone;
 use aoe_base::NoMemory;
 use aoe_script::{Event, Script};
 
@@ -15,7 +14,7 @@ pub(crate) fn add(script: &mut Script, event: Event) -> Result<(), NoMemory>
 {
     match script.push(event) {
         Ok(()) => Ok(()),
-        Err(refusal) => Err(memory_alone(refusal)),
+        Err(refusal) => Err(refusal.memory_alone()),
     }
 }
 

@@ -10,7 +10,6 @@
 
 mod add;
 mod command;
-mod memory;
 mod setup;
 mod whole;
 

@@ -2,7 +2,6 @@
 ghost use Rattle.std.specs.Prelude.{◌≡◌, [], IfOk};
 ghost use Rattle.aoe_soak.specs.Soak.{stations};
 
-use crate::memory::memory_alone;
 use aoe_base::NoMemory;
 use aoe_script::{Script, read_script};
 use std::alloc::Global;
@@ -23,6 +22,6 @@ pub(crate) fn stations(alloc: Global) -> Result<Script, NoMemory>
 {
     match read_script(alloc, SETUP.as_bytes()) {
         Ok(script) => Ok(script),
-        Err(refusal) => Err(memory_alone(refusal)),
+        Err(refusal) => Err(refusal.memory_alone()),
     }
 }

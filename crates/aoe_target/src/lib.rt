@@ -24,6 +24,6 @@ mod target;
 mod verdict;
 
 pub use heard::{Effect, Heard};
-pub use station::Station;
+pub use station::{Station, max_sectors};
 pub use target::Target;
 pub use verdict::{ListCommand, Verdict};

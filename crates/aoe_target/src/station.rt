@@ -1,12 +1,12 @@
 //! The constant part of a target: its name, ports and size.
-ghost use Rattle.std.specs.Prelude.{◌≡◌, ◌<◌, ◌^◌, All, IfSome, length, slice_range};
+ghost use Rattle.std.specs.Prelude.{◌≡◌, ◌<◌, ◌≤◌, ◌-◌, ◌/◌, ◌^◌, All, IfSome, length, slice_range};
 ghost use Rattle.std.specs.Int.{w16, w32, from_be_bytes};
 ghost use Rattle.aoe_base.specs.Addresses.{holds, same_address};
 ghost use Rattle.aoe_frame.specs.declared.header.Header.{Header};
 ghost use Rattle.aoe_target.specs.Verdict.{is_heard, facts};
 ghost use Rattle.aoe_target.specs.Reply.{reply_port};
 
-use aoe_base::{BROADCAST, Mac, Ports, TargetId};
+use aoe_base::{BROADCAST, Mac, Ports, SECTOR_LEN, TargetId};
 use aoe_frame::{HeaderView, RESPONSE_FLAG};
 use aoe_lists::Facts;
 
@@ -21,6 +21,15 @@ const BUFFER_COUNT: u16 = 16;
 
 /// The version of a target's firmware, as it announces.
 const FIRMWARE_VERSION: u16 = 1;
+
+/// The most sectors of one command, where a frame carries `mtu` bytes: header and registers take 36 of
+/// them.
+pub fn max_sectors(mtu: u32) -> u32
+    requires { 36 ≤ mtu }
+    ensures { result ≡ (mtu - 36) / 512 }
+{
+    (mtu - 36) / SECTOR_LEN as u32
+}
 
 /// What of a target never changes.
 #[derive(Debug, Drop)]

@@ -16,7 +16,7 @@ use crate::heard::{Told, heard_of, tell_of};
 use crate::reply::{refuse, reply, reply_step};
 use crate::scratch::Scratch;
 use crate::verdict::{args_of, header_of, judge, step};
-use crate::{Effect, Heard, ListCommand, Station, Verdict};
+use crate::{Effect, Heard, ListCommand, Station, Verdict, max_sectors};
 use aoe_base::{AoeError, Failed, Ports, Span, TargetId};
 use aoe_disk::{Arm, Armed, Disk};
 use aoe_frame::{Frame, HeaderView};
@@ -211,7 +211,7 @@ impl<S: Store, D: Disk> Target<S, D> {
             station: Station {
                 id,
                 ports,
-                max: ((mtu - 36) / 512) as u8,
+                max: max_sectors(mtu) as u8,
                 sectors,
             },
             keep,

@@ -26,6 +26,7 @@ use aoe_script::{Name, Script, Setup};
 use aoe_sim_hosts::NamedHost;
 use aoe_sim_setup::layout_law;
 use aoe_sim_shelves::MemoryRack;
+use aoe_target::max_sectors;
 use std::alloc::Global;
 
 /// How long a frame can be handed over where no line says it, in milliseconds.
@@ -180,7 +181,7 @@ fn known_of(script: &Script, shelf: &Name, minor: u64) -> Option<Attached>
         },
         remotes: line.ports,
         total: slot.sectors,
-        max: (line.mtu as u32 - 36) / 512,
+        max: max_sectors(line.mtu as u32),
     })
 }
 
