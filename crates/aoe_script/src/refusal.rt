@@ -47,12 +47,13 @@ impl From<NoMemory> for ScriptRefusal {
 }
 
 impl ScriptRefusal {
-    ghost use Rattle.std.specs.Prelude.{Err, None};
+    ghost use Rattle.std.specs.Prelude.{◌≡◌, Err, None};
     ghost use Rattle.aoe_script.specs.Lines.{FailsFor, ScriptLines};
 
     /// What is left of a refusal of lines with which nothing is wrong.
     pub fn memory_alone(self) -> NoMemory
         requires { FailsFor {T = ScriptLines} None (Err self) }
+        ensures { self ≡ ScriptRefusal.NoMemory }
     {
         match self {
             ScriptRefusal::NoMemory => NoMemory,
