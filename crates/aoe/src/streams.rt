@@ -89,7 +89,10 @@ impl<R: Read> Source for Input<R> {
             self.reader.consume(count);
             return Ok(count);
         }
-        self.read_on(buf)
+        match self.read_on(buf) {
+            Ok(n) => Ok(n),
+            Err(Failed) => Err(Failed),
+        }
     }
 }
 
@@ -137,10 +140,14 @@ impl<W: Write> Sink for Output<W> {
 
     #[inline(always)]
     fn write(&mut self, piece: &[u8]) -> Result<usize, Failed> {
-        match self.writer.write(piece) {
-            Ok(n) if n > 0 => Ok(n),
-            Ok(_) => self.write_on(piece, false),
-            Err(error) => self.write_on(piece, error.kind() == ErrorKind::Interrupted),
+        let is_interrupted = match self.writer.write(piece) {
+            Ok(n) if n > 0 => return Ok(n),
+            Ok(_) => false,
+            Err(error) => error.kind() == ErrorKind::Interrupted,
+        };
+        match self.write_on(piece, is_interrupted) {
+            Ok(n) => Ok(n),
+            Err(Failed) => Err(Failed),
         }
     }
 }
