@@ -37,122 +37,91 @@ type Argument = (&'static str, Place);
 /// A command's name and its arguments.
 type Form = (&'static str, &'static [Argument]);
 
-/// All commands.
-const FORMS: [Form; 12] = [
+/// The number of a shelf.
+const SHELF: Argument = ("shelf", Needed);
+
+/// The files that it works on.
+const FILES: Argument = ("files", Several);
+
+/// A device, by shelf and slot.
+const DEV: Argument = ("dev", Needed);
+
+/// What to do with what a device keeps.
+const ACTION: Argument = ("action", Needed);
+
+/// The string that is compared or set.
+const TEXT: Argument = ("text", Allowed);
+
+/// The edits of a mask list.
+const DIRS: Argument = ("dirs", AllowedSeveral);
+
+/// The addresses of a reserve list.
+const MACS: Argument = ("macs", AllowedSeveral);
+
+/// The first sector.
+const AT: Argument = ("at", Needed);
+
+/// How many sectors or commands.
+const COUNT: Argument = ("count", Needed);
+
+/// The own end of a link.
+const LOCAL: Argument = ("local", Demanded);
+
+/// The other ends of a link.
+const PEERS: Argument = ("peers", Demanded);
+
+/// The address of a port.
+const PORT: Argument = ("port", Optional);
+
+/// What a frame carries.
+const MTU: Argument = ("mtu", Optional);
+
+/// How many sectors a slot buffers.
+const CACHE: Argument = ("cache", Optional);
+
+/// How many turns it waits.
+const TURNS: Argument = ("turns", Optional);
+
+/// All commands. A function that names a `const` is proved with its whole value, and one that names
+/// a `static` isn't.
+static FORMS: [Form; 12] = [
     (
         "answer",
-        &[
-            ("shelf", Needed),
-            ("slot", Needed),
-            ("files", Several),
-            ("port", Optional),
-            ("mtu", Optional),
-            ("cache", Optional),
-        ],
+        &[SHELF, ("slot", Needed), FILES, PORT, MTU, CACHE],
     ),
     (
         "serve",
         &[
-            ("shelf", Needed),
-            ("files", Several),
-            ("local", Demanded),
-            ("peers", Demanded),
+            SHELF,
+            FILES,
+            LOCAL,
+            PEERS,
             ("ports", Optional),
-            ("mtu", Optional),
-            ("cache", Optional),
+            MTU,
+            CACHE,
             ("frames", Optional),
             ("idle", Optional),
         ],
     ),
     ("replay", &[]),
-    ("soak", &[("seed", Needed), ("count", Needed)]),
+    ("soak", &[("seed", Needed), COUNT]),
     (
         "live",
         &[
             ("sectors", Needed),
-            ("count", Needed),
+            COUNT,
             ("one", Demanded),
             ("two", Demanded),
-            ("turns", Optional),
+            TURNS,
         ],
     ),
-    (
-        "discover",
-        &[
-            ("local", Demanded),
-            ("peers", Demanded),
-            ("port", Optional),
-            ("turns", Optional),
-        ],
-    ),
-    (
-        "stat",
-        &[
-            ("local", Demanded),
-            ("peers", Demanded),
-            ("port", Optional),
-            ("turns", Optional),
-        ],
-    ),
-    (
-        "cfg",
-        &[
-            ("dev", Needed),
-            ("action", Needed),
-            ("text", Allowed),
-            ("local", Demanded),
-            ("peers", Demanded),
-            ("port", Optional),
-            ("turns", Optional),
-        ],
-    ),
-    (
-        "mask",
-        &[
-            ("dev", Needed),
-            ("action", Needed),
-            ("dirs", AllowedSeveral),
-            ("local", Demanded),
-            ("peers", Demanded),
-            ("port", Optional),
-            ("turns", Optional),
-        ],
-    ),
-    (
-        "reserve",
-        &[
-            ("dev", Needed),
-            ("action", Needed),
-            ("macs", AllowedSeveral),
-            ("local", Demanded),
-            ("peers", Demanded),
-            ("port", Optional),
-            ("turns", Optional),
-        ],
-    ),
-    (
-        "get",
-        &[
-            ("dev", Needed),
-            ("at", Needed),
-            ("count", Needed),
-            ("local", Demanded),
-            ("peers", Demanded),
-            ("port", Optional),
-            ("turns", Optional),
-        ],
-    ),
-    (
-        "put",
-        &[
-            ("dev", Needed),
-            ("at", Needed),
-            ("local", Demanded),
-            ("peers", Demanded),
-            ("port", Optional),
-            ("turns", Optional),
-        ],
-    ),
+    ("discover", &[LOCAL, PEERS, PORT, TURNS]),
+    ("stat", &[LOCAL, PEERS, PORT, TURNS]),
+    ("cfg", &[DEV, ACTION, TEXT, LOCAL, PEERS, PORT, TURNS]),
+    ("mask", &[DEV, ACTION, DIRS, LOCAL, PEERS, PORT, TURNS]),
+    ("reserve", &[DEV, ACTION, MACS, LOCAL, PEERS, PORT, TURNS]),
+    ("get", &[DEV, AT, COUNT, LOCAL, PEERS, PORT, TURNS]),
+    ("put", &[DEV, AT, LOCAL, PEERS, PORT, TURNS]),
 ];
 
 /// Words by their place.

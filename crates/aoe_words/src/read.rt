@@ -203,14 +203,11 @@ fn list_tool_of(name: &str, found: &ArgMatches) -> Option<Tool>
     ensures range { IfSome result CanRun }
     ensures link { IfSome result (λ tool. IsSome (link (rows_of (found_of found.now)))) }
 {
-    if name == "cfg" {
-        cfg_of(found)
-    } else if name == "mask" {
-        mask_of(found)
-    } else if name == "reserve" {
-        reserve_of(found)
-    } else {
-        None
+    match name {
+        "cfg" => cfg_of(found),
+        "mask" => mask_of(found),
+        "reserve" => reserve_of(found),
+        _ => None,
     }
 }
 
@@ -221,12 +218,10 @@ fn tool_of(name: &str, found: &ArgMatches) -> Option<Tool>
     ensures range { IfSome result CanRun }
     ensures link { IfSome result (λ tool. IsSome (link (rows_of (found_of found.now)))) }
 {
-    if name == "discover" {
-        Some(Tool::Discover(plain_of(found)?))
-    } else if name == "stat" {
-        Some(Tool::Stat(plain_of(found)?))
-    } else {
-        list_tool_of(name, found)
+    match name {
+        "discover" => Some(Tool::Discover(plain_of(found)?)),
+        "stat" => Some(Tool::Stat(plain_of(found)?)),
+        _ => list_tool_of(name, found),
     }
 }
 
@@ -236,13 +231,12 @@ fn asked_of(name: &str, found: &ArgMatches) -> Option<Command>
     ensures value { result ≡ asked_of name.now (rows_of (found_of found.now)) }
     ensures fits { IfSome result (Fits (rows_of (found_of found.now))) }
 {
-    if name == "get" {
-        Some(Command::Get(get_of(found)?))
-    } else if name == "put" {
-        Some(Command::Put(put_of(found)?))
-    } else {
-        Some(Command::Ask(tool_of(name, found)?))
-    }
+    let command = match name {
+        "get" => Command::Get(get_of(found)?),
+        "put" => Command::Put(put_of(found)?),
+        _ => Command::Ask(tool_of(name, found)?),
+    };
+    Some(command)
 }
 
 /// What the arguments of the command of this name ask for.
@@ -251,18 +245,13 @@ fn command_of(name: &str, found: &ArgMatches) -> Option<Command>
     ensures value { result ≡ command_of name.now (rows_of (found_of found.now)) }
     ensures fits { IfSome result (Fits (rows_of (found_of found.now))) }
 {
-    if name == "answer" {
-        answer_of(found)
-    } else if name == "serve" {
-        serve_of(found)
-    } else if name == "replay" {
-        Some(Command::Replay)
-    } else if name == "soak" {
-        soak_of(found)
-    } else if name == "live" {
-        live_of(found)
-    } else {
-        asked_of(name, found)
+    match name {
+        "answer" => answer_of(found),
+        "serve" => serve_of(found),
+        "replay" => Some(Command::Replay),
+        "soak" => soak_of(found),
+        "live" => live_of(found),
+        _ => asked_of(name, found),
     }
 }
 

@@ -100,20 +100,16 @@ pub(crate) fn cfg_of(found: &ArgMatches) -> Option<Tool>
     let asking = asking_of(found, TOOL_TURNS)?;
     let id = device_of(found)?;
     let action = text(found, "action")?;
-    match text(found, "text") {
-        None => Some(Tool::Cfg(Cfg {
-            asking,
-            id,
-            ccmd: ccmd_alone(action)?,
-            text: ArrayVec::new(),
-        })),
-        Some(string) => Some(Tool::Cfg(Cfg {
-            asking,
-            id,
-            ccmd: ccmd_with_text(action)?,
-            text: read_text(string.as_bytes())?,
-        })),
-    }
+    let (ccmd, text) = match text(found, "text") {
+        None => (ccmd_alone(action)?, ArrayVec::new()),
+        Some(string) => (ccmd_with_text(action)?, read_text(string.as_bytes())?),
+    };
+    Some(Tool::Cfg(Cfg {
+        asking,
+        id,
+        ccmd,
+        text,
+    }))
 }
 
 /// What the arguments of `mask` ask for.
@@ -126,19 +122,12 @@ pub(crate) fn mask_of(found: &ArgMatches) -> Option<Tool>
     let asking = asking_of(found, TOOL_TURNS)?;
     let id = device_of(found)?;
     let action = text(found, "action")?;
-    match texts(found, "dirs") {
-        None if action == "read" => Some(Tool::Mask(Mask {
-            asking,
-            id,
-            dirs: None,
-        })),
-        Some(words) if action == "edit" => Some(Tool::Mask(Mask {
-            asking,
-            id,
-            dirs: Some(read_dirs(words)?),
-        })),
-        _ => None,
-    }
+    let dirs = match texts(found, "dirs") {
+        None if action == "read" => None,
+        Some(words) if action == "edit" => Some(read_dirs(words)?),
+        _ => return None,
+    };
+    Some(Tool::Mask(Mask { asking, id, dirs }))
 }
 
 /// The field RCmd of an action of `reserve` that has no addresses.
@@ -175,20 +164,16 @@ pub(crate) fn reserve_of(found: &ArgMatches) -> Option<Tool>
     let asking = asking_of(found, TOOL_TURNS)?;
     let id = device_of(found)?;
     let action = text(found, "action")?;
-    match texts(found, "macs") {
-        None => Some(Tool::Reserve(Reserve {
-            asking,
-            id,
-            rcmd: rcmd_alone(action)?,
-            list: ArrayVec::new(),
-        })),
-        Some(words) => Some(Tool::Reserve(Reserve {
-            asking,
-            id,
-            rcmd: rcmd_with_list(action)?,
-            list: read_macs(words)?,
-        })),
-    }
+    let (rcmd, list) = match texts(found, "macs") {
+        None => (rcmd_alone(action)?, ArrayVec::new()),
+        Some(words) => (rcmd_with_list(action)?, read_macs(words)?),
+    };
+    Some(Tool::Reserve(Reserve {
+        asking,
+        id,
+        rcmd,
+        list,
+    }))
 }
 
 /// The first sector.
