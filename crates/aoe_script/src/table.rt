@@ -52,29 +52,30 @@ fn row_of(alloc: Global, keyword: Keyword, words: &Words) -> Result<Line, NoMemo
     ensures { IfOk result (λ line. line ≡ row_of keyword words.now) }
 {
     let count = words.len();
-    match keyword {
-        Keyword::Life => Ok(declares(count == 2, life_of(words))),
-        Keyword::Shelf => Ok(declares(count == 5, shelf_of(words))),
-        Keyword::Slot => Ok(declares(count == 4 || count == 5, slot_of(words))),
-        Keyword::Host => Ok(declares(count == 3 || count == 5, host_of(words))),
-        Keyword::Attach => Ok(declares(count == 4, attach_of(words))),
-        Keyword::Read => Ok(asks(count == 5, read_of(words))),
-        Keyword::Write => Ok(asks(count == 6, write_of(words))),
-        Keyword::Flush => Ok(asks(count == 3, flush_of(words))),
-        Keyword::Identify => Ok(asks(count == 3, identify_of(words))),
-        Keyword::Config => Ok(asks(has_config_shape(words), config_of(alloc, words)?)),
-        Keyword::Masks => Ok(asks(has_masks_shape(words), masks_of(words))),
-        Keyword::Reserve => Ok(asks(has_reserve_shape(words), reserve_of(words))),
-        Keyword::Tick => Ok(asks(count == 2, tick_of(words))),
-        Keyword::Deliver => Ok(asks(count == 3, deliver_of(words))),
-        Keyword::Pass => Ok(asks(count == 2, pass_of(words))),
-        Keyword::Skip => Ok(asks(count == 2, skip_of(words))),
-        Keyword::Again => Ok(asks(count == 1, Some(Event::Again))),
-        Keyword::Inject => Ok(asks(count == 2, inject_of(alloc, words)?)),
-        Keyword::Fail => Ok(asks(count == 4 && names_disk(words), fail_of(words))),
-        Keyword::Stop => Ok(asks(count == 5 && names_disk(words), stop_of(words))),
-        Keyword::Crash => Ok(asks(count == 3, crash_of(words))),
-    }
+    let line = match keyword {
+        Keyword::Life => declares(count == 2, life_of(words)),
+        Keyword::Shelf => declares(count == 5, shelf_of(words)),
+        Keyword::Slot => declares(count == 4 || count == 5, slot_of(words)),
+        Keyword::Host => declares(count == 3 || count == 5, host_of(words)),
+        Keyword::Attach => declares(count == 4, attach_of(words)),
+        Keyword::Read => asks(count == 5, read_of(words)),
+        Keyword::Write => asks(count == 6, write_of(words)),
+        Keyword::Flush => asks(count == 3, flush_of(words)),
+        Keyword::Identify => asks(count == 3, identify_of(words)),
+        Keyword::Config => asks(has_config_shape(words), config_of(alloc, words)?),
+        Keyword::Masks => asks(has_masks_shape(words), masks_of(words)),
+        Keyword::Reserve => asks(has_reserve_shape(words), reserve_of(words)),
+        Keyword::Tick => asks(count == 2, tick_of(words)),
+        Keyword::Deliver => asks(count == 3, deliver_of(words)),
+        Keyword::Pass => asks(count == 2, pass_of(words)),
+        Keyword::Skip => asks(count == 2, skip_of(words)),
+        Keyword::Again => asks(count == 1, Some(Event::Again)),
+        Keyword::Inject => asks(count == 2, inject_of(alloc, words)?),
+        Keyword::Fail => asks(count == 4 && names_disk(words), fail_of(words)),
+        Keyword::Stop => asks(count == 5 && names_disk(words), stop_of(words)),
+        Keyword::Crash => asks(count == 3, crash_of(words)),
+    };
+    Ok(line)
 }
 
 /// Whether the words say nothing.
