@@ -9,7 +9,7 @@ use Rattle.aoe_target.specs.declared.verdict.Verdict.{Verdict}
 use Rattle.aoe_target.specs.declared.verdict.Verdict.TheVariants.{Ignored, Silent, Refused, Lists, Ata}
 use Rattle.aoe_target.specs.declared.heard.Heard.TheVariants as heard
 use Rattle.aoe_target.specs.Turn.{Receives}
-use Rattle.aoe_target.proofs.ReceivesLemmas.{by_it, keeps_lists}
+use Rattle.aoe_target.proofs.ReceivesLemmas.{by_it, keeps_lists, unmoved}
 use Rattle.aoe_target.proofs.ReceiveLemmas.{same_sectors, unheard, judged_is, by_verdict, ignored_step, silent_step, refused_step, lists_step, ata_step}
 use Rattle.aoe_target.proofs.target.Target.hear.Goals as goal
 
@@ -18,84 +18,60 @@ returns-in_default-clause-receives g c =
     let t = c.args.self.now in
     let d = device_of g.S.Store.state g.D.Disk.state t in
     let v = unheard t.station t.keep.lists c.args.frame.now c.in_default.ensures.there in
-    let calls = by_it g.S.Store.state g.D.Disk.state c.args.frame.now heard.Ignored t t Ignored v
-    (record { call = tt; log = logs_none (g.S.Store.state t.store); idle = λ _. refl; edit = tt; unedited = λ _. refl }) in
-    record {
-      station = refl;
-      step = λ k h. ignored_step t.station d d k c.args.frame.now h v refl;
+    unmoved g.S.Store.state g.D.Disk.state t c.args.frame.now heard.Ignored c.clear.new.self.items Ignored (record {
+      by = v;
+      rest = refl;
+      no_fault = refl;
+      kept = refl;
       silent = λ _. c.clear.ensures;
       ignored = λ _. c.clear.ensures;
-      call = calls.call;
-      log = calls.log;
-      idle = calls.idle;
-      edit = calls.edit;
-      unedited = calls.unedited;
-      fault = λ (clash : false ≡ true). absurd cc;
-      edit_fault = λ (clash : false ≡ true). absurd cc;
-    }
+      step = λ k h. ignored_step t.station d d k c.args.frame.now h v refl;
+    })
 
 pub returns-in-Ignored-clause-receives : goal.returns-in-Ignored-clause-receives
 returns-in-Ignored-clause-receives g c =
     let v = judged_is c.self.inside.station c.self.inside.keep.lists c.lists.result.now c.args.frame.now c.in-Some.header c.args_of.result.now Ignored c.in-Some.ensures.there c.in-Some.ensures.fields c.args_of.ensures c.lists.ensures c.in-Ignored.ensures.verdict in
-    let P : Mounted _ _ → Type 0 = λ t. Receives g.S.Store.state g.D.Disk.state t t c.args.frame.now (heard.Ignored) c.clear-in-Ignored.new.self.items in
     let t : Mounted _ _ = record { station = c.self.inside.station; keep = c.self.inside.keep; store = c.self.inside.store } in
-    let calls = by_it g.S.Store.state g.D.Disk.state c.args.frame.now (heard.Ignored) t t Ignored v
-    (record { call = tt; log = logs_none (g.S.Store.state t.store); idle = λ _. refl; edit = tt; unedited = λ _. refl }) in
-    subst P c.self.view_is (record {
-      station = refl;
-      step = λ k h. ignored_step c.self.inside.station _ _ k c.args.frame.now h v refl;
+    let P : Mounted _ _ → Type 0 = λ u. Receives g.S.Store.state g.D.Disk.state u u c.args.frame.now heard.Ignored c.clear-in-Ignored.new.self.items in
+    subst P c.self.view_is (unmoved g.S.Store.state g.D.Disk.state t c.args.frame.now heard.Ignored c.clear-in-Ignored.new.self.items Ignored (record {
+      by = v;
+      rest = refl;
+      no_fault = refl;
+      kept = refl;
       silent = λ _. c.clear-in-Ignored.ensures;
       ignored = λ _. c.clear-in-Ignored.ensures;
-      call = calls.call;
-      log = calls.log;
-      idle = calls.idle;
-      edit = calls.edit;
-      unedited = calls.unedited;
-      fault = λ (clash : false ≡ true). absurd cc;
-      edit_fault = λ (clash : false ≡ true). absurd cc;
-    })
+      step = λ k h. ignored_step t.station _ _ k c.args.frame.now h v refl;
+    }))
 
 pub returns-in-Silent-clause-receives : goal.returns-in-Silent-clause-receives
 returns-in-Silent-clause-receives g c =
     let v = judged_is c.self.inside.station c.self.inside.keep.lists c.lists.result.now c.args.frame.now c.in-Some.header c.args_of.result.now Silent c.in-Some.ensures.there c.in-Some.ensures.fields c.args_of.ensures c.lists.ensures c.in-Silent.ensures.verdict in
-    let P : Mounted _ _ → Type 0 = λ t. Receives g.S.Store.state g.D.Disk.state t t c.args.frame.now (heard.Silent) c.clear-in-Silent.new.self.items in
     let t : Mounted _ _ = record { station = c.self.inside.station; keep = c.self.inside.keep; store = c.self.inside.store } in
-    let calls = by_it g.S.Store.state g.D.Disk.state c.args.frame.now (heard.Silent) t t Silent v
-    (record { call = tt; log = logs_none (g.S.Store.state t.store); idle = λ _. refl; edit = tt; unedited = λ _. refl }) in
-    subst P c.self.view_is (record {
-      station = refl;
-      step = λ k h. silent_step c.self.inside.station _ _ k c.args.frame.now h v refl;
+    let P : Mounted _ _ → Type 0 = λ u. Receives g.S.Store.state g.D.Disk.state u u c.args.frame.now heard.Silent c.clear-in-Silent.new.self.items in
+    subst P c.self.view_is (unmoved g.S.Store.state g.D.Disk.state t c.args.frame.now heard.Silent c.clear-in-Silent.new.self.items Silent (record {
+      by = v;
+      rest = refl;
+      no_fault = refl;
+      kept = refl;
       silent = λ _. c.clear-in-Silent.ensures;
       ignored = λ _. c.clear-in-Silent.ensures;
-      call = calls.call;
-      log = calls.log;
-      idle = calls.idle;
-      edit = calls.edit;
-      unedited = calls.unedited;
-      fault = λ (clash : false ≡ true). absurd cc;
-      edit_fault = λ (clash : false ≡ true). absurd cc;
-    })
+      step = λ k h. silent_step t.station _ _ k c.args.frame.now h v refl;
+    }))
 
 pub returns-in-Refused-clause-receives : goal.returns-in-Refused-clause-receives
 returns-in-Refused-clause-receives g c =
     let v = judged_is c.self.inside.station c.self.inside.keep.lists c.lists.result.now c.args.frame.now c.in-Some.header c.args_of.result.now (Refused c.in-Refused.error) c.in-Some.ensures.there c.in-Some.ensures.fields c.args_of.ensures c.lists.ensures c.in-Refused.ensures.verdict in
-    let P : Mounted _ _ → Type 0 = λ t. Receives g.S.Store.state g.D.Disk.state t t c.args.frame.now (heard.Replied effect.None) c.refuse.new.out.items in
     let t : Mounted _ _ = record { station = c.self.inside.station; keep = c.self.inside.keep; store = c.self.inside.store } in
-    let calls = by_it g.S.Store.state g.D.Disk.state c.args.frame.now (heard.Replied effect.None) t t (Refused c.in-Refused.error) v
-    (record { call = tt; log = logs_none (g.S.Store.state t.store); idle = λ _. refl; edit = tt; unedited = λ _. refl }) in
-    subst P c.self.view_is (record {
-      station = refl;
-      step = λ k h. refused_step c.self.inside.station _ _ k c.args.frame.now h c.copy.result c.in-Refused.error c.refuse.new.out.items v (c.copy.ensures ∙ c.in-Some.ensures.fields) c.refuse.ensures refl;
+    let P : Mounted _ _ → Type 0 = λ u. Receives g.S.Store.state g.D.Disk.state u u c.args.frame.now (heard.Replied effect.None) c.refuse.new.out.items in
+    subst P c.self.view_is (unmoved g.S.Store.state g.D.Disk.state t c.args.frame.now (heard.Replied effect.None) c.refuse.new.out.items (Refused c.in-Refused.error) (record {
+      by = v;
+      rest = refl;
+      no_fault = refl;
+      kept = refl;
       silent = λ (clash : heard.Replied effect.None ≡ heard.Silent). absurd cc;
       ignored = λ (clash : heard.Replied effect.None ≡ heard.Ignored). absurd cc;
-      call = calls.call;
-      log = calls.log;
-      idle = calls.idle;
-      edit = calls.edit;
-      unedited = calls.unedited;
-      fault = λ (clash : false ≡ true). absurd cc;
-      edit_fault = λ (clash : false ≡ true). absurd cc;
-    })
+      step = λ k h. refused_step t.station _ _ k c.args.frame.now h c.copy.result c.in-Refused.error c.refuse.new.out.items v (c.copy.ensures ∙ c.in-Some.ensures.fields) c.refuse.ensures refl;
+    }))
 
 pub returns-in-Lists-clause-receives : goal.returns-in-Lists-clause-receives
 returns-in-Lists-clause-receives g c =
