@@ -89,6 +89,8 @@ impl<R: Read> Source for Input<R> {
             self.reader.consume(count);
             return Ok(count);
         }
+        // Arms of its own: a result handed on as it came would be joined with the one above, and the
+        // caller would look at both.
         match self.read_on(buf) {
             Ok(n) => Ok(n),
             Err(Failed) => Err(Failed),
@@ -145,6 +147,7 @@ impl<W: Write> Sink for Output<W> {
             Ok(_) => false,
             Err(error) => error.kind() == ErrorKind::Interrupted,
         };
+        // Arms of its own, as in `read`.
         match self.write_on(piece, is_interrupted) {
             Ok(n) => Ok(n),
             Err(Failed) => Err(Failed),
