@@ -1,5 +1,5 @@
 -- Acts: their entries, and then the turns of the hosts.
-use Rattle.std.proofs.Common.{ℕ, zero, suc, ◌≡◌, ◌≢◌, ◌≤◌, ◌<◌, ◌⊎◌, if◌then◌else◌, nat_eq, Bool, true, false, not, List, [], ◌∷◌, Option, Some, None, Result, Ok, Err, refl, sym, ap, subst, ◌∙◌, arith, inl, inr, MatchOption, OnErr, OnOk}
+use Rattle.std.proofs.Common.{ℕ, zero, suc, ◌≡◌, ◌≢◌, ◌≤◌, ◌<◌, ◌⊎◌, if◌then◌else◌, nat_eq, Bool, true, false, not, List, [], ◌∷◌, Option, Some, None, Result, Ok, Err, refl, sym, ap, subst, ◌∙◌, arith, inl, inr, IsErrAnd, MatchOption, OnErr, OnOk}
 use Rattle.std.specs.Prelude.{slice_get, slice_set}
 use Rattle.std.specs.List.{filter, list_any}
 use Rattle.std.proofs.lemmas.Bool.{cases_lt}
@@ -52,6 +52,12 @@ no-memory s begins h begun lawful = record { begun = begun; lawful = lawful; ful
 pub none-came : (s : Setup) (act : Act) (h m : List Entry) → EntersSome s h act h → m ≡ h → IsLawful s h → IsLeft s (IsBegun s h act) NoMemory m
 none-came s act h m none same lawful =
     subst (λ (l : List Entry). IsLeft s (IsBegun s h act) NoMemory l) (sym same) (no-memory s (IsBegun s h act) h (inl none) lawful)
+
+-- where memory was short, what was begun is entered
+pub short-of-memory : (result : Result (Unit {0}) NetRefusal) (s : Setup) (majors : List ℕ) (act : Act) (old new : Sim) → IsErrAnd result (λ refusal. refusal ≡ NoMemory)
+    → IsLeft s (IsBegun s old.run.entries act) NoMemory new.run.entries → IsEntered result s majors act old new
+short-of-memory (Ok u) s majors act old new is left = absurd is
+short-of-memory (Err refusal) s majors act old new is left = subst (λ (x : NetRefusal). IsLeft s (IsBegun s old.run.entries act) x new.run.entries) (sym is) left
 
 -- before the turn of any host
 pub no-turn : (s : Setup) (hosts : List HostSetup) (got : Option Got) (h : List Entry)

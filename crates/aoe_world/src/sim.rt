@@ -13,7 +13,7 @@ ghost use Rattle.aoe_world.specs.Acts.{named, CanAct, IsForeign};
 ghost use Rattle.aoe_world.specs.Sim.{Does, IsAt, IsEntered, IsInside, IsNetwork, IsReady, IsTurning, Settles};
 
 use crate::act::{Act, At};
-use aoe_base::{Blob, FrameNo, NoMemory, TargetId};
+use aoe_base::{Blob, FrameNo, TargetId};
 use aoe_disk::Loss;
 use aoe_frame::{Frame, refill};
 use aoe_history::{Entry, Run};
@@ -57,10 +57,8 @@ impl Sim {
         ensures { (s : Setup) (majors : List ℕ) → IsNetwork s majors → IsReady s majors self.old → IsForeign s act
             → Does result s majors (named s majors act) self.old self.new }
     {
-        match self.enter(act) {
-            Ok(()) => self.settle(),
-            Err(refusal) => Err(refusal),
-        }
+        self.enter(act)?;
+        self.settle()
     }
 
     /// What an act enters into the history.
@@ -108,10 +106,8 @@ impl Sim {
         ensures { (s : Setup) (majors : List ℕ) (name : ArrayVec ℕ) → IsNetwork s majors → IsReady s majors self.old
             → IsAt s majors (At.Host host) (HostStation name) → IsEntered result s majors (Submit name dev op) self.old self.new }
     {
-        match self.hosts[host].submit(&mut self.run, dev, op) {
-            Ok(()) => Ok(()),
-            Err(NoMemory) => Err(NetRefusal::NoMemory),
-        }
+        self.hosts[host].submit(&mut self.run, dev, op)?;
+        Ok(())
     }
 
     fn tick(&mut self, ms: u64) -> Result<(), NetRefusal>
@@ -119,10 +115,8 @@ impl Sim {
         ensures { (s : Setup) (majors : List ℕ) → IsNetwork s majors → IsReady s majors self.old
             → IsEntered result s majors (Tick ms) self.old self.new }
     {
-        match self.run.tick(ms) {
-            Ok(()) => Ok(()),
-            Err(NoMemory) => Err(NetRefusal::NoMemory),
-        }
+        self.run.tick(ms)?;
+        Ok(())
     }
 
     fn inject(&mut self, frame: &Blob) -> Result<(), NetRefusal>
@@ -149,10 +143,8 @@ impl Sim {
             → IfSome (slice_get self.old.shelves.items shelf) (λ x. IfSome (slice_get x.shelf.targets slot)
             (λ t. IsEntered result s majors (Arm t.station.id which k mode) self.old self.new)) }
     {
-        match self.shelves[shelf].arm(&mut self.run, slot, which, k, mode) {
-            Ok(()) => Ok(()),
-            Err(NoMemory) => Err(NetRefusal::NoMemory),
-        }
+        self.shelves[shelf].arm(&mut self.run, slot, which, k, mode)?;
+        Ok(())
     }
 
     fn crash(&mut self, shelf: usize, how: Loss) -> Result<(), NetRefusal>
@@ -160,22 +152,18 @@ impl Sim {
         ensures { (s : Setup) (majors : List ℕ) (major : ℕ) → IsNetwork s majors → IsReady s majors self.old
             → slice_get majors shelf ≡ Some major → IsEntered result s majors (Crash major how) self.old self.new }
     {
-        match self.shelves[shelf].crash(&mut self.run, how) {
-            Ok(()) => Ok(()),
-            Err(NoMemory) => Err(NetRefusal::NoMemory),
-        }
+        self.shelves[shelf].crash(&mut self.run, how)?;
+        Ok(())
     }
 
     fn lose(&mut self, frame: FrameNo) -> Result<(), NetRefusal>
         ensures { (s : Setup) (majors : List ℕ) → IsNetwork s majors → IsReady s majors self.old
             → IsEntered result s majors (Lose frame.0) self.old self.new }
     {
-        match self.run.note(Entry::Lost {
+        self.run.note(Entry::Lost {
             frame: u64::from(frame.0),
-        }) {
-            Ok(()) => Ok(()),
-            Err(NoMemory) => Err(NetRefusal::NoMemory),
-        }
+        })?;
+        Ok(())
     }
 
     /// Hands a frame over, or loses it where it can't be handed over any more.
@@ -222,10 +210,8 @@ impl Sim {
             → arriving self.old.run.life self.old.run.entries number.0 ≡ Some self.old.frame.items
             → IsEntered result s majors (Hand number.0 (HostStation name)) self.old self.new }
     {
-        match self.hosts[i].take(&mut self.run, number, &self.frame) {
-            Ok(()) => Ok(()),
-            Err(NoMemory) => Err(NetRefusal::NoMemory),
-        }
+        self.hosts[i].take(&mut self.run, number, &self.frame)?;
+        Ok(())
     }
 
     /// The place of the shelf with a number.
