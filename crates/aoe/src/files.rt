@@ -16,7 +16,7 @@ use std::rt::Files;
 const MAX_SECTORS: u64 = 1 << 40;
 
 /// Why a file can't be a disk.
-#[derive(Clone, Copy, Debug, PartialEq, Eq)]
+#[derive(Clone, Copy)]
 pub enum FileRefusal {
     /// It can't be opened for reading and writing, or doesn't tell its size.
     Unopened,

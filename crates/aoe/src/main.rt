@@ -28,7 +28,7 @@ use clock::SystemClock;
 use files::{FileDisk, FileRefusal};
 use status::Status;
 use std::fs::File;
-use std::io::{BufReader, ErrorKind, Read};
+use std::io::{BufReader, ErrorKind};
 use std::process::ExitCode;
 use std::{env, io};
 use streams::{Input, Output};
@@ -80,12 +80,12 @@ fn tell_refused(rt: &HostRuntime, name: &[u8], refusal: FileRefusal) -> u8 {
 
 /// Opens a folder three times, so that no file and no socket gets the number of a standard stream
 /// that is closed: what is read or written there fails, as it does on a closed stream.
-fn hold_streams(rt: &HostRuntime) -> io::Result<[File; 3]> {
-    Ok([
+fn hold_streams(rt: &HostRuntime) -> io::Result<(File, File, File)> {
+    Ok((
         File::open(rt, ROOT)?,
         File::open(rt, ROOT)?,
         File::open(rt, ROOT)?,
-    ])
+    ))
 }
 
 /// Opens the files with these names; the exit status where one can't be opened, which is said.
@@ -137,10 +137,9 @@ fn tell(rt: &HostRuntime, status: Status) -> u8 {
 }
 
 /// Runs the command over its files and links, the standard streams and the clock.
-fn run_over<R: Read>(
+fn run_over(
     rt: &HostRuntime,
     words: &[String],
-    source: &mut Input<R>,
     disks: &mut [Option<FileDisk>],
     links: &mut [UdpLink],
 ) -> Status
@@ -148,17 +147,39 @@ fn run_over<R: Read>(
     requires there { All IsSome disks.old }
     requires links { length links.old ≡ length (port_words (map string_bytes words.now)) }
 {
+    let Ok(reader) = BufReader::with_capacity(rt.alloc(), READ_AHEAD, rt.stdin()) else {
+        return Status::NoMemory;
+    };
+    let mut source = Input::new(reader);
     let mut sink = Output::new(rt.stdout());
     let mut clock = SystemClock::new(rt);
     aoe(
         rt.alloc(),
         words,
-        source,
+        &mut source,
         &mut sink,
         disks,
         links,
         &mut clock,
     )
+}
+
+/// Opens the files with these names and the links with these ends, runs the command that the arguments
+/// spell over them, and gives the exit status.
+fn run_named(rt: &HostRuntime, words: &[String], names: &[String], ends: &[PortWords]) -> u8
+    requires count { length names.now ≡ length (file_names (map string_bytes words.now)) }
+    requires links { length ends.now ≡ length (port_words (map string_bytes words.now)) }
+{
+    let mut disks = match open_all(rt, names) {
+        Ok(disks) => disks,
+        Err(code) => return code,
+    };
+    let mut links = match open_links(rt, ends) {
+        Ok(links) => links,
+        Err(code) => return code,
+    };
+    let status = run_over(rt, words, disks.as_mut_slice(), links.as_mut_slice());
+    tell(rt, status)
 }
 
 /// Runs the command that the arguments spell on its files, its links and the standard streams, and gives
@@ -173,26 +194,7 @@ fn run_words(rt: &HostRuntime, words: &[String]) -> u8 {
     let Ok(_streams) = hold_streams(rt) else {
         return tell_unopened(rt, ROOT.as_bytes(), 5);
     };
-    let mut disks = match open_all(rt, names.as_slice()) {
-        Ok(disks) => disks,
-        Err(code) => return code,
-    };
-    let mut links = match open_links(rt, ends.as_slice()) {
-        Ok(links) => links,
-        Err(code) => return code,
-    };
-    let Ok(reader) = BufReader::with_capacity(rt.alloc(), READ_AHEAD, rt.stdin()) else {
-        return tell(rt, Status::NoMemory);
-    };
-    let mut source = Input::new(reader);
-    let status = run_over(
-        rt,
-        words,
-        &mut source,
-        disks.as_mut_slice(),
-        links.as_mut_slice(),
-    );
-    tell(rt, status)
+    run_named(rt, words, names.as_slice(), ends.as_slice())
 }
 
 /// Runs the command that the program's arguments spell, and gives the exit status. Arguments that aren't

@@ -8,7 +8,7 @@ use aoe_tools::{Refusal, ToolRefusal};
 use std::alloc::Global;
 
 /// How a run ended.
-#[derive(Clone, Copy, Debug, PartialEq, Eq)]
+#[derive(Clone, Copy)]
 pub enum Status {
     /// All that was asked for was done.
     Ok,
@@ -43,7 +43,7 @@ pub enum Status {
 }
 
 /// Which limit was exceeded.
-#[derive(Clone, Copy, Debug, PartialEq, Eq)]
+#[derive(Clone, Copy)]
 pub enum What {
     /// A script has more than 50,000 events.
     Events,
@@ -122,10 +122,8 @@ fn script_text(alloc: Global, line: u32, why: Why) -> Result<Blob, NoMemory>
     ensures { IfOk result (λ text. text ≡ text_of (Status.Script line why)) }
 {
     let word = word_of(why);
-    match format!(in alloc; "aoe: script line {line}: {word}") {
-        Ok(text) => Blob::of(alloc, text.as_bytes()),
-        Err(_) => Err(NoMemory),
-    }
+    let text = format!(in alloc; "aoe: script line {line}: {word}")?;
+    Ok(Blob::from_vec(text.into_bytes()))
 }
 
 /// The text for a limit.
@@ -145,48 +143,38 @@ fn limit_text(alloc: Global, what: What) -> Result<Blob, NoMemory>
 fn stream_text(alloc: Global, offset: u64) -> Result<Blob, NoMemory>
     ensures { IfOk result (λ text. text ≡ text_of (Status.Stream offset)) }
 {
-    match format!(in alloc; "aoe: bad stream at byte {offset}") {
-        Ok(text) => Blob::of(alloc, text.as_bytes()),
-        Err(_) => Err(NoMemory),
-    }
+    let text = format!(in alloc; "aoe: bad stream at byte {offset}")?;
+    Ok(Blob::from_vec(text.into_bytes()))
 }
 
 /// The text for a disk that failed.
 fn disk_text(alloc: Global, disk: u32) -> Result<Blob, NoMemory>
     ensures { IfOk result (λ text. text ≡ text_of (Status.DiskFault disk)) }
 {
-    match format!(in alloc; "aoe: disk fault on file {disk}") {
-        Ok(text) => Blob::of(alloc, text.as_bytes()),
-        Err(_) => Err(NoMemory),
-    }
+    let text = format!(in alloc; "aoe: disk fault on file {disk}")?;
+    Ok(Blob::from_vec(text.into_bytes()))
 }
 
 /// The text for a link that failed.
 fn link_text(alloc: Global, link: u32) -> Result<Blob, NoMemory>
     ensures { IfOk result (λ text. text ≡ text_of (Status.LinkFault link)) }
 {
-    match format!(in alloc; "aoe: link fault on port {link}") {
-        Ok(text) => Blob::of(alloc, text.as_bytes()),
-        Err(_) => Err(NoMemory),
-    }
+    let text = format!(in alloc; "aoe: link fault on port {link}")?;
+    Ok(Blob::from_vec(text.into_bytes()))
 }
 
 /// The text for a keep that is too small.
 fn small_text(alloc: Global, disk: u32, sectors: u64) -> Result<Blob, NoMemory>
     ensures { IfOk result (λ text. text ≡ text_of (Status.KeepSmall disk sectors)) }
 {
-    match format!(in alloc; "aoe: keep {disk}: {sectors} sectors, 16 needed") {
-        Ok(text) => Blob::of(alloc, text.as_bytes()),
-        Err(_) => Err(NoMemory),
-    }
+    let text = format!(in alloc; "aoe: keep {disk}: {sectors} sectors, 16 needed")?;
+    Ok(Blob::from_vec(text.into_bytes()))
 }
 
 /// The text for a keep that holds no lists.
 fn bad_text(alloc: Global, disk: u32, slot: u8) -> Result<Blob, NoMemory>
     ensures { IfOk result (λ text. text ≡ text_of (Status.KeepBad disk slot)) }
 {
-    match format!(in alloc; "aoe: keep {disk}: slot {slot} holds no lists") {
-        Ok(text) => Blob::of(alloc, text.as_bytes()),
-        Err(_) => Err(NoMemory),
-    }
+    let text = format!(in alloc; "aoe: keep {disk}: slot {slot} holds no lists")?;
+    Ok(Blob::from_vec(text.into_bytes()))
 }
