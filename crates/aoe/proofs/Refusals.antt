@@ -1,6 +1,6 @@
 -- When a keep is refused.
 use Rattle.std.proofs.Common.{◌≡◌, ◌≢◌, ◌≤◌, ◌<◌, ◌+◌, ◌*◌, ◌/◌, ◌%◌, ℕ, zero, suc, Bool, true, false, List, [], ◌∷◌, length, Option, Some, None, refl, sym, ap, subst, ◌∙◌, arith}
-use Rattle.std.specs.Prelude.{◌↔◌, IfSome, Result, Ok, Err, nat_lt}
+use Rattle.std.specs.Prelude.{◌↔◌, IfSome, IsSome, Result, Ok, Err, nat_lt}
 use Rattle.std.proofs.lemmas.Bool.{le-ltb, lt-ltb}
 use Rattle.aoe_base.specs.Faults.{Rose}
 use Rattle.aoe_disk.specs.State.{Contents, DiskState, BothTell}
@@ -66,6 +66,24 @@ ran-not-refused (Answered answer.Limit) unsynced = refl
 ran-not-refused (Served serve.Ended) None = refl
 ran-not-refused (Served serve.Ended) (Some slot) = file-slot slot
 ran-not-refused (Served serve.LinkFault) unsynced = refl
+
+-- where no keep was refused, none of a slot was
+module _ (refused : Option ℕ) (none : refused ≡ None) where
+  pub not-slot : (slot : ℕ) → refused ≡ Some slot → ⊥
+  not-slot slot e = cc
+
+  pub not-some : IsSome refused → ⊥
+  not-some some = let e : IsSome {T = ℕ} None = subst IsSome none some in cc
+
+-- no tool and no run over two links is told as a refusal
+pub copy-not-refused : (s : Status) → is_copy_status s ≡ true → refused_slot s ≡ None
+copy-not-refused s e = grind (arith, e)
+
+pub tool-not-refused : (s : Status) → is_tool_status s ≡ true → refused_slot s ≡ None
+tool-not-refused s e = grind (arith, e)
+
+pub live-not-refused : (s : Status) → is_live_status s ≡ true → refused_slot s ≡ None
+live-not-refused s e = grind (arith, e)
 
 -- What became of a keep.
 

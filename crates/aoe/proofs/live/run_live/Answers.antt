@@ -1,26 +1,27 @@
 use Rattle.std.proofs.Common.{◌≡◌, ◌∙◌, ℕ, List, Option, Result, Ok, Err, refl, sym, ap, subst, arith}
-use Rattle.std.specs.Prelude.{◌↔◌}
+use Rattle.std.specs.Prelude.{◌↔◌, IfOk}
 use Rattle.aoe_io.specs.Bytes.{Took, TookSome}
-use Rattle.aoe_live.specs.Stations.{stations}
 use Rattle.aoe_live.specs.Whole.{Lives, Outside}
 use Rattle.aoe_live.specs.declared.refusal.LiveRefusal.{LiveRefusal}
 use Rattle.aoe_live.specs.declared.refusal.LiveRefusal.TheVariants as refusal
 use Rattle.aoe_script.specs.Lines.{script_of}
 use Rattle.aoe_script.specs.declared.event.Event.{Event}
-use Rattle.aoe.specs.Live.{ends, live_status, recorded, ReadsBack, WritesScript}
+use Rattle.aoe_words.specs.declared.command.Live.{Live}
+use Rattle.aoe.specs.Live.{live_status, ReadsBack, RunsLive, WritesScript}
 use Rattle.aoe.specs.declared.status.Status.{Status}
 use Rattle.aoe.specs.declared.status.Status.TheVariants as status
 use Rattle.aoe.proofs.Blame.{blamed}
 use Rattle.aoe.proofs.live.run_live.Goals as goal
 
--- a run over as many sectors
-over-same : (a b count turns : ℕ) (r : Result (List Event) LiveRefusal) (old new : Outside) → a ≡ b → Lives a count turns r old new → Lives b count turns r old new
-over-same a b count turns r old new e lives = subst (λ (n : ℕ). Lives n count turns r old new) e lives
-
--- the script of as many sectors reads back
-read-same : (a b : ℕ) (events : List Event) (text : List ℕ) → a ≡ b → text ≡ recorded a events
-    → script_of text ≡ record { setups = stations a; events = events } → ReadsBack b events
-read-same a b events text e text_is reads = subst (λ (n : ℕ). ReadsBack n events) e (sym (ap script_of text_is) ∙ reads)
+-- a run over as many sectors as were asked for
+ran : (asked : Live) (n : ℕ) (r : Result (List Event) LiveRefusal) (s : Status) (held held' : Option (List ℕ)) (old new : Outside) → n ≡ asked.sectors
+    → IfOk r (ReadsBack n) → Lives n asked.count asked.turns r old new → WritesScript n s r held held' → RunsLive asked s held held' old new
+ran asked n r s held held' old new e reads lives writes = record {
+  result = r;
+  reads = subst (λ (k : ℕ). IfOk r (ReadsBack k)) e reads;
+  lives = subst (λ (k : ℕ). Lives k asked.count asked.turns r old new) e lives;
+  writes = subst (λ (k : ℕ). WritesScript k s r held held') e writes;
+}
 
 -- a refusal is the status, and nothing is written
 unwritten : (sectors : ℕ) (r : LiveRefusal) (held : Option (List ℕ)) → WritesScript sectors (live_status r) (Err r) held held
@@ -36,42 +37,23 @@ told s r link is = (λ e. grind (arith, is, e), λ e. grind (arith, is, e))
 
 pub returns-in-Err-clause-run : goal.returns-in-Err-clause-run
 returns-in-Err-clause-run g c =
+    let n = c.from-sectors.result in
+    let r = Err c.in-Err.refusal in
     let held = g.K.Sink.held c.args.sink.now in
-    let old = ends g.C.Clock.answers g.L.Link.turns g.L.Link.given g.L.Link.taken c.args.one.now c.args.two.now c.args.clock.now in
-    let new = ends g.C.Clock.answers g.L.Link.turns g.L.Link.given g.L.Link.taken c.live.new.one c.live.new.two c.live.new.clock in
-    record {
-      result = Err c.in-Err.refusal;
-      reads = tt;
-      lives = over-same c.from-sectors.result c.args.asked.now.sectors c.args.asked.now.count c.args.asked.now.turns (Err c.in-Err.refusal) old new c.from-sectors.ensures c.in-Err.ensures.refused;
-      writes = subst (λ (s : Status). WritesScript c.args.asked.now.sectors s (Err c.in-Err.refusal) held held) (sym c.live_status.ensures)
-          (unwritten c.args.asked.now.sectors c.in-Err.refusal held);
-    }
+    let writes = subst (λ (s : Status). WritesScript n s r held held) (sym c.live_status.ensures) (unwritten n c.in-Err.refusal held) in
+    ran _ n r _ _ _ _ _ c.from-sectors.ensures tt c.in-Err.ensures.refused writes
 
 pub returns-in-Ok-give_all-clause-run : goal.returns-in-Ok-give_all-clause-run
 returns-in-Ok-give_all-clause-run g c =
     let s = c.in-Ok.ensures.script in
-    let old = ends g.C.Clock.answers g.L.Link.turns g.L.Link.given g.L.Link.taken c.args.one.now c.args.two.now c.args.clock.now in
-    let new = ends g.C.Clock.answers g.L.Link.turns g.L.Link.given g.L.Link.taken c.live.new.one c.live.new.two c.live.new.clock in
-    record {
-      result = Ok s.0;
-      reads = read-same c.from-sectors.result c.args.asked.now.sectors s.0 _ c.from-sectors.ensures s.1 s.2;
-      lives = over-same c.from-sectors.result c.args.asked.now.sectors c.args.asked.now.count c.args.asked.now.turns (Ok s.0) old new c.from-sectors.ensures s.3;
-      writes = subst (λ (b : List ℕ). Took (g.K.Sink.held c.args.sink.now) (g.K.Sink.held c.give_all.new.sink) b)
-          (c.bytes.ensures ∙ s.1 ∙ ap (λ (n : ℕ). recorded n s.0) c.from-sectors.ensures) c.in-Ok-give_all.ensures.all;
-    }
+    let took = subst (λ (text : List ℕ). Took (g.K.Sink.held c.args.sink.now) (g.K.Sink.held c.give_all.new.sink) text) (c.bytes.ensures ∙ s.1) c.in-Ok-give_all.ensures.all in
+    ran _ _ (Ok s.0) _ _ _ _ _ c.from-sectors.ensures (sym (ap script_of s.1) ∙ s.2) s.3 took
 
 pub returns-clause-run : goal.returns-clause-run
 returns-clause-run g c =
     let s = c.in-Ok.ensures.script in
-    let old = ends g.C.Clock.answers g.L.Link.turns g.L.Link.given g.L.Link.taken c.args.one.now c.args.two.now c.args.clock.now in
-    let new = ends g.C.Clock.answers g.L.Link.turns g.L.Link.given g.L.Link.taken c.live.new.one c.live.new.two c.live.new.clock in
-    record {
-      result = Ok s.0;
-      reads = read-same c.from-sectors.result c.args.asked.now.sectors s.0 _ c.from-sectors.ensures s.1 s.2;
-      lives = over-same c.from-sectors.result c.args.asked.now.sectors c.args.asked.now.count c.args.asked.now.turns (Ok s.0) old new c.from-sectors.ensures s.3;
-      writes = subst (λ (b : List ℕ). TookSome (g.K.Sink.held c.args.sink.now) (g.K.Sink.held c.give_all.new.sink) b)
-          (c.bytes.ensures ∙ s.1 ∙ ap (λ (n : ℕ). recorded n s.0) c.from-sectors.ensures) c.in-Err-give_all.ensures.some;
-    }
+    let took = subst (λ (text : List ℕ). TookSome (g.K.Sink.held c.args.sink.now) (g.K.Sink.held c.give_all.new.sink) text) (c.bytes.ensures ∙ s.1) c.in-Err-give_all.ensures.some in
+    ran _ _ (Ok s.0) _ _ _ _ _ c.from-sectors.ensures (sym (ap script_of s.1) ∙ s.2) s.3 took
 
 pub returns-in-Err-clause-links : goal.returns-in-Err-clause-links
 returns-in-Err-clause-links g c =

@@ -83,14 +83,18 @@ returns-in-Ok-Some-clause-serves g c asked is unrefused some_memory link fine =
     serves _ _ _ _ _ _ _ fine asked r (λ e. link-fine g.L.Link.faults _ _ link (at-first _ _ _ _ (λ a b blamed. blamed.cause e) (c.run_command.ensures.first not-live)) (omega (arith, c.requires.links, count)))
 
 -- words that spell no command name no files
-no-files : {R : Type 0} (names : Command → R → List (List ℕ)) (o : Option (Command × R)) → option_map (λ p. p.0) o ≡ None → length (option_map_or (λ p. names p.0 p.1) o []) ≡ 0
-no-files names None e = refl
-no-files names (Some p) e = absurd cc
+no-files : {R : Type 0} (names : Command → R → List (List ℕ)) (o : Option (Command × R)) (n : ℕ)
+    → n ≡ length (option_map_or (λ p. names p.0 p.1) o []) → option_map (λ p. p.0) o ≡ None → n ≡ 0
+no-files names None n count e = count
+no-files names (Some p) n count e = absurd cc
+
+pub returns-in-Ok-None-clause-keep_small : goal.returns-in-Ok-None-clause-keep_small
+returns-in-Ok-None-clause-keep_small g c slot sectors =
+    on-none _ slot _ _ (no-files files_of (spelled (map string_bytes c.args.words.now)) _ c.requires.count (sym c.in-Ok-None.ensures.command ∙ c.in-Ok-None.field-0-is))
 
 pub returns-in-Ok-None-clause-keep_bad : goal.returns-in-Ok-None-clause-keep_bad
 returns-in-Ok-None-clause-keep_bad g c slot bad =
-    let empty = no-files files_of (spelled (map string_bytes c.args.words.now)) (sym c.in-Ok-None.ensures.command ∙ c.in-Ok-None.field-0-is) in
-    on-none _ slot c.args.disks.now c.args.disks.now (omega (arith, c.requires.count, empty))
+    on-none _ slot _ _ (no-files files_of (spelled (map string_bytes c.args.words.now)) _ c.requires.count (sym c.in-Ok-None.ensures.command ∙ c.in-Ok-None.field-0-is))
 
 pub returns-in-Ok-Some-clause-asks : goal.returns-in-Ok-Some-clause-asks
 returns-in-Ok-Some-clause-asks g c tool is =

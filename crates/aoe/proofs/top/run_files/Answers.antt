@@ -1,10 +1,12 @@
-use Rattle.std.proofs.Common.{◌≡◌, ◌≤◌, ◌<◌, ◌+◌, ℕ, Option, None, Some, Err, arith, refl, ap}
+use Rattle.std.proofs.Common.{◌≡◌, ◌∙◌, ◌≤◌, ◌<◌, ◌+◌, ℕ, Option, None, Some, Err, arith, refl, ap}
 use Rattle.std.specs.Prelude.{IfSome}
-use Rattle.aoe.specs.Ending.{file_at}
+use Rattle.aoe.specs.Ending.{file_at, refused_slot, status_of}
+use Rattle.aoe.specs.declared.status.Status.{Status}
+use Rattle.aoe_serve.specs.declared.plan.Exported.{Exported}
 use Rattle.aoe.proofs.Blame.{at-first, retold}
 use Rattle.aoe.proofs.Complete.{link-told, sink-told, source-told}
 use Rattle.aoe.proofs.Exits.{unsynced-within}
-use Rattle.aoe.proofs.Refusals.{backed}
+use Rattle.aoe.proofs.Refusals.{backed, not-slot, not-some, ran-not-refused}
 use Rattle.aoe.proofs.top.run_files.Goals as goal
 
 few-slots : (unsynced : Option ℕ) (n : ℕ) → ((slot : ℕ) → unsynced ≡ Some slot → file_at slot + 1 < n) → n ≤ 32 → IfSome unsynced (λ slot. slot ≤ 15)
@@ -32,3 +34,13 @@ pub returns-in-Ok-clause-first : goal.returns-in-Ok-clause-first
 returns-in-Ok-clause-first g c =
     let told = link-told c.in-Ok.exported.end c.in-Ok.exported.unsynced c.status_of.ensures in
     at-first _ _ _ _ (λ a b blamed. retold _ _ told _ _ blamed) c.in-Ok.ensures.link_blame
+
+-- no keep was refused where its files were served
+unrefused : (s : Status) (exported : Exported) → s ≡ status_of exported → refused_slot s ≡ None
+unrefused s exported is = ap refused_slot is ∙ ran-not-refused exported.end exported.unsynced
+
+pub returns-in-Ok-clause-refused : goal.returns-in-Ok-clause-refused
+returns-in-Ok-clause-refused g c slot e = absurd (not-slot _ (unrefused _ c.in-Ok.exported c.status_of.ensures) slot e)
+
+pub returns-in-Ok-clause-unread : goal.returns-in-Ok-clause-unread
+returns-in-Ok-clause-unread g c some = absurd (not-some _ (unrefused _ c.in-Ok.exported c.status_of.ensures) some)
