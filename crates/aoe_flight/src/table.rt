@@ -4,6 +4,7 @@ ghost use Rattle.std.specs.List.{find};
 ghost use Rattle.std.specs.List.Sorted.{IsPermutation};
 ghost use Rattle.slab.specs.Slab.{get, slab_len, values, with_value};
 ghost use Rattle.aoe_flight.specs.declared.outstanding.Outstanding.{Outstanding};
+ghost use Rattle.aoe_flight.specs.Order.{no_entries};
 ghost use Rattle.aoe_flight.specs.Outstanding.{after_finish, after_repeat, best, change_of, flies_as, flies_with, is_better, is_due, is_expired, is_over, is_taken, live, lower, precedes, tag_after, IsFirst, IsNextTag};
 ghost use Rattle.aoe_flight.specs.Table.{IsFirstSlot};
 
@@ -60,13 +61,16 @@ impl Table {
     {
         let slots = Slab::with_capacity(alloc, room)?;
         let room = slots.capacity();
+        let tags = Order::new(alloc, room)?;
+        let rests = Order::new(alloc, room)?;
+        let (tickets, dues, firsts) = flying_orders(alloc, room)?;
         Ok(Table {
             slots,
-            tags: Order::new(alloc, room)?,
-            tickets: Order::new(alloc, room)?,
-            dues: Order::new(alloc, room)?,
-            firsts: Order::new(alloc, room)?,
-            rests: Order::new(alloc, room)?,
+            tags,
+            tickets,
+            dues,
+            firsts,
+            rests,
         })
     }
 
@@ -286,6 +290,17 @@ impl Table {
         self.dues.insert(command.by_due(slot));
         self.firsts.insert(command.by_first(slot));
     }
+}
+
+/// The orders in which no command flies: by tickets, by the times at which commands are due, and by
+/// those of their first sends.
+fn flying_orders(alloc: Global, room: usize) -> Result<(Order, Order, Order), NoMemory>
+    ensures { IfOk result (λ orders. orders ≡ (no_entries room, no_entries room, no_entries room)) }
+{
+    let tickets = Order::new(alloc, room)?;
+    let dues = Order::new(alloc, room)?;
+    let firsts = Order::new(alloc, room)?;
+    Ok((tickets, dues, firsts))
 }
 
 /// The expired command with the lowest ticket.
