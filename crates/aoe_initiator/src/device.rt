@@ -1,13 +1,17 @@
 //! Devices that a host is attached to, with the order of the commands there and the paths to them.
-ghost use Rattle.std.specs.Prelude.{◌≡◌, ◌<◌, ◌≤◌, ℕ, List, length, map, slice_get, All, IfSome};
+ghost use Rattle.std.specs.Prelude.{◌≡◌, ◌≢◌, ◌<◌, ◌≤◌, ℕ, List, [], length, map, slice_get, All, IfOk, IfSome};
+ghost use Rattle.aoe_base.specs.Addresses.{IsDistinct};
+ghost use Rattle.aoe_hold.specs.HoldTable.{no_commands};
+ghost use Rattle.aoe_paths.specs.PathTable.{new_paths};
 ghost use Rattle.aoe_initiator.specs.Devices.{after_arrival, after_choice, all_clear, change_at, device_at, device_finished, device_sent, lower_of, marks_after, IsLowest, IsRoute};
 ghost use Rattle.aoe_initiator.specs.Host.{RecallAll};
 ghost use Rattle.aoe_initiator.specs.HostLog.{HostCommand};
 
 use crate::counted::first_clear;
-use aoe_base::{DeviceNo, Mac, Millis, PathNo, Ports, TargetId, Ticket};
+use aoe_base::{DeviceNo, Mac, Millis, NoMemory, PathNo, Ports, TargetId, Ticket};
 use aoe_hold::Holds;
 use aoe_paths::Paths;
+use std::alloc::Global;
 
 /// What a host knows of a device.
 #[derive(Debug, Drop)]
@@ -65,6 +69,28 @@ fn mark(paths: &mut Paths, missed: Option<PathNo>)
 }
 
 impl Device {
+    /// A device with no commands, and the paths to it from these ports. A frame can arrive as long
+    /// as `life` after it was sent.
+    pub(crate) fn new(
+        alloc: Global,
+        about: Attached,
+        ports: &Ports,
+        life: Millis,
+    ) -> Result<Device, NoMemory>
+        requires local { ports.now.items ≢ [] }
+        requires remote { about.remotes.items ≢ [] }
+        requires locals_differ { IsDistinct ports.now.items }
+        requires remotes_differ { IsDistinct about.remotes.items }
+        ensures { IfOk result (λ d. d ≡ record { about = about; holds = no_commands life.0; paths = new_paths ports.now.items about.remotes.items }) }
+    {
+        let paths = Paths::new(alloc, ports, &about.remotes)?;
+        Ok(Device {
+            about,
+            holds: Holds::new(alloc, life),
+            paths,
+        })
+    }
+
     /// Chooses the path of a frame. The path on which an answer was missed is marked before.
     fn route(&mut self, missed: Option<PathNo>) -> Route
         ensures route { IsRoute self.old missed result }

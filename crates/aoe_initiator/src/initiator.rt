@@ -36,8 +36,6 @@ use crate::wait::{trip_at, wait_after};
 use aoe_base::{Blob, DeviceNo, Mac, Millis, NoMemory, PathNo, Ports, TargetId, Ticket, copy_of};
 use aoe_flight::Flight;
 use aoe_frame::{Frame, HEADER_LEN, Header, RESPONSE_FLAG, read_header};
-use aoe_hold::Holds;
-use aoe_paths::Paths;
 use std::alloc::Global;
 use std::collections::VecDeque;
 use std::marker::Model;
@@ -229,23 +227,20 @@ impl Initiator {
         if remotes.is_empty() {
             return Err(AttachRefusal::NoPort);
         }
-        let Ok(paths) = Paths::new(self.alloc, &self.ports, remotes) else {
-            return Err(AttachRefusal::NoMemory);
-        };
-        let device = Device {
-            about: Attached {
-                id,
-                remotes: copy_of(remotes),
-                total,
-                max,
-            },
-            holds: Holds::new(self.alloc, self.life),
-            paths,
-        };
-        let number = DeviceNo(self.devices.len() as u32);
-        if self.devices.push(device).is_err() {
+        if self.devices.reserve(1).is_err() {
             return Err(AttachRefusal::NoMemory);
         }
+        let about = Attached {
+            id,
+            remotes: copy_of(remotes),
+            total,
+            max,
+        };
+        let Ok(device) = Device::new(self.alloc, about, &self.ports, self.life) else {
+            return Err(AttachRefusal::NoMemory);
+        };
+        let number = DeviceNo(self.devices.len() as u32);
+        self.devices.push_reserved(device);
         Ok(number)
     }
 

@@ -1,4 +1,4 @@
-use Rattle.std.proofs.Common.{None, Some, sym, ◌∙◌}
+use Rattle.std.proofs.Common.{None, Some, refl, sym, ◌∙◌}
 use Rattle.aoe_initiator.proofs.MatchLemmas.{matches-cleared}
 use Rattle.aoe_initiator.proofs.SoundLemmas.{sound-cleared, times-of}
 use Rattle.aoe_initiator.proofs.initiator.Initiator.clear.Goals as goal
@@ -33,3 +33,21 @@ returns-in_err-at-clause-none c =
 
 pub returns-clause-lowest : goal.returns-clause-lowest
 returns-clause-lowest c = rw (← c.self.view_is) c.in_ok-ticket.ensures.lowest
+
+pub is_full-requires : goal.is_full-requires
+is_full-requires c = c.self.invariant.time
+
+pub next_clear-requires : goal.next_clear-requires
+next_clear-requires c = times-of c.self.inside.clock.0 c.self.inside.last_ticket.0 c.self.inside.devices.items c.self.invariant.attached
+
+pub place_of-requires : goal.place_of-requires
+place_of-requires c = c.self.invariant.order
+
+pub returns-in_err-ticket-clause-same : goal.returns-in_err-ticket-clause-same
+returns-in_err-ticket-clause-same c = rw (← c.self.view_is) refl
+
+pub returns-in_err-at-clause-same : goal.returns-in_err-at-clause-same
+returns-in_err-at-clause-same c = rw (← c.self.view_is) refl
+
+pub returns-clause-same : goal.returns-clause-same
+returns-clause-same c = rw (← c.self.view_is) refl
