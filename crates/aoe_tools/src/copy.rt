@@ -110,8 +110,10 @@ fn run_all<L: Link, C: Clock>(
         Ok(transfer) => transfer,
         Err(NoMemory) => return Err(ToolRefusal::NoMemory),
     };
-    match transfer.run(ask.turns, link, clock) {
-        Ok(()) => Ok(transfer.into_course()),
+    let ran = transfer.run(ask.turns, link, clock);
+    let course = transfer.into_course();
+    match ran {
+        Ok(()) => Ok(course),
         Err(refusal) => Err(refusal),
     }
 }
