@@ -49,9 +49,9 @@ pub record Going (sectors count turns quiet : ℕ) (last : Option ℕ) (h : List
   pub last_is : (n : ℕ) → or_now last n ≡ last_now rounds n
   pub goes_on : is_over count (tally_of h) ≡ false
 
-pub begun : (sectors count turns : ℕ) (h : List Entry) (events : List Event) (old : Outside) → h ≡ [] → events ≡ [] → IsSound (setup_of (stations sectors)) h
+pub begun : {sectors count turns : ℕ} {h : List Entry} {events : List Event} {old : Outside} → h ≡ [] → events ≡ [] → IsSound (setup_of (stations sectors)) h
     → Going sectors count turns 0 None h events old old
-begun sectors count turns h events old no_entries no_lines sound =
+begun {sectors} {count} {turns} {h} {events} {old} no_entries no_lines sound =
     let P : List Entry → Type 0 = λ l. Added old.one.taken old.one.taken (frames_by sender.Shelf l) in
     let Q : List Entry → Type 0 = λ l. Added old.two.taken old.two.taken (frames_by sender.Host l) in
     let R : List Entry → Type 0 = λ l. InOrder sectors count l in
@@ -82,15 +82,15 @@ ends-as s s' c c' turns ms r before h k one one' two two' same same_count x =
     let Q : ℕ → Type 0 = λ n. TurnEnds s' n turns ms r before h k one one' two two' in
     subst Q same_count (subst P same x)
 
-pub taken-as : (sectors sectors' count count' ms : ℕ) (finishes : Bool) (h m : List Entry) (before events : List Event) (one one' two two' : Wire) → sectors ≡ sectors' → count ≡ count'
+pub taken-as : {sectors sectors' count count' ms : ℕ} {finishes : Bool} {h m : List Entry} {before events : List Event} {one one' two two' : Wire} → sectors ≡ sectors' → count ≡ count'
     → Taken sectors count ms finishes h m before events one one' two two' → Taken sectors' count' ms finishes h m before events one one' two two'
-taken-as sectors sectors' count count' ms finishes h m before events one one' two two' same same_count t =
+taken-as {sectors} {sectors'} {count} {count'} {ms} {finishes} {h} {m} {before} {events} {one} {one'} {two} {two'} same same_count t =
     let P : ℕ → Type 0 = λ n. Taken n count ms finishes h m before events one one' two two' in
     let Q : ℕ → Type 0 = λ n. Taken sectors' n ms finishes h m before events one one' two two' in
     subst Q same_count (subst P same t)
 
-pub sound-as : (sectors sectors' : ℕ) (h : List Entry) → sectors ≡ sectors' → IsSound (setup_of (stations sectors)) h → IsSound (setup_of (stations sectors')) h
-sound-as sectors sectors' h same x = let P : ℕ → Type 0 = λ n. IsSound (setup_of (stations n)) h in subst P same x
+pub sound-as : {sectors sectors' : ℕ} {h : List Entry} → sectors ≡ sectors' → IsSound (setup_of (stations sectors)) h → IsSound (setup_of (stations sectors')) h
+sound-as {h = h} same x = let P : ℕ → Type 0 = λ n. IsSound (setup_of (stations n)) h in subst P same x
 
 pub over-as : (count count' : ℕ) (t t' : Tally) (result : Bool) → result ≡ is_over count t → count ≡ count' → t ≡ t' → is_over count' t' ≡ result
 over-as count count' t t' result is same same_tally = sym (is ∙ ap (λ n. is_over n t) same ∙ ap (is_over count') same_tally)
@@ -103,7 +103,7 @@ pub quiet-within : (quiet turns quiet' : ℕ) (finishes : Bool) → quiet < turn
 quiet-within quiet turns quiet' true below is = omega (arith, is)
 quiet-within quiet turns quiet' false below is = omega (arith, is, below)
 
-module _ (sectors count turns quiet : ℕ) (last : Option ℕ) (h : List Entry) (events : List Event) (old mid new : Outside) (g : Going sectors count turns quiet last h events old mid) (below : quiet < turns)
+module _ {sectors count turns quiet : ℕ} {last : Option ℕ} {h : List Entry} {events : List Event} {old mid : Outside} (new : Outside) (g : Going sectors count turns quiet last h events old mid) (below : quiet < turns)
     (now : ℕ) (asked : IfSome new.answers (λ all. Added mid.answers new.answers (now ∷ []))) where
   module _ (ms : ℕ) (ms_is : ms ≡ now - or_now last now) (finishes : Bool) (m : List Entry) (later : List Event) (t : Taken sectors count ms finishes h m events later mid.one new.one mid.two new.two)
       (sound : IsSound (setup_of (stations sectors)) m) (small : count < 2 ^ 32) (not_before : or_now last now ≤ now) where
@@ -221,10 +221,10 @@ quiet-smaller turns before after quiet less below =
     grind (arith, more)
 
 -- so there are fewer lines to come, or fewer turns that may finish none
-pub turn-smaller : (sectors count turns quiet ms : ℕ) (finishes : Bool) (h m : List Entry) (events later : List Event) (one one' two two' : Wire) → Taken sectors count ms finishes h m events later one one' two two'
+pub turn-smaller : {sectors count turns quiet ms : ℕ} {finishes : Bool} {h m : List Entry} {events later : List Event} {one one' two two' : Wire} → Taken sectors count ms finishes h m events later one one' two two'
     → length later ≤ 50000 → quiet < turns → (quiet' : ℕ) → quiet' ≡ quiet_by finishes quiet
     → (50000 - length later) * (turns + 1) + (turns - quiet') < (50000 - length events) * (turns + 1) + (turns - quiet)
-turn-smaller sectors count turns quiet ms finishes h m events later one one' two two' t few below quiet' is =
+turn-smaller {sectors} {count} {turns} {quiet} {ms} {finishes} {h} {m} {events} {later} {one} {one'} {two} {two'} t few below quiet' is =
     let P : ℕ → Type 0 = λ q. (50000 - length later) * (turns + 1) + (turns - q) < (50000 - length events) * (turns + 1) + (turns - quiet) in
     subst P (sym is) (go finishes t.finishes_is)
   where
