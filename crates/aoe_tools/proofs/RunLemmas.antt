@@ -166,9 +166,9 @@ told-nothing : (a : Option (List ℕ)) → Told a a []
 told-nothing None = tt
 told-nothing (Some l) = refl
 
-pub begun : (turns : ℕ) (host : Host) (c : Course) (from : ℕ) (given : Option (List Turn)) (taken : Option Frames) (answers : Option (List ℕ)) → IsFit host c → Matches [] host → host.waiting ≡ []
+pub begun : {turns : ℕ} {host : Host} {c : Course} {from : ℕ} {given : Option (List Turn)} {taken : Option Frames} {answers : Option (List ℕ)} → IsFit host c → Matches [] host → host.waiting ≡ []
     → So turns 0 host host c c from from given given taken taken answers answers
-begun turns host c from given taken answers fit m waiting = record {
+begun {host = host} {from = from} {given} {taken} {answers} fit m waiting = record {
   rounds = [];
   running = record { rounds_are = tt; same = same-self host; matches = m; waiting = waiting; course = refl };
   fit = fit;
@@ -178,66 +178,66 @@ begun turns host c from given taken answers fit m waiting = record {
   quiet_is = refl;
 }
 
-module _ (turns quiet : ℕ) (base host : Host) (start c : Course) (from turned' : ℕ) (given given' : Option (List Turn)) (taken taken' : Option Frames) (answers answers' : Option (List ℕ)) (s : So turns quiet base host start c from turned' given given' taken taken' answers answers') (below : quiet < turns)
-    (now : ℕ) (later : Option (List ℕ)) (ticks : IfSome later (λ all. Added answers' later (now ∷ [])))
-    (host' : Host) (c' : Course) (turned'' : ℕ) (given'' : Option (List Turn)) (taken'' : Option Frames) where
+module _ {turns quiet : ℕ} {base host : Host} {start c : Course} {from turned' : ℕ} {given given' : Option (List Turn)} {taken taken' : Option Frames} {answers answers' : Option (List ℕ)} (s : So turns quiet base host start c from turned' given given' taken taken' answers answers') (below : quiet < turns) where
   pub below-turns : quiet_turns s.rounds < turns
   below-turns = subst (λ (n : ℕ). n < turns) s.quiet_is below
 
-  told-now : Told answers later (now ∷ nows_of s.rounds)
-  told-now = told-then answers answers' later (nows_of s.rounds) now s.told ticks
+  module _ (now : ℕ) (later : Option (List ℕ)) (ticks : IfSome later (λ all. Added answers' later (now ∷ [])))
+      (host' : Host) (c' : Course) (turned'' : ℕ) (given'' : Option (List Turn)) (taken'' : Option Frames) where
+    told-now : Told answers later (now ∷ nows_of s.rounds)
+    told-now = told-then answers answers' later (nows_of s.rounds) now s.told ticks
 
-  -- one more turn
-  pub goes-on : (heard : Option Heard) (quiet' : ℕ) → quiet' ≡ quiet_by heard quiet → TakesRound base turns start s.rounds now heard host' c' turned' turned'' given' given'' taken' taken''
-      → So turns quiet' base host' start c' from turned'' given given'' taken taken'' answers later × (to_do host' c' + count_heard heard ≤ to_do host c)
-  goes-on heard quiet' is t =
-      let r = t.round in
-      let P : ℕ → Type 0 = λ n. Told answers later (n ∷ nows_of s.rounds) in (
-        record {
-          rounds = r ∷ s.rounds;
-          running = t.running;
-          fit = t.fit;
-          turned = turned-then from turned' turned'' given given' given'' (map (λ (r : Round). r.brought) s.rounds) (r.brought ∷ []) s.turned t.turned;
-          took = Added-then taken taken' taken'' (frames_of s.rounds) (map (λ (o : Outgoing). o.frame) r.sent) s.took t.took;
-          told = subst P (sym t.now_is) told-now;
-          quiet_is = is ∙ ap (λ (n : ℕ). quiet_by heard n) s.quiet_is ∙ sym (ap (λ (h : Option Heard). quiet_by h (quiet_turns s.rounds)) t.heard_is);
-        },
-        subst (λ (h : Option Heard). to_do host' c' + count_heard h ≤ to_do host c) t.heard_is (less-to-do base turns start s.rounds r host host' c c' s.running t.running),
-      )
+    -- one more turn
+    pub goes-on : (heard : Option Heard) (quiet' : ℕ) → quiet' ≡ quiet_by heard quiet → TakesRound base turns start s.rounds now heard host' c' turned' turned'' given' given'' taken' taken''
+        → So turns quiet' base host' start c' from turned'' given given'' taken taken'' answers later × (to_do host' c' + count_heard heard ≤ to_do host c)
+    goes-on heard quiet' is t =
+        let r = t.round in
+        let P : ℕ → Type 0 = λ n. Told answers later (n ∷ nows_of s.rounds) in (
+          record {
+            rounds = r ∷ s.rounds;
+            running = t.running;
+            fit = t.fit;
+            turned = turned-then from turned' turned'' given given' given'' (map (λ (r : Round). r.brought) s.rounds) (r.brought ∷ []) s.turned t.turned;
+            took = Added-then taken taken' taken'' (frames_of s.rounds) (map (λ (o : Outgoing). o.frame) r.sent) s.took t.took;
+            told = subst P (sym t.now_is) told-now;
+            quiet_is = is ∙ ap (λ (n : ℕ). quiet_by heard n) s.quiet_is ∙ sym (ap (λ (h : Option Heard). quiet_by h (quiet_turns s.rounds)) t.heard_is);
+          },
+          subst (λ (h : Option Heard). to_do host' c' + count_heard h ≤ to_do host c) t.heard_is (less-to-do base turns start s.rounds r host host' c c' s.running t.running),
+        )
 
-  still-turned : IsUnused turned' turned'' given' given'' → Turned from turned'' given given'' (map (λ r. r.brought) s.rounds)
-  still-turned u =
-      rw u.given_is (rw u.turns s.turned)
+    still-turned : IsUnused turned' turned'' given' given'' → Turned from turned'' given given'' (map (λ r. r.brought) s.rounds)
+    still-turned u =
+        rw u.given_is (rw u.turns s.turned)
 
-  ran : (result : Result Unit ToolRefusal) → IsUnused turned' turned'' given' given'' → RunEnds result base turns start c' s.rounds (now ∷ nows_of s.rounds) taken' taken''
-      → Runs result base turns start c' from turned'' given given'' taken taken'' answers later
-  ran result u ends = record {
-    rounds = s.rounds;
-    are = s.running.rounds_are;
-    turned = still-turned u;
-    mid = taken';
-    took = s.took;
-    goes_on = inl below-turns;
-    nows = now ∷ nows_of s.rounds;
-    told = told-now;
-    ends = ends;
-  }
+    ran : (result : Result Unit ToolRefusal) → IsUnused turned' turned'' given' given'' → RunEnds result base turns start c' s.rounds (now ∷ nows_of s.rounds) taken' taken''
+        → Runs result base turns start c' from turned'' given given'' taken taken'' answers later
+    ran result u ends = record {
+      rounds = s.rounds;
+      are = s.running.rounds_are;
+      turned = still-turned u;
+      mid = taken';
+      took = s.took;
+      goes_on = inl below-turns;
+      nows = now ∷ nows_of s.rounds;
+      told = told-now;
+      ends = ends;
+    }
 
-  -- all is done
-  pub is-over : Turns (Ok passed.Over) base turns start s.rounds now host' c c' turned' turned'' given' given'' taken' taken'' → Runs (Ok record {}) base turns start c' from turned'' given given'' taken taken'' answers later
-  is-over t =
-      let x : Turns (Ok passed.Over) base turns start s.rounds now host' (course_of turns start s.rounds) c' turned' turned'' given' given'' taken' taken'' = rw (← s.running.course) t in
-      ran (Ok record {}) x.3 (now, x.0, x.1, refl, x.2)
+    -- all is done
+    pub is-over : Turns (Ok passed.Over) base turns start s.rounds now host' c c' turned' turned'' given' given'' taken' taken'' → Runs (Ok record {}) base turns start c' from turned'' given given'' taken taken'' answers later
+    is-over t =
+        let x : Turns (Ok passed.Over) base turns start s.rounds now host' (course_of turns start s.rounds) c' turned' turned'' given' given'' taken' taken'' = rw (← s.running.course) t in
+        ran (Ok record {}) x.3 (now, x.0, x.1, refl, x.2)
 
-  -- or it broke off
-  pub is-refused : (r : ToolRefusal) → Turns (Err r) base turns start s.rounds now host' c c' turned' turned'' given' given'' taken' taken'' → Runs (Err r) base turns start c' from turned'' given given'' taken taken'' answers later
-  is-refused r t = at r (subst P s.running.course t)
-    where
-      P : Course → Type 0
-      P x = Turns (Err r) base turns start s.rounds now host' x c' turned' turned'' given' given'' taken' taken''
+    -- or it broke off
+    pub is-refused : (r : ToolRefusal) → Turns (Err r) base turns start s.rounds now host' c c' turned' turned'' given' given'' taken' taken'' → Runs (Err r) base turns start c' from turned'' given given'' taken taken'' answers later
+    is-refused r t = at r (subst P s.running.course t)
+      where
+        P : Course → Type 0
+        P x = Turns (Err r) base turns start s.rounds now host' x c' turned' turned'' given' given'' taken' taken''
 
-      at : (r : ToolRefusal) → Turns (Err r) base turns start s.rounds now host' (course_of turns start s.rounds) c' turned' turned'' given' given'' taken' taken'' → Runs (Err r) base turns start c' from turned'' given given'' taken taken'' answers later
-      at tool.LinkFault x = ran (Err tool.LinkFault) x.1 (now, x.0, refl)
-      at tool.NoMemory x = ran (Err tool.NoMemory) x.1 (now, refl, x.0)
-      at (tool.Unanswered n) x = ran (Err (tool.Unanswered n)) x.2 (inr (now, x.0, refl, x.1))
-      at (tool.Refused q) x = ran (Err (tool.Refused q)) x.2 (inr (now, x.0, refl, x.1))
+        at : (r : ToolRefusal) → Turns (Err r) base turns start s.rounds now host' (course_of turns start s.rounds) c' turned' turned'' given' given'' taken' taken'' → Runs (Err r) base turns start c' from turned'' given given'' taken taken'' answers later
+        at tool.LinkFault x = ran (Err tool.LinkFault) x.1 (now, x.0, refl)
+        at tool.NoMemory x = ran (Err tool.NoMemory) x.1 (now, refl, x.0)
+        at (tool.Unanswered n) x = ran (Err (tool.Unanswered n)) x.2 (inr (now, x.0, refl, x.1))
+        at (tool.Refused q) x = ran (Err (tool.Refused q)) x.2 (inr (now, x.0, refl, x.1))
