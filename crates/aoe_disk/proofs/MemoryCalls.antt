@@ -1,5 +1,5 @@
 -- The calls of a disk in memory, over its fields.
-use Rattle.std.proofs.Common.{◌≡◌, ◌≤◌, ◌+◌, ◌*◌, ◌/◌, ℕ, Bool, true, false, Option, Some, None, Ok, Err, List, length, refl, arith, ◌∙◌, ap, sym, inl, inr, lit≤, if◌then◌else◌}
+use Rattle.std.proofs.Common.{◌≡◌, ◌≤◌, ◌+◌, ◌*◌, ◌/◌, ℕ, Bool, true, false, Option, Some, None, Ok, Err, List, length, refl, arith, ◌∙◌, ap, sym, inl, inr, lit≤}
 use Rattle.std.specs.Bool.{OnTrue}
 use Rattle.std.proofs.lemmas.Bool.{cases_lt, both_ways}
 use Rattle.aoe_base.specs.Faults.{Rose}
@@ -7,7 +7,7 @@ use Rattle.aoe_disk.specs.State.{IsDisk, IsSchedule, with_piece, with_marks, spo
 use Rattle.aoe_disk.specs.Calls.{IsRange, IsRun, MovesOn, SameOutside, WritesTo}
 use Rattle.aoe_disk.specs.Arming.{IsArmedBy, ArmsTo}
 use Rattle.aoe_disk.specs.Sectors.{IsOutside}
-use Rattle.aoe_disk.specs.Memory.{Memory, state_of, schedule_of, armed_of, IsArming, IsAdvance, IsMemory}
+use Rattle.aoe_disk.specs.Memory.{Memory, state_of, schedule_of, armed_of, IsArming, IsMemory}
 use Rattle.aoe_disk.specs.declared.armed.Arm.{Arm}
 use Rattle.aoe_disk.specs.declared.armed.Arm.TheVariants.{Fail, Stop}
 use Rattle.aoe_disk.proofs.Pieces.{with_piece_outside, length-with_marks, is_loose-with_marks_outside, is_loose-with_marks_inside, length-spoiled_sector}

@@ -3,7 +3,7 @@ use Rattle.std.proofs.Common.{◌≡◌, ◌≢◌, ◌≤◌, ◌<◌, ◌+◌,
 use Rattle.std.proofs.lemmas.List.{length-take-le, take_at, drop-drop, drop-take, take-take, length-replicate, take_all}
 use Rattle.std.proofs.Math.Seq.{take-length}
 use Rattle.std.proofs.lemmas.Bool.{cases_lt}
-use Rattle.aoe_disk.specs.State.{Contents, CanLeave, HasShape, with_piece, is_loose, sector}
+use Rattle.aoe_disk.specs.State.{Contents, HasShape, with_piece, is_loose, sector}
 use Rattle.aoe_disk.specs.Calls.{Puts, Spoils, Settles, MaySettle, IsRange, SameOutside}
 use Rattle.aoe_disk.specs.Sectors.{IsOutside, Touches, Calms}
 use Rattle.aoe_disk.proofs.Pieces.{drop_start-with_piece, with_piece_outside, length-with_marks, is_loose-with_marks_outside, is_loose-replicate}
