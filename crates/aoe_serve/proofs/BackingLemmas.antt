@@ -1,20 +1,19 @@
 -- A store over a file holds back no more than its room.
-use Rattle.std.proofs.Common.{◌≡◌, ◌≤◌, ◌/◌, ℕ, zero, suc, List, [], length, drop, Option, Some, None, refl, ap, ◌∙◌, arith, inl, inr}
+use Rattle.std.proofs.Common.{◌≡◌, ◌≤◌, ◌/◌, ℕ, zero, suc, List, [], length, drop, refl, ap, ◌∙◌, arith, inl, inr}
 use Rattle.std.proofs.lemmas.Bool.{cases_lt}
 use Rattle.std.proofs.lemmas.List.{length-drop}
 use Rattle.std.specs.Prelude.{Result}
-use Rattle.aoe_disk.specs.State.{BothTell, Contents, DiskState}
+use Rattle.aoe_disk.specs.State.{DiskState}
 use Rattle.aoe_cache.specs.Any.{StaysWith, any_disk, any_state}
-use Rattle.aoe_cache.specs.Cache.{Cache, CacheReads, CacheSyncs, CacheWrites, PutsAfter, state_of}
+use Rattle.aoe_cache.specs.Cache.{Cache, CacheSyncs, CacheWrites, PutsAfter}
 use Rattle.aoe_cache.specs.Down.{StopsShort, WritesRuns}
-use Rattle.aoe_cache.specs.Free.{KeepsSettled}
 use Rattle.aoe_cache.specs.Held.{with_written}
 use Rattle.aoe_cache.specs.declared.any.AnyStore.{AnyStore}
 use Rattle.aoe_cache.specs.declared.any.AnyStore.TheVariants.{Direct, Cached}
 use Rattle.aoe_cache.specs.declared.place.HeldSector.{HeldSector}
 use Rattle.aoe_cache.proofs.Ascending.{length-with_written}
 use Rattle.aoe_serve.specs.Backing.{HoldsBack, over}
-use Rattle.aoe_serve.specs.Files.{IsUnder, shown}
+use Rattle.aoe_serve.specs.Files.{shown}
 
 -- Over a file.
 

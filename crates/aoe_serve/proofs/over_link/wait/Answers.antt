@@ -1,6 +1,5 @@
-use Rattle.std.proofs.Common.{arith, refl, subst, [], ◌∷◌, replicate}
-use Rattle.aoe_io.specs.Link.{GaveTurns, Turn, Turned, came, ended, quiet, turn_of}
-use Rattle.aoe_io.specs.declared.links.Got.{Got}
+use Rattle.std.proofs.Common.{arith, refl, [], ◌∷◌, replicate}
+use Rattle.aoe_io.specs.Link.{Turn, Turned, came, ended, quiet}
 use Rattle.aoe_io.proofs.LinkLemmas.{turned-by, turned-nothing, turned-then}
 use Rattle.aoe_serve.proofs.over_link.wait.Goals as goal
 
@@ -14,9 +13,8 @@ returns-in-Ok-Frame-clause-waited g c =
     let start = g.L.Link.turns c.args.link.now in
     let mid = g.L.Link.turns c.turns.link in
     let last = g.L.Link.turns c.recv.new.self in
-    let P : Got → Type 0 = λ got. GaveTurns last (g.L.Link.given c.turns.link) (g.L.Link.given c.recv.new.self) (turn_of got c.recv.new.out.items ∷ []) in
     let one : Turned mid last (g.L.Link.given c.turns.link) (g.L.Link.given c.recv.new.self) (t ∷ []) =
-    turned-by mid last (g.L.Link.given c.turns.link) (g.L.Link.given c.recv.new.self) t (subst P c.in-Ok-Frame.field-0-is c.in-Ok-Frame.ensures.gave) c.recv.ensures.passing c.in-Ok-Frame.ensures.turns in
+    turned-by mid last (g.L.Link.given c.turns.link) (g.L.Link.given c.recv.new.self) t (rw c.in-Ok-Frame.field-0-is at c.in-Ok-Frame.ensures.gave) c.recv.ensures.passing c.in-Ok-Frame.ensures.turns in
     let all : Turned start last (g.L.Link.given c.args.link.now) (g.L.Link.given c.recv.new.self) (t ∷ replicate n quiet) =
     turned-then start mid last (g.L.Link.given c.args.link.now) (g.L.Link.given c.turns.link) (g.L.Link.given c.recv.new.self) (replicate n quiet) (t ∷ []) c.turns.invariant.0 one in
     (t ∷ replicate n quiet, (n, omega (arith, c.turns-test.true), refl), all)
@@ -28,9 +26,8 @@ returns-in-Ok-Ended-clause-waited g c =
     let start = g.L.Link.turns c.args.link.now in
     let mid = g.L.Link.turns c.turns.link in
     let last = g.L.Link.turns c.recv.new.self in
-    let P : Got → Type 0 = λ got. GaveTurns last (g.L.Link.given c.turns.link) (g.L.Link.given c.recv.new.self) (turn_of got c.recv.new.out.items ∷ []) in
     let one : Turned mid last (g.L.Link.given c.turns.link) (g.L.Link.given c.recv.new.self) (t ∷ []) =
-    turned-by mid last (g.L.Link.given c.turns.link) (g.L.Link.given c.recv.new.self) t (subst P c.in-Ok-Ended.field-0-is c.in-Ok-Ended.ensures.gave) c.recv.ensures.passing c.in-Ok-Ended.ensures.turns in
+    turned-by mid last (g.L.Link.given c.turns.link) (g.L.Link.given c.recv.new.self) t (rw c.in-Ok-Ended.field-0-is at c.in-Ok-Ended.ensures.gave) c.recv.ensures.passing c.in-Ok-Ended.ensures.turns in
     let all : Turned start last (g.L.Link.given c.args.link.now) (g.L.Link.given c.recv.new.self) (t ∷ replicate n quiet) =
     turned-then start mid last (g.L.Link.given c.args.link.now) (g.L.Link.given c.turns.link) (g.L.Link.given c.recv.new.self) (replicate n quiet) (t ∷ []) c.turns.invariant.0 one in
     (t ∷ replicate n quiet, (n, omega (arith, c.turns-test.true), refl), all)

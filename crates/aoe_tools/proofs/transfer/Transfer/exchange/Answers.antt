@@ -1,5 +1,4 @@
 use Rattle.std.proofs.Common.{◌∙◌}
-use Rattle.std.specs.Prelude.{Ok}
 use Rattle.aoe_tools.proofs.ExchangeLemmas.{broken-hear, broken-send, exchanged-answer, exchanged-quiet}
 use Rattle.aoe_tools.proofs.transfer.Transfer.exchange.Goals as goal
 

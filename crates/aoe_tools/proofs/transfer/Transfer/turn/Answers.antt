@@ -1,8 +1,7 @@
-use Rattle.std.proofs.Common.{◌≡◌, Some, sym, ap, refl, ◌∙◌, arith, subst}
-use Rattle.aoe_tools.specs.TransferSteps.{UnlessFailed}
+use Rattle.std.proofs.Common.{◌≡◌, Some, sym, ap, refl, ◌∙◌, arith}
 use Rattle.std.specs.Prelude.{Ok, Err}
 use Rattle.aoe_tools.proofs.TurnLemmas.{by-exchange, ends-turn, fit-turn, not-link, of-outcome, over-turn, refused-turn, Advanced}
-use Rattle.aoe_tools.specs.TransferCourse.{end_by, after_dones, End}
+use Rattle.aoe_tools.specs.TransferCourse.{end_by}
 use Rattle.aoe_tools.specs.declared.end.ToolRefusal.TheVariants as tool
 use Rattle.aoe_tools.proofs.transfer.Transfer.turn.Goals as goal
 
@@ -28,9 +27,8 @@ returns-in-Some-Ok-clause-turn g c = λ base start rounds run below.
     let a = c.advance.ensures in
     let adv : Advanced c.args.self.now.host c.advance.new.self c.args.now a.gives_up.0 = record { waiting = a.gives_up.1; gives = a.gives_up.2; clock_is = a.clock; same = a.same; last = a.last } in
     let e : Some (Ok record {}) ≡ end_by c.args.turns c.args.self.now.course c.advance.new.self.waiting = sym (ap Some c.in-Some-Ok.field-0-is) ∙ c.in-Some-Ok.ensures.end in
-    let P : End → Type 0 = λ end. UnlessFailed (Some end) (c.take_all.new.self.course ≡ after_dones c.args.turns c.args.self.now.course c.advance.new.self.waiting) in
     let over = over-turn c.args.self.now.host c.advance.new.self c.take_all.new.self.host c.args.now a.gives_up.0 adv c.take_all.ensures.host base c.args.turns start rounds c.args.self.now.course run c.take_all.ensures.matches c.take_all.new.self.course e
-    (subst P c.in-Some-Ok.field-0-is c.in-Some-Ok.ensures.course) in
+    (rw c.in-Some-Ok.field-0-is at c.in-Some-Ok.ensures.course) in
     (over.0, over.1, refl, record { turns = refl; given_is = refl })
 
 pub returns-in-Some-Err-clause-turn : goal.returns-in-Some-Err-clause-turn
