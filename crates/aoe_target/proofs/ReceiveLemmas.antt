@@ -39,10 +39,10 @@ pub unheard : (station : Station) (lists : Settings) (f : List ℕ) → false �
 unfolding verdict
 unheard station lists f e = ap (λ (t : Bool). cond t (judged station lists (fields f) (drop 24 f)) Ignored) (sym e)
 
-pub judged_is : (station : Station) (lists told : Settings) (f : List ℕ) (h : Header) (args : List ℕ) (v : Verdict) → true ≡ is_some (head f) → h ≡ fields f → args ≡ drop 24 f → told ≡ lists
+pub judged_is : (station : Station) {lists told : Settings} (f : List ℕ) {h : Header} {args : List ℕ} (v : Verdict) → true ≡ is_some (head f) → h ≡ fields f → args ≡ drop 24 f → told ≡ lists
     → v ≡ judged station told h args → verdict station lists f ≡ v
 unfolding verdict
-judged_is station lists told f h args v there header rest same e =
+judged_is station {lists} f {h} {args} v there header rest same e =
     ap (λ (t : Bool). cond t (judged station lists (fields f) (drop 24 f)) Ignored) (sym there)
     ∙ sym (e ∙ ap (λ (l : Settings). judged station l h args) same ∙ ap (λ (x : Header). judged station lists x args) header ∙ ap (λ (a : List ℕ). judged station lists (fields f) a) rest)
 

@@ -1,4 +1,4 @@
-use Rattle.std.proofs.Common.{◌≡◌, ◌∙◌, false, true, refl, subst, sym}
+use Rattle.std.proofs.Common.{◌≡◌, ◌∙◌, false, true, refl, sym}
 use Rattle.aoe_disk.proofs.Runs.{logs_none}
 use Rattle.aoe_target.specs.Receive.{calls_for, is_edit_fault, is_fault, is_faulty, MovesUnder}
 use Rattle.std.specs.Option.{option_map}
@@ -8,7 +8,6 @@ use Rattle.aoe_target.specs.declared.heard.Effect.TheVariants as effect
 use Rattle.aoe_target.specs.declared.verdict.Verdict.{Verdict}
 use Rattle.aoe_target.specs.declared.verdict.Verdict.TheVariants.{Ignored, Silent, Refused, Lists, Ata}
 use Rattle.aoe_target.specs.declared.heard.Heard.TheVariants as heard
-use Rattle.aoe_target.specs.Turn.{Receives}
 use Rattle.aoe_target.proofs.ReceivesLemmas.{by_it, keeps_lists, unmoved}
 use Rattle.aoe_target.proofs.ReceiveLemmas.{same_sectors, unheard, judged_is, by_verdict, ignored_step, silent_step, refused_step, lists_step, ata_step}
 use Rattle.aoe_target.proofs.target.Target.hear.Goals as goal
@@ -18,7 +17,7 @@ returns-in_default-clause-receives g c =
     let t = c.args.self.now in
     let d = device_of g.S.Store.state g.D.Disk.state t in
     let v = unheard t.station t.keep.lists c.args.frame.now c.in_default.ensures.there in
-    unmoved g.S.Store.state g.D.Disk.state t c.args.frame.now heard.Ignored c.clear.new.self.items Ignored (record {
+    unmoved _ _ t _ _ _ Ignored (record {
       by = v;
       rest = refl;
       no_fault = refl;
@@ -30,10 +29,9 @@ returns-in_default-clause-receives g c =
 
 pub returns-in-Ignored-clause-receives : goal.returns-in-Ignored-clause-receives
 returns-in-Ignored-clause-receives g c =
-    let v = judged_is c.self.inside.station c.self.inside.keep.lists c.lists.result.now c.args.frame.now c.in-Some.header c.args_of.result.now Ignored c.in-Some.ensures.there c.in-Some.ensures.fields c.args_of.ensures c.lists.ensures c.in-Ignored.ensures.verdict in
+    let v = judged_is _ _ Ignored c.in-Some.ensures.there c.in-Some.ensures.fields c.args_of.ensures c.lists.ensures c.in-Ignored.ensures.verdict in
     let t : Mounted _ _ = record { station = c.self.inside.station; keep = c.self.inside.keep; store = c.self.inside.store } in
-    let P : Mounted _ _ → Type 0 = λ u. Receives g.S.Store.state g.D.Disk.state u u c.args.frame.now heard.Ignored c.clear-in-Ignored.new.self.items in
-    subst P c.self.view_is (unmoved g.S.Store.state g.D.Disk.state t c.args.frame.now heard.Ignored c.clear-in-Ignored.new.self.items Ignored (record {
+    rw (← c.self.view_is) (unmoved _ _ t _ _ _ Ignored (record {
       by = v;
       rest = refl;
       no_fault = refl;
@@ -45,10 +43,9 @@ returns-in-Ignored-clause-receives g c =
 
 pub returns-in-Silent-clause-receives : goal.returns-in-Silent-clause-receives
 returns-in-Silent-clause-receives g c =
-    let v = judged_is c.self.inside.station c.self.inside.keep.lists c.lists.result.now c.args.frame.now c.in-Some.header c.args_of.result.now Silent c.in-Some.ensures.there c.in-Some.ensures.fields c.args_of.ensures c.lists.ensures c.in-Silent.ensures.verdict in
+    let v = judged_is _ _ Silent c.in-Some.ensures.there c.in-Some.ensures.fields c.args_of.ensures c.lists.ensures c.in-Silent.ensures.verdict in
     let t : Mounted _ _ = record { station = c.self.inside.station; keep = c.self.inside.keep; store = c.self.inside.store } in
-    let P : Mounted _ _ → Type 0 = λ u. Receives g.S.Store.state g.D.Disk.state u u c.args.frame.now heard.Silent c.clear-in-Silent.new.self.items in
-    subst P c.self.view_is (unmoved g.S.Store.state g.D.Disk.state t c.args.frame.now heard.Silent c.clear-in-Silent.new.self.items Silent (record {
+    rw (← c.self.view_is) (unmoved _ _ t _ _ _ Silent (record {
       by = v;
       rest = refl;
       no_fault = refl;
@@ -60,10 +57,9 @@ returns-in-Silent-clause-receives g c =
 
 pub returns-in-Refused-clause-receives : goal.returns-in-Refused-clause-receives
 returns-in-Refused-clause-receives g c =
-    let v = judged_is c.self.inside.station c.self.inside.keep.lists c.lists.result.now c.args.frame.now c.in-Some.header c.args_of.result.now (Refused c.in-Refused.error) c.in-Some.ensures.there c.in-Some.ensures.fields c.args_of.ensures c.lists.ensures c.in-Refused.ensures.verdict in
+    let v = judged_is _ _ (Refused c.in-Refused.error) c.in-Some.ensures.there c.in-Some.ensures.fields c.args_of.ensures c.lists.ensures c.in-Refused.ensures.verdict in
     let t : Mounted _ _ = record { station = c.self.inside.station; keep = c.self.inside.keep; store = c.self.inside.store } in
-    let P : Mounted _ _ → Type 0 = λ u. Receives g.S.Store.state g.D.Disk.state u u c.args.frame.now (heard.Replied effect.None) c.refuse.new.out.items in
-    subst P c.self.view_is (unmoved g.S.Store.state g.D.Disk.state t c.args.frame.now (heard.Replied effect.None) c.refuse.new.out.items (Refused c.in-Refused.error) (record {
+    rw (← c.self.view_is) (unmoved _ _ t _ _ _ (Refused c.in-Refused.error) (record {
       by = v;
       rest = refl;
       no_fault = refl;
@@ -75,13 +71,12 @@ returns-in-Refused-clause-receives g c =
 
 pub returns-in-Lists-clause-receives : goal.returns-in-Lists-clause-receives
 returns-in-Lists-clause-receives g c =
-    let v = judged_is c.self.inside.station c.self.inside.keep.lists c.lists.result.now c.args.frame.now c.in-Some.header c.args_of.result.now (Lists c.in-Lists.command) c.in-Some.ensures.there c.in-Some.ensures.fields c.args_of.ensures c.lists.ensures c.in-Lists.ensures.verdict in
+    let v = judged_is _ _ (Lists c.in-Lists.command) c.in-Some.ensures.there c.in-Some.ensures.fields c.args_of.ensures c.lists.ensures c.in-Lists.ensures.verdict in
     let old : Mounted _ _ = record { station = c.self.inside.station; keep = c.self.inside.keep; store = c.self.inside.store } in
     let new : Mounted _ _ = record { station = c.self.inside.station; keep = c.tell.new.keep; store = c.self.inside.store } in
-    let P : Mounted _ _ → Type 0 = λ t. Receives g.S.Store.state g.D.Disk.state t new c.args.frame.now c.tell.result c.tell.new.out.items in
-    let calls = by_it g.S.Store.state g.D.Disk.state c.args.frame.now c.tell.result old new (Lists c.in-Lists.command) v
+    let calls = by_it g.S.Store.state g.D.Disk.state _ c.tell.result old new (Lists c.in-Lists.command) v
     (record { call = tt; log = logs_none (g.S.Store.state old.store); idle = λ _. refl; edit = c.tell.ensures.edit; unedited = c.tell.ensures.idle }) in
-    subst P c.self.view_is (record {
+    rw (← c.self.view_is) (record {
       station = refl;
       step = λ k h. lists_step c.self.inside.station _ _ k c.args.frame.now h c.in-Lists.command c.tell.result c.tell.new.out.items v c.tell.ensures.allowed c.tell.ensures.keeps refl;
       silent = c.tell.ensures.empty;
@@ -97,15 +92,14 @@ returns-in-Lists-clause-receives g c =
 
 pub returns-in-Ata-clause-receives : goal.returns-in-Ata-clause-receives
 returns-in-Ata-clause-receives g c =
-    let v = judged_is c.self.inside.station c.self.inside.keep.lists c.lists.result.now c.args.frame.now c.in-Some.header c.args_of.result.now (Ata c.in-Ata.decision) c.in-Some.ensures.there c.in-Some.ensures.fields c.args_of.ensures c.lists.ensures c.in-Ata.ensures.verdict in
+    let v = judged_is _ _ (Ata c.in-Ata.decision) c.in-Some.ensures.there c.in-Some.ensures.fields c.args_of.ensures c.lists.ensures c.in-Ata.ensures.verdict in
     let e = c.serve-effect.result in
     let old : Mounted _ _ = record { station = c.self.inside.station; keep = c.self.inside.keep; store = c.self.inside.store } in
     let new : Mounted _ _ = record { station = c.self.inside.station; keep = c.self.inside.keep; store = c.serve-effect.new.store } in
-    let P : Mounted _ _ → Type 0 = λ t. Receives g.S.Store.state g.D.Disk.state t new c.args.frame.now (heard.Replied e) c.serve-effect.new.out.items in
-    let calls = by_it g.S.Store.state g.D.Disk.state c.args.frame.now (heard.Replied e) old new (Ata c.in-Ata.decision) v
+    let calls = by_it g.S.Store.state g.D.Disk.state _ (heard.Replied e) old new (Ata c.in-Ata.decision) v
     (record { call = c.serve-effect.ensures.call; log = c.serve-effect.ensures.log; idle = c.serve-effect.ensures.idle; edit = tt; unedited = λ _. refl }) in
     let kept : is_edit_fault e ≡ false = keeps_lists c.self.inside.station (option_map sectors_of (g.S.Store.state c.self.inside.store).contents) c.in-Some.header c.in-Ata.decision.args c.in-Ata.decision.answer e c.serve-effect.new.out.items c.serve-effect.ensures.allowed in
-    subst P c.self.view_is (record {
+    rw (← c.self.view_is) (record {
       station = refl;
       step = λ k h. ata_step c.self.inside.station _ _ k c.args.frame.now h c.in-Some.header c.in-Ata.decision e c.serve-effect.new.out.items v c.in-Some.ensures.fields c.serve-effect.ensures.allowed c.serve-effect.ensures.leaves refl refl;
       silent = λ (clash : heard.Replied e ≡ heard.Silent). absurd cc;
@@ -126,31 +120,31 @@ returns-in_default-clause-under g c =
 
 pub returns-in-Ignored-clause-under : goal.returns-in-Ignored-clause-under
 returns-in-Ignored-clause-under g c =
-    let v = judged_is c.self.inside.station c.self.inside.keep.lists c.lists.result.now c.args.frame.now c.in-Some.header c.args_of.result.now Ignored c.in-Some.ensures.there c.in-Some.ensures.fields c.args_of.ensures c.lists.ensures c.in-Ignored.ensures.verdict in
+    let v = judged_is _ _ Ignored c.in-Some.ensures.there c.in-Some.ensures.fields c.args_of.ensures c.lists.ensures c.in-Ignored.ensures.verdict in
     let Q : Mounted _ _ → Verdict → Type 0 = λ t w. MovesUnder w false (g.S.Store.state t.store).contents (g.S.Store.under t.store) (g.S.Store.under t.store) in
     by_verdict _ _ c.args.frame.now Ignored Q c.self.view_is v refl
 
 pub returns-in-Silent-clause-under : goal.returns-in-Silent-clause-under
 returns-in-Silent-clause-under g c =
-    let v = judged_is c.self.inside.station c.self.inside.keep.lists c.lists.result.now c.args.frame.now c.in-Some.header c.args_of.result.now Silent c.in-Some.ensures.there c.in-Some.ensures.fields c.args_of.ensures c.lists.ensures c.in-Silent.ensures.verdict in
+    let v = judged_is _ _ Silent c.in-Some.ensures.there c.in-Some.ensures.fields c.args_of.ensures c.lists.ensures c.in-Silent.ensures.verdict in
     let Q : Mounted _ _ → Verdict → Type 0 = λ t w. MovesUnder w false (g.S.Store.state t.store).contents (g.S.Store.under t.store) (g.S.Store.under t.store) in
     by_verdict _ _ c.args.frame.now Silent Q c.self.view_is v refl
 
 pub returns-in-Refused-clause-under : goal.returns-in-Refused-clause-under
 returns-in-Refused-clause-under g c =
-    let v = judged_is c.self.inside.station c.self.inside.keep.lists c.lists.result.now c.args.frame.now c.in-Some.header c.args_of.result.now (Refused c.in-Refused.error) c.in-Some.ensures.there c.in-Some.ensures.fields c.args_of.ensures c.lists.ensures c.in-Refused.ensures.verdict in
+    let v = judged_is _ _ (Refused c.in-Refused.error) c.in-Some.ensures.there c.in-Some.ensures.fields c.args_of.ensures c.lists.ensures c.in-Refused.ensures.verdict in
     let Q : Mounted _ _ → Verdict → Type 0 = λ t w. MovesUnder w false (g.S.Store.state t.store).contents (g.S.Store.under t.store) (g.S.Store.under t.store) in
     by_verdict _ _ c.args.frame.now (Refused c.in-Refused.error) Q c.self.view_is v refl
 
 pub returns-in-Lists-clause-under : goal.returns-in-Lists-clause-under
 returns-in-Lists-clause-under g c =
-    let v = judged_is c.self.inside.station c.self.inside.keep.lists c.lists.result.now c.args.frame.now c.in-Some.header c.args_of.result.now (Lists c.in-Lists.command) c.in-Some.ensures.there c.in-Some.ensures.fields c.args_of.ensures c.lists.ensures c.in-Lists.ensures.verdict in
+    let v = judged_is _ _ (Lists c.in-Lists.command) c.in-Some.ensures.there c.in-Some.ensures.fields c.args_of.ensures c.lists.ensures c.in-Lists.ensures.verdict in
     let Q : Mounted _ _ → Verdict → Type 0 = λ t w. MovesUnder w (is_faulty c.tell.result) (g.S.Store.state t.store).contents (g.S.Store.under t.store) (g.S.Store.under c.self.inside.store) in
     by_verdict _ _ c.args.frame.now (Lists c.in-Lists.command) Q c.self.view_is v refl
 
 pub returns-in-Ata-clause-under : goal.returns-in-Ata-clause-under
 returns-in-Ata-clause-under g c =
-    let v = judged_is c.self.inside.station c.self.inside.keep.lists c.lists.result.now c.args.frame.now c.in-Some.header c.args_of.result.now (Ata c.in-Ata.decision) c.in-Some.ensures.there c.in-Some.ensures.fields c.args_of.ensures c.lists.ensures c.in-Ata.ensures.verdict in
+    let v = judged_is _ _ (Ata c.in-Ata.decision) c.in-Some.ensures.there c.in-Some.ensures.fields c.args_of.ensures c.lists.ensures c.in-Ata.ensures.verdict in
     let Q : Mounted _ _ → Verdict → Type 0 = λ t w. MovesUnder w (is_fault c.serve-effect.result) (g.S.Store.state t.store).contents (g.S.Store.under t.store) (g.S.Store.under c.serve-effect.new.store) in
     by_verdict _ _ c.args.frame.now (Ata c.in-Ata.decision) Q c.self.view_is v c.serve-effect.ensures.under
 
