@@ -24,7 +24,6 @@ use Rattle.aoe_target.specs.Sectors.{sectors_of}
 use Rattle.aoe_target.specs.Device.{Device, State, Holds, MayStand}
 use Rattle.aoe_target.specs.Law.{Fate, ignored, silent, replied, IsStep, Allows, AllowsAta, AllowsStep, step_of, after, after_ata, after_step}
 use Rattle.aoe_target.specs.Receive.{fate_of, KeepsStep, Leaves}
-use Rattle.aoe_target.specs.Mounted.{Mounted}
 use Rattle.aoe_target.proofs.LawLemmas.{allows_less, both_ata, both_then}
 use Rattle.aoe_target.proofs.DeviceLemmas.{stepped}
 
@@ -45,12 +44,6 @@ unfolding verdict
 judged_is station {lists} f {h} {args} v there header rest same e =
     ap (λ (t : Bool). cond t (judged station lists (fields f) (drop 24 f)) Ignored) (sym there)
     ∙ sym (e ∙ ap (λ (l : Settings). judged station l h args) same ∙ ap (λ (x : Header). judged station lists x args) header ∙ ap (λ (a : List ℕ). judged station lists (fields f) a) rest)
-
--- what is true of the fields of a target and of a verdict is true of the target and of its verdict
-pub by_verdict : {S D : Type 0} (m n : Mounted S D) (f : List ℕ) (v : Verdict) (Q : Mounted S D → Verdict → Type 0) → m ≡ n → verdict m.station m.keep.lists f ≡ v → Q m v → Q n (verdict n.station n.keep.lists f)
-by_verdict m n f v Q same e q =
-    let P : Mounted _ _ → Type 0 = λ t. Q t (verdict t.station t.keep.lists f) in
-    subst P same (subst (λ (w : Verdict). Q m w) (sym e) q)
 
 module _ (station : Station) (d d' : Device) (k : State) (f : List ℕ) (h : Holds d k) where
   -- a step by its verdict

@@ -1,15 +1,14 @@
 use Rattle.std.proofs.Common.{◌≡◌, ◌∙◌, false, true, refl, sym}
 use Rattle.aoe_disk.proofs.Runs.{logs_none}
-use Rattle.aoe_target.specs.Receive.{calls_for, is_edit_fault, is_fault, is_faulty, MovesUnder}
+use Rattle.aoe_target.specs.Receive.{calls_for, is_edit_fault, is_fault, is_faulty}
 use Rattle.std.specs.Option.{option_map}
 use Rattle.aoe_target.specs.Sectors.{sectors_of}
 use Rattle.aoe_target.specs.Mounted.{Mounted, device_of}
 use Rattle.aoe_target.specs.declared.heard.Effect.TheVariants as effect
-use Rattle.aoe_target.specs.declared.verdict.Verdict.{Verdict}
 use Rattle.aoe_target.specs.declared.verdict.Verdict.TheVariants.{Ignored, Silent, Refused, Lists, Ata}
 use Rattle.aoe_target.specs.declared.heard.Heard.TheVariants as heard
 use Rattle.aoe_target.proofs.ReceivesLemmas.{by_it, keeps_lists, unmoved}
-use Rattle.aoe_target.proofs.ReceiveLemmas.{same_sectors, unheard, judged_is, by_verdict, ignored_step, silent_step, refused_step, lists_step, ata_step}
+use Rattle.aoe_target.proofs.ReceiveLemmas.{same_sectors, unheard, judged_is, ignored_step, silent_step, refused_step, lists_step, ata_step}
 use Rattle.aoe_target.proofs.target.Target.hear.Goals as goal
 
 pub returns-in_default-clause-receives : goal.returns-in_default-clause-receives
@@ -115,38 +114,32 @@ returns-in-Ata-clause-receives g c =
 
 pub returns-in_default-clause-under : goal.returns-in_default-clause-under
 returns-in_default-clause-under g c =
-    let Q : Mounted _ _ → Verdict → Type 0 = λ t w. MovesUnder w false (g.S.Store.state t.store).contents (g.S.Store.under t.store) (g.S.Store.under t.store) in
-    by_verdict c.args.self.now c.args.self.now c.args.frame.now Ignored Q refl (unheard c.args.self.now.station c.args.self.now.keep.lists c.args.frame.now c.in_default.ensures.there) refl
+    rw (unheard c.args.self.now.station c.args.self.now.keep.lists c.args.frame.now c.in_default.ensures.there) refl
 
 pub returns-in-Ignored-clause-under : goal.returns-in-Ignored-clause-under
 returns-in-Ignored-clause-under g c =
     let v = judged_is _ _ Ignored c.in-Some.ensures.there c.in-Some.ensures.fields c.args_of.ensures c.lists.ensures c.in-Ignored.ensures.verdict in
-    let Q : Mounted _ _ → Verdict → Type 0 = λ t w. MovesUnder w false (g.S.Store.state t.store).contents (g.S.Store.under t.store) (g.S.Store.under t.store) in
-    by_verdict _ _ c.args.frame.now Ignored Q c.self.view_is v refl
+    rw (← c.self.view_is, v) refl
 
 pub returns-in-Silent-clause-under : goal.returns-in-Silent-clause-under
 returns-in-Silent-clause-under g c =
     let v = judged_is _ _ Silent c.in-Some.ensures.there c.in-Some.ensures.fields c.args_of.ensures c.lists.ensures c.in-Silent.ensures.verdict in
-    let Q : Mounted _ _ → Verdict → Type 0 = λ t w. MovesUnder w false (g.S.Store.state t.store).contents (g.S.Store.under t.store) (g.S.Store.under t.store) in
-    by_verdict _ _ c.args.frame.now Silent Q c.self.view_is v refl
+    rw (← c.self.view_is, v) refl
 
 pub returns-in-Refused-clause-under : goal.returns-in-Refused-clause-under
 returns-in-Refused-clause-under g c =
     let v = judged_is _ _ (Refused c.in-Refused.error) c.in-Some.ensures.there c.in-Some.ensures.fields c.args_of.ensures c.lists.ensures c.in-Refused.ensures.verdict in
-    let Q : Mounted _ _ → Verdict → Type 0 = λ t w. MovesUnder w false (g.S.Store.state t.store).contents (g.S.Store.under t.store) (g.S.Store.under t.store) in
-    by_verdict _ _ c.args.frame.now (Refused c.in-Refused.error) Q c.self.view_is v refl
+    rw (← c.self.view_is, v) refl
 
 pub returns-in-Lists-clause-under : goal.returns-in-Lists-clause-under
 returns-in-Lists-clause-under g c =
     let v = judged_is _ _ (Lists c.in-Lists.command) c.in-Some.ensures.there c.in-Some.ensures.fields c.args_of.ensures c.lists.ensures c.in-Lists.ensures.verdict in
-    let Q : Mounted _ _ → Verdict → Type 0 = λ t w. MovesUnder w (is_faulty c.tell.result) (g.S.Store.state t.store).contents (g.S.Store.under t.store) (g.S.Store.under c.self.inside.store) in
-    by_verdict _ _ c.args.frame.now (Lists c.in-Lists.command) Q c.self.view_is v refl
+    rw (← c.self.view_is, v) refl
 
 pub returns-in-Ata-clause-under : goal.returns-in-Ata-clause-under
 returns-in-Ata-clause-under g c =
     let v = judged_is _ _ (Ata c.in-Ata.decision) c.in-Some.ensures.there c.in-Some.ensures.fields c.args_of.ensures c.lists.ensures c.in-Ata.ensures.verdict in
-    let Q : Mounted _ _ → Verdict → Type 0 = λ t w. MovesUnder w (is_fault c.serve-effect.result) (g.S.Store.state t.store).contents (g.S.Store.under t.store) (g.S.Store.under c.serve-effect.new.store) in
-    by_verdict _ _ c.args.frame.now (Ata c.in-Ata.decision) Q c.self.view_is v c.serve-effect.ensures.under
+    rw (← c.self.view_is, v) c.serve-effect.ensures.under
 
 pub invariant_of-self-in-Ata : goal.invariant_of-self-in-Ata
 invariant_of-self-in-Ata g c =
