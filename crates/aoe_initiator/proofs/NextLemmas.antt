@@ -12,7 +12,7 @@ use Rattle.aoe_base.specs.declared.counted.Millis.{Millis}
 use Rattle.aoe_base.specs.declared.counted.PathNo.{PathNo}
 use Rattle.aoe_base.specs.declared.counted.Ticket.{Ticket}
 use Rattle.aoe_hold.specs.declared.command.Command.{Command}
-use Rattle.aoe_hold.specs.Commands.{clear_tickets, is_clear, is_unsent, unsent}
+use Rattle.aoe_hold.specs.Commands.{clear_tickets, is_clear, is_unsent}
 use Rattle.aoe_flight.specs.declared.outstanding.Flying.{Flying}
 use Rattle.aoe_flight.specs.declared.outstanding.Outstanding.{Outstanding}
 use Rattle.aoe_flight.specs.FlightTable.{after_change, live_at, FlightTable, Recalls as RecallsSent, SameCommands}

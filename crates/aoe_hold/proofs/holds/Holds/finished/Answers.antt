@@ -1,7 +1,7 @@
 use Rattle.std.proofs.Common.{◌≡◌, List, Some, None, arith, true, refl, sym, subst, ◌∙◌, rules, nat_eq}
 use Rattle.std.specs.Prelude.{position}
 use Rattle.aoe_hold.specs.declared.command.Command.{Command}
-use Rattle.aoe_hold.specs.Commands.{after_stage, stage_finished}
+use Rattle.aoe_hold.specs.Commands.{stage_finished}
 use Rattle.aoe_hold.specs.HoldTable.{is_ascending, ArePast}
 use Rattle.aoe_hold.proofs.StageLemmas.{count-finished, new-ends, place-ticket, place-within, stage-missing, stage-set}
 use Rattle.aoe_hold.proofs.OutsideLemmas.{gone-stage}

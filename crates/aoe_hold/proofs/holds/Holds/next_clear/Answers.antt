@@ -1,4 +1,4 @@
-use Rattle.std.proofs.Common.{◌≡◌, ◌-◌, arith, map, rules, ◌∙◌}
+use Rattle.std.proofs.Common.{◌≡◌, arith, map, rules, ◌∙◌}
 use Rattle.std.specs.List.{find}
 use Rattle.std.specs.Prelude.{option_copied, option_map}
 use Rattle.aoe_hold.specs.Commands.{clear_tickets, is_clear}

@@ -1,4 +1,4 @@
-use Rattle.std.proofs.Common.{Some, refl}
+use Rattle.std.proofs.Common.{refl}
 use Rattle.std.proofs.lemmas.List.{take_rest}
 use Rattle.aoe_initiator.proofs.TakeLemmas.{left-closed, takes-finished}
 use Rattle.aoe_initiator.proofs.initiator.Initiator.receive.Goals as goal
