@@ -31,7 +31,7 @@ use Rattle.aoe_initiator.specs.Steps.{place}
 use Rattle.aoe_initiator.proofs.ListLemmas.{get-past, not-placed, placed, placed-inside, Contains-map_from}
 use Rattle.aoe_initiator.proofs.LogLemmas.{only, unfinished-there}
 use Rattle.aoe_initiator.proofs.PathLemmas.{has-paths}
-use Rattle.aoe_initiator.proofs.NextLemmas.{find-flies}
+use Rattle.aoe_initiator.proofs.ClearLemmas.{find-flies}
 use Rattle.aoe_initiator.proofs.MatchLemmas.{one-command, pending-command, sent-from, sent-there, IsPending}
 
 -- a frame answers no command

@@ -32,7 +32,8 @@ use Rattle.aoe_initiator.proofs.DeviceLemmas.{about-change_at}
 use Rattle.aoe_initiator.proofs.ListLemmas.{placed}
 use Rattle.aoe_initiator.proofs.LogLemmas.{only}
 use Rattle.aoe_initiator.proofs.MatchLemmas.{flying-command, matches-ended, one-command, sent-from, IsPending}
-use Rattle.aoe_initiator.proofs.NextLemmas.{find-flies, is-placed, sent-one}
+use Rattle.aoe_initiator.proofs.ClearLemmas.{find-flies, is-placed}
+use Rattle.aoe_initiator.proofs.RepeatLemmas.{sent-one}
 
 -- ---- a response
 

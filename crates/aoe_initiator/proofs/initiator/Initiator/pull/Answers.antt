@@ -1,28 +1,27 @@
-use Rattle.std.proofs.Common.{List}
-use Rattle.aoe_initiator.specs.declared.step.Sent.{Sent}
-use Rattle.aoe_initiator.specs.Host.{Host}
-use Rattle.aoe_initiator.specs.HostLaw.{IsNext}
-use Rattle.aoe_initiator.specs.HostLog.{commands, Event}
-use Rattle.aoe_initiator.proofs.NextLemmas.{due-flies, idle-quiet, idle-then, left-repeated, repeat-frame-all, repeat-next-all, repeat-path-all, repeat-quiet, repeat-sends-all, stays-unchanged}
+use Rattle.std.proofs.lemmas.Option.{IfSome_then}
+use Rattle.aoe_initiator.specs.HostLog.{commands}
+use Rattle.aoe_initiator.proofs.ClearLemmas.{due-flies}
+use Rattle.aoe_initiator.proofs.RepeatLemmas.{idle-quiet, left-repeated, repeat-frame, repeat-next, repeat-path, repeat-quiet, repeat-sends, stays-unchanged, IsFirstDue, IsIdle}
+use Rattle.aoe_initiator.specs.HostLog.{sent_of}
 use Rattle.aoe_initiator.proofs.initiator.Initiator.pull.Goals as goal
 use Rattle.aoe_initiator.proofs.initiator.Initiator.pull.Goals.{In-Some, In-None}
 
 pub repeat-requires : goal.repeat-requires
-repeat-requires c =
-    rw (← c.self.view_is) (due-flies c.self.inside.clock.0 c.self.inside.flight c.in-Some.ticket c.in-Some.ensures.first)
+repeat-requires c = rw (← c.self.view_is) (due-flies c.self.inside.clock.0 c.self.inside.flight c.in-Some.ticket c.in-Some.ensures.first)
 
 pub returns-in-Some-clause-next : goal.returns-in-Some-clause-next
 returns-in-Some-clause-next c =
-    repeat-next-all c.repeat.result c.args.self.now _ c.in-Some.ticket _ c.repeat.ensures.sent (rw (← c.self.view_is) c.in-Some.ensures.first_sent)
+    let first : IsFirstDue c.args.self.now c.in-Some.ticket = rw (← c.self.view_is) c.in-Some.ensures.first_sent in
+    IfSome_then c.repeat.result c.repeat.ensures.sent (λ sent repeats log m. repeat-next m repeats (first (sent_of (commands log)) m.sent))
 
 pub returns-in-Some-clause-frame : goal.returns-in-Some-clause-frame
-returns-in-Some-clause-frame c = repeat-frame-all c.repeat.result c.args.self.now _ c.in-Some.ticket _ c.repeat.ensures.sent
+returns-in-Some-clause-frame c = IfSome_then c.repeat.result c.repeat.ensures.sent (λ sent repeats log m. repeat-frame m repeats)
 
 pub returns-in-Some-clause-path : goal.returns-in-Some-clause-path
-returns-in-Some-clause-path c = repeat-path-all c.repeat.result c.args.self.now _ c.in-Some.ticket _ c.repeat.ensures.sent
+returns-in-Some-clause-path c = IfSome_then c.repeat.result c.repeat.ensures.sent (λ sent repeats log m. repeat-path m repeats)
 
 pub returns-in-Some-clause-sends : goal.returns-in-Some-clause-sends
-returns-in-Some-clause-sends c = repeat-sends-all c.repeat.result c.args.self.now _ c.in-Some.ticket _ c.repeat.ensures.in_time c.repeat.ensures.sent
+returns-in-Some-clause-sends c = IfSome_then c.repeat.result c.repeat.ensures.sent (λ sent repeats log m. repeat-sends m repeats c.repeat.ensures.in_time)
 
 pub returns-in-Some-clause-quiet : goal.returns-in-Some-clause-quiet
 returns-in-Some-clause-quiet c =
@@ -38,8 +37,8 @@ returns-in-Some-clause-same c =
 
 pub returns-in-None-clause-next : goal.returns-in-None-clause-next
 returns-in-None-clause-next c =
-    let N : Sent → Host → List Event → Type 0 = λ s h log. IsNext h (commands log) s in
-    idle-then c.start.result N c.args.self.now (rw (← c.self.view_is) c.in-None.ensures.none_sent) c.start.ensures.next
+    let idle : IsIdle c.args.self.now = rw (← c.self.view_is) c.in-None.ensures.none_sent in
+    IfSome_then c.start.result c.start.ensures.next (λ sent next log m. next log m (idle (sent_of (commands log)) m.sent))
 
 pub returns-in-None-clause-quiet : goal.returns-in-None-clause-quiet
 returns-in-None-clause-quiet c =

@@ -1,5 +1,6 @@
-use Rattle.std.proofs.Common.{refl, ◌∙◌}
-use Rattle.aoe_initiator.proofs.NextLemmas.{left-cleared, left-launched, left-then, quiet-exit, start-frame-all, start-next-all, start-path-all, start-quiet, start-sends-all, IsCleared}
+use Rattle.std.proofs.lemmas.Option.{IfSome_then}
+use Rattle.aoe_initiator.proofs.ClearLemmas.{quiet-exit}
+use Rattle.aoe_initiator.proofs.StartLemmas.{left-cleared, left-launched, left-then, start-frame, start-next-all, start-path, start-quiet, start-sends, IsCleared}
 use Rattle.aoe_initiator.proofs.initiator.Initiator.start.Goals as goal
 
 cleared : (c : goal.After-launch) → IsCleared c.args.self.now c.clear.new.self c.in_ok-ticket.ticket c.in_ok-ticket.at
@@ -7,7 +8,7 @@ cleared c = record {
   room = c.in_ok-ticket.ensures.some.0;
   found = c.in_ok-ticket.ensures.some.1;
   same = c.clear.ensures.same;
-  devices = c.clear.ensures.devices ∙ rw c.in_ok-ticket.ensures.some.0 refl;
+  devices = c.clear.ensures.devices;
   lowest = c.in_ok-ticket.ensures.lowest;
 }
 
@@ -23,14 +24,13 @@ pub returns-clause-next : goal.returns-clause-next
 returns-clause-next c = start-next-all c.launch.result c.args.self.now c.clear.new.self _ c.in_ok-ticket.ticket c.in_ok-ticket.at _ c.clear.ensures.in_time (cleared c) c.launch.ensures.sent c.launch.ensures.free
 
 pub returns-clause-frame : goal.returns-clause-frame
-returns-clause-frame c = start-frame-all c.launch.result c.args.self.now c.clear.new.self _ c.in_ok-ticket.ticket c.in_ok-ticket.at _ (cleared c) c.clear.ensures.stays c.launch.ensures.sent
+returns-clause-frame c = IfSome_then c.launch.result c.launch.ensures.sent (λ sent launches log m. start-frame m (cleared c) launches (c.clear.ensures.stays log m))
 
 pub returns-clause-path : goal.returns-clause-path
-returns-clause-path c = start-path-all c.launch.result c.args.self.now c.clear.new.self _ c.in_ok-ticket.ticket c.in_ok-ticket.at _ (cleared c) c.clear.ensures.stays c.launch.ensures.sent
+returns-clause-path c = IfSome_then c.launch.result c.launch.ensures.sent (λ sent launches log m. start-path m (cleared c) launches (c.clear.ensures.stays log m))
 
 pub returns-clause-sends : goal.returns-clause-sends
-returns-clause-sends c =
-    start-sends-all c.launch.result c.args.self.now c.clear.new.self _ c.in_ok-ticket.ticket c.in_ok-ticket.at _ c.launch.ensures.in_time (cleared c) c.clear.ensures.stays c.launch.ensures.sent
+returns-clause-sends c = IfSome_then c.launch.result c.launch.ensures.sent (λ sent launches log m. start-sends m (cleared c) launches (c.clear.ensures.stays log m) c.launch.ensures.in_time)
 
 pub returns-clause-quiet : goal.returns-clause-quiet
 returns-clause-quiet c = start-quiet c.launch.result c.args.self.now c.clear.new.self c.in_ok-ticket.ticket c.in_ok-ticket.at (cleared c) c.launch.ensures.none
@@ -39,5 +39,5 @@ pub returns-clause-same : goal.returns-clause-same
 returns-clause-same c =
     let first = left-cleared c.args.self.now c.clear.new.self c.clear.ensures.same c.clear.ensures.devices in
     let second = left-launched c.args.self.now c.clear.new.self _ c.in_ok-ticket.ticket c.in_ok-ticket.at _ c.launch.result (cleared c) c.launch.ensures.sent c.launch.ensures.none in
-    let left = left-then c.args.self.now c.clear.new.self _ first second in
+    let left = left-then first second in
     (left.same, left.clock, left.last, left.waiting)
