@@ -38,19 +38,17 @@ send-keeps tag now path ts = record { ticket = λ c. refl; device = λ c. refl; 
 pub end-keeps : Keeps after_end
 end-keeps = record { ticket = λ c. refl; device = λ c. refl; op = λ c. refl }
 
+kept : {X : Type 0} (part : HostCommand → X) (t : Ticket) (change : HostCommand → HostCommand) (c : HostCommand) → part (change c) ≡ part c → part (at_ticket t change c) ≡ part c
+kept part t change c same = elim (cases_Bool (nat_eq c.ticket.0 t.0)) [
+  | inl here ↦ rw here same
+  | inr other ↦ rw other refl
+]
+
 pub kept-ticket : (t : Ticket) (change : HostCommand → HostCommand) (c : HostCommand) → Keeps change → (at_ticket t change c).ticket ≡ c.ticket
-kept-ticket t change c keeps = at (nat_eq c.ticket.0 t.0)
-  where
-    at : (b : Bool) → (cond b (change c) c).ticket ≡ c.ticket
-    at true = keeps.ticket c
-    at false = refl
+kept-ticket t change c keeps = kept (λ d. d.ticket) t change c (keeps.ticket c)
 
 pub kept-device : (t : Ticket) (change : HostCommand → HostCommand) (c : HostCommand) → Keeps change → (at_ticket t change c).device ≡ c.device
-kept-device t change c keeps = at (nat_eq c.ticket.0 t.0)
-  where
-    at : (b : Bool) → (cond b (change c) c).device ≡ c.device
-    at true = keeps.device c
-    at false = refl
+kept-device t change c keeps = kept (λ d. d.device) t change c (keeps.device c)
 
 pub ascends-kept : (n : ℕ) (t : Ticket) (change : HostCommand → HostCommand) (cs : List HostCommand) → Keeps change → Ascends n cs → Ascends n (map (at_ticket t change) cs)
 ascends-kept n t change [] keeps up = up
@@ -112,29 +110,26 @@ sent-mapped change f (c ∷ cs) all =
 made : Ticket → DeviceNo → Op → Option Sending → Bool → HostCommand
 made ticket device op sends done = record { ticket = ticket; device = device; op = op; sends = sends; done = done }
 
+never : {X : Type 0} (b : Bool) (x y : X) → cond (b && false) x y ≡ y
+never true x y = refl
+never false x y = refl
+
 sent-ended-one : (t ticket : Ticket) (device : DeviceNo) (op : Op) (sends : Option Sending) (done : Bool)
     → as_sent (at_ticket t after_end (made ticket device op sends done)) ≡ option_map (change_of t.0 after_finish) (as_sent (made ticket device op sends done))
 unfolding made
-sent-ended-one t ticket device op None done = at (nat_eq ticket.0 t.0)
+sent-ended-one t ticket device op None done = elim (cases_Bool (nat_eq ticket.0 t.0)) [
+  | inl same ↦ rw same refl
+  | inr other ↦ rw other refl
+]
+sent-ended-one t ticket device op (Some s) done = elim (cases_Bool (nat_eq ticket.0 t.0)) [
+  | inl same ↦ rw same (ended done)
+  | inr other ↦ rw other (ap (λ (o : Outstanding). Some o) (sym (never (not done) _ _)))
+]
   where
-    c : HostCommand
-    c = record { ticket = ticket; device = device; op = op; sends = None; done = done }
-
-    at : (b : Bool) → as_sent (cond b (after_end (record { ticket = ticket; device = device; op = op; sends = None; done = done })) (record { ticket = ticket; device = device; op = op; sends = None; done = done })) ≡ None
-    at true = refl
-    at false = refl
-sent-ended-one t ticket device op (Some s) true = at (nat_eq ticket.0 t.0)
-  where
-    at : (b : Bool) → as_sent (cond b (record { ticket = ticket; device = device; op = op; sends = Some s; done = true }) (record { ticket = ticket; device = device; op = op; sends = Some s; done = true }))
-        ≡ Some (outstanding (record { ticket = ticket; device = device; op = op; sends = Some s; done = true }) s)
-    at true = refl
-    at false = refl
-sent-ended-one t ticket device op (Some s) false = at (nat_eq ticket.0 t.0)
-  where
-    at : (b : Bool) → as_sent (cond b (record { ticket = ticket; device = device; op = op; sends = Some s; done = true }) (record { ticket = ticket; device = device; op = op; sends = Some s; done = false }))
-        ≡ Some (cond b (after_finish (outstanding (record { ticket = ticket; device = device; op = op; sends = Some s; done = false }) s)) (outstanding (record { ticket = ticket; device = device; op = op; sends = Some s; done = false }) s))
-    at true = refl
-    at false = refl
+    ended : (d : Bool) → Some (outstanding (record { ticket = ticket; device = device; op = op; sends = Some s; done = true }) s)
+        ≡ Some (cond (not d && true) (after_finish (outstanding (record { ticket = ticket; device = device; op = op; sends = Some s; done = d }) s)) (outstanding (record { ticket = ticket; device = device; op = op; sends = Some s; done = d }) s))
+    ended true = refl
+    ended false = refl
 
 pub sent-ended : (t : Ticket) (cs : List HostCommand) → sent_of (map (at_ticket t after_end) cs) ≡ map (change_of t.0 after_finish) (sent_of cs)
 unfolding made
@@ -147,10 +142,6 @@ sent-repeated-one t tag now path ts s device op =
     let same : nat_eq t.0 t.0 ≡ true = eq-eqb t.0 t.0 refl in
     let count : min (min s.count 32 + 1) 32 ≡ min (s.count + 1) 32 = omega arith in
     rw (same, count) refl
-
-never : {X : Type 0} (b : Bool) (x y : X) → cond (b && false) x y ≡ y
-never true x y = refl
-never false x y = refl
 
 others-sent : (t : Ticket) (f : Outstanding → Outstanding) (x : HostCommand) → nat_eq x.ticket.0 t.0 ≡ false → as_sent x ≡ option_map (change_of t.0 f) (as_sent x)
 others-sent t f x other = at x.sends
@@ -302,9 +293,6 @@ entered-elsewhere n cs t device op elsewhere =
 
 -- ---- what has no outcome
 
-waits : HostCommand → Waiting
-waits c = record { ticket = c.ticket; device = c.device; op = c.op }
-
 pub unfinished-sent : (t : Ticket) (tag : ℕ) (now : Millis) (path : PathNo) (ts : ℕ → ℕ) (cs : List HostCommand) → unfinished (map (at_ticket t (after_send tag now path ts)) cs) ≡ unfinished cs
 unfinished-sent t tag now path ts [] = refl
 unfinished-sent t tag now path ts (c ∷ cs) = at (nat_eq c.ticket.0 t.0) c.done (unfinished-sent t tag now path ts cs)
@@ -329,37 +317,31 @@ unfinished-there (x ∷ cs) c there open_ = elim (Contains-cons_cases x c cs the
   | inl same ↦
       let waits_still : x.done ≡ false = ap (λ (e : HostCommand). e.done) same ∙ open_ in
       rw waits_still (0, omega arith, ap (λ (e : HostCommand). record { ticket = e.ticket; device = e.device; op = e.op }) same)
-  | inr behind ↦ at x.done (unfinished-there cs c behind open_)
+  | inr behind ↦ elim (cases_Bool x.done) [
+    | inl done ↦ rw done (unfinished-there cs c behind open_)
+    | inr open_x ↦ rw open_x (Contains-cons _ _ (unfinished cs) (unfinished-there cs c behind open_))
+  ]
 ]
-  where
-    at : (b : Bool) → Contains {X = Waiting} (unfinished cs) (record { ticket = c.ticket; device = c.device; op = c.op })
-        → Contains {X = Waiting} (map (λ e. record { ticket = e.ticket; device = e.device; op = e.op }) (cond (not b) (x ∷ filter (λ e. not e.done) cs) (filter (λ e. not e.done) cs))) (record { ticket = c.ticket; device = c.device; op = c.op })
-    at true rest = rest
-    at false rest = Contains-cons (record { ticket = x.ticket; device = x.device; op = x.op }) (record { ticket = c.ticket; device = c.device; op = c.op }) (unfinished cs) rest
 
 -- what waits is a command without an outcome
 pub unfinished-from : (cs : List HostCommand) (w : Waiting) → Contains (unfinished cs) w → (c : HostCommand) × Contains cs c × (c.done ≡ false) × (w ≡ record { ticket = c.ticket; device = c.device; op = c.op })
 unfinished-from [] w there = absurd (omega (arith, there.1))
-unfinished-from (x ∷ cs) w there = at x.done refl there (unfinished-from cs w)
-  where
-    at : (b : Bool) → x.done ≡ b → Contains {X = Waiting} (map (λ e. record { ticket = e.ticket; device = e.device; op = e.op }) (cond (not b) (x ∷ filter (λ e. not e.done) cs) (filter (λ e. not e.done) cs))) w
-        → (Contains (unfinished cs) w → (c : HostCommand) × Contains cs c × (c.done ≡ false) × (w ≡ record { ticket = c.ticket; device = c.device; op = c.op }))
-        → (c : HostCommand) × Contains (x ∷ cs) c × (c.done ≡ false) × (w ≡ record { ticket = c.ticket; device = c.device; op = c.op })
-    at true is inside rest =
-        let found = rest inside in
-        (found.0, Contains-cons x found.0 cs found.1, found.2, found.3)
-    at false is inside rest = elim (Contains-cons_cases (record { ticket = x.ticket; device = x.device; op = x.op }) w (unfinished cs) inside) [
-      | inl same ↦ (x, (0, omega arith, refl), is, sym same)
-      | inr behind ↦ let found = rest behind in (found.0, Contains-cons x found.0 cs found.1, found.2, found.3)
-    ]
+unfinished-from (x ∷ cs) w there = elim (cases_Bool x.done) [
+  | inl done ↦ let found = unfinished-from cs w (rw done at there) in (found.0, Contains-cons x found.0 cs found.1, found.2, found.3)
+  | inr open_ ↦ elim (Contains-cons_cases (record { ticket = x.ticket; device = x.device; op = x.op }) w (unfinished cs) (rw open_ at there)) [
+    | inl same ↦ (x, (0, omega arith, refl), open_, sym same)
+    | inr behind ↦ let found = unfinished-from cs w behind in (found.0, Contains-cons x found.0 cs found.1, found.2, found.3)
+  ]
+]
 
 above-waits : (n : ℕ) (cs : List HostCommand) → Ascends n cs → All {X = Waiting} (λ w. n < w.ticket.0) (unfinished cs)
 above-waits n [] up = All-nil (λ w. n < w.ticket.0)
-above-waits n (c ∷ cs) up = at c.done (All-weaker (λ w. c.ticket.0 < w.ticket.0) (λ w. n < w.ticket.0) (λ w above. omega (arith, above, up.0)) (unfinished cs) (above-waits c.ticket.0 cs up.1))
-  where
-    at : (b : Bool) → All {X = Waiting} (λ w. n < w.ticket.0) (unfinished cs) → All {X = Waiting} (λ w. n < w.ticket.0) (map (λ e. record { ticket = e.ticket; device = e.device; op = e.op }) (cond (not b) (c ∷ filter (λ e. not e.done) cs) (filter (λ e. not e.done) cs)))
-    at true rest = rest
-    at false rest = All-cons (λ w. n < w.ticket.0) (record { ticket = c.ticket; device = c.device; op = c.op }) (unfinished cs) up.0 rest
+above-waits n (c ∷ cs) up =
+    let rest = All-weaker (λ w. c.ticket.0 < w.ticket.0) (λ w. n < w.ticket.0) (λ w above. omega (arith, above, up.0)) (unfinished cs) (above-waits c.ticket.0 cs up.1) in
+    elim (cases_Bool c.done) [
+      | inl done ↦ rw done rest
+      | inr open_ ↦ rw open_ (All-cons (λ w. n < w.ticket.0) (record { ticket = c.ticket; device = c.device; op = c.op }) (unfinished cs) up.0 rest)
+    ]
 
 skip : (x : HostCommand) (xs : List HostCommand) → x.done ≡ true → unfinished (x ∷ xs) ≡ unfinished xs
 skip x xs is = rw is refl
@@ -368,11 +350,10 @@ keep : (x : HostCommand) (xs : List HostCommand) → x.done ≡ false → unfini
 keep x xs is = rw is refl
 
 done-still : (t : Ticket) (c : HostCommand) → c.done ≡ true → (at_ticket t after_end c).done ≡ true
-done-still t c is = at (nat_eq c.ticket.0 t.0)
-  where
-    at : (b : Bool) → (cond b (after_end c) c).done ≡ true
-    at true = refl
-    at false = is
+done-still t c is = elim (cases_Bool (nat_eq c.ticket.0 t.0)) [
+  | inl same ↦ rw same refl
+  | inr other ↦ rw other is
+]
 
 -- a command ends: what waits at its place goes
 pub unfinished-ended : (n : ℕ) (t : Ticket) (cs : List HostCommand) (at : ℕ) (d : Waiting) → Ascends n cs → at < length (unfinished cs) → (get_or (unfinished cs) at d).ticket.0 ≡ t.0
