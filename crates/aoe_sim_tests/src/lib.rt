@@ -1,5 +1,5 @@
 //! Tests of the simulator's crates by their public calls: a network, scripts, histories and their texts,
-//! hosts and shelves over a network, whole runs, and runs over links.
+//! hosts and shelves over a network, a world, and runs over links.
 //!
 //! They stand beside the crates, since a crate with tests inside it is proved once more with them.
 #![tactic(auto)]

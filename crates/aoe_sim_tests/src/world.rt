@@ -1,30 +1,32 @@
-//! Whole transcripts of scripts, worked out by hand.
-ghost use Rattle.std.specs.Prelude.{◌≡◌};
+//! A run by the calls of its world, what a soak writes, and why a world stops. Transcripts of whole
+//! scripts are compared on the built program: `examples/replay` and `examples/schedules` have them.
+ghost use Rattle.std.specs.Prelude.{◌≡◌, ◌≤◌};
 
-mod caches;
-mod crashes;
-mod network;
-mod paths;
-mod refusals;
-mod repeats;
-mod soaks;
-
-use crate::checks::holds;
 use aoe_base::{Blob, NoMemory};
+use aoe_io::MemSink;
 use aoe_script::{Script, ScriptRefusal, read_script};
 use aoe_transcript::print_run;
-use aoe_world::World;
-use std::alloc::Global;
-use std::process::Abort;
+use aoe_world::{ReplayEnd, World, WorldRefusal, soak};
+use std::alloc::{AllocError, Global};
 use std::test::Fail;
 
-/// A shelf with a slot of 16 sectors, and a host that is attached to it.
-const STATIONS: &str = "\
+/// A write that isn't answered: it is given up.
+const UNANSWERED: &str = "\
 life 2000
 shelf s 1 02:00:00:00:00:01 1500
 slot s 0 16
 host a 02:00:00:00:00:0a
 attach a s 0
+write a e1.0 0 1 01
+tick 180000
+";
+
+const GIVEN_UP: &str = "\
+submit a 1 write e1.0 0 1 01
+sent a 1 1
+tick 180000
+done a 1 gave-up
+summary events 2 frames 1 sent 1 again 0 arrived 0 done 1 lost 0 crashed 0
 ";
 
 /// Runs all events of a script through its world.
@@ -55,31 +57,51 @@ fn read(alloc: Global, text: &str) -> Result<Script, ScriptRefusal> {
     read_script(alloc, text.as_bytes())
 }
 
-/// Whether the run of a script prints this text.
-fn gives(alloc: Global, script: &str, text: &str) -> Result<bool, Fail> {
-    let script = read(alloc, script)?;
-    let printed = ran(alloc, &script)?;
-    Ok(printed.bytes() == text.as_bytes())
-}
-
-/// Whether the run of these lines, behind the lines of the stations, prints this text.
-fn prints(alloc: Global, lines: &str, text: &str) -> Result<bool, Fail> {
-    let script = format!(in alloc; "{STATIONS}{lines}")?;
-    gives(alloc, script.as_str(), text)
-}
-
-/// The run of each script prints the text beside it.
-fn all_give(rt: &impl Abort, alloc: Global, cases: &[(&str, &str)]) -> Result<(), Fail> {
-    for (script, text) in cases {
-        holds(rt, gives(alloc, script, text)?, text);
-    }
+#[test]
+fn prints_a_run(rt: HostRuntime) -> Result<(), Fail> {
+    let script = read(rt.alloc(), UNANSWERED)?;
+    let printed = ran(rt.alloc(), &script)?;
+    assert!(rt; printed.bytes() == GIVEN_UP.as_bytes());
     Ok(())
 }
 
-/// The run of these lines, behind the lines of the stations, prints the text beside them.
-fn all_print(rt: &impl Abort, alloc: Global, cases: &[(&str, &str)]) -> Result<(), Fail> {
-    for (lines, text) in cases {
-        holds(rt, prints(alloc, lines, text)?, text);
-    }
+/// Whether this is the text of a refusal.
+fn is_told(alloc: Global, refusal: WorldRefusal, text: &str) -> Result<bool, AllocError> {
+    let told = format!(in alloc; "{refusal}")?;
+    Ok(told.as_str() == text)
+}
+
+#[test]
+fn tells_why_it_stops(rt: HostRuntime) -> Result<(), Fail> {
+    let full = WorldRefusal::NetFull {
+        frames: 200_000,
+        bytes: 7,
+    };
+    let text = "the network is full: 200000 frames, 7 bytes";
+    assert!(rt; is_told(rt.alloc(), full, text)?);
+    assert!(rt; is_told(rt.alloc(), WorldRefusal::NoMemory, "out of memory")?);
+    Ok(())
+}
+
+const TEN: &str =
+    "summary events 31 frames 27 sent 13 again 1 arrived 14 done 12 lost 1 crashed 1\n";
+
+const THOUSANDS: &str =
+    "summary events 5006 frames 4604 sent 2202 again 200 arrived 2402 done 2002 lost 200 crashed 1\n";
+
+/// Whether a soak of so many commands writes this.
+fn writes(alloc: Global, count: u32, written: &str) -> Result<bool, Fail>
+    requires some { 1 ≤ count }
+    requires most { count ≤ 16000 }
+{
+    let mut sink = MemSink::new(alloc, 1000)?;
+    let ended = soak(alloc, 0, count, &mut sink);
+    Ok(ended == ReplayEnd::Ended && sink.bytes() == written.as_bytes())
+}
+
+#[test]
+fn writes_how_much_happened(rt: HostRuntime) -> Result<(), Fail> {
+    assert!(rt; writes(rt.alloc(), 10, TEN)?);
+    assert!(rt; writes(rt.alloc(), 2_000, THOUSANDS)?);
     Ok(())
 }
