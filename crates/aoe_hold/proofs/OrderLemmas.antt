@@ -1,143 +1,111 @@
 -- Commands in the order of their tickets.
-use Rattle.std.proofs.Common.{ℕ, ◌≡◌, ◌<◌, ◌≤◌, ◌&&◌, cond, Bool, true, false, List, [], ◌∷◌, ◌++◌, map, Option, Some, None, refl, ap, ◌∙◌, arith, nat_eq, nat_lt, nat_le}
-use Rattle.std.specs.Prelude.{option_map, Contains, All}
-use Rattle.std.specs.List.{filter, find, list_all}
+use Rattle.std.proofs.Common.{ℕ, zero, suc, ◌≡◌, ◌<◌, ◌≤◌, Bool, true, false, List, [], ◌∷◌, ◌++◌, length, get_or, Option, Some, None, inl, inr, refl, ◌∙◌, arith, nat_eq, nat_lt, nat_le}
+use Rattle.std.specs.Prelude.{position, All}
+use Rattle.std.specs.List.{filter, list_all, position_or_len}
 use Rattle.std.specs.Option.{ForSome}
-use Rattle.std.proofs.lemmas.Bool.{and_parts, and_from, leb-true, ltb-true, lt-ltb, le-leb}
-use Rattle.std.proofs.lemmas.List.Elements.{All-cons, All-nil}
-use Rattle.aoe_base.specs.declared.counted.Ticket.{Ticket}
+use Rattle.std.proofs.lemmas.Bool.{and_from, and_parts, cases_Bool, cases_lt, eqb-true, le-leb, leb-true, lt-ltb, ltb-true, ne_eqb}
+use Rattle.std.proofs.lemmas.List.Elements.{All-filter, All-push}
+use Rattle.std.proofs.lemmas.List.Sums.{fails_before_first, AllPass-from_list_all, list_all-from_AllPass}
 use Rattle.aoe_hold.specs.declared.command.Command.{Command}
 use Rattle.aoe_hold.specs.declared.command.Stage.{Stage}
 use Rattle.aoe_hold.specs.Commands.{after_stage, with_stage}
 use Rattle.aoe_hold.specs.HoldTable.{is_ascending, is_up_to}
-use Rattle.aoe_hold.proofs.ListLemmas.{list_all-filter}
+
+-- those behind a command have higher tickets
+pub behind : (c : Command) (commands : List Command) → is_ascending (c ∷ commands) ≡ true → All (λ d. c.ticket.0 < d.ticket.0) commands
+behind c commands up = λ k d below.
+    ltb-true _ _ (AllPass-from_list_all (λ d. nat_lt c.ticket.0 d.ticket.0) commands (and_parts _ _ up).0 k d below)
+
+pub ascending-rest : (c : Command) (commands : List Command) → is_ascending (c ∷ commands) ≡ true → is_ascending commands ≡ true
+ascending-rest c commands up = (and_parts _ _ up).1
+
+ascending-from : (c : Command) (commands : List Command) → All (λ d. c.ticket.0 < d.ticket.0) commands → is_ascending commands ≡ true
+    → is_ascending (c ∷ commands) ≡ true
+ascending-from c commands above up =
+    and_from _ _ (list_all-from_AllPass (λ d. nat_lt c.ticket.0 d.ticket.0) commands (λ k d below. lt-ltb _ _ (above k d below))) up
+
+pub ascending-at : (commands : List Command) (i j : ℕ) (d : Command) → is_ascending commands ≡ true → i < j → j < length commands
+    → (get_or commands i d).ticket.0 < (get_or commands j d).ticket.0
+ascending-at [] i j d up before within = absurd (omega arith)
+ascending-at (c ∷ commands) i zero d up before within = absurd (omega arith)
+ascending-at (c ∷ commands) zero (suc j) d up before within = behind c commands up j d (omega arith)
+ascending-at (c ∷ commands) (suc i) (suc j) d up before within =
+    ascending-at commands i j d (ascending-rest c commands up) (omega arith) (omega arith)
 
 pub ascending-filter : (p : Command → Bool) (commands : List Command) → is_ascending commands ≡ true → is_ascending (filter p commands) ≡ true
-ascending-filter p [] ascending = refl
-ascending-filter p (c ∷ commands) ascending =
-    let parts = and_parts (list_all (λ later. nat_lt c.ticket.0 later.ticket.0) commands) (is_ascending commands) ascending in
-    at (p c) (list_all-filter p (λ (later : Command). nat_lt c.ticket.0 later.ticket.0) commands parts.0) (ascending-filter p commands parts.1)
-  where
-    at : (b : Bool) → list_all (λ later. nat_lt c.ticket.0 later.ticket.0) (filter p commands) ≡ true → is_ascending (filter p commands) ≡ true → is_ascending (cond b (c ∷ filter p commands) (filter p commands)) ≡ true
-    at true later rest = rw (later, rest) refl
-    at false later rest = rest
+ascending-filter p [] up = refl
+ascending-filter p (c ∷ commands) up =
+    let rest = ascending-filter p commands (ascending-rest c commands up) in
+    elim (cases_Bool (p c)) [
+      | inl stays ↦ rw stays (ascending-from c (filter p commands) (All-filter p (λ d. c.ticket.0 < d.ticket.0) commands (behind c commands up)) rest)
+      | inr goes ↦ rw goes rest
+    ]
 
-pub up_to-filter : (p : Command → Bool) (greatest : Option ℕ) (commands : List Command) → is_up_to greatest commands ≡ true → is_up_to greatest (filter p commands) ≡ true
+pub up_to-filter : (p : Command → Bool) (greatest : Option ℕ) (commands : List Command) → is_up_to greatest commands ≡ true
+    → is_up_to greatest (filter p commands) ≡ true
 up_to-filter p None [] up = refl
 up_to-filter p None (c ∷ commands) up = absurd cc
-up_to-filter p (Some greatest) commands up = list_all-filter p (λ (c : Command). nat_le c.ticket.0 greatest) commands up
-
--- a test of tickets alone
-tickets-kept : (test : ℕ → Bool) (ticket : ℕ) (change : Stage → Stage) (commands : List Command) → list_all (λ c. test c.ticket.0) (after_stage ticket change commands) ≡ list_all (λ c. test c.ticket.0) commands
-tickets-kept test ticket change [] = refl
-tickets-kept test ticket change (c ∷ commands) = rw (tickets-kept test ticket change commands) (at (nat_eq c.ticket.0 ticket))
-  where
-    at : (b : Bool) → (test (cond b (record c { stage = change c.stage }) c).ticket.0 && list_all (λ d. test d.ticket.0) commands) ≡ (test c.ticket.0 && list_all (λ d. test d.ticket.0) commands)
-    at true = refl
-    at false = refl
+up_to-filter p (Some greatest) commands up =
+    let most : Command → Bool = λ c. nat_le c.ticket.0 greatest in
+    list_all-from_AllPass most _ (All-filter p (λ c. most c ≡ true) commands (AllPass-from_list_all most commands up))
 
 pub ticket-kept : (ticket : ℕ) (change : Stage → Stage) (c : Command) → (with_stage ticket change c).ticket ≡ c.ticket
-ticket-kept ticket change c = at (nat_eq c.ticket.0 ticket)
-  where
-    at : (b : Bool) → (cond b (record c { stage = change c.stage }) c).ticket ≡ c.ticket
-    at true = refl
-    at false = refl
+ticket-kept ticket change c = grind arith
 
-pub ascending-after_stage : (ticket : ℕ) (change : Stage → Stage) (commands : List Command) → is_ascending commands ≡ true → is_ascending (after_stage ticket change commands) ≡ true
-ascending-after_stage ticket change [] ascending = refl
-ascending-after_stage ticket change (c ∷ commands) ascending =
-    let parts = and_parts (list_all (λ later. nat_lt c.ticket.0 later.ticket.0) commands) (is_ascending commands) ascending in
-    rw (ticket-kept ticket change c, tickets-kept (nat_lt c.ticket.0) ticket change commands, parts.0, ascending-after_stage ticket change commands parts.1) refl
+-- a test of tickets alone
+tickets-kept : (test : ℕ → Bool) (ticket : ℕ) (change : Stage → Stage) (commands : List Command)
+    → list_all (λ c. test c.ticket.0) (after_stage ticket change commands) ≡ list_all (λ c. test c.ticket.0) commands
+tickets-kept test ticket change [] = refl
+tickets-kept test ticket change (c ∷ commands) = rw (ticket-kept ticket change c, tickets-kept test ticket change commands) refl
 
-pub up_to-after_stage : (ticket : ℕ) (change : Stage → Stage) (greatest : Option ℕ) (commands : List Command) → is_up_to greatest commands ≡ true → is_up_to greatest (after_stage ticket change commands) ≡ true
+pub ascending-after_stage : (ticket : ℕ) (change : Stage → Stage) (commands : List Command) → is_ascending commands ≡ true
+    → is_ascending (after_stage ticket change commands) ≡ true
+ascending-after_stage ticket change [] up = refl
+ascending-after_stage ticket change (c ∷ commands) up =
+    let parts = and_parts (list_all (λ d. nat_lt c.ticket.0 d.ticket.0) commands) (is_ascending commands) up in
+    rw (ticket-kept ticket change c, tickets-kept (nat_lt c.ticket.0) ticket change commands, parts.0) (ascending-after_stage ticket change commands parts.1)
+
+pub up_to-after_stage : (ticket : ℕ) (change : Stage → Stage) (greatest : Option ℕ) (commands : List Command) → is_up_to greatest commands ≡ true
+    → is_up_to greatest (after_stage ticket change commands) ≡ true
 up_to-after_stage ticket change None [] up = refl
 up_to-after_stage ticket change None (c ∷ commands) up = absurd cc
 up_to-after_stage ticket change (Some greatest) commands up = tickets-kept (λ n. nat_le n greatest) ticket change commands ∙ up
 
-up_to-below : (greatest ticket : ℕ) (commands : List Command) → greatest < ticket → list_all (λ c. nat_le c.ticket.0 greatest) commands ≡ true
-    → (list_all (λ c. nat_lt c.ticket.0 ticket) commands ≡ true)
-up_to-below greatest ticket [] above up = refl
-up_to-below greatest ticket (c ∷ commands) above up =
-    let parts = and_parts (nat_le c.ticket.0 greatest) (list_all (λ d. nat_le d.ticket.0 greatest) commands) up in
-    let at_most : c.ticket.0 ≤ greatest = leb-true c.ticket.0 greatest parts.0 in
-    and_from (nat_lt c.ticket.0 ticket) (list_all (λ d. nat_lt d.ticket.0 ticket) commands) (lt-ltb c.ticket.0 ticket (omega arith)) (up_to-below greatest ticket commands above parts.1)
-
-pub all-below : (greatest : Option ℕ) (ticket : ℕ) (commands : List Command) → ForSome greatest (λ g. g < ticket) → is_up_to greatest commands ≡ true → list_all (λ c. nat_lt c.ticket.0 ticket) commands ≡ true
-all-below None ticket [] above up = refl
+pub all-below : (greatest : Option ℕ) (ticket : ℕ) (commands : List Command) → ForSome greatest (λ g. g < ticket) → is_up_to greatest commands ≡ true
+    → All (λ c. c.ticket.0 < ticket) commands
+all-below None ticket [] above up = λ k d below. absurd (omega arith)
 all-below None ticket (c ∷ commands) above up = absurd cc
-all-below (Some greatest) ticket commands above up = up_to-below greatest ticket commands (above greatest refl) up
+all-below (Some greatest) ticket commands above up = λ k d below.
+    let least = leb-true _ _ (AllPass-from_list_all (λ c. nat_le c.ticket.0 greatest) commands up k d below) in
+    omega (arith, least, above greatest refl)
 
-later-push : (least : ℕ) (commands : List Command) (new : Command) → list_all (λ c. nat_lt least c.ticket.0) commands ≡ true → least < new.ticket.0 → list_all (λ c. nat_lt least c.ticket.0) (commands ++ new ∷ []) ≡ true
-later-push least [] new later above = rw (lt-ltb least new.ticket.0 above) refl
-later-push least (c ∷ commands) new later above =
-    let parts = and_parts (nat_lt least c.ticket.0) (list_all (λ d. nat_lt least d.ticket.0) commands) later in
-    rw (parts.0) (later-push least commands new parts.1 above)
+ascending-push : (commands : List Command) (new : Command) → is_ascending commands ≡ true → All (λ c. c.ticket.0 < new.ticket.0) commands
+    → is_ascending (commands ++ new ∷ []) ≡ true
+ascending-push [] new up below = refl
+ascending-push (c ∷ commands) new up below =
+    ascending-from c (commands ++ new ∷ []) (All-push (λ d. c.ticket.0 < d.ticket.0) commands new (behind c commands up) (below 0 c (omega arith)))
+    (ascending-push commands new (ascending-rest c commands up) (λ k d within. below (suc k) d (omega arith)))
 
-ascending-push : (commands : List Command) (new : Command) → is_ascending commands ≡ true → list_all (λ c. nat_lt c.ticket.0 new.ticket.0) commands ≡ true → is_ascending (commands ++ new ∷ []) ≡ true
-ascending-push [] new ascending below = refl
-ascending-push (c ∷ commands) new ascending below =
-    let parts = and_parts (list_all (λ later. nat_lt c.ticket.0 later.ticket.0) commands) (is_ascending commands) ascending in
-    let belows = and_parts (nat_lt c.ticket.0 new.ticket.0) (list_all (λ d. nat_lt d.ticket.0 new.ticket.0) commands) below in
-    rw (later-push c.ticket.0 commands new parts.0 (ltb-true c.ticket.0 new.ticket.0 belows.0)) (ascending-push commands new parts.1 belows.1)
+pub enter-ascending : (greatest : Option ℕ) (commands : List Command) (new : Command) → is_ascending commands ≡ true → is_up_to greatest commands ≡ true
+    → ForSome greatest (λ g. g < new.ticket.0) → is_ascending (commands ++ new ∷ []) ≡ true
+enter-ascending greatest commands new up most above = ascending-push commands new up (all-below greatest new.ticket.0 commands above most)
 
-up_to-push : (commands : List Command) (new : Command) → list_all (λ c. nat_lt c.ticket.0 new.ticket.0) commands ≡ true → list_all (λ c. nat_le c.ticket.0 new.ticket.0) (commands ++ new ∷ []) ≡ true
-up_to-push [] new below = rw (le-leb new.ticket.0 new.ticket.0 (omega arith)) refl
-up_to-push (c ∷ commands) new below =
-    let belows = and_parts (nat_lt c.ticket.0 new.ticket.0) (list_all (λ d. nat_lt d.ticket.0 new.ticket.0) commands) below in
-    let lower : c.ticket.0 < new.ticket.0 = ltb-true c.ticket.0 new.ticket.0 belows.0 in
-    rw (le-leb c.ticket.0 new.ticket.0 (omega arith)) (up_to-push commands new belows.1)
+pub enter-up_to : (greatest : Option ℕ) (commands : List Command) (new : Command) → is_up_to greatest commands ≡ true
+    → ForSome greatest (λ g. g < new.ticket.0) → is_up_to (Some new.ticket.0) (commands ++ new ∷ []) ≡ true
+enter-up_to greatest commands new most above =
+    let lower = all-below greatest new.ticket.0 commands above most in
+    list_all-from_AllPass _ _ (All-push (λ c. nat_le c.ticket.0 new.ticket.0 ≡ true) commands new
+    (λ k d below. le-leb _ _ (omega (arith, lower k d below))) (le-leb _ _ (omega arith)))
 
-pub enter-ascending : (greatest : Option ℕ) (commands : List Command) (new : Command) → is_ascending commands ≡ true → is_up_to greatest commands ≡ true → ForSome greatest (λ g. g < new.ticket.0) → is_ascending (commands ++ new ∷ []) ≡ true
-enter-ascending greatest commands new ascending up above = ascending-push commands new ascending (all-below greatest new.ticket.0 commands above up)
+-- ---- which commands have a ticket
 
-pub enter-up_to : (greatest : Option ℕ) (commands : List Command) (new : Command) → is_up_to greatest commands ≡ true → ForSome greatest (λ g. g < new.ticket.0) → is_up_to (Some new.ticket.0) (commands ++ new ∷ []) ≡ true
-enter-up_to greatest commands new up above = up_to-push commands new (all-below greatest new.ticket.0 commands above up)
+pub others-behind : (ticket : ℕ) (c : Command) (commands : List Command) → is_ascending (c ∷ commands) ≡ true → nat_eq c.ticket.0 ticket ≡ true
+    → All (λ d. nat_eq d.ticket.0 ticket ≡ false) commands
+others-behind ticket c commands up here = λ k d below.
+    ne_eqb _ _ (λ same. absurd (omega (arith, behind c commands up k d below, eqb-true _ _ here)))
 
--- the first that passes, and the tickets of all that pass
-pub first-contained : (p : Command → Bool) (commands : List Command) (ticket : Ticket) → option_map (λ c. c.ticket) (find p commands) ≡ Some ticket → Contains (map (λ c. c.ticket.0) (filter p commands)) ticket.0
-first-contained p [] ticket found = absurd cc
-first-contained p (c ∷ commands) ticket found = at (p c) found (λ rest. first-contained p commands ticket rest)
-  where
-    at : (b : Bool) → option_map (λ (d : Command). d.ticket) (cond b (Some c) (find p commands)) ≡ Some ticket
-        → (option_map (λ (d : Command). d.ticket) (find p commands) ≡ Some ticket → Contains (map (λ (d : Command). d.ticket.0) (filter p commands)) ticket.0)
-        → Contains (map (λ (d : Command). d.ticket.0) (cond b (c ∷ filter p commands) (filter p commands))) ticket.0
-    at true is rest = let same : c.ticket ≡ ticket = cc in (0, omega arith, ap (λ (t : Ticket). t.0) same)
-    at false is rest = rest is
-
-lowest-rest : (p : Command → Bool) (least : ℕ) (commands : List Command) → list_all (λ c. nat_lt least c.ticket.0) commands ≡ true → All (λ other. least ≤ other) (map (λ c. c.ticket.0) (filter p commands))
-lowest-rest p least [] later = All-nil (λ (other : ℕ). least ≤ other)
-lowest-rest p least (c ∷ commands) later =
-    let parts = and_parts (nat_lt least c.ticket.0) (list_all (λ d. nat_lt least d.ticket.0) commands) later in
-    at (p c) (ltb-true least c.ticket.0 parts.0) (lowest-rest p least commands parts.1)
-  where
-    at : (b : Bool) → least < c.ticket.0 → All (λ other. least ≤ other) (map (λ (d : Command). d.ticket.0) (filter p commands))
-        → All (λ other. least ≤ other) (map (λ (d : Command). d.ticket.0) (cond b (c ∷ filter p commands) (filter p commands)))
-    at true above rest = All-cons (λ (other : ℕ). least ≤ other) c.ticket.0 (map (λ (d : Command). d.ticket.0) (filter p commands)) (omega arith) rest
-    at false above rest = rest
-
-pub first-lowest : (p : Command → Bool) (commands : List Command) (ticket : Ticket) → is_ascending commands ≡ true → option_map (λ c. c.ticket) (find p commands) ≡ Some ticket
-    → All (λ other. ticket.0 ≤ other) (map (λ c. c.ticket.0) (filter p commands))
-first-lowest p [] ticket ascending found = absurd cc
-first-lowest p (c ∷ commands) ticket ascending found =
-    let parts = and_parts (list_all (λ later. nat_lt c.ticket.0 later.ticket.0) commands) (is_ascending commands) ascending in
-    at (p c) found (lowest-rest p c.ticket.0 commands parts.0) (λ rest. first-lowest p commands ticket parts.1 rest)
-  where
-    at : (b : Bool) → option_map (λ (d : Command). d.ticket) (cond b (Some c) (find p commands)) ≡ Some ticket
-        → All (λ other. c.ticket.0 ≤ other) (map (λ (d : Command). d.ticket.0) (filter p commands))
-        → (option_map (λ (d : Command). d.ticket) (find p commands) ≡ Some ticket → All (λ other. ticket.0 ≤ other) (map (λ (d : Command). d.ticket.0) (filter p commands)))
-        → All (λ other. ticket.0 ≤ other) (map (λ (d : Command). d.ticket.0) (cond b (c ∷ filter p commands) (filter p commands)))
-    at true is rest later =
-        let same : c.ticket ≡ ticket = cc in
-        let number : c.ticket.0 ≡ ticket.0 = ap (λ (t : Ticket). t.0) same in
-        rw (← number) (All-cons (λ (other : ℕ). c.ticket.0 ≤ other) c.ticket.0 (map (λ (d : Command). d.ticket.0) (filter p commands)) (omega arith) rest)
-    at false is rest later = later is
-
-pub none-passes : (p : Command → Bool) (commands : List Command) → option_map (λ c. c.ticket) (find p commands) ≡ None → map (λ c. c.ticket.0) (filter p commands) ≡ []
-none-passes p [] missing = refl
-none-passes p (c ∷ commands) missing = at (p c) missing (λ rest. none-passes p commands rest)
-  where
-    at : (b : Bool) → option_map (λ (d : Command). d.ticket) (cond b (Some c) (find p commands)) ≡ None
-        → (option_map (λ (d : Command). d.ticket) (find p commands) ≡ None → map (λ (d : Command). d.ticket.0) (filter p commands) ≡ [])
-        → map (λ (d : Command). d.ticket.0) (cond b (c ∷ filter p commands) (filter p commands)) ≡ []
-    at true is rest = absurd cc
-    at false is rest = rest is
+pub others-missing : (p : Command → Bool) (commands : List Command) → position p commands ≡ None → All (λ c. p c ≡ false) commands
+others-missing p commands missing = λ k d below. elim (cases_lt (position_or_len p commands) (length commands)) [
+  | inl found ↦ let impossible = rw (lt-ltb _ _ found) at missing in absurd cc
+  | inr past ↦ fails_before_first p commands k d (omega arith)
+]

@@ -6,12 +6,14 @@ use Rattle.aoe_hold.proofs.holds.keeper_by_walk.Goals as goal
 
 pub blocker-requires : goal.blocker-requires
 blocker-requires c =
-    let point = IsPartitionPoint-from_clause (λ (d : Command). nat_lt d.ticket.0 c.args.command.now.ticket.0) c.args.commands.now c.partition_point-until.result c.partition_point-until.ensures.partitioned
-    (tickets-parted c.args.command.now.ticket.0 c.args.commands.now c.requires.ascending) (λ a r f h. search rules) in
+    let ticket = c.args.command.now.ticket.0 in
+    let point = IsPartitionPoint-from_clause (λ (d : Command). nat_lt d.ticket.0 ticket) c.args.commands.now c.partition_point-until.result
+    c.partition_point-until.ensures.partitioned (tickets-parted ticket c.args.commands.now c.requires.ascending) (λ a r f h. search rules) in
     record { within = c.partition_point-until.ensures.bound; past = c.requires.past; later = point.1 }
 
 pub clear_from-requires : goal.clear_from-requires
 clear_from-requires c =
-    let point = IsPartitionPoint-from_clause (λ (d : Command). nat_lt d.ticket.0 c.args.command.now.ticket.0) c.args.commands.now c.partition_point-until.result c.partition_point-until.ensures.partitioned
-    (tickets-parted c.args.command.now.ticket.0 c.args.commands.now c.requires.ascending) (λ a r f h. search rules) in
+    let ticket = c.args.command.now.ticket.0 in
+    let point = IsPartitionPoint-from_clause (λ (d : Command). nat_lt d.ticket.0 ticket) c.args.commands.now c.partition_point-until.result
+    c.partition_point-until.ensures.partitioned (tickets-parted ticket c.args.commands.now c.requires.ascending) (λ a r f h. search rules) in
     record { within = c.partition_point-until.ensures.bound; past = c.requires.past; later = point.1 }

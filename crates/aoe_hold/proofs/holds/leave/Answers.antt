@@ -2,22 +2,17 @@ use Rattle.std.proofs.Common.{◌≡◌, ◌+◌, ◌≤◌, Bool, cond, subst, 
 use Rattle.std.specs.List.{count_by, filter}
 use Rattle.aoe_hold.specs.Queue.{has_ticket}
 use Rattle.aoe_hold.proofs.IndexLemmas.{keeps}
-use Rattle.aoe_hold.proofs.PlaceLemmas.{leaves-first, leaves-none}
+use Rattle.aoe_hold.proofs.PlaceLemmas.{leaves-first, leaves-none, HaveLeft}
 use Rattle.aoe_hold.proofs.holds.leave.Goals as goal
 use Rattle.aoe_hold.proofs.holds.leave.Goals.{Joined-else-may_stand, else-may_stand-via-then-may_stand+else-is_none, else-may_stand-via-else-may_stand}
 
-left : (c : Joined-else-may_stand) → (c.args.timed.now.waiters ≡ filter (keeps c.args.ticket.0) c.args.timed.now.waiters) × (c.else-may_stand.ready.waiters ≡ filter (keeps c.args.ticket.0) c.args.ready.now.waiters)
-    × (c.args.blocked.now.waiters ≡ filter (keeps c.args.ticket.0) c.args.blocked.now.waiters)
-left c =
-    let timed = c.args.timed.now.waiters in
-    let ready = c.args.ready.now.waiters in
-    let blocked = c.args.blocked.now.waiters in
-    let Once : Bool → Type 0 = λ b. count_by (has_ticket c.args.ticket.0) timed + count_by (has_ticket c.args.ticket.0) ready + count_by (has_ticket c.args.ticket.0) blocked ≤ cond b 1 0 in
-    elim c.else-may_stand.branch [
-      | else-may_stand-via-then-may_stand+else-is_none w ↦
-          rw w.ready-is (leaves-first c.args.ticket.0 w.pop_ticket.result ready w.pop_ticket.new.self.waiters timed blocked (search rules) w.pop_ticket.ensures.some (subst Once w.if-may_stand.true c.requires.once))
-      | else-may_stand-via-else-may_stand w ↦ rw w.ready-is (leaves-none c.args.ticket.0 timed ready blocked (subst Once w.if-may_stand.false c.requires.once))
-    ]
+left : (c : Joined-else-may_stand) → HaveLeft c.args.ticket.0 c.args.timed.now.waiters c.args.ready.now.waiters c.args.blocked.now.waiters
+    c.args.timed.now.waiters c.else-may_stand.ready.waiters c.args.blocked.now.waiters
+left c = elim c.else-may_stand.branch [
+  | else-may_stand-via-then-may_stand+else-is_none w ↦
+      rw w.ready-is (leaves-first c.args.ticket.0 w.pop_ticket.result _ _ _ _ (search rules) w.pop_ticket.ensures.some (rw w.if-may_stand.true at c.requires.once))
+  | else-may_stand-via-else-may_stand w ↦ rw w.ready-is (leaves-none c.args.ticket.0 _ _ _ (rw w.if-may_stand.false at c.requires.once))
+]
 
 pub returns-else-may_stand-clause-timed : goal.returns-else-may_stand-clause-timed
 returns-else-may_stand-clause-timed c = (left c).0
