@@ -1,7 +1,6 @@
 -- What lies within an extent, and which of that a command can conflict with.
-use Rattle.std.proofs.Common.{ℕ, ◌≡◌, ◌<◌, ◌&&◌, ◌||◌, not, Bool, true, false, List, [], ◌∷◌, ◌++◌, get_or, inl, inr, length, sym, ap, ◌∙◌, arith, nat_eq}
+use Rattle.std.proofs.Common.{ℕ, ◌≡◌, ◌<◌, ◌&&◌, ◌||◌, not, Bool, true, false, List, [], ◌∷◌, ◌++◌, get_or, inl, inr, length, sym, ◌∙◌, arith, nat_eq}
 use Rattle.std.specs.Prelude.{All}
-use Rattle.std.specs.List.{filter}
 use Rattle.std.specs.BTreeSet.{BTreeSet}
 use Rattle.std.proofs.lemmas.Bool.{cases_Bool, cases_lt, ne_eqb, not-true, or_parts, true≢false}
 use Rattle.std.proofs.lemmas.List.{get_or_default}

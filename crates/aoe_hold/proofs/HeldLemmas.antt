@@ -13,7 +13,7 @@ use Rattle.aoe_hold.specs.declared.queue.Waiter.{Waiter}
 use Rattle.aoe_hold.specs.Commands.{after_stage, finished, is_past, is_unsent, live, stage_finished, stage_sent, unsent, unsent_count, with_stage}
 use Rattle.aoe_hold.specs.Queue.{blocks, is_blocked, waited_for, waits, IsHeldBy}
 use Rattle.aoe_base.proofs.CountLemmas.{all-none, count-agree, count-alike, count-filter, count-map}
-use Rattle.aoe_hold.proofs.IndexLemmas.{bit, blocks-sent, keeps, past-blocks, sent-unsent}
+use Rattle.aoe_hold.proofs.IndexLemmas.{bit, blocks-sent, keeps, past-blocks}
 use Rattle.aoe_hold.proofs.ListLemmas.{any-alike, any-kept, any-map, any-push, any-weaker, count_by-filter, list_any-filter}
 use Rattle.aoe_hold.proofs.LiveLemmas.{past-finished}
 use Rattle.aoe_hold.proofs.OrderLemmas.{ticket-kept}

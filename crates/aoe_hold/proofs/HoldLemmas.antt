@@ -1,7 +1,7 @@
 -- The queues of a table after each change of its commands.
 use Rattle.std.proofs.Common.{ℕ, ◌≡◌, ◌+◌, ◌-◌, ◌<◌, ◌≤◌, not, true, false, List, [], ◌∷◌, ◌++◌, length, map, Option, inl, inr, refl, ap, ◌∙◌, arith, nat_eq, Bool, ◌&&◌}
 use Rattle.std.specs.Prelude.{All}
-use Rattle.std.specs.List.{count_by, filter}
+use Rattle.std.specs.List.{filter}
 use Rattle.std.specs.Option.{ForSome}
 use Rattle.std.proofs.lemmas.Bool.{cases_Bool}
 use Rattle.std.proofs.lemmas.List.{length-map}

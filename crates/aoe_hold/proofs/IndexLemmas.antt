@@ -1,7 +1,7 @@
 -- The commands that wait, after each change of the commands.
-use Rattle.std.proofs.Common.{ℕ, ◌≡◌, ◌+◌, ◌<◌, ◌≤◌, ◌&&◌, not, cond, get_or, Bool, true, false, List, [], ◌∷◌, ◌++◌, length, Option, inl, inr, refl, sym, ap, ◌∙◌, arith, nat_eq}
+use Rattle.std.proofs.Common.{ℕ, ◌≡◌, ◌+◌, ◌<◌, ◌≤◌, ◌&&◌, not, cond, get_or, Bool, true, false, List, [], ◌∷◌, ◌++◌, length, Option, inl, inr, refl, sym, ◌∙◌, arith, nat_eq}
 use Rattle.std.specs.Prelude.{All}
-use Rattle.std.specs.List.{count_by, filter, list_any}
+use Rattle.std.specs.List.{count_by, filter}
 use Rattle.std.specs.Option.{ForSome}
 use Rattle.std.proofs.lemmas.Bool.{cases_Bool, le-ltb, not-false}
 use Rattle.std.proofs.lemmas.Bool.Decides.{nat_tests}

@@ -1,5 +1,5 @@
 -- The order of keys, and which of them lie in a range.
-use Rattle.std.proofs.Common.{ℕ, cond, ◌≡◌, ◌+◌, ◌-◌, ◌<◌, ◌≤◌, ◌||◌, Bool, true, false, List, [], ◌∷◌, max, inl, inr, refl, sym, ap, ◌∙◌, arith, nat_eq, nat_lt}
+use Rattle.std.proofs.Common.{ℕ, cond, ◌≡◌, ◌+◌, ◌-◌, ◌<◌, ◌≤◌, ◌||◌, Bool, true, false, List, max, inl, inr, refl, sym, ◌∙◌, arith, nat_eq, nat_lt}
 use Rattle.std.specs.Prelude.{Err, Ok, OnOk, Result}
 use Rattle.std.specs.Result.{is_err}
 use Rattle.std.specs.List.{filter, list_any}

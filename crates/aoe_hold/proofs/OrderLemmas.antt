@@ -1,5 +1,5 @@
 -- Commands in the order of their tickets.
-use Rattle.std.proofs.Common.{ℕ, zero, suc, ◌≡◌, ◌<◌, ◌≤◌, Bool, true, false, List, [], ◌∷◌, ◌++◌, length, get_or, Option, Some, None, inl, inr, refl, ◌∙◌, arith, nat_eq, nat_lt, nat_le}
+use Rattle.std.proofs.Common.{ℕ, zero, suc, ◌≡◌, ◌<◌, Bool, true, false, List, [], ◌∷◌, ◌++◌, length, get_or, Option, Some, None, inl, inr, refl, ◌∙◌, arith, nat_eq, nat_lt, nat_le}
 use Rattle.std.specs.Prelude.{position, All}
 use Rattle.std.specs.List.{filter, list_all, position_or_len}
 use Rattle.std.specs.Option.{ForSome}

@@ -1,5 +1,5 @@
 -- The place of a command by its ticket, and the queues where it may stand.
-use Rattle.std.proofs.Common.{ℕ, ◌≡◌, ◌+◌, ◌<◌, ◌≤◌, ◌&&◌, not, cond, Bool, true, false, List, [], ◌∷◌, length, get_or, Option, Some, None, inl, inr, refl, sym, ◌∙◌, arith, nat_eq, nat_lt, suc}
+use Rattle.std.proofs.Common.{ℕ, ◌≡◌, ◌+◌, ◌<◌, ◌≤◌, ◌&&◌, cond, Bool, true, false, List, [], ◌∷◌, length, get_or, Option, Some, None, inl, inr, refl, sym, ◌∙◌, arith, nat_eq, nat_lt, suc}
 use Rattle.std.specs.Prelude.{is_none, position, All, IfSome}
 use Rattle.std.specs.List.{count_by, filter, AllWithin}
 use Rattle.std.specs.List.Sorted.{IsPartitionedBy}

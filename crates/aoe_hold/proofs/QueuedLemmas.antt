@@ -1,6 +1,5 @@
 -- A command is queued by what keeps it back.
-use Rattle.std.proofs.Common.{ℕ, ◌≡◌, ◌+◌, ◌&&◌, not, true, false, List, ◌∷◌, refl, arith, nat_eq}
-use Rattle.std.specs.List.{list_any}
+use Rattle.std.proofs.Common.{ℕ, ◌≡◌, ◌&&◌, not, true, false, List, ◌∷◌, refl, arith, nat_eq}
 use Rattle.std.specs.List.Sorted.{IsPermutation}
 use Rattle.std.proofs.lemmas.List.Elements.{All-cons}
 use Rattle.std.proofs.lemmas.List.Sorted.{sum_by_pushed, All-permutation}

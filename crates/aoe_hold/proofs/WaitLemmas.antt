@@ -1,5 +1,5 @@
 -- Which commands wait, and from when on they are clear.
-use Rattle.std.proofs.Common.{ℕ, suc, ◌≡◌, ◌+◌, ◌<◌, ◌≤◌, ◌&&◌, ◌||◌, not, cond, true, false, Bool, List, [], ◌∷◌, map, Option, Some, None, refl, sym, ap, ◌∙◌, arith, get_or, zero-add, nat_lt}
+use Rattle.std.proofs.Common.{ℕ, suc, ◌≡◌, ◌+◌, ◌<◌, ◌≤◌, ◌&&◌, ◌||◌, not, cond, true, false, Bool, List, [], ◌∷◌, map, Option, Some, None, refl, sym, ap, ◌∙◌, arith, get_or, nat_lt}
 use Rattle.std.specs.Prelude.{option_map, slice_get, All, Contains, IfNone, IfSome, ⊤}
 use Rattle.std.specs.List.{count_by, filter, list_any}
 use Rattle.std.proofs.lemmas.Bool.{le-leb, le-ltb, lt-leb, ltb-false}
@@ -8,7 +8,7 @@ use Rattle.aoe_base.specs.declared.counted.Ticket.{Ticket}
 use Rattle.aoe_base.proofs.CountLemmas.{all-none, count-agree, count-alike, count-all, count-cons, count-filter, count-map, none-all}
 use Rattle.aoe_hold.specs.declared.command.Command.{Command}
 use Rattle.aoe_hold.specs.declared.queue.Waiter.{Waiter}
-use Rattle.aoe_hold.specs.Commands.{clear_tickets, is_clear, is_unsent, keeps_back}
+use Rattle.aoe_hold.specs.Commands.{clear_tickets, is_clear, keeps_back}
 use Rattle.aoe_hold.specs.HoldTable.{is_ascending}
 use Rattle.aoe_hold.specs.Queue.{blocks, is_blocked, lingers, ticket_of, time_of, waits, IsInOrder, Knows}
 use Rattle.aoe_hold.proofs.ListLemmas.{any-alike, any-or}

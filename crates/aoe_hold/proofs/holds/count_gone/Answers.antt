@@ -1,5 +1,4 @@
-use Rattle.std.proofs.Common.{arith, get_or, sym, ◌∙◌}
-use Rattle.aoe_hold.specs.declared.command.Command.{Command}
+use Rattle.std.proofs.Common.{sym, ◌∙◌}
 use Rattle.aoe_hold.proofs.MoveLemmas.{none_command}
 use Rattle.aoe_hold.proofs.OutsideLemmas.{gone-more}
 use Rattle.aoe_hold.proofs.holds.count_gone.Goals as goal

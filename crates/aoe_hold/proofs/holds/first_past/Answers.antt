@@ -1,5 +1,4 @@
-use Rattle.std.proofs.Common.{arith, get_or, rules}
-use Rattle.aoe_hold.specs.declared.command.Command.{Command}
+use Rattle.std.proofs.Common.{arith, rules}
 use Rattle.aoe_hold.proofs.MoveLemmas.{none_command}
 use Rattle.aoe_hold.proofs.PastLemmas.{past-more, past-whole}
 use Rattle.aoe_hold.proofs.holds.first_past.Goals as goal

@@ -1,7 +1,4 @@
-use Rattle.std.proofs.Common.{◌≡◌, ◌+◌, ◌≤◌, Bool, cond, subst, rules}
-use Rattle.std.specs.List.{count_by, filter}
-use Rattle.aoe_hold.specs.Queue.{has_ticket}
-use Rattle.aoe_hold.proofs.IndexLemmas.{keeps}
+use Rattle.std.proofs.Common.{rules}
 use Rattle.aoe_hold.proofs.PlaceLemmas.{leaves-first, leaves-none, HaveLeft}
 use Rattle.aoe_hold.proofs.holds.leave.Goals as goal
 use Rattle.aoe_hold.proofs.holds.leave.Goals.{Joined-else-may_stand, else-may_stand-via-then-may_stand+else-is_none, else-may_stand-via-else-may_stand}

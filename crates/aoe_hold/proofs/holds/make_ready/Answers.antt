@@ -1,4 +1,4 @@
-use Rattle.std.proofs.Common.{arith, refl, ap, length, List}
+use Rattle.std.proofs.Common.{arith, ap, length, List}
 use Rattle.std.specs.Prelude.{◌∷◌}
 use Rattle.std.proofs.lemmas.List.Sorted.{length_permutation}
 use Rattle.aoe_hold.specs.declared.queue.Waiter.{Waiter}

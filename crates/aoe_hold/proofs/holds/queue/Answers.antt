@@ -1,6 +1,3 @@
-use Rattle.std.proofs.Common.{subst}
-use Rattle.aoe_hold.specs.declared.queue.Keeper.{Keeper}
-use Rattle.aoe_hold.specs.Queue.{IsKeeper}
 use Rattle.aoe_hold.proofs.QueuedLemmas.{queued-blocked, queued-timed}
 use Rattle.aoe_hold.proofs.holds.queue.Goals as goal
 

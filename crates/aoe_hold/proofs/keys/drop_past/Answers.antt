@@ -14,6 +14,6 @@ held-preserved c = λ d out has.
           let gone : Command = get_or c.args.commands.now c.held.command-index none_command in
           let past : is_past c.args.life.0 c.args.now.0 gone ≡ true = search rules in
           rw w.keys-is (key-stays _ _ w.of.result gone d (w.remove.ensures.updates.0 (key_of d)) w.of.ensures
-              (out c.held.command-index none_command c.held-test.true past) (c.held.invariant d out has))
+          (out c.held.command-index none_command c.held-test.true past) (c.held.invariant d out has))
       | else-is_past w ↦ rw w.keys-is (c.held.invariant d out has)
     ]

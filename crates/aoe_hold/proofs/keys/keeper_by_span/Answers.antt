@@ -1,5 +1,4 @@
-use Rattle.std.proofs.Common.{◌≡◌, ◌||◌, false, get_or, rules, true}
-use Rattle.std.specs.Bool.{beq}
+use Rattle.std.proofs.Common.{◌≡◌, false, get_or, rules}
 use Rattle.aoe_hold.specs.Commands.{is_write}
 use Rattle.aoe_hold.proofs.ExtentLemmas.{span-alone}
 use Rattle.aoe_hold.proofs.FreeLemmas.{free-all, free-or}

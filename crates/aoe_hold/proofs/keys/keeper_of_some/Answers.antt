@@ -1,6 +1,5 @@
-use Rattle.std.proofs.Common.{◌≡◌, ◌++◌, ◌∙◌, List, [], ap, false, max, refl, rules, sym}
+use Rattle.std.proofs.Common.{◌≡◌, [], false, max, refl, rules, sym}
 use Rattle.std.proofs.lemmas.List.{append-nil}
-use Rattle.aoe_hold.specs.declared.keys.Key.{Key}
 use Rattle.aoe_hold.proofs.FreeLemmas.{free-none, walked-more}
 use Rattle.aoe_hold.proofs.keys.keeper_of_some.Goals as goal
 

@@ -1,4 +1,4 @@
-use Rattle.std.proofs.Common.{◌≡◌, ◌≤◌, arith, length, nat_eq, nat_lt, rules, false, true}
+use Rattle.std.proofs.Common.{◌≡◌, ◌≤◌, arith, length, nat_eq, nat_lt, rules, false}
 use Rattle.std.proofs.lemmas.List.Sorted.{IsPartitionPoint-from_clause}
 use Rattle.aoe_hold.specs.declared.command.Command.{Command}
 use Rattle.aoe_hold.proofs.MoveLemmas.{none_command}

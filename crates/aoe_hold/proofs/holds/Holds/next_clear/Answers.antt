@@ -1,4 +1,4 @@
-use Rattle.std.proofs.Common.{◌≡◌, arith, map, rules, ◌∙◌}
+use Rattle.std.proofs.Common.{◌≡◌, arith, map, rules}
 use Rattle.std.specs.Prelude.{option_copied, option_map, slice_get}
 use Rattle.aoe_hold.specs.Commands.{clear_tickets}
 use Rattle.aoe_hold.specs.Queue.{ticket_of}

@@ -1,5 +1,4 @@
-use Rattle.std.proofs.Common.{◌≡◌, ◌<◌, length, rules, arith}
-use Rattle.std.specs.List.{insert}
+use Rattle.std.proofs.Common.{rules, arith}
 use Rattle.std.proofs.lemmas.List.Sorted.{IsPartitionPoint-from_clause, IsPermutation-insert}
 use Rattle.aoe_hold.specs.Order.{comes_before}
 use Rattle.aoe_hold.proofs.QueueLemmas.{ordered-insert, partitioned}
