@@ -1,7 +1,8 @@
 -- The best of a list in an order.
 use Rattle.std.proofs.Common.{ℕ, ◌≡◌, ◌-◌, ◌&&◌, not, Bool, true, false, List, [], ◌∷◌, Option, Some, None, ◌⊎◌, inl, inr, refl, sym, subst, ◌∙◌, arith, nat_le}
 use Rattle.std.specs.Prelude.{option_map, Contains, All, IfNone, IfSome}
-use Rattle.std.proofs.lemmas.Bool.{and_parts, not-true, le-ltb, ltb-true, ltb-false, cases_Bool}
+use Rattle.std.proofs.lemmas.Bool.{and_parts, cases_Bool}
+use Rattle.std.proofs.lemmas.Bool.Decides.{nat_tests}
 use Rattle.std.proofs.lemmas.List.Elements.{All-cons, All-filter, All-nil}
 use Rattle.slab.proofs.SlabLemmas.{Contains-cons}
 use Rattle.aoe_base.specs.declared.counted.Ticket.{Ticket}
@@ -16,9 +17,9 @@ pub record IsOrder (before : Outstanding → Outstanding → Bool) : Type 0 wher
 
 pub lower-order : IsOrder lower
 lower-order = record {
-  same = λ a. le-ltb a.ticket.0 a.ticket.0 (omega arith);
-  past = λ a b c is out. le-ltb b.ticket.0 c.ticket.0 (omega (arith, ltb-true a.ticket.0 b.ticket.0 is, ltb-false a.ticket.0 c.ticket.0 out));
-  neither = λ a b c first second. le-ltb a.ticket.0 c.ticket.0 (omega (arith, ltb-false a.ticket.0 b.ticket.0 first, ltb-false b.ticket.0 c.ticket.0 second));
+  same = λ a. grind (arith, nat_tests);
+  past = λ a b c is out. grind (arith, nat_tests);
+  neither = λ a b c first second. grind (arith, nat_tests);
 }
 
 -- what the best of a list and of the best so far has
@@ -27,8 +28,9 @@ pub record Best (test : Outstanding → Bool) (before : Outstanding → Outstand
   pub first : (b : Outstanding) → so_far ≡ Some b → before b c ≡ false
   pub least : All (λ d. test d ≡ true → before d c ≡ false) commands
 
-better-than : (before : Outstanding → Outstanding → Bool) (d b : Outstanding) (so_far : Option Outstanding) (t : Bool) → is_better before d so_far ≡ t → so_far ≡ Some b → before d b ≡ t
-better-than before d b so_far t is at = let P : Option Outstanding → Type 0 = λ o. is_better before d o ≡ t in subst P at is
+better-than : (before : Outstanding → Outstanding → Bool) (d b : Outstanding) (so_far : Option Outstanding) (t : Bool) → is_better before d so_far ≡ t → so_far ≡ Some b
+    → before d b ≡ t
+better-than before d b so_far t is at = rw at at is
 
 pub best-is : (test : Outstanding → Bool) (before : Outstanding → Outstanding → Bool) → IsOrder before → (commands : List Outstanding) (so_far : Option Outstanding) (c : Outstanding)
     → best test before so_far commands ≡ Some c → Best test before so_far commands c
@@ -62,16 +64,8 @@ best-is test before order (d ∷ commands) so_far c is = elim (cases_Bool (test 
 ]
   where
     worse : (so : Option Outstanding) → Best test before so_far commands c → (test d && is_better before d so_far) ≡ false → test d ≡ true → so_far ≡ so → before d c ≡ false
-    worse None rest left passes at =
-        let P : Option Outstanding → Type 0 = λ o. (test d && is_better before d o) ≡ false in
-        let here = subst P at left in
-        let impossible = rw passes at here in
-        absurd cc
-    worse (Some b) rest left passes at =
-        let P : Option Outstanding → Type 0 = λ o. (test d && is_better before d o) ≡ false in
-        let here = subst P at left in
-        let not_before : before d b ≡ false = rw passes at here in
-        order.neither d b c not_before (rest.first b at)
+    worse None rest left passes at = let here = rw (at, passes) at left in absurd cc
+    worse (Some b) rest left passes at = let here = rw (at, passes) at left in order.neither d b c here (rest.first b at)
 
 pub best-none : (test : Outstanding → Bool) (before : Outstanding → Outstanding → Bool) (commands : List Outstanding) (so_far : Option Outstanding)
     → best test before so_far commands ≡ None → (so_far ≡ None) × All (λ c. test c ≡ false) commands
@@ -85,12 +79,8 @@ best-none test before (d ∷ commands) so_far is = elim (cases_Bool (test d && i
       let next : best test before so_far commands ≡ None = rw left at is in
       let rest = best-none test before commands so_far next in
       let here = rw rest.0 at left in
-      (rest.0, All-cons (λ c. test c ≡ false) d commands (no_and (test d) here) rest.1)
+      (rest.0, All-cons (λ c. test c ≡ false) d commands (grind (arith, here)) rest.1)
 ]
-  where
-    no_and : (b : Bool) → (b && true) ≡ false → b ≡ false
-    no_and true both = both
-    no_and false both = refl
 
 -- among those that fly or rest
 pub first-live : (test : Outstanding → Bool) (before : Outstanding → Outstanding → Bool) (rest latest : ℕ) → IsOrder before → ((c : Outstanding) → test c ≡ true → c.finished ≡ false) → (commands : List Outstanding)
@@ -126,4 +116,4 @@ none-live test before rest latest commands None is = at (best test before None c
     at None found named = All-filter (λ (d : Outstanding). not (is_over rest latest d)) (λ c. test c ≡ false) commands (best-none test before commands None found).1
 
 pub expired-flies : (dead now : ℕ) (c : Outstanding) → is_expired dead now c ≡ true → c.finished ≡ false
-expired-flies dead now c expired = not-true c.finished (and_parts (not c.finished) (nat_le dead (now - c.flying.first.0)) expired).0
+expired-flies dead now c expired = grind arith

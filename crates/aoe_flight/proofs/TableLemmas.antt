@@ -2,7 +2,8 @@
 use Rattle.std.proofs.Common.{ℕ, ◌≡◌, ◌≢◌, ◌-◌, ◌<◌, ◌≤◌, ◌&&◌, ◌||◌, not, Bool, true, false, List, [], ◌∷◌, Option, Some, None, inl, inr, refl, sym, ap, subst, ◌∙◌, arith, nat_eq, nat_lt, nat_le, if◌then◌else◌}
 use Rattle.std.specs.Prelude.{slice_get, All, Contains, IfNone}
 use Rattle.std.specs.List.{find}
-use Rattle.std.proofs.lemmas.Bool.{and_parts, and_right, cases_Bool, eq-eqb, eqb-true, leb-false, le-ltb, lt-leb, ltb-false, not-true, or_from, or_parts}
+use Rattle.std.proofs.lemmas.Bool.{eq-eqb, false_from_ne_true, ne_eqb, true≢false}
+use Rattle.std.proofs.lemmas.Bool.Decides.{nat_tests}
 use Rattle.slab.proofs.SlabLemmas.{Contains-cons_cases}
 use Rattle.slab.specs.Slab.{get, values, Slab}
 use Rattle.aoe_flight.specs.declared.order.Entry.{Entry}
@@ -18,11 +19,10 @@ use Rattle.aoe_flight.proofs.ValueLemmas.{all-held, any-held, find-at, find-none
 pub head-least : (xs : List Entry) (e f : Entry) → IsInOrder xs → slice_get xs 0 ≡ Some e → Contains xs f → before f e ≡ false
 head-least [] e f order is there = absurd cc
 head-least (x ∷ xs) e f order is there =
-    let same : x ≡ e = cc in
-    let P : Entry → Type 0 = λ y. before f y ≡ false in
-    subst P same (elim (Contains-cons_cases x f xs there) [
-      | inl here ↦ let Q : Entry → Type 0 = λ y. before y x ≡ false in subst Q here (before-self x)
-      | inr behind ↦ let Q : Entry → Type 0 = λ y. before x y ≡ true in before-back x f (subst Q behind.2 (order.0 behind.0 f behind.1))
+    let same : e ≡ x = cc in
+    rw same (elim (Contains-cons_cases x f xs there) [
+      | inl here ↦ rw (← here) (before-self x)
+      | inr behind ↦ before-back x f (rw behind.2 at (order.0 behind.0 f behind.1))
     ])
 
 pub head-there : (xs : List Entry) (e : Entry) → slice_get xs 0 ≡ Some e → Contains xs e
@@ -34,18 +34,18 @@ none-there [] f is there = omega (arith, there.1)
 none-there (x ∷ xs) f is there = absurd cc
 
 by-number : (ticket k : ℕ) (d : Outstanding) → flies_as ticket d ≡ true → by_ticket k d ≡ entry_at ticket k
-by-number ticket k d passes =
-    let same : d.ticket.0 ≡ ticket = eqb-true d.ticket.0 ticket (and_parts (not d.finished) (nat_eq d.ticket.0 ticket) passes).1 in
-    rw same refl
+by-number ticket k d passes = grind (arith, nat_tests)
 
-pub no-slot : (slab : Slab Outstanding) (entries : List Entry) (ticket k : ℕ) (d : Outstanding) → IsOrderOf slab flies by_ticket entries → ¬ (Contains entries (entry_at ticket k)) → get slab k ≡ Some d → flies_as ticket d ≡ false
-no-slot slab entries ticket k d o out at = elim (cases_Bool (flies_as ticket d)) [
-  | inl passes ↦
-      absurd (out (rw (← (by-number ticket k d passes)) (o.all k d at (and_parts (not d.finished) (nat_eq d.ticket.0 ticket) passes).0)))
-  | inr fails ↦ fails
-]
+flies-ticket : (ticket : ℕ) (d : Outstanding) → flies_as ticket d ≡ true → flies d ≡ true
+flies-ticket ticket d passes = grind arith
 
-pub first-slot : (slab : Slab Outstanding) (entries : List Entry) (ticket from slot : ℕ) (c : Outstanding) → IsOrderOf slab flies by_ticket entries → Contains entries (entry_at ticket slot) → from ≤ slot
+pub no-slot : (slab : Slab Outstanding) (entries : List Entry) (ticket k : ℕ) (d : Outstanding) → IsOrderOf slab flies by_ticket entries
+    → ¬ (Contains entries (entry_at ticket k)) → get slab k ≡ Some d → flies_as ticket d ≡ false
+no-slot slab entries ticket k d o out at = false_from_ne_true _ (λ passes.
+    out (rw (← by-number ticket k d passes) (o.all k d at (flies-ticket ticket d passes))))
+
+pub first-slot : (slab : Slab Outstanding) (entries : List Entry) (ticket from slot : ℕ) (c : Outstanding) → IsOrderOf slab flies by_ticket entries
+    → Contains entries (entry_at ticket slot) → from ≤ slot
     → ((k : ℕ) → from ≤ k → k < slot → ¬ (Contains entries (entry_at ticket k))) → get slab slot ≡ Some c → IsFirstSlot (flies_as ticket) slab from slot c
 first-slot slab entries ticket from slot c o there behind first at =
     let held = o.only (entry_at ticket slot) there in
@@ -59,34 +59,31 @@ first-slot slab entries ticket from slot c o there behind first at =
       first = λ k d from_k below at_k. no-slot slab entries ticket k d o (first k from_k below) at_k;
     }
 
-pub slot-held : (slab : Slab Outstanding) (test : Outstanding → Bool) (entry : ℕ → Outstanding → Entry) (entries : List Entry) (e : Entry) → IsOrderOf slab test entry entries → Contains entries e → get slab e.slot ≢ None
+pub slot-held : (slab : Slab Outstanding) (test : Outstanding → Bool) (entry : ℕ → Outstanding → Entry) (entries : List Entry) (e : Entry)
+    → IsOrderOf slab test entry entries → Contains entries e → get slab e.slot ≢ None
 slot-held slab test entry entries e o there none = let held = o.only e there in let both : Some held.command ≡ None = sym held.there ∙ none in absurd cc
 
 -- the flying command with a ticket, by its slot
 pub ticket-found : (slab : Slab Outstanding) (ticket slot : ℕ) (c : Outstanding) → IsFirstSlot (flies_as ticket) slab 0 slot c → Some c ≡ find (flies_as ticket) (values slab)
-ticket-found slab ticket slot c first = sym (find-at (flies_as ticket) slab.slots slot c first.there first.passes (λ j d below at. first.first j d (omega arith) below at))
+ticket-found slab ticket slot c first =
+    sym (find-at (flies_as ticket) slab.slots slot c first.there first.passes (λ j d below at. first.first j d (omega arith) below at))
 
-pub ticket-none : (slab : Slab Outstanding) (ticket : ℕ) → ((k : ℕ) (c : Outstanding) → 0 ≤ k → get slab k ≡ Some c → flies_as ticket c ≡ false) → None ≡ find (flies_as ticket) (values slab)
+pub ticket-none : (slab : Slab Outstanding) (ticket : ℕ) → ((k : ℕ) (c : Outstanding) → 0 ≤ k → get slab k ≡ Some c → flies_as ticket c ≡ false)
+    → None ≡ find (flies_as ticket) (values slab)
 ticket-none slab ticket none = sym (find-none (flies_as ticket) slab.slots (λ k c at. none k c (omega arith) at))
 
 by-tagged : (tag k : ℕ) (d : Outstanding) → flies_with tag d ≡ true → by_tag k d ≡ entry_at tag k
-by-tagged tag k d passes =
-    let parts = and_parts (not d.finished) (nat_eq d.flying.tag tag) passes in
-    let same : d.flying.tag ≡ tag = eqb-true d.flying.tag tag parts.1 in
-    let flying : d.finished ≡ false = not-true d.finished parts.0 in
-    rw (same, flying) refl
+by-tagged tag k d passes = grind (arith, nat_tests)
 
-no-tagged : (slab : Slab Outstanding) (entries : List Entry) (tag k : ℕ) (d : Outstanding) → IsOrderOf slab each by_tag entries → ¬ (Contains entries (entry_at tag k)) → get slab k ≡ Some d → flies_with tag d ≡ false
-no-tagged slab entries tag k d o out at = elim (cases_Bool (flies_with tag d)) [
-  | inl passes ↦ let P : Entry → Type 0 = λ e. Contains entries e in absurd (out (subst P (by-tagged tag k d passes) (o.all k d at refl)))
-  | inr fails ↦ fails
-]
+no-tagged : (slab : Slab Outstanding) (entries : List Entry) (tag k : ℕ) (d : Outstanding) → IsOrderOf slab each by_tag entries
+    → ¬ (Contains entries (entry_at tag k)) → get slab k ≡ Some d → flies_with tag d ≡ false
+no-tagged slab entries tag k d o out at = false_from_ne_true _ (λ passes. out (rw (← by-tagged tag k d passes) (o.all k d at refl)))
 
 no-tie : (b : Bool) → ◌≡◌ {A = ℕ} 0 (if b then 1 else 0) → not b ≡ true
-no-tie true is = absurd cc
-no-tie false is = refl
+no-tie b is = grind arith
 
-pub tag-found : (slab : Slab Outstanding) (entries : List Entry) (tag slot : ℕ) (c : Outstanding) → IsOrderOf slab each by_tag entries → Contains entries (entry_at tag slot)
+pub tag-found : (slab : Slab Outstanding) (entries : List Entry) (tag slot : ℕ) (c : Outstanding) → IsOrderOf slab each by_tag entries
+    → Contains entries (entry_at tag slot)
     → ((k : ℕ) → 0 ≤ k → k < slot → ¬ (Contains entries (entry_at tag k))) → get slab slot ≡ Some c → Some c ≡ find (flies_with tag) (values slab)
 tag-found slab entries tag slot c o there first at =
     let held = o.only (entry_at tag slot) there in
@@ -94,36 +91,37 @@ tag-found slab entries tag slot c o there first at =
     let is : entry_at tag slot ≡ by_tag slot c = held.is ∙ ap (by_tag slot) one in
     let flying : not c.finished ≡ true = no-tie c.finished (ap (λ (e : Entry). e.tie) is) in
     let number : c.flying.tag ≡ tag = sym (ap (λ (e : Entry). e.at) is) in
-    sym (find-at (flies_with tag) slab.slots slot c at (rw (flying, eq-eqb c.flying.tag tag number) refl) (λ j d below at_j. no-tagged slab entries tag j d o (first j (omega arith) below) at_j))
+    sym (find-at (flies_with tag) slab.slots slot c at (rw (flying, eq-eqb c.flying.tag tag number) refl)
+    (λ j d below at_j. no-tagged slab entries tag j d o (first j (omega arith) below) at_j))
 
-pub tag-none : (slab : Slab Outstanding) (entries : List Entry) (tag : ℕ) → IsOrderOf slab each by_tag entries → ((k : ℕ) → 0 ≤ k → ¬ (Contains entries (entry_at tag k))) → None ≡ find (flies_with tag) (values slab)
+pub tag-none : (slab : Slab Outstanding) (entries : List Entry) (tag : ℕ) → IsOrderOf slab each by_tag entries
+    → ((k : ℕ) → 0 ≤ k → ¬ (Contains entries (entry_at tag k))) → None ≡ find (flies_with tag) (values slab)
 tag-none slab entries tag o none = sym (find-none (flies_with tag) slab.slots (λ k d at. no-tagged slab entries tag k d o (none k (omega arith)) at))
 
-pub taken-found : (slab : Slab Outstanding) (entries : List Entry) (tag : ℕ) (e : Entry) → IsOrderOf slab each by_tag entries → Contains entries e → e.at ≡ tag → true ≡ is_taken (values slab) tag
+taken-found : (slab : Slab Outstanding) (entries : List Entry) (tag : ℕ) (e : Entry) → IsOrderOf slab each by_tag entries
+    → Contains entries e → e.at ≡ tag → true ≡ is_taken (values slab) tag
 taken-found slab entries tag e o there at =
     let held = o.only e there in
     let number : held.command.flying.tag ≡ tag = sym (ap (λ (f : Entry). f.at) held.is) ∙ at in
     sym (any-held (λ d. nat_eq d.flying.tag tag) slab.slots e.slot held.command held.there (eq-eqb held.command.flying.tag tag number))
 
-pub taken-none : (slab : Slab Outstanding) (entries : List Entry) (tag : ℕ) → IsOrderOf slab each by_tag entries → ((e : Entry) → Contains entries e → e.at ≢ tag) → false ≡ is_taken (values slab) tag
-taken-none slab entries tag o none =
-    sym (none-held (λ d. nat_eq d.flying.tag tag) slab.slots (λ k d at. elim (cases_Bool (nat_eq d.flying.tag tag)) [
-      | inl has ↦ absurd (none (by_tag k d) (o.all k d at refl) (eqb-true d.flying.tag tag has))
-      | inr out ↦ out
-    ]))
+taken-none : (slab : Slab Outstanding) (entries : List Entry) (tag : ℕ) → IsOrderOf slab each by_tag entries
+    → ((e : Entry) → Contains entries e → e.at ≢ tag) → false ≡ is_taken (values slab) tag
+taken-none slab entries tag o none = sym (none-held (λ d. nat_eq d.flying.tag tag) slab.slots (λ k d at.
+    ne_eqb _ _ (none (by_tag k d) (o.all k d at refl))))
 
-pub taken-is : (slab : Slab Outstanding) (entries : List Entry) (tag : ℕ) (b : Bool) → IsOrderOf slab each by_tag entries → (b ≡ true → (e : Entry) × Contains entries e × (e.at ≡ tag)) → (b ≡ false → (e : Entry) → Contains entries e → e.at ≢ tag)
+pub taken-is : (slab : Slab Outstanding) (entries : List Entry) (tag : ℕ) (b : Bool) → IsOrderOf slab each by_tag entries
+    → (b ≡ true → (e : Entry) × Contains entries e × (e.at ≡ tag)) → (b ≡ false → (e : Entry) → Contains entries e → e.at ≢ tag)
     → b ≡ is_taken (values slab) tag
 taken-is slab entries tag true o some none = let found = some refl in taken-found slab entries tag found.0 o found.1 found.2
 taken-is slab entries tag false o some none = taken-none slab entries tag o (none refl)
 
 -- where none passes, for want of an entry
-pub none-pass : (slab : Slab Outstanding) (test passes : Outstanding → Bool) (entry : ℕ → Outstanding → Entry) (entries : List Entry) → ((c : Outstanding) → passes c ≡ true → test c ≡ true)
-    → IsOrderOf slab test entry entries → slice_get entries 0 ≡ None → All (λ c. passes c ≡ false) (values slab)
-none-pass slab test passes entry entries wider o none = all-held (λ c. passes c ≡ false) slab.slots (λ k c at. elim (cases_Bool (passes c)) [
-  | inl is ↦ absurd (none-there entries (entry k c) none (o.all k c at (wider c is)))
-  | inr out ↦ out
-])
+pub none-pass : (slab : Slab Outstanding) (test passes : Outstanding → Bool) (entry : ℕ → Outstanding → Entry) (entries : List Entry)
+    → ((c : Outstanding) → passes c ≡ true → test c ≡ true) → IsOrderOf slab test entry entries → slice_get entries 0 ≡ None
+    → All (λ c. passes c ≡ false) (values slab)
+none-pass slab test passes entry entries wider o none = all-held (λ c. passes c ≡ false) slab.slots (λ k c at.
+    false_from_ne_true _ (λ is. none-there entries (entry k c) none (o.all k c at (wider c is))))
 
 -- the command of the first entry, and all others
 pub head-of : (slab : Slab Outstanding) (test : Outstanding → Bool) (entry : ℕ → Outstanding → Entry) (entries : List Entry) (e : Entry) (c : Outstanding)
@@ -134,60 +132,41 @@ head-of slab test entry entries e c o head at =
     (held.is ∙ ap (entry e.slot) one, ap test (sym one) ∙ held.passes)
 
 -- where the first of an order doesn't pass, none passes
-pub none-past : (slab : Slab Outstanding) (test passes : Outstanding → Bool) (entry : ℕ → Outstanding → Entry) (entries : List Entry) (e : Entry) → ((c : Outstanding) → passes c ≡ true → test c ≡ true)
-    → IsOrderOf slab test entry entries → IsInOrder entries → slice_get entries 0 ≡ Some e
+pub none-past : (slab : Slab Outstanding) (test passes : Outstanding → Bool) (entry : ℕ → Outstanding → Entry) (entries : List Entry) (e : Entry)
+    → ((c : Outstanding) → passes c ≡ true → test c ≡ true) → IsOrderOf slab test entry entries → IsInOrder entries → slice_get entries 0 ≡ Some e
     → ((k : ℕ) (d : Outstanding) → get slab k ≡ Some d → test d ≡ true → e.at ≤ (entry k d).at → passes d ≡ false) → All (λ c. passes c ≡ false) (values slab)
-none-past slab test passes entry entries e wider o order head out = all-held (λ c. passes c ≡ false) slab.slots (λ k d at. elim (cases_Bool (test d)) [
-  | inl tests ↦ out k d at tests (at-least e (entry k d) (head-least entries e (entry k d) order head (o.all k d at tests)))
-  | inr fails ↦ elim (cases_Bool (passes d)) [
-    | inl is ↦ let tests = wider d is in absurd cc
-    | inr fails_too ↦ fails_too
-  ]
-])
+none-past slab test passes entry entries e wider o order head out = all-held (λ c. passes c ≡ false) slab.slots (λ k d at.
+    false_from_ne_true _ (λ is.
+    let tests = wider d is in
+    let none = out k d at tests (at-least e (entry k d) (head-least entries e (entry k d) order head (o.all k d at tests))) in
+    true≢false (sym is ∙ none)))
 
 pub over-rests : (rest now : ℕ) (c : Outstanding) → is_over rest now c ≡ true → rests c ≡ true
-over-rests rest now c is = (and_parts c.finished (nat_lt rest (now - c.flying.last.0)) is).0
+over-rests rest now c is = grind arith
 
-no_and : (f t : Bool) → f ≡ true → (f && t) ≡ false → t ≡ false
-no_and true t is none = none
-no_and false t is none = absurd cc
+pub over-past : (rest now : ℕ) (c d : Outstanding) → c.finished ≡ true → is_over rest now c ≡ false → c.flying.last.0 ≤ d.flying.last.0
+    → is_over rest now d ≡ false
+over-past rest now c d finished out later = grind (arith, nat_tests)
 
-pub over-past : (rest now : ℕ) (c d : Outstanding) → c.finished ≡ true → is_over rest now c ≡ false → c.flying.last.0 ≤ d.flying.last.0 → is_over rest now d ≡ false
-over-past rest now c d finished out later =
-    let here : nat_lt rest (now - c.flying.last.0) ≡ false = no_and c.finished (nat_lt rest (now - c.flying.last.0)) finished out in
-    let no : nat_lt rest (now - d.flying.last.0) ≡ false = le-ltb rest (now - d.flying.last.0) (omega (arith, ltb-false rest (now - c.flying.last.0) here, later)) in
-    and_right d.finished (nat_lt rest (now - d.flying.last.0)) no
-
-pub expired-past : (dead now : ℕ) (c d : Outstanding) → flies c ≡ true → is_expired dead now c ≡ false → c.flying.first.0 ≤ d.flying.first.0 → is_expired dead now d ≡ false
-expired-past dead now c d flying out later =
-    let here : nat_le dead (now - c.flying.first.0) ≡ false = no_and (not c.finished) (nat_le dead (now - c.flying.first.0)) flying out in
-    let no : nat_le dead (now - d.flying.first.0) ≡ false = lt-leb dead (now - d.flying.first.0) (omega (arith, leb-false dead (now - c.flying.first.0) here, later)) in
-    and_right (not d.finished) (nat_le dead (now - d.flying.first.0)) no
+pub expired-past : (dead now : ℕ) (c d : Outstanding) → flies c ≡ true → is_expired dead now c ≡ false → c.flying.first.0 ≤ d.flying.first.0
+    → is_expired dead now d ≡ false
+expired-past dead now c d flying out later = grind (arith, nat_tests)
 
 pub expired-flying : (dead now : ℕ) (c : Outstanding) → is_expired dead now c ≡ true → flies c ≡ true
-expired-flying dead now c is = (and_parts (not c.finished) (nat_le dead (now - c.flying.first.0)) is).0
+expired-flying dead now c is = grind arith
 
 pub due-flying : (now : ℕ) (c : Outstanding) → is_due now c ≡ true → flies c ≡ true
-due-flying now c is = (and_parts (not c.finished) (nat_le c.wait.0 (now - c.flying.last.0)) is).0
+due-flying now c is = grind arith
 
 pub due-past : (now : ℕ) (c d : Outstanding) → flies c ≡ true → d.flying.last.0 ≤ now → is_due now c ≡ false → deadline c ≤ deadline d → is_due now d ≡ false
-due-past now c d flying past out later =
-    let here : nat_le c.wait.0 (now - c.flying.last.0) ≡ false = no_and (not c.finished) (nat_le c.wait.0 (now - c.flying.last.0)) flying out in
-    let no : nat_le d.wait.0 (now - d.flying.last.0) ≡ false = lt-leb d.wait.0 (now - d.flying.last.0) (omega (arith, leb-false c.wait.0 (now - c.flying.last.0) here, later, past)) in
-    and_right (not d.finished) (nat_le d.wait.0 (now - d.flying.last.0)) no
+due-past now c d flying past out later = grind (arith, nat_tests)
 
 before-precedes : (k j : ℕ) (o c : Outstanding) → before (by_due k o) (by_due j c) ≡ false → precedes o c ≡ false
-before-precedes k j o c out =
-    let parts = or_parts (nat_lt (deadline o) (deadline c)) _ out in
-    or_from (nat_lt (deadline o) (deadline c)) (nat_eq (deadline o) (deadline c) && nat_lt o.ticket.0 c.ticket.0) parts.0 (at (nat_eq (deadline o) (deadline c)) (nat_lt o.ticket.0 c.ticket.0) (nat_eq o.ticket.0 c.ticket.0 && nat_lt k j) parts.1)
-  where
-    at : (e t r : Bool) → (e && (t || r)) ≡ false → (e && t) ≡ false
-    at true true r is = absurd cc
-    at true false r is = refl
-    at false t r is = refl
+before-precedes k j o c out = grind arith
 
 -- the first that is due, by the order of the times at which they are
-pub first-due : (slab : Slab Outstanding) (entries : List Entry) (now : ℕ) (e : Entry) (c : Outstanding) → IsOrderOf slab flies by_due entries → IsInOrder entries → slice_get entries 0 ≡ Some e → get slab e.slot ≡ Some c
+pub first-due : (slab : Slab Outstanding) (entries : List Entry) (now : ℕ) (e : Entry) (c : Outstanding) → IsOrderOf slab flies by_due entries
+    → IsInOrder entries → slice_get entries 0 ≡ Some e → get slab e.slot ≡ Some c
     → is_due now c ≡ true → (d : Outstanding) × (d.ticket ≡ c.ticket) × IsFirst (is_due now) precedes (values slab) d
 first-due slab entries now e c o order head at due =
     let is = (head-of slab flies by_due entries e c o head at).0 in (
@@ -197,8 +176,7 @@ first-due slab entries now e c o order head at due =
         there = held-at slab.slots e.slot c at;
         passes = due;
         least = all-held (λ other. is_due now other ≡ true → precedes other c ≡ false) slab.slots (λ k d at_k d_due.
-            let P : Entry → Type 0 = λ f. before (by_due k d) f ≡ false in
-            before-precedes k e.slot d c (subst P is (head-least entries e (by_due k d) order head (o.all k d at_k (due-flying now d d_due)))));
+            before-precedes k e.slot d c (rw is at (head-least entries e (by_due k d) order head (o.all k d at_k (due-flying now d d_due)))));
       },
     )
 
@@ -209,7 +187,8 @@ pub if-none : {T : Type 0} (result : Option T) (P : Type 0) → P → IfNone res
 if-none None P holds = holds
 if-none (Some found) P holds = tt
 
-pub tag-held : (slab : Slab Outstanding) (entries : List Entry) (tag slot : ℕ) → IsOrderOf slab each by_tag entries → Contains entries (entry_at tag slot)
+pub tag-held : (slab : Slab Outstanding) (entries : List Entry) (tag slot : ℕ) → IsOrderOf slab each by_tag entries
+    → Contains entries (entry_at tag slot)
     → ((k : ℕ) → 0 ≤ k → k < slot → ¬ (Contains entries (entry_at tag k))) → get slab slot ≡ find (flies_with tag) (values slab)
 tag-held slab entries tag slot o there first =
     let held = o.only (entry_at tag slot) there in

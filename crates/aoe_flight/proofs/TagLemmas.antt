@@ -1,7 +1,9 @@
 -- The next tag, and tags that stand once.
 use Rattle.std.proofs.Common.{ℕ, ◌≡◌, ◌+◌, ◌-◌, ◌<◌, ◌≤◌, cond, Bool, true, false, List, [], ◌∷◌, length, inl, inr, refl, ap, ◌∙◌, arith, zero-add, nat_lt, if◌then◌else◌}
 use Rattle.std.specs.List.{count_by, list_any}
-use Rattle.std.proofs.lemmas.Bool.{cases_lt, eqb-true, lt-ltb, le-ltb, ltb-true}
+use Rattle.std.proofs.lemmas.Bool.{cases_Bool, cases_lt, eqb-true, lt-ltb, le-ltb, ltb-true}
+use Rattle.std.proofs.lemmas.Bool.Decides.{nat_tests}
+use Rattle.aoe_base.proofs.CountLemmas.{count-cons, count-no, count-yes}
 use Rattle.std.proofs.lemmas.List.Sums.{count_by-le-length, sum_by-cons, sum_by-le-sum_by}
 use Rattle.aoe_flight.specs.declared.outstanding.Outstanding.{Outstanding}
 use Rattle.aoe_flight.specs.Outstanding.{has_tag, is_taken, tag_after}
@@ -12,46 +14,29 @@ distance last tag = if nat_lt last tag then tag - last - 1 else tag + 4294967295
 
 distance-after : (last steps : ℕ) → last ≤ 4294967295 → steps < 4294967295 → distance last (tag_after last steps) ≡ steps
 unfolding distance
-distance-after last steps most few = elim (cases_lt (last + steps) 4294967295) [
-  | inl low ↦
-      let here : tag_after last steps ≡ last + steps + 1 = rw (lt-ltb (last + steps) 4294967295 low) refl in
-      let above : nat_lt last (last + steps + 1) ≡ true = lt-ltb last (last + steps + 1) (omega arith) in
-      rw (here, above) (omega arith)
-  | inr high ↦
-      let here : tag_after last steps ≡ last + steps + 1 - 4294967295 = rw (le-ltb (last + steps) 4294967295 high) refl in
-      let below : nat_lt last (last + steps + 1 - 4294967295) ≡ false = le-ltb last (last + steps + 1 - 4294967295) (omega arith) in
-      rw (here, below) (omega arith)
-]
+distance-after last steps most few = grind (arith, nat_tests)
 
 -- the command has one of the first tags after `last`
 pub passed : ℕ → ℕ → Outstanding → Bool
 passed last steps c = nat_lt (distance last c.flying.tag) steps
 
 cond-le : (a b : Bool) → (a ≡ true → b ≡ true) → cond a 1 0 ≤ cond b 1 0
-cond-le true true both = omega arith
-cond-le true false both = absurd (let impossible = both refl in cc)
-cond-le false b both = omega arith
+cond-le a b both = grind arith
 
 -- where one element passes the wider test alone, more pass it
-count-more : (p q r : Outstanding → Bool) → ((c : Outstanding) → p c ≡ true → q c ≡ true) → ((c : Outstanding) → r c ≡ true → (p c ≡ false) × (q c ≡ true)) → (commands : List Outstanding)
+count-more : (p q r : Outstanding → Bool) → ((c : Outstanding) → p c ≡ true → q c ≡ true)
+    → ((c : Outstanding) → r c ≡ true → (p c ≡ false) × (q c ≡ true)) → (commands : List Outstanding)
     → list_any r commands ≡ true → count_by p commands + 1 ≤ count_by q commands
 count-more p q r wider one [] some = absurd cc
-count-more p q r wider one (c ∷ commands) some = at (r c) refl (λ there. count-more p q r wider one commands there)
-  where
-    at : (b : Bool) → r c ≡ b → (list_any r commands ≡ true → count_by p commands + 1 ≤ count_by q commands) → count_by p (c ∷ commands) + 1 ≤ count_by q (c ∷ commands)
-    at true is rest =
-        let here = one c is in
-        let fewer : count_by p commands ≤ count_by q commands = sum_by-le-sum_by (λ (d : Outstanding). cond (p d) 1 0) (λ (d : Outstanding). cond (q d) 1 0) commands (λ d. cond-le (p d) (q d) (wider d)) in
-        let first : count_by p (c ∷ commands) ≡ count_by p commands = sum_by-cons (λ (d : Outstanding). cond (p d) 1 0) c commands ∙ rw (here.0) (zero-add (count_by p commands)) in
-        let second : count_by q (c ∷ commands) ≡ 1 + count_by q commands = sum_by-cons (λ (d : Outstanding). cond (q d) 1 0) c commands ∙ rw (here.1) refl in
-        omega (arith, fewer, first, second)
-    at false is rest =
-        let there : list_any r commands ≡ true = rw is at some in
-        let more = rest there in
-        let first = sum_by-cons (λ (d : Outstanding). cond (p d) 1 0) c commands in
-        let second = sum_by-cons (λ (d : Outstanding). cond (q d) 1 0) c commands in
-        let le = cond-le (p c) (q c) (wider c) in
-        omega (arith, more, first, second, le)
+count-more p q r wider one (c ∷ commands) some =
+    let first = count-cons p c commands in
+    let second = count-cons q c commands in
+    elim (cases_Bool (r c)) [
+      | inl is ↦
+          let fewer = sum_by-le-sum_by (λ d. cond (p d) 1 0) (λ d. cond (q d) 1 0) commands (λ d. cond-le (p d) (q d) (wider d)) in
+          omega (arith, fewer, count-no p c commands (one c is).0, count-yes q c commands (one c is).1)
+      | inr other ↦ omega (arith, count-more p q r wider one commands (rw other at some), first, second, cond-le (p c) (q c) (wider c))
+    ]
 
 -- each tag that was passed is the tag of another command
 pub passed-more : (last steps : ℕ) (commands : List Outstanding) → last ≤ 4294967295 → steps < 4294967295 → is_taken commands (tag_after last steps) ≡ true

@@ -8,12 +8,12 @@ use Rattle.aoe_flight.proofs.flight.Flight.finish.Goals as goal
 
 pub invariant_of-self : goal.invariant_of-self
 invariant_of-self c = (
-  sound-changed _ _ c.args.ticket.0 after_finish (values c.self.inside.commands) _ _ (λ d. refl) c.finish.ensures.values c.finish.ensures.capacity c.self.invariant.0,
+  sound-changed c.args.ticket.0 after_finish (λ d. refl) c.finish.ensures.values c.finish.ensures.capacity c.self.invariant.0,
   past-finished c.self.inside.latest.0 c.args.ticket.0 (values c.self.inside.commands) _ c.finish.ensures.values c.self.invariant.1,
 )
 
 pub returns-clause-value : goal.returns-clause-value
-returns-clause-value c = finish-value _ _ _ _ _ c.args.ticket.0 after_finish (values c.self.inside.commands) _ c.args.self.now c.self.view_is c.finish.ensures.values
+returns-clause-value c = finish-value (values c.self.inside.commands) c.self.view_is c.args.ticket.0 after_finish _ c.finish.ensures.values
 
 pub returns-clause-recalls : goal.returns-clause-recalls
 returns-clause-recalls c = λ sent recalls.

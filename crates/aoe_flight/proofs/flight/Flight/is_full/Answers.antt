@@ -9,7 +9,7 @@ use Rattle.aoe_flight.proofs.flight.Flight.is_full.Goals as goal
 
 pub returns-then-len-room-clause-value : goal.returns-then-len-room-clause-value
 returns-then-len-room-clause-value c =
-    let live = ap length (live-view _ _ _ _ _ c.args.now.0 (values c.self.inside.commands) c.args.self.now c.self.view_is c.requires) in
+    let live = ap length (live-view (values c.self.inside.commands) c.self.view_is c.args.now.0 c.requires) in
     let room = ap (λ (t : FlightTable). t.room) c.self.view_is in
     full-none c.is_any_over.result _ _ _ c.args.self.now.room _ c.is_any_over.ensures.some c.is_any_over.ensures.none live room c.self.invariant.0.fits (omega (arith, c.len.ensures, c.if-len-room.true))
 
@@ -18,7 +18,7 @@ returns-then-len-room-clause-sent c = λ sent recalls. rw (← length-recalled c
 
 pub returns-else-len-room-clause-value : goal.returns-else-len-room-clause-value
 returns-else-len-room-clause-value c =
-    let live = ap length (live-view _ _ _ _ _ c.args.now.0 (values c.self.inside.commands) c.args.self.now c.self.view_is c.requires) in
+    let live = ap length (live-view (values c.self.inside.commands) c.self.view_is c.args.now.0 c.requires) in
     let room = ap (λ (t : FlightTable). t.room) c.self.view_is in
     let fewer = live-shorter c.self.inside.rest.0 c.args.now.0 (values c.self.inside.commands) in (
       λ is. absurd (omega (arith, leb-true _ _ is, c.if-len-room.false)),

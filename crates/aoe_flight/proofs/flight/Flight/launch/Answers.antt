@@ -12,52 +12,52 @@ use Rattle.aoe_flight.proofs.flight.Flight.launch.Goals as goal
 
 pub invariant_of-self : goal.invariant_of-self
 invariant_of-self c =
-    let later = time-of _ _ _ _ _ c.args.now.0 (values c.self.inside.commands) c.args.self.now c.self.view_is c.requires in (
-      sound-live _ _ c.self.inside.rest.0 c.args.now.0 (values c.self.inside.commands) (values c.forget.new.self) c.forget.new.self.capacity c.forget.ensures.values c.forget.ensures.capacity c.self.invariant.0,
+    let later = time-of (values c.self.inside.commands) c.self.view_is c.args.now.0 c.requires in (
+      sound-live c.self.inside.rest.0 c.args.now.0 c.forget.ensures.values c.forget.ensures.capacity c.self.invariant.0,
       past-live c.self.inside.latest.0 c.self.inside.rest.0 c.args.now.0 (values c.self.inside.commands) _ c.forget.ensures.values later c.self.invariant.1,
     )
 
 pub returns-then-len-self-clause-full : goal.returns-then-len-self-clause-full
 returns-then-len-self-clause-full c =
-    let live = live-view _ _ _ _ _ c.args.now.0 (values c.self.inside.commands) c.args.self.now c.self.view_is c.requires in
+    let live = live-view (values c.self.inside.commands) c.self.view_is c.args.now.0 c.requires in
     let kept = live ∙ sym c.forget.ensures.values in
     let room = ap (λ (t : FlightTable). t.room) c.self.view_is in
     let count : c.len.result ≡ length (values c.forget.new.self) = c.len.ensures in
     rw kept (omega (arith, room, count, c.if-len-self.true))
 
 pub returns-then-len-self-clause-unchanged : goal.returns-then-len-self-clause-unchanged
-returns-then-len-self-clause-unchanged c = forget-value _ _ _ _ _ c.args.now.0 (values c.self.inside.commands) _ c.args.self.now c.self.view_is c.requires c.forget.ensures.values
+returns-then-len-self-clause-unchanged c = forget-value (values c.self.inside.commands) c.self.view_is c.args.now.0 _ c.requires c.forget.ensures.values
 
 pub returns-then-len-self-clause-distinct : goal.returns-then-len-self-clause-distinct
 returns-then-len-self-clause-distinct c =
-    let sound = sound-live _ _ c.self.inside.rest.0 c.args.now.0 (values c.self.inside.commands) (values c.forget.new.self) c.forget.new.self.capacity c.forget.ensures.values c.forget.ensures.capacity c.self.invariant.0 in
+    let sound = sound-live c.self.inside.rest.0 c.args.now.0 c.forget.ensures.values c.forget.ensures.capacity c.self.invariant.0 in
     λ tag. count-live c.self.inside.rest.0 c.args.now.0 (values c.forget.new.self) tag (sound.distinct tag)
 
 pub next_tag-tag-requires : goal.next_tag-tag-requires
 next_tag-tag-requires c =
-    let sound = sound-live _ _ c.self.inside.rest.0 c.args.now.0 (values c.self.inside.commands) (values c.forget.new.self) c.forget.new.self.capacity c.forget.ensures.values c.forget.ensures.capacity c.self.invariant.0 in
+    let sound = sound-live c.self.inside.rest.0 c.args.now.0 c.forget.ensures.values c.forget.ensures.capacity c.self.invariant.0 in
     omega (arith, sound.fits, sound.few)
 
 pub insert-requires-clause-room : goal.insert-requires-clause-room
 insert-requires-clause-room c =
-    let sound = sound-live _ _ c.self.inside.rest.0 c.args.now.0 (values c.self.inside.commands) (values c.forget.new.self) c.forget.new.self.capacity c.forget.ensures.values c.forget.ensures.capacity c.self.invariant.0 in
+    let sound = sound-live c.self.inside.rest.0 c.args.now.0 c.forget.ensures.values c.forget.ensures.capacity c.self.invariant.0 in
     let count : c.len.result ≡ length (values c.forget.new.self) = c.len.ensures in
     omega (arith, count, c.if-len-self.false, sound.reserved)
 
 pub invariant_of-self-2 : goal.invariant_of-self-2
 invariant_of-self-2 c =
     let count : c.len.result ≡ length (values c.forget.new.self) = c.len.ensures in
-    let sound = sound-live _ _ c.self.inside.rest.0 c.args.now.0 (values c.self.inside.commands) (values c.forget.new.self) c.forget.new.self.capacity c.forget.ensures.values c.forget.ensures.capacity c.self.invariant.0 in
+    let sound = sound-live c.self.inside.rest.0 c.args.now.0 c.forget.ensures.values c.forget.ensures.capacity c.self.invariant.0 in
     let free = ap (λ (d : Outstanding). is_taken (values c.forget.new.self) d.flying.tag) c.launched-command.ensures ∙ c.next_tag-tag.ensures.free in
-    let after = sound-new _ _ c.launched-command.result (values c.forget.new.self) (values c.insert.new.self) c.insert.new.self.capacity c.insert.ensures.values free c.insert.ensures.capacity (omega (arith, count, c.if-len-self.false)) sound in
-    let later = time-of _ _ _ _ _ c.args.now.0 (values c.self.inside.commands) c.args.self.now c.self.view_is c.requires in
+    let after = sound-new c.launched-command.result (values c.insert.new.self) c.insert.ensures.values free c.insert.ensures.capacity (omega (arith, count, c.if-len-self.false)) sound in
+    let later = time-of (values c.self.inside.commands) c.self.view_is c.args.now.0 c.requires in
     let past = past-live c.self.inside.latest.0 c.self.inside.rest.0 c.args.now.0 (values c.self.inside.commands) (values c.forget.new.self) c.forget.ensures.values later c.self.invariant.1 in
     let last : c.launched-command.result.flying.last.0 ≡ c.args.now.0 = ap (λ (d : Outstanding). d.flying.last.0) c.launched-command.ensures in
     (after, past-launched c.args.now.0 c.launched-command.result (values c.forget.new.self) (values c.insert.new.self) (omega (arith, last)) c.insert.ensures.values past)
 
 pub returns-clause-room : goal.returns-clause-room
 returns-clause-room c =
-    let live = live-view _ _ _ _ _ c.args.now.0 (values c.self.inside.commands) c.args.self.now c.self.view_is c.requires in
+    let live = live-view (values c.self.inside.commands) c.self.view_is c.args.now.0 c.requires in
     let kept = live ∙ sym c.forget.ensures.values in
     let room = ap (λ (t : FlightTable). t.room) c.self.view_is in
     let count : c.len.result ≡ length (values c.forget.new.self) = c.len.ensures in
@@ -65,7 +65,7 @@ returns-clause-room c =
 
 pub returns-clause-tag : goal.returns-clause-tag
 returns-clause-tag c =
-    let live = live-view _ _ _ _ _ c.args.now.0 (values c.self.inside.commands) c.args.self.now c.self.view_is c.requires in
+    let live = live-view (values c.self.inside.commands) c.self.view_is c.args.now.0 c.requires in
     let kept = live ∙ sym c.forget.ensures.values in
     let room = ap (λ (t : FlightTable). t.room) c.self.view_is in
     let last = ap (λ (t : FlightTable). t.last_tag) c.self.view_is in
@@ -73,7 +73,7 @@ returns-clause-tag c =
 
 pub returns-clause-command : goal.returns-clause-command
 returns-clause-command c =
-    let old = live-view _ _ _ _ _ c.args.now.0 (values c.self.inside.commands) c.args.self.now c.self.view_is c.requires in
+    let old = live-view (values c.self.inside.commands) c.self.view_is c.args.now.0 c.requires in
     let new = launched c.args.ticket c.next_tag-tag.result c.args.now c.args.path c.args.wait in
     let all : IsPermutation (new ∷ live c.self.inside.rest.0 c.args.now.0 (values c.self.inside.commands)) (values c.insert.new.self) = rw (← c.forget.ensures.values) (rw (← c.launched-command.ensures) c.insert.ensures.values) in
     let alive = live-new c.self.inside.rest.0 c.args.now.0 new (values c.self.inside.commands) (values c.insert.new.self) refl all in
@@ -89,9 +89,9 @@ returns-clause-flies c =
 pub returns-clause-distinct : goal.returns-clause-distinct
 returns-clause-distinct c =
     let count : c.len.result ≡ length (values c.forget.new.self) = c.len.ensures in
-    let sound = sound-live _ _ c.self.inside.rest.0 c.args.now.0 (values c.self.inside.commands) (values c.forget.new.self) c.forget.new.self.capacity c.forget.ensures.values c.forget.ensures.capacity c.self.invariant.0 in
+    let sound = sound-live c.self.inside.rest.0 c.args.now.0 c.forget.ensures.values c.forget.ensures.capacity c.self.invariant.0 in
     let free = ap (λ (d : Outstanding). is_taken (values c.forget.new.self) d.flying.tag) c.launched-command.ensures ∙ c.next_tag-tag.ensures.free in
-    let after = sound-new _ _ c.launched-command.result (values c.forget.new.self) (values c.insert.new.self) c.insert.new.self.capacity c.insert.ensures.values free c.insert.ensures.capacity (omega (arith, count, c.if-len-self.false)) sound in
+    let after = sound-new c.launched-command.result (values c.insert.new.self) c.insert.ensures.values free c.insert.ensures.capacity (omega (arith, count, c.if-len-self.false)) sound in
     λ tag. count-live c.self.inside.rest.0 c.args.now.0 (values c.insert.new.self) tag (after.distinct tag)
 
 pub returns-clause-same : goal.returns-clause-same
