@@ -1,6 +1,7 @@
 -- Buffered sectors over the sectors of a disk, one by one.
-use Rattle.std.proofs.Common.{◌≡◌, ◌≤◌, ◌<◌, ◌+◌, ◌-◌, ◌*◌, ◌⊎◌, ℕ, Bool, true, false, List, [], ◌∷◌, Option, Some, None, length, refl, sym, arith, ◌∙◌, ap, inl, inr}
-use Rattle.std.proofs.lemmas.Bool.{cases_lt, cases_eq}
+use Rattle.std.proofs.Common.{◌≡◌, ◌≤◌, ◌<◌, ◌+◌, ◌-◌, ◌*◌, ◌⊎◌, ◌||◌, ℕ, Bool, false, List, [], ◌∷◌, Option, Some, None, is_some, unwrap_or, length, refl, sym, arith, ◌∙◌, inl, inr}
+use Rattle.std.proofs.lemmas.Bool.{cases_lt}
+use Rattle.std.proofs.lemmas.Bool.Decides.{nat_tests}
 use Rattle.std.proofs.lemmas.List.{ext_get_or}
 use Rattle.aoe_disk.specs.State.{with_piece, with_marks, is_loose, sector}
 use Rattle.aoe_disk.specs.Sectors.{IsOutside}
@@ -8,18 +9,20 @@ use Rattle.aoe_disk.proofs.Pieces.{length-with_piece, with_piece_outside, length
 use Rattle.aoe_disk.proofs.Touching.{image_same, sector_outside, sector-with_piece, sector-with_sector, sector-with_sector_other}
 use Rattle.aoe_cache.specs.declared.place.HeldSector.{HeldSector}
 use Rattle.aoe_cache.specs.Held.{IsAscending, AreBelow, held_for, with_written, laid_over, marked}
-use Rattle.aoe_cache.proofs.Ascending.{ascending_written, below_written, held_same, held_other, held_low, held_written_below, held_written_above, held_written_inside, some_bytes}
+use Rattle.aoe_cache.proofs.Ascending.{AreHeld, ascending_written, below_written, held_low, held_written_below, held_written_above, held_written_inside}
 
 -- sizes
 
 pub length-laid : (low sectors : ℕ) (bytes : List ℕ) (hs : List HeldSector) → IsAscending low hs → AreBelow sectors hs → length bytes ≡ 512 * sectors → length (laid_over bytes hs) ≡ 512 * sectors
 length-laid low sectors bytes [] order b size = size
 length-laid low sectors bytes (h ∷ hs) order b size =
-    length-laid (h.at + 1) sectors (with_piece bytes (512 * h.at) h.bytes) hs order.2 b.1 (length-with_piece bytes (512 * h.at) h.bytes (omega (arith, size, order.1, b.0)) ∙ size)
+    let new = length-with_piece bytes (512 * h.at) h.bytes (omega (arith, size, order.1, b.0)) in
+    length-laid (h.at + 1) sectors (with_piece bytes (512 * h.at) h.bytes) hs order.2 b.1 (new ∙ size)
 
 pub length-marked : (sectors : ℕ) (loose : List Bool) (hs : List HeldSector) → AreBelow sectors hs → length loose ≡ sectors → length (marked loose hs) ≡ sectors
 length-marked sectors loose [] b size = size
-length-marked sectors loose (h ∷ hs) b size = length-marked sectors (with_marks loose h.at 1) hs b.1 (length-with_marks loose h.at 1 (omega (arith, size, b.0)) ∙ size)
+length-marked sectors loose (h ∷ hs) b size =
+    length-marked sectors (with_marks loose h.at 1) hs b.1 (length-with_marks loose h.at 1 (omega (arith, size, b.0)) ∙ size)
 
 -- what stands for a sector, or nothing
 
@@ -27,98 +30,64 @@ pub cases_held : (o : Option (List ℕ)) → (o ≡ None) ⊎ ((p : List ℕ) ×
 cases_held None = inl refl
 cases_held (Some p) = inr (p, refl)
 
-module _ (s : ℕ) where
-  pub laid_none : (low sectors : ℕ) (bytes : List ℕ) (hs : List HeldSector) → IsAscending low hs → AreBelow sectors hs → length bytes ≡ 512 * sectors → held_for hs s ≡ None → sector (laid_over bytes hs) s ≡ sector bytes s
-  laid_none low sectors bytes [] order b size e = refl
-  laid_none low sectors bytes (h ∷ hs) order b size e = elim (cases_eq h.at s) [
-    | inl same ↦ let there : Some h.bytes ≡ None = sym (held_same s h hs same) ∙ e in cc
-    | inr other ↦
-        let fits : 512 * h.at + 512 ≤ length bytes = omega (arith, size, b.0) in
-        laid_none (h.at + 1) sectors (with_piece bytes (512 * h.at) h.bytes) hs order.2 b.1 (length-with_piece bytes (512 * h.at) h.bytes (omega (arith, fits, order.1)) ∙ size) (sym (held_other s h hs other) ∙ e)
-        ∙ sector-with_sector_other bytes h.bytes h.at s order.1 fits (λ is. other (sym is))
-  ]
-
-  pub laid_some : (low sectors : ℕ) (bytes p : List ℕ) (hs : List HeldSector) → IsAscending low hs → AreBelow sectors hs → length bytes ≡ 512 * sectors → held_for hs s ≡ Some p → sector (laid_over bytes hs) s ≡ p
-  laid_some low sectors bytes p [] order b size e = cc
-  laid_some low sectors bytes p (h ∷ hs) order b size e =
+module _ (s sectors : ℕ) where
+  pub laid_at : (low : ℕ) (bytes : List ℕ) (hs : List HeldSector) → IsAscending low hs → AreBelow sectors hs → length bytes ≡ 512 * sectors → sector (laid_over bytes hs) s ≡ unwrap_or (held_for hs s) (sector bytes s)
+  laid_at low bytes [] order b size = refl
+  laid_at low bytes (h ∷ hs) order b size =
       let fits : 512 * h.at + 512 ≤ length bytes = omega (arith, size, b.0) in
-      let new : length (with_piece bytes (512 * h.at) h.bytes) ≡ 512 * sectors = length-with_piece bytes (512 * h.at) h.bytes (omega (arith, fits, order.1)) ∙ size in
-      elim (cases_eq h.at s) [
-        | inl same ↦
-            let bytes_are : h.bytes ≡ p = some_bytes h.bytes p (sym (held_same s h hs same) ∙ e) in
-            laid_none (h.at + 1) sectors (with_piece bytes (512 * h.at) h.bytes) hs order.2 b.1 new (held_low (h.at + 1) s hs order.2 (omega arith))
-            ∙ ap (sector (with_piece bytes (512 * h.at) h.bytes)) (sym same) ∙ sector-with_sector bytes h.bytes h.at order.1 fits ∙ bytes_are
-        | inr other ↦ laid_some (h.at + 1) sectors (with_piece bytes (512 * h.at) h.bytes) p hs order.2 b.1 new (sym (held_other s h hs other) ∙ e)
-      ]
+      let new = length-with_piece bytes (512 * h.at) h.bytes (omega (arith, fits, order.1)) in
+      let rest = laid_at (h.at + 1) (with_piece bytes (512 * h.at) h.bytes) hs order.2 b.1 (new ∙ size) in
+      grind (arith, nat_tests, rest, held_low (h.at + 1) s hs order.2, sector-with_sector bytes h.bytes h.at order.1 fits, sector-with_sector_other bytes h.bytes h.at s order.1 fits)
 
-  pub marked_none : (sectors : ℕ) (loose : List Bool) (hs : List HeldSector) → AreBelow sectors hs → length loose ≡ sectors → held_for hs s ≡ None → is_loose (marked loose hs) s ≡ is_loose loose s
-  marked_none sectors loose [] b size e = refl
-  marked_none sectors loose (h ∷ hs) b size e = elim (cases_eq h.at s) [
-    | inl same ↦ let there : Some h.bytes ≡ None = sym (held_same s h hs same) ∙ e in cc
-    | inr other ↦
-        let fits : h.at + 1 ≤ length loose = omega (arith, size, b.0) in
-        let out : IsOutside h.at 1 s = elim (cases_lt s h.at) [ inl below ↦ inl below | inr above ↦ inr (omega (arith, other)) ] in
-        marked_none sectors (with_marks loose h.at 1) hs b.1 (length-with_marks loose h.at 1 fits ∙ size) (sym (held_other s h hs other) ∙ e)
-        ∙ is_loose-with_marks_outside loose h.at 1 fits s out
-  ]
-
-  pub marked_some : (low sectors : ℕ) (loose : List Bool) (p : List ℕ) (hs : List HeldSector) → IsAscending low hs → AreBelow sectors hs → length loose ≡ sectors → held_for hs s ≡ Some p → is_loose (marked loose hs) s ≡ true
-  marked_some low sectors loose p [] order b size e = cc
-  marked_some low sectors loose p (h ∷ hs) order b size e =
+  pub marked_at : (loose : List Bool) (hs : List HeldSector) → AreBelow sectors hs → length loose ≡ sectors → is_loose (marked loose hs) s ≡ (is_some (held_for hs s) || is_loose loose s)
+  marked_at loose [] b size = refl
+  marked_at loose (h ∷ hs) b size =
       let fits : h.at + 1 ≤ length loose = omega (arith, size, b.0) in
-      let new : length (with_marks loose h.at 1) ≡ sectors = length-with_marks loose h.at 1 fits ∙ size in
-      elim (cases_eq h.at s) [
-        | inl same ↦ marked_none sectors (with_marks loose h.at 1) hs b.1 new (held_low (h.at + 1) s hs order.2 (omega arith)) ∙ is_loose-with_marks_inside loose h.at 1 fits s (omega arith) (omega arith)
-        | inr other ↦ marked_some (h.at + 1) sectors (with_marks loose h.at 1) p hs order.2 b.1 new (sym (held_other s h hs other) ∙ e)
-      ]
+      let rest = marked_at (with_marks loose h.at 1) hs b.1 (length-with_marks loose h.at 1 fits ∙ size) in
+      grind (arith, nat_tests, rest, is_loose-with_marks_outside loose h.at 1 fits s, is_loose-with_marks_inside loose h.at 1 fits s)
 
--- whole images and marks
+-- whole images and marks: what sectors come to over two disks that agree elsewhere
 
-pub marks_same : (x y : List Bool) → length x ≡ length y → ((s : ℕ) → s < length x → is_loose x s ≡ is_loose y s) → x ≡ y
-marks_same x y size same = ext_get_or false x y size same
+unwrap_same : (o : Option (List ℕ)) (x y : List ℕ) → (o ≡ None → x ≡ y) → unwrap_or o x ≡ unwrap_or o y
+unwrap_same None x y same = same refl
+unwrap_same (Some p) x y same = refl
 
--- what sectors come to over two disks that agree elsewhere
-module _ (sectors : ℕ) (hs : List HeldSector) (order : IsAscending 0 hs) (below : AreBelow sectors hs) where
+or_same : (o : Option (List ℕ)) (x y : Bool) → (o ≡ None → x ≡ y) → (is_some o || x) ≡ (is_some o || y)
+or_same None x y same = same refl
+or_same (Some p) x y same = refl
+
+module _ {sectors : ℕ} {hs : List HeldSector} (held : AreHeld sectors hs) where
+  pub length-laid_over : (bytes : List ℕ) → length bytes ≡ 512 * sectors → length (laid_over bytes hs) ≡ 512 * sectors
+  length-laid_over bytes size = length-laid 0 sectors bytes hs held.order held.below size
+
+  laid_here : (bytes : List ℕ) → length bytes ≡ 512 * sectors → (s : ℕ) → sector (laid_over bytes hs) s ≡ unwrap_or (held_for hs s) (sector bytes s)
+  laid_here bytes size s = laid_at s sectors 0 bytes hs held.order held.below size
+
   pub laid_over_same : (x y : List ℕ) → length x ≡ 512 * sectors → length y ≡ 512 * sectors → ((s : ℕ) → s < sectors → held_for hs s ≡ None → sector x s ≡ sector y s) → laid_over x hs ≡ laid_over y hs
   laid_over_same x y lx ly same =
-      image_same sectors (laid_over x hs) (laid_over y hs) (length-laid 0 sectors x hs order below lx) (length-laid 0 sectors y hs order below ly) (λ s lt. elim (cases_held (held_for hs s)) [
-        | inl e ↦ laid_none s 0 sectors x hs order below lx e ∙ same s lt e ∙ sym (laid_none s 0 sectors y hs order below ly e)
-        | inr p ↦ laid_some s 0 sectors x p.0 hs order below lx p.1 ∙ sym (laid_some s 0 sectors y p.0 hs order below ly p.1)
-      ])
+      image_same sectors _ _ (length-laid_over x lx) (length-laid_over y ly)
+      (λ s lt. laid_here x lx s ∙ unwrap_same (held_for hs s) _ _ (same s lt) ∙ sym (laid_here y ly s))
 
   pub marked_over_same : (x y : List Bool) → length x ≡ sectors → length y ≡ sectors → ((s : ℕ) → s < sectors → held_for hs s ≡ None → is_loose x s ≡ is_loose y s) → marked x hs ≡ marked y hs
   marked_over_same x y lx ly same =
-      let lh : length (marked x hs) ≡ sectors = length-marked sectors x hs below lx in
-      marks_same (marked x hs) (marked y hs) (lh ∙ sym (length-marked sectors y hs below ly)) (λ s lt. elim (cases_held (held_for hs s)) [
-        | inl e ↦ marked_none s sectors x hs below lx e ∙ same s (omega (arith, lt, lh)) e ∙ sym (marked_none s sectors y hs below ly e)
-        | inr p ↦ marked_some s 0 sectors x p.0 hs order below lx p.1 ∙ sym (marked_some s 0 sectors y p.0 hs order below ly p.1)
-      ])
-
--- two buffers that hold the same for a sector
-module _ (s sectors : ℕ) (hs gs : List HeldSector) (ho : IsAscending 0 hs) (hb : AreBelow sectors hs) (go : IsAscending 0 gs) (gb : AreBelow sectors gs) (same : held_for hs s ≡ held_for gs s) where
-  laid_as : (bytes : List ℕ) → length bytes ≡ 512 * sectors → sector (laid_over bytes hs) s ≡ sector (laid_over bytes gs) s
-  laid_as bytes size = elim (cases_held (held_for gs s)) [
-    | inl e ↦ laid_none s 0 sectors bytes hs ho hb size (same ∙ e) ∙ sym (laid_none s 0 sectors bytes gs go gb size e)
-    | inr p ↦ laid_some s 0 sectors bytes p.0 hs ho hb size (same ∙ p.1) ∙ sym (laid_some s 0 sectors bytes p.0 gs go gb size p.1)
-  ]
-
-  marked_as : (loose : List Bool) → length loose ≡ sectors → is_loose (marked loose hs) s ≡ is_loose (marked loose gs) s
-  marked_as loose size = elim (cases_held (held_for gs s)) [
-    | inl e ↦ marked_none s sectors loose hs hb size (same ∙ e) ∙ sym (marked_none s sectors loose gs gb size e)
-    | inr p ↦ marked_some s 0 sectors loose p.0 hs ho hb size (same ∙ p.1) ∙ sym (marked_some s 0 sectors loose p.0 gs go gb size p.1)
-  ]
+      let size = length-marked sectors x hs held.below lx in
+      ext_get_or false (marked x hs) (marked y hs) (size ∙ sym (length-marked sectors y hs held.below ly))
+      (λ s lt. marked_at s sectors x hs held.below lx ∙ or_same (held_for hs s) _ _ (same s (omega (arith, lt, size))) ∙ sym (marked_at s sectors y hs held.below ly))
 
 -- a write to the buffer is one to what is seen of the disk
-module _ (at n sectors : ℕ) (piece : List ℕ) (hs : List HeldSector) (whole : length piece ≡ 512 * n) (fits : at + n ≤ sectors) (order : IsAscending 0 hs) (below : AreBelow sectors hs) where
-  new_order : IsAscending 0 (with_written at n piece hs)
-  new_order = ascending_written at n piece hs (omega (arith, whole)) order
+module _ (at n : ℕ) {sectors : ℕ} (piece : List ℕ) {hs : List HeldSector} (whole : length piece ≡ 512 * n) (fits : at + n ≤ sectors) (held : AreHeld sectors hs) where
+  enough : 512 * n ≤ length piece
+  enough = omega (arith, whole)
 
-  new_below : AreBelow sectors (with_written at n piece hs)
-  new_below = below_written at n piece hs sectors fits below
+  pub held_written : AreHeld sectors (with_written at n piece hs)
+  held_written = record { order = ascending_written at n piece hs enough held.order; below = below_written at n piece hs sectors fits held.below }
 
   outside_same : (s : ℕ) → IsOutside at n s → held_for (with_written at n piece hs) s ≡ held_for hs s
-  outside_same s (inl lt) = held_written_below at n piece hs order (omega (arith, whole)) s lt
-  outside_same s (inr le) = held_written_above at n piece hs order (omega (arith, whole)) s le
+  outside_same s (inl lt) = held_written_below at n piece hs enough held.order s lt
+  outside_same s (inr le) = held_written_above at n piece hs enough held.order s le
+
+  inside_same : (k : ℕ) → k < n → held_for (with_written at n piece hs) (at + k) ≡ Some (sector piece k)
+  inside_same = held_written_inside at n piece hs enough held.order
 
   cases_range : (s : ℕ) → IsOutside at n s ⊎ ((k : ℕ) × (k < n) × (at + k ≡ s))
   cases_range s = elim (cases_lt s at) [
@@ -132,33 +101,21 @@ module _ (at n sectors : ℕ) (piece : List ℕ) (hs : List HeldSector) (whole :
   pub laid_written : (bytes : List ℕ) → length bytes ≡ 512 * sectors → laid_over bytes (with_written at n piece hs) ≡ with_piece (laid_over bytes hs) (512 * at) piece
   laid_written bytes size =
       let seen : List ℕ = laid_over bytes hs in
-      let ls : length seen ≡ 512 * sectors = length-laid 0 sectors bytes hs order below size in
+      let ls : length seen ≡ 512 * sectors = length-laid_over held bytes size in
       let room : 512 * at + length piece ≤ length seen = omega (arith, ls, whole, fits) in
-      let lw : length (laid_over bytes (with_written at n piece hs)) ≡ 512 * sectors = length-laid 0 sectors bytes (with_written at n piece hs) new_order new_below size in
-      image_same sectors (laid_over bytes (with_written at n piece hs)) (with_piece seen (512 * at) piece) lw (length-with_piece seen (512 * at) piece room ∙ ls) (λ s lt. elim (cases_range s) [
-        | inl out ↦
-            laid_as s sectors (with_written at n piece hs) hs new_order new_below order below (outside_same s out) bytes size
-            ∙ sym (sector_outside seen (with_piece seen (512 * at) piece) at n s (with_piece_outside seen (512 * at) piece room (512 * n) (omega (arith, whole))) out)
-        | inr k ↦
-            ap (sector (laid_over bytes (with_written at n piece hs))) (sym k.2)
-            ∙ laid_some (at + k.0) 0 sectors bytes (sector piece k.0) (with_written at n piece hs) new_order new_below size (held_written_inside at n piece hs order (omega (arith, whole)) k.0 k.1)
-            ∙ sym (sector-with_piece seen piece at k.0 room (omega (arith, whole, k.1)))
-            ∙ ap (sector (with_piece seen (512 * at) piece)) k.2
+      let outside = with_piece_outside seen (512 * at) piece room (512 * n) (omega (arith, whole)) in
+      image_same sectors _ _ (length-laid_over held_written bytes size) (outside.size ∙ ls) (λ s lt. laid_here held_written bytes size s ∙ elim (cases_range s) [
+        | inl out ↦ rw (outside_same s out) (sym (laid_here held bytes size s) ∙ sym (sector_outside seen _ at n s outside out))
+        | inr k ↦ rw (← k.2, inside_same k.0 k.1) (sym (sector-with_piece seen piece at k.0 room (omega (arith, whole, k.1))))
       ])
 
   pub marked_written : (loose : List Bool) → length loose ≡ sectors → marked loose (with_written at n piece hs) ≡ with_marks (marked loose hs) at n
   marked_written loose size =
       let seen : List Bool = marked loose hs in
-      let ls : length seen ≡ sectors = length-marked sectors loose hs below size in
+      let ls : length seen ≡ sectors = length-marked sectors loose hs held.below size in
       let room : at + n ≤ length seen = omega (arith, ls, fits) in
-      let lw : length (marked loose (with_written at n piece hs)) ≡ sectors = length-marked sectors loose (with_written at n piece hs) new_below size in
-      marks_same (marked loose (with_written at n piece hs)) (with_marks seen at n) (lw ∙ sym (length-with_marks seen at n room ∙ ls)) (λ s lt. elim (cases_range s) [
-        | inl out ↦
-            marked_as s sectors (with_written at n piece hs) hs new_order new_below order below (outside_same s out) loose size
-            ∙ sym (is_loose-with_marks_outside seen at n room s out)
-        | inr k ↦
-            ap (is_loose (marked loose (with_written at n piece hs))) (sym k.2)
-            ∙ marked_some (at + k.0) 0 sectors loose (sector piece k.0) (with_written at n piece hs) new_order new_below size (held_written_inside at n piece hs order (omega (arith, whole)) k.0 k.1)
-            ∙ sym (is_loose-with_marks_inside seen at n room (at + k.0) (omega arith) (omega (arith, k.1)))
-            ∙ ap (is_loose (with_marks seen at n)) k.2
+      let lw = length-marked sectors loose (with_written at n piece hs) held_written.below size in
+      ext_get_or false _ _ (lw ∙ sym (length-with_marks seen at n room ∙ ls)) (λ s lt. marked_at s sectors loose _ held_written.below size ∙ elim (cases_range s) [
+        | inl out ↦ rw (outside_same s out) (sym (marked_at s sectors loose hs held.below size) ∙ sym (is_loose-with_marks_outside seen at n room s out))
+        | inr k ↦ rw (← k.2, inside_same k.0 k.1) (sym (is_loose-with_marks_inside seen at n room (at + k.0) (omega arith) (omega (arith, k.1))))
       ])

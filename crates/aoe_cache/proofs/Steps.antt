@@ -5,7 +5,7 @@ use Rattle.std.proofs.lemmas.List.{length-take-le}
 use Rattle.aoe_disk.specs.State.{sector}
 use Rattle.aoe_cache.specs.declared.place.HeldSector.{HeldSector}
 use Rattle.aoe_cache.specs.Held.{IsAscending, count_below, held_for, with_written}
-use Rattle.aoe_cache.proofs.Ascending.{StandsAt, ascending_written, count_absent, count_le, count_mono, count_range, held_written_above, held_written_below, held_written_inside, length-with_written, stands_at}
+use Rattle.aoe_cache.proofs.Ascending.{ascending_written, count_absent, count_held, count_le, count_mono, count_range, held_written_above, held_written_below, held_written_inside, length-with_written, stands_at}
 use Rattle.aoe_cache.proofs.Ordered.{ascending_same, written_other, written_same}
 
 module _ (at : ℕ) (piece : List ℕ) (hs : List HeldSector) where
@@ -20,36 +20,35 @@ module _ (at : ℕ) (piece : List ℕ) (hs : List HeldSector) where
     piece_sector : length (sector piece i) ≡ 512
     piece_sector = length-take-le 512 (drop (512 * i) piece) (omega (arith, whole, length-drop (512 * i) piece))
 
+    enough : 512 * i ≤ length piece
+    enough = omega (arith, whole)
+
     some_order : IsAscending 0 (with_written at i piece hs)
-    some_order = ascending_written at i piece hs (omega (arith, whole)) order
+    some_order = ascending_written at i piece hs enough order
 
     held_more : (s : ℕ) → held_for (with_written (at + i) 1 (sector piece i) (with_written at i piece hs)) s ≡ held_for (with_written at (i + 1) piece hs) s
     held_more s = elim (cases_eq (at + i) s) [
-      | inl same ↦
-          ap (held_for (with_written (at + i) 1 (sector piece i) (with_written at i piece hs))) (sym same) ∙ written_same (at + i) (sector piece i) (with_written at i piece hs) some_order piece_sector
-          ∙ sym (held_written_inside at (i + 1) piece hs order whole i (omega arith)) ∙ ap (held_for (with_written at (i + 1) piece hs)) same
-      | inr other ↦ written_other (at + i) (sector piece i) (with_written at i piece hs) some_order piece_sector s other ∙ elim (cases_lt s at) [
-        | inl below ↦ held_written_below at i piece hs order (omega (arith, whole)) s below ∙ sym (held_written_below at (i + 1) piece hs order whole s below)
+      | inl same ↦ rw (← same) (written_same (at + i) _ _ some_order piece_sector ∙ sym (held_written_inside at (i + 1) piece hs whole order i (omega arith)))
+      | inr other ↦ written_other (at + i) _ _ some_order piece_sector s other ∙ elim (cases_lt s at) [
+        | inl below ↦ held_written_below at i piece hs enough order s below ∙ sym (held_written_below at (i + 1) piece hs whole order s below)
         | inr from ↦ elim (cases_lt s (at + i)) [
           | inl inside ↦
-              let there : at + (s - at) ≡ s = omega (arith, from) in
-              ap (held_for (with_written at i piece hs)) (sym there) ∙ held_written_inside at i piece hs order (omega (arith, whole)) (s - at) (omega (arith, inside, from))
-              ∙ sym (held_written_inside at (i + 1) piece hs order whole (s - at) (omega (arith, inside, from))) ∙ ap (held_for (with_written at (i + 1) piece hs)) there
-          | inr above ↦ held_written_above at i piece hs order (omega (arith, whole)) s above ∙ sym (held_written_above at (i + 1) piece hs order whole s (omega (arith, above, other)))
+              let there : s ≡ at + (s - at) = omega (arith, from) in
+              let k : ℕ = s - at in
+              rw there (held_written_inside at i piece hs enough order k (omega (arith, inside, from)) ∙ sym (held_written_inside at (i + 1) piece hs whole order k (omega (arith, inside, from))))
+          | inr above ↦ held_written_above at i piece hs enough order s above ∙ sym (held_written_above at (i + 1) piece hs whole order s (omega (arith, above, other)))
         ]
       ]
     ]
 
     pub written_more : with_written (at + i) 1 (sector piece i) (with_written at i piece hs) ≡ with_written at (i + 1) piece hs
-    written_more =
-        ascending_same 0 (with_written (at + i) 1 (sector piece i) (with_written at i piece hs)) (with_written at (i + 1) piece hs)
-        (ascending_written (at + i) 1 (sector piece i) (with_written at i piece hs) (omega (arith, piece_sector)) some_order) (ascending_written at (i + 1) piece hs whole order) held_more
+    written_more = ascending_same 0 _ _ (ascending_written (at + i) 1 _ _ (omega (arith, piece_sector)) some_order) (ascending_written at (i + 1) piece hs whole order) held_more
 
   -- the same as the code cuts the piece
   pub written_next : (i : ℕ) (held : List HeldSector) → IsAscending 0 hs → 512 * (i + 1) ≤ length piece → held ≡ with_written at i piece hs → with_written (at + i) 1 (take (512 * i + 512 - 512 * i) (drop (512 * i) piece)) held ≡ with_written at (i + 1) piece hs
   written_next i held order whole is =
       let size : 512 * i + 512 - 512 * i ≡ 512 = omega arith in
-      ap (λ (m : ℕ). with_written (at + i) 1 (take m (drop (512 * i) piece)) held) size ∙ ap (with_written (at + i) 1 (sector piece i)) is ∙ written_more i order whole
+      rw (size, is) (written_more i order whole)
 
 -- how many are held after a write of i sectors: one more than before, where the next isn't held yet
 abbrev pub some_written : ℕ → ℕ → List HeldSector → ℕ
@@ -67,8 +66,7 @@ module _ (at : ℕ) (hs : List HeldSector) (order : IsAscending 0 hs) where
   pub some_present : (i : ℕ) (b : List ℕ) → held_for hs (at + i) ≡ Some b → some_written at (i + 1) hs ≡ some_written at i hs
   some_present i b some =
       let next : at + (i + 1) ≡ at + i + 1 = omega arith in
-      let there : StandsAt (at + i) b hs = stands_at 0 (at + i) b hs order some in
-      omega (arith, ap (λ (n : ℕ). count_below n hs) next, there.next, there.there)
+      omega (arith, ap (λ (n : ℕ). count_below n hs) next, count_held (at + i) b 0 hs order some, stands_at (at + i) b 0 hs order some)
 
   -- no more than before and those that are written
   pub some_few : (n : ℕ) → some_written at n hs ≤ length hs + n

@@ -9,12 +9,12 @@ fits-requires-clause-buffer g c = buffer_more (g.D.Disk.state c.args.self.now.di
 pub put-requires-clause-room : goal.put-requires-clause-room
 put-requires-clause-room g c =
     let fits : length (with_written c.args.at (length c.args.piece.now / 512) c.args.piece.now (held_of c.args.self.now.buffer)) ≤ c.args.self.now.room = (c.fits.ensures c.args.piece.now).0 c.if-not-fits.false in
-    put_room c.args.at c.args.piece.now (g.D.Disk.state c.args.self.now.disk).sectors c.args.self.now.buffer c.requires.range c.requires.behind.buffer c.args.self.now.room c.requires.behind.places fits
+    put_room c.args.piece.now c.requires.range c.requires.behind.buffer c.args.self.now.room c.requires.behind.places fits
 
 pub returns-clause-behind : goal.returns-clause-behind
 returns-clause-behind g c = record {
   disk = c.requires.behind.disk;
-  buffer = put_buffer c.args.at c.args.piece.now (g.D.Disk.state c.args.self.now.disk).sectors c.args.self.now.buffer c.requires.range c.requires.behind.buffer c.put.new.self c.put.ensures.indexed c.put.ensures.held;
+  buffer = put_buffer c.args.piece.now c.requires.range c.requires.behind.buffer c.put.new.self c.put.ensures.indexed c.put.ensures.held;
   places = c.put.ensures.places ∙ c.requires.behind.places;
   scratch = c.requires.behind.scratch;
 }

@@ -1,4 +1,4 @@
-use Rattle.std.proofs.Common.{◌≡◌, ◌/◌, ℕ, List, [], length, min, arith, sym, ap, subst, ◌∙◌}
+use Rattle.std.proofs.Common.{◌≡◌, ◌/◌, ℕ, List, [], length, min, arith, sym, ap, ◌∙◌}
 use Rattle.aoe_disk.specs.Calls.{IsRange}
 use Rattle.aoe_cache.specs.declared.place.HeldSector.{HeldSector}
 use Rattle.aoe_cache.specs.Held.{held_of, with_written}
@@ -16,10 +16,10 @@ put-requires-clause-room g c =
 
 pub returns-clause-behind : goal.returns-clause-behind
 returns-clause-behind g c =
-    let range : IsRange c.args.at (length c.args.piece.now) (g.D.Disk.state c.write_down.new.disk).sectors = subst (IsRange c.args.at (length c.args.piece.now)) (sym c.write_down.ensures.sectors) c.requires.range in
+    let range : IsRange c.args.at (length c.args.piece.now) (g.D.Disk.state c.write_down.new.disk).sectors = rw c.write_down.ensures.sectors c.requires.range in
     record {
       disk = c.write_down.ensures.disk;
-      buffer = put_buffer c.args.at c.args.piece.now (g.D.Disk.state c.write_down.new.disk).sectors c.write_down.new.buffer range c.write_down.ensures.buffer c.put.new.self c.put.ensures.indexed c.put.ensures.held;
+      buffer = put_buffer c.args.piece.now range c.write_down.ensures.buffer c.put.new.self c.put.ensures.indexed c.put.ensures.held;
       places = c.put.ensures.places ∙ c.write_down.ensures.places ∙ c.requires.behind.places ∙ ap (min c.args.self.now.room) (sym c.write_down.ensures.sectors);
       scratch = scratch_kept c.args.self.now.scratch c.write_down.new.scratch c.requires.behind.scratch (c.write_down.auto.scratch ∙ c.deref_mut.ensures.len);
     }
