@@ -1,5 +1,5 @@
 -- What a keep shows of what it knows.
-use Rattle.std.proofs.Common.{◌≡◌, ℕ, Bool, true, false, not, Option, Some, None, IfSome, is_some, refl, subst}
+use Rattle.std.proofs.Common.{◌≡◌, ℕ, Bool, true, false, not, Option, Some, None, IfSome, is_some, refl}
 use Rattle.std.proofs.lemmas.Option.{IfSome_then}
 use Rattle.aoe_lists.specs.Settings.{Settings}
 use Rattle.aoe_disk.specs.State.{Contents, DiskState, BothTell}
@@ -9,7 +9,7 @@ use Rattle.aoe_keep.specs.declared.place.Place.{Place}
 use Rattle.aoe_keep.proofs.Told.{both_map}
 
 pub offered_of : (before after : DiskState) (place : Option Place) (is_closed : Bool) (now old next : Settings) → now ≡ old → BothTell (IsInterrupted place is_closed now next) before.contents after.contents → FindsOffered before after old next
-offered_of before after place is_closed now old next e told = subst (λ l. FindsOffered before after l next) e (both_map _ _ before.contents after.contents (λ x y i. i.finds) told)
+offered_of before after place is_closed now old next e told = rw (← e) (both_map _ _ before.contents after.contents (λ x y i. i.finds) told)
 
 -- after a replacement the slot that was spare holds the lists
 pub kept_replaced : (place : Option Place) (slot turn : ℕ) (is_closed : Bool) (lists next : Settings) (c : Option Contents) → slot ≡ spare place → turn ≡ turn_after place → is_closed ≡ is_unplaced place → lists ≡ next → IfSome c (IsReplaced place next)
@@ -24,5 +24,4 @@ unplaced (Some p) true e = cc
 unplaced (Some p) false e = refl
 
 pub finds_replaced : (place : Option Place) (next : Settings) (c : Option Contents) → IfSome c (IsReplaced place next) → IfSome c (Finds (λ l. l ≡ next))
-finds_replaced place next None told = tt
-finds_replaced place next (Some c) told = told.finds
+finds_replaced place next c told = IfSome_then c told (λ x r. r.finds)

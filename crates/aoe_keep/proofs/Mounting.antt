@@ -1,5 +1,5 @@
 -- A disk with no loose sector, whose slots were read.
-use Rattle.std.proofs.Common.{◌≡◌, ◌≢◌, ◌⊎◌, ◌<◌, ◌+◌, ◌*◌, ◌==◌, ◌&&◌, cond, ℕ, zero, suc, Bool, true, false, Option, Some, None, IfSome, Result, Ok, Err, MatchResult, List, drop, refl, arith, sym, ◌∙◌, ap, subst, inl, inr, slice_index, nat_eq, nat_lt}
+use Rattle.std.proofs.Common.{◌≡◌, ◌≢◌, ◌⊎◌, ◌<◌, ◌+◌, ◌*◌, ◌==◌, ◌&&◌, cond, ℕ, Bool, true, false, Option, Some, None, IfSome, Result, Ok, Err, MatchResult, List, drop, refl, arith, ◌∙◌, ap, inl, inr, slice_index, nat_eq, nat_lt}
 use Rattle.std.proofs.lemmas.Option.{cond_some}
 use Rattle.std.specs.List.{starts_with}
 use Rattle.std.proofs.lemmas.Bool.{eqb-true, and_parts, ltb-true}
@@ -8,7 +8,7 @@ use Rattle.aoe_disk.specs.State.{Contents, CanLeave, BothTell, is_loose}
 use Rattle.aoe_disk.specs.Calls.{Settles}
 use Rattle.aoe_disk.specs.Sectors.{Calms}
 use Rattle.aoe_disk.proofs.Touching.{settles_calm, settles_kept}
-use Rattle.aoe_keep.specs.Body.{mark, decode, is_valid, sizes_fit, config_len, fields_of}
+use Rattle.aoe_keep.specs.Body.{mark, decode, is_valid, config_len}
 use Rattle.aoe_keep.specs.Found.{slot, body, is_open, next_turn, choice, found, Finds}
 use Rattle.aoe_keep.specs.Stages.{StaysClosed, StaysOpen, IsKept, placement}
 use Rattle.aoe_keep.specs.Keep.{ReadsSlots}
@@ -21,10 +21,9 @@ use Rattle.aoe_keep.proofs.Told.{both_map, told_last}
 turn_small : (bytes : List ℕ) (b : ℕ × Settings) → decode bytes ≡ Some b → b.0 < 3
 unfolding decode is_valid
 turn_small bytes b e =
-    let n = config_len bytes in
-    let w = cond_some (starts_with nat_eq bytes mark && is_valid (slice_index bytes 5) n (slice_index bytes 8) (slice_index bytes 9) (drop 10 bytes)) (slice_index bytes 5, fields_of n (slice_index bytes 8) (slice_index bytes 9) (drop 10 bytes)) b e in
-    let valid : is_valid (slice_index bytes 5) n (slice_index bytes 8) (slice_index bytes 9) (drop 10 bytes) ≡ true = (and_parts (starts_with nat_eq bytes mark) (is_valid (slice_index bytes 5) n (slice_index bytes 8) (slice_index bytes 9) (drop 10 bytes)) w.0).1 in
-    let less : slice_index bytes 5 < 3 = ltb-true (slice_index bytes 5) 3 (and_parts (nat_lt (slice_index bytes 5) 3) _ (and_parts (sizes_fit (slice_index bytes 5) n (slice_index bytes 8) (slice_index bytes 9)) _ valid).0).0 in
+    let w = cond_some (starts_with nat_eq bytes mark && is_valid (slice_index bytes 5) (config_len bytes) (slice_index bytes 8) (slice_index bytes 9) (drop 10 bytes)) _ b e in
+    let valid = (and_parts (starts_with nat_eq bytes mark) _ w.0).1 in
+    let less : slice_index bytes 5 < 3 = ltb-true _ 3 (and_parts (nat_lt (slice_index bytes 5) 3) _ (and_parts _ _ valid).0).0 in
     let same : slice_index bytes 5 ≡ b.0 = ap (λ (p : ℕ × Settings). p.0) w.1 in
     omega (arith, less, same)
 
@@ -37,10 +36,7 @@ abbrev later : Bool → ℕ × Settings → ℕ × Settings → Option Place × 
 later t a b = cond t (Some (record { slot = 0; turn = a.0 }), false) (Some (record { slot = 1; turn = b.0 }), false)
 
 turn_back : (a b : ℕ) → a < 3 → b < 3 → a ≡ next_turn b → b ≢ a
-turn_back a zero la lb e = λ f. cc
-turn_back a (suc zero) la lb e = λ f. cc
-turn_back a (suc (suc zero)) la lb e = λ f. cc
-turn_back a (suc (suc (suc b))) la lb e = absurd (omega (arith, lb))
+turn_back a b la lb e = λ f. omega (arith, la, lb, e, f)
 
 module _ (c : Contents) (kept : (s : ℕ) → is_loose c.loose s ≡ false) where
   open_from : (k : ℕ) (b : ℕ × Settings) → slot c.bytes k ≡ Some (Some b) → StaysOpen c k b
@@ -77,7 +73,7 @@ module _ (c : Contents) (kept : (s : ℕ) → is_loose c.loose s ≡ false) wher
       let l : a.1 ≡ lists = cc in
       let la = turn_of 0 a ha in let lb = turn_of 1 b hb in
       record {
-        steady = (omega arith, la, subst (λ x. StaysOpen c 0 (a.0, x)) l ha);
+        steady = (omega arith, la, rw l at ha);
         spare = (b, record { body = hb.body; turn = (lb, turn_back a.0 b.0 la lb (eqb-true a.0 (next_turn b.0) e)) }, inr hb.gate);
       }
   both_open a b lists ha hb false e is = elim (chosen {X = Result Settings ℕ} (b.0 == next_turn a.0) (Ok b.1) (Err 1) (Ok lists) is) [
@@ -85,7 +81,7 @@ module _ (c : Contents) (kept : (s : ℕ) → is_loose c.loose s ≡ false) wher
         let l : b.1 ≡ lists = cc in
         let la = turn_of 0 a ha in let lb = turn_of 1 b hb in
         record {
-          steady = (omega arith, lb, subst (λ x. StaysOpen c 1 (b.0, x)) l hb);
+          steady = (omega arith, lb, rw l at hb);
           spare = (a, record { body = ha.body; turn = (la, turn_back b.0 a.0 lb la (eqb-true b.0 (next_turn a.0) t.0)) }, inr ha.gate);
         }
     | inr t ↦ absurd cc
@@ -98,11 +94,11 @@ module _ (c : Contents) (kept : (s : ℕ) → is_loose c.loose s ≡ false) wher
   kept_from None (Some None) lists e f is = absurd cc
   kept_from None (Some (Some b)) lists e f is =
       let s0 = closed_from 0 e in let h = open_from 1 b f in let l : b.1 ≡ lists = cc in
-      record { steady = (omega arith, turn_of 1 b h, subst (λ x. StaysOpen c 1 (b.0, x)) l h); spare = (s0.gate, inl s0) }
+      record { steady = (omega arith, turn_of 1 b h, rw l at h); spare = (s0.gate, inl s0) }
   kept_from (Some None) p lists e f is = absurd cc
   kept_from (Some (Some a)) None lists e f is =
       let s1 = closed_from 1 f in let h = open_from 0 a e in let l : a.1 ≡ lists = cc in
-      record { steady = (omega arith, turn_of 0 a h, subst (λ x. StaysOpen c 0 (a.0, x)) l h); spare = (s1.gate, inl s1) }
+      record { steady = (omega arith, turn_of 0 a h, rw l at h); spare = (s1.gate, inl s1) }
   kept_from (Some (Some a)) (Some None) lists e f is = absurd cc
   kept_from (Some (Some a)) (Some (Some b)) lists e f is = both_open a b lists (open_from 0 a e) (open_from 1 b f) (a.0 == next_turn b.0) refl is
 
@@ -112,13 +108,9 @@ Chooses o p r = MatchResult r (λ f. (choice o p ≡ Ok f.lists) × (placement o
 
 read_told : (r : Result Present ℕ) (o p : Option (Option (ℕ × Settings))) (a b : Contents) → Settles a b → slot b.bytes 0 ≡ o → slot b.bytes 1 ≡ p → Chooses o p r → ReadsSlots r a b
 read_told (Ok f) o p a b settles e g h =
-    let there : found b.bytes ≡ Ok f.lists = (λ i. choice (e i) (g i)) ∙ h.0 in (
-      ap found (sym settles.bytes) ∙ there,
-      settles,
-      subst (λ (q : Option Place × Bool). IsKept q.0 q.1 f.lists b) h.1 (kept_from b (settles_kept a b settles) o p f.lists e g h.0),
-      ap (λ (l : List ℕ). placement (slot l 0) (slot l 1)) (sym settles.bytes) ∙ (λ i. placement (e i) (g i)) ∙ h.1,
-    )
-read_told (Err k) o p a b settles e g h = (ap found (sym settles.bytes) ∙ (λ i. choice (e i) (g i)) ∙ h, settles)
+    let kept = rw h.1 at (kept_from b (settles_kept a b settles) o p f.lists e g h.0) in
+    (rw (← settles.bytes, e, g) h.0, settles, kept, rw (← settles.bytes, e, g) h.1)
+read_told (Err k) o p a b settles e g h = (rw (← settles.bytes, e, g) h, settles)
 
 at_once : (r : Result Present ℕ) (o p : Option (Option (ℕ × Settings))) (a b : Option Contents) → BothTell Settles a b → IfSome b (λ x. slot x.bytes 0 ≡ o) → IfSome b (λ x. slot x.bytes 1 ≡ p) → Chooses o p r → BothTell (ReadsSlots r) a b
 at_once r o p None None settles e f h = tt
@@ -128,10 +120,10 @@ at_once r o p (Some x) (Some y) settles e f h = read_told r o p x y settles e f 
 
 pub slots_told : (r : Result Present ℕ) (o p : Option (Option (ℕ × Settings))) (a b c d : Option Contents) → BothTell Settles a b → c ≡ b → d ≡ c → IfSome b (λ x. slot x.bytes 0 ≡ o) → IfSome c (λ x. slot x.bytes 1 ≡ p) → Chooses o p r
     → BothTell (ReadsSlots r) a d
-slots_told r o p a b c d settles cb dc e f h = subst (BothTell (ReadsSlots r) a) (sym (dc ∙ cb)) (at_once r o p a b settles e (subst (λ (y : Option Contents). IfSome y (λ x. slot x.bytes 1 ≡ p)) cb f) h)
+slots_told r o p a b c d settles cb dc e f h = rw (dc, cb) (at_once r o p a b settles e (rw cb at f) h)
 
 pub calm_told : (a b c : Option Contents) → BothTell Settles a b → c ≡ b → BothTell Calms a c
-calm_told a b c settles e = subst (BothTell Calms a) (sym e) (both_map Settles Calms a b (λ x y s. settles_calm x y s) settles)
+calm_told a b c settles e = rw e (both_map Settles Calms a b (λ x y s. settles_calm x y s) settles)
 
 -- after a mounting every crash finds the lists that stand
 pub always_found : (lists : Settings) (a b : Option Contents) → BothTell (λ x y. (found x.bytes ≡ Ok lists) × Settles x y) a b → IfSome b (Finds (λ l. l ≡ lists))

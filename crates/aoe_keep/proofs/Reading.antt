@@ -19,7 +19,7 @@ joined_pieces : (m : ℕ) (xs : List ℕ) → flat_map (λ a. a.0) (addresses (f
 joined_pieces zero xs = refl
 joined_pieces (suc m) xs =
     let size : 6 * suc m ≡ 6 + 6 * m = omega arith in
-    ap (λ (l : List ℕ). take 6 xs ++ l) (joined_pieces m (drop 6 xs)) ∙ sym (take-add 6 (6 * m) xs) ∙ ap (λ (n : ℕ). take n xs) (sym size)
+    rw (size, take-add 6 (6 * m) xs) (λ i. take 6 xs ++ joined_pieces m (drop 6 xs) i)
 
 length-pieces : (m : ℕ) (xs : List ℕ) → length (addresses (first_chunks 6 m xs)) ≡ m
 length-pieces zero xs = refl
@@ -33,10 +33,7 @@ only_zeros (x ∷ xs) e =
 
 -- the bytes after the numbers are the three fields and what follows them
 whole : (n m r : ℕ) (rest : List ℕ) → rest ≡ take n rest ++ take (6 * m) (drop n rest) ++ take (6 * r) (drop (n + 6 * m) rest) ++ drop (n + 6 * m + 6 * r) rest
-whole n m r rest =
-    let two : take (n + 6 * m) rest ≡ take n rest ++ take (6 * m) (drop n rest) = take-add n (6 * m) rest in
-    let three : take (n + 6 * m + 6 * r) rest ≡ take n rest ++ take (6 * m) (drop n rest) ++ take (6 * r) (drop (n + 6 * m) rest) = take-add (n + 6 * m) (6 * r) rest ∙ ap (λ (l : List ℕ). l ++ take (6 * r) (drop (n + 6 * m) rest)) two in
-    sym (take-append-drop (n + 6 * m + 6 * r) rest) ∙ ap (λ (l : List ℕ). l ++ drop (n + 6 * m + 6 * r) rest) three
+whole n m r rest = rw (← take-add n (6 * m) rest, ← take-add (n + 6 * m) (6 * r) rest) (sym (take-append-drop _ rest))
 
 -- why the fields after the numbers aren't valid, and that they are
 
@@ -47,17 +44,17 @@ module _ (turn n m r : ℕ) (rest : List ℕ) where
 
   pub no_masks : (bytes : List ℕ) → bytes ≡ drop n rest → all_unique (addresses (first_chunks 6 m bytes)) ≡ false → is_valid turn n m r rest ≡ false
   unfolding is_valid fields_of
-  no_masks bytes is e = and_right _ _ (and_left _ _ (ap (λ (l : List ℕ). all_unique (addresses (first_chunks 6 m l))) (sym is) ∙ e))
+  no_masks bytes is e = and_right _ _ (and_left _ _ (rw is at e))
 
   pub no_reserves : (bytes : List ℕ) → bytes ≡ drop (n + 6 * m) rest → all_unique (addresses (first_chunks 6 r bytes)) ≡ false → is_valid turn n m r rest ≡ false
   unfolding is_valid fields_of
-  no_reserves bytes is e = and_right _ _ (and_right _ _ (and_left _ _ (ap (λ (l : List ℕ). all_unique (addresses (first_chunks 6 r l))) (sym is) ∙ e)))
+  no_reserves bytes is e = and_right _ _ (and_right _ _ (and_left _ _ (rw is at e)))
 
   pub no_zeros : (bytes : List ℕ) → bytes ≡ drop (n + 6 * m + 6 * r) rest → list_all (λ b. b == 0) bytes ≡ false → is_valid turn n m r rest ≡ false
   unfolding is_valid
   no_zeros bytes is e =
       let f = fields_of n m r rest in
-      and_right (sizes_fit turn n m r) _ (and_right (all_unique f.masks) _ (and_right (all_unique f.reserves) _ (ap (list_all (λ b. b == 0)) (sym is) ∙ e)))
+      and_right (sizes_fit turn n m r) _ (and_right (all_unique f.masks) _ (and_right (all_unique f.reserves) _ (rw is at e)))
 
   pub all_fields : (s : Settings) → s.config ≡ take n rest → s.masks ≡ addresses (first_chunks 6 m (drop n rest)) → s.reserves ≡ addresses (first_chunks 6 r (drop (n + 6 * m) rest)) → s ≡ fields_of n m r rest
   unfolding fields_of
@@ -65,12 +62,13 @@ module _ (turn n m r : ℕ) (rest : List ℕ) where
 
   pub all_valid : (s : Settings) (bytes : List ℕ) → s ≡ fields_of n m r rest → bytes ≡ drop (n + 6 * m + 6 * r) rest → sizes_fit turn n m r ≡ true → all_unique s.masks ≡ true → all_unique s.reserves ≡ true → list_all (λ b. b == 0) bytes ≡ true → is_valid turn n m r rest ≡ true
   unfolding is_valid
-  all_valid s bytes is end sizes ms rs zeros = and_from _ _ sizes (ap (λ (x : Settings). is_sound x (drop (n + 6 * m + 6 * r) rest)) (sym is) ∙ and_from _ _ ms (and_from _ _ rs (ap (list_all (λ b. b == 0)) (sym end) ∙ zeros)))
+  all_valid s bytes is end sizes ms rs zeros = and_from _ _ sizes (rw (← is) (and_from _ _ ms (and_from _ _ rs (rw end at zeros))))
 
 -- the length of the config string as it is read
 pub config_read : (body : List ℕ) → length body ≡ 3584 → from_be_bytes w16 (get_or body 6 0 ∷ get_or body 7 0 ∷ []) ≡ config_len body
 config_read body size =
-    let two : drop 6 body ≡ get_or body 6 0 ∷ get_or body 7 0 ∷ drop 8 body = drop_more body 6 0 (omega (arith, size)) ∙ ap (λ (l : List ℕ). get_or body 6 0 ∷ l) (drop_more body 7 0 (omega (arith, size))) in
+    let one = drop_more body 6 0 (omega (arith, size)) in
+    let two : drop 6 body ≡ get_or body 6 0 ∷ get_or body 7 0 ∷ drop 8 body = one ∙ (λ i. get_or body 6 0 ∷ drop_more body 7 0 (omega (arith, size)) i) in
     ap (from_be_bytes w16) (ap (take 2) (sym two))
 
 pub decode_no_mark : (body : List ℕ) → starts_with nat_eq body mark ≡ false → None ≡ decode body
@@ -97,8 +95,8 @@ fields_whole : (n m r : ℕ) (rest : List ℕ) → n + 6 * m + 6 * r ≤ length 
     → rest ≡ (fields_of n m r rest).config ++ flat_map (λ a. a.0) (fields_of n m r rest).masks ++ flat_map (λ a. a.0) (fields_of n m r rest).reserves ++ replicate (length rest - (n + 6 * m + 6 * r)) 0
 unfolding fields_of
 fields_whole n m r rest fits zeros =
-    let tail : drop (n + 6 * m + 6 * r) rest ≡ replicate (length rest - (n + 6 * m + 6 * r)) 0 = only_zeros _ zeros ∙ ap (λ (k : ℕ). replicate k 0) (length-drop (n + 6 * m + 6 * r) rest) in
-    whole n m r rest ∙ (λ i. take n rest ++ sym (joined_pieces m (drop n rest)) i ++ sym (joined_pieces r (drop (n + 6 * m) rest)) i ++ tail i)
+    let tail = rw (length-drop (n + 6 * m + 6 * r) rest) at (only_zeros (drop (n + 6 * m + 6 * r) rest) zeros) in
+    whole n m r rest ∙ rw (joined_pieces m (drop n rest), joined_pieces r (drop (n + 6 * m) rest), tail) refl
 
 length-config : (n m r : ℕ) (rest : List ℕ) → n ≤ length rest → length (fields_of n m r rest).config ≡ n
 unfolding fields_of
@@ -128,8 +126,7 @@ two_bytes high low lh ll (suc (suc i)) = omega arith
 numbers : (body : List ℕ) → length body ≡ 3584 → drop 5 body ≡ get_or body 5 0 ∷ get_or body 6 0 ∷ get_or body 7 0 ∷ get_or body 8 0 ∷ get_or body 9 0 ∷ drop 10 body
 numbers body size =
     let at : (k : ℕ) → k < 10 → drop k body ≡ get_or body k 0 ∷ drop (k + 1) body = λ k l. drop_more body k 0 (omega (arith, size, l)) in
-    at 5 (omega arith) ∙ ap (λ (l : List ℕ). get_or body 5 0 ∷ l) (at 6 (omega arith) ∙ ap (λ (l : List ℕ). get_or body 6 0 ∷ l) (at 7 (omega arith)
-    ∙ ap (λ (l : List ℕ). get_or body 7 0 ∷ l) (at 8 (omega arith) ∙ ap (λ (l : List ℕ). get_or body 8 0 ∷ l) (at 9 (omega arith)))))
+    rw (at 5 (omega arith), at 6 (omega arith), at 7 (omega arith), at 8 (omega arith), at 9 (omega arith)) refl
 
 spelling_of : (body : List ℕ) (n m r : ℕ) → length body ≡ 3584 → All (λ b. b < 256) body → n ≡ config_len body → m ≡ get_or body 8 0 → r ≡ get_or body 9 0 → starts_with nat_eq body mark ≡ true → is_valid (get_or body 5 0) n m r (drop 10 body) ≡ true
     → body ≡ spelling (get_or body 5 0) (fields_of n m r (drop 10 body))

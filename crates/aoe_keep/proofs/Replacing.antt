@@ -1,5 +1,5 @@
 -- The six device calls of a replacement, over contents that are told.
-use Rattle.std.proofs.Common.{◌≡◌, ◌≢◌, ◌⊎◌, ◌≤◌, ◌<◌, ◌+◌, ◌-◌, ◌*◌, ℕ, zero, suc, true, false, Option, Some, None, Result, Ok, List, refl, arith, sym, ◌∙◌, ap, subst, inl, inr}
+use Rattle.std.proofs.Common.{◌≡◌, ◌≢◌, ◌⊎◌, ◌≤◌, ◌<◌, ◌+◌, ◌-◌, ◌*◌, ℕ, true, false, Option, Some, None, Result, Ok, List, refl, arith, sym, ◌∙◌, ap, subst, inl, inr}
 use Rattle.std.proofs.lemmas.Bool.{eq-eqb}
 use Rattle.aoe_lists.specs.Settings.{Settings}
 use Rattle.aoe_disk.specs.State.{Contents, HasShape, is_loose}
@@ -17,10 +17,7 @@ none_loose : (old new : Contents) → Settles old new → (lo n : ℕ) → NoneL
 none_loose old new settles lo n = λ s l h. settles_kept old new settles s
 
 turn_small : (t : ℕ) → t < 3 → (next_turn t < 3) × (next_turn t ≢ t) × (t ≢ next_turn t)
-turn_small zero l = (omega arith, λ e. cc, λ e. cc)
-turn_small (suc zero) l = (omega arith, λ e. cc, λ e. cc)
-turn_small (suc (suc zero)) l = (omega arith, λ e. cc, λ e. cc)
-turn_small (suc (suc (suc t))) l = absurd (omega (arith, l))
+turn_small t l = (omega arith, λ e. omega (arith, e), λ e. omega (arith, e))
 
 other_turn : (place : Option Place) (lists : Settings) (c : Contents) → IsSteady place lists c → IsOtherTurn place (turn_after place)
 other_turn None lists c steady = tt
@@ -36,9 +33,9 @@ outcome_next (Some p) lists next = rw (eq-eqb (next_turn p.turn) (next_turn p.tu
 
 -- the slot that is spare from now on holds the lists before, behind an open gate
 spare_some : (k t : ℕ) (lists : Settings) (c : Contents) → k < 2 → t < 3 → StaysOpen c k (t, lists) → IsSpare (Some (record { slot = 1 - k; turn = next_turn t })) false c
-spare_some zero t lists c lk lt holds = let turns = turn_small t lt in ((t, lists), record { body = holds.body; turn = (lt, turns.2) }, inr holds.gate)
-spare_some (suc zero) t lists c lk lt holds = let turns = turn_small t lt in ((t, lists), record { body = holds.body; turn = (lt, turns.2) }, inr holds.gate)
-spare_some (suc (suc k)) t lists c lk lt holds = absurd (omega (arith, lk))
+spare_some k t lists c lk lt holds =
+    let back : k ≡ 1 - (1 - k) = omega (arith, lk) in
+    ((t, lists), record { body = rw back at holds.body; turn = (lt, (turn_small t lt).2) }, inr (rw back at holds.gate))
 
 spare_after : (place : Option Place) (lists : Settings) (c : Contents) → IsSteady place lists c → IsSpare (next_place place) (is_unplaced place) c
 spare_after None lists c steady = (steady.1.gate, inl steady.1)

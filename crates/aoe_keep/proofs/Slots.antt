@@ -1,6 +1,6 @@
 -- What a crash leaves of the two slots.
-use Rattle.std.proofs.Common.{◌≡◌, ◌≢◌, ◌⊎◌, ◌≤◌, ◌<◌, ◌+◌, ◌-◌, ◌*◌, ◌==◌, cond, ℕ, zero, suc, true, false, Option, Some, None, Result, Ok, List, length, take, drop, get_or, set, refl, arith, sym, ◌∙◌, ap, inl, inr}
-use Rattle.std.proofs.lemmas.Bool.{cases_eq, cases_lt, eq-eqb, ne_eqb, cases_Bool, both_ways, cond-true, cond-false}
+use Rattle.std.proofs.Common.{◌≡◌, ◌≢◌, ◌⊎◌, ◌≤◌, ◌<◌, ◌+◌, ◌-◌, ◌*◌, ◌==◌, cond, ℕ, zero, suc, Bool, true, false, Option, Some, None, Result, Ok, List, length, drop, set, refl, arith, sym, ◌∙◌, ap, inl, inr}
+use Rattle.std.proofs.lemmas.Bool.{cases_eq, cases_lt, eq-eqb, ne_eqb, cases_Bool, both_ways}
 use Rattle.std.proofs.lemmas.List.{length-set, drop-set-lt, get_or-set_same, get_or-take, get_or-drop, take-set-le}
 use Rattle.aoe_lists.specs.Settings.{Settings}
 use Rattle.aoe_disk.specs.State.{Contents, CanLeave, HasShape, sector, is_loose}
@@ -15,7 +15,7 @@ abbrev pub Agree : List ℕ → List ℕ → ℕ → ℕ → Type 0
 Agree x y lo n = (s : ℕ) → lo ≤ s → s < lo + n → sector x s ≡ sector y s
 
 pub gate_same : (x y : List ℕ) (k : ℕ) → Agree x y (8 * k) 1 → is_open x k ≡ is_open y k
-gate_same x y k same = ap (λ (s : List ℕ). get_or s 0 0 == 167) (same (8 * k) (omega arith) (omega arith))
+gate_same x y k same = rw (same (8 * k) (omega arith) (omega arith)) refl
 
 pub body_same : (x y : List ℕ) (k : ℕ) → Agree x y (8 * k + 1) 7 → body x k ≡ body y k
 body_same x y k same = range_same 7 (8 * k + 1) x y same
@@ -24,40 +24,37 @@ pub left_same : (c : Contents) (image : List ℕ) (lo n : ℕ) → CanLeave c im
 left_same c image lo n left kept = λ s l h. left.kept s (kept s l h)
 
 pub closed_slot : (image : List ℕ) (k : ℕ) → is_open image k ≡ false → slot image k ≡ None
-closed_slot image k e = cond-false (is_open image k) (Some (decode (body image k))) None e
+closed_slot image k e = rw e refl
 
 pub open_slot : (image : List ℕ) (k : ℕ) (o : Option (ℕ × Settings)) → is_open image k ≡ true → decode (body image k) ≡ o → slot image k ≡ Some o
-open_slot image k o e r = cond-true (is_open image k) (Some (decode (body image k))) None e ∙ ap (λ (x : Option (ℕ × Settings)). Some x) r
+open_slot image k o e r = rw (e, r) refl
 
-pub closed_after : (c : Contents) (k : ℕ) (image : List ℕ) → StaysClosed c k → CanLeave c image → slot image k ≡ None
-closed_after c k image closed left = closed_slot image k (gate_same image c.bytes k (left_same c image (8 * k) 1 left closed.kept) ∙ closed.gate)
+module _ (c : Contents) (k : ℕ) where
+  gate_left : (image : List ℕ) (t : Bool) → NoneLoose c (8 * k) 1 → is_open c.bytes k ≡ t → CanLeave c image → is_open image k ≡ t
+  gate_left image t kept gate left = gate_same image c.bytes k (left_same c image (8 * k) 1 left kept) ∙ gate
 
-body_read : (c : Contents) (k : ℕ) (b : ℕ × Settings) (image : List ℕ) → StaysBody c k b → CanLeave c image → decode (body image k) ≡ Some b
-body_read c k b image has left = ap decode (body_same image c.bytes k (left_same c image (8 * k + 1) 7 left has.kept)) ∙ has.spells
+  pub closed_after : (image : List ℕ) → StaysClosed c k → CanLeave c image → slot image k ≡ None
+  closed_after image closed left = closed_slot image k (gate_left image false closed.kept closed.gate left)
 
-pub open_after : (c : Contents) (k : ℕ) (b : ℕ × Settings) (image : List ℕ) → StaysOpen c k b → CanLeave c image → slot image k ≡ Some (Some b)
-open_after c k b image holds left =
-    open_slot image k (Some b) (gate_same image c.bytes k (left_same c image (8 * k) 1 left holds.kept) ∙ holds.gate) (body_read c k b image holds.body left)
+  module _ (b : ℕ × Settings) (image : List ℕ) where
+    body_read : StaysBody c k b → CanLeave c image → decode (body image k) ≡ Some b
+    body_read has left = ap decode (body_same image c.bytes k (left_same c image (8 * k + 1) 7 left has.kept)) ∙ has.spells
 
-pub body_after : (c : Contents) (k : ℕ) (b : ℕ × Settings) (image : List ℕ) → StaysBody c k b → CanLeave c image → (slot image k ≡ None) ⊎ (slot image k ≡ Some (Some b))
-body_after c k b image has left = elim (cases_Bool (is_open image k)) [
-  | inl opened ↦ inr (open_slot image k (Some b) opened (body_read c k b image has left))
-  | inr closed ↦ inl (closed_slot image k closed)
-]
+    pub open_after : StaysOpen c k b → CanLeave c image → slot image k ≡ Some (Some b)
+    open_after holds left = open_slot image k (Some b) (gate_left image true holds.kept holds.gate left) (body_read holds.body left)
+
+    pub body_after : StaysBody c k b → CanLeave c image → (slot image k ≡ None) ⊎ (slot image k ≡ Some (Some b))
+    body_after has left = elim (cases_Bool (is_open image k)) [
+      | inl opened ↦ inr (open_slot image k (Some b) opened (body_read has left))
+      | inr closed ↦ inl (closed_slot image k closed)
+    ]
 
 -- of two turns that differ one follows the other, and not the other way round
 rivals : (a b : ℕ) → a < 3 → b < 3 → a ≢ b → ((a ≡ next_turn b) × (b ≢ next_turn a)) ⊎ ((b ≡ next_turn a) × (a ≢ next_turn b))
-rivals zero zero la lb ne = absurd (ne refl)
-rivals zero (suc zero) la lb ne = inr (refl, λ e. cc)
-rivals zero (suc (suc zero)) la lb ne = inl (refl, λ e. cc)
-rivals (suc zero) zero la lb ne = inl (refl, λ e. cc)
-rivals (suc zero) (suc zero) la lb ne = absurd (ne refl)
-rivals (suc zero) (suc (suc zero)) la lb ne = inr (refl, λ e. cc)
-rivals (suc (suc zero)) zero la lb ne = inr (refl, λ e. cc)
-rivals (suc (suc zero)) (suc zero) la lb ne = inl (refl, λ e. cc)
-rivals (suc (suc zero)) (suc (suc zero)) la lb ne = absurd (ne refl)
-rivals (suc (suc (suc a))) b la lb ne = absurd (omega (arith, la))
-rivals a (suc (suc (suc b))) la lb ne = absurd (omega (arith, lb))
+rivals a b la lb ne = elim (cases_eq a (next_turn b)) [
+  | inl is ↦ inl (is, λ e. omega (arith, is, e))
+  | inr other ↦ inr (omega (arith, other), other)
+]
 
 -- the lists that are found, by what the spare slot holds
 abbrev pub outcome : Option Place → Settings → Option (ℕ × Settings) → Settings
@@ -112,21 +109,20 @@ pub reopened : (c : Contents) (k sectors : ℕ) (b : ℕ × Settings) → HasSha
     → (image : List ℕ) × CanLeave c image × (slot image k ≡ Some (Some b))
 reopened c k sectors b shape room lk has (inr opened) = (c.bytes, record { size = refl; kept = λ s e. refl }, open_slot c.bytes k (Some b) opened has.spells)
 reopened c k sectors b shape room lk has (inl loose) =
-    let image : List ℕ = set c.bytes (512 * (8 * k)) 167 in
-    let more : 512 * (8 * k) + 0 ≡ 512 * (8 * k) = omega arith in
-    let inside : 512 * (8 * k) < length c.bytes = omega (arith, shape.bytes) in
-    let left : CanLeave c (set c.bytes (512 * (8 * k)) 167) = record {
-      size = length-set c.bytes (512 * (8 * k)) 167;
+    let start : ℕ = 512 * (8 * k) in
+    let image : List ℕ = set c.bytes start 167 in
+    let more : start + 0 ≡ start = omega arith in
+    let inside : start < length c.bytes = omega (arith, shape.bytes) in
+    let left : CanLeave c image = record {
+      size = length-set c.bytes start 167;
       kept = λ s e. elim (cases_lt s (8 * k)) [
-        | inl below ↦ sector_front (set c.bytes (512 * (8 * k)) 167) c.bytes s (512 * (8 * k)) (omega arith) (take-set-le (512 * (8 * k)) c.bytes (512 * (8 * k)) 167 (omega arith))
+        | inl below ↦ sector_front image c.bytes s start (omega arith) (take-set-le start c.bytes start 167 (omega arith))
         | inr above ↦ elim (cases_eq s (8 * k)) [
-          | inl same ↦ absurd (both_ways (is_loose c.loose s) e (ap (is_loose c.loose) same ∙ loose))
-          | inr other ↦ sector_back (set c.bytes (512 * (8 * k)) 167) c.bytes s (512 * (8 * k) + 1) (omega arith) (drop-set-lt (512 * (8 * k) + 1) c.bytes (512 * (8 * k)) 167 (omega arith))
+          | inl same ↦ absurd (both_ways (is_loose c.loose s) e (rw same loose))
+          | inr other ↦ sector_back image c.bytes s (start + 1) (omega arith) (drop-set-lt (start + 1) c.bytes start 167 (omega arith))
         ]
       ];
     } in
-    let gate : is_open (set c.bytes (512 * (8 * k)) 167) k ≡ true =
-    eq-eqb _ 167 (get_or-take 512 (drop (512 * (8 * k)) image) 0 0 (omega arith) ∙ get_or-drop (512 * (8 * k)) image 0 0 ∙ ap (λ (i : ℕ). get_or image i 0) more ∙ get_or-set_same c.bytes (512 * (8 * k)) 167 0 inside) in
-    let spells : decode (body (set c.bytes (512 * (8 * k)) 167) k) ≡ Some b =
-    ap (λ (l : List ℕ). decode (take 3584 l)) (drop-set-lt (512 * (8 * k + 1)) c.bytes (512 * (8 * k)) 167 (omega arith)) ∙ has.spells in
-    (set c.bytes (512 * (8 * k)) 167, left, open_slot (set c.bytes (512 * (8 * k)) 167) k (Some b) gate spells)
+    let first = get_or-take 512 (drop start image) 0 0 (omega arith) ∙ get_or-drop start image 0 0 ∙ rw more (get_or-set_same c.bytes start 167 0 inside) in
+    let spells : decode (body image k) ≡ Some b = rw (drop-set-lt (512 * (8 * k + 1)) c.bytes start 167 (omega arith)) has.spells in
+    (image, left, open_slot image k (Some b) (eq-eqb _ 167 first) spells)

@@ -5,7 +5,7 @@ use Rattle.aoe_lists.specs.Settings.{Settings}
 use Rattle.aoe_disk.specs.State.{Contents, CanLeave, HasShape, sector, is_loose}
 use Rattle.aoe_disk.specs.Sectors.{Touches, IsOutside, Calms}
 use Rattle.aoe_keep.specs.Body.{decode}
-use Rattle.aoe_keep.specs.Found.{body, is_open, CanFind, Finds}
+use Rattle.aoe_keep.specs.Found.{is_open, CanFind, Finds}
 use Rattle.aoe_keep.specs.Stages.{NoneLoose, StaysClosed, StaysBody, spare, IsSteady, IsChoosable, IsKept}
 use Rattle.aoe_keep.specs.declared.place.Place.{Place}
 use Rattle.aoe_keep.proofs.Slots.{Agree, gate_same, body_same, closed_after, body_after, outcome, found_by, spare_small, reopened}
@@ -51,13 +51,13 @@ steady_touch (Some p) lists lo n old new within touch steady =
 -- a sync, failed or not
 module _ (old new : Contents) (calm : Calms old new) where
   pub gate_calm : (k : ℕ) (t : Bool) → is_open old.bytes k ≡ t → is_open new.bytes k ≡ t
-  gate_calm k t e = ap (λ (l : List ℕ). is_open l k) calm.bytes ∙ e
+  gate_calm k t e = rw calm.bytes e
 
   pub closed_calm : (k : ℕ) → StaysClosed old k → StaysClosed new k
   closed_calm k closed = record { gate = gate_calm k false closed.gate; kept = λ s l h. calm.kept s (closed.kept s l h) }
 
   pub body_calm : (k : ℕ) (b : ℕ × Settings) → StaysBody old k b → StaysBody new k b
-  body_calm k b has = record { spells = ap (λ (l : List ℕ). decode (body l k)) calm.bytes ∙ has.spells; kept = λ s l h. calm.kept s (has.kept s l h) }
+  body_calm k b has = record { spells = rw calm.bytes has.spells; kept = λ s l h. calm.kept s (has.kept s l h) }
 
   pub left_calm : (image : List ℕ) → CanLeave new image → CanLeave old image
   left_calm image left = record { size = left.size ∙ ap length calm.bytes; kept = λ s e. left.kept s (calm.kept s e) ∙ ap (λ (l : List ℕ). sector l s) calm.bytes }

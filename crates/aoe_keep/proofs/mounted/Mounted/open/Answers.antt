@@ -1,10 +1,9 @@
-use Rattle.std.proofs.Common.{arith, ℕ, ◌*◌, true, is_err, [], ◌∷◌, subst}
-use Rattle.aoe_disk.specs.Calls.{Logs}
-use Rattle.aoe_disk.specs.State.{Write, Sync}
-use Rattle.aoe_keep.specs.Calls.{gate, write_gate}
+use Rattle.std.proofs.Common.{arith, true, is_err}
+use Rattle.aoe_disk.specs.State.{Sync}
+use Rattle.aoe_keep.specs.Calls.{write_gate}
 use Rattle.aoe_keep.proofs.Making.{makes_first, makes_two}
 use Rattle.std.proofs.lemmas.Result.{on_ok_weaker}
-use Rattle.aoe_keep.proofs.Calls.{open_err, opened_err, opened_ok, err_now, err_at}
+use Rattle.aoe_keep.proofs.Calls.{open_err, opened_err, opened_ok, err_now}
 use Rattle.aoe_keep.proofs.Runs.{run_ends}
 use Rattle.aoe_keep.proofs.Others.{sync_others, others_then}
 use Rattle.aoe_keep.proofs.mounted.Mounted.open.Goals as goal
@@ -12,7 +11,7 @@ use Rattle.aoe_keep.proofs.mounted.Mounted.open.Goals as goal
 pub returns-in_err-write_gate-clause-err : goal.returns-in_err-write_gate-clause-err
 returns-in_err-write_gate-clause-err g c = err_now c.from_residual.result (record {
   room = omega (arith, c.requires.room, c.write_gate.ensures.call.sectors);
-  disk = err_at c.write_gate.result _ c.in_err-write_gate.was (open_err c.args.self.now.place c.args.self.now.lists c.args.next.now _ c.spare_slot.result c.write_gate.result _ _ c.spare_slot.ensures.slot c.requires.disk c.write_gate.ensures.gate);
+  disk = rw c.in_err-write_gate.was at (open_err c.args.self.now.place c.args.self.now.lists c.args.next.now _ c.spare_slot.result c.write_gate.result _ _ c.spare_slot.ensures.slot c.requires.disk c.write_gate.ensures.gate);
 })
 
 pub returns-clause-err : goal.returns-clause-err
@@ -34,10 +33,10 @@ returns-clause-others g c = others_then _ _ _ c.write_gate.ensures.others (sync_
 
 pub returns-in_err-write_gate-clause-calls : goal.returns-in_err-write_gate-clause-calls
 returns-in_err-write_gate-clause-calls g c =
-    makes_first (write_gate c.args.self.now.place true) Sync (is_err c.from_residual.result) (g.D.Disk.state c.args.self.now.disk) (g.D.Disk.state c.write_gate.new.disk) c.from_residual.ensures.0
-    (subst (λ (k : ℕ). Logs (Write (8 * k) (gate true) ∷ []) (g.D.Disk.state c.args.self.now.disk) (g.D.Disk.state c.write_gate.new.disk)) c.spare_slot.ensures.slot c.write_gate.ensures.log)
+    let log = rw c.spare_slot.ensures.slot at c.write_gate.ensures.log in
+    makes_first (write_gate c.args.self.now.place true) Sync _ (g.D.Disk.state c.args.self.now.disk) (g.D.Disk.state c.write_gate.new.disk) c.from_residual.ensures.0 log
 
 pub returns-clause-calls : goal.returns-clause-calls
 returns-clause-calls g c =
-    makes_two (write_gate c.args.self.now.place true) Sync (is_err c.sync.result) (g.D.Disk.state c.args.self.now.disk) (g.D.Disk.state c.write_gate.new.disk) (g.D.Disk.state c.sync.new.self)
-    (subst (λ (k : ℕ). Logs (Write (8 * k) (gate true) ∷ []) (g.D.Disk.state c.args.self.now.disk) (g.D.Disk.state c.write_gate.new.disk)) c.spare_slot.ensures.slot c.write_gate.ensures.log) c.sync.ensures.log
+    let log = rw c.spare_slot.ensures.slot at c.write_gate.ensures.log in
+    makes_two (write_gate c.args.self.now.place true) Sync (is_err c.sync.result) (g.D.Disk.state c.args.self.now.disk) (g.D.Disk.state c.write_gate.new.disk) (g.D.Disk.state c.sync.new.self) log c.sync.ensures.log

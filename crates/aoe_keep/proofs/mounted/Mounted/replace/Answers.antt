@@ -1,6 +1,6 @@
-use Rattle.std.proofs.Common.{◌∙◌, true, false, is_err, ap}
+use Rattle.std.proofs.Common.{◌∙◌, ap}
 use Rattle.aoe_keep.specs.Stages.{spare, turn_after, is_unplaced}
-use Rattle.aoe_keep.proofs.Making.{makes_as, clears_as, fails_to_clear, fails_to_stage, fails_to_open, replaces}
+use Rattle.aoe_keep.proofs.Making.{fails_to_clear, fails_to_stage, fails_to_open, replaces}
 use Rattle.aoe_keep.proofs.Told.{told_link}
 use Rattle.aoe_keep.proofs.Keeping.{kept_replaced, finds_replaced, unplaced}
 use Rattle.aoe_keep.proofs.Calls.{stage_interrupted, err_now}
@@ -44,30 +44,28 @@ returns-clause-others g c = others_then _ _ _ (others_then _ _ _ c.clear.ensures
 
 pub returns-in_err-clear-clause-calls : goal.returns-in_err-clear-clause-calls
 returns-in_err-clear-clause-calls g c =
-    fails_to_clear g.D.Disk.state c.args.next.now (is_err c.from_residual.result) c.args.self.now c.clear.new.self c.from_residual.ensures.0
-    (clears_as g.D.Disk.state (is_err c.clear.result) true c.args.self.now c.clear.new.self (ap is_err c.in_err-clear.was) c.clear.ensures.calls) c.clear.ensures.place
+    let clear = rw c.in_err-clear.was at c.clear.ensures.calls in
+    fails_to_clear g.D.Disk.state c.args.next.now c.from_residual.ensures.0 clear c.clear.ensures.place
 
 pub returns-in_err-stage-clause-calls : goal.returns-in_err-stage-clause-calls
 returns-in_err-stage-clause-calls g c =
-    fails_to_stage g.D.Disk.state c.args.next.now c.args.self.now c.clear.new.self
-    (clears_as g.D.Disk.state (is_err c.clear.result) false c.args.self.now c.clear.new.self (ap is_err c.in_ok-clear.was) c.clear.ensures.calls) c.clear.ensures.place
-    (is_err c.from_residual-in_err-stage.result) c.stage.new.self c.from_residual-in_err-stage.ensures.0
-    (makes_as _ (is_err c.stage.result) true _ _ (ap is_err c.in_err-stage.was) c.stage.ensures.calls) c.stage.ensures.place c.stage.ensures.closed
+    let clear = rw c.in_ok-clear.was at c.clear.ensures.calls in
+    let stage = rw c.in_err-stage.was at c.stage.ensures.calls in
+    fails_to_stage g.D.Disk.state c.args.next.now clear c.clear.ensures.place c.stage.new.self c.from_residual-in_err-stage.ensures.0 stage c.stage.ensures.place c.stage.ensures.closed
 
 pub returns-in_err-open-clause-calls : goal.returns-in_err-open-clause-calls
 returns-in_err-open-clause-calls g c =
-    fails_to_open g.D.Disk.state c.args.next.now c.args.self.now c.clear.new.self
-    (clears_as g.D.Disk.state (is_err c.clear.result) false c.args.self.now c.clear.new.self (ap is_err c.in_ok-clear.was) c.clear.ensures.calls) c.clear.ensures.place
-    c.stage.new.self (makes_as _ (is_err c.stage.result) false _ _ (ap is_err c.in_ok-stage.was) c.stage.ensures.calls) c.stage.ensures.place
-    (is_err c.from_residual-in_err-open.result) c.open.new.self c.from_residual-in_err-open.ensures.0
-    (makes_as _ (is_err c.open.result) true _ _ (ap is_err c.in_err-open.was) c.open.ensures.calls) c.open.ensures.place c.open.ensures.closed
+    let clear = rw c.in_ok-clear.was at c.clear.ensures.calls in
+    let stage = rw c.in_ok-stage.was at c.stage.ensures.calls in
+    let last = rw c.in_err-open.was at c.open.ensures.calls in
+    fails_to_open g.D.Disk.state c.args.next.now clear c.clear.ensures.place c.stage.new.self stage c.stage.ensures.place
+    c.open.new.self c.from_residual-in_err-open.ensures.0 last c.open.ensures.place c.open.ensures.closed
 
 pub returns-clause-calls : goal.returns-clause-calls
 returns-clause-calls g c =
-    replaces g.D.Disk.state c.args.next.now c.args.self.now c.clear.new.self
-    (clears_as g.D.Disk.state (is_err c.clear.result) false c.args.self.now c.clear.new.self (ap is_err c.in_ok-clear.was) c.clear.ensures.calls) c.clear.ensures.place
-    c.stage.new.self (makes_as _ (is_err c.stage.result) false _ _ (ap is_err c.in_ok-stage.was) c.stage.ensures.calls) c.stage.ensures.place
-    c.open.new.self.disk c.copy-self.result c.spare_slot-slot.result c.spare_turn-turn.result c.is_none-self.result
-    (makes_as _ (is_err c.open.result) false _ _ (ap is_err c.in_ok-open.was) c.open.ensures.calls)
+    let clear = rw c.in_ok-clear.was at c.clear.ensures.calls in
+    let stage = rw c.in_ok-stage.was at c.stage.ensures.calls in
+    let last = rw c.in_ok-open.was at c.open.ensures.calls in
+    replaces g.D.Disk.state c.args.next.now clear c.clear.ensures.place c.stage.new.self stage c.stage.ensures.place c.open.new.self.disk c.copy-self.result last
     (c.spare_slot-slot.ensures.slot ∙ ap spare c.open.ensures.place) (c.spare_turn-turn.ensures.turn ∙ ap turn_after c.open.ensures.place)
     (unplaced c.open.new.self.place c.is_none-self.result c.is_none-self.ensures ∙ ap is_unplaced c.open.ensures.place)

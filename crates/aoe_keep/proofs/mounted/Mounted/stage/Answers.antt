@@ -1,8 +1,6 @@
-use Rattle.std.proofs.Common.{◌≡◌, ◌∙◌, ◌+◌, ◌*◌, ℕ, Some, List, [], ◌∷◌, is_err, arith, ap, subst}
-use Rattle.aoe_disk.specs.Calls.{Logs}
-use Rattle.aoe_disk.specs.State.{DiskState, Write, Sync}
+use Rattle.std.proofs.Common.{◌∙◌, ℕ, Some, is_err, arith, ap}
+use Rattle.aoe_disk.specs.State.{Sync}
 use Rattle.aoe_keep.specs.Calls.{write_body}
-use Rattle.aoe_keep.specs.Stages.{spare, turn_after}
 use Rattle.aoe_keep.proofs.Making.{makes_first, makes_two}
 use Rattle.std.proofs.lemmas.Result.{on_ok_weaker}
 use Rattle.aoe_keep.specs.Body.{decode, spelling}
@@ -38,21 +36,14 @@ returns-in_err-write_body-clause-run g c = run_ends 1 2 c.write_body.result _ _ 
 pub returns-clause-others : goal.returns-clause-others
 returns-clause-others g c = others_then _ _ _ c.write_body.ensures.others (sync_others c.sync.result _ _ c.sync.ensures.contents)
 
-body_logged : (from to : ℕ) (piece turned : List ℕ) (a b : DiskState) → from ≡ to → piece ≡ turned → Logs (Write (8 * from + 1) piece ∷ []) a b → Logs (Write (8 * to + 1) turned ∷ []) a b
-body_logged from to piece turned a b e f log = subst (λ (l : List ℕ). Logs (Write (8 * to + 1) l ∷ []) a b) f (subst (λ (k : ℕ). Logs (Write (8 * k + 1) piece ∷ []) a b) e log)
-
 pub returns-in_err-write_body-clause-calls : goal.returns-in_err-write_body-clause-calls
 returns-in_err-write_body-clause-calls g c =
-    let a = g.D.Disk.state c.args.self.now.disk in
-    let b = g.D.Disk.state c.write_body.new.disk in
-    let body = c.as_slice.ensures.value ∙ c.spell-body.ensures.items ∙ ap (λ (t : ℕ). spelling t c.args.next.now) c.spare_turn.ensures.turn in
-    makes_first (write_body c.args.self.now.place c.args.next.now) Sync (is_err c.from_residual.result) a b c.from_residual.ensures.0
-    (body_logged c.spare_slot.result (spare c.args.self.now.place) c.as_slice.result.now (spelling (turn_after c.args.self.now.place) c.args.next.now) a b c.spare_slot.ensures.slot body c.write_body.ensures.log)
+    let body = c.as_slice.ensures.value ∙ c.spell-body.ensures.items ∙ (λ i. spelling (c.spare_turn.ensures.turn i) c.args.next.now) in
+    let log = rw (c.spare_slot.ensures.slot, body) at c.write_body.ensures.log in
+    makes_first (write_body c.args.self.now.place c.args.next.now) Sync _ (g.D.Disk.state c.args.self.now.disk) (g.D.Disk.state c.write_body.new.disk) c.from_residual.ensures.0 log
 
 pub returns-clause-calls : goal.returns-clause-calls
 returns-clause-calls g c =
-    let a = g.D.Disk.state c.args.self.now.disk in
-    let b = g.D.Disk.state c.write_body.new.disk in
-    let body = c.as_slice.ensures.value ∙ c.spell-body.ensures.items ∙ ap (λ (t : ℕ). spelling t c.args.next.now) c.spare_turn.ensures.turn in
-    makes_two (write_body c.args.self.now.place c.args.next.now) Sync (is_err c.sync.result) a b (g.D.Disk.state c.sync.new.self)
-    (body_logged c.spare_slot.result (spare c.args.self.now.place) c.as_slice.result.now (spelling (turn_after c.args.self.now.place) c.args.next.now) a b c.spare_slot.ensures.slot body c.write_body.ensures.log) c.sync.ensures.log
+    let body = c.as_slice.ensures.value ∙ c.spell-body.ensures.items ∙ (λ i. spelling (c.spare_turn.ensures.turn i) c.args.next.now) in
+    let log = rw (c.spare_slot.ensures.slot, body) at c.write_body.ensures.log in
+    makes_two (write_body c.args.self.now.place c.args.next.now) Sync (is_err c.sync.result) (g.D.Disk.state c.args.self.now.disk) (g.D.Disk.state c.write_body.new.disk) (g.D.Disk.state c.sync.new.self) log c.sync.ensures.log
