@@ -11,6 +11,7 @@ use Rattle.aoe_block.specs.Parts.{joined, AreFull, Part}
 use Rattle.aoe_block.specs.Stages.{is_pending}
 use Rattle.aoe_initiator.specs.Host.{Host}
 use Rattle.std.proofs.lemmas.List.Sums.{count_by-le-length}
+use Rattle.aoe_tools.proofs.DataLemmas.{IsWhole}
 use Rattle.aoe_tools.specs.Asking.{Answers}
 use Rattle.aoe_tools.specs.declared.course.Course.{Course}
 use Rattle.aoe_tools.specs.declared.course.Phase.{Phase}
@@ -21,33 +22,29 @@ use Rattle.aoe_tools.specs.declared.lookup.Device.{Device}
 use Rattle.aoe_tools.specs.declared.question.Ask.{Ask}
 use Rattle.aoe_tools.specs.TransferAsks.{Finds, LinkState}
 use Rattle.aoe_tools.specs.TransferCourse.{count_if, left_in}
-use Rattle.aoe_tools.specs.TransferCopies.{Copies, CopiesAt, IsFresh, MayRun, NotBegun, Range}
+use Rattle.aoe_tools.specs.TransferCopies.{Copies, IsFresh, MayRun, NotBegun, Range}
 use Rattle.aoe_tools.specs.TransferRun.{host_of, IsFit, Runs}
 
 -- a part has a sector at least
-few-parts : (max : ℕ) (parts : List Part) → 0 < max → AreFull max parts → All (λ p. length p.bytes ≡ 512 * p.count) parts → 512 * length parts ≤ length (joined parts)
+few-parts : (max : ℕ) (parts : List Part) → 0 < max → AreFull max parts → All IsWhole parts → 512 * length parts ≤ length (joined parts)
 few-parts max [] some full whole = omega arith
-few-parts max (p ∷ []) some full whole =
-    let size : length p.bytes ≡ 512 * p.count = All-head (λ q. length q.bytes ≡ 512 * q.count) p [] whole in
-    omega (arith, size, full.0, length-append p.bytes [])
+few-parts max (p ∷ []) some full whole = omega (arith, All-head IsWhole p [] whole, full.0, length-append p.bytes [])
 few-parts max (p ∷ q ∷ parts) some full whole =
-    let size : length p.bytes ≡ 512 * p.count = All-head (λ q. length q.bytes ≡ 512 * q.count) p (q ∷ parts) whole in
-    let rest = few-parts max (q ∷ parts) some full.1 (All-tail (λ q. length q.bytes ≡ 512 * q.count) p (q ∷ parts) whole) in
-    omega (arith, size, full.0, some, rest, length-append p.bytes (joined (q ∷ parts)))
+    let rest = few-parts max (q ∷ parts) some full.1 (All-tail IsWhole p (q ∷ parts) whole) in
+    omega (arith, All-head IsWhole p (q ∷ parts) whole, full.0, some, rest, length-append p.bytes (joined (q ∷ parts)))
 
 abbrev waits : Part → Bool
 waits p = is_pending p.stage
 
 -- a fresh transfer fits its host
-pub fit-fresh : (range : Range) (c : Course) (port : Mac) (id : TargetId) (d : Device) → 0 < d.max → length range.bytes ≤ 16777216 → IsFresh range d c → AreUpTo 0 c.block.parts → IsFit (host_of port id d) c
-fit-fresh range c port id d some short fresh tickets = record {
-  attached = refl;
-  few = by c.phase;
-  tickets = tickets;
-}
+pub fit-fresh : {range : Range} {c : Course} {d : Device} (port : Mac) (id : TargetId) → 0 < d.max → length range.bytes ≤ 16777216 → IsFresh range d c → AreUpTo 0 c.block.parts
+    → IsFit (host_of port id d) c
+fit-fresh {range} {c} {d} port id some short fresh tickets = record { attached = refl; few = by c.phase; tickets = tickets }
   where
     most : count_by waits c.block.parts ≤ 32768
-    most = omega (arith, count_by-le-length waits c.block.parts, few-parts d.max c.block.parts some fresh.cut.full fresh.cut.whole, ap (λ (l : List ℕ). length l) fresh.cut.together, short)
+    most =
+        let few = few-parts d.max c.block.parts some fresh.cut.full fresh.cut.whole in
+        omega (arith, count_by-le-length waits c.block.parts, few, ap (λ (l : List ℕ). length l) fresh.cut.together, short)
 
     one : (b : Bool) → count_if b ≤ 1
     one true = omega arith
@@ -55,8 +52,7 @@ fit-fresh range c port id d some short fresh tickets = record {
 
     by : (q : Phase) → 0 + left_in q c ≤ 65536
     by phase.Parts = omega (arith, most, one c.flushes)
-    by phase.Flush = omega arith
-    by (phase.Flushing ticket) = omega arith
+    by _ = omega arith
 
 -- the sectors are within the device, where the range wasn't refused
 pub is-within : (a b : ℕ) → ((a ≤ b → ⊥) → ⊥) → a ≤ b
@@ -65,9 +61,9 @@ is-within a b not_not = elim (cases_lt b a) [
   | inr within ↦ within
 ]
 
-module _ (ask : Ask) (id : TargetId) (range : Range) (least first : ℕ) (before mid : LinkState) (answers later : Option (List ℕ)) (answered_is : Answers first least answers later) where
-  pub copies-unfound : (e : ToolRefusal) → Finds (Err e) ask id first before mid → Copies (Err e) ask id range least before mid answers later
-  copies-unfound e finds = record {
+module _ {ask : Ask} {id : TargetId} {range : Range} {least : ℕ} (first : ℕ) {before mid : LinkState} {answers later : Option (List ℕ)} (answered_is : Answers first least answers later) where
+  pub copies-unfound : {e : ToolRefusal} → Finds (Err e) ask id first before mid → Copies (Err e) ask id range least before mid answers later
+  copies-unfound {e} finds = record {
     first = first;
     later = later;
     answered = answered_is;
@@ -77,9 +73,9 @@ module _ (ask : Ask) (id : TargetId) (range : Range) (least first : ℕ) (before
     copies = (refl, record { link = refl; clock = refl });
   }
 
-  module _ (d : Device) (finds : Finds (Ok d) ask id first before mid) where
-    pub copies-refused : (e : ToolRefusal) → NotBegun e range d → Copies (Err e) ask id range least before mid answers later
-    copies-refused e why = record {
+  module _ {d : Device} (finds : Finds (Ok d) ask id first before mid) where
+    pub copies-refused : {e : ToolRefusal} → NotBegun e range d → Copies (Err e) ask id range least before mid answers later
+    copies-refused {e} why = record {
       first = first;
       later = later;
       answered = answered_is;
@@ -89,29 +85,25 @@ module _ (ask : Ask) (id : TargetId) (range : Range) (least first : ℕ) (before
       copies = inl (e, refl, why, record { link = refl; clock = refl });
     }
 
-    pub copies-ran : (result : Result Course ToolRefusal) (start : Course) (after : LinkState) (answers' : Option (List ℕ)) → IsFresh range d start
+    pub copies-ran : {result : Result Course ToolRefusal} {start : Course} {after : LinkState} {answers' : Option (List ℕ)} → IsFresh range d start
         → MayRun result ask id d start mid after later answers' → Copies result ask id range least before after answers answers'
-    copies-ran result start after answers' fresh runs = record {
+    copies-ran {start = start} fresh runs = record {
       first = first;
       later = later;
       answered = answered_is;
       found = Ok d;
       mid = mid;
       finds = finds;
-      copies = by runs;
+      copies = elim runs [ inl x ↦ inl (tool.NoMemory, x.0, inr refl, x.1) | inr x ↦ inr (start, fresh, x) ];
     }
-      where
-        by : MayRun result ask id d start mid after later answers' → CopiesAt (Ok d) result ask id range mid after later answers'
-        by (inl x) = inl (tool.NoMemory, x.0, inr refl, x.1)
-        by (inr x) = inr (start, fresh, x)
 
 -- a run that ended so, from the host that was made
-pub ran-ok : (ask : Ask) (id : TargetId) (d : Device) (host : Host) (start first last : Course) (before after : LinkState) (answers answers' : Option (List ℕ)) → host ≡ host_of ask.port id d → first ≡ start
-    → Runs (Ok record {}) host ask.turns first last before.turns after.turns before.given after.given before.taken after.taken answers answers' → MayRun (Ok last) ask id d start before after answers answers'
-ran-ok ask id d host start first last before after answers answers' host_is start_is runs =
-    inr (record { last = last; runs = rw (← start_is) (rw (← host_is) runs); gives = refl })
+module _ {ask : Ask} {id : TargetId} {d : Device} {host : Host} {start first last : Course} {before after : LinkState} {answers answers' : Option (List ℕ)}
+    (host_is : host ≡ host_of ask.port id d) (start_is : first ≡ start) where
+  pub ran-ok : Runs (Ok record {}) host ask.turns first last before.turns after.turns before.given after.given before.taken after.taken answers answers'
+      → MayRun (Ok last) ask id d start before after answers answers'
+  ran-ok runs = inr (record { last = last; runs = rw (← start_is, ← host_is) runs; gives = refl })
 
-pub ran-err : (e : ToolRefusal) (ask : Ask) (id : TargetId) (d : Device) (host : Host) (start first last : Course) (before after : LinkState) (answers answers' : Option (List ℕ)) → host ≡ host_of ask.port id d → first ≡ start
-    → Runs (Err e) host ask.turns first last before.turns after.turns before.given after.given before.taken after.taken answers answers' → MayRun (Err e) ask id d start before after answers answers'
-ran-err e ask id d host start first last before after answers answers' host_is start_is runs =
-    inr (record { last = last; runs = rw (← start_is) (rw (← host_is) runs); gives = tt })
+  pub ran-err : {e : ToolRefusal} → Runs (Err e) host ask.turns first last before.turns after.turns before.given after.given before.taken after.taken answers answers'
+      → MayRun (Err e) ask id d start before after answers answers'
+  ran-err runs = inr (record { last = last; runs = rw (← start_is, ← host_is) runs; gives = tt })

@@ -1,44 +1,62 @@
 -- The course of a transfer, outcome by outcome and command by command.
-use Rattle.std.proofs.Common.{ℕ, ◌≡◌, ◌≤◌, ◌<◌, ◌+◌, cond, Bool, true, false, List, [], ◌∷◌, length, map, Option, Some, None, refl, sym, subst, ◌∙◌, arith, ◌-◌}
+use Rattle.std.proofs.Common.{ℕ, ◌≡◌, ◌≤◌, ◌<◌, ◌+◌, Bool, true, false, List, [], ◌∷◌, length, map, Option, Some, None, refl, sym, ◌∙◌, arith, ◌-◌, inl, inr}
+use Rattle.std.proofs.lemmas.Bool.{cases_Bool, cond_both}
 use Rattle.std.specs.Prelude.{option_map}
 use Rattle.std.specs.List.{count_by}
 use Rattle.aoe_base.specs.declared.counted.Ticket.{Ticket}
-use Rattle.aoe_block.specs.Calls.{after_done as part_after, after_outcome, hand, is_success, next_part, op_of, settle, took, AreUpTo}
+use Rattle.aoe_block.specs.Calls.{after_done as part_after, hand, is_success, next_part, op_of, settle, took, AreUpTo}
 use Rattle.aoe_block.specs.Parts.{Part, Transfer}
 use Rattle.aoe_block.specs.Stages.{is_handed, is_pending}
 use Rattle.aoe_block.specs.declared.stage.Stage.{Stage}
-use Rattle.aoe_block.specs.declared.stage.Stage.TheVariants.{Pending, Handed, Ended, Failed}
+use Rattle.aoe_block.specs.declared.stage.Stage.TheVariants.{Handed}
 use Rattle.aoe_block.specs.declared.took.Took.{Took}
 use Rattle.aoe_block.specs.declared.took.Took.TheVariants as took_as
-use Rattle.aoe_base.proofs.CountLemmas.{count-cons}
+use Rattle.aoe_base.proofs.CountLemmas.{count-cons, count-no, count-yes}
 use Rattle.aoe_initiator.specs.declared.op.Op.{Op}
 use Rattle.aoe_initiator.specs.declared.outcome.Done.{Done}
 use Rattle.aoe_tools.specs.declared.course.Course.{Course}
 use Rattle.aoe_tools.specs.declared.course.Phase.{Phase}
 use Rattle.aoe_tools.specs.declared.course.Phase.TheVariants as phase
-use Rattle.aoe_tools.specs.TransferCourse.{after_done, after_dones, after_parts, count_if, ending, hand_in, handed, left, left_in, next_in, next_op, note_in, submitted, unless_ended, AreNext, End, Submission}
+use Rattle.aoe_tools.specs.TransferCourse.{after_done, after_dones, after_parts, ending, hand_in, handed, left, left_in, next_in, next_op, note_in, submitted, unless_ended, AreNext, Submission}
+
+-- What an outcome keeps. It is to be shown where the parts are settled, where these are all and the flush is next, and where no part is
+-- concerned.
+module _ (P : Course → Type 0) where
+  by-parts : (t : Took) (c : Course) → P c → (t ≡ took_as.Whole → c.flushes ≡ true → P (record c { phase = phase.Flush })) → P (after_parts t c)
+  by-parts took_as.Whole c same over = cond_both c.flushes (record c { phase = phase.Flush }) c P (over refl) (λ reads. same)
+  by-parts _ c same over = same
+
+  pub by-done : (d : Done) (c : Course) → let settled : Course = record c { block = settle c.block d; under_way = c.under_way - 1 } in
+      (c.phase ≡ phase.Parts → P settled)
+      → (c.phase ≡ phase.Parts → took c.block d ≡ took_as.Whole → c.flushes ≡ true → P (record settled { phase = phase.Flush }))
+      → P (record c { under_way = c.under_way - 1 }) → P (after_done d c)
+  by-done d c same over other = by c.phase refl
+    where
+      by : (p : Phase) → c.phase ≡ p → P (note_in p d (record c { under_way = c.under_way - 1 }))
+      by phase.Parts is = by-parts (took c.block d) (record c { block = settle c.block d; under_way = c.under_way - 1 }) (same is) (over is)
+      by _ is = other
+
+  -- so several outcomes keep it
+  pub dones-keep : ((d : Done) (c : Course) → P c → P (after_done d c)) → (turns : ℕ) (c : Course) (ds : List Done) → P c → P (after_dones turns c ds)
+  dones-keep keep turns c [] p = p
+  dones-keep keep turns c (d ∷ ds) p =
+      let here = keep d c p in
+      let rest = dones-keep keep turns (after_done d c) ds here in
+      elim (ending turns c d) as (λ e. P (unless_ended e (after_dones turns (after_done d c) ds) (after_done d c))) [ None ↦ rest | Some end ↦ here ]
 
 abbrev waits : Part → Bool
 waits p = is_pending p.stage
 
 count-handed : (ticket : Ticket) (parts : List Part) (p : Part) → next_part parts ≡ Some p → count_by waits (hand ticket parts) + 1 ≡ count_by waits parts
 count-handed ticket [] p e = absurd cc
-count-handed ticket (q ∷ parts) p e = at (is_pending q.stage) refl e (count-handed ticket parts p)
-  where
-    at : (b : Bool) → is_pending q.stage ≡ b → cond b (Some q) (next_part parts) ≡ Some p → (next_part parts ≡ Some p → count_by waits (hand ticket parts) + 1 ≡ count_by waits parts)
-        → count_by waits (cond b (record q { stage = Handed ticket } ∷ parts) (q ∷ hand ticket parts)) + 1 ≡ count_by waits (q ∷ parts)
-    at true is found rest =
-        let one : count_by waits (q ∷ parts) ≡ 1 + count_by waits parts = count-cons waits q parts ∙ rw is refl in
-        let none : count_by waits (record q { stage = Handed ticket } ∷ parts) ≡ 0 + count_by waits parts = count-cons waits (record q { stage = Handed ticket }) parts in
-        omega (arith, one, none)
-    at false is found rest =
-        let same : count_by waits (q ∷ parts) ≡ 0 + count_by waits parts = count-cons waits q parts ∙ rw is refl in
-        let same' : count_by waits (q ∷ hand ticket parts) ≡ 0 + count_by waits (hand ticket parts) = count-cons waits q (hand ticket parts) ∙ rw is refl in
-        omega (arith, same, same', rest found)
+count-handed ticket (q ∷ parts) p e =
+    cond_both (waits q) (record q { stage = Handed ticket } ∷ parts) (q ∷ hand ticket parts) (λ l. count_by waits l + 1 ≡ count_by waits (q ∷ parts))
+    (λ is. omega (arith, count-yes waits q parts is, count-no waits (record q { stage = Handed ticket }) parts refl))
+    (λ is. omega (arith, count-no waits q parts is, count-no waits q (hand ticket parts) is, count-handed ticket parts p (rw is at e)))
 
-some-part : (write : Bool) (o : Option Part) (op : Op) → option_map (op_of write) o ≡ Some op → (p : Part) × (o ≡ Some p)
+pub some-part : (write : Bool) (o : Option Part) (op : Op) → option_map (op_of write) o ≡ Some op → (p : Part) × (o ≡ Some p) × (op_of write p ≡ op)
 some-part write None op e = absurd cc
-some-part write (Some p) op e = (p, refl)
+some-part write (Some p) op e = (p, refl, cc)
 
 -- once submitted there is one less to submit
 pub left-handed : (ticket : Ticket) (c : Course) (op : Op) → next_op c ≡ Some op → left (handed ticket c) + 1 ≡ left c
@@ -47,8 +65,7 @@ left-handed ticket c op e = at c.phase refl e
     at : (p : Phase) → c.phase ≡ p → next_in p c ≡ Some op → left (hand_in p ticket c) + 1 ≡ left_in p c
     at phase.Parts is next =
         let found = some-part c.block.write (next_part c.block.parts) op next in
-        let fewer = count-handed ticket c.block.parts found.0 found.1 in
-        rw is (omega (arith, fewer))
+        rw is (omega (arith, count-handed ticket c.block.parts found.0 found.1))
     at phase.Flush is next = refl
     at (phase.Flushing flush) is next = absurd cc
 
@@ -63,26 +80,21 @@ up-to-handed last ticket c law up below = at c.phase
   where
     at : (p : Phase) → AreUpTo ticket.0 (hand_in p ticket c).block.parts
     at phase.Parts = law last ticket c.block.parts up below
-    at phase.Flush = up-to-more last ticket.0 c.block.parts (omega (arith, below)) up
-    at (phase.Flushing flush) = up-to-more last ticket.0 c.block.parts (omega (arith, below)) up
+    at _ = up-to-more last ticket.0 c.block.parts (omega (arith, below)) up
 
 -- an outcome changes no part that wasn't submitted
-stays-pending : (write : Bool) (d : Done) (p : Part) → is_pending (part_after write d p).stage ≡ is_pending p.stage
-stays-pending write d p = at (is_handed d.ticket.0 p.stage) refl
+stays-pending : (write : Bool) (d : Done) (p : Part) → waits (part_after write d p) ≡ waits p
+stays-pending write d p = elim (cases_Bool (is_handed d.ticket.0 p.stage)) [
+  | inl mine ↦ elim (cases_Bool (is_success write p.count d.outcome)) [
+    | inl well ↦ rw (mine, well, pending-not p.stage mine)
+    | inr badly ↦ rw (mine, badly, pending-not p.stage mine)
+  ]
+  | inr other ↦ rw other
+]
   where
     pending-not : (s : Stage) → is_handed d.ticket.0 s ≡ true → is_pending s ≡ false
-    pending-not Pending e = absurd cc
     pending-not (Handed own) e = refl
-    pending-not Ended e = absurd cc
-    pending-not Failed e = absurd cc
-
-    ended : (b : Bool) → is_success write p.count d.outcome ≡ b → is_pending (after_outcome write d.outcome p).stage ≡ false
-    ended true e = rw e refl
-    ended false e = rw e refl
-
-    at : (b : Bool) → is_handed d.ticket.0 p.stage ≡ b → is_pending (cond b (after_outcome write d.outcome p) p).stage ≡ is_pending p.stage
-    at true e = ended (is_success write p.count d.outcome) refl ∙ sym (pending-not p.stage e)
-    at false e = refl
+    pending-not _ e = absurd cc
 
 count-settled : (write : Bool) (d : Done) (parts : List Part) → count_by waits (map (part_after write d) parts) ≡ count_by waits parts
 count-settled write d [] = refl
@@ -90,66 +102,29 @@ count-settled write d (p ∷ parts) =
     count-cons waits (part_after write d p) (map (part_after write d) parts)
     ∙ rw (stays-pending write d p, count-settled write d parts) (sym (count-cons waits p parts))
 
-left-parts : (t : Took) (c : Course) → c.phase ≡ phase.Parts → left (after_parts t c) ≤ left_in phase.Parts c
-left-parts took_as.More c is = rw is (omega arith)
-left-parts (took_as.NotMine d) c is = rw is (omega arith)
-left-parts (took_as.Part outcome) c is = rw is (omega arith)
-left-parts took_as.Whole c is = at c.flushes refl
-  where
-    at : (b : Bool) → c.flushes ≡ b → left (cond b (record c { phase = phase.Flush }) c) ≤ count_by waits c.block.parts + count_if c.flushes
-    at true e = rw e (omega arith)
-    at false e = rw is (omega arith)
+left-same : (p : Phase) (c : Course) (n : ℕ) → left_in p (record c { under_way = n }) ≡ left_in p c
+left-same phase.Parts c n = refl
+left-same _ c n = refl
 
 pub left-done : (d : Done) (c : Course) → left (after_done d c) ≤ left c
-left-done d c = at c.phase refl
-  where
-    at : (p : Phase) → c.phase ≡ p → left (note_in p d (record c { under_way = c.under_way - 1 })) ≤ left_in p c
-    at phase.Parts is =
-        let less = left-parts (took c.block d) (record c { under_way = c.under_way - 1; block = settle c.block d }) is in
-        let same = count-settled c.block.write d c.block.parts in
-        omega (arith, less, same)
-    at phase.Flush is = rw is (omega arith)
-    at (phase.Flushing flush) is = rw is (omega arith)
-
-block-parts : (t : Took) (c : Course) → (after_parts t c).block ≡ c.block
-block-parts took_as.More c = refl
-block-parts (took_as.NotMine d) c = refl
-block-parts (took_as.Part outcome) c = refl
-block-parts took_as.Whole c = at c.flushes
-  where
-    at : (b : Bool) → (cond b (record c { phase = phase.Flush }) c).block ≡ c.block
-    at true = refl
-    at false = refl
-
-up-to-done : (last : ℕ) (d : Done) (c : Course) → ((last : ℕ) (block : Transfer) (done : Done) → AreUpTo last block.parts → AreUpTo last (settle block done).parts)
-    → AreUpTo last c.block.parts → AreUpTo last (after_done d c).block.parts
-up-to-done last d c law up = at c.phase
-  where
-    P : Transfer → Type 0
-    P block = AreUpTo last block.parts
-
-    at : (p : Phase) → AreUpTo last (note_in p d (record c { under_way = c.under_way - 1 })).block.parts
-    at phase.Parts = subst P (sym (block-parts (took c.block d) (record c { under_way = c.under_way - 1; block = settle c.block d }))) (law last c.block d up)
-    at phase.Flush = up
-    at (phase.Flushing flush) = up
+left-done d c = by-done (λ x. left x ≤ left c) d c
+    (λ is. rw is (omega (arith, count-settled c.block.write d c.block.parts)))
+    (λ is whole flushes. rw (is, flushes) (omega arith))
+    (omega (arith, left-same c.phase c (c.under_way - 1)))
 
 -- after outcomes that don't end the transfer
 pub left-dones : (turns : ℕ) (c : Course) (dones : List Done) → left (after_dones turns c dones) ≤ left c
-left-dones turns c [] = omega arith
-left-dones turns c (d ∷ dones) = at (ending turns c d) (left-dones turns (after_done d c) dones)
-  where
-    at : (e : Option End) → left (after_dones turns (after_done d c) dones) ≤ left (after_done d c) → left (unless_ended e (after_dones turns (after_done d c) dones) (after_done d c)) ≤ left c
-    at None rest = omega (arith, rest, left-done d c)
-    at (Some end) rest = left-done d c
+left-dones turns c dones = dones-keep (λ x. left x ≤ left c) (λ d x below. omega (arith, below, left-done d x)) turns c dones (omega arith)
 
 pub up-to-dones : (last turns : ℕ) (c : Course) (dones : List Done) → ((last : ℕ) (block : Transfer) (done : Done) → AreUpTo last block.parts → AreUpTo last (settle block done).parts)
     → AreUpTo last c.block.parts → AreUpTo last (after_dones turns c dones).block.parts
-up-to-dones last turns c [] law up = up
-up-to-dones last turns c (d ∷ dones) law up = at (ending turns c d) (up-to-dones last turns (after_done d c) dones law (up-to-done last d c law up))
+up-to-dones last turns c dones law up = dones-keep P keep turns c dones up
   where
-    at : (e : Option End) → AreUpTo last (after_dones turns (after_done d c) dones).block.parts → AreUpTo last (unless_ended e (after_dones turns (after_done d c) dones) (after_done d c)).block.parts
-    at None rest = rest
-    at (Some end) rest = up-to-done last d c law up
+    P : Course → Type 0
+    P x = AreUpTo last x.block.parts
+
+    keep : (d : Done) (x : Course) → P x → P (after_done d x)
+    keep d x p = by-done P d x (λ is. law last x.block d p) (λ is whole flushes. law last x.block d p) p
 
 -- commands that were submitted are no longer left
 pub left-submitted : (c : Course) (submits : List Submission) → AreNext c submits → left (submitted c submits) + length submits ≡ left c

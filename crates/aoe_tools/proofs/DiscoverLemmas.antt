@@ -4,7 +4,7 @@ use Rattle.std.specs.Prelude.{Result, Ok, Err}
 use Rattle.aoe_base.specs.declared.failure.Failed.{Failed}
 use Rattle.aoe_io.proofs.LinkLemmas.{Added-then, turned-nothing, turned-then}
 use Rattle.aoe_io.specs.Link.{Added, Turn, Turned}
-use Rattle.aoe_tools.specs.Asking.{Response, asked, asked_at, asked_from, brought, responses, with_response}
+use Rattle.aoe_tools.specs.Asking.{Response, asked, asked_from, brought, responses, with_response}
 use Rattle.aoe_tools.specs.Discovery.{Discovers, Ends, discovered, unless_none}
 use Rattle.aoe_tools.specs.Found.{found_in, noted}
 use Rattle.aoe_tools.specs.Listening.{Listens, Waits}
@@ -29,9 +29,7 @@ asked-then request from k (suc n) zero e = absurd (omega (arith, e))
 asked-then request from k (suc n) (suc m) e =
     let same : from + m ≡ from + k + n = omega (arith, e) in
     let before : m ≡ n + k = omega (arith, e) in
-    ap (λ i. asked_at request i ++ asked_from request from m) same
-    ∙ ap (λ l. asked_at request (from + k + n) ++ l) (asked-then request from k n m before)
-    ∙ sym (append_assoc (asked_at request (from + k + n)) (asked_from request (from + k) n) (asked_from request from k))
+    rw (same, asked-then request from k n m before, append_assoc)
 
 -- so many turns have passed, and these devices have answered
 pub record Finds (q : Question) (request : List ℕ) (now : ℕ) (found : List Seen) (start turned' : ℕ) (given given' : Option (List Turn)) (taken taken' : Option Frames) : Type 0 where
@@ -41,8 +39,8 @@ pub record Finds (q : Question) (request : List ℕ) (now : ℕ) (found : List S
   pub found_is : found ≡ found_in (responses q turns)
   pub took : Added taken taken' (asked request (length turns))
 
-pub begun : (q : Question) (request : List ℕ) (start : ℕ) (given : Option (List Turn)) (taken : Option Frames) → Finds q request 0 [] start start given given taken taken
-begun q request start given taken = record {
+pub begun : {q : Question} {request : List ℕ} {start : ℕ} {given : Option (List Turn)} {taken : Option Frames} → Finds q request 0 [] start start given given taken taken
+begun {start = start} {given} {taken} = record {
   turns = [];
   turned = turned-nothing start given;
   passed = refl;
@@ -50,97 +48,83 @@ begun q request start given taken = record {
   took = added-nothing taken;
 }
 
-module _ (q : Question) (request : List ℕ) (limit now : ℕ) (found : List Seen) (start mid : ℕ) (given given' : Option (List Turn)) (taken taken' : Option Frames)
-    (s : Finds q request now found start mid given given' taken taken')
-    (then last : ℕ) (frame : List ℕ) (given'' : Option (List Turn)) (taken'' : Option Frames) where
-  took-then : (n m : ℕ) → m ≡ n + length s.turns → Added taken' taken'' (asked_from request now n) → Added taken taken'' (asked request m)
-  took-then n m e took =
+module _ {q : Question} {request : List ℕ} {now : ℕ} {found : List Seen} {start mid : ℕ} {given given' : Option (List Turn)} {taken taken' : Option Frames}
+    (s : Finds q request now found start mid given given' taken taken') where
+  took-then : (taken'' : Option Frames) (n m : ℕ) → m ≡ n + length s.turns → Added taken' taken'' (asked_from request now n) → Added taken taken'' (asked request m)
+  took-then taken'' n m e took =
       let begins : now ≡ 0 + length s.turns = omega (arith, s.passed) in
-      rw (asked-then request 0 (length s.turns) n m e) (Added-then taken taken' taken'' (asked request (length s.turns)) (asked_from request (0 + length s.turns) n) s.took (rw (← begins) took))
+      rw (asked-then request 0 (length s.turns) n m e)
+      (Added-then taken taken' taken'' (asked request (length s.turns)) (asked_from request (0 + length s.turns) n) s.took (rw (← begins) took))
 
-  took-turns : (later : List Turn) → Added taken' taken'' (asked_from request now (length later)) → Added taken taken'' (asked request (length (later ++ s.turns)))
-  took-turns later took = took-then (length later) (length (later ++ s.turns)) (length-append later s.turns) took
+  took-turns : (taken'' : Option Frames) (later : List Turn) → Added taken' taken'' (asked_from request now (length later)) → Added taken taken'' (asked request (length (later ++ s.turns)))
+  took-turns taken'' later took = took-then taken'' (length later) (length (later ++ s.turns)) (length-append later s.turns) took
 
-  turned-turns : (later : List Turn) → Turned mid last given' given'' later → Turned start last given given'' (later ++ s.turns)
-  turned-turns later turned = turned-then start mid last given given' given'' s.turns later s.turned turned
+  module _ {limit then last : ℕ} {frame : List ℕ} {given'' : Option (List Turn)} {taken'' : Option Frames} where
+    -- nobody answers any more
+    pub ends : {result : Result (List Seen) ToolRefusal} → result ≡ unless_none limit found → Listens (Ok None) q request limit now then frame mid last given' given'' taken' taken''
+        → Discovers result q request limit start last given given'' taken taken''
+    ends {result} is l = record {
+      turns = turns;
+      turned = turned-then start mid last given given' given'' s.turns l.turns s.turned l.turned;
+      ends = by found is;
+    }
+      where
+        turns : List Turn
+        turns = l.turns ++ s.turns
 
-  -- nobody answers any more
-  pub ends : (result : Result (List Seen) ToolRefusal) → result ≡ unless_none limit found → Listens (Ok None) q request limit now then frame mid last given' given'' taken' taken''
-      → Discovers result q request limit start last given given'' taken taken''
-  ends result is l = record {
-    turns = turns;
-    turned = turned-turns l.turns l.turned;
-    ends = by found is;
-  }
-    where
-      turns : List Turn
-      turns = l.turns ++ s.turns
+        says : result ≡ discovered limit (responses q turns)
+        says = rw (responses-then q l.turns s.turns, l.waits.0) (is ∙ ap (unless_none limit) s.found_is)
 
-      came : responses q turns ≡ responses q s.turns
-      came = responses-then q l.turns s.turns ∙ ap (λ rs. rs ++ responses q s.turns) l.waits.0
+        all : length turns ≡ limit
+        all = omega (arith, length-append l.turns s.turns, l.passed, l.waits.1, s.passed)
 
-      says : result ≡ discovered limit (responses q turns)
-      says = is ∙ ap (unless_none limit) (s.found_is ∙ ap found_in (sym came))
+        by : (list : List Seen) → result ≡ unless_none limit list → Ends result q request limit turns taken taken''
+        by [] e = rw e (all, sym e ∙ says, took-turns taken'' l.turns l.waits.2)
+        by (d ∷ list) e = rw e (all, sym e ∙ says, took-turns taken'' l.turns l.waits.2)
 
-      all : length turns ≡ limit
-      all = omega (arith, length-append l.turns s.turns, l.passed, l.waits.1, s.passed)
-
-      by : (list : List Seen) → result ≡ unless_none limit list → Ends result q request limit turns taken taken''
-      by [] e =
-          rw e (all, sym e ∙ says, took-turns l.turns l.waits.2)
-      by (d ∷ list) e =
-          rw e (all, sym e ∙ says, took-turns l.turns l.waits.2)
-
-  -- the link failed
-  pub fails : (e : Failed) → Listens (Err e) q request limit now then frame mid last given' given'' taken' taken''
-      → Discovers (Err tool.LinkFault) q request limit start last given given'' taken taken''
-  fails e l = record {
-    turns = l.turns ++ s.turns;
-    turned = turned-turns l.turns l.turned;
-    ends = (
-      omega (arith, length-append l.turns s.turns, l.passed, l.waits.1, s.passed),
-      record {
-        count = l.waits.2.count + length s.turns;
-        least = omega (arith, length-append l.turns s.turns, l.waits.2.least);
-        most = omega (arith, length-append l.turns s.turns, l.waits.2.most);
-        took = took-then l.waits.2.count (l.waits.2.count + length s.turns) refl l.waits.2.took;
-      },
-    );
-  }
-
-  module _ (r : Reply) where
-    abbrev response : Response
-    response = record { reply = r; args = drop 24 frame }
-
-    came-next : (t : Turn) (later : List Turn) → brought q t ≡ Some response → responses q later ≡ [] → responses q ((t ∷ later) ++ s.turns) ≡ response ∷ responses q s.turns
-    came-next t later last_is before =
-        ap (λ o. with_response o (responses q (later ++ s.turns))) last_is
-        ∙ ap (λ rs. response ∷ rs) (responses-then q later s.turns ∙ ap (λ rs. rs ++ responses q s.turns) before)
+    -- the link failed
+    pub fails : {e : Failed} → Listens (Err e) q request limit now then frame mid last given' given'' taken' taken''
+        → Discovers (Err tool.LinkFault) q request limit start last given given'' taken taken''
+    fails l = record {
+      turns = l.turns ++ s.turns;
+      turned = turned-then start mid last given given' given'' s.turns l.turns s.turned l.turned;
+      ends = (
+        omega (arith, length-append l.turns s.turns, l.passed, l.waits.1, s.passed),
+        record {
+          count = l.waits.2.count + length s.turns;
+          least = omega (arith, length-append l.turns s.turns, l.waits.2.least);
+          most = omega (arith, length-append l.turns s.turns, l.waits.2.most);
+          took = took-then taken'' l.waits.2.count (l.waits.2.count + length s.turns) refl l.waits.2.took;
+        },
+      );
+    }
 
     -- the next device that answers is noted
-    pub goes-on : (found' : List Seen) → found' ≡ noted found r.id r.source → Listens (Ok (Some r)) q request limit now then frame mid last given' given'' taken' taken''
+    pub goes-on : {r : Reply} {found' : List Seen} → found' ≡ noted found r.id r.source → Listens (Ok (Some r)) q request limit now then frame mid last given' given'' taken' taken''
         → Finds q request then found' start last given given'' taken taken''
-    goes-on found' is l = at l.turns l.turned l.passed l.waits
+    goes-on {r} {found'} is l = at l.turns l.turned l.passed l.waits
       where
-        at : (later : List Turn) → Turned mid last given' given'' later → then ≡ now + length later → Waits (Ok (Some r)) q request limit now then frame later taken' taken'' → Finds q request then found' start last given given'' taken taken''
+        at : (later : List Turn) → Turned mid last given' given'' later → then ≡ now + length later → Waits (Ok (Some r)) q request limit now then frame later taken' taken''
+            → Finds q request then found' start last given given'' taken taken''
         at [] turned passed waits = absurd waits
         at (t ∷ later) turned passed waits = record {
           turns = (t ∷ later) ++ s.turns;
-          turned = turned-turns (t ∷ later) turned;
+          turned = turned-then start mid last given given' given'' s.turns (t ∷ later) s.turned turned;
           passed = omega (arith, passed, s.passed, length-append (t ∷ later) s.turns);
-          found_is = is ∙ ap (λ l. noted l r.id r.source) s.found_is ∙ sym (ap found_in (came-next t later waits.0 waits.1));
-          took = took-turns (t ∷ later) waits.3;
+          found_is = rw (waits.0, responses-then q later s.turns, waits.1) (rw s.found_is at is);
+          took = took-turns taken'' (t ∷ later) waits.3;
         }
 
     -- there is no memory for it
-    pub forgets : Listens (Ok (Some r)) q request limit now then frame mid last given' given'' taken' taken''
+    pub forgets : {r : Reply} → Listens (Ok (Some r)) q request limit now then frame mid last given' given'' taken' taken''
         → Discovers (Err tool.NoMemory) q request limit start last given given'' taken taken''
-    forgets l = at l.turns l.turned l.passed l.waits
+    forgets {r} l = at l.turns l.turned l.passed l.waits
       where
-        at : (later : List Turn) → Turned mid last given' given'' later → then ≡ now + length later → Waits (Ok (Some r)) q request limit now then frame later taken' taken'' → Discovers (Err tool.NoMemory) q request limit start last given given'' taken taken''
+        at : (later : List Turn) → Turned mid last given' given'' later → then ≡ now + length later → Waits (Ok (Some r)) q request limit now then frame later taken' taken''
+            → Discovers (Err tool.NoMemory) q request limit start last given given'' taken taken''
         at [] turned passed waits = absurd waits
         at (t ∷ later) turned passed waits = record {
           turns = (t ∷ later) ++ s.turns;
-          turned = turned-turns (t ∷ later) turned;
-          ends = (omega (arith, passed, s.passed, waits.2, length-append (t ∷ later) s.turns), took-turns (t ∷ later) waits.3);
+          turned = turned-then start mid last given given' given'' s.turns (t ∷ later) s.turned turned;
+          ends = (omega (arith, passed, s.passed, waits.2, length-append (t ∷ later) s.turns), took-turns taken'' (t ∷ later) waits.3);
         }

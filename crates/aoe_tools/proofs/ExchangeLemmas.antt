@@ -1,5 +1,5 @@
 -- The second part of a turn, of its three steps.
-use Rattle.std.proofs.Common.{ℕ, ◌≡◌, Bool, true, false, List, [], ◌++◌, Option, Some, None, sym, ap, subst, ◌∙◌, inl, inr}
+use Rattle.std.proofs.Common.{ℕ, ◌≡◌, Bool, true, false, List, [], ◌++◌, Option, Some, None, sym, ap, ◌∙◌, inl, inr}
 use Rattle.aoe_initiator.proofs.MatchLemmas.{same-then}
 use Rattle.std.specs.Prelude.{Ok, Err}
 use Rattle.aoe_base.specs.declared.failure.Failed.{Failed}
@@ -14,38 +14,29 @@ use Rattle.aoe_tools.specs.TransferCourse.{submitted, IsFilled}
 use Rattle.aoe_tools.specs.TransferRun.{after_frames, after_submits, told_by, Heard, IsFit}
 use Rattle.aoe_tools.specs.TransferSteps.{is_heard, Broken, Exchanged, HearsOne, IsHeld, SendsSome, SubmitsSome}
 
-pub fit-held : (host host' : Host) (c : Course) → IsHeld host host' → IsFit host c → IsFit host' c
-fit-held host host' c held fit =
-    record {
-      attached = as-many host host' held.same ∙ fit.attached;
-      few = rw held.last fit.few;
-      tickets = rw held.last fit.tickets;
-    }
+fit-held : {host host' : Host} {c : Course} → IsHeld host host' → IsFit host c → IsFit host' c
+fit-held {host} {host'} held fit = record { attached = as-many host host' held.same ∙ fit.attached; few = rw held.last fit.few; tickets = rw held.last fit.tickets }
 
-module _ (host h1 h2 : Host) (c c1 : Course) (taken taken1 : Option Frames) (s : SubmitsSome host h1 c c1) (filled : IsFilled c1) (base : Host) (log : List Event) (same : IsSame base host) (m : Matches log host) where
+module _ {host h1 : Host} {c c1 : Course} (s : SubmitsSome host h1 c c1) (filled : IsFilled c1) {base : Host} {log : List Event}
+    (same : IsSame base host) (m : Matches log host) where
   abbrev log1 : List Event
   log1 = after_submits s.submits log
-
-  m1 : Matches log1 h1
-  m1 = s.matches log m
 
   same1 : IsSame base h1
   same1 = same-then base host h1 same s.same
 
   filled1 : IsFilled (submitted c s.submits)
-  filled1 = subst (λ (x : Course). IsFilled x) s.course filled
+  filled1 = rw s.course at filled
 
-  module _ (h3 : Host) (c3 : Course) (finished : Bool) (start turned' : ℕ) (given given' : Option (List Turn)) (f : SendsSome (Ok record {}) h1 h2 taken taken1) (h : HearsOne finished h2 h3 start turned' given given') (course : c3 ≡ c1) (empty : host.waiting ≡ []) where
-    pub exchanged : (heard : Option Heard) × (finished ≡ is_heard heard) × Exchanged base log c c3 h3 heard start turned' given given' taken taken1
+  module _ {h2 h3 : Host} {c3 : Course} {finished : Bool} {start turned' : ℕ} {given given' : Option (List Turn)} {taken taken1 : Option Frames}
+      (f : SendsSome (Ok record {}) h1 h2 taken taken1) (h : HearsOne finished h2 h3 start turned' given given') (course : c3 ≡ c1) (empty : host.waiting ≡ []) where
+    exchanged : (heard : Option Heard) × (finished ≡ is_heard heard) × Exchanged base log c c3 h3 heard start turned' given given' taken taken1
     exchanged =
-        let law = f.sends base log1 same1 m1 in
-        let log2 = after_frames f.sent log1 in
+        let law = f.sends base log1 same1 (s.matches log m) in
         let same2 = same-then base h1 h2 same1 f.held.same in
-        let brings = h.hears base log2 same2 law.1 in
-        let heard : Option Heard = brings.0 in
-        let none : h2.waiting ≡ [] = f.waiting ∙ s.waiting ∙ empty in
-        let P : Course → Type 0 = λ x. IsFit h3 x in (
-          heard,
+        let brings = h.hears base (after_frames f.sent log1) same2 law.1 in
+        let none : h2.waiting ≡ [] = f.waiting ∙ s.waiting ∙ empty in (
+          brings.0,
           brings.4,
           record {
             submits = s.submits;
@@ -60,42 +51,44 @@ module _ (host h1 h2 : Host) (c c1 : Course) (taken taken1 : Option Frames) (s :
             turned = h.turned;
             hears = brings.1;
             matches = brings.2;
-            waiting = brings.3 ∙ ap (λ (l : List Done). l ++ told_by heard) none;
+            waiting = brings.3 ∙ ap (λ (l : List Done). l ++ told_by brings.0) none;
             same = same-then base h2 h3 same2 h.held.same;
-            fit = subst P (sym course) (fit-held h2 h3 c1 h.held (fit-held h1 h2 c1 f.held s.fit));
+            fit = rw course (fit-held h.held (fit-held f.held s.fit));
           },
         )
 
     pub exchanged-answer : finished ≡ true → (h : Heard) × Exchanged base log c c3 h3 (Some h) start turned' given given' taken taken1
     exchanged-answer is = at exchanged.0 (sym is ∙ exchanged.1) exchanged.2
       where
-        at : (heard : Option Heard) → true ≡ is_heard heard → Exchanged base log c c3 h3 heard start turned' given given' taken taken1 → (h : Heard) × Exchanged base log c c3 h3 (Some h) start turned' given given' taken taken1
+        at : (heard : Option Heard) → true ≡ is_heard heard → Exchanged base log c c3 h3 heard start turned' given given' taken taken1
+            → (h : Heard) × Exchanged base log c c3 h3 (Some h) start turned' given given' taken taken1
         at None e x = absurd cc
         at (Some h) e x = (h, x)
 
     pub exchanged-quiet : finished ≡ false → Exchanged base log c c3 h3 None start turned' given given' taken taken1
     exchanged-quiet is = at exchanged.0 (sym is ∙ exchanged.1) exchanged.2
       where
-        at : (heard : Option Heard) → false ≡ is_heard heard → Exchanged base log c c3 h3 heard start turned' given given' taken taken1 → Exchanged base log c c3 h3 None start turned' given given' taken taken1
+        at : (heard : Option Heard) → false ≡ is_heard heard → Exchanged base log c c3 h3 heard start turned' given given' taken taken1
+            → Exchanged base log c c3 h3 None start turned' given given' taken taken1
         at None e x = x
         at (Some h) e x = absurd cc
 
-  pub broken-send : (failed : Failed) → SendsSome (Err failed) h1 h2 taken taken1 → Broken base log c taken taken1
-  broken-send failed f = record {
+  pub broken-send : {h2 : Host} {taken taken1 : Option Frames} {failed : Failed} → SendsSome (Err failed) h1 h2 taken taken1 → Broken base log c taken taken1
+  broken-send f = record {
     submits = s.submits;
     are = s.are;
     filled = filled1;
     sent = f.sent;
     took = inr f.took;
-    sends = (f.sends base log1 same1 m1).0;
+    sends = (f.sends base log1 same1 (s.matches log m)).0;
   }
 
-  pub broken-hear : SendsSome (Ok record {}) h1 h2 taken taken1 → Broken base log c taken taken1
+  pub broken-hear : {h2 : Host} {taken taken1 : Option Frames} → SendsSome (Ok record {}) h1 h2 taken taken1 → Broken base log c taken taken1
   broken-hear f = record {
     submits = s.submits;
     are = s.are;
     filled = filled1;
     sent = f.sent;
     took = inl f.took;
-    sends = (f.sends base log1 same1 m1).0;
+    sends = (f.sends base log1 same1 (s.matches log m)).0;
   }

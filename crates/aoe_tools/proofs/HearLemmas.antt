@@ -1,5 +1,5 @@
 -- What a turn of a link brings to the host of a transfer.
-use Rattle.std.proofs.Common.{ℕ, ◌≡◌, true, false, List, [], ◌∷◌, Option, Some, None, refl, sym, ap, subst, ◌∙◌, drop}
+use Rattle.std.proofs.Common.{ℕ, ◌≡◌, true, false, List, [], ◌∷◌, Option, Some, None, refl, drop}
 use Rattle.std.proofs.lemmas.List.{append-nil}
 use Rattle.aoe_base.specs.declared.counted.Ticket.{Ticket}
 use Rattle.aoe_initiator.specs.declared.step.Taken.TheVariants.{Finished, Stale}
@@ -10,30 +10,28 @@ use Rattle.aoe_initiator.specs.Response.{outcome_of}
 use Rattle.aoe_io.specs.Link.{Turn, Turned, came}
 use Rattle.aoe_tools.specs.TransferSteps.{HearsOne}
 
-module _ (host host' : Host) (start turned' : ℕ) (given given' : Option (List Turn)) (frame : List ℕ) (turned : Turned start turned' given given' (came frame ∷ [])) (held : IsSame host host' × (host'.clock ≡ host.clock) × (host'.last_ticket ≡ host.last_ticket)) where
-  pub hears-answer : (ticket : Ticket) → ((log : List Event) → Matches log host → Takes host frame log (Finished ticket) host') → HearsOne true host host' start turned' given given'
-  hears-answer ticket takes = record {
+module _ {host host' : Host} {start turned' : ℕ} {given given' : Option (List Turn)} (frame : List ℕ) (turned : Turned start turned' given given' (came frame ∷ []))
+    (held : IsSame host host' × (host'.clock ≡ host.clock) × (host'.last_ticket ≡ host.last_ticket)) where
+  pub hears-answer : {ticket : Ticket} → ((log : List Event) → Matches log host → Takes host frame log (Finished ticket) host') → HearsOne true host host' start turned' given given'
+  hears-answer {ticket} takes = record {
     brought = came frame;
     turned = turned;
     hears = λ base log same m.
-        let t = takes log m in
-        let command = t.0 in
-        let answer = t.1 in
-        let path = t.2 in (
+        let (command, answer, path, there, own, answers, comes, waiting, matches) = takes log m in (
           Some record { ticket = ticket; path = path; outcome = outcome_of answer (drop 24 frame) },
           record {
             host = host;
             at = record { same = same; time = m.time };
             command = command;
             answer = answer;
-            there = t.3;
-            ticket = t.4;
-            answers = t.5;
-            came = t.6;
+            there = there;
+            ticket = own;
+            answers = answers;
+            came = comes;
             says = refl;
           },
-          t.8,
-          t.7,
+          matches,
+          waiting,
           refl,
         );
     held = record { same = held.0; last = held.2 };
@@ -44,12 +42,11 @@ module _ (host host' : Host) (start turned' : ℕ) (given given' : Option (List 
     brought = came frame;
     turned = turned;
     hears = λ base log same m.
-        let t = takes log m in
-        let P : Host → Type 0 = λ x. Matches log x in (
+        let t = takes log m in (
           None,
           record { host = host; at = record { same = same; time = m.time }; none_answered = t.0 },
-          subst P (sym t.1) m,
-          ap (λ (x : Host). x.waiting) t.1 ∙ sym (append-nil host.waiting),
+          rw t.1 m,
+          rw (t.1, append-nil),
           refl,
         );
     held = record { same = held.0; last = held.2 };

@@ -1,7 +1,8 @@
 -- A request that waits for one response.
-use Rattle.std.proofs.Common.{ℕ, ◌≡◌, ◌≤◌, ◌<◌, ◌+◌, ◌||◌, true, false, List, [], ◌∷◌, drop, length, Option, Some, None, ap, ◌∙◌, arith}
+use Rattle.std.proofs.Common.{ℕ, ◌≡◌, ◌≤◌, ◌<◌, ◌+◌, true, false, List, [], ◌∷◌, drop, length, Option, Some, None, arith}
 use Rattle.std.proofs.lemmas.Bool.{eq-eqb, ne_eqb}
-use Rattle.std.specs.Prelude.{Ok, nat_eq, nat_lt}
+use Rattle.std.specs.Prelude.{Ok, Err}
+use Rattle.aoe_base.specs.declared.failure.Failed.{Failed}
 use Rattle.aoe_io.specs.Link.{Added, Turn, Turned}
 use Rattle.aoe_tools.specs.Asking.{Response, asked, brought, responses, with_response}
 use Rattle.aoe_tools.specs.Listening.{Listens, Waits}
@@ -11,19 +12,18 @@ use Rattle.aoe_tools.specs.declared.question.Reply.{Reply}
 use Rattle.aoe_tools.proofs.ListenLemmas.{Frames}
 
 -- no response came, and there are more turns
-pub waits-on : (q : Question) (limit : ℕ) (turns : List Turn) → responses q turns ≡ [] → length turns < limit → is_done q limit turns ≡ false
-waits-on q limit turns silent below =
-    ap (λ l. nat_lt 0 (length l) || nat_eq (length turns) limit) silent ∙ ne_eqb (length turns) limit (λ e. omega (arith, e, below))
+waits-on : (q : Question) (limit : ℕ) (turns : List Turn) → responses q turns ≡ [] → length turns < limit → is_done q limit turns ≡ false
+waits-on q limit turns silent below = rw silent (ne_eqb (length turns) limit (λ e. omega (arith, e, below)))
 
-silent-before : (o : Option Response) (rs : List Response) → with_response o rs ≡ [] → rs ≡ []
-silent-before None rs e = e
-silent-before (Some r) rs e = absurd cc
-
-pub went-on : (q : Question) (limit : ℕ) (turns : List Turn) → responses q turns ≡ [] → length turns ≤ limit → GoesOn q limit turns
+went-on : (q : Question) (limit : ℕ) (turns : List Turn) → responses q turns ≡ [] → length turns ≤ limit → GoesOn q limit turns
 went-on q limit [] silent within = tt
 went-on q limit (t ∷ turns) silent within =
-    let before = silent-before (brought q t) (responses q turns) silent in
+    let before = silent-before (brought q t) silent in
     (waits-on q limit turns before (omega (arith, within)), went-on q limit turns before (omega (arith, within)))
+  where
+    silent-before : (o : Option Response) → with_response o (responses q turns) ≡ [] → responses q turns ≡ []
+    silent-before None e = e
+    silent-before (Some r) e = absurd cc
 
 -- what a request heard until it ended: these responses, of which there is one at most
 pub record Heard (q : Question) (request : List ℕ) (limit start last : ℕ) (given given' : Option (List Turn)) (taken taken' : Option Frames) (came : List Response) : Type 0 where
@@ -34,7 +34,13 @@ pub record Heard (q : Question) (request : List ℕ) (limit start last : ℕ) (g
   pub says : responses q turns ≡ came
   pub took : Added taken taken' (asked request (length turns))
 
-module _ (q : Question) (request : List ℕ) (limit now : ℕ) (frame : List ℕ) (start last : ℕ) (given given' : Option (List Turn)) (taken taken' : Option Frames) where
+module _ {q : Question} {request : List ℕ} {limit now : ℕ} {frame : List ℕ} {start last : ℕ} {given given' : Option (List Turn)} {taken taken' : Option Frames} where
+  -- the link failed before it ended
+  pub not-done : {e : Failed} (l : Listens (Err e) q request limit 0 now frame start last given given' taken taken') → (is_done q limit l.turns ≡ false) × GoesOn q limit l.turns
+  not-done l =
+      let below : length l.turns < limit = omega (arith, l.passed, l.waits.1) in
+      (waits-on q limit l.turns l.waits.0 below, went-on q limit l.turns l.waits.0 (omega (arith, below)))
+
   pub heard-none : Listens (Ok None) q request limit 0 now frame start last given given' taken taken' → Heard q request limit start last given given' taken taken' []
   heard-none l =
       let all : length l.turns ≡ limit = omega (arith, l.passed, l.waits.1) in
@@ -42,29 +48,26 @@ module _ (q : Question) (request : List ℕ) (limit now : ℕ) (frame : List ℕ
         turns = l.turns;
         turned = l.turned;
         goes_on = went-on q limit l.turns l.waits.0 (omega (arith, all));
-        done = ap (λ rs. nat_lt 0 (length rs) || nat_eq (length l.turns) limit) l.waits.0 ∙ eq-eqb (length l.turns) limit all;
+        done = rw l.waits.0 (eq-eqb (length l.turns) limit all);
         says = l.waits.0;
         took = l.waits.2;
       }
 
   -- the last turn brought the response
-  pub heard-one : (r : Reply) → Listens (Ok (Some r)) q request limit 0 now frame start last given given' taken taken'
+  pub heard-one : {r : Reply} → Listens (Ok (Some r)) q request limit 0 now frame start last given given' taken taken'
       → Heard q request limit start last given given' taken taken' (record { reply = r; args = drop 24 frame } ∷ [])
-  heard-one r l = at l.turns l.turned l.passed l.waits
+  heard-one {r} l = at l.turns l.turned l.passed l.waits
     where
-      response : Response
-      response = record { reply = r; args = drop 24 frame }
-
-      at : (turns : List Turn) → Turned start last given given' turns → now ≡ 0 + length turns → Waits (Ok (Some r)) q request limit 0 now frame turns taken taken' → Heard q request limit start last given given' taken taken' (response ∷ [])
+      at : (turns : List Turn) → Turned start last given given' turns → now ≡ 0 + length turns → Waits (Ok (Some r)) q request limit 0 now frame turns taken taken'
+          → Heard q request limit start last given given' taken taken' (record { reply = r; args = drop 24 frame } ∷ [])
       at [] turned passed waits = absurd waits
       at (t ∷ turns) turned passed waits =
           let before : length turns < limit = omega (arith, passed, waits.2) in
-          let says : responses q (t ∷ turns) ≡ response ∷ [] = ap (λ o. with_response o (responses q turns)) waits.0 ∙ ap (λ rs. response ∷ rs) waits.1 in
           record {
             turns = t ∷ turns;
             turned = turned;
             goes_on = (waits-on q limit turns waits.1 before, went-on q limit turns waits.1 (omega (arith, before)));
-            done = ap (λ rs. nat_lt 0 (length rs) || nat_eq (length (t ∷ turns)) limit) says;
-            says = says;
+            done = rw (waits.0, waits.1);
+            says = rw (waits.0, waits.1);
             took = waits.3;
           }

@@ -12,7 +12,7 @@ use Rattle.aoe_io.proofs.LinkLemmas.{Added-then}
 use Rattle.aoe_io.specs.Link.{Added}
 use Rattle.aoe_tools.proofs.ListenLemmas.{Frames}
 use Rattle.aoe_tools.proofs.TransferHost.{active, few-active, next-active, none-active}
-use Rattle.aoe_tools.specs.TransferRun.{after_frames, AreSent, MaySend, Outgoing}
+use Rattle.aoe_tools.specs.TransferRun.{after_frames, AreSent, IsSilent, MaySend, Outgoing}
 use Rattle.aoe_tools.specs.TransferSteps.{IsHeld, SendsSome}
 
 -- so many frames were sent, and the link took them
@@ -36,25 +36,31 @@ pub when-none : {A : Type 0} (Q : Type 0) (o : Option A) → is_some o ≡ false
 when-none Q None e q = q
 when-none Q (Some x) e q = absurd cc
 
-pub pulls : (host host' : Host) (o : Option Sent) (frame : List ℕ) → is_some o ≡ true
-    → IfSome o (λ sent. (log : List Event) → Matches log host → IsNext host (commands log) sent)
-    → IfSome o (λ sent. (log : List Event) → Matches log host → IsFrameOf host (commands log) sent frame)
-    → IfSome o (λ sent. (log : List Event) → Matches log host → IsOnNextPath host log sent)
-    → IfSome o (λ sent. (log : List Event) → Matches log host → Matches (Sends sent.ticket sent.tag sent.path ∷ log) host')
-    → IsHeld host host' → host'.waiting ≡ host.waiting → (sent : Sent) × Pulls host host' sent frame
-pulls host host' None frame e next frame_is path sends held waiting = absurd cc
-pulls host host' (Some sent) frame e next frame_is path sends held waiting =
-    (sent, record { next = next; frame_is = frame_is; path = path; sends = sends; held = held; waiting = waiting })
+module _ (host host' : Host) (frame : List ℕ) where
+  pub pulls : (o : Option Sent) → is_some o ≡ true
+      → IfSome o (λ sent. (log : List Event) → Matches log host → IsNext host (commands log) sent)
+      → IfSome o (λ sent. (log : List Event) → Matches log host → IsFrameOf host (commands log) sent frame)
+      → IfSome o (λ sent. (log : List Event) → Matches log host → IsOnNextPath host log sent)
+      → IfSome o (λ sent. (log : List Event) → Matches log host → Matches (Sends sent.ticket sent.tag sent.path ∷ log) host')
+      → IsHeld host host' → host'.waiting ≡ host.waiting → (sent : Sent) × Pulls host host' sent frame
+  pulls None e next frame_is path sends held waiting = absurd cc
+  pulls (Some sent) e next frame_is path sends held waiting =
+      (sent, record { next = next; frame_is = frame_is; path = path; sends = sends; held = held; waiting = waiting })
 
-module _ (n : ℕ) (start host host' : Host) (before mid : Option Frames) (s : Sending n start host before mid) where
-  next-held : IsHeld host host' → IsHeld start host'
-  next-held held = record { same = same-then start host host' s.held.same held.same; last = held.last ∙ s.held.last }
+-- nothing more may be sent by a host that is quiet
+silent : {base start host : Host} {log : List Event} → IsSame base start → IsHeld start host → Matches log host → IsQuiet host (commands log) → IsSilent base log
+silent {base} {start} {host} same held m quiet = record { host = host; at = record { same = same-then base start host same held.same; time = m.time }; quiet = quiet }
 
-  module _ (sent : Sent) (frame : List ℕ) (p : Pulls host host' sent frame) where
+module _ {n : ℕ} {start host : Host} {before mid : Option Frames} (s : Sending n start host before mid) where
+  next-held : {host' : Host} → IsHeld host host' → IsHeld start host'
+  next-held {host'} held = record { same = same-then start host host' s.held.same held.same; last = held.last ∙ s.held.last }
+
+  module _ {host' : Host} {sent : Sent} {frame : List ℕ} (p : Pulls host host' sent frame) where
     abbrev out : Outgoing
     out = record { sent = sent; frame = frame }
 
-    next-law : (base : Host) (log : List Event) → IsSame base start → Matches log start → AreSent base log (out ∷ s.sent) × Matches (after_frames (out ∷ s.sent) log) host' × (active (after_frames (out ∷ s.sent) log) + (n + 1) ≤ active log)
+    next-law : (base : Host) (log : List Event) → IsSame base start → Matches log start
+        → AreSent base log (out ∷ s.sent) × Matches (after_frames (out ∷ s.sent) log) host' × (active (after_frames (out ∷ s.sent) log) + (n + 1) ≤ active log)
     next-law base log same m =
         let so_far = s.sends base log same m in
         let log' = after_frames s.sent log in
@@ -78,8 +84,8 @@ module _ (n : ℕ) (start host host' : Host) (before mid : Option Frames) (s : S
     }
 
     -- it doesn't
-    pub sends-last : (failed : Failed) (after : Option Frames) → after ≡ mid → SendsSome (Err failed) start host' before after
-    sends-last failed after is = record {
+    pub sends-last : {failed : Failed} {after : Option Frames} → after ≡ mid → SendsSome (Err failed) start host' before after
+    sends-last is = record {
       sent = out ∷ s.sent;
       took = is ∙ s.took;
       sends = λ base log same m. let law = next-law base log same m in (law.0, law.1, tt);
@@ -88,29 +94,29 @@ module _ (n : ℕ) (start host host' : Host) (before mid : Option Frames) (s : S
     }
 
   -- no frame is left
-  pub sends-all : ((log : List Event) → Matches log host → IsQuiet host (commands log)) → ((log : List Event) → Matches log host → Matches log host') → IsHeld host host' → host'.waiting ≡ host.waiting
-      → SendsSome (Ok record {}) start host' before mid
+  pub sends-all : {host' : Host} → ((log : List Event) → Matches log host → IsQuiet host (commands log)) → ((log : List Event) → Matches log host → Matches log host') → IsHeld host host'
+      → host'.waiting ≡ host.waiting → SendsSome (Ok record {}) start host' before mid
   sends-all quiet stays held waiting = record {
     sent = s.sent;
     took = s.took;
     sends = λ base log same m.
         let so_far = s.sends base log same m in
         let log' = after_frames s.sent log in
-        (so_far.0, stays log' so_far.1, record { host = host; at = record { same = same-then base start host same s.held.same; time = so_far.1.time }; quiet = quiet log' so_far.1 });
+        (so_far.0, stays log' so_far.1, silent same s.held so_far.1 (quiet log' so_far.1));
     held = next-held held;
     waiting = waiting ∙ s.waiting;
   }
 
 -- so many frames were sent that no command is left to be sent
-pub sends-full : (start host : Host) (before after : Option Frames) → start.last_ticket ≤ 65536 → Sending 65536 start host before after → SendsSome (Ok record {}) start host before after
-sends-full start host before after few s = record {
+pub sends-full : {start host : Host} {before after : Option Frames} → start.last_ticket ≤ 65536 → Sending 65536 start host before after → SendsSome (Ok record {}) start host before after
+sends-full {start} {host} few s = record {
   sent = s.sent;
   took = s.took;
   sends = λ base log same m.
       let so_far = s.sends base log same m in
       let log' = after_frames s.sent log in
       let none : active log' ≡ 0 = omega (arith, so_far.2, few-active start log m, few) in
-      (so_far.0, so_far.1, record { host = host; at = record { same = same-then base start host same s.held.same; time = so_far.1.time }; quiet = none-active host log' so_far.1 none });
+      (so_far.0, so_far.1, silent same s.held so_far.1 (none-active host log' so_far.1 none));
   held = s.held;
   waiting = s.waiting;
 }

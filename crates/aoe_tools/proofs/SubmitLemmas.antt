@@ -1,5 +1,5 @@
 -- The commands of a turn, one by one.
-use Rattle.std.proofs.Common.{ℕ, ◌≡◌, ◌<◌, ◌+◌, List, ◌∷◌, length, Some, sym, ap, subst, ◌∙◌, arith}
+use Rattle.std.proofs.Common.{ℕ, ◌≡◌, ◌<◌, ◌+◌, List, ◌∷◌, length, Some, sym, ap, ◌∙◌, arith}
 use Rattle.aoe_initiator.proofs.MatchLemmas.{same-then}
 use Rattle.std.proofs.lemmas.List.{length-map}
 use Rattle.aoe_base.specs.declared.counted.Ticket.{Ticket}
@@ -22,14 +22,13 @@ pub as-many : (host host' : Host) → IsSame host host' → length host'.devices
 as-many host host' same =
     sym (length-map host'.devices (λ (d : Device). d.about)) ∙ ap (λ (l : List Attached). length l) same.devices ∙ length-map host.devices (λ (d : Device). d.about)
 
-pub submits-one : (host host' : Host) (c c' : Course) (op : Op) (ticket : Ticket) → IsFit host c → next_op c ≡ Some op → ticket.0 ≡ host.last_ticket + 1 → c' ≡ handed ticket c
+pub submits-one : {host host' : Host} {c c' : Course} {op : Op} {ticket : Ticket} → IsFit host c → next_op c ≡ Some op → ticket.0 ≡ host.last_ticket + 1 → c' ≡ handed ticket c
     → ((log : List Event) → Matches log host → Matches (Submits ticket (record { 0 = 0 }) op ∷ log) host')
     → IsSame host host' × (host'.clock ≡ host.clock) × (host'.last_ticket ≡ ticket.0) × (host'.waiting ≡ host.waiting)
     → ((last : ℕ) (ticket : Ticket) (parts : List Part) → AreUpTo last parts → last < ticket.0 → AreUpTo ticket.0 (hand ticket parts))
     → SubmitsOne host host' c c'
-submits-one host host' c c' op ticket fit next is after matches same law =
+submits-one {host} {host'} {c} {op = op} {ticket} fit next is after matches same law =
     let later : host.last_ticket < ticket.0 = omega (arith, is) in
-    let Q : Course → Type 0 = λ x. IsFit host' x in
     record {
       is = record { ticket = ticket; op = op };
       next = next;
@@ -37,20 +36,20 @@ submits-one host host' c c' op ticket fit next is after matches same law =
       matches = matches;
       same = same.0;
       waiting = same.3;
-      fit = subst Q (sym after) (record {
+      fit = rw after (record {
         attached = as-many host host' same.0 ∙ fit.attached;
         few = omega (arith, same.2, is, fit.few, left-handed ticket c op next);
         tickets = rw same.2 (up-to-handed host.last_ticket ticket c law fit.tickets later);
       });
     }
 
-pub submits-more : (start host host' : Host) (first c c' : Course) → SubmitsSome start host first c → c.under_way < 64 → SubmitsOne host host' c c' → SubmitsSome start host' first c'
-submits-more start host host' first c c' s few one =
+pub submits-more : {start host host' : Host} {first c c' : Course} → SubmitsSome start host first c → c.under_way < 64 → SubmitsOne host host' c c' → SubmitsSome start host' first c'
+submits-more {start} {host} {host'} s few one =
     let is = s.course in
     record {
       submits = one.is ∷ s.submits;
-      are = (s.are, ap next_op (sym is) ∙ one.next, rw (← is) few);
-      course = one.course ∙ ap (handed one.is.ticket) is;
+      are = (s.are, rw is at one.next, rw is at few);
+      course = rw is at one.course;
       matches = λ log m. one.matches (after_submits s.submits log) (s.matches log m);
       same = same-then start host host' s.same one.same;
       waiting = one.waiting ∙ s.waiting;

@@ -1,5 +1,5 @@
 -- The host of a transfer: what never changes of it, and how many of its commands can still be sent or answered.
-use Rattle.std.proofs.Common.{ℕ, ◌≡◌, ◌≤◌, ◌<◌, ◌+◌, ◌*◌, ◌-◌, ◌^◌, ◌&&◌, cond, not, Bool, true, false, nat_eq, nat_le, List, [], ◌∷◌, length, map, Option, Some, None, refl, sym, ap, subst, ◌∙◌, arith, inl, inr}
+use Rattle.std.proofs.Common.{ℕ, ◌≡◌, ◌≤◌, ◌<◌, ◌+◌, ◌*◌, ◌-◌, ◌^◌, ◌&&◌, cond, not, Bool, true, false, nat_eq, nat_le, List, [], ◌∷◌, length, map, Option, Some, None, refl, sym, ap, ◌∙◌, arith, inl, inr}
 use Rattle.aoe_initiator.proofs.MatchLemmas.{stage-unsent, sent-from}
 use Rattle.std.specs.Prelude.{option_map, All, Contains}
 use Rattle.std.specs.List.{count_by, list_any}
@@ -8,9 +8,10 @@ use Rattle.std.proofs.lemmas.List.Sums.{count_by-le-length}
 use Rattle.std.proofs.lemmas.Bool.{and_parts, cases_Bool, leb-true, and_right, eq-eqb}
 use Rattle.std.proofs.lemmas.List.Elements.{All-cons, All-head, All-nil, All-tail, All-weaker}
 use Rattle.std.proofs.lemmas.Nat.{pow_pos}
+use Rattle.std.proofs.lemmas.Option.{same_Some}
 use Rattle.aoe_base.specs.declared.counted.PathNo.{PathNo}
 use Rattle.aoe_base.specs.declared.counted.Ticket.{Ticket}
-use Rattle.aoe_base.proofs.CountLemmas.{count-cons, none-all}
+use Rattle.aoe_base.proofs.CountLemmas.{count-cons, count-no, count-yes, none-all}
 use Rattle.aoe_flight.specs.declared.outstanding.Outstanding.{Outstanding}
 use Rattle.aoe_flight.specs.Outstanding.{is_due}
 use Rattle.aoe_hold.specs.Commands.{keeps_back, unsent}
@@ -28,10 +29,8 @@ same-self a = record { ports = refl; life = refl; room = refl; dead = refl; devi
 
 -- how many pass a test after a change
 fewer-one : (a b : Bool) → (a ≡ true → b ≡ true) → cond a 1 0 ≤ cond b 1 0
-fewer-one true true more = omega arith
-fewer-one true false more = absurd (let e : false ≡ true = more refl in absurd cc)
-fewer-one false true more = omega arith
-fewer-one false false more = omega arith
+fewer-one true false more = absurd (let no = more refl in cc)
+fewer-one _ _ more = omega arith
 
 pub count-fewer : {A : Type 0} (p : A → Bool) (f : A → A) → ((x : A) → p (f x) ≡ true → p x ≡ true) → (xs : List A) → count_by p (map f xs) ≤ count_by p xs
 count-fewer p f fewer [] = omega arith
@@ -40,13 +39,8 @@ count-fewer p f fewer (x ∷ xs) = omega (arith, count-cons p (f x) (map f xs), 
 pub count-one-fewer : {A : Type 0} (p : A → Bool) (f : A → A) → ((x : A) → p (f x) ≡ true → p x ≡ true) → (xs : List A) (c : A) → Contains xs c → p c ≡ true → p (f c) ≡ false
     → count_by p (map f xs) + 1 ≤ count_by p xs
 count-one-fewer p f fewer [] c there passes fails = absurd (omega (arith, there.1))
-count-one-fewer {A} p f fewer (x ∷ xs) c there passes fails = elim (Contains-cons_cases x c xs there) [
-  | inl same ↦
-      let here : p x ≡ true = ap p same ∙ passes in
-      let gone : p (f x) ≡ false = ap (λ (y : A). p (f y)) same ∙ fails in
-      let before : count_by p (x ∷ xs) ≡ 1 + count_by p xs = count-cons p x xs ∙ rw here refl in
-      let after : count_by p (map f (x ∷ xs)) ≡ 0 + count_by p (map f xs) = count-cons p (f x) (map f xs) ∙ rw gone refl in
-      omega (arith, before, after, count-fewer p f fewer xs)
+count-one-fewer p f fewer (x ∷ xs) c there passes fails = elim (Contains-cons_cases x c xs there) [
+  | inl same ↦ omega (arith, count-yes p x xs (rw same passes), count-no p (f x) (map f xs) (rw same fails), count-fewer p f fewer xs)
   | inr behind ↦
       omega (arith, count-cons p (f x) (map f xs), count-cons p x xs, fewer-one (p (f x)) (p x) (fewer x), count-one-fewer p f fewer xs c behind passes fails)
 ]
@@ -94,25 +88,23 @@ module _ (log : List Event) (ticket : Ticket) (tag : ℕ) (path : PathNo) where
   inactive-sent c = sent-inactive (clock log) tag (timeout_on (path_log log c.device.0) path.0) path c (some-timeout (trips_on (path_log log c.device.0) path.0))
 
   fewer-active : (c : HostCommand) → is_active (clock log) (at_ticket ticket sends c) ≡ true → is_active (clock log) c ≡ true
-  fewer-active c = at (nat_eq c.ticket.0 ticket.0)
-    where
-      at : (b : Bool) → is_active (clock log) (cond b (sends c) c) ≡ true → is_active (clock log) c ≡ true
-      at true is = let not_so = inactive-sent c in absurd cc
-      at false is = is
+  fewer-active c is = elim (cases_Bool (nat_eq c.ticket.0 ticket.0)) [
+    | inl own ↦ absurd (let sent = inactive-sent c in let active = rw own at is in cc)
+    | inr other ↦ rw other at is
+  ]
 
   -- after a frame of an active command there is one less
   pub active-sent : (c : HostCommand) → Contains (commands log) c → c.ticket ≡ ticket → is_active (clock log) c ≡ true → active (Sends ticket tag path ∷ log) + 1 ≤ active log
   active-sent c there is before =
-      let own : nat_eq c.ticket.0 ticket.0 ≡ true = ap (λ (t : Ticket). nat_eq t.0 ticket.0) is ∙ eq-eqb ticket.0 ticket.0 refl in
-      let after : is_active (clock log) (at_ticket ticket sends c) ≡ false = ap (λ (b : Bool). is_active (clock log) (cond b (sends c) c)) own ∙ inactive-sent c in
-      count-one-fewer (is_active (clock log)) (at_ticket ticket sends) fewer-active (commands log) c there before after
+      let own : nat_eq c.ticket.0 ticket.0 ≡ true = rw is (eq-eqb ticket.0 ticket.0 refl) in
+      count-one-fewer (is_active (clock log)) (at_ticket ticket sends) fewer-active (commands log) c there before (rw own (inactive-sent c))
 
 due-active : (now : ℕ) (c : HostCommand) (o : Outstanding) → as_sent c ≡ Some o → is_due now o ≡ is_active now c
 due-active now c o e = at c.sends e
   where
     at : (s : Option Sending) → option_map (outstanding c) s ≡ Some o → is_due now o ≡ active_by now c.done s
     at None e = absurd cc
-    at (Some s) e = let is : outstanding c s ≡ o = cc in ap (is_due now) (sym is)
+    at (Some s) e = rw (← (same_Some _ _ e))
 
 -- what is sent next is active
 pub next-active : (host : Host) (log : List Event) (sent : Sent) → Matches log host → IsNext host (commands log) sent → active (Sends sent.ticket sent.tag sent.path ∷ log) + 1 ≤ active log
@@ -139,7 +131,7 @@ with (Some x) l = x ∷ l
 -- where nothing is active nothing may be sent
 pub none-active : (host : Host) (log : List Event) → Matches log host → active log ≡ 0 → IsQuiet host (commands log)
 none-active host log m none = record {
-  nothing_due = due (commands log) (subst (λ (n : ℕ). All (λ c. is_active n c ≡ false) (commands log)) (sym m.time) idle);
+  nothing_due = due (commands log) (rw (← m.time) at idle);
   nothing_clear = inr (All-weaker (λ c. is_active (clock log) c ≡ false) (λ c. is_clear_at host.life host.clock (commands log) c ≡ false) unclear (commands log) idle);
 }
   where
@@ -161,7 +153,7 @@ none-active host log m none = record {
     unclear c is = by c.sends refl
       where
         by : (o : Option Sending) → c.sends ≡ o → is_clear_at host.life host.clock (commands log) c ≡ false
-        by None e = let so : is_active (clock log) c ≡ true = ap (active_by (clock log) c.done) e in absurd cc
+        by None e = absurd (let active = rw e at is in cc)
         by (Some s) e = rw e (sent-not c.done)
           where
             sent-not : (d : Bool) → (unsent (stage (Some s) d) && not (list_any (λ earlier. keeps_back host.life host.clock earlier (record (as_entered c) { stage = stage (Some s) d })) (entered_at c.device.0 (commands log)))) ≡ false

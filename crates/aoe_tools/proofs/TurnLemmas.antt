@@ -1,5 +1,6 @@
 -- A turn of a transfer, of its two parts.
 use Rattle.std.proofs.Common.{ℕ, ◌≡◌, ◌<◌, max, Bool, true, false, List, [], ◌∷◌, ◌++◌, map, reverse, Option, Some, None, refl, sym, ap, subst, ◌∙◌, arith}
+use Rattle.std.proofs.lemmas.Option.{same_Some}
 use Rattle.aoe_initiator.proofs.MatchLemmas.{same-then}
 use Rattle.std.specs.Prelude.{Result, Ok, Err, All}
 use Rattle.aoe_block.specs.Calls.{settle, AreUpTo}
@@ -7,7 +8,7 @@ use Rattle.aoe_block.specs.Parts.{Transfer}
 use Rattle.aoe_flight.specs.Outstanding.{is_expired}
 use Rattle.aoe_initiator.specs.declared.outcome.Done.{Done}
 use Rattle.aoe_initiator.specs.Host.{Host, IsSame, Matches}
-use Rattle.aoe_initiator.specs.HostLaw.{ended, GaveUpInTurn}
+use Rattle.aoe_initiator.specs.HostLaw.{GaveUpInTurn}
 use Rattle.aoe_initiator.specs.HostLog.{clock, commands, sent_of, Event}
 use Rattle.aoe_initiator.specs.HostLog.Event.{Advances}
 use Rattle.aoe_io.specs.Link.{Turn}
@@ -27,87 +28,73 @@ use Rattle.aoe_tools.specs.TransferRun.{after_tick, dones, log_of, quiet_turns, 
 use Rattle.aoe_tools.specs.TransferSteps.{Broken, Exchanged, Exchanges, TakesRound, Turns}
 
 -- only the waiting outcomes of a host changed
-pub retold-same : (host host' : Host) → host' ≡ record host { waiting = host'.waiting } → IsSame host host'
-retold-same host host' is = record {
-  ports = ap (λ (x : Host). x.ports) is;
-  life = ap (λ (x : Host). x.life) is;
-  room = ap (λ (x : Host). x.room) is;
-  dead = ap (λ (x : Host). x.dead) is;
-  devices = ap (λ (x : Host). map (λ d. d.about) x.devices) is;
-}
+retold-same : {host host' : Host} → host' ≡ record host { waiting = host'.waiting } → IsSame host host'
+retold-same is = rw is (record { ports = refl; life = refl; room = refl; dead = refl; devices = refl })
 
 -- what an advance of the host does
-pub record Advanced (host advanced : Host) (now : ℕ) (gave_up : List Done) : Type 0 where
-  pub waiting : advanced.waiting ≡ host.waiting ++ reverse gave_up
-  pub gives : (log : List Event) → Matches log host → GaveUpInTurn host.dead advanced.clock (Advances (record { 0 = now }) ∷ log) gave_up
-      × All (λ o. is_expired host.dead advanced.clock o ≡ false) (sent_of (commands (ended gave_up (Advances (record { 0 = now }) ∷ log)))) × Matches (ended gave_up (Advances (record { 0 = now }) ∷ log)) advanced
+pub record Advanced (host advanced : Host) (now : ℕ) : Type 0 where
+  pub gives_up : (gave_up : List Done) × (advanced.waiting ≡ host.waiting ++ reverse gave_up)
+      × ((log : List Event) → Matches log host → GaveUpInTurn host.dead advanced.clock (Advances (record { 0 = now }) ∷ log) gave_up
+      × All (λ o. is_expired host.dead advanced.clock o ≡ false) (sent_of (commands (after_tick now gave_up log))) × Matches (after_tick now gave_up log) advanced)
   pub clock_is : advanced.clock ≡ max host.clock now
   pub same : IsSame host advanced
   pub last : advanced.last_ticket ≡ host.last_ticket
 
-module _ (host advanced h1 : Host) (now : ℕ) (gave_up : List Done) (a : Advanced host advanced now gave_up) (is : h1 ≡ record advanced { waiting = h1.waiting }) where
+module _ {host advanced h1 : Host} {now : ℕ} (a : Advanced host advanced now) (is : h1 ≡ record advanced { waiting = h1.waiting }) where
   -- the host and the course still fit
-  pub fit-turn : (turns : ℕ) (c c1 : Course) (waiting : List Done) → IsFit host c → c1 ≡ after_dones turns c waiting → ((last : ℕ) (block : Transfer) (done : Done) → AreUpTo last block.parts → AreUpTo last (settle block done).parts) → IsFit h1 c1
+  pub fit-turn : (turns : ℕ) (c c1 : Course) (waiting : List Done) → IsFit host c → c1 ≡ after_dones turns c waiting
+      → ((last : ℕ) (block : Transfer) (done : Done) → AreUpTo last block.parts → AreUpTo last (settle block done).parts) → IsFit h1 c1
   fit-turn turns c c1 waiting fit after law =
-      let last : h1.last_ticket ≡ host.last_ticket = ap (λ (x : Host). x.last_ticket) is ∙ a.last in
-      let P : Course → Type 0 = λ x. IsFit h1 x in
-      subst P (sym after) (record {
-        attached = as-many advanced h1 (retold-same advanced h1 is) ∙ as-many host advanced a.same ∙ fit.attached;
+      let last : h1.last_ticket ≡ host.last_ticket = rw is a.last in
+      rw after (record {
+        attached = as-many advanced h1 (retold-same is) ∙ as-many host advanced a.same ∙ fit.attached;
         few = omega (arith, last, fit.few, left-dones turns c waiting);
         tickets = rw last (up-to-dones host.last_ticket turns c waiting law fit.tickets);
       })
 
-  module _ (base : Host) (turns : ℕ) (start : Course) (rounds : List Round) (c : Course) (run : Running base turns start rounds host c) (matches1 : (log : List Event) → Matches log advanced → Matches log h1) where
+  module _ {base : Host} {turns : ℕ} {start : Course} {rounds : List Round} {c : Course} (run : Running base turns start rounds host c)
+      (matches1 : (log : List Event) → Matches log advanced → Matches log h1) where
     abbrev log : List Event
     log = log_of rounds
 
+    abbrev gave_up : List Done
+    gave_up = a.gives_up.0
+
     same1 : IsSame base h1
-    same1 = same-then base advanced h1 (same-then base host advanced run.same a.same) (retold-same advanced h1 is)
+    same1 = same-then base advanced h1 (same-then base host advanced run.same a.same) (retold-same is)
 
     time : advanced.clock ≡ clock (Advances (record { 0 = now }) ∷ log)
-    time = a.clock_is ∙ ap (λ (n : ℕ). max n now) run.matches.time
+    time = rw (a.clock_is, run.matches.time)
 
-    gives-up : GivesUp base log now gave_up
+    pub gives-up : GivesUp base log now gave_up
     gives-up =
-        let g = a.gives log run.matches in
-        let dead : host.dead ≡ base.dead = run.same.dead in
-        let S : ℕ → Type 0 = λ n. All (λ o. is_expired base.dead n o ≡ false) (sent_of (commands (after_tick now gave_up log))) in
-        record { in_turn = rw (← time) (rw (← dead) g.0); all = subst S time (rw (← dead) g.1) }
+        let g = a.gives_up.2 log run.matches in
+        record { in_turn = rw (time, run.same.dead) at g.0; all = rw (time, run.same.dead) at g.1 }
 
     matches-tick : Matches (after_tick now gave_up log) h1
-    matches-tick = matches1 (after_tick now gave_up log) (a.gives log run.matches).2
+    matches-tick = matches1 (after_tick now gave_up log) (a.gives_up.2 log run.matches).2
 
-    outcomes : advanced.waiting ≡ dones (told rounds) gave_up
-    outcomes = a.waiting ∙ ap (λ (l : List Done). l ++ reverse gave_up) run.waiting
+    pub outcomes : advanced.waiting ≡ dones (told rounds) gave_up
+    outcomes = rw run.waiting at a.gives_up.1
 
     -- an outcome ended the transfer
-    pub ends-turn : (end : End) → Some end ≡ end_by turns c advanced.waiting → EndsBy end base turns c (told rounds) log now
-    ends-turn end e = record {
-      gave_up = gave_up;
-      gives_up = gives-up;
-      by = ap (end_by turns c) (sym outcomes) ∙ sym e;
-    }
+    abbrev pub ends-turn : (end : End) → Some end ≡ end_by turns c advanced.waiting → EndsBy end base turns c (told rounds) log now
+    ends-turn end e = record { gave_up = gave_up; gives_up = gives-up; by = rw outcomes at (sym e) }
 
-    pub over-course : (c1 : Course) → c1 ≡ after_dones turns c advanced.waiting → c1 ≡ after_dones turns c (dones (told rounds) gave_up)
-    over-course c1 e = e ∙ ap (after_dones turns c) outcomes
-
-    pub over-turn : (c1 : Course) → Some (Ok record {}) ≡ end_by turns c advanced.waiting → c1 ≡ after_dones turns c advanced.waiting
+    pub over-turn : {c1 : Course} → Some (Ok record {}) ≡ end_by turns c advanced.waiting → c1 ≡ after_dones turns c advanced.waiting
         → (e : EndsBy (Ok record {}) base turns c (told rounds) log now) × (c1 ≡ after_dones turns c (dones (told rounds) e.gave_up))
-    over-turn c1 e after = (
-      record { gave_up = gave_up; gives_up = gives-up; by = ap (end_by turns c) (sym outcomes) ∙ sym e },
-      over-course c1 after,
-    )
+    over-turn e after = (ends-turn (Ok record {}) e, rw outcomes at after)
 
-    module _ (c1 : Course) (none : None ≡ end_by turns c advanced.waiting) (after : c1 ≡ after_dones turns c advanced.waiting) where
+    module _ {c1 : Course} (none : None ≡ end_by turns c advanced.waiting) (after : c1 ≡ after_dones turns c advanced.waiting) where
       goes-on : end_by turns c (dones (told rounds) gave_up) ≡ None
-      goes-on = ap (end_by turns c) (sym outcomes) ∙ sym none
+      goes-on = rw outcomes at (sym none)
 
       now-course : c1 ≡ after_dones turns c (dones (told rounds) gave_up)
-      now-course = over-course c1 after
+      now-course = rw outcomes at after
 
       -- the link failed
-      pub breaks-turn : (taken taken' : Option Frames) → Broken base (after_tick now gave_up log) c1 taken taken' → Breaks base turns c (told rounds) log now taken taken'
-      breaks-turn taken taken' broken =
+      breaks-turn : {taken taken' : Option Frames} → Broken base (after_tick now gave_up log) c1 taken taken' → Breaks base turns c (told rounds) log now taken taken'
+      breaks-turn broken =
           let b = rw now-course at broken in
           record {
             gave_up = gave_up;
@@ -122,11 +109,11 @@ module _ (host advanced h1 : Host) (now : ℕ) (gave_up : List Done) (a : Advanc
           }
 
       -- the whole turn was taken
-      pub takes-turn : (quiet_turns rounds < turns) → (c' : Course) (h' : Host) (heard : Option Heard) (from turned' : ℕ) (given given' : Option (List Turn)) (taken taken' : Option Frames)
+      takes-turn : {c' : Course} {h' : Host} {heard : Option Heard} {from turned' : ℕ} {given given' : Option (List Turn)} {taken taken' : Option Frames} → quiet_turns rounds < turns
           → Exchanged base (after_tick now gave_up log) c1 c' h' heard from turned' given given' taken taken'
           → TakesRound base turns start rounds now heard h' c' from turned' given given' taken taken'
-      takes-turn below c' h' heard from turned' given given' taken taken' x' =
-          let x = rw now-course at x' in
+      takes-turn {heard = heard} below exchanged =
+          let x = rw now-course at exchanged in
           let r : Round = record { now = now; gave_up = gave_up; submits = x.submits; sent = x.sent; brought = x.brought; heard = heard } in
           let round : IsRound base turns c (told rounds) log r = record {
             gives_up = gives-up;
@@ -146,7 +133,7 @@ module _ (host advanced h1 : Host) (now : ℕ) (gave_up : List Done) (a : Advanc
               same = x.same;
               matches = x.matches;
               waiting = x.waiting;
-              course = x.course ∙ ap (λ (y : Course). submitted (after_dones turns y (dones (told rounds) gave_up)) x.submits) run.course;
+              course = rw (← run.course) x.course;
             };
             fit = x.fit;
             took = x.took;
@@ -154,21 +141,18 @@ module _ (host advanced h1 : Host) (now : ℕ) (gave_up : List Done) (a : Advanc
           }
 
       -- what the second part of the turn came to, the turn came to
-      pub by-exchange : (quiet_turns rounds < turns) → (result : Result Passed ToolRefusal) (c' : Course) (h' : Host) (from turned' : ℕ) (given given' : Option (List Turn)) (taken taken' : Option Frames)
+      pub by-exchange : (result : Result Passed ToolRefusal) (c' : Course) (h' : Host) (from turned' : ℕ) (given given' : Option (List Turn)) (taken taken' : Option Frames) → quiet_turns rounds < turns
           → ((base : Host) (log : List Event) → IsSame base h1 → Matches log h1 → Exchanges result base log c1 c' h' from turned' given given' taken taken')
           → Turns result base turns start rounds now h' c c' from turned' given given' taken taken'
-      by-exchange below (Ok passed.Answered) c' h' from turned' given given' taken taken' ex =
-          let x = ex base (after_tick now gave_up log) same1 matches-tick in
-          (x.0, takes-turn below c' h' (Some x.0) from turned' given given' taken taken' x.1)
-      by-exchange below (Ok passed.Quiet) c' h' from turned' given given' taken taken' ex =
-          takes-turn below c' h' None from turned' given given' taken taken' (ex base (after_tick now gave_up log) same1 matches-tick)
-      by-exchange below (Ok passed.Over) c' h' from turned' given given' taken taken' ex = absurd (ex base (after_tick now gave_up log) same1 matches-tick)
-      by-exchange below (Err tool.LinkFault) c' h' from turned' given given' taken taken' ex =
-          let x = ex base (after_tick now gave_up log) same1 matches-tick in
-          (breaks-turn taken taken' x.0, x.1)
-      by-exchange below (Err tool.NoMemory) c' h' from turned' given given' taken taken' ex = ex base (after_tick now gave_up log) same1 matches-tick
-      by-exchange below (Err (tool.Unanswered n)) c' h' from turned' given given' taken taken' ex = absurd (ex base (after_tick now gave_up log) same1 matches-tick)
-      by-exchange below (Err (tool.Refused r)) c' h' from turned' given given' taken taken' ex = absurd (ex base (after_tick now gave_up log) same1 matches-tick)
+      by-exchange result c' h' from turned' given given' taken taken' below ex = by result (ex base (after_tick now gave_up log) same1 matches-tick)
+        where
+          by : (result : Result Passed ToolRefusal) → Exchanges result base (after_tick now gave_up log) c1 c' h' from turned' given given' taken taken'
+              → Turns result base turns start rounds now h' c c' from turned' given given' taken taken'
+          by (Ok passed.Answered) x = (x.0, takes-turn below x.1)
+          by (Ok passed.Quiet) x = takes-turn below x
+          by (Err tool.LinkFault) x = (breaks-turn x.0, x.1)
+          by (Err tool.NoMemory) x = x
+          by _ x = absurd x
 
 -- the refusals that an outcome can be
 abbrev pub OfOutcome : ℕ → ToolRefusal → Type 0
@@ -178,34 +162,32 @@ OfOutcome turns tool.LinkFault = ⊥
 OfOutcome turns tool.NoMemory = ⊥
 
 of-failure : (turns : ℕ) (o : Outcome) (r : ToolRefusal) → failure turns o ≡ Some r → OfOutcome turns r
-of-failure turns (outcome.AoeError e) r is = let same : tool.Refused (refusal.Aoe e) ≡ r = cc in subst (OfOutcome turns) same tt
-of-failure turns (outcome.AtaError s e) r is = let same : tool.Refused (refusal.Ata s e) ≡ r = cc in subst (OfOutcome turns) same tt
-of-failure turns (outcome.GaveUp f n) r is = let same : tool.Unanswered turns ≡ r = cc in subst (OfOutcome turns) same refl
-of-failure turns (outcome.Read bytes) r is = absurd cc
-of-failure turns outcome.Written r is = absurd cc
-of-failure turns outcome.Flushed r is = absurd cc
-of-failure turns (outcome.Told args) r is = absurd cc
+of-failure turns (outcome.AoeError e) r is = rw (← (same_Some _ _ is)) tt
+of-failure turns (outcome.AtaError s e) r is = rw (← (same_Some _ _ is)) tt
+of-failure turns (outcome.GaveUp f n) r is = rw (← (same_Some _ _ is)) refl
+of-failure turns _ r is = absurd cc
 
 of-ending : (o : Option ToolRefusal) (over : Bool) (r : ToolRefusal) → ending_by o over ≡ Some (Err r) → o ≡ Some r
 of-ending None true r is = absurd cc
 of-ending None false r is = absurd cc
-of-ending (Some x) over r is = let same : x ≡ r = cc in ap Some same
+of-ending (Some x) over r is = cc
 
 pub of-outcome : (turns : ℕ) (c : Course) (dones : List Done) (r : ToolRefusal) → end_by turns c dones ≡ Some (Err r) → OfOutcome turns r
 of-outcome turns c [] r is = absurd cc
 of-outcome turns c (d ∷ dones) r is = at (ending turns c d) refl is (of-outcome turns (after_done d c) dones r)
   where
-    at : (e : Option End) → ending turns c d ≡ e → or_later e (end_by turns (after_done d c) dones) ≡ Some (Err r) → (end_by turns (after_done d c) dones ≡ Some (Err r) → OfOutcome turns r) → OfOutcome turns r
+    at : (e : Option End) → ending turns c d ≡ e → or_later e (end_by turns (after_done d c) dones) ≡ Some (Err r)
+        → (end_by turns (after_done d c) dones ≡ Some (Err r) → OfOutcome turns r) → OfOutcome turns r
     at None here later rest = rest later
-    at (Some end) here later rest = let same : end ≡ Err r = cc in of-failure turns d.outcome r (of-ending (failure turns d.outcome) (is_over_in c.phase c d) r (here ∙ ap Some same))
+    at (Some end) here later rest = of-failure turns d.outcome r (of-ending (failure turns d.outcome) (is_over_in c.phase c d) r (here ∙ later))
 
 -- a refusal of an outcome ends the turn
-pub refused-turn : (r : ToolRefusal) (base host' : Host) (turns : ℕ) (start c c' : Course) (rounds : List Round) (now from : ℕ) (given : Option (List Turn)) (taken : Option Frames)
-    → OfOutcome turns r → EndsBy (Err r) base turns c (told rounds) (log_of rounds) now → Turns (Err r) base turns start rounds now host' c c' from from given given taken taken
-refused-turn (tool.Refused r) base host' turns start c c' rounds now from given taken is e = (e, refl, record { turns = refl; given_is = refl })
-refused-turn (tool.Unanswered n) base host' turns start c c' rounds now from given taken is e = (e, refl, record { turns = refl; given_is = refl })
-refused-turn tool.LinkFault base host' turns start c c' rounds now from given taken is e = absurd is
-refused-turn tool.NoMemory base host' turns start c c' rounds now from given taken is e = absurd is
+module _ (base host' : Host) (turns : ℕ) (start c c' : Course) (rounds : List Round) (now from : ℕ) (given : Option (List Turn)) (taken : Option Frames) where
+  pub refused-turn : (r : ToolRefusal) → OfOutcome turns r → EndsBy (Err r) base turns c (told rounds) (log_of rounds) now
+      → Turns (Err r) base turns start rounds now host' c c' from from given given taken taken
+  refused-turn tool.LinkFault is e = absurd is
+  refused-turn tool.NoMemory is e = absurd is
+  refused-turn _ is e = (e, refl, record { turns = refl; given_is = refl })
 
 pub not-link : (turns : ℕ) (r : ToolRefusal) → OfOutcome turns r → r ≡ tool.LinkFault → ⊥
-not-link turns r is e = subst (OfOutcome turns) e is
+not-link turns r is e = rw e at is

@@ -4,15 +4,13 @@ use Rattle.aoe_tools.proofs.asking.listen.Goals as goal
 
 pub turns-preserved : goal.turns-preserved
 turns-preserved g c = (
-  goes-on _ _ _ _ _ _ _ _ _ _ _ _ _ c.turns.invariant.0 c.take_turn.new.frame.items (rw c.in-Ok-None.field-0-is at c.in-Ok-None.ensures.turn),
+  goes-on c.turns.invariant.0 (rw c.in-Ok-None.field-0-is at c.in-Ok-None.ensures.turn),
   omega (arith, c.turns-test.true),
   c.in-Ok-None.ensures.link.no_fault (λ e. absurd cc) ∙ c.turns.invariant.2,
 )
 
 pub returns-in-Ok-Some-clause-listens : goal.returns-in-Ok-Some-clause-listens
-returns-in-Ok-Some-clause-listens g c =
-    ends-with _ _ _ _ _ _ _ _ _ _ _ _ _ c.turns.invariant.0 c.take_turn.new.frame.items c.args.limit c.in-Ok-Some.reply (omega (arith, c.turns-test.true)) (rw (← c.in-Ok-Some.field-0-is) c.in-Ok-Some.ensures.turn)
+returns-in-Ok-Some-clause-listens g c = ends-with c.turns.invariant.0 c.turns-test.true (rw (← c.in-Ok-Some.field-0-is) c.in-Ok-Some.ensures.turn)
 
 pub returns-in-Err-clause-listens : goal.returns-in-Err-clause-listens
-returns-in-Err-clause-listens g c =
-    fails _ _ _ _ _ _ _ _ _ _ _ _ _ c.turns.invariant.0 c.take_turn.new.frame.items c.args.limit c.in-Err.field-0 (omega (arith, c.turns-test.true)) c.in-Err.ensures.turn
+returns-in-Err-clause-listens g c = fails c.turns.invariant.0 c.turns-test.true c.in-Err.ensures.turn

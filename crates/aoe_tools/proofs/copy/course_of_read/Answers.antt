@@ -21,5 +21,5 @@ returns-in-Ok-clause-fresh c =
 pub returns-in-Ok-clause-fit : goal.returns-in-Ok-clause-fit
 returns-in-Ok-clause-fit c = λ port id.
     let e = c.in-Ok.ensures in
-    fit-fresh (read_of c.args.at c.args.count) _ port id c.args.device.now c.requires.some (omega (arith, length-replicate {A = ℕ} (512 * c.args.count) 0, c.requires.few)) (returns-in-Ok-clause-fresh c)
+    fit-fresh port id c.requires.some (omega (arith, length-replicate {A = ℕ} (512 * c.args.count) 0, c.requires.few)) (returns-in-Ok-clause-fresh c)
     (c.ticket_law.ensures.made c.args.at c.args.device.now.max (replicate {A = ℕ} (512 * c.args.count) 0) c.in-Ok.block.parts e.cut)

@@ -19,5 +19,5 @@ returns-in-Ok-clause-fresh c =
 pub returns-in-Ok-clause-fit : goal.returns-in-Ok-clause-fit
 returns-in-Ok-clause-fit c = λ port id.
     let e = c.in-Ok.ensures in
-    fit-fresh (write_of c.args.at c.args.bytes) _ port id c.args.device.now c.requires.some (c.requires.few) (returns-in-Ok-clause-fresh c)
-    (c.ticket_law.ensures.made c.args.at c.args.device.now.max (c.args.bytes) c.in-Ok.block.parts e.cut)
+    fit-fresh port id c.requires.some c.requires.few (returns-in-Ok-clause-fresh c)
+    (c.ticket_law.ensures.made c.args.at c.args.device.now.max c.args.bytes c.in-Ok.block.parts e.cut)

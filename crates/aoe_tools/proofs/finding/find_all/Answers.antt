@@ -3,23 +3,20 @@ use Rattle.aoe_tools.proofs.DiscoverLemmas.{begun, ends, fails, forgets, goes-on
 use Rattle.aoe_tools.proofs.finding.find_all.Goals as goal
 
 pub responses-init : goal.responses-init
-responses-init g c =
-    (rw c.new-found.ensures (begun _ _ _ _ _), omega arith, refl)
+responses-init g c = (rw c.new-found.ensures begun, omega arith, refl)
 
 pub responses-preserved : goal.responses-preserved
 responses-preserved g c = (
-  goes-on _ _ _ _ _ _ _ _ _ _ _ c.responses.invariant.0 _ _ _ _ _ c.in-Ok-Some.reply c.note.new.self c.in-Ok.ensures.noted (rw c.in-Ok-Some.field-0-is at c.in-Ok-Some.ensures.listens),
+  goes-on c.responses.invariant.0 c.in-Ok.ensures.noted (rw c.in-Ok-Some.field-0-is at c.in-Ok-Some.ensures.listens),
   c.listen.ensures.within,
   c.in-Ok-Some.ensures.link.no_fault (λ e. absurd cc) ∙ c.responses.invariant.2,
 )
 
 pub returns-in-Err-clause-run : goal.returns-in-Err-clause-run
-returns-in-Err-clause-run g c = fails _ _ _ _ _ _ _ _ _ _ _ c.responses.invariant.0 _ _ _ _ _ c.in-Err.field-0 c.in-Err.ensures.listens
+returns-in-Err-clause-run g c = fails c.responses.invariant.0 c.in-Err.ensures.listens
 
 pub returns-in-Err-note-clause-run : goal.returns-in-Err-note-clause-run
-returns-in-Err-note-clause-run g c =
-    forgets _ _ _ _ _ _ _ _ _ _ _ c.responses.invariant.0 _ _ _ _ _ c.in-Ok-Some.reply (rw c.in-Ok-Some.field-0-is at c.in-Ok-Some.ensures.listens)
+returns-in-Err-note-clause-run g c = forgets c.responses.invariant.0 (rw c.in-Ok-Some.field-0-is at c.in-Ok-Some.ensures.listens)
 
 pub returns-clause-run : goal.returns-clause-run
-returns-clause-run g c =
-    ends _ _ _ _ _ _ _ _ _ _ _ c.responses.invariant.0 _ _ _ _ _ c.unless_none.result c.unless_none.ensures (rw c.in-Ok-None.field-0-is at c.in-Ok-None.ensures.listens)
+returns-clause-run g c = ends c.responses.invariant.0 c.unless_none.ensures (rw c.in-Ok-None.field-0-is at c.in-Ok-None.ensures.listens)

@@ -2,7 +2,7 @@ use Rattle.aoe_tools.proofs.CopiedLemmas.{read-law, write-law}
 use Rattle.aoe_tools.proofs.law.copied_law.Goals as goal
 
 pub returns-clause-read : goal.returns-clause-read
-returns-clause-read c = read-law
+returns-clause-read c = λ ask id d at count start end before after answers answers' fresh runs. read-law at count fresh runs
 
 pub returns-clause-write : goal.returns-clause-write
-returns-clause-write c = write-law
+returns-clause-write c = λ ask id d at bytes start end before after answers answers' fresh runs. write-law at bytes fresh runs

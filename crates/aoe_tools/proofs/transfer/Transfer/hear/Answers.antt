@@ -6,13 +6,11 @@ use Rattle.aoe_tools.proofs.transfer.Transfer.hear.Goals as goal
 pub returns-in-Finished-clause-one : goal.returns-in-Finished-clause-one
 returns-in-Finished-clause-one g c =
     let frame = c.recv.new.out.items in
-    hears-answer c.args.self.now.host c.receive.new.self (g.L.Link.turns c.args.link.now) (g.L.Link.turns c.recv.new.self) (g.L.Link.given c.args.link.now) (g.L.Link.given c.recv.new.self) frame
-    (turned-by _ _ _ _ (came frame) (rw c.in-Ok-Frame.field-0-is at c.in-Ok-Frame.ensures.gave) c.in-Ok-Frame.ensures.passing c.in-Ok-Frame.ensures.turns) c.in-Finished.ensures.same c.in-Finished.field-0
-    (rw c.as_slice.ensures.value at c.in-Finished.ensures.taken)
+    let turned = turned-by _ _ _ _ (came frame) (rw c.in-Ok-Frame.field-0-is at c.in-Ok-Frame.ensures.gave) c.in-Ok-Frame.ensures.passing c.in-Ok-Frame.ensures.turns in
+    hears-answer frame turned c.in-Finished.ensures.same (rw c.as_slice.ensures.value at c.in-Finished.ensures.taken)
 
 pub returns-in-Stale-clause-one : goal.returns-in-Stale-clause-one
 returns-in-Stale-clause-one g c =
     let frame = c.recv.new.out.items in
-    hears-stale c.args.self.now.host c.receive.new.self (g.L.Link.turns c.args.link.now) (g.L.Link.turns c.recv.new.self) (g.L.Link.given c.args.link.now) (g.L.Link.given c.recv.new.self) frame
-    (turned-by _ _ _ _ (came frame) (rw c.in-Ok-Frame.field-0-is at c.in-Ok-Frame.ensures.gave) c.in-Ok-Frame.ensures.passing c.in-Ok-Frame.ensures.turns) c.in-Stale.ensures.same
-    (rw c.as_slice.ensures.value at c.in-Stale.ensures.taken)
+    let turned = turned-by _ _ _ _ (came frame) (rw c.in-Ok-Frame.field-0-is at c.in-Ok-Frame.ensures.gave) c.in-Ok-Frame.ensures.passing c.in-Ok-Frame.ensures.turns in
+    hears-stale frame turned c.in-Stale.ensures.same (rw c.as_slice.ensures.value at c.in-Stale.ensures.taken)

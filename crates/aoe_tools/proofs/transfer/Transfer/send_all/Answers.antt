@@ -8,7 +8,7 @@ use Rattle.aoe_tools.proofs.transfer.Transfer.send_all.Goals as goal
 pub returns-then-is_none-clause-some : goal.returns-then-is_none-clause-some
 returns-then-is_none-clause-some g c =
     let same = c.pull.ensures.same in
-    sends-all c.loop.counter c.args.self.now.host c.loop.self.host c.pull.new.self _ _ c.loop.invariant.sending
+    sends-all c.loop.invariant.sending
     (when-none ((log : List Event) → Matches log c.loop.self.host → IsQuiet c.loop.self.host (commands log)) c.pull.result c.if-is_none.ensures c.pull.ensures.quiet)
     (when-none ((log : List Event) → Matches log c.loop.self.host → Matches log c.pull.new.self) c.pull.result c.if-is_none.ensures c.pull.ensures.stays)
     (record { same = same.0; last = same.2 }) same.3
@@ -16,16 +16,16 @@ returns-then-is_none-clause-some g c =
 pub returns-in-Err-clause-some : goal.returns-in-Err-clause-some
 returns-in-Err-clause-some g c =
     let a = c.pull.ensures in
-    let p = pulls c.loop.self.host c.pull.new.self c.pull.result c.pull.new.out.items c.if-is_none.ensures a.next a.frame a.path a.sends (record { same = a.same.0; last = a.same.2 }) a.same.3 in
-    sends-last c.loop.counter c.args.self.now.host c.loop.self.host c.pull.new.self _ _ c.loop.invariant.sending p.0 c.pull.new.out.items p.1 c.in-Err.field-0 _ c.in-Err.ensures.err
+    let p = pulls c.loop.self.host c.pull.new.self c.pull.new.out.items c.pull.result c.if-is_none.ensures a.next a.frame a.path a.sends (record { same = a.same.0; last = a.same.2 }) a.same.3 in
+    sends-last c.loop.invariant.sending p.1 c.in-Err.ensures.err
 
 pub loop-preserved : goal.loop-preserved
 loop-preserved g c =
     let a = c.pull.ensures in
-    let p = pulls c.loop.self.host c.pull.new.self c.pull.result c.pull.new.out.items c.if-is_none.ensures a.next a.frame a.path a.sends (record { same = a.same.0; last = a.same.2 }) a.same.3 in
+    let p = pulls c.loop.self.host c.pull.new.self c.pull.new.out.items c.pull.result c.if-is_none.ensures a.next a.frame a.path a.sends (record { same = a.same.0; last = a.same.2 }) a.same.3 in
     let i = c.loop.invariant in
     record {
-      sending = sends-more c.loop.counter c.args.self.now.host c.loop.self.host c.pull.new.self _ _ i.sending p.0 c.pull.new.out.items p.1 _ (rw (← c.as_slice.ensures.value) c.in-Ok.ensures.took);
+      sending = sends-more i.sending p.1 _ (rw (← c.as_slice.ensures.value) c.in-Ok.ensures.took);
       course = i.course;
       given = c.send.ensures.given ∙ i.given;
       turns = c.send.ensures.turns ∙ i.turns;
@@ -35,4 +35,4 @@ loop-preserved g c =
 pub returns-clause-some : goal.returns-clause-some
 returns-clause-some g c =
     let full : c.loop.counter ≡ 65536 = omega (arith, c.loop-test.false, c.loop.auto.counter-end) in
-    sends-full c.args.self.now.host c.loop.self.host (g.L.Link.taken c.args.link.now) (g.L.Link.taken c.loop.link) c.requires (rw (← full) c.loop.invariant.sending)
+    sends-full c.requires (rw full at c.loop.invariant.sending)
