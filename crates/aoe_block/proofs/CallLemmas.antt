@@ -23,33 +23,36 @@ take_cap n m l e = elim (cases_lt (length l) n) [
   | inr long ↦ let same : m ≡ n = omega arith in ap (λ (i : ℕ). take i l) same
 ]
 
-module _ (total max at count : ℕ) (bytes : List ℕ) (stages : List Stage) (first next left : ℕ) (s : AreParts total max at count bytes stages first next left) (write : Bool) where
-  module _ (lt : next < length stages) (span : Span) (span_is : span ≡ record { at = at + next * max; count = min max (count - next * max) }) where
-    next_is : next_part (parts_of max at count stages bytes) ≡ Some (record { at = at + next * max; count = min max (count - next * max); bytes = take (512 * max) (drop (512 * max * next) bytes); stage = Pending })
-    next_is = next_pending total max at count bytes stages first next left s lt ∙ ap Some (nth_is max at count bytes next Pending (place total max at count bytes stages first next left s next lt))
+module _ {total max at count : ℕ} {bytes : List ℕ} {stages : List Stage} {first next left : ℕ} (s : AreParts total max at count bytes stages first next left) (write : Bool) where
+  module _ (lt : next < length stages) {span : Span} (span_is : span ≡ record { at = at + next * max; count = min max (count - next * max) }) where
+    next_is : next_part (parts_of max at count stages bytes)
+        ≡ Some (record { at = at + next * max; count = min max (count - next * max); bytes = take (512 * max) (drop (512 * max * next) bytes); stage = Pending })
+    next_is =
+        next_pending s lt ∙ ap Some (nth_is max at count bytes next Pending (place s next lt))
 
     pub pending_read : write ≡ false → Some (ReadOp span) ≡ option_map (op_of write) (next_part (parts_of max at count stages bytes))
     pending_read reads = rw (next_is, reads, span_is) refl
 
-    pub pending_write : write ≡ true → (piece seen : List ℕ) (len : ℕ) → seen ≡ bytes → len ≡ 512 * span.count → piece ≡ take len (drop (512 * max * next) seen) → Some (WriteOp span.at piece) ≡ option_map (op_of write) (next_part (parts_of max at count stages bytes))
-    pending_write writes piece seen len same size is =
-        let below = place total max at count bytes stages first next left s next lt in
+    pub pending_write : write ≡ true → {piece seen : List ℕ} (len : ℕ) → seen ≡ bytes → len ≡ 512 * span.count → piece ≡ take len (drop (512 * max * next) seen)
+        → Some (WriteOp span.at piece) ≡ option_map (op_of write) (next_part (parts_of max at count stages bytes))
+    pending_write writes {piece} len same size is =
+        let below = place s next lt in
         let e : 512 * max * next ≡ 512 * (next * max) = grind arith in
         let n : span.count ≡ min max (count - next * max) = ap (λ (p : Span). p.count) span_is in
         let whole = s.parted.size in
         let cap : len ≡ min (512 * max) (length (drop (512 * max * next) bytes)) = omega (arith, length-drop (512 * max * next) bytes) in
-        let read : piece ≡ take (512 * max) (drop (512 * max * next) bytes) = is ∙ ap (λ (l : List ℕ). take len (drop (512 * max * next) l)) same ∙ take_cap (512 * max) len (drop (512 * max * next) bytes) cap in
+        let read : piece ≡ take (512 * max) (drop (512 * max * next) bytes) = rw same at is ∙ take_cap (512 * max) len (drop (512 * max * next) bytes) cap in
         rw (next_is, writes, read, span_is) refl
 
 -- a device takes what is within it and not too long
 admits : (about : Attached) (at n : ℕ) → 0 < n → n ≤ about.max → at + n ≤ about.total → span_refusal about at n ≡ None
 admits about at n some short range = rw (ne_eqb n 0 (λ e. omega arith), le-ltb about.max n short, le-ltb about.total (at + n) range) refl
 
-module _ (total max at count : ℕ) (bytes : List ℕ) (stages : List Stage) (first next left : ℕ) (s : AreParts total max at count bytes stages first next left) (lt : next < length stages)
-    (span : Span) (span_is : span ≡ record { at = at + next * max; count = min max (count - next * max) }) where
+module _ {total max at count : ℕ} {bytes : List ℕ} {stages : List Stage} {first next left : ℕ} (s : AreParts total max at count bytes stages first next left) (lt : next < length stages)
+    {span : Span} (span_is : span ≡ record { at = at + next * max; count = min max (count - next * max) }) where
   pub span_within : (0 < span.count) × (span.count ≤ max) × (span.at + span.count ≤ total)
   span_within =
-      let below = place total max at count bytes stages first next left s next lt in
+      let below = place s next lt in
       let a : span.at ≡ at + next * max = ap (λ (p : Span). p.at) span_is in
       let n : span.count ≡ min max (count - next * max) = ap (λ (p : Span). p.count) span_is in
       let some = s.parted.some in
@@ -59,9 +62,9 @@ module _ (total max at count : ℕ) (bytes : List ℕ) (stages : List Stage) (fi
   pub read_admitted : (about : Attached) → about.total ≡ total → max ≤ about.max → op_refusal about (ReadOp span) ≡ None
   read_admitted about same short = let w = span_within in admits about span.at span.count w.0 (omega arith) (omega arith)
 
-  pub piece_length : (piece seen : List ℕ) (len : ℕ) → seen ≡ bytes → len ≡ 512 * span.count → piece ≡ take len (drop (512 * max * next) seen) → length piece ≡ 512 * span.count
-  piece_length piece seen len same size is =
-      let below = place total max at count bytes stages first next left s next lt in
+  pub piece_length : {piece seen : List ℕ} (len : ℕ) → seen ≡ bytes → len ≡ 512 * span.count → piece ≡ take len (drop (512 * max * next) seen) → length piece ≡ 512 * span.count
+  piece_length {seen = seen} len same size is =
+      let below = place s next lt in
       let e : 512 * max * next ≡ 512 * (next * max) = grind arith in
       let n : span.count ≡ min max (count - next * max) = ap (λ (p : Span). p.count) span_is in
       let whole = s.parted.size in
@@ -85,34 +88,35 @@ module _ {total max at count : ℕ} {bytes : List ℕ} {stages : List Stage} {fi
   block = record { write = write; total = total; max = max; parts = parts_of max at count stages bytes }
 
   took_found : took block done ≡ took_as write done (Some (nth max at count bytes k (stage_at stages k))) (are_ended (settle block done).parts)
-  took_found = ap (λ (p : Option Part). took_as write done p (are_ended (settle block done).parts)) (found total max at count bytes stages first next left t.sound write done k t.handed)
+  took_found = ap (λ (p : Option Part). took_as write done p (are_ended (settle block done).parts)) (found t.sound write done k t.handed)
 
   pub not_stranger : part_of done.ticket.0 (parts_of max at count stages bytes) ≡ None → ⊥
-  not_stranger none = let some = found total max at count bytes stages first next left t.sound write done k t.handed in cc
+  not_stranger none = let some = found t.sound write done k t.handed in cc
 
   pub failed_took : answered ≡ false → took block done ≡ PartTook done.outcome
-  failed_took out = took_found ∙ rw (here_count total max at count bytes stages first next left t.sound write done k t.handed (stage_at stages k), t.answer, out) refl
+  failed_took out = took_found ∙ rw (here_count t.sound write done k t.handed (stage_at stages k), t.answer, out) refl
 
-  pub failed_settle : answered ≡ false → (new : List Stage) → new ≡ set stages k Failed → record { write = write; total = total; max = max; parts = parts_of max at count new bytes } ≡ settle block done
-  failed_settle out new e =
-      rw e (ap (λ (ps : List Part). record { write = write; total = total; max = max; parts = ps }) (sym (failed_parts total max at count bytes stages first next left t.sound write done k t.handed (t.answer ∙ out))))
+  pub failed_settle : answered ≡ false → {new : List Stage} → new ≡ set stages k Failed
+      → record { write = write; total = total; max = max; parts = parts_of max at count new bytes } ≡ settle block done
+  failed_settle out e = rw (e, failed_parts t.sound write done k t.handed (t.answer ∙ out))
 
-  pub failed_keeps : (new : List Stage) → new ≡ set stages k Failed → AreParts total max at count bytes new first next left
-  failed_keeps new e = rw e (failed_sound total max at count bytes stages first next left t.sound write done k t.handed)
+  pub failed_keeps : {new : List Stage} → new ≡ set stages k Failed → AreParts total max at count bytes new first next left
+  failed_keeps e = rw e (failed_sound t.sound write done k t.handed)
 
   pub part_left : left ≡ left - 1 + 1
-  part_left = let h = some_left total max at count bytes stages first next left t.sound write done k t.handed in omega arith
+  part_left = let h = some_left t.sound write done k t.handed in omega arith
 
   pub ended_took : answered ≡ true → took block done ≡ (if left - 1 == 0 then Whole else More)
   ended_took is =
       let all : are_ended (settle block done).parts ≡ (left - 1 == 0) =
-      ap are_ended (ended_parts total max at count bytes stages first next left t.sound write done k t.handed (t.answer ∙ is))
-      ∙ ended_all total max at count bytes stages first next left t.sound write done k t.handed (t.answer ∙ is) (left - 1) (laid bytes (512 * max * k) done.outcome) (sym part_left) in
-      took_found ∙ rw (here_count total max at count bytes stages first next left t.sound write done k t.handed (stage_at stages k), t.answer, is) (ap (λ (b : Bool). if b then Whole else More) all)
+      ap are_ended (ended_parts t.sound write done k t.handed (t.answer ∙ is))
+      ∙ ended_all t.sound write done k t.handed (t.answer ∙ is) (left - 1) (laid bytes (512 * max * k) done.outcome) (sym part_left) in
+      took_found ∙ rw (here_count t.sound write done k t.handed (stage_at stages k), t.answer, is) (ap (λ (b : Bool). if b then Whole else More) all)
 
-  pub ended_settle : answered ≡ true → (new : List Stage) (read : List ℕ) → new ≡ set stages k Ended → read ≡ laid bytes (512 * max * k) done.outcome → record { write = write; total = total; max = max; parts = parts_of max at count new read } ≡ settle block done
-  ended_settle is new read e f =
-      rw (e, f) (ap (λ (ps : List Part). record { write = write; total = total; max = max; parts = ps }) (sym (ended_parts total max at count bytes stages first next left t.sound write done k t.handed (t.answer ∙ is))))
+  pub ended_settle : answered ≡ true → {new : List Stage} {read : List ℕ} → new ≡ set stages k Ended → read ≡ laid bytes (512 * max * k) done.outcome
+      → record { write = write; total = total; max = max; parts = parts_of max at count new read } ≡ settle block done
+  ended_settle is e f = rw (e, f, ended_parts t.sound write done k t.handed (t.answer ∙ is))
 
-  pub ended_keeps : answered ≡ true → (new : List Stage) (read : List ℕ) → new ≡ set stages k Ended → read ≡ laid bytes (512 * max * k) done.outcome → AreParts total max at count read new first next (left - 1)
-  ended_keeps is new read e f = rw (e, f) (ended_sound total max at count bytes stages first next left t.sound write done k t.handed (t.answer ∙ is) (left - 1) (sym part_left))
+  pub ended_keeps : answered ≡ true → {new : List Stage} {read : List ℕ} → new ≡ set stages k Ended → read ≡ laid bytes (512 * max * k) done.outcome
+      → AreParts total max at count read new first next (left - 1)
+  ended_keeps is e f = rw (e, f) (ended_sound t.sound write done k t.handed (t.answer ∙ is) (left - 1) (sym part_left))

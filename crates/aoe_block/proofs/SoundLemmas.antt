@@ -1,16 +1,16 @@
 -- What the steps of a block keep, and the parts after them.
-use Rattle.std.proofs.Common.{◌≡◌, ◌≢◌, ◌≤◌, ◌<◌, ◌+◌, ◌-◌, ◌*◌, ◌^◌, ◌==◌, ℕ, Bool, true, false, not, zero, suc, List, [], ◌∷◌, Some, None, length, map, take, drop, set, min, replicate, arith, refl, sym, ap, ◌∙◌, subst, inl, inr}
+use Rattle.std.proofs.Common.{◌≡◌, ◌≢◌, ◌≤◌, ◌<◌, ◌+◌, ◌-◌, ◌*◌, ◌^◌, ◌==◌, ℕ, Bool, true, false, not, zero, suc, List, [], ◌∷◌, Some, None, length, map, drop, set, min, replicate, arith, refl, sym, ap, ◌∙◌, inl, inr}
 use Rattle.std.proofs.lemmas.List.{length-set, length-replicate}
-use Rattle.std.proofs.lemmas.Bool.{and_parts, cases_eq, eqb-true}
+use Rattle.std.proofs.lemmas.Bool.{and_parts, cases_Bool, cases_eq, eqb-true, false_from_ne_true}
 use Rattle.std.specs.Option.{IsSome}
 use Rattle.aoe_base.specs.declared.counted.Ticket.{Ticket}
 use Rattle.aoe_initiator.specs.declared.outcome.Done.{Done}
 use Rattle.aoe_initiator.specs.declared.outcome.Outcome.{Outcome}
-use Rattle.aoe_initiator.specs.declared.outcome.Outcome.TheVariants.{Read, Written, Flushed, Told, AtaError, AoeError, GaveUp}
+use Rattle.aoe_initiator.specs.declared.outcome.Outcome.TheVariants.{Read, Written}
 use Rattle.aoe_block.specs.declared.stage.Stage.{Stage}
 use Rattle.aoe_block.specs.declared.stage.Stage.TheVariants.{Pending, Handed, Ended, Failed}
-use Rattle.aoe_block.specs.Calls.{after_done, are_ended, bytes_after, hand, is_success, next_part, part_of}
-use Rattle.aoe_block.specs.Fields.{count_left, laid, parts_of, put, CanLay, AreParts, NoneBefore}
+use Rattle.aoe_block.specs.Calls.{after_done, are_ended, hand, is_success, next_part, part_of}
+use Rattle.aoe_block.specs.Fields.{count_left, laid, parts_of, AreParts, NoneBefore}
 use Rattle.aoe_block.specs.Parts.{Part}
 use Rattle.aoe_block.specs.Stages.{is_ended, is_handed, is_pending, is_under_way, stage_at}
 use Rattle.aoe_block.proofs.PartLemmas.{are_ended-parts_of, find_none, find_nth, hand-parts_of, map_none, map_piece, map_stage, nth, nth_is}
@@ -53,26 +53,16 @@ stranger_same write done max at count stages bytes out =
 -- where no part is found, none is under way with the ticket
 pub none_handed : (ticket max at count : ℕ) (stages : List Stage) (bytes : List ℕ) → part_of ticket (parts_of max at count stages bytes) ≡ None → (k : ℕ) → is_handed ticket (stage_at stages k) ≡ false
 none_handed ticket max at count [] bytes none k = refl
-none_handed ticket max at count (stage ∷ stages) bytes none k =
-    at_head (is_handed ticket stage) refl (none_handed ticket max (at + max) (count - max) stages (drop (512 * max) bytes))
+none_handed ticket max at count (stage ∷ stages) bytes none k = elim (cases_Bool (is_handed ticket stage)) [
+  | inl own ↦ absurd (let some = rw own at none in cc)
+  | inr other ↦ at_place k other (none_handed ticket max (at + max) (count - max) stages (drop (512 * max) bytes) (rw other at none))
+]
   where
-    head : Part
-    head = record { at = at; count = min max count; bytes = take (512 * max) bytes; stage = stage }
-
-    tail : List Part
-    tail = parts_of max (at + max) (count - max) stages (drop (512 * max) bytes)
-
     at_place : (k : ℕ) → is_handed ticket stage ≡ false → ((j : ℕ) → is_handed ticket (stage_at stages j) ≡ false) → is_handed ticket (stage_at (stage ∷ stages) k) ≡ false
     at_place zero is rest = is
     at_place (suc j) is rest = rest j
 
-    at_head : (b : Bool) → is_handed ticket stage ≡ b → (part_of ticket tail ≡ None → (j : ℕ) → is_handed ticket (stage_at stages j) ≡ false) → is_handed ticket (stage_at (stage ∷ stages) k) ≡ false
-    at_head true is rest = absurd (let e : part_of ticket (head ∷ tail) ≡ Some head = rw is refl in cc)
-    at_head false is rest =
-        let e : part_of ticket (head ∷ tail) ≡ part_of ticket tail = rw is refl in
-        at_place k is (rest (sym e ∙ none))
-
-module _ (total max at count : ℕ) (bytes : List ℕ) (stages : List Stage) (first next left : ℕ) (s : AreParts total max at count bytes stages first next left) where
+module _ {total max at count : ℕ} {bytes : List ℕ} {stages : List Stage} {first next left : ℕ} (s : AreParts total max at count bytes stages first next left) where
   pub sound_first : (f : ℕ) → NoneBefore stages f → f ≤ next → AreParts total max at count bytes stages f next left
   sound_first f past ordered = record {
     parted = s.parted;
@@ -146,7 +136,7 @@ module _ (total max at count : ℕ) (bytes : List ℕ) (stages : List Stage) (fi
       other : (t k : ℕ) → is_handed t (Handed ticket) ≡ true → is_handed t (stage_at stages k) ≡ true → ⊥
       other t k is was =
           let e : ticket.0 ≡ t = eqb-true ticket.0 t is in
-          let out : is_handed t (stage_at stages k) ≡ false = subst (λ (n : ℕ). is_handed n (stage_at stages k) ≡ false) e (fresh k) in
+          let out = rw e at (fresh k) in
           cc
 
   module _ (write : Bool) (done : Done) (k : ℕ) (is : is_handed done.ticket.0 (stage_at stages k) ≡ true) where
@@ -154,11 +144,7 @@ module _ (total max at count : ℕ) (bytes : List ℕ) (stages : List Stage) (fi
     here_within = within-pending stages k (under_way done.ticket.0 (stage_at stages k) is).1
 
     others : (j : ℕ) → j < length stages → j ≢ k → is_handed done.ticket.0 (stage_at stages j) ≡ false
-    others j lt differ = at_stage (is_handed done.ticket.0 (stage_at stages j)) refl
-      where
-        at_stage : (b : Bool) → is_handed done.ticket.0 (stage_at stages j) ≡ b → b ≡ false
-        at_stage true also = absurd (differ (s.distinct j k done.ticket.0 also is))
-        at_stage false out = refl
+    others j lt differ = false_from_ne_true (is_handed done.ticket.0 (stage_at stages j)) (λ also. differ (s.distinct j k done.ticket.0 also is))
 
     pub found : part_of done.ticket.0 (parts_of max at count stages bytes) ≡ Some (nth max at count bytes k (stage_at stages k))
     found = find_nth (is_handed done.ticket.0) max at count stages bytes k here_within (λ j lt. others j (let h = here_within in omega arith) (λ e. omega arith)) is
@@ -209,17 +195,16 @@ module _ (total max at count : ℕ) (bytes : List ℕ) (stages : List Stage) (fi
 
     -- the part had another outcome
     pub failed_parts : is_success write (min max (count - k * max)) done.outcome ≡ false → map (after_done write done) (parts_of max at count stages bytes) ≡ parts_of max at count (set stages k Failed) bytes
-    failed_parts other =
+    failed_parts badly =
+        let below = place k here_within in
         map_stage (after_done write done) (is_handed done.ticket.0) (λ p out. rw out refl) Failed max at count stages bytes k here_within others
-        (changed max at count bytes k (ap (λ (n : ℕ). is_success write n done.outcome) (here_count (stage_at stages k)) ∙ other))
-      where
-        changed : (max at count : ℕ) (bytes : List ℕ) (i : ℕ) → is_success write (nth max at count bytes i (stage_at stages k)).count done.outcome ≡ false
-            → after_done write done (nth max at count bytes i (stage_at stages k)) ≡ nth max at count bytes i Failed
-        changed max at count bytes zero out = rw (is, out) refl
-        changed max at count bytes (suc i) out = changed max (at + max) (count - max) (drop (512 * max) bytes) i out
+        (rw (nth_is max at count bytes k (stage_at stages k) below, nth_is max at count bytes k Failed below, is, badly))
 
     -- the part was read or written
-    module _ (yes : is_success write (min max (count - k * max)) done.outcome ≡ true) where
+    module _ (well : is_success write (min max (count - k * max)) done.outcome ≡ true) where
+      read_length : (read : List ℕ) → is_success write (min max (count - k * max)) (Read read) ≡ true → length read ≡ 512 * min max (count - k * max)
+      read_length read ok = eqb-true (length read) (512 * min max (count - k * max)) (and_parts (not write) (length read == 512 * min max (count - k * max)) ok).1
+
       fits : (piece : List ℕ) → length piece ≡ 512 * min max (count - k * max) → 512 * max * k + length piece ≤ length bytes
       fits piece len =
           let below = place k here_within in
@@ -227,29 +212,12 @@ module _ (total max at count : ℕ) (bytes : List ℕ) (stages : List Stage) (fi
           let size = s.parted.size in
           omega (arith, len, e)
 
-      pub can_lay : CanLay bytes (512 * max * k) done.outcome
-      can_lay = at_outcome done.outcome yes
-        where
-          at_outcome : (outcome : Outcome) → is_success write (min max (count - k * max)) outcome ≡ true → CanLay bytes (512 * max * k) outcome
-          at_outcome (Read read) is = fits read (eqb-true (length read) (512 * min max (count - k * max)) (and_parts (not write) (length read == 512 * min max (count - k * max)) is).1)
-          at_outcome Written is = tt
-          at_outcome Flushed is = tt
-          at_outcome (Told args) is = tt
-          at_outcome (AtaError status error) is = tt
-          at_outcome (AoeError error) is = tt
-          at_outcome (GaveUp from now) is = tt
-
       pub length-laid : length (laid bytes (512 * max * k) done.outcome) ≡ length bytes
-      length-laid = at_outcome done.outcome can_lay
+      length-laid = at_outcome done.outcome well
         where
-          at_outcome : (outcome : Outcome) → CanLay bytes (512 * max * k) outcome → length (laid bytes (512 * max * k) outcome) ≡ length bytes
-          at_outcome (Read read) can = length-put bytes read (512 * max * k) can
-          at_outcome Written can = refl
-          at_outcome Flushed can = refl
-          at_outcome (Told args) can = refl
-          at_outcome (AtaError status error) can = refl
-          at_outcome (AoeError error) can = refl
-          at_outcome (GaveUp from now) can = refl
+          at_outcome : (outcome : Outcome) → is_success write (min max (count - k * max)) outcome ≡ true → length (laid bytes (512 * max * k) outcome) ≡ length bytes
+          at_outcome (Read read) ok = length-put bytes read (512 * max * k) (fits read (read_length read ok))
+          at_outcome _ ok = refl
 
       pub ended_sound : (less : ℕ) → less + 1 ≡ left → AreParts total max at count (laid bytes (512 * max * k) done.outcome) (set stages k Ended) first next less
       ended_sound less e = settled Ended (laid bytes (512 * max * k) done.outcome) less length-laid refl refl (λ t. refl) (let h = some_left in omega arith)
@@ -260,36 +228,17 @@ module _ (total max at count : ℕ) (bytes : List ℕ) (stages : List Stage) (fi
           are_ended-parts_of max at count (set stages k Ended) new ∙ none_left (set stages k Ended) ∙ ap (λ (n : ℕ). n == 0) same
 
       pub ended_parts : map (after_done write done) (parts_of max at count stages bytes) ≡ parts_of max at count (set stages k Ended) (laid bytes (512 * max * k) done.outcome)
-      ended_parts = at_outcome done.outcome refl yes
+      ended_parts = at_outcome done.outcome refl well
         where
-          known : (stage : Stage) → is_success write (nth max at count bytes k stage).count done.outcome ≡ true
-          known stage = ap (λ (n : ℕ). is_success write n done.outcome) (here_count stage) ∙ yes
-
-          changed : (max at count : ℕ) (bytes : List ℕ) (i : ℕ) → is_success write (nth max at count bytes i (stage_at stages k)).count done.outcome ≡ true
-              → after_done write done (nth max at count bytes i (stage_at stages k)) ≡ record (nth max at count bytes i Ended) { bytes = bytes_after done.outcome (nth max at count bytes i Ended).bytes }
-          changed max at count bytes zero out = rw (is, out) refl
-          changed max at count bytes (suc i) out = changed max (at + max) (count - max) (drop (512 * max) bytes) i out
-
-          here : after_done write done (nth max at count bytes k (stage_at stages k)) ≡ record (nth max at count bytes k Ended) { bytes = bytes_after done.outcome (nth max at count bytes k Ended).bytes }
-          here = changed max at count bytes k (known (stage_at stages k))
-
-          as_read : (read : List ℕ) → done.outcome ≡ Read read → is_success write (min max (count - k * max)) (Read read) ≡ true → map (after_done write done) (parts_of max at count stages bytes) ≡ parts_of max at count (set stages k Ended) (put bytes (512 * max * k) read)
-          as_read read e is_read =
-              let len : length read ≡ 512 * min max (count - k * max) = eqb-true (length read) (512 * min max (count - k * max)) (and_parts (not write) (length read == 512 * min max (count - k * max)) is_read).1 in
-              map_piece (after_done write done) (is_handed done.ticket.0) (λ p out. rw out refl) Ended read max at count stages bytes k here_within (place k here_within) s.parted.size others
-              (len ∙ ap (λ (n : ℕ). 512 * n) (sym (here_count Ended)))
-              (here ∙ ap (λ (o : Outcome). record (nth max at count bytes k Ended) { bytes = bytes_after o (nth max at count bytes k Ended).bytes }) e)
-
-          as_written : done.outcome ≡ Written → map (after_done write done) (parts_of max at count stages bytes) ≡ parts_of max at count (set stages k Ended) bytes
-          as_written e =
+          at_outcome : (outcome : Outcome) → done.outcome ≡ outcome → is_success write (min max (count - k * max)) outcome ≡ true
+              → map (after_done write done) (parts_of max at count stages bytes) ≡ parts_of max at count (set stages k Ended) (laid bytes (512 * max * k) outcome)
+          at_outcome (Read read) e ok =
+              let below = place k here_within in
+              map_piece (after_done write done) (is_handed done.ticket.0) (λ p out. rw out refl) Ended read max at count stages bytes k here_within below s.parted.size others
+              (read_length read ok ∙ ap (λ (n : ℕ). 512 * n) (sym (here_count Ended)))
+              (rw (nth_is max at count bytes k (stage_at stages k) below, nth_is max at count bytes k Ended below, is, well, e))
+          at_outcome Written e ok =
+              let below = place k here_within in
               map_stage (after_done write done) (is_handed done.ticket.0) (λ p out. rw out refl) Ended max at count stages bytes k here_within others
-              (here ∙ ap (λ (o : Outcome). record (nth max at count bytes k Ended) { bytes = bytes_after o (nth max at count bytes k Ended).bytes }) e)
-
-          at_outcome : (outcome : Outcome) → done.outcome ≡ outcome → is_success write (min max (count - k * max)) outcome ≡ true → map (after_done write done) (parts_of max at count stages bytes) ≡ parts_of max at count (set stages k Ended) (laid bytes (512 * max * k) outcome)
-          at_outcome (Read read) e is_read = as_read read e is_read
-          at_outcome Written e is_written = as_written e
-          at_outcome Flushed e other = absurd (cc)
-          at_outcome (Told args) e other = absurd (cc)
-          at_outcome (AtaError status error) e other = absurd (cc)
-          at_outcome (AoeError error) e other = absurd (cc)
-          at_outcome (GaveUp from now) e other = absurd (cc)
+              (rw (nth_is max at count bytes k (stage_at stages k) below, nth_is max at count bytes k Ended below, is, well, e))
+          at_outcome _ e other = absurd (cc)

@@ -1,6 +1,6 @@
 -- What a transfer has copied, turn by turn.
 use Rattle.aoe_base.specs.declared.counted.Ticket.{Ticket}
-use Rattle.std.proofs.Common.{ℕ, ◌≡◌, ◌+◌, ◌-◌, ◌*◌, ◌/◌, ◌<◌, not, Bool, true, false, List, [], ◌∷◌, ◌++◌, length, reverse, Option, Some, None, refl, sym, ap, ◌∙◌, arith, inl, inr}
+use Rattle.std.proofs.Common.{ℕ, ◌≡◌, ◌-◌, ◌*◌, ◌<◌, Bool, true, false, List, [], ◌∷◌, ◌++◌, length, reverse, Option, Some, None, refl, sym, ap, ◌∙◌, arith, inl, inr}
 use Rattle.std.specs.Prelude.{Ok, All, Contains}
 use Rattle.std.proofs.lemmas.Bool.{and_parts, cases_Bool, eqb-true}
 use Rattle.std.proofs.lemmas.List.{get_or-reverse, length-append, length-replicate, length-reverse}
@@ -157,8 +157,7 @@ module _ (w : Bool) (at count : ℕ) (bytes : List ℕ) where
           rw (read.0, read.1) (took-whole c.block d read.0, λ writes. absurd (let flushes = x.fits.flushes in let not_so = read.1 in cc))
       by phase.Flush is over y = absurd cc
       by (phase.Flushing ticket) is over y =
-          let both = and_parts _ _ over in
-          (
+          let both = and_parts _ _ over in (
             y,
             λ writes. record {
               ticket = ticket;
@@ -239,8 +238,7 @@ module _ (w : Bool) (at count : ℕ) (bytes : List ℕ) where
       let ds = dones (told rounds) r.gave_up in
       let S = submissions rounds in
       let before = rounds-so base turns start rounds x unasked are.0 in
-      let now = (turn-so turns c rounds r.gave_up before.0).0 in
-      (
+      let now = (turn-so turns c rounds r.gave_up before.0).0 in (
         more (more-came (told_by r.heard) (r.submits ++ S) (came_in rounds r.gave_up)) (submits-so (after_dones turns c ds) r.submits are.2.submits now),
         λ writes. asked-turn r rounds (after_dones turns c ds) r.submits writes refl are.2.submits now (asked-dones turns rounds c ds (before.1 writes)),
       )

@@ -92,7 +92,7 @@ module _ (w : Bool) (S : List Submission) (D : List Done) where
           let ok = success w p d.outcome well whole in
           let there = rw (← ok.1) at (asked p.stage mine x) in
           let copied : IsCopied w S (d ∷ D) (record p { bytes = bytes_after d.outcome p.bytes; stage = Ended }) =
-              record { ticket = d.ticket; asked = there; acknowledged = (0, omega arith, ap {B = Done} (λ o. record { ticket = d.ticket; outcome = o }) ok.0) } in
+          record { ticket = d.ticket; asked = there; acknowledged = (0, omega arith, ap {B = Done} (λ o. record { ticket = d.ticket; outcome = o }) ok.0) } in
           rw (mine, well) (refl, refl, ok.2, copied, ok.3)
       | inr badly ↦ rw (mine, badly) (refl, refl, whole, tt, λ writes. refl)
     ]

@@ -1,5 +1,5 @@
 -- A turn of a transfer, of its two parts.
-use Rattle.std.proofs.Common.{ℕ, ◌≡◌, ◌<◌, max, Bool, true, false, List, [], ◌∷◌, ◌++◌, map, reverse, Option, Some, None, refl, sym, ap, subst, ◌∙◌, arith}
+use Rattle.std.proofs.Common.{ℕ, ◌≡◌, ◌<◌, max, Bool, true, false, List, [], ◌∷◌, ◌++◌, reverse, Option, Some, None, refl, sym, ◌∙◌, arith}
 use Rattle.std.proofs.lemmas.Option.{same_Some}
 use Rattle.aoe_initiator.proofs.MatchLemmas.{same-then}
 use Rattle.std.specs.Prelude.{Result, Ok, Err, All}
@@ -18,12 +18,11 @@ use Rattle.aoe_tools.proofs.SubmitLemmas.{as-many}
 use Rattle.aoe_tools.specs.declared.course.Course.{Course}
 use Rattle.aoe_initiator.specs.declared.outcome.Outcome.{Outcome}
 use Rattle.aoe_initiator.specs.declared.outcome.Outcome.TheVariants as outcome
-use Rattle.aoe_tools.specs.declared.end.Refusal.TheVariants as refusal
 use Rattle.aoe_tools.specs.declared.end.ToolRefusal.{ToolRefusal}
 use Rattle.aoe_tools.specs.declared.end.ToolRefusal.TheVariants as tool
 use Rattle.aoe_tools.specs.declared.transfer.Passed.{Passed}
 use Rattle.aoe_tools.specs.declared.transfer.Passed.TheVariants as passed
-use Rattle.aoe_tools.specs.TransferCourse.{after_done, after_dones, end_by, ending, ending_by, failure, is_over_in, or_later, submitted, End}
+use Rattle.aoe_tools.specs.TransferCourse.{after_done, after_dones, end_by, ending, ending_by, failure, is_over_in, or_later, End}
 use Rattle.aoe_tools.specs.TransferRun.{after_tick, dones, log_of, quiet_turns, told, Breaks, EndsBy, GivesUp, Heard, IsFit, IsRound, Round, Running}
 use Rattle.aoe_tools.specs.TransferSteps.{Broken, Exchanged, Exchanges, TakesRound, Turns}
 

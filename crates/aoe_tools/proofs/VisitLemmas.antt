@@ -1,5 +1,5 @@
 -- The devices are asked for their pages, one after the other.
-use Rattle.std.proofs.Common.{ℕ, suc, ◌≡◌, ◌≤◌, ◌+◌, List, [], ◌∷◌, ◌++◌, append_assoc, drop, length, length-append, Option, Some, None, refl, sym, ap, ◌∙◌, arith, inl, inr}
+use Rattle.std.proofs.Common.{ℕ, suc, ◌≡◌, ◌≤◌, ◌+◌, List, [], ◌∷◌, ◌++◌, append_assoc, drop, length, length-append, Option, Some, refl, sym, ap, ◌∙◌, arith, inl, inr}
 use Rattle.std.proofs.lemmas.Bool.{cases_lt}
 use Rattle.std.proofs.lemmas.List.{append-nil, nil_from_length}
 use Rattle.std.proofs.lemmas.Option.{same_Some}
@@ -139,6 +139,6 @@ module _ {first : ℕ} {port : Mac} {limit i : ℕ} {found now : List Seen} {sta
           ends = (
             (record { rest = drop 1 s.rest; is = found-on v one.at }, here.0, s.over),
             front-then taken taken' taken'' (visit_asked first port s.visits) (asked_at request (length v.turns)) (asked request (length v.turns)) s.took
-            (took-front request (length v.turns) taken' taken'' here.1),
+                (took-front request (length v.turns) taken' taken'' here.1),
           );
         }

@@ -10,7 +10,7 @@ args_of-requires g c = rw (behind c.deref.ensures.0) c.in-Ok.ensures.here.1
 pub returns-in-Ok-clause-run : goal.returns-in-Ok-clause-run
 returns-in-Ok-clause-run g c =
     let is : c.args_of.result ≡ args_of (record { reply = c.in-Ok.reply; args = drop 24 c.ask.new.frame.items }) =
-        c.args_of.ensures ∙ ap (λ l. args_of (record { reply = c.in-Ok.reply; args = l })) (behind c.deref.ensures.0) in
+    c.args_of.ensures ∙ ap (λ l. args_of (record { reply = c.in-Ok.reply; args = l })) (behind c.deref.ensures.0) in
     rw is (asks-one (Ok record { reply = c.in-Ok.reply; args = drop 24 c.ask.new.frame.items }) c.in-Ok.ensures.asks)
 
 pub returns-in-Err-clause-run : goal.returns-in-Err-clause-run

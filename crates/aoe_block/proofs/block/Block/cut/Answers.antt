@@ -1,4 +1,4 @@
-use Rattle.std.proofs.Common.{◌≡◌, ◌≤◌, ◌<◌, ◌+◌, ◌*◌, replicate, rules, ap}
+use Rattle.std.proofs.Common.{◌≡◌, replicate, rules, ap}
 use Rattle.std.proofs.lemmas.Grind.{div_ceil_times}
 use Rattle.aoe_block.specs.declared.stage.Stage.TheVariants.{Pending}
 use Rattle.aoe_block.proofs.PartLemmas.{cut-parts_of}
@@ -11,17 +11,15 @@ pub invariant_of-result : goal.invariant_of-result
 invariant_of-result c =
     let times = div_ceil_times c.args.count c.args.max c.requires.some in
     let items : c.in-Ok.stages.items ≡ replicate c.div_ceil-number.result Pending = search rules in
-    let enough : c.args.count ≤ c.div_ceil-number.result * c.args.max = rw (c.div_ceil-number.ensures) times.0 in
-    let needed : c.div_ceil-number.result * c.args.max < c.args.count + c.args.max = rw (c.div_ceil-number.ensures) times.1 in
-    rw items (sound_new c.args.total c.args.max c.args.at c.args.count c.args.bytes c.div_ceil-number.result c.requires.some c.requires.few c.requires.range c.ranges.total.fits c.requires.short c.requires.size enough needed)
+    rw items (sound_new c.args.total c.args.max c.args.at c.args.count c.args.bytes c.div_ceil-number.result c.requires.some c.requires.few c.requires.range c.ranges.total.fits
+    c.requires.short c.requires.size (rw c.div_ceil-number.ensures times.0) (rw c.div_ceil-number.ensures times.1))
 
 pub returns-in-Ok-clause-cut : goal.returns-in-Ok-clause-cut
 returns-in-Ok-clause-cut c =
     let times = div_ceil_times c.args.count c.args.max c.requires.some in
     let items : c.in-Ok.stages.items ≡ replicate c.div_ceil-number.result Pending = search rules in
-    let enough : c.args.count ≤ c.div_ceil-number.result * c.args.max = rw (c.div_ceil-number.ensures) times.0 in
-    let needed : c.div_ceil-number.result * c.args.max < c.args.count + c.args.max = rw (c.div_ceil-number.ensures) times.1 in
-    rw items (cut-parts_of c.args.max c.args.at c.args.count c.div_ceil-number.result c.args.bytes c.requires.some c.requires.size enough needed)
+    rw items (cut-parts_of c.args.max c.args.at c.args.count c.div_ceil-number.result c.args.bytes c.requires.some c.requires.size
+    (rw c.div_ceil-number.ensures times.0) (rw c.div_ceil-number.ensures times.1))
 
 pub returns-in-Ok-clause-fresh : goal.returns-in-Ok-clause-fresh
 returns-in-Ok-clause-fresh c ticket =

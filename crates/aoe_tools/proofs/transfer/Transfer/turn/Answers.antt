@@ -1,5 +1,5 @@
-use Rattle.std.proofs.Common.{refl, sym, ap, ◌∙◌, arith}
-use Rattle.std.specs.Prelude.{Ok, Err, Some}
+use Rattle.std.proofs.Common.{refl, sym, arith}
+use Rattle.std.specs.Prelude.{Err}
 use Rattle.aoe_tools.proofs.TurnLemmas.{by-exchange, ends-turn, fit-turn, not-link, of-outcome, over-turn, refused-turn, Advanced}
 use Rattle.aoe_tools.proofs.transfer.Transfer.turn.Goals as goal
 
