@@ -1,124 +1,57 @@
 -- Which call of an armed disk fails, in calls of the disk and in frames of the slot.
-use Rattle.std.proofs.Common.{◌≡◌, ◌≢◌, ◌-◌, ◌*◌, ◌<◌, ◌≤◌, ◌⊎◌, inl, inr, ℕ, suc, Bool, true, false, nat_eq, if◌then◌else◌, Option, Some, None, is_none, is_some, refl, sym, ap, subst, ◌∙◌, arith}
+use Rattle.std.proofs.Common.{◌≡◌, ℕ, Bool, true, Option, Some, None, is_none, arith}
 use Rattle.std.proofs.lemmas.Bool.Decides.{nat_tests}
-use Rattle.std.proofs.lemmas.Option.{same_Some}
-use Rattle.std.specs.Prelude.{IfNone}
+use Rattle.std.specs.Prelude.{MatchBool}
 use Rattle.std.specs.Option.{option_map}
-use Rattle.aoe_disk.specs.Calls.{MovesDue, MovesDueCall, MovesOn}
+use Rattle.aoe_cache.specs.Any.{any_state, any_under}
+use Rattle.aoe_cache.specs.declared.any.AnyStore.{AnyStore}
+use Rattle.aoe_cache.specs.declared.any.AnyStore.TheVariants.{Direct, Cached}
+use Rattle.aoe_disk.specs.Calls.{IsRun, MovesOn}
+use Rattle.aoe_disk.specs.Memory.{state_of, Memory}
 use Rattle.aoe_disk.specs.State.{BothTell, Schedule}
-use Rattle.aoe_disk.specs.declared.loss.Loss.{Loss}
+use Rattle.aoe_store.specs.Under.{CallsUnder}
 use Rattle.aoe_history.specs.declared.entry.Fate.{Fate}
-use Rattle.aoe_history.specs.ShelfLaw.{one_more, struck_frame, Stretch}
+use Rattle.aoe_history.specs.ShelfLaw.{one_more, IsStrike, IsStruckInTurn, IsStruckOnce, Stretch}
+use Rattle.aoe_history.specs.Slots.{is_struck, Slot}
 use Rattle.aoe_script.specs.declared.event.Which.{Which}
-use Rattle.aoe_script.specs.declared.event.Which.TheVariants.{Store, Keep}
-use Rattle.aoe_sim_shelves.specs.Rack.{calls_per, stop_in, IsDue, IsPending, IsSpent}
+use Rattle.aoe_script.specs.declared.event.Which.TheVariants.{Store}
+use Rattle.aoe_sim_shelves.specs.Rack.{calls_per, stop_in, IsDue, IsOnce, IsStoreDue, IsUnder}
 
-not-eq : (a b : ℕ) → a ≢ b → nat_eq a b ≡ false
-not-eq a b e = grind (arith, nat_tests)
+-- where a call failed, the power was lost in it just where the disk is armed for that
+abbrev pub Strikes : Bool → Option Stretch → Fate → Type 0
+Strikes failed x fate = failed ≡ true → (z : Stretch) → z.mode ≡ stop_in x → IsStrike z fate
 
-is-eq : (a b : ℕ) → a ≡ b → nat_eq a b ≡ true
-is-eq a b e = grind (arith, nat_tests)
+-- a disk that is called as often by each frame: the calls fail where they are to, and it is armed as after one frame more, unless its
+-- stop was reached
+module _ (which : Which) {failed : Bool} {before after : ℕ} {d e : Schedule} (run : MovesOn (calls_per which) failed before after d e)
+    (x : Option Stretch) (due : IsDue which x d) (fate : Fate) where
+  pub struck-in-turn : is_struck fate ≡ failed → Strikes failed x fate → IsStruckInTurn which x fate
+  struck-in-turn is strikes = grind (arith, nat_tests, run.due)
 
--- THE FRAME THAT MEETS THE CALL, of f frames before it
+  pub due-then : (failed ≡ true → stop_in x ≡ None) → IsDue which (option_map (one_more fate) x) e
+  due-then running = grind (arith, nat_tests, run.due, run.kind)
 
-later : (which : Which) (k f : ℕ) → calls_per which < k - calls_per which * f → suc f < struck_frame which k
-later Store k f lt = omega arith
-later Keep k f lt = omega arith
+-- the disk of a store with a cache may be called any number of times: one call at most fails after an arming
+module _ {m : ℕ} {failed : Bool} {before after : ℕ} {d e : Schedule} (run : MovesOn m failed before after d e) (x : Option Stretch)
+    (due : IsOnce x d) (fate : Fate) (is : is_struck fate ≡ failed) where
+  struck-once : Strikes failed x fate → IsStruckOnce x fate
+  struck-once strikes = grind (arith, run.due)
 
-now : (which : Which) (k f : ℕ) → calls_per which * f < k → k - calls_per which * f ≤ calls_per which → suc f ≡ struck_frame which k
-now Store k f lt le = omega arith
-now Keep k f lt le = omega arith
+  once-then : (failed ≡ true → stop_in x ≡ None) → IsOnce (option_map (one_more fate) x) e
+  once-then running = grind (arith, run.due, run.kind)
 
-nearer : (which : Which) (k f : ℕ) → calls_per which < k - calls_per which * f → calls_per which * suc f < k
-nearer Store k f lt = omega arith
-nearer Keep k f lt = omega arith
+-- either store
+module _ (x : Option Stretch) (fate : Fate) (failed : Bool) (is : is_struck fate ≡ failed) where
+  pub struck-store : (n : ℕ) (z : Slot) (cache : Option ℕ) (s t : AnyStore Memory) → IsUnder n cache z (any_under state_of s) → IsStoreDue x s
+      → IsRun 1 failed (any_state state_of s) (any_state state_of t) → BothTell (CallsUnder failed) (any_under state_of s) (any_under state_of t)
+      → Strikes failed x fate → MatchBool (is_none cache) (IsStruckInTurn Store x fate) (IsStruckOnce x fate)
+  struck-store n z None (Direct a) (Direct b) u due run calls strikes = struck-in-turn Store run.schedule x due fate is strikes
+  struck-store n z (Some room) (Cached a) (Cached b) u due run calls strikes = struck-once calls.run.schedule x due fate is strikes
+  struck-store n z _ _ _ u due run calls strikes = absurd (grind arith)
 
-rest : (which : Which) (k f : ℕ) → (k - calls_per which * f) - calls_per which ≡ k - calls_per which * suc f
-rest Store k f = omega arith
-rest Keep k f = omega arith
-
--- THE CALLS OF ONE FRAME
-
--- the calls of a frame that made the slot call the disk failed just where the stretch says so
-abbrev pub IsMet : Which → Option Stretch → Bool → Type 0
-IsMet which None failed = failed ≡ false
-IsMet which (Some x) failed = failed ≡ nat_eq (suc x.frames) (struck_frame which x.k)
-
--- how a frame moved the call that was due
-pub record Moved (m : ℕ) (failed stop : Bool) (due : Option ℕ) (new : Option (Option ℕ)) : Type 0 where
-  pub next : Option ℕ
-  pub is : new ≡ Some next
-  pub moves : MovesDue m failed stop due next
-
-pub moved : (m : ℕ) (failed stop : Bool) (due : Option ℕ) (old new : Option (Option ℕ)) → old ≡ Some due → BothTell (MovesDue m failed stop) old new → Moved m failed stop due new
-moved m failed stop due None new e p = absurd (cc)
-moved m failed stop due (Some a) None e p = absurd p
-moved m failed stop due (Some a) (Some b) e p = record { next = b; is = refl; moves = subst (λ (z : Option ℕ). MovesDue m failed stop z b) (same_Some a due e) p }
-
-pub if-none : (o : Option Loss) (P Q : Type 0) → (P → Q) → IfNone o P → IfNone o Q
-if-none None P Q f p = f p
-if-none (Some x) P Q f p = tt
-
-pub none-of : (o : Option Loss) (P : Type 0) → o ≡ None → IfNone o P → P
-none-of None P e p = p
-none-of (Some x) P e p = absurd (cc)
-
-pub none-not : (o : Option ℕ) → is_some o ≡ true → is_none o ≡ false
-none-not None e = absurd (cc)
-none-not (Some x) e = refl
-
-module _ (which : Which) (failed : Bool) (before after : ℕ) (d e : Schedule) (run : MovesOn (calls_per which) failed before after d e) where
-  idle : d.due ≡ Some None → (failed ≡ false) × (e.due ≡ Some None)
-  idle due =
-      let m = moved (calls_per which) failed (is_none d.armed) None d.due e.due due run.due in
-      (m.moves.0, m.is ∙ ap Some m.moves.1)
-
-  module _ (x : Stretch) where
-    -- the call that was due, after it or before it
-    moving : IsPending which x d → Moved (calls_per which) failed (is_none d.armed) (Some (x.k - calls_per which * x.frames)) e.due
-    moving p = moved (calls_per which) failed (is_none d.armed) (Some (x.k - calls_per which * x.frames)) d.due e.due p.due run.due
-
-    pending-met : IsPending which x d → failed ≡ nat_eq (suc x.frames) (struck_frame which x.k)
-    pending-met p = let m = moving p in go failed m.next m.moves
-      where
-        go : (b : Bool) (next : Option ℕ) → MovesDueCall (calls_per which) b (is_none d.armed) (x.k - calls_per which * x.frames) next → b ≡ nat_eq (suc x.frames) (struck_frame which x.k)
-        go false next moves =
-            let less = later which x.k x.frames moves.0 in
-            sym (not-eq (suc x.frames) (struck_frame which x.k) (λ same. omega (arith, less, same)))
-        go true next moves = sym (is-eq (suc x.frames) (struck_frame which x.k) (now which x.k x.frames p.before moves.0))
-
-    spent-met : IsSpent which x d → failed ≡ nat_eq (suc x.frames) (struck_frame which x.k)
-    spent-met p =
-        let past = p.after in
-        (idle p.due).0 ∙ sym (not-eq (suc x.frames) (struck_frame which x.k) (λ same. omega (arith, past, same)))
-
-    pending-then : (fate : Fate) → (failed ≡ true → is_some d.armed ≡ true) → IsPending which x d → IsPending which (one_more fate x) e ⊎ IsSpent which (one_more fate x) e
-    pending-then fate number p = let m = moving p in go failed m.next number m.moves m.is
-      where
-        go : (b : Bool) (next : Option ℕ) → (b ≡ true → is_some d.armed ≡ true) → MovesDueCall (calls_per which) b (is_none d.armed) (x.k - calls_per which * x.frames) next → e.due ≡ Some next
-            → IsPending which (one_more fate x) e ⊎ IsSpent which (one_more fate x) e
-        go false next number moves is = inl (record {
-          before = nearer which x.k x.frames moves.0;
-          due = is ∙ ap Some (moves.1 ∙ ap Some (rest which x.k x.frames));
-        })
-        go true next number moves is =
-            let same = now which x.k x.frames p.before moves.0 in
-            let number_in = none-not d.armed (number refl) in
-            inr (record { after = omega (arith, same); due = is ∙ ap Some (moves.1 ∙ ap (λ (b : Bool). if b then Some 1 else None) number_in) })
-
-    spent-then : (fate : Fate) → IsSpent which x d → IsSpent which (one_more fate x) e
-    spent-then fate p = let past = p.after in record { after = omega (arith, past); due = (idle p.due).1 }
-
-  -- the calls fail where they are to
-  pub met : (x : Option Stretch) → IsDue which x d → IsMet which x failed
-  met None i = (idle i).0
-  met (Some x) i = elim i.1 [ inl p ↦ pending-met x p | inr p ↦ spent-met x p ]
-
-  -- and the disk is armed as after one frame more, unless its stop was reached
-  pub due-then : (x : Option Stretch) (fate : Fate) → (failed ≡ true → stop_in x ≡ None) → IsDue which x d → IsDue which (option_map (one_more fate) x) e
-  due-then None fate running i = (idle i).1
-  due-then (Some x) fate running i =
-      let number : failed ≡ true → is_some d.armed ≡ true = λ f. none-of x.mode (is_some d.armed ≡ true) (running f) i.0 in (
-        if-none x.mode (is_some d.armed ≡ true) (is_some e.armed ≡ true) (λ p. run.kind ∙ p) i.0,
-        elim i.1 [ inl p ↦ pending-then x fate number p | inr p ↦ inr (spent-then x fate p) ],
-      )
+  pub due-store-then : (s t : AnyStore Memory) → IsStoreDue x s → IsRun 1 failed (any_state state_of s) (any_state state_of t)
+      → BothTell (CallsUnder failed) (any_under state_of s) (any_under state_of t) → (failed ≡ true → stop_in x ≡ None)
+      → IsStoreDue (option_map (one_more fate) x) t
+  due-store-then (Direct a) (Direct b) due run calls running = due-then Store run.schedule x due fate running
+  due-store-then (Cached a) (Cached b) due run calls running = once-then calls.run.schedule x due fate is running
+  due-store-then _ _ due run calls running = absurd calls

@@ -7,10 +7,10 @@ mod DueLemmas
 mod FateLemmas
 mod FrontLemmas
 mod HistoryLemmas
-mod OnceLemmas
 mod RackLemmas
 mod SeatLemmas
 mod SlotLemmas
 mod StepLemmas
 mod UnderLemmas
 mod WithinLemmas
+mod Words

@@ -1,10 +1,9 @@
 -- One step of a slot's device, in the words of what is known of it.
-use Rattle.std.proofs.Common.{◌≡◌, ◌≤◌, ◌+◌, ℕ, List, Option, Some, None, is_none, refl, sym, subst, arith}
+use Rattle.std.proofs.Common.{◌≡◌, ◌≤◌, ◌+◌, ℕ, List, Option, Some, None, is_none, refl, arith}
 use Rattle.std.specs.Prelude.{IfSome}
 use Rattle.std.specs.Option.{option_map}
 use Rattle.aoe_cache.specs.Any.{any_state, any_under}
-use Rattle.aoe_cache.specs.declared.any.AnyStore.{AnyStore}
-use Rattle.aoe_disk.specs.Memory.{state_of, Memory}
+use Rattle.aoe_disk.specs.Memory.{state_of}
 use Rattle.aoe_disk.specs.State.{sector, BothTell}
 use Rattle.aoe_frame.specs.Header.{fields}
 use Rattle.aoe_frame.specs.declared.header.Header.{Header}
@@ -14,14 +13,12 @@ use Rattle.aoe_ata.specs.declared.decision.AtaAnswer.{AtaAnswer}
 use Rattle.aoe_ata.specs.declared.decision.AtaAnswer.TheVariants.{Give}
 use Rattle.aoe_lists.specs.Step.{Step}
 use Rattle.aoe_lists.specs.Step as step
-use Rattle.aoe_target.specs.declared.heard.Effect.{Effect}
 use Rattle.aoe_target.specs.declared.heard.Effect.TheVariants as effect
 use Rattle.aoe_target.specs.declared.station.Station.{Station}
 use Rattle.aoe_target.specs.declared.verdict.Verdict.{Verdict}
 use Rattle.aoe_target.specs.declared.verdict.Verdict.TheVariants as verdict
 use Rattle.aoe_target.specs.Device.{Holds, State}
-use Rattle.aoe_target.specs.Law.{after, after_step, replied, step_of, Allows, AllowsAta, Fate, Gives, IsStep}
-use Rattle.aoe_target.specs.Mounted.{device_of, Mounted}
+use Rattle.aoe_target.specs.Law.{after, after_step, replied, step_of, Allows, AllowsAta, Fate, IsStep}
 use Rattle.aoe_target.specs.Reply.{data_of}
 use Rattle.aoe_target.specs.Sectors.{sectors_of, Sectors, Tells}
 use Rattle.aoe_target.specs.Verdict as judge
@@ -29,42 +26,36 @@ use Rattle.aoe_sim_shelves.specs.Rack.{AgreesWithin, HoldsWithin}
 use Rattle.aoe_sim_shelves.proofs.AgreeLemmas.{both_ata, both_then, exact_kept, pass, told_exact}
 use Rattle.aoe_sim_shelves.proofs.WithinLemmas.{verdict_end, InEnd, Ranged}
 use Rattle.aoe_target.proofs.LawLemmas.{both_self}
+use Rattle.aoe_sim_shelves.proofs.Words.{device, Target}
 
 -- WHAT MAY BECOME OF IT
 
-tells_within : (n : ℕ) (span : Span) (bytes : List ℕ) (x y : Option Sectors) → BothTell (AgreesWithin n) x y → span.at + span.count ≤ n → IfSome x (Tells span bytes) → IfSome y (Tells span bytes)
+tells_within : (n : ℕ) (span : Span) (bytes : List ℕ) (x y : Option Sectors) → BothTell (AgreesWithin n) x y
+    → span.at + span.count ≤ n → IfSome x (Tells span bytes) → IfSome y (Tells span bytes)
 tells_within n span bytes None None xy end told = tt
-tells_within n span bytes (Some a) (Some b) xy end told = λ i low. pass (a.known (span.at + i)) (b.known (span.at + i)) (λ v. sector bytes i ≡ v) (xy.known (span.at + i) (omega (arith, end, low))) (told i low)
+tells_within n span bytes (Some a) (Some b) xy end told = λ i low.
+    pass (a.known (span.at + i)) (b.known (span.at + i)) (λ v. sector bytes i ≡ v) (xy.known (span.at + i) (omega arith)) (told i low)
 tells_within n span bytes _ _ xy end told = absurd xy
 
-module _ (n : ℕ) (station : Station) (x y : Option Sectors) (xy : BothTell (AgreesWithin n) x y) (h : Header) (args : AtaArgs) where
-  gives_within : (e : Effect) (span : Span) (reply : List ℕ) → span.at + span.count ≤ n → Gives station x h args span e reply → Gives station y h args span e reply
-  gives_within effect.None span reply end g = (g.0, g.1, tells_within n span (data_of span reply) x y xy end g.2)
-  gives_within effect.ReadFault span reply end g = g
-  gives_within _ span reply end g = absurd g
-
-  give_within : (fate : Fate) (span : Span) → span.at + span.count ≤ n → AllowsAta station x h args (Give span) fate → AllowsAta station y h args (Give span) fate
-  give_within (replied e reply) span end g = gives_within e span reply end g
-  give_within _ span end g = g
-
-  allows_within : (answer : AtaAnswer) (fate : Fate) → InEnd n answer → AllowsAta station x h args answer fate → AllowsAta station y h args answer fate
-  allows_within (Give span) fate end g = give_within fate span end g
-  allows_within _ fate end g = g
+allows_within : (n : ℕ) (station : Station) (x y : Option Sectors) → BothTell (AgreesWithin n) x y → (h : Header) (args : AtaArgs) (answer : AtaAnswer) (fate : Fate)
+    → InEnd n answer → AllowsAta station x h args answer fate → AllowsAta station y h args answer fate
+allows_within n station x y xy h args (Give span) (replied effect.None reply) end g = (g.0, g.1, tells_within n span (data_of span reply) x y xy end g.2)
+allows_within n station x y xy h args _ _ end g = g
 
 -- A STEP
 
 -- a device in memory as it is, in the words of what is known of it
-abbrev pub known_in : Mounted (AnyStore Memory) Memory → State → State
+abbrev pub known_in : Target → State → State
 known_in t k = record k { sectors = option_map sectors_of (any_state state_of t.store).contents }
 
-pub held : (n : ℕ) (t : Mounted (AnyStore Memory) Memory) (k : State) → HoldsWithin n (device_of (any_state state_of) state_of t) k → Holds (device_of (any_state state_of) state_of t) (known_in t k)
+pub held : (n : ℕ) (t : Target) (k : State) → HoldsWithin n (device t) k → Holds (device t) (known_in t k)
 held n t k h = record { lists = h.lists; crash = h.crash; sectors = both_self (option_map sectors_of (any_state state_of t.store).contents) }
 
-pub record StepsWithin (station : Station) (k : State) (f : List ℕ) (fate : Fate) (t : Mounted (AnyStore Memory) Memory) : Type 0 where
+pub record StepsWithin (station : Station) (k : State) (f : List ℕ) (fate : Fate) (t : Target) : Type 0 where
   pub allowed : Allows station k f (judge.verdict station k.lists f) fate
-  pub holds : HoldsWithin station.sectors (device_of (any_state state_of) state_of t) (after station f (judge.verdict station k.lists f) fate k)
+  pub holds : HoldsWithin station.sectors (device t) (after station f (judge.verdict station k.lists f) fate k)
 
-step_known : (t : Mounted (AnyStore Memory) Memory) (s : Step) (fate : Fate) (k : State) → after_step s fate (known_in t k) ≡ known_in t (after_step s fate k)
+step_known : (t : Target) (s : Step) (fate : Fate) (k : State) → after_step s fate (known_in t k) ≡ known_in t (after_step s fate k)
 step_known t (step.Change next args) (replied effect.Edited reply) k = refl
 step_known t _ _ k = refl
 
@@ -72,8 +63,8 @@ pub step_sectors : (s : Step) (fate : Fate) (k : State) → (after_step s fate k
 step_sectors (step.Change next args) (replied effect.Edited reply) k = refl
 step_sectors _ _ k = refl
 
-module _ (station : Station) (k : State) (f : List ℕ) (fate : Fate) (t u : Mounted (AnyStore Memory) Memory) (kind : is_none (any_under state_of u.store) ≡ is_none (any_under state_of t.store))
-    (h : HoldsWithin station.sectors (device_of (any_state state_of) state_of t) k) where
+module _ (station : Station) (k : State) (f : List ℕ) (fate : Fate) (t u : Target)
+    (kind : is_none (any_under state_of u.store) ≡ is_none (any_under state_of t.store)) (h : HoldsWithin station.sectors (device t) k) where
   abbrev own : Option Sectors
   own = option_map sectors_of (any_state state_of t.store).contents
 
@@ -83,18 +74,18 @@ module _ (station : Station) (k : State) (f : List ℕ) (fate : Fate) (t u : Mou
   exact : told_exact left ≡ told_exact own
   exact = exact_kept t.store u.store kind
 
-  kept : (k2 : State) → k2.sectors ≡ k.sectors → Holds (device_of (any_state state_of) state_of u) (known_in t k2) → HoldsWithin station.sectors (device_of (any_state state_of) state_of u) k2
+  kept : (k2 : State) → k2.sectors ≡ k.sectors → Holds (device u) (known_in t k2) → HoldsWithin station.sectors (device u) k2
   kept k2 same hold = record {
     lists = hold.lists;
     crash = hold.crash;
-    sectors = both_then station.sectors left own k2.sectors exact hold.sectors (subst (λ (o : Option Sectors). BothTell (AgreesWithin station.sectors) own o) (sym same) h.sectors);
+    sectors = both_then station.sectors left own k2.sectors exact hold.sectors (rw same h.sectors);
   }
 
-  by_verdict : (v : Verdict) → Ranged station.sectors v → Allows station (known_in t k) f v fate → Holds (device_of (any_state state_of) state_of u) (after station f v fate (known_in t k))
-      → Allows station k f v fate × HoldsWithin station.sectors (device_of (any_state state_of) state_of u) (after station f v fate k)
+  by_verdict : (v : Verdict) → Ranged station.sectors v → Allows station (known_in t k) f v fate → Holds (device u) (after station f v fate (known_in t k))
+      → Allows station k f v fate × HoldsWithin station.sectors (device u) (after station f v fate k)
   by_verdict (verdict.Lists command) r a hold =
       let s : Step = step_of station k.lists f command in
-      (a, kept (after_step s fate k) (step_sectors s fate k) (subst (λ (z : State). Holds (device_of (any_state state_of) state_of u) z) (step_known t s fate k) hold))
+      (a, kept (after_step s fate k) (step_sectors s fate k) (rw (step_known t s fate k) at hold))
   by_verdict (verdict.Ata d) r a hold = (
     allows_within station.sectors station own k.sectors h.sectors (fields f) d.args d.answer fate r a,
     record {
@@ -106,5 +97,7 @@ module _ (station : Station) (k : State) (f : List ℕ) (fate : Fate) (t u : Mou
   by_verdict _ r a hold = (a, kept k refl hold)
 
   -- a step of the device as it is, is one of what is known of it
-  pub stepped : IsStep station (known_in t k) f fate (device_of (any_state state_of) state_of u) → StepsWithin station k f fate u
-  stepped s = let both = by_verdict (judge.verdict station k.lists f) (verdict_end station k.lists f) s.allowed s.holds in record { allowed = both.0; holds = both.1 }
+  pub stepped : IsStep station (known_in t k) f fate (device u) → StepsWithin station k f fate u
+  stepped s =
+      let both = by_verdict (judge.verdict station k.lists f) (verdict_end station k.lists f) s.allowed s.holds in
+      record { allowed = both.0; holds = both.1 }

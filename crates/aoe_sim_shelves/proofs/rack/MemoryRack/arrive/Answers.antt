@@ -1,12 +1,8 @@
 -- Each exit, by what is known of the slots that the frame came to.
-use Rattle.std.proofs.Common.{◌≡◌, ◌≤◌, length, Option, Ok, Err, sym, ap, subst, ◌∙◌, arith, add-one}
+use Rattle.std.proofs.Common.{◌≡◌, ◌≤◌, length, Ok, Err, sym, ap, ◌∙◌, arith, add-one}
 use Rattle.std.specs.Prelude.{IsErrAnd, OnErr, Result}
 use Rattle.aoe_net.specs.declared.refusal.NetRefusal.TheVariants.{Full}
-use Rattle.aoe_disk.specs.declared.loss.Loss.{Loss}
-use Rattle.aoe_history.specs.Groups.{ArriveAtSome}
-use Rattle.aoe_history.specs.Lawful.{IsLawful}
-use Rattle.aoe_history.specs.Run.{Recorded}
-use Rattle.aoe_sim_shelves.specs.Arrival.{ComesToSlot, IsCut}
+use Rattle.aoe_sim_shelves.specs.Arrival.{IsCut}
 use Rattle.aoe_sim_shelves.specs.Rack.{MemoryRack}
 use Rattle.aoe_sim_shelves.proofs.ArrivalLemmas.{crashed-each, crashed-some, goes-of, passes-all, passes-full, passes-on, passes-some}
 use Rattle.aoe_sim_shelves.proofs.rack.MemoryRack.arrive.Goals as goal
@@ -16,44 +12,37 @@ on-err (Ok x) P p = tt
 on-err (Err e) P p = p
 
 of-err : {T E : Type 0} (r : Result T E) (e : E) (P : E → Type 0) → IsErrAnd r P → r ≡ Err e → P e
-of-err (Ok x) e P p is = absurd p
-of-err (Err y) e P p is = subst P (cc) p
+of-err r e P p is = rw is at p
 
 pub returns-in_err-how-clause-err : goal.returns-in_err-how-clause-err
 returns-in_err-how-clause-err c = on-err c.from_residual.result _ (λ s slots shelf serves lawful fresh.
     let p = c.slots.invariant.passes s slots (record { shelf = shelf; serves = serves; lawful = lawful; fresh = fresh }) in
-    subst (λ (r : Recorded). ArriveAtSome c.args.number.0 c.args.frame.now slots slots c.args.run.now.entries r.entries × IsLawful s r.entries) (sym c.in_err-how.ensures.err)
-    (passes-some s slots c.slots.slot _ _ _ _ _ p, p.reached.lawful))
+    rw c.in_err-how.ensures.err (passes-some p, p.reached.lawful))
 
 pub returns-in_err-how-clause-full : goal.returns-in_err-how-clause-full
 returns-in_err-how-clause-full c full s slots shelf serves lawful fresh =
     let p = c.slots.invariant.passes s slots (record { shelf = shelf; serves = serves; lawful = lawful; fresh = fresh }) in
-    passes-full s slots c.slots.slot _ _ _ _ _ p _ (c.in_err-how.ensures.full (ap Err (sym (of-err c.from_residual.result Full _ c.from_residual.ensures.1 full))) s slots p.reached)
+    passes-full p _ (c.in_err-how.ensures.full (ap Err (sym (of-err c.from_residual.result Full _ c.from_residual.ensures.1 full))) s slots p.reached)
 
 pub returns-in-Ok-clause-ok : goal.returns-in-Ok-clause-ok
 returns-in-Ok-clause-ok c s slots shelf serves lawful fresh =
     let p = c.slots.invariant.passes s slots (record { shelf = shelf; serves = serves; lawful = lawful; fresh = fresh }) in
-    let cut : IsCut s slots c.slots.slot c.args.number.0 c.args.frame.now c.in-Some.how c.slots.run.entries c.arrive_at.new.run.entries c.arrive_at.new.self =
-    subst (λ (o : Option Loss). ComesToSlot s slots c.slots.slot c.args.number.0 c.args.frame.now o c.slots.run.entries c.arrive_at.new.run.entries c.arrive_at.new.self) c.in-Some.is
-    (c.in_ok-how.ensures.comes s slots p.reached) in
+    let cut : IsCut s slots _ _ _ c.in-Some.how _ _ _ = rw c.in-Some.is at (c.in_ok-how.ensures.comes s slots p.reached) in
     let crashed = c.in-Ok.ensures.ok s slots shelf cut.stands cut.lawful in
-    (crashed-each s slots c.slots.slot _ _ _ _ _ p c.in-Some.how _ _ _ cut crashed.0, crashed.1, crashed.2)
+    (crashed-each p cut _ crashed.0, crashed.1, crashed.2)
 
 pub returns-in-Err-clause-err : goal.returns-in-Err-clause-err
 returns-in-Err-clause-err c s slots shelf serves lawful fresh =
     let p = c.slots.invariant.passes s slots (record { shelf = shelf; serves = serves; lawful = lawful; fresh = fresh }) in
-    let cut : IsCut s slots c.slots.slot c.args.number.0 c.args.frame.now c.in-Some.how c.slots.run.entries c.arrive_at.new.run.entries c.arrive_at.new.self =
-    subst (λ (o : Option Loss). ComesToSlot s slots c.slots.slot c.args.number.0 c.args.frame.now o c.slots.run.entries c.arrive_at.new.run.entries c.arrive_at.new.self) c.in-Some.is
-    (c.in_ok-how.ensures.comes s slots p.reached) in
+    let cut : IsCut s slots _ _ _ c.in-Some.how _ _ _ = rw c.in-Some.is at (c.in_ok-how.ensures.comes s slots p.reached) in
     let crashed = c.in-Err.ensures.err s slots shelf cut.stands cut.lawful in
-    (crashed-some s slots c.slots.slot _ _ _ _ _ p c.in-Some.how _ _ _ cut crashed.0, crashed.1)
+    (crashed-some p cut _ crashed.0, crashed.1)
 
 pub slots-preserved : goal.slots-preserved
 slots-preserved c = record {
   passes = λ s slots r.
       let p = c.slots.invariant.passes s slots r in
-      passes-on s slots c.slots.slot _ _ _ _ _ p _ _ _ (add-one c.slots.slot)
-      (goes-of c.in_ok-how.field-0 s slots c.slots.slot c.args.number.0 c.args.frame.now _ _ _ c.in_default.not-Some (c.in_ok-how.ensures.comes s slots p.reached));
+      passes-on p _ (add-one c.slots.slot) (goes-of c.in_ok-how.field-0 c.in_default.not-Some (c.in_ok-how.ensures.comes s slots p.reached));
   life = c.arrive_at.ensures.life ∙ c.slots.invariant.life;
   count = c.arrive_at.ensures.count ∙ c.slots.invariant.count;
   major = c.arrive_at.ensures.major ∙ c.slots.invariant.major;
@@ -65,4 +54,4 @@ returns-clause-ok c s slots shelf serves lawful fresh =
     let p = c.slots.invariant.passes s slots (record { shelf = shelf; serves = serves; lawful = lawful; fresh = fresh }) in
     let same : length c.self.inside.shelf.targets ≡ length c.args.self.now.shelf.targets = ap (λ (x : MemoryRack). length x.shelf.targets) c.self.view_is in
     let all : length slots ≤ c.slots.slot = omega (arith, c.slots-test.false, c.count-slot-end.ensures.count, serves.count, same) in
-    (passes-all s slots c.slots.slot _ _ _ _ _ p all, p.reached.lawful, p.reached.serves)
+    (passes-all p all, p.reached.lawful, p.reached.serves)

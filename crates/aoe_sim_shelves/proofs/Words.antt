@@ -1,0 +1,17 @@
+-- A target and a shelf over disks in memory.
+use Rattle.aoe_cache.specs.Any.{any_state}
+use Rattle.aoe_cache.specs.declared.any.AnyStore.{AnyStore}
+use Rattle.aoe_disk.specs.Memory.{state_of, Memory}
+use Rattle.aoe_shelf.specs.Shelf.{Rack}
+use Rattle.aoe_target.specs.Device.{Device}
+use Rattle.aoe_target.specs.Mounted.{device_of, Mounted}
+
+abbrev pub Target : Type 0
+Target = Mounted (AnyStore Memory) Memory
+
+abbrev pub Shelf : Type 0
+Shelf = Rack (AnyStore Memory) Memory
+
+-- what is told of the disks of a target
+abbrev pub device : Target → Device
+device t = device_of (any_state state_of) state_of t
