@@ -1,12 +1,11 @@
 -- What is known of sectors of which not all is known, and what a frame leaves of it.
-use Rattle.std.proofs.Common.{◌≡◌, ◌<◌, ◌≤◌, ◌+◌, ◌-◌, ◌||◌, ◌==◌, ℕ, Bool, true, false, if◌then◌else◌, List, drop, Option, Some, None, is_none, refl, sym, ◌∙◌, arith}
+use Rattle.std.proofs.Common.{◌≡◌, ◌<◌, ◌≤◌, ◌+◌, ◌-◌, ℕ, Bool, true, false, List, drop, Option, Some, None, is_none, refl, sym, ◌∙◌, arith}
 use Rattle.std.specs.Prelude.{IfSome}
-use Rattle.std.specs.Option.{option_map, option_or}
+use Rattle.std.specs.Option.{option_map}
 use Rattle.std.proofs.lemmas.Bool.Decides.{nat_tests}
 use Rattle.aoe_base.specs.declared.sectors.Span.{Span}
 use Rattle.aoe_cache.specs.Any.{any_state, any_under}
 use Rattle.aoe_cache.specs.declared.any.AnyStore.{AnyStore}
-use Rattle.aoe_cache.specs.declared.any.AnyStore.TheVariants.{Direct, Cached}
 use Rattle.aoe_disk.specs.Memory.{state_of, Memory}
 use Rattle.aoe_disk.specs.State.{BothTell}
 use Rattle.aoe_frame.specs.declared.header.Header.{Header}
@@ -18,10 +17,10 @@ use Rattle.aoe_target.specs.declared.heard.Effect.TheVariants as effect
 use Rattle.aoe_target.specs.declared.station.Station.{Station}
 use Rattle.aoe_target.specs.Law.{after_ata, cut, replied, AllowsAta, Fate}
 use Rattle.aoe_target.specs.Reply.{data_of}
-use Rattle.aoe_target.specs.Sectors.{in_span, sectors_of, left_by_fault, spoils, value_in, Agrees, Sectors, Tells}
+use Rattle.aoe_target.specs.Sectors.{in_span, learns, puts, sectors_of, spoils, value_in, Agrees, Sectors, Tells}
 use Rattle.aoe_target.proofs.SectorLemmas.{known_same}
 use Rattle.aoe_sim_shelves.specs.Rack.{AgreesWithin, SameWithin}
-use Rattle.aoe_sim_shelves.proofs.WithinLemmas.{ata_exact, ata_within, same_then, spoils_within}
+use Rattle.aoe_sim_shelves.proofs.WithinLemmas.{ata_exact, ata_within, same_then}
 
 -- VALUES
 
@@ -43,21 +42,6 @@ record Knows (n : ℕ) (a b : Sectors) : Type 0 where
   pub known : (s : ℕ) → s < n → IfSome (b.known s) (λ v. a.known s ≡ Some v)
   pub marks : (s : ℕ) → s < n → b.marks s ≡ false → a.marks s ≡ false
 
-kept_marks : (t p q : Bool) → (q ≡ false → p ≡ false) → (t || q) ≡ false → (t || p) ≡ false
-kept_marks t p q k e = grind arith
-
-put_value : (t : Bool) (v : List ℕ) (p q : Option (List ℕ)) → IfSome q (λ u. p ≡ Some u)
-    → IfSome (if t then Some v else q) (λ u. (if t then Some v else p) ≡ Some u)
-put_value t v p q k = grind arith
-
-spoiled_value : (t first y : Bool) (p q : Option (List ℕ)) → IfSome q (λ u. p ≡ Some u)
-    → IfSome (if t then left_by_fault false first q else q) (λ u. (if t then left_by_fault y first p else p) ≡ Some u)
-spoiled_value t first y p q k = grind arith
-
-learned_value : (t : Bool) (w : List ℕ) (p q : Option (List ℕ)) → IfSome q (λ u. p ≡ Some u) → (t ≡ true → IfSome p (λ u. w ≡ u))
-    → IfSome (option_or q (if t then Some w else None)) (λ u. option_or p (if t then Some w else None) ≡ Some u)
-learned_value t w p q k told = grind arith
-
 -- data of a span that tells each known sector
 told_value : (span : Span) (bytes : List ℕ) (a : Sectors) → Tells span bytes a
     → (s : ℕ) → in_span span s ≡ true → IfSome (a.known s) (λ u. value_in span bytes s ≡ u)
@@ -70,27 +54,27 @@ module _ (n : ℕ) (a b : Sectors) (ab : AgreesWithin n a b) where
   itself : Knows n a b
   itself = record { known = ab.known; marks = ab.marks }
 
+  puts_known : (span : Span) (bytes : List ℕ) → Knows n (puts span bytes a) (puts span bytes b)
+  puts_known span bytes = record { known = λ s l. grind (arith, ab.known s l); marks = λ s l. grind (arith, ab.marks s l) }
+
   spoils_known : (span : Span) → Knows n (spoils span a) (spoils span b)
-  spoils_known span = record { known = go b.exact refl; marks = λ s l. kept_marks (in_span span s) (a.marks s) (b.marks s) (ab.marks s l) }
-    where
-      go : (x : Bool) → b.exact ≡ x → (s : ℕ) → s < n → IfSome ((spoils span b).known s) (λ u. (spoils span a).known s ≡ Some u)
-      go true e s l = known_same ((spoils span a).known s) ((spoils span b).known s) ((spoils_within n a b (ab.same e) span).known s l)
-      go false e s l = rw e (spoiled_value (in_span span s) (s == span.at) a.exact (a.known s) (b.known s) (ab.known s l))
+  spoils_known span = record {
+    known = λ s l. let same : b.exact ≡ true → a.known s ≡ b.known s = λ e. (ab.same e).known s l in grind (arith, ab.known s l, ab.exact);
+    marks = λ s l. grind (arith, ab.marks s l);
+  }
+
+  learns_known : (span : Span) (bytes : List ℕ) → Tells span bytes a → Knows n (learns span bytes a) (learns span bytes b)
+  learns_known span bytes told = record {
+    known = λ s l. grind (arith, ab.known s l, told_value span bytes a told s);
+    marks = ab.marks;
+  }
 
   module _ (station : Station) (h : Header) (args : AtaArgs) (f : List ℕ) where
     ata_known : (fate : Fate) (answer : AtaAnswer) → AllowsAta station (Some a) h args answer fate
         → Knows n (after_ata f answer fate a) (after_ata f answer fate b)
     ata_known cut (Put span) p = spoils_known span
-    ata_known (replied effect.None reply) (Give span) p = record {
-      known = λ s l.
-          learned_value (in_span span s) (value_in span (data_of span reply) s) (a.known s) (b.known s) (ab.known s l)
-          (told_value span (data_of span reply) a p.2 s);
-      marks = ab.marks;
-    }
-    ata_known (replied (effect.Wrote span) reply) answer p = record {
-      known = λ s l. put_value (in_span span s) (value_in span (written (drop 24 f) span) s) (a.known s) (b.known s) (ab.known s l);
-      marks = λ s l. kept_marks (in_span span s) (a.marks s) (b.marks s) (ab.marks s l);
-    }
+    ata_known (replied effect.None reply) (Give span) p = learns_known span (data_of span reply) p.2
+    ata_known (replied (effect.Wrote span) reply) answer p = puts_known span (written (drop 24 f) span)
     ata_known (replied (effect.WriteFault span) reply) answer p = spoils_known span
     ata_known (replied effect.Synced reply) answer p = record { known = ab.known; marks = λ s l e. refl }
     ata_known _ _ p = itself
@@ -123,9 +107,7 @@ told_exact (Some a) = a.exact
 
 pub both_then : (n : ℕ) (x y z : Option Sectors) → told_exact x ≡ told_exact y → BothTell Agrees x y
     → BothTell (AgreesWithin n) y z → BothTell (AgreesWithin n) x z
-both_then n None None None e p q = tt
-both_then n (Some a) (Some b) (Some c) e p q = agrees_then n a b c e p q
-both_then n _ _ _ e p q = absurd (grind arith)
+both_then n x y z e p q = grind (arith, agrees_then)
 
 pub both_ata : (n : ℕ) (station : Station) (h : Header) (args : AtaArgs) (f : List ℕ) (fate : Fate) (answer : AtaAnswer) (x y z : Option Sectors)
     → told_exact x ≡ told_exact y → BothTell Agrees x (option_map (after_ata f answer fate) y) → BothTell (AgreesWithin n) y z
@@ -139,8 +121,7 @@ both_ata n station h args f fate answer _ _ _ e p q a = absurd (grind arith)
 -- A STORE WITHOUT A CACHE TELLS ITS SETTLED BYTES
 
 store_exact : (s : AnyStore Memory) → told_exact (option_map sectors_of (any_state state_of s).contents) ≡ is_none (any_under state_of s)
-store_exact (Direct m) = refl
-store_exact (Cached c) = refl
+store_exact s = grind arith
 
 pub exact_kept : (s t : AnyStore Memory) → is_none (any_under state_of t) ≡ is_none (any_under state_of s)
     → told_exact (option_map sectors_of (any_state state_of t).contents) ≡ told_exact (option_map sectors_of (any_state state_of s).contents)

@@ -1,6 +1,7 @@
 -- A slot is as it was after an entry that says nothing of it.
-use Rattle.std.proofs.Common.{ℕ, zero, suc, ◌≡◌, ◌≢◌, ◌⊎◌, inl, inr, Bool, true, false, not, List, [], ◌∷◌, Option, Some, refl, sym, ◌∙◌, arith}
-use Rattle.std.proofs.lemmas.Option.{slice_get_within}
+use Rattle.std.proofs.Common.{ℕ, ◌≡◌, ◌≢◌, ◌⊎◌, inl, inr, Bool, true, false, not, List, ◌∷◌, Option, Some, refl, sym, ◌∙◌, arith}
+use Rattle.std.proofs.lemmas.Option.{gets, slice_get_within}
+use Rattle.std.proofs.lemmas.Grind.{common_steps}
 use Rattle.std.specs.Prelude.{slice_get}
 use Rattle.std.specs.List.{list_any}
 use Rattle.aoe_base.specs.declared.address.TargetId.{TargetId}
@@ -54,9 +55,7 @@ module _ (slot : SlotSetup) (h : List Entry) (dev : TargetId) (other : is_slot s
   says-crashed lists how = record { known = rw other; stretches = λ which. rw other }
 
 not-any : (p : SlotSetup → Bool) (slots : List SlotSetup) (i : ℕ) (slot : SlotSetup) → not (list_any p slots) ≡ true → slice_get slots i ≡ Some slot → p slot ≡ false
-not-any p [] i slot e at = absurd cc
-not-any p (x ∷ xs) zero slot e at = grind arith
-not-any p (x ∷ xs) (suc i) slot e at = not-any p xs i slot (grind arith) at
+not-any p slots i slot e at = grind (arith, common_steps, gets)
 
 says-apart : (slots : List SlotSetup) (h : List Entry) (i : ℕ) (slot : SlotSetup) → slice_get slots i ≡ Some slot → (e : Entry) → is_apart slots e ≡ true
     → SaysSame slot h (e ∷ h)

@@ -153,8 +153,7 @@ module _ {i : ℕ} {f : List ℕ} {w : Heard} {out : List ℕ} {x y : MemoryRack
 -- the power wasn't lost
 pub goes-of : (o : Option Loss) {s : Setup} {slots : List SlotSetup} {i number : ℕ} {f : List ℕ} {h m : List Entry} {x : MemoryRack} → ((how : Loss) → o ≡ Some how → ⊥) → ComesToSlot s slots i number f o h m x
     → GoesOn s slots i number f h m x
-goes-of None whole p = p
-goes-of (Some how) whole p = absurd (whole how refl)
+goes-of o whole p = grind arith
 
 -- a frame came to the first slots of a shelf
 pub record Passes (s : Setup) (slots : List SlotSetup) (i number : ℕ) (f : List ℕ) (h m : List Entry) (x : MemoryRack) : Type 0 where

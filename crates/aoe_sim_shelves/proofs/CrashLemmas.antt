@@ -1,10 +1,11 @@
 -- A target that lost its power and was mounted again, and what is known of it.
-use Rattle.std.proofs.Common.{◌≡◌, ◌<◌, ◌-◌, ◌/◌, inl, ℕ, zero, suc, Bool, true, false, not, if◌then◌else◌, List, [], ◌∷◌, length, replicate, Option, Some, None, refl, sym, ap, subst, ◌∙◌, arith}
+use Rattle.std.proofs.Common.{◌≡◌, ◌<◌, ◌-◌, ◌/◌, inl, ℕ, zero, suc, Bool, true, false, not, if◌then◌else◌, List, length, replicate, Option, Some, None, refl, sym, ap, subst, ◌∙◌, arith}
 use Rattle.std.specs.Bool.{OnTrue}
 use Rattle.std.specs.List.{list_all}
 use Rattle.std.specs.Prelude.{is_none, IfSome}
 use Rattle.std.proofs.lemmas.Bool.{OnTrue_at, OnTrue_from}
 use Rattle.std.specs.Option.{option_map}
+use Rattle.std.proofs.lemmas.Grind.{common_steps}
 use Rattle.aoe_cache.specs.Any.{any_state, any_under}
 use Rattle.aoe_cache.specs.Cache.{seen_contents, Cache}
 use Rattle.aoe_cache.specs.Free.{free_of, is_settled, under_of}
@@ -58,9 +59,7 @@ module _ {how : Loss} {a b : Memory} (l : Loses how a b) (u : Unsettled) (n : �
 
 -- no sector of a settled disk is loose
 settled_marks : (loose : List Bool) (s : ℕ) → list_all not loose ≡ true → is_loose loose s ≡ false
-settled_marks [] s e = refl
-settled_marks (x ∷ xs) zero e = grind arith
-settled_marks (x ∷ xs) (suc s) e = settled_marks xs s (grind arith)
+settled_marks loose s e = grind (arith, common_steps)
 
 all_settled_marks : (n : ℕ) → list_all not (replicate n false) ≡ true
 all_settled_marks zero = refl
@@ -139,15 +138,7 @@ left_store how (Cached a) (Cached b) l n slot z (Some room) is under agrees =
 left_store how _ _ l n slot z cache is under agrees = absurd (grind arith)
 
 pub lost_sectors : (how : Loss) (a b : AnyStore Memory) → LosesStore how a b → (any_state state_of b).sectors ≡ (any_state state_of a).sectors
-lost_sectors how (Direct a) (Direct b) l = l.sectors
-lost_sectors how (Cached a) (Cached b) l = l.disk.sectors
-lost_sectors how _ _ l = absurd l
-
--- no call of it is to fail
-lost_unarmed : (how : Loss) (a b : AnyStore Memory) → LosesStore how a b → IsStoreDue None b
-lost_unarmed how (Direct a) (Direct b) l = rw l.rest
-lost_unarmed how (Cached a) (Cached b) l = rw l.disk.rest
-lost_unarmed how _ _ l = absurd l
+lost_sectors how a b l = grind arith
 
 -- A TARGET
 
@@ -163,8 +154,9 @@ module _ {how : Loss} {a b : Target} (r : Restarts how a b) where
       let same : left.0 ≡ b.keep.lists = cc (left.1, r.mounted.mounts.stands.0) in
       rw (← same) left.2
 
+  -- no call of its disks is to fail
   pub store_unarmed : IsStoreDue None b.store
-  store_unarmed = lost_unarmed how a.store b.store r.store
+  store_unarmed = grind (arith, r.store)
 
   pub keep_unarmed : option_map number_of b.keep.disk.arming ≡ None
   keep_unarmed =

@@ -1,5 +1,5 @@
 -- The last target of a shelf, and those before it.
-use Rattle.std.proofs.Common.{◌≡◌, ◌≢◌, ◌<◌, ◌⊎◌, ◌||◌, ◌==◌, inl, inr, ℕ, zero, suc, false, List, [], ◌∷◌, ◌++◌, length, map, replicate, take, Some, refl, sym, ◌∙◌, arith}
+use Rattle.std.proofs.Common.{◌≡◌, ◌≢◌, ◌<◌, ◌⊎◌, ◌||◌, ◌==◌, inl, inr, ℕ, suc, false, List, [], ◌∷◌, ◌++◌, length, map, replicate, take, Some, refl, sym, ◌∙◌, arith}
 use Rattle.std.specs.Prelude.{slice_get}
 use Rattle.std.proofs.lemmas.Bool.Decides.{nat_tests}
 use Rattle.std.proofs.lemmas.Grind.{common_steps}
@@ -50,14 +50,11 @@ minor_other (t ∷ ts) minor other =
     grind (arith, nat_tests)
 
 minor_here : (ts : List Target) (minor i : ℕ) (t : Target) → has_minor ts minor ≡ false → slice_get ts i ≡ Some t → t.station.id.minor ≢ minor
-minor_here [] minor i t e at = absurd cc
-minor_here (u ∷ ts) minor zero t e at = grind (arith, nat_tests)
-minor_here (u ∷ ts) minor (suc i) t e at = minor_here ts minor i t (grind arith) at
+minor_here ts minor i t e at = grind (arith, nat_tests, common_steps, gets)
 
 -- the minors of a shelf with one target more
 pub more_minors : (ts : List Target) (t : Target) (m : ℕ) → has_minor (ts ++ t ∷ []) m ≡ (has_minor ts m || t.station.id.minor == m)
-more_minors [] t m = grind arith
-more_minors (u ∷ ts) t m = rw (more_minors ts t m) (grind arith)
+more_minors ts t m = grind (arith, common_steps)
 
 -- THE TARGETS OF A SHELF
 

@@ -88,24 +88,16 @@ module _ (s : Setup) (how : Loss) where
     may_come : MayCome s h (Crashed slot.station.id t.keep.lists how)
     may_come = rw (are.there 0 slot refl) (may.each 0 slot t refl refl).1
 
-  -- the entries of so many slots
-  crash_some : (slots : List SlotSetup) (ts : List Target) (h : List Entry) → AreSlots s slots → length ts ≤ length slots → MayRestart slots h ts → IsLawful s h
+  -- the entries of so many slots, or of all
+  crash_entries : (slots : List SlotSetup) (ts : List Target) (h : List Entry) → AreSlots s slots → length ts ≤ length slots → MayRestart slots h ts → IsLawful s h
       → CrashSome how slots h (with_crashes how ts h) × IsLawful s (with_crashes how ts h)
-  crash_some [] [] h are fits may lawful = (refl, lawful)
-  crash_some [] (t ∷ ts) h are fits may lawful = absurd (omega arith)
-  crash_some (slot ∷ slots) [] h are fits may lawful = (inl refl, lawful)
-  crash_some (slot ∷ slots) (t ∷ ts) h are fits may lawful =
-      let rest = crash_some slots ts _ (tail_slots are may) (omega arith) (may_later are may) (may_come are may, lawful) in
-      rw (may.each 0 slot t refl refl).0 (inr (t.keep.lists, rest.0), rest.1)
-
-  -- those of all
-  crash_each : (slots : List SlotSetup) (ts : List Target) (h : List Entry) → AreSlots s slots → length ts ≡ length slots → MayRestart slots h ts
-      → CrashEach how slots h (with_crashes how ts h)
-  crash_each [] [] h are fits may = refl
-  crash_each (slot ∷ slots) (t ∷ ts) h are fits may =
-      let rest = crash_each slots ts _ (tail_slots are may) (omega arith) (may_later are may) in
-      rw (may.each 0 slot t refl refl).0 (t.keep.lists, rest)
-  crash_each _ _ h are fits may = absurd (omega arith)
+      × (length ts ≡ length slots → CrashEach how slots h (with_crashes how ts h))
+  crash_entries [] [] h are fits may lawful = (refl, lawful, λ e. refl)
+  crash_entries [] (t ∷ ts) h are fits may lawful = absurd (omega arith)
+  crash_entries (slot ∷ slots) [] h are fits may lawful = (inl refl, lawful, λ e. absurd (omega arith))
+  crash_entries (slot ∷ slots) (t ∷ ts) h are fits may lawful =
+      let rest = crash_entries slots ts _ (tail_slots are may) (omega arith) (may_later are may) (may_come are may, lawful) in
+      rw (may.each 0 slot t refl refl).0 (inr (t.keep.lists, rest.0), rest.1, λ e. (t.keep.lists, rest.2 (omega arith)))
 
 -- THE SHELF
 
@@ -166,9 +158,10 @@ module _ {s : Setup} {slots : List SlotSetup} {h : List Entry} {how : Loss} {x :
       → length y.stops ≡ length ys → m ≡ with_crashes how ys h → CrashEach how slots h m × IsLawful s m × Serves slots m y
   all_noted y n m targets stops count is =
       let size : length ys ≡ length slots = r.count ∙ k.count in
+      let came = crash_entries s how slots ys h are (omega arith) (may_restart k r) lawful in
       rw is (
-        crash_each s how slots ys h are size (may_restart k r),
-        (crash_some s how slots ys h are (omega arith) (may_restart k r) lawful).1,
+        came.2 size,
+        came.1,
         record {
           count = rw targets size;
           stops = count ∙ size;
@@ -179,5 +172,6 @@ module _ {s : Setup} {slots : List SlotSetup} {h : List Entry} {how : Loss} {x :
   pub some_noted : (n : ℕ) (m : List Entry) → m ≡ with_crashes how (take n ys) h → CrashSome how slots h m × IsLawful s m
   some_noted n m is =
       let may = may_restart k r in
-      rw is (crash_some s how slots (take n ys) h are (omega (arith, length-take n ys, r.count, k.count))
-      (record { each = λ i slot t a b. may.each i slot t a (get_take n ys i t b) }) lawful)
+      let came = crash_entries s how slots (take n ys) h are (omega (arith, length-take n ys, r.count, k.count))
+      (record { each = λ i slot t a b. may.each i slot t a (get_take n ys i t b) }) lawful in
+      rw is (came.0, came.1)

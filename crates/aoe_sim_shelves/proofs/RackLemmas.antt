@@ -1,7 +1,6 @@
 -- What holds of the fields of a shelf in a run, after one target changed.
-use Rattle.std.proofs.Common.{◌≡◌, inl, inr, ℕ, Bool, true, false, List, length, map, Some, refl, sym, ap, ◌∙◌}
+use Rattle.std.proofs.Common.{◌≡◌, inl, inr, ℕ, List, length, map, Some, refl, sym, ap, ◌∙◌, arith}
 use Rattle.std.proofs.lemmas.Option.{get_or_from_slice_get}
-use Rattle.std.proofs.lemmas.Bool.{OnTrue_at}
 use Rattle.std.proofs.Math.Seq.{map-set_same}
 use Rattle.std.specs.Prelude.{slice_get}
 use Rattle.aoe_cache.specs.Any.{any_state}
@@ -11,7 +10,7 @@ use Rattle.aoe_shelf.specs.Slot.{ChangesAt}
 use Rattle.aoe_shelf.proofs.SlotLemmas.{get-after, length-changed}
 use Rattle.aoe_target.specs.Device.{Holds, State}
 use Rattle.aoe_target.specs.Law.{after}
-use Rattle.aoe_target.specs.Receive.{calls_store, edits, fate_of}
+use Rattle.aoe_target.specs.Receive.{fate_of}
 use Rattle.aoe_target.specs.Turn.{Receives}
 use Rattle.aoe_target.specs.Verdict.{verdict}
 use Rattle.aoe_target.specs.declared.heard.Heard.{Heard}
@@ -74,18 +73,10 @@ module _ {a b : Shelf} {i : ℕ} {Change : Target → Target → Type 0} (k : Ar
 pub receives-same : {t u : Target} {f : List ℕ} {w : Heard} {out : List ℕ} → Receives (any_state state_of) state_of t u f w out → IsSameTarget t u
 receives-same {t} {u} {f} {w} {out} r = record {
   station = r.station;
-  sectors = store (calls_store (verdict t.station t.keep.lists f)) refl;
-  room = keep (edits t.station t.keep.lists f (verdict t.station t.keep.lists f)) refl;
+  sectors = grind (arith, r.call, r.idle);
+  room = grind (arith, r.edit, r.unedited);
   known = λ k h. (after t.station f (verdict t.station k.lists f) (fate_of w out) k, (r.step k h).holds);
 }
-  where
-    store : (b : Bool) → calls_store (verdict t.station t.keep.lists f) ≡ b → (any_state state_of u.store).sectors ≡ (any_state state_of t.store).sectors
-    store true e = (OnTrue_at e r.call).sectors
-    store false e = rw (r.idle e)
-
-    keep : (b : Bool) → edits t.station t.keep.lists f (verdict t.station t.keep.lists f) ≡ b → (state_of u.keep.disk).sectors ≡ (state_of t.keep.disk).sectors
-    keep true e = (OnTrue_at e r.edit).calls.sectors
-    keep false e = rw (r.unedited e)
 
 -- all targets keep what never changes of them
 pub stations-kept : {i : ℕ} {Change : Target → Target → Type 0} {a b : List Target} (c : ChangesAt i Change a b) → c.after.station ≡ c.before.station

@@ -106,12 +106,10 @@ zero_sector_in n s low = ap (take 512) (drop-replicate (512 * s) (512 * n) 0) �
 -- A STORE OVER ZEROS
 
 over_sectors : (cache : Option ℕ) (store : Memory) → (any_state state_of (over cache store)).sectors ≡ length store.loose
-over_sectors None store = refl
-over_sectors (Some room) store = refl
+over_sectors cache store = grind arith
 
 over_due : (cache : Option ℕ) (n : ℕ) (store : Memory) → store ≡ fresh (replicate n 0) → IsStoreDue None (over cache store)
-over_due None n store zeros = rw zeros
-over_due (Some room) n store zeros = rw zeros
+over_due cache n store zeros = grind arith
 
 abbrev zeros : Bool → Sectors
 zeros exact = record { known = λ s. Some zero_sector; marks = λ s. false; settled = λ s. Some zero_sector; exact = exact }

@@ -1,7 +1,7 @@
 -- A frame that comes to a slot: its fate is lawful, and the disks of the slot are afterwards what the history says.
 use Rattle.std.proofs.Common.{◌≡◌, Bool, true, false, if◌then◌else◌, ℕ, List, ◌∷◌, Option, Some, None, inl, inr, is_none, is_some, refl, sym, ap, ◌∙◌, arith}
 use Rattle.std.proofs.lemmas.Bool.Decides.{nat_tests}
-use Rattle.std.proofs.lemmas.Bool.{OnTrue_at, OnTrue_from}
+use Rattle.std.proofs.lemmas.Bool.{cases_Bool, OnTrue_at, OnTrue_from}
 use Rattle.std.specs.Option.{option_map}
 use Rattle.aoe_cache.specs.Any.{any_state, any_under}
 use Rattle.aoe_base.specs.declared.address.TargetId.{TargetId}
@@ -32,11 +32,11 @@ use Rattle.aoe_sim_shelves.specs.declared.rack.Stops.{Stops}
 use Rattle.aoe_sim_shelves.specs.Arrival.{noted, stop_at}
 use Rattle.aoe_sim_shelves.specs.Rack.{stop_in, HoldsWithin, IsDue, IsServing, IsStanding, IsStoreDue, IsUnder}
 use Rattle.aoe_sim_shelves.proofs.DueLemmas.{due-store-then, due-then, struck-in-turn, struck-store, Strikes}
-use Rattle.aoe_sim_shelves.proofs.FateLemmas.{faulty-calls, keep-loss, noted-fate, noted-faulty, noted-strike, noted-unkept, one-disk, stop-of, store-loss, unkept-calls, IsLoss, Runs}
+use Rattle.aoe_sim_shelves.proofs.FateLemmas.{called-kept, edited-done, faulty-calls, loss-of, noted-fate, noted-faulty, noted-strike, noted-unkept, one-disk, stop-of, unkept-calls, IsLoss, Runs}
 use Rattle.aoe_sim_shelves.proofs.StepLemmas.{held, known_in, stepped, StepsWithin}
 use Rattle.aoe_sim_shelves.proofs.UnderLemmas.{moves-calls, under-failed, under-idle, under-noted}
 use Rattle.aoe_sim_shelves.proofs.Words.{device, Target}
-use Rattle.aoe_history.proofs.LogicLemmas.{not-both, untrue}
+use Rattle.aoe_history.proofs.LogicLemmas.{not-both}
 
 -- A SLOT AFTER AN ARRIVAL
 
@@ -128,10 +128,10 @@ module _ {slot : SlotSetup} {h : List Entry} {f : List ℕ} {x : Heard} {out : L
   no-edit c = one-disk slot.station (state_after slot h) f v c
 
   kept : calls Store slot h f ≡ true → is_unkept x ≡ false
-  kept c = untrue (is_unkept x) (λ e. not-both _ (unkept-calls slot.station (state_after slot h) f x out v e z.allowed) (no-edit c))
+  kept c = called-kept slot.station (state_after slot h) f v x out z.allowed c
 
   unfaulty : calls Keep slot h f ≡ true → is_faulty x ≡ false
-  unfaulty c = untrue (is_faulty x) (λ e. not-both _ c (no-edit (faulty-calls slot.station (state_after slot h) f x out v e z.allowed)))
+  unfaulty c = edited-done slot.station (state_after slot h) f v x out z.allowed c
 
   -- which frames are struck
   store-struck : (fate : Fate) (c : calls Store slot h f ≡ true) → is_struck fate ≡ is_faulty x → Strikes (is_faulty x) (stretch Store slot h) fate
@@ -155,22 +155,27 @@ module _ {slot : SlotSetup} {h : List Entry} {f : List ℕ} {x : Heard} {out : L
     law : KeepsShelfLaw slot h f fate
     law = rw (noted-fate x fresh out) z.allowed
 
-    store-then : (b : Bool) → calls Store slot h f ≡ b → IsStoreDue (if b then option_map (one_more fate) (stretch Store slot h) else stretch Store slot h) u.store
-    store-then true c =
-        due-store-then (stretch Store slot h) fate (is_faulty x) (struck-is c) t.store u.store k.store_due (z.call c) (under-calls c)
-        (λ e. sym k.store_stop ∙ r.store e)
-    store-then false c = rw (z.idle c) k.store_due
+    store-then : IsStoreDue (stretch_then Store slot h f fate) u.store
+    store-then = elim (cases_Bool (calls Store slot h f)) [
+      | inl c ↦
+          rw c (due-store-then (stretch Store slot h) fate (is_faulty x) (struck-is c) t.store u.store k.store_due (z.call c) (under-calls c)
+          (λ e. sym k.store_stop ∙ r.store e))
+      | inr c ↦ rw (c, z.idle c) k.store_due
+    ]
 
-    under-then : (b : Bool) → calls Store slot h f ≡ b → IsUnder slot.station.sectors slot.cache (after_frame slot f fate (slot_after slot h)) (any_under state_of u.store)
-    under-then true c =
-        under-noted slot.station.sectors slot f (slot_after slot h) (any_under state_of t.store) (any_under state_of u.store) c
-        (any_state state_of t.store).contents k.holds.sectors k.under fresh out x (struck-is c) z.turns z.allowed
-    under-then false c = rw (z.idle c) (under-idle slot.station.sectors slot f (slot_after slot h) fate (any_under state_of t.store) c law k.under)
+    keep-then : IsDue Keep (stretch_then Keep slot h f fate) (schedule_of u.keep.disk.arming u.keep.disk.out)
+    keep-then = elim (cases_Bool (calls Keep slot h f)) [
+      | inl c ↦ rw c (due-then Keep (z.edit c).schedule (stretch Keep slot h) k.keep_due fate (λ e. sym k.keep_stop ∙ r.keep e))
+      | inr c ↦ rw (c, z.unedited c) k.keep_due
+    ]
 
-    keep-then : (b : Bool) → calls Keep slot h f ≡ b
-        → IsDue Keep (if b then option_map (one_more fate) (stretch Keep slot h) else stretch Keep slot h) (schedule_of u.keep.disk.arming u.keep.disk.out)
-    keep-then true c = due-then Keep (z.edit c).schedule (stretch Keep slot h) k.keep_due fate (λ e. sym k.keep_stop ∙ r.keep e)
-    keep-then false c = rw (z.unedited c) k.keep_due
+    under-then : IsUnder slot.station.sectors slot.cache (after_frame slot f fate (slot_after slot h)) (any_under state_of u.store)
+    under-then = elim (cases_Bool (calls Store slot h f)) [
+      | inl c ↦
+          under-noted slot.station.sectors slot f (slot_after slot h) (any_under state_of t.store) (any_under state_of u.store) c
+          (any_state state_of t.store).contents k.holds.sectors k.under fresh out x (struck-is c) z.turns z.allowed
+      | inr c ↦ rw (z.idle c) (under-idle slot.station.sectors slot f (slot_after slot h) fate (any_under state_of t.store) c law k.under)
+    ]
 
     pub continues : Continues slot h f fate n u stops
     continues = record {
@@ -182,10 +187,10 @@ module _ {slot : SlotSetup} {h : List Entry} {f : List ℕ} {x : Heard} {out : L
       };
       serving = record {
         station = z.station;
-        under = rw flow.known (under-then (calls Store slot h f) refl);
+        under = rw flow.known under-then;
         holds = rw (flow.known, state_after, noted-fate x fresh out) z.holds;
-        store_due = rw (flow.stretches Store) (store-then (calls Store slot h f) refl);
-        keep_due = rw (flow.stretches Keep) (keep-then (calls Keep slot h f) refl);
+        store_due = rw (flow.stretches Store) store-then;
+        keep_due = rw (flow.stretches Keep) keep-then;
         store_stop = rw (flow.stretches Store, stop-same (calls Store slot h f) (stretch Store slot h) fate) k.store_stop;
         keep_stop = rw (flow.stretches Keep, stop-same (calls Keep slot h f) (stretch Keep slot h) fate) k.keep_stop;
       };
@@ -194,24 +199,25 @@ module _ {slot : SlotSetup} {h : List Entry} {f : List ℕ} {x : Heard} {out : L
   -- a call failed in a stop
   module _ (how : Loss) (n : List Entry) (flow : Follows slot h f Cut n) where
     -- what is left of the device, where the power is lost in such a call
-    cut-under : (b : Bool) → calls Store slot h f ≡ b → KeepsShelfLaw slot h f Cut
-        → IsUnder slot.station.sectors slot.cache (after_frame slot f Cut (slot_after slot h)) (any_under state_of u.store)
-    cut-under true c allowed =
-        under-failed slot.station.sectors slot f (slot_after slot h) (any_under state_of t.store) (any_under state_of u.store) c Cut (is_faulty x) refl
-        (under-calls c) k.under
-    cut-under false c allowed = rw (z.idle c) (under-idle slot.station.sectors slot f (slot_after slot h) Cut (any_under state_of t.store) c allowed k.under)
+    cut-under : KeepsShelfLaw slot h f Cut → IsUnder slot.station.sectors slot.cache (after_frame slot f Cut (slot_after slot h)) (any_under state_of u.store)
+    cut-under allowed = elim (cases_Bool (calls Store slot h f)) [
+      | inl c ↦
+          under-failed slot.station.sectors slot f (slot_after slot h) (any_under state_of t.store) (any_under state_of u.store) c Cut (is_faulty x) refl
+          (under-calls c) k.under
+      | inr c ↦ rw (z.idle c) (under-idle slot.station.sectors slot f (slot_after slot h) Cut (any_under state_of t.store) c allowed k.under)
+    ]
 
-    standing : IsLoss slot.station (state_after slot h) f x out v → IsStanding slot n u
+    standing : IsLoss slot.station (state_after slot h) f v x out z.allowed → IsStanding slot n u
     standing loss = record {
       station = z.station;
-      under = rw flow.known (cut-under (calls Store slot h f) refl loss.allowed);
+      under = rw flow.known (cut-under loss.allowed);
       holds = rw (flow.known, state_after) (rw loss.left at z.holds);
     }
 
     store-breaks : is_faulty x ≡ true → stops.store ≡ Some how → Breaks slot h f how n u
     store-breaks failed stop =
-        let called : calls Store slot h f ≡ true = faulty-calls slot.station (state_after slot h) f x out v failed z.allowed in
-        let loss = store-loss slot.station (state_after slot h) f x out v failed called z.allowed in
+        let called : calls Store slot h f ≡ true = faulty-calls slot.station (state_after slot h) f v x out z.allowed failed in
+        let loss = loss-of slot.station (state_after slot h) f v x out z.allowed (rw failed) in
         record {
           law = loss.allowed;
           arming = record {
@@ -224,8 +230,8 @@ module _ {slot : SlotSetup} {h : List Entry} {f : List ℕ} {x : Heard} {out : L
 
     keep-breaks : is_unkept x ≡ true → stops.keep ≡ Some how → Breaks slot h f how n u
     keep-breaks failed stop =
-        let called : calls Keep slot h f ≡ true = unkept-calls slot.station (state_after slot h) f x out v failed z.allowed in
-        let loss = keep-loss slot.station (state_after slot h) f x out v failed called z.allowed in
+        let called : calls Keep slot h f ≡ true = unkept-calls slot.station (state_after slot h) f v x out z.allowed failed in
+        let loss = loss-of slot.station (state_after slot h) f v x out z.allowed (grind arith) in
         record {
           law = loss.allowed;
           arming = record {

@@ -1,10 +1,10 @@
 -- One step of a slot's device, in the words of what is known of it.
-use Rattle.std.proofs.Common.{◌≡◌, ◌≤◌, ◌+◌, ℕ, List, Option, Some, None, is_none, refl, arith}
+use Rattle.std.proofs.Common.{◌≡◌, ◌≤◌, ◌+◌, ℕ, List, Option, is_none, refl, arith}
 use Rattle.std.specs.Prelude.{IfSome}
 use Rattle.std.specs.Option.{option_map}
 use Rattle.aoe_cache.specs.Any.{any_state, any_under}
 use Rattle.aoe_disk.specs.Memory.{state_of}
-use Rattle.aoe_disk.specs.State.{sector, BothTell}
+use Rattle.aoe_disk.specs.State.{BothTell}
 use Rattle.aoe_frame.specs.Header.{fields}
 use Rattle.aoe_frame.specs.declared.header.Header.{Header}
 use Rattle.aoe_base.specs.declared.sectors.Span.{Span}
@@ -12,7 +12,6 @@ use Rattle.aoe_ata.specs.declared.args.AtaArgs.{AtaArgs}
 use Rattle.aoe_ata.specs.declared.decision.AtaAnswer.{AtaAnswer}
 use Rattle.aoe_ata.specs.declared.decision.AtaAnswer.TheVariants.{Give}
 use Rattle.aoe_lists.specs.Step.{Step}
-use Rattle.aoe_lists.specs.Step as step
 use Rattle.aoe_target.specs.declared.heard.Effect.TheVariants as effect
 use Rattle.aoe_target.specs.declared.station.Station.{Station}
 use Rattle.aoe_target.specs.declared.verdict.Verdict.{Verdict}
@@ -32,10 +31,7 @@ use Rattle.aoe_sim_shelves.proofs.Words.{device, Target}
 
 tells_within : (n : ℕ) (span : Span) (bytes : List ℕ) (x y : Option Sectors) → BothTell (AgreesWithin n) x y
     → span.at + span.count ≤ n → IfSome x (Tells span bytes) → IfSome y (Tells span bytes)
-tells_within n span bytes None None xy end told = tt
-tells_within n span bytes (Some a) (Some b) xy end told = λ i low.
-    pass (a.known (span.at + i)) (b.known (span.at + i)) (λ v. sector bytes i ≡ v) (xy.known (span.at + i) (omega arith)) (told i low)
-tells_within n span bytes _ _ xy end told = absurd xy
+tells_within n span bytes x y xy end told = grind (arith, pass)
 
 allows_within : (n : ℕ) (station : Station) (x y : Option Sectors) → BothTell (AgreesWithin n) x y → (h : Header) (args : AtaArgs) (answer : AtaAnswer) (fate : Fate)
     → InEnd n answer → AllowsAta station x h args answer fate → AllowsAta station y h args answer fate
@@ -56,12 +52,10 @@ pub record StepsWithin (station : Station) (k : State) (f : List ℕ) (fate : Fa
   pub holds : HoldsWithin station.sectors (device t) (after station f (judge.verdict station k.lists f) fate k)
 
 step_known : (t : Target) (s : Step) (fate : Fate) (k : State) → after_step s fate (known_in t k) ≡ known_in t (after_step s fate k)
-step_known t (step.Change next args) (replied effect.Edited reply) k = refl
-step_known t _ _ k = refl
+step_known t s fate k = grind arith
 
 pub step_sectors : (s : Step) (fate : Fate) (k : State) → (after_step s fate k).sectors ≡ k.sectors
-step_sectors (step.Change next args) (replied effect.Edited reply) k = refl
-step_sectors _ _ k = refl
+step_sectors s fate k = grind arith
 
 module _ (station : Station) (k : State) (f : List ℕ) (fate : Fate) (t u : Target)
     (kind : is_none (any_under state_of u.store) ≡ is_none (any_under state_of t.store)) (h : HoldsWithin station.sectors (device t) k) where

@@ -1,7 +1,6 @@
 -- The disk of a store with a cache, and what is settled there.
 use Rattle.std.proofs.Common.{◌≡◌, ◌≤◌, ◌+◌, ℕ, Bool, true, false, List, drop, Option, Some, None, refl, sym, ap, ◌∙◌, arith}
 use Rattle.std.proofs.lemmas.Bool.Decides.{nat_tests}
-use Rattle.std.proofs.lemmas.Bool.{OnTrue_at, OnTrue_from}
 use Rattle.std.specs.Prelude.{IfSome}
 use Rattle.std.specs.Option.{option_map}
 use Rattle.aoe_disk.specs.State.{BothTell, Contents}
@@ -38,19 +37,14 @@ use Rattle.aoe_sim_shelves.proofs.StepLemmas.{step_sectors}
 -- PLUMBING
 
 both-then : (R S : Under → Under → Type 0) (x y : Option Under) → ((d e : Under) → R d e → S d e) → BothTell R x y → BothTell S x y
-both-then R S None None f p = tt
-both-then R S (Some d) (Some e) f p = f d e p
-both-then R S _ _ f p = absurd p
+both-then R S x y f p = grind arith
 
 some-then : (R : Sectors → Sectors → Type 0) (P Q : Sectors → Type 0) (o p : Option Sectors) → ((k l : Sectors) → R k l → P k → Q l)
     → BothTell R o p → IfSome o P → IfSome p Q
-some-then R P Q None None f r i = tt
-some-then R P Q (Some k) (Some l) f r i = f k l r i
-some-then R P Q _ _ f r i = absurd r
+some-then R P Q o p f r i = grind arith
 
 both-map : (R : Sectors → Sectors → Type 0) (g : Sectors → Sectors) (o : Option Sectors) → ((k : Sectors) → R k (g k)) → BothTell R o (option_map g o)
-both-map R g None f = tt
-both-map R g (Some k) f = f k
+both-map R g o f = grind arith
 
 -- a crash leaves what was settled
 whole-of : (room : ℕ) (u : Unsettled) → is_cached_whole room u ≡ true → (u.written ≤ room) × (u.struck ≡ false)
@@ -63,16 +57,11 @@ of-whole room u le e = grind (arith, nat_tests)
 
 turns-calls : (answer : AtaAnswer) (failed : Bool) (shown : Option Contents) (x y : Option Under) → calls_for answer ≡ true
     → TurnsUnder answer failed shown x y → BothTell (CallsUnder failed) x y
-turns-calls (ata.Give span) failed shown x y c p = both-then (ReadsUnder failed) _ x y (λ d e r. r.calls) p
-turns-calls (ata.Verify span) failed shown x y c p = both-then (ReadsUnder failed) _ x y (λ d e r. r.calls) p
-turns-calls (ata.Put span) failed shown x y c p = both-then (SpendsUnder span.count failed) _ x y (λ d e r. r.calls) p
-turns-calls ata.Sync failed shown x y c p = both-then (FreesUnder failed shown) _ x y (λ d e r. r.calls) p
-turns-calls _ failed shown x y c p = absurd cc
+turns-calls answer failed shown x y c p = grind arith
 
 pub moves-calls : (v : Verdict) (failed : Bool) (shown : Option Contents) (x y : Option Under) → calls_store v ≡ true
     → MovesUnder v failed shown x y → BothTell (CallsUnder failed) x y
-moves-calls (verdict.Ata d) failed shown x y c p = turns-calls d.answer failed shown x y c p
-moves-calls _ failed shown x y c p = absurd cc
+moves-calls v failed shown x y c p = grind arith
 
 -- WHAT A CALL LEAVES
 
@@ -99,10 +88,7 @@ record Keeps (n : ℕ) (z w : Slot) (d e : Under) : Type 0 where
   pub known : (room : ℕ) → d.room ≡ room → IsKnown n room z d → IsKnown n room w e
 
 under-then : (n : ℕ) (z w : Slot) (cache : Option ℕ) (x y : Option Under) → BothTell (Keeps n z w) x y → IsUnder n cache z x → IsUnder n cache w y
-under-then n z w None None None keeps u = tt
-under-then n z w (Some room) (Some d) (Some e) keeps u =
-    (keeps.room ∙ u.0, OnTrue_from _ _ (keeps.known room u.0 (λ whole. OnTrue_at whole u.1)))
-under-then n z w _ _ _ keeps u = absurd (grind arith)
+under-then n z w cache x y keeps u = grind arith
 
 module _ (n : ℕ) (cache : Option ℕ) (z w : Slot) (x y : Option Under) where
   pub under-wrote : (count : ℕ) → Writes count z w → BothTell (Spends count) x y → IsUnder n cache z x → IsUnder n cache w y
@@ -151,8 +137,7 @@ module _ (n : ℕ) (cache : Option ℕ) (z w : Slot) (x y : Option Under) where
 
 -- a disk that is as it was
 pub settled-self : (o : Option Sectors) → SameSettled o o
-settled-self None = tt
-settled-self (Some k) = λ s. refl
+settled-self o = grind arith
 
 spends-none : (d e : Under) → e.room ≡ d.room → bytes_under e ≡ bytes_under d → e.free ≡ d.free → Spends 0 d e
 spends-none d e room bytes free = record {
@@ -167,8 +152,7 @@ read-under : (failed : Bool) (x y : Option Under) → BothTell (ReadsUnder faile
 read-under failed x y p = both-then (ReadsUnder failed) _ x y (λ d e r. spends-none d e r.calls.room (rw r.same) r.free) p
 
 same-under : (x : Option Under) → BothTell (Spends 0) x x
-same-under None = tt
-same-under (Some d) = spends-none d d refl refl refl
+same-under x = grind (arith, spends-none)
 
 -- WHAT A FRAME LEAVES
 
@@ -187,18 +171,11 @@ module _ (n : ℕ) (slot : SlotSetup) (f : List ℕ) (z : Slot) where
   -- a frame that isn't a call of the store
   idle-ata : (h : Header) (args : AtaArgs) (answer : AtaAnswer) (g : target.Fate) → calls_for answer ≡ false
       → AllowsAta slot.station z.state.sectors h args answer g → SameSettled z.state.sectors (option_map (after_ata f answer g) z.state.sectors)
-  idle-ata h args (ata.Give span) g c a = absurd cc
-  idle-ata h args (ata.Verify span) g c a = absurd cc
-  idle-ata h args (ata.Put span) g c a = absurd cc
-  idle-ata h args ata.Sync g c a = absurd cc
-  idle-ata h args _ g c a = rw a (both-map _ (λ k. k) z.state.sectors (λ k s. refl))
+  idle-ata h args answer g c a = grind arith
 
   idle-sectors : (w : Verdict) (g : target.Fate) → calls_store w ≡ false → Allows slot.station z.state f w g
       → SameSettled z.state.sectors (after slot.station f w g z.state).sectors
-  idle-sectors (verdict.Lists command) g c a =
-      rw (step_sectors (step_of slot.station z.state.lists f command) g z.state) (settled-self z.state.sectors)
-  idle-sectors (verdict.Ata d) g c a = idle-ata (fields f) d.args d.answer g c a
-  idle-sectors _ g c a = settled-self z.state.sectors
+  idle-sectors w g c a = grind (arith, step_sectors)
 
   pub under-idle : (fate : Fate) (x : Option Under) → calls_store v ≡ false → Allows slot.station z.state f v (fate_at fate) → IsUnder n slot.cache z x
       → IsUnder n slot.cache (after_frame slot f fate z) x

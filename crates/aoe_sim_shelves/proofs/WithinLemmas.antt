@@ -63,9 +63,7 @@ module _ (n : ℕ) (a b : Sectors) (ab : SameWithin n a b) where
 
 -- whether it is known what failed calls leave stays so
 pub ata_exact : (fate : Fate) (f : List ℕ) (answer : AtaAnswer) (k : Sectors) → (after_ata f answer fate k).exact ≡ k.exact
-ata_exact cut f (Put span) k = refl
-ata_exact (replied effect.None reply) f (Give span) k = refl
-ata_exact _ f _ k = refl
+ata_exact fate f answer k = grind arith
 
 -- WHAT IS READ IS WITHIN THE DEVICE
 

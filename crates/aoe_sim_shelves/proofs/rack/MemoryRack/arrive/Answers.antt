@@ -1,5 +1,5 @@
 -- Each exit, by what is known of the slots that the frame came to.
-use Rattle.std.proofs.Common.{◌≡◌, ◌≤◌, length, Ok, Err, sym, ap, ◌∙◌, arith, add-one}
+use Rattle.std.proofs.Common.{◌≡◌, ◌≤◌, length, Err, sym, ap, ◌∙◌, arith, add-one}
 use Rattle.std.specs.Prelude.{IsErrAnd, OnErr, Result}
 use Rattle.aoe_net.specs.declared.refusal.NetRefusal.TheVariants.{Full}
 use Rattle.aoe_sim_shelves.specs.Arrival.{IsCut}
@@ -8,8 +8,7 @@ use Rattle.aoe_sim_shelves.proofs.ArrivalLemmas.{crashed-each, crashed-some, goe
 use Rattle.aoe_sim_shelves.proofs.rack.MemoryRack.arrive.Goals as goal
 
 on-err : {T E : Type 0} (r : Result T E) (P : Type 0) → P → OnErr r P
-on-err (Ok x) P p = tt
-on-err (Err e) P p = p
+on-err r P p = grind arith
 
 of-err : {T E : Type 0} (r : Result T E) (e : E) (P : E → Type 0) → IsErrAnd r P → r ≡ Err e → P e
 of-err r e P p is = rw is at p
