@@ -1,12 +1,9 @@
 -- What is known of sectors of which not all is known, and what a frame leaves of it.
-use Rattle.std.proofs.Common.{◌≡◌, ◌<◌, ◌≤◌, ◌+◌, ◌-◌, ℕ, Bool, true, false, List, drop, Option, Some, None, is_none, refl, sym, ◌∙◌, arith}
+use Rattle.std.proofs.Common.{◌≡◌, ◌<◌, ◌≤◌, ◌+◌, ◌-◌, ℕ, Bool, true, false, List, drop, Option, Some, None, refl, sym, ◌∙◌, arith}
 use Rattle.std.specs.Prelude.{IfSome}
 use Rattle.std.specs.Option.{option_map}
 use Rattle.std.proofs.lemmas.Bool.Decides.{nat_tests}
 use Rattle.aoe_base.specs.declared.sectors.Span.{Span}
-use Rattle.aoe_cache.specs.Any.{any_state, any_under}
-use Rattle.aoe_cache.specs.declared.any.AnyStore.{AnyStore}
-use Rattle.aoe_disk.specs.Memory.{state_of, Memory}
 use Rattle.aoe_disk.specs.State.{BothTell}
 use Rattle.aoe_frame.specs.declared.header.Header.{Header}
 use Rattle.aoe_ata.specs.Decision.{written}
@@ -17,7 +14,7 @@ use Rattle.aoe_target.specs.declared.heard.Effect.TheVariants as effect
 use Rattle.aoe_target.specs.declared.station.Station.{Station}
 use Rattle.aoe_target.specs.Law.{after_ata, cut, replied, AllowsAta, Fate}
 use Rattle.aoe_target.specs.Reply.{data_of}
-use Rattle.aoe_target.specs.Sectors.{in_span, learns, puts, sectors_of, spoils, value_in, Agrees, Sectors, Tells}
+use Rattle.aoe_target.specs.Sectors.{in_span, learns, puts, spoils, value_in, Agrees, Sectors, Tells}
 use Rattle.aoe_target.proofs.SectorLemmas.{known_same}
 use Rattle.aoe_sim_shelves.specs.Rack.{AgreesWithin, SameWithin}
 use Rattle.aoe_sim_shelves.proofs.WithinLemmas.{ata_exact, ata_within, same_then}
@@ -117,15 +114,3 @@ both_ata n station h args f fate answer (Some x) (Some b) (Some c) e p q a =
     agrees_then n x (after_ata f answer fate b) (after_ata f answer fate c) (e ∙ sym (ata_exact fate f answer b)) p
     (ata_agrees n b c q station h args f fate answer a)
 both_ata n station h args f fate answer _ _ _ e p q a = absurd (grind arith)
-
--- A STORE WITHOUT A CACHE TELLS ITS SETTLED BYTES
-
-store_exact : (s : AnyStore Memory) → told_exact (option_map sectors_of (any_state state_of s).contents) ≡ is_none (any_under state_of s)
-store_exact s = grind arith
-
-pub exact_kept : (s t : AnyStore Memory) → is_none (any_under state_of t) ≡ is_none (any_under state_of s)
-    → told_exact (option_map sectors_of (any_state state_of t).contents) ≡ told_exact (option_map sectors_of (any_state state_of s).contents)
-exact_kept s t kind = store_exact t ∙ kind ∙ sym (store_exact s)
-
-pub same_kind : {A B : Type 0} (R : A → B → Type 0) (x : Option A) (y : Option B) → BothTell R x y → is_none y ≡ is_none x
-same_kind R x y p = grind arith

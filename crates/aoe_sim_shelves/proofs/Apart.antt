@@ -54,7 +54,8 @@ module _ (slot : SlotSetup) (h : List Entry) (dev : TargetId) (other : is_slot s
   pub says-crashed : (lists : Settings) (how : Loss) → SaysSame slot h (Crashed dev lists how ∷ h)
   says-crashed lists how = record { known = rw other; stretches = λ which. rw other }
 
-not-any : (p : SlotSetup → Bool) (slots : List SlotSetup) (i : ℕ) (slot : SlotSetup) → not (list_any p slots) ≡ true → slice_get slots i ≡ Some slot → p slot ≡ false
+not-any : (p : SlotSetup → Bool) (slots : List SlotSetup) (i : ℕ) (slot : SlotSetup) → not (list_any p slots) ≡ true → slice_get slots i ≡ Some slot
+    → p slot ≡ false
 not-any p slots i slot e at = grind (arith, common_steps, gets)
 
 says-apart : (slots : List SlotSetup) (h : List Entry) (i : ℕ) (slot : SlotSetup) → slice_get slots i ≡ Some slot → (e : Entry) → is_apart slots e ≡ true
@@ -93,7 +94,8 @@ changed-or {X} {i} {Change} {xs} {ys} c j y at =
     same-or : (a b : ℕ) → (a ≡ b) ⊎ (a ≢ b)
     same-or a b = grind arith
 
-module _ {slots : List SlotSetup} {h : List Entry} {i : ℕ} {slot : SlotSetup} {e : Entry} {x y : MemoryRack} (apart : AreApart slots) (found : slice_get slots i ≡ Some slot)
+module _ {slots : List SlotSetup} {h : List Entry} {i : ℕ} {slot : SlotSetup} {e : Entry} {x y : MemoryRack}
+    (apart : AreApart slots) (found : slice_get slots i ≡ Some slot)
     (says : (other : SlotSetup) → is_slot other slot.station.id ≡ false → SaysSame other h (e ∷ h))
     {Change : Target → Target → Type 0} (c : ChangesAt i Change x.shelf.targets y.shelf.targets) where
   pub stands-on : y.stops ≡ x.stops → Stands slots h x → IsStanding slot (e ∷ h) c.after → Stands slots (e ∷ h) y

@@ -63,9 +63,9 @@ armed Store slot h k mode {t} {u} {stops} first s a =
     let mine : is_slot slot slot.station.id ≡ true = same-self slot.station.id in
     rw a.0.rest (record {
       station = s.station;
-      under = under-wrote slot.station.sectors slot.cache (slot_after slot h) (slot_after slot h) (any_under state_of t.store) (any_under state_of u.store) 0
+      under = under-wrote slot.station.sectors slot.cache (slot_after slot h) (slot_after slot h) _ _ 0
           (record { written = omega arith; struck = refl; settled = settled-self (state_after slot h).sectors })
-          (armed-under (arm_of k mode) (any_under state_of t.store) (any_under state_of u.store) a.1) s.under;
+          (armed-under (arm_of k mode) _ _ a.1) s.under;
       holds = record { lists = s.holds.lists; crash = s.holds.crash; sectors = rw a.0.arms.contents s.holds.sectors };
       store_due = rw mine (store-begun k mode t.store u.store first a.0.arms a.1);
       keep_due = rw mine s.keep_due;
@@ -77,7 +77,7 @@ armed Keep slot h k mode {t} {u} {stops} first s a =
     rw a.rest (record {
       station = s.station;
       under = s.under;
-      holds = record { lists = a.lists ∙ s.holds.lists; crash = still-finds (state_of t.keep.disk).contents (state_of u.keep.disk).contents (state_after slot h) a.arms.contents s.holds.crash; sectors = s.holds.sectors };
+      holds = record { lists = a.lists ∙ s.holds.lists; crash = still-finds _ _ (state_after slot h) a.arms.contents s.holds.crash; sectors = s.holds.sectors };
       store_due = rw mine s.store_due;
       keep_due = rw mine (due-begun k mode a.arms.schedule refl Keep first);
       store_stop = rw mine s.store_stop;
@@ -92,11 +92,11 @@ armed-same Store arm a = rw a.0.rest (record {
   room = refl;
   known = λ k h. (k, record { lists = h.lists; crash = h.crash; sectors = rw a.0.arms.contents h.sectors });
 })
-armed-same Keep arm {t} {u} a = rw a.rest (record {
+armed-same Keep arm a = rw a.rest (record {
   station = refl;
   sectors = refl;
   room = a.arms.sectors;
-  known = λ k h. (k, record { lists = a.lists ∙ h.lists; crash = still-finds (state_of t.keep.disk).contents (state_of u.keep.disk).contents k a.arms.contents h.crash; sectors = h.sectors });
+  known = λ k h. (k, record { lists = a.lists ∙ h.lists; crash = still-finds _ _ k a.arms.contents h.crash; sectors = h.sectors });
 })
 
 -- what the code knows of an arming of one slot: how the targets changed, and the stops
@@ -108,7 +108,8 @@ pub record IsArming (i : ℕ) (which : Which) (k : ℕ) (mode : Option Loss) (a 
   pub count : length items ≡ length a.targets
   pub is : new ≡ with_stop which mode (get_or items i old)
 
-module _ {i : ℕ} {which : Which} {k : ℕ} {mode : Option Loss} {a b : Shelf} {items : List Stops} {old new : Stops} {dev : TargetId} (z : IsArming i which k mode a b items old new dev) where
+module _ {i : ℕ} {which : Which} {k : ℕ} {mode : Option Loss} {a b : Shelf} {items : List Stops} {old new : Stops} {dev : TargetId}
+    (z : IsArming i which k mode a b items old new dev) where
   refilled : refill (length items) items (slice_set items i new) ≡ slice_set items i new
   refilled = items-with_items (record { items = items }) (slice_set items i new) (length-set items i new)
 

@@ -63,32 +63,40 @@ pub record IsTurn (i : ℕ) (f : List ℕ) (w : Heard) (out : List ℕ) (x y : M
   pub count : length x.stops ≡ length x.shelf.targets
   pub is : stop ≡ stop_at (get_or x.stops i d) w
 
-module _ {i : ℕ} {f : List ℕ} {w : Heard} {out : List ℕ} {x y : MemoryRack} {d : Stops} {dev : TargetId} {stop : Option Loss} (z : IsTurn i f w out x y d dev stop)
+module _ {i : ℕ} {f : List ℕ} {w : Heard} {out : List ℕ} {x y : MemoryRack} {d : Stops} {dev : TargetId} {stop : Option Loss}
+    (z : IsTurn i f w out x y d dev stop)
     {s : Setup} {slots : List SlotSetup} {number : ℕ} {h : List Entry} (r : IsReached s slots number f h x) where
+  abbrev armed : Stops
+  armed = get_or x.stops i d
+
   slot-here : (slot : SlotSetup) × (slice_get slots i ≡ Some slot)
   slot-here = there slots i (omega (arith, slice_get_within x.shelf.targets i z.change.before z.change.found, r.serves.count))
 
-  stops-at : slice_get x.stops i ≡ Some (get_or x.stops i d)
+  stops-at : slice_get x.stops i ≡ Some armed
   stops-at = slice_get-get_or x.stops i d (omega (arith, slice_get_within x.shelf.targets i z.change.before z.change.found, z.count))
 
   module _ (slot : SlotSetup) (found : slice_get slots i ≡ Some slot) where
-    served : IsServing slot h z.change.before (get_or x.stops i d)
-    served = r.serves.each i slot z.change.before (get_or x.stops i d) found z.change.found stops-at
+    abbrev came : Fate → List Entry
+    came fate = Arrived slot.station.id number fate ∷ h
+
+    served : IsServing slot h z.change.before armed
+    served = r.serves.each i slot z.change.before armed found z.change.found stops-at
 
     taken : Takes slot h f w out z.change.before z.change.after
     taken = takes (serving-stands served) z.change.change
 
-    may-come : (fate : Fate) → KeepsShelfLaw slot h f fate → KeepsArming slot h f fate → IsNumbered (next_number h) fate → MayCome s h (Arrived slot.station.id number fate)
+    may-come : (fate : Fate) → KeepsShelfLaw slot h f fate → KeepsArming slot h f fate → IsNumbered (next_number h) fate
+        → MayCome s h (Arrived slot.station.id number fate)
     may-come fate law arming numbered =
         rw (r.shelf.there i slot found) (record { bytes = f; fresh = r.fresh; law = law; arming = arming; numbered = numbered })
 
-    goes-on : stop_at (get_or x.stops i d) w ≡ None → GoesOn s slots i number f h (Arrived slot.station.id number (noted None w (next_number h) out) ∷ h) y
+    goes-on : stop_at armed w ≡ None → GoesOn s slots i number f h (came (noted None w (next_number h) out)) y
     goes-on none =
         let fate : Fate = noted None w (next_number h) out in
-        let k : Continues slot h f fate (Arrived slot.station.id number fate ∷ h) z.change.after (get_or x.stops i d) =
-        continues served taken (runs-on (get_or x.stops i d) w none) (next_number h) _ (follows slot h number f fate (bytes-arriving s.life h number f r.fresh)) in
+        let k : Continues slot h f fate (came fate) z.change.after armed =
+        continues served taken (runs-on armed w none) (next_number h) _ (follows slot h number f fate (bytes-arriving s.life h number f r.fresh)) in
         let stops : ChangesAt i (λ a b. Unit {0}) x.stops y.stops =
-        record { before = get_or x.stops i d; after = get_or x.stops i d; found = stops-at; others = z.same ∙ sym (set-get_or x.stops i d); change = tt } in
+        record { before = armed; after = armed; found = stops-at; others = z.same ∙ sym (set-get_or x.stops i d); change = tt } in
         record {
           slot = slot;
           found = found;
@@ -103,30 +111,32 @@ module _ {i : ℕ} {f : List ℕ} {w : Heard} {out : List ℕ} {x y : MemoryRack
           };
         }
 
-    is-cut : (how : Loss) → stop_at (get_or x.stops i d) w ≡ Some how → IsCut s slots i number f how h (Arrived slot.station.id number Cut ∷ h) y
+    is-cut : (how : Loss) → stop_at armed w ≡ Some how → IsCut s slots i number f how h (came Cut) y
     is-cut how some =
-        let k : Breaks slot h f how (Arrived slot.station.id number Cut ∷ h) z.change.after =
+        let k : Breaks slot h f how (came Cut) z.change.after =
         breaks served taken how _ (follows slot h number f Cut (bytes-arriving s.life h number f r.fresh)) some in
         record {
           slot = slot;
           found = found;
           stop = k.stop;
           entry = refl;
-          stands = stands-on r.shelf.apart found (λ other ne. says-arrived other h slot.station.id ne number Cut) z.change z.same (serves-stands slots h x r.serves) k.standing;
+          stands = stands-on r.shelf.apart found (λ other ne. says-arrived other h slot.station.id ne number Cut) z.change z.same
+              (serves-stands slots h x r.serves) k.standing;
           lawful = (may-come Cut k.law k.arming tt, r.lawful);
         }
 
-    comes : (o : Option Loss) → o ≡ stop_at (get_or x.stops i d) w → ComesToSlot s slots i number f o h (Arrived slot.station.id number (noted o w (next_number h) out) ∷ h) y
+    comes : (o : Option Loss) → o ≡ stop_at armed w → ComesToSlot s slots i number f o h (came (noted o w (next_number h) out)) y
     comes None is = goes-on (sym is)
     comes (Some how) is = is-cut how (sym is)
 
-    meets-full : (e : Effect) → stop_at (get_or x.stops i d) w ≡ None → w ≡ heard.Replied e → IsFull (network s.life h) out → MeetsFull s (ArriveAtSome number f slots (drop i slots) h) h
+    meets-full : (e : Effect) → stop_at armed w ≡ None → w ≡ heard.Replied e → IsFull (network s.life h) out
+        → MeetsFull s (ArriveAtSome number f slots (drop i slots) h) h
     meets-full e none is full =
         let fate : Fate = Replied e (next_number h) out in
         record {
           entry = Arrived slot.station.id number fate;
           called_for = rw (drop-at slots i slot found)
-              (inr (inl (fate, noted-uncut (heard.Replied e) (next_number h) out, some-here number f slots (drop (suc i) slots) (Arrived slot.station.id number fate ∷ h))));
+              (inr (inl (fate, noted-uncut (heard.Replied e) (next_number h) out, some-here number f slots (drop (suc i) slots) (came fate))));
           may_come = rw is at (goes-on none).reached.lawful.0;
           bytes = out;
           brings = refl;
@@ -144,16 +154,12 @@ module _ {i : ℕ} {f : List ℕ} {w : Heard} {out : List ℕ} {x y : MemoryRack
   pub turn-full : (life : ℕ) → IsReplyFull stop w (network life h) out → MeetsFull s (ArriveAtSome number f slots (drop i slots) h) h
   turn-full life full = go stop w z.is refl full
     where
-      go : (o : Option Loss) (v : Heard) → o ≡ stop_at (get_or x.stops i d) w → w ≡ v → IsReplyFull o v (network life h) out → MeetsFull s (ArriveAtSome number f slots (drop i slots) h) h
+      go : (o : Option Loss) (v : Heard) → o ≡ stop_at armed w → w ≡ v → IsReplyFull o v (network life h) out
+          → MeetsFull s (ArriveAtSome number f slots (drop i slots) h) h
       go None (heard.Replied e) is same full = let slot = slot-here in meets-full slot.0 slot.1 e (sym is) same full
       go _ _ is same full = absurd full
 
 -- ONE SLOT AFTER THE OTHER
-
--- the power wasn't lost
-pub goes-of : (o : Option Loss) {s : Setup} {slots : List SlotSetup} {i number : ℕ} {f : List ℕ} {h m : List Entry} {x : MemoryRack} → ((how : Loss) → o ≡ Some how → ⊥) → ComesToSlot s slots i number f o h m x
-    → GoesOn s slots i number f h m x
-goes-of o whole p = grind arith
 
 -- a frame came to the first slots of a shelf
 pub record Passes (s : Setup) (slots : List SlotSetup) (i number : ℕ) (f : List ℕ) (h m : List Entry) (x : MemoryRack) : Type 0 where

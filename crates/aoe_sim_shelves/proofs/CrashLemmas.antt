@@ -121,7 +121,8 @@ module _ {how : Loss} {a b : Cache Memory} (l : LosesCache how a b) (n : ℕ) (s
 
 -- what a crash leaves of a slot's store
 pub record LeavesStore (n : ℕ) (slot : SlotSetup) (how : Loss) (z : Slot) (b : AnyStore Memory) : Type 0 where
-  pub sectors : BothTell (AgreesWithin n) (option_map sectors_of (any_state state_of b).contents) (option_map (left_sectors slot z.unsettled how) z.state.sectors)
+  pub sectors : BothTell (AgreesWithin n) (option_map sectors_of (any_state state_of b).contents)
+      (option_map (left_sectors slot z.unsettled how) z.state.sectors)
   pub under : (lists : Settings) → IsUnder n slot.cache (after_crash slot lists how z) (any_under state_of b)
 
 left_store : (how : Loss) (a b : AnyStore Memory) → LosesStore how a b → (n : ℕ) (slot : SlotSetup) (z : Slot) (cache : Option ℕ) → slot.cache ≡ cache
@@ -134,7 +135,12 @@ left_store how (Direct a) (Direct b) l n slot z None is under agrees = record {
 left_store how (Cached a) (Cached b) l n slot z (Some room) is under agrees =
     let same : b.room ≡ room = l.room ∙ under.0 in
     let left = cached_left l n slot room is z.unsettled z.state.sectors agrees under.1 same in
-    record { sectors = left.0; under = λ lists. subst (λ (o : Option ℕ). IsUnder n o (after_crash slot lists how z) (Some (under_of state_of b))) (sym is) (same, OnTrue_from _ _ (λ whole. left.1)) }
+    record {
+      sectors = left.0;
+      under = λ lists.
+          subst (λ (o : Option ℕ). IsUnder n o (after_crash slot lists how z) (Some (under_of state_of b))) (sym is)
+          (same, OnTrue_from _ _ (λ whole. left.1));
+    }
 left_store how _ _ l n slot z cache is under agrees = absurd (grind arith)
 
 pub lost_sectors : (how : Loss) (a b : AnyStore Memory) → LosesStore how a b → (any_state state_of b).sectors ≡ (any_state state_of a).sectors
@@ -164,7 +170,8 @@ module _ {how : Loss} {a b : Target} (r : Restarts how a b) where
       idle (option_map number_of r.disk.arming) _ run.calls (is_none (armed_of r.disk.arming)) (ap (λ (m : Memory). option_map number_of m.arming) r.keep.rest)
       run.run.schedule.due
 
-  module _ (n : ℕ) (slot : SlotSetup) (before : Slot) (under : IsUnder n slot.cache before (any_under state_of a.store)) (h : HoldsWithin n (device a) before.state) where
+  module _ (n : ℕ) (slot : SlotSetup) (before : Slot) (under : IsUnder n slot.cache before (any_under state_of a.store))
+      (h : HoldsWithin n (device a) before.state) where
     left : LeavesStore n slot how before b.store
     left = left_store how a.store b.store r.store n slot before slot.cache refl under h.sectors
 

@@ -1,5 +1,5 @@
 -- The last target of a shelf, and those before it.
-use Rattle.std.proofs.Common.{◌≡◌, ◌≢◌, ◌<◌, ◌⊎◌, ◌||◌, ◌==◌, inl, inr, ℕ, suc, false, List, [], ◌∷◌, ◌++◌, length, map, replicate, take, Some, refl, sym, ◌∙◌, arith}
+use Rattle.std.proofs.Common.{◌≡◌, ◌≢◌, ◌<◌, ◌⊎◌, ◌||◌, ◌==◌, inl, inr, ℕ, suc, false, List, [], ◌∷◌, ◌++◌, length, replicate, take, Some, refl, sym, ◌∙◌, arith}
 use Rattle.std.specs.Prelude.{slice_get}
 use Rattle.std.proofs.lemmas.Bool.Decides.{nat_tests}
 use Rattle.std.proofs.lemmas.Grind.{common_steps}
@@ -9,7 +9,7 @@ use Rattle.aoe_shelf.specs.Shelf.{has_minor}
 use Rattle.aoe_sim_shelves.specs.Crash.{RestartEach, Restarts}
 use Rattle.aoe_sim_shelves.specs.Rack.{AreTargets, IsTargetOf}
 use Rattle.aoe_sim_shelves.proofs.CrashLemmas.{restarted_target}
-use Rattle.aoe_sim_shelves.proofs.Words.{Shelf, Target}
+use Rattle.aoe_sim_shelves.proofs.Words.{stations, Shelf, Target}
 use Rattle.aoe_initiator.proofs.ListLemmas.{get-there as there}
 
 -- THE FRONT OF A LIST
@@ -108,7 +108,8 @@ restart_more {how} {xs} {ys} {x} {y} r one = record {
 }
 
 -- the last target was added again
-pub restart_last : {how : Loss} {before front : List Target} {x y : Target} {new : Shelf} (r : Shelf) → before ≡ front ++ x ∷ [] → new ≡ record r { targets = r.targets ++ y ∷ [] }
+pub restart_last : {how : Loss} {before front : List Target} {x y : Target} {new : Shelf} (r : Shelf) → before ≡ front ++ x ∷ []
+    → new ≡ record r { targets = r.targets ++ y ∷ [] }
     → RestartEach how front r.targets → Restarts how x y → RestartEach how before new.targets
 restart_last r is added each one = rw (is, added) (restart_more each one)
 
@@ -124,14 +125,15 @@ module _ {how : Loss} {xs ys : List Target} (r : RestartEach how xs ys) where
   restart_minor minor other = minor_other ys minor (λ i b at. let a = was i b at in rw a.2.station (other i a.0 a.1))
 
 -- the same targets, by their stations
-pub same_stations : {how : Loss} (xs ys : List Target) → RestartEach how xs ys → map (λ (t : Target). t.station) ys ≡ map (λ (t : Target). t.station) xs
+pub same_stations : {how : Loss} (xs ys : List Target) → RestartEach how xs ys → stations ys ≡ stations xs
 same_stations [] [] r = refl
 same_stations (x ∷ xs) (y ∷ ys) r =
     rw ((r.each 0 x y refl refl).station, same_stations xs ys (record { count = omega (arith, r.count); each = λ i a b p q. r.each (suc i) a b p q }))
 same_stations _ _ r = absurd (omega (arith, r.count))
 
 -- and they are targets of the shelf still
-pub restart_targets : {how : Loss} {shelf : Shelf} {ys : List Target} → AreTargets shelf → RestartEach how shelf.targets ys → AreTargets (record shelf { targets = ys })
+pub restart_targets : {how : Loss} {shelf : Shelf} {ys : List Target} → AreTargets shelf → RestartEach how shelf.targets ys
+    → AreTargets (record shelf { targets = ys })
 restart_targets {how} {shelf} {ys} k r = record {
   each = λ i b at. let a = was r i b at in restarted_target a.2 (k.each i a.0 a.1);
   apart = λ i j b c p q ne.

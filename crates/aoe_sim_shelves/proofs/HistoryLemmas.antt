@@ -59,7 +59,8 @@ module _ (slot : SlotSetup) (how : Loss) where
 
 -- THE ENTRIES
 
-with_crashes_more : (how : Loss) (ts : List Target) (t : Target) (h : List Entry) → with_crashes how (ts ++ t ∷ []) h ≡ Crashed t.station.id t.keep.lists how ∷ with_crashes how ts h
+with_crashes_more : (how : Loss) (ts : List Target) (t : Target) (h : List Entry)
+    → with_crashes how (ts ++ t ∷ []) h ≡ Crashed t.station.id t.keep.lists how ∷ with_crashes how ts h
 with_crashes_more how [] t h = refl
 with_crashes_more how (u ∷ ts) t h = with_crashes_more how ts t (Crashed u.station.id u.keep.lists how ∷ h)
 
@@ -70,7 +71,8 @@ pub record MayRestart (slots : List SlotSetup) (h : List Entry) (ts : List Targe
 
 module _ (s : Setup) (how : Loss) where
   -- the first slot, and those behind it
-  module _ {slot : SlotSetup} {slots : List SlotSetup} {t : Target} {ts : List Target} {h : List Entry} (are : AreSlots s (slot ∷ slots)) (may : MayRestart (slot ∷ slots) h (t ∷ ts)) where
+  module _ {slot : SlotSetup} {slots : List SlotSetup} {t : Target} {ts : List Target} {h : List Entry}
+      (are : AreSlots s (slot ∷ slots)) (may : MayRestart (slot ∷ slots) h (t ∷ ts)) where
     tail_slots : AreSlots s slots
     tail_slots = record {
       there = λ i. are.there (suc i);
@@ -89,7 +91,8 @@ module _ (s : Setup) (how : Loss) where
     may_come = rw (are.there 0 slot refl) (may.each 0 slot t refl refl).1
 
   -- the entries of so many slots, or of all
-  crash_entries : (slots : List SlotSetup) (ts : List Target) (h : List Entry) → AreSlots s slots → length ts ≤ length slots → MayRestart slots h ts → IsLawful s h
+  crash_entries : (slots : List SlotSetup) (ts : List Target) (h : List Entry) → AreSlots s slots → length ts ≤ length slots → MayRestart slots h ts
+      → IsLawful s h
       → CrashSome how slots h (with_crashes how ts h) × IsLawful s (with_crashes how ts h)
       × (length ts ≡ length slots → CrashEach how slots h (with_crashes how ts h))
   crash_entries [] [] h are fits may lawful = (refl, lawful, λ e. refl)
@@ -101,7 +104,8 @@ module _ (s : Setup) (how : Loss) where
 
 -- THE SHELF
 
-module _ {slots : List SlotSetup} {h : List Entry} {how : Loss} {x : MemoryRack} {ys : List Target} (k : Stands slots h x) (r : RestartEach how x.shelf.targets ys) where
+module _ {slots : List SlotSetup} {h : List Entry} {how : Loss} {x : MemoryRack} {ys : List Target}
+    (k : Stands slots h x) (r : RestartEach how x.shelf.targets ys) where
   may_restart : MayRestart slots h ys
   may_restart = record {
     each = λ i slot t a b.
@@ -138,7 +142,8 @@ module _ {slots : List SlotSetup} {h : List Entry} {how : Loss} {x : MemoryRack}
 -- A CRASH
 
 -- one entry more was taken down
-pub crash_noted : (how : Loss) (ts : List Target) (i : ℕ) (first old new : Recorded) → old ≡ record first { entries = with_crashes how (take i ts) first.entries }
+pub crash_noted : (how : Loss) (ts : List Target) (i : ℕ) (first old new : Recorded)
+    → old ≡ record first { entries = with_crashes how (take i ts) first.entries }
     → IsSomeAnd (slice_get ts i) (λ t. new ≡ with_entry old (Crashed t.station.id t.keep.lists how))
     → new ≡ record first { entries = with_crashes how (take (i + 1) ts) first.entries }
 crash_noted how ts i first old new so_far p = go (slice_get ts i) refl p

@@ -1,5 +1,5 @@
 -- What holds of the fields of a shelf in a run, after one target changed.
-use Rattle.std.proofs.Common.{◌≡◌, inl, inr, ℕ, List, length, map, Some, refl, sym, ap, ◌∙◌, arith}
+use Rattle.std.proofs.Common.{◌≡◌, inl, inr, ℕ, List, length, Some, refl, sym, ap, ◌∙◌, arith}
 use Rattle.std.proofs.lemmas.Option.{get_or_from_slice_get}
 use Rattle.std.proofs.Math.Seq.{map-set_same}
 use Rattle.std.specs.Prelude.{slice_get}
@@ -17,10 +17,11 @@ use Rattle.aoe_target.specs.declared.heard.Heard.{Heard}
 use Rattle.aoe_sim_shelves.specs.declared.rack.Stops.{Stops}
 use Rattle.aoe_sim_shelves.specs.Rack.{AreTargets, IsRack, IsTargetOf}
 use Rattle.aoe_sim_shelves.proofs.Apart.{changed-or}
-use Rattle.aoe_sim_shelves.proofs.Words.{device, Shelf, Target}
+use Rattle.aoe_sim_shelves.proofs.Words.{device, stations, Shelf, Target}
 
 -- a change of an element that is two at once
-pub both-changes : {X : Type 0} {i : ℕ} {P Q : X → X → Type 0} {xs ys : List X} → ChangesAt i P xs ys → ChangesAt i Q xs ys → ChangesAt i (λ a b. P a b × Q a b) xs ys
+pub both-changes : {X : Type 0} {i : ℕ} {P Q : X → X → Type 0} {xs ys : List X} → ChangesAt i P xs ys → ChangesAt i Q xs ys
+    → ChangesAt i (λ a b. P a b × Q a b) xs ys
 both-changes {X} {i} {P} {Q} {xs} {ys} c d =
     let first : c.before ≡ d.before = let p = c.found in let q = d.found in cc in
     let last : c.after ≡ d.after = let p = get-after i P xs ys c in let q = get-after i Q xs ys d in cc in
@@ -80,7 +81,7 @@ receives-same {t} {u} {f} {w} {out} r = record {
 
 -- all targets keep what never changes of them
 pub stations-kept : {i : ℕ} {Change : Target → Target → Type 0} {a b : List Target} (c : ChangesAt i Change a b) → c.after.station ≡ c.before.station
-    → map (λ (t : Target). t.station) b ≡ map (λ (t : Target). t.station) a
+    → stations b ≡ stations a
 stations-kept {i} {Change} {a} {b} c same =
     rw c.others (map-set_same (λ (t : Target). t.station) a i c.after c.before
     (same ∙ ap (λ (t : Target). t.station) (sym (get_or_from_slice_get a i c.before c.before c.found))))

@@ -1,5 +1,5 @@
 -- A target over disks that were just opened.
-use Rattle.std.proofs.Common.{◌≡◌, ◌<◌, ◌≤◌, ◌+◌, ◌-◌, ◌*◌, ◌/◌, ◌==◌, inl, inr, ℕ, Bool, true, false, List, [], ◌∷◌, ◌++◌, length, map, get_or, take, replicate, Option, Some, None, refl, sym, ap, ◌∙◌, arith, get_or-take, get_or-drop}
+use Rattle.std.proofs.Common.{◌≡◌, ◌<◌, ◌≤◌, ◌+◌, ◌-◌, ◌*◌, ◌/◌, ◌==◌, inl, inr, ℕ, Bool, true, false, List, [], ◌∷◌, ◌++◌, length, get_or, take, replicate, Option, Some, None, refl, sym, ap, ◌∙◌, arith, get_or-take, get_or-drop}
 use Rattle.std.specs.Prelude.{slice_get, is_none, IsSomeAnd, Ok}
 use Rattle.std.specs.Option.{option_map}
 use Rattle.std.proofs.lemmas.Bool.{OnTrue_from}
@@ -33,7 +33,7 @@ use Rattle.aoe_sim_shelves.specs.Rack.{over, AgreesWithin, IsBelow, IsServing, I
 use Rattle.aoe_sim_shelves.proofs.AgreeLemmas.{same_agrees}
 use Rattle.aoe_sim_shelves.proofs.CrashLemmas.{idle, lost_sectors, opened_free}
 use Rattle.aoe_sim_shelves.proofs.FrontLemmas.{front_of, get_last, get_split, last_of, length_last}
-use Rattle.aoe_sim_shelves.proofs.Words.{device, Shelf, Target}
+use Rattle.aoe_sim_shelves.proofs.Words.{device, stations, Shelf, Target}
 
 -- a target that has its room and a minor of its own isn't refused
 pub not_refused : (ts : List Target) (minor : ℕ) → length ts < 16 → has_minor ts minor ≡ false → refusal_of ts minor ≡ None
@@ -148,7 +148,8 @@ pub record IsNew (n m : ℕ) (store disk : Memory) (keep : Kept Memory) : Type 0
   pub lists : disk ≡ fresh (replicate m 0)
   pub mounted : HasMounted (state_of disk) (state_of keep.disk) keep.lists
 
-module _ (major : ℕ) (ports : List Mac) (mtu minor : ℕ) (cache : Option ℕ) {n m : ℕ} {store disk : Memory} {keep : Kept Memory} (k : IsNew n m store disk keep) where
+module _ (major : ℕ) (ports : List Mac) (mtu minor : ℕ) (cache : Option ℕ) {n m : ℕ} {store disk : Memory} {keep : Kept Memory}
+    (k : IsNew n m store disk keep) where
   abbrev new_setup : SlotSetup
   new_setup = record { station = station_of (record { major = major; minor = minor }) ports mtu n; cache = cache }
 
@@ -190,12 +191,14 @@ module _ (major : ℕ) (ports : List Mac) (mtu minor : ℕ) (cache : Option ℕ)
         elim (get_split slots new_setup i slot a) [
           | inl p ↦
               let low = slice_get_within slots i slot p in
-              s.each i slot t z p (front_of x.shelf.targets new_target i t (omega (arith, low, s.count)) b') (front_of x.stops _ i z (omega (arith, low, s.stops)) c')
+              let there = front_of x.shelf.targets new_target i t (omega (arith, low, s.count)) b' in
+              s.each i slot t z p there (front_of x.stops _ i z (omega (arith, low, s.stops)) c')
           | inr p ↦
-              rw (p.1, last_of x.shelf.targets new_target i t (omega (arith, p.0, s.count)) b', last_of x.stops _ i z (omega (arith, p.0, s.stops)) c') new_serving
+              let last = last_of x.shelf.targets new_target i t (omega (arith, p.0, s.count)) b' in
+              rw (p.1, last, last_of x.stops _ i z (omega (arith, p.0, s.stops)) c') new_serving
         ];
   }
 
   -- and its station stands behind the others
-  pub new_station : (xs : List Target) → map (λ (t : Target). t.station) (xs ++ new_target ∷ []) ≡ map (λ (t : Target). t.station) xs ++ new_setup.station ∷ []
+  pub new_station : (xs : List Target) → stations (xs ++ new_target ∷ []) ≡ stations xs ++ new_setup.station ∷ []
   new_station xs = rw (map-append (λ (t : Target). t.station) xs (new_target ∷ []), over_sectors cache store, zeros_sectors n store k.zeros)

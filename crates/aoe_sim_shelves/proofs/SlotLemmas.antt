@@ -77,11 +77,12 @@ pub record Takes (slot : SlotSetup) (h : List Entry) (f : List ℕ) (x : Heard) 
 kind-kept : (v : Verdict) (failed : Bool) (shown : Option Contents) (x y : Option Under) → MovesUnder v failed shown x y → is_none y ≡ is_none x
 kind-kept v failed shown x y p = grind arith
 
-pub takes : {slot : SlotSetup} {h : List Entry} {f : List ℕ} {x : Heard} {out : List ℕ} {t u : Target} → IsStanding slot h t → Meets f x out t u → Takes slot h f x out t u
+pub takes : {slot : SlotSetup} {h : List Entry} {f : List ℕ} {x : Heard} {out : List ℕ} {t u : Target} → IsStanding slot h t → Meets f x out t u
+    → Takes slot h f x out t u
 takes {slot} {h} {f} {x} {out} {t} {u} k m =
     let r = m.0 in
     let turns = rw (k.station, k.holds.lists) at m.1 in
-    let kind = kind-kept (verdict_after slot h f) (is_faulty x) (any_state state_of t.store).contents (any_under state_of t.store) (any_under state_of u.store) turns in
+    let kind = kind-kept _ _ _ _ _ turns in
     let known : State = known_in t (state_after slot h) in
     let step : StepsWithin slot.station (state_after slot h) f (fate_of x out) u =
     stepped slot.station (state_after slot h) f (fate_of x out) t u kind k.holds
@@ -122,16 +123,7 @@ module _ {slot : SlotSetup} {h : List Entry} {f : List ℕ} {x : Heard} {out : L
 
   -- the device calls of the store's disk
   under-calls : calls Store slot h f ≡ true → BothTell (CallsUnder (is_faulty x)) (any_under state_of t.store) (any_under state_of u.store)
-  under-calls c = moves-calls v (is_faulty x) (any_state state_of t.store).contents (any_under state_of t.store) (any_under state_of u.store) c z.turns
-
-  no-edit : calls Store slot h f ≡ true → calls Keep slot h f ≡ false
-  no-edit c = one-disk slot.station (state_after slot h) f v c
-
-  kept : calls Store slot h f ≡ true → is_unkept x ≡ false
-  kept c = called-kept slot.station (state_after slot h) f v x out z.allowed c
-
-  unfaulty : calls Keep slot h f ≡ true → is_faulty x ≡ false
-  unfaulty c = edited-done slot.station (state_after slot h) f v x out z.allowed c
+  under-calls c = moves-calls v (is_faulty x) _ _ _ c z.turns
 
   -- which frames are struck
   store-struck : (fate : Fate) (c : calls Store slot h f ≡ true) → is_struck fate ≡ is_faulty x → Strikes (is_faulty x) (stretch Store slot h) fate
@@ -150,7 +142,7 @@ module _ {slot : SlotSetup} {h : List Entry} {f : List ℕ} {x : Heard} {out : L
     fate = noted None x fresh out
 
     struck-is : calls Store slot h f ≡ true → is_struck fate ≡ is_faulty x
-    struck-is c = noted-faulty x fresh out (kept c)
+    struck-is c = noted-faulty x fresh out (called-kept slot.station (state_after slot h) f v x out z.allowed c)
 
     law : KeepsShelfLaw slot h f fate
     law = rw (noted-fate x fresh out) z.allowed
@@ -172,9 +164,8 @@ module _ {slot : SlotSetup} {h : List Entry} {f : List ℕ} {x : Heard} {out : L
     under-then : IsUnder slot.station.sectors slot.cache (after_frame slot f fate (slot_after slot h)) (any_under state_of u.store)
     under-then = elim (cases_Bool (calls Store slot h f)) [
       | inl c ↦
-          under-noted slot.station.sectors slot f (slot_after slot h) (any_under state_of t.store) (any_under state_of u.store) c
-          (any_state state_of t.store).contents k.holds.sectors k.under fresh out x (struck-is c) z.turns z.allowed
-      | inr c ↦ rw (z.idle c) (under-idle slot.station.sectors slot f (slot_after slot h) fate (any_under state_of t.store) c law k.under)
+          under-noted slot.station.sectors slot f (slot_after slot h) _ _ c _ k.holds.sectors k.under fresh out x (struck-is c) z.turns z.allowed
+      | inr c ↦ rw (z.idle c) (under-idle slot.station.sectors slot f (slot_after slot h) fate _ c law k.under)
     ]
 
     pub continues : Continues slot h f fate n u stops
@@ -183,7 +174,8 @@ module _ {slot : SlotSetup} {h : List Entry} {f : List ℕ} {x : Heard} {out : L
       arming = record {
         store = OnTrue_from _ _ (λ c. store-struck fate c (struck-is c) (λ e y mode. noted-strike x fresh out y (mode ∙ sym k.store_stop ∙ r.store e)));
         keep = OnTrue_from _ _ (λ c.
-            keep-struck fate c (noted-unkept x fresh out (unfaulty c)) (λ e y mode. noted-strike x fresh out y (mode ∙ sym k.keep_stop ∙ r.keep e)));
+            let done = edited-done slot.station (state_after slot h) f v x out z.allowed c in
+            keep-struck fate c (noted-unkept x fresh out done) (λ e y mode. noted-strike x fresh out y (mode ∙ sym k.keep_stop ∙ r.keep e)));
       };
       serving = record {
         station = z.station;
@@ -202,9 +194,8 @@ module _ {slot : SlotSetup} {h : List Entry} {f : List ℕ} {x : Heard} {out : L
     cut-under : KeepsShelfLaw slot h f Cut → IsUnder slot.station.sectors slot.cache (after_frame slot f Cut (slot_after slot h)) (any_under state_of u.store)
     cut-under allowed = elim (cases_Bool (calls Store slot h f)) [
       | inl c ↦
-          under-failed slot.station.sectors slot f (slot_after slot h) (any_under state_of t.store) (any_under state_of u.store) c Cut (is_faulty x) refl
-          (under-calls c) k.under
-      | inr c ↦ rw (z.idle c) (under-idle slot.station.sectors slot f (slot_after slot h) Cut (any_under state_of t.store) c allowed k.under)
+          under-failed slot.station.sectors slot f (slot_after slot h) _ _ c Cut (is_faulty x) refl (under-calls c) k.under
+      | inr c ↦ rw (z.idle c) (under-idle slot.station.sectors slot f (slot_after slot h) Cut _ c allowed k.under)
     ]
 
     standing : IsLoss slot.station (state_after slot h) f v x out z.allowed → IsStanding slot n u
@@ -222,7 +213,7 @@ module _ {slot : SlotSetup} {h : List Entry} {f : List ℕ} {x : Heard} {out : L
           law = loss.allowed;
           arming = record {
             store = OnTrue_from _ _ (λ c. store-struck Cut c (sym failed) (λ e y mode. ap is_some (mode ∙ sym k.store_stop ∙ stop)));
-            keep = OnTrue_from _ _ (λ c. absurd (not-both _ c (no-edit called)));
+            keep = OnTrue_from _ _ (λ c. absurd (not-both _ c (one-disk slot.station (state_after slot h) f v called)));
           };
           stop = record { which = Store; called = called; mode = sym k.store_stop ∙ stop };
           standing = standing loss;
@@ -235,7 +226,7 @@ module _ {slot : SlotSetup} {h : List Entry} {f : List ℕ} {x : Heard} {out : L
         record {
           law = loss.allowed;
           arming = record {
-            store = OnTrue_from _ _ (λ c. absurd (not-both _ called (no-edit c)));
+            store = OnTrue_from _ _ (λ c. absurd (not-both _ called (one-disk slot.station (state_after slot h) f v c)));
             keep = OnTrue_from _ _ (λ c. keep-struck Cut c (sym failed) (λ e y mode. ap is_some (mode ∙ sym k.keep_stop ∙ stop)));
           };
           stop = record { which = Keep; called = called; mode = sym k.keep_stop ∙ stop };

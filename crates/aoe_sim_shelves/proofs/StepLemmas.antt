@@ -22,7 +22,7 @@ use Rattle.aoe_target.specs.Reply.{data_of}
 use Rattle.aoe_target.specs.Sectors.{sectors_of, Sectors, Tells}
 use Rattle.aoe_target.specs.Verdict as judge
 use Rattle.aoe_sim_shelves.specs.Rack.{AgreesWithin, HoldsWithin}
-use Rattle.aoe_sim_shelves.proofs.AgreeLemmas.{both_ata, both_then, exact_kept, pass, told_exact}
+use Rattle.aoe_sim_shelves.proofs.AgreeLemmas.{both_ata, both_then, pass, told_exact}
 use Rattle.aoe_sim_shelves.proofs.WithinLemmas.{verdict_end, InEnd, Ranged}
 use Rattle.aoe_target.proofs.LawLemmas.{both_self}
 use Rattle.aoe_sim_shelves.proofs.Words.{device, Target}
@@ -33,7 +33,8 @@ tells_within : (n : ℕ) (span : Span) (bytes : List ℕ) (x y : Option Sectors)
     → span.at + span.count ≤ n → IfSome x (Tells span bytes) → IfSome y (Tells span bytes)
 tells_within n span bytes x y xy end told = grind (arith, pass)
 
-allows_within : (n : ℕ) (station : Station) (x y : Option Sectors) → BothTell (AgreesWithin n) x y → (h : Header) (args : AtaArgs) (answer : AtaAnswer) (fate : Fate)
+allows_within : (n : ℕ) (station : Station) (x y : Option Sectors) → BothTell (AgreesWithin n) x y
+    → (h : Header) (args : AtaArgs) (answer : AtaAnswer) (fate : Fate)
     → InEnd n answer → AllowsAta station x h args answer fate → AllowsAta station y h args answer fate
 allows_within n station x y xy h args (Give span) (replied effect.None reply) end g = (g.0, g.1, tells_within n span (data_of span reply) x y xy end g.2)
 allows_within n station x y xy h args _ _ end g = g
@@ -66,7 +67,7 @@ module _ (station : Station) (k : State) (f : List ℕ) (fate : Fate) (t u : Tar
   left = option_map sectors_of (any_state state_of u.store).contents
 
   exact : told_exact left ≡ told_exact own
-  exact = exact_kept t.store u.store kind
+  exact = grind (arith, kind)
 
   kept : (k2 : State) → k2.sectors ≡ k.sectors → Holds (device u) (known_in t k2) → HoldsWithin station.sectors (device u) k2
   kept k2 same hold = record {

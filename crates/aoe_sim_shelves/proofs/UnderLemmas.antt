@@ -20,10 +20,11 @@ use Rattle.aoe_target.specs.declared.station.Station.{Station}
 use Rattle.aoe_target.specs.declared.verdict.Verdict.{Verdict}
 use Rattle.aoe_target.specs.declared.verdict.Verdict.TheVariants as verdict
 use Rattle.aoe_target.specs.Device.{State}
-use Rattle.aoe_target.specs.Law.{after, after_ata, after_read, step_of, Allows, AllowsAta}
+use Rattle.aoe_target.specs.Law.{after, after_ata, step_of, Allows, AllowsAta}
 use Rattle.aoe_target.specs.Law as target
 use Rattle.aoe_target.specs.Receive.{calls_for, calls_store, fate_of, is_fault, is_faulty, MovesUnder, TurnsUnder}
-use Rattle.aoe_target.specs.Sectors.{puts, sectors_of, settles, Sectors}
+use Rattle.aoe_target.specs.Reply.{data_of}
+use Rattle.aoe_target.specs.Sectors.{learns, puts, sectors_of, settles, Sectors}
 use Rattle.aoe_target.specs.Verdict.{verdict as verdict_of}
 use Rattle.aoe_history.specs.declared.entry.Fate.{Fate}
 use Rattle.aoe_history.specs.declared.entry.Fate.TheVariants.{Replied}
@@ -123,7 +124,8 @@ module _ (n : ℕ) (cache : Option ℕ) (z w : Slot) (x y : Option Under) where
     known = λ room is known whole. synced room e (f.calls.room ∙ is) shown z.state.sectors w.state.sectors agrees settled (f.done refl);
   }) frees)
     where
-      synced : (room : ℕ) (e : Under) → e.room ≡ room → (shown : Option Contents) (o p : Option Sectors) → BothTell (AgreesWithin n) (option_map sectors_of shown) o
+      synced : (room : ℕ) (e : Under) → e.room ≡ room → (shown : Option Contents) (o p : Option Sectors)
+          → BothTell (AgreesWithin n) (option_map sectors_of shown) o
           → BothTell (λ (k l : Sectors). (s : ℕ) → l.settled s ≡ k.known s) o p → IfSome shown (λ c. (bytes_under e ≡ Some c.bytes) × (e.free ≡ Some e.room))
           → IfSome p (λ l. IsBelow n room w.unsettled l e)
       synced room e is shown o None a same done = tt
@@ -193,37 +195,35 @@ module _ (n : ℕ) (slot : SlotSetup) (f : List ℕ) (z : Slot) where
         under-struck n slot.cache z (after_frame slot f fate z) x y (rw c (struck-call fate z.unsettled s))
         (both-then (CallsUnder failed) _ x y (λ d e r. r.room) calls)
 
-    -- the slot after a reply to an ATA command
-    abbrev replied : AtaAnswer → Effect → ℕ → List ℕ → Slot
-    replied answer e number out = record {
-      state = record z.state { sectors = option_map (after_ata f answer (target.replied e out)) z.state.sectors };
-      unsettled = after_call (Replied e number out) z.unsettled;
-    }
+    module _ (shown : Option Contents) (agrees : BothTell (AgreesWithin n) (option_map sectors_of shown) z.state.sectors) (u : IsUnder n slot.cache z x)
+        (number : ℕ) (out : List ℕ) where
+      -- the slot after a reply
+      abbrev left : Verdict → Effect → Slot
+      left w e = record { state = after slot.station f w (target.replied e out) z.state; unsettled = after_call (Replied e number out) z.unsettled }
 
-    module _ (shown : Option Contents) (agrees : BothTell (AgreesWithin n) (option_map sectors_of shown) z.state.sectors) (u : IsUnder n slot.cache z x) (number : ℕ) (out : List ℕ) where
-      read-then : (answer : AtaAnswer) → ((k : Sectors) (s : ℕ) → (after_read answer out k).settled s ≡ k.settled s) → BothTell (ReadsUnder false) x y
-          → IsUnder n slot.cache (replied answer effect.None number out) y
-      read-then answer same p = under-wrote n slot.cache z (replied answer effect.None number out) x y 0
-          (record { written = omega arith; struck = refl; settled = both-map _ (after_read answer out) z.state.sectors same }) (read-under false x y p) u
-
-      done-then : (h : Header) (args : AtaArgs) (answer : AtaAnswer) (e : Effect) → calls_for answer ≡ true → is_fault e ≡ false
-          → TurnsUnder answer false shown x y → AllowsAta slot.station z.state.sectors h args answer (target.replied e out)
-          → IsUnder n slot.cache (replied answer e number out) y
-      done-then h args (ata.Put span) (effect.Wrote w) called s p a =
-          under-wrote n slot.cache z (replied (ata.Put span) (effect.Wrote w) number out) x y span.count
+      done-then : (args : AtaArgs) (answer : AtaAnswer) (e : Effect) → calls_for answer ≡ true → is_fault e ≡ false → TurnsUnder answer false shown x y
+          → AllowsAta slot.station z.state.sectors (fields f) args answer (target.replied e out)
+          → IsUnder n slot.cache (left (verdict.Ata (record { args = args; answer = answer })) e) y
+      done-then args (ata.Put span) (effect.Wrote w) called s p a =
+          under-wrote n slot.cache z _ x y span.count
           (record { written = rw a.0; struck = refl; settled = both-map _ (puts w (written (drop 24 f) w)) z.state.sectors (λ k s. refl) })
           (both-then (SpendsUnder span.count false) _ x y (λ d e r. record { room = r.calls.room; within = r.within }) p) u
-      done-then h args ata.Sync effect.Synced called s p a =
-          under-synced n slot.cache z (replied ata.Sync effect.Synced number out) x y shown (both-map _ settles z.state.sectors (λ k s. refl)) agrees p u
-      done-then h args (ata.Give span) effect.None called s p a = read-then (ata.Give span) (λ k s. refl) p
-      done-then h args (ata.Verify span) effect.None called s p a = read-then (ata.Verify span) (λ k s. refl) p
-      done-then h args answer e called s p a = absurd (grind arith)
+      done-then args ata.Sync effect.Synced called s p a =
+          under-synced n slot.cache z _ x y shown (both-map _ settles z.state.sectors (λ k s. refl)) agrees p u
+      done-then args (ata.Give span) effect.None called s p a =
+          under-wrote n slot.cache z _ x y 0
+          (record { written = omega arith; struck = refl; settled = both-map _ (learns span (data_of span out)) z.state.sectors (λ k s. refl) })
+          (read-under false x y p) u
+      done-then args (ata.Verify span) effect.None called s p a =
+          under-wrote n slot.cache z _ x y 0
+          (record { written = omega arith; struck = refl; settled = both-map _ (λ k. k) z.state.sectors (λ k s. refl) })
+          (read-under false x y p) u
+      done-then args answer e called s p a = absurd (grind arith)
 
       -- the call was done
       under-done : (w : Verdict) (e : Effect) → calls_store w ≡ true → is_fault e ≡ false → MovesUnder w false shown x y
-          → Allows slot.station z.state f w (target.replied e out)
-          → IsUnder n slot.cache (record { state = after slot.station f w (target.replied e out) z.state; unsettled = after_call (Replied e number out) z.unsettled }) y
-      under-done (verdict.Ata d) e called s p a = done-then (fields f) d.args d.answer e called s p a
+          → Allows slot.station z.state f w (target.replied e out) → IsUnder n slot.cache (left w e) y
+      under-done (verdict.Ata d) e called s p a = done-then d.args d.answer e called s p a
       under-done _ e called s p a = absurd cc
 
       -- what a target did with a frame that made it call its store

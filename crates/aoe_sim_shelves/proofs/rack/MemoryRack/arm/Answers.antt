@@ -7,7 +7,7 @@ use Rattle.aoe_sim_shelves.proofs.rack.MemoryRack.arm.Goals as goal
 
 pub invariant_of-self : goal.invariant_of-self
 invariant_of-self c =
-    let z : IsArming c.args.slot c.args.which c.args.k c.args.mode c.self.inside.shelf c.arm_disk.new.shelf c.self.inside.stops.items _ c.with.result c.id.result = record {
+    let z : IsArming _ _ c.args.k c.args.mode c.self.inside.shelf c.arm_disk.new.shelf c.self.inside.stops.items _ _ _ = record {
       first = c.requires.first;
       change = rw c.arm_of.ensures at c.arm_disk.ensures.arms;
       rest = c.arm_disk.ensures.rest;
@@ -19,7 +19,7 @@ invariant_of-self c =
 
 pub returns-clause-serves : goal.returns-clause-serves
 returns-clause-serves c slots apart serves =
-    let z : IsArming c.args.slot c.args.which c.args.k c.args.mode c.self.inside.shelf c.arm_disk.new.shelf c.self.inside.stops.items _ c.with.result c.id.result = record {
+    let z : IsArming _ _ c.args.k c.args.mode c.self.inside.shelf c.arm_disk.new.shelf c.self.inside.stops.items _ _ _ = record {
       first = c.requires.first;
       change = rw c.arm_of.ensures at c.arm_disk.ensures.arms;
       rest = c.arm_disk.ensures.rest;

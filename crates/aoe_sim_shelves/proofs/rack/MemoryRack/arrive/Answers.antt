@@ -1,14 +1,18 @@
 -- Each exit, by what is known of the slots that the frame came to.
-use Rattle.std.proofs.Common.{◌≡◌, ◌≤◌, length, Err, sym, ap, ◌∙◌, arith, add-one}
+use Rattle.std.proofs.Common.{◌≡◌, ◌≤◌, length, Option, Some, None, Err, sym, ap, ◌∙◌, arith, add-one}
 use Rattle.std.specs.Prelude.{IsErrAnd, OnErr, Result}
 use Rattle.aoe_net.specs.declared.refusal.NetRefusal.TheVariants.{Full}
+use Rattle.aoe_disk.specs.declared.loss.Loss.{Loss}
 use Rattle.aoe_sim_shelves.specs.Arrival.{IsCut}
 use Rattle.aoe_sim_shelves.specs.Rack.{MemoryRack}
-use Rattle.aoe_sim_shelves.proofs.ArrivalLemmas.{crashed-each, crashed-some, goes-of, passes-all, passes-full, passes-on, passes-some}
+use Rattle.aoe_sim_shelves.proofs.ArrivalLemmas.{crashed-each, crashed-some, passes-all, passes-full, passes-on, passes-some}
 use Rattle.aoe_sim_shelves.proofs.rack.MemoryRack.arrive.Goals as goal
 
 on-err : {T E : Type 0} (r : Result T E) (P : Type 0) → P → OnErr r P
 on-err r P p = grind arith
+
+not-some : (o : Option Loss) → ((how : Loss) → o ≡ Some how → ⊥) → o ≡ None
+not-some o whole = grind arith
 
 of-err : {T E : Type 0} (r : Result T E) (e : E) (P : E → Type 0) → IsErrAnd r P → r ≡ Err e → P e
 of-err r e P p is = rw is at p
@@ -41,7 +45,7 @@ pub slots-preserved : goal.slots-preserved
 slots-preserved c = record {
   passes = λ s slots r.
       let p = c.slots.invariant.passes s slots r in
-      passes-on p _ (add-one c.slots.slot) (goes-of c.in_ok-how.field-0 c.in_default.not-Some (c.in_ok-how.ensures.comes s slots p.reached));
+      passes-on p _ (add-one c.slots.slot) (rw (not-some _ c.in_default.not-Some) at (c.in_ok-how.ensures.comes s slots p.reached));
   life = c.arrive_at.ensures.life ∙ c.slots.invariant.life;
   count = c.arrive_at.ensures.count ∙ c.slots.invariant.count;
   major = c.arrive_at.ensures.major ∙ c.slots.invariant.major;
