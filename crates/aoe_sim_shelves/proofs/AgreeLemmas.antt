@@ -48,9 +48,6 @@ told_value span bytes a told s e =
     rw place at (told (s - span.at) (omega arith))
 
 module _ (n : ℕ) (a b : Sectors) (ab : AgreesWithin n a b) where
-  itself : Knows n a b
-  itself = record { known = ab.known; marks = ab.marks }
-
   puts_known : (span : Span) (bytes : List ℕ) → Knows n (puts span bytes a) (puts span bytes b)
   puts_known span bytes = record { known = λ s l. grind (arith, ab.known s l); marks = λ s l. grind (arith, ab.marks s l) }
 
@@ -74,7 +71,7 @@ module _ (n : ℕ) (a b : Sectors) (ab : AgreesWithin n a b) where
     ata_known (replied (effect.Wrote span) reply) answer p = puts_known span (written (drop 24 f) span)
     ata_known (replied (effect.WriteFault span) reply) answer p = spoils_known span
     ata_known (replied effect.Synced reply) answer p = record { known = ab.known; marks = λ s l e. refl }
-    ata_known _ _ p = itself
+    ata_known _ _ p = record { known = ab.known; marks = ab.marks }
 
     ata_agrees : (fate : Fate) (answer : AtaAnswer) → AllowsAta station (Some a) h args answer fate
         → AgreesWithin n (after_ata f answer fate a) (after_ata f answer fate b)

@@ -89,10 +89,8 @@ pub changed-or : {X : Type 0} {i : ℕ} {Change : X → X → Type 0} {xs ys : L
     → ((j ≡ i) × (y ≡ c.after)) ⊎ ((j ≢ i) × (slice_get xs j ≡ Some y))
 changed-or {X} {i} {Change} {xs} {ys} c j y at =
     let here = get-after i Change xs ys c in
-    elim (same-or j i) [ inl e ↦ inl (e, cc) | inr ne ↦ inr (ne, sym (get-other i Change xs ys c j ne) ∙ at) ]
-  where
-    same-or : (a b : ℕ) → (a ≡ b) ⊎ (a ≢ b)
-    same-or a b = grind arith
+    let either : (j ≡ i) ⊎ (j ≢ i) = grind arith in
+    elim either [ inl e ↦ inl (e, cc) | inr ne ↦ inr (ne, sym (get-other i Change xs ys c j ne) ∙ at) ]
 
 module _ {slots : List SlotSetup} {h : List Entry} {i : ℕ} {slot : SlotSetup} {e : Entry} {x y : MemoryRack}
     (apart : AreApart slots) (found : slice_get slots i ≡ Some slot)

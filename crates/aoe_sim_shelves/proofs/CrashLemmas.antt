@@ -8,7 +8,7 @@ use Rattle.std.specs.Option.{option_map}
 use Rattle.std.proofs.lemmas.Grind.{common_steps}
 use Rattle.aoe_cache.specs.Any.{any_state, any_under}
 use Rattle.aoe_cache.specs.Cache.{seen_contents, Cache}
-use Rattle.aoe_cache.specs.Free.{free_of, is_settled, under_of}
+use Rattle.aoe_cache.specs.Free.{free_of, under_of}
 use Rattle.aoe_cache.specs.Held.{laid_over}
 use Rattle.aoe_cache.specs.declared.any.AnyStore.{AnyStore}
 use Rattle.aoe_cache.specs.declared.any.AnyStore.TheVariants.{Direct, Cached}
@@ -57,16 +57,13 @@ module _ {how : Loss} {a b : Memory} (l : Loses how a b) (u : Unsettled) (n : �
 
 -- A STORE WITH A CACHE
 
--- no sector of a settled disk is loose
-settled_marks : (loose : List Bool) (s : ℕ) → list_all not loose ≡ true → is_loose loose s ≡ false
-settled_marks loose s e = grind (arith, common_steps)
+-- no sector of a disk on which so much is free is loose
+firm : (places left : ℕ) (c : Contents) (s : ℕ) → free_of places (Some c) ≡ Some left → is_loose c.loose s ≡ false
+firm places left c s e = grind (arith, common_steps)
 
 all_settled_marks : (n : ℕ) → list_all not (replicate n false) ≡ true
 all_settled_marks zero = refl
 all_settled_marks (suc n) = all_settled_marks n
-
-free_settled : (places left : ℕ) (c : Contents) → free_of places (Some c) ≡ Some left → is_settled c ≡ true
-free_settled places left c e = grind arith
 
 -- a disk just opened has all its room
 pub opened_free : (places : ℕ) (m : Memory) (n : ℕ) → m.loose ≡ replicate n false → free_of places (Some (contents_of m)) ≡ Some places
@@ -88,8 +85,7 @@ module _ {how : Loss} {a b : Cache Memory} (l : LosesCache how a b) (n : ℕ) (s
         (agrees.known s low)
         (λ whole.
         let down = below whole in
-        let firm = settled_marks a.disk.loose s (free_settled (a.room - length a.held) down.left (contents_of a.disk) down.free) in
-        (l.disk.image.kept s firm, down.settled s low)))
+        (l.disk.image.kept s (firm (a.room - length a.held) down.left (contents_of a.disk) s down.free), down.settled s low)))
 
     cached_within : AgreesWithin n (sectors_of (seen_contents b.held (contents_of b.disk))) (left_sectors slot u how k)
     cached_within = rw l.held (record {

@@ -17,7 +17,7 @@ use Rattle.aoe_disk.specs.Memory.{armed_of, contents_of, fresh, state_of, Memory
 use Rattle.aoe_disk.specs.State.{sector, BothTell}
 use Rattle.aoe_disk.specs.declared.loss.Loss.{Loss}
 use Rattle.aoe_disk.proofs.Pieces.{is_loose-replicate}
-use Rattle.aoe_keep.specs.Found.{found, is_open, slot}
+use Rattle.aoe_keep.specs.Found.{found, is_open}
 use Rattle.aoe_keep.specs.Keep.{HasMounted, Kept}
 use Rattle.aoe_lists.specs.Settings.{empty_settings}
 use Rattle.aoe_shelf.specs.Shelf.{has_minor, refusal_of}
@@ -82,19 +82,11 @@ zero_in : (n i : ℕ) → ◌≡◌ {A = ℕ} (get_or (replicate n 0) i 0) 0
 zero_in n i = grind (arith, common_steps)
 
 no_gate : (n k : ℕ) → is_open (replicate n 0) k ≡ false
-no_gate n k = ap (λ m. m == 0xa7) first
-  where
-    first : ◌≡◌ {A = ℕ} (get_or (sector (replicate n 0) (8 * k)) 0 0) 0
-    first =
-        let low : 0 < 512 = omega arith in
-        rw (get_or-take, get_or-drop) (zero_in n (512 * (8 * k) + 0))
+no_gate n k = let low : 0 < 512 = omega arith in rw (get_or-take, get_or-drop, zero_in n (512 * (8 * k) + 0))
 
 -- empty lists stand on it
 pub zeros_found : (n : ℕ) → found (replicate n 0) ≡ Ok empty_settings
-zeros_found n = rw (shut 0, shut 1)
-  where
-    shut : (k : ℕ) → slot (replicate n 0) k ≡ None
-    shut k = rw (no_gate n k)
+zeros_found n = rw (no_gate n 0, no_gate n 1)
 
 pub zeros_sectors : (n : ℕ) (d : Memory) → d ≡ fresh (replicate (512 * n) 0) → length d.loose ≡ n
 zeros_sectors n d is = rw is (simp length-replicate (omega arith))

@@ -1,13 +1,13 @@
 -- The disk of a store with a cache, and what is settled there.
-use Rattle.std.proofs.Common.{◌≡◌, ◌≤◌, ◌+◌, ℕ, Bool, true, false, List, drop, Option, Some, None, refl, sym, ap, ◌∙◌, arith}
+use Rattle.std.proofs.Common.{inl, inr, ◌≡◌, ◌≤◌, ◌+◌, ℕ, Bool, true, false, List, drop, Option, Some, None, refl, sym, ap, ◌∙◌, arith}
 use Rattle.std.proofs.lemmas.Bool.Decides.{nat_tests}
+use Rattle.std.proofs.lemmas.Bool.{cases_Bool}
 use Rattle.std.specs.Prelude.{IfSome}
 use Rattle.std.specs.Option.{option_map}
 use Rattle.aoe_disk.specs.State.{BothTell, Contents}
 use Rattle.aoe_disk.specs.declared.armed.Arm.{Arm}
-use Rattle.aoe_store.specs.Under.{bytes_under, ArmsUnder, CallsUnder, FreesUnder, ReadsUnder, SpendsUnder, StaysUnder, Under}
+use Rattle.aoe_store.specs.Under.{bytes_under, ArmsUnder, CallsUnder, FreesUnder, ReadsUnder, StaysUnder, Under}
 use Rattle.aoe_frame.specs.Header.{fields}
-use Rattle.aoe_frame.specs.declared.header.Header.{Header}
 use Rattle.aoe_ata.specs.Decision.{written}
 use Rattle.aoe_ata.specs.declared.args.AtaArgs.{AtaArgs}
 use Rattle.aoe_ata.specs.declared.decision.AtaAnswer.{AtaAnswer}
@@ -23,8 +23,7 @@ use Rattle.aoe_target.specs.Device.{State}
 use Rattle.aoe_target.specs.Law.{after, after_ata, step_of, Allows, AllowsAta}
 use Rattle.aoe_target.specs.Law as target
 use Rattle.aoe_target.specs.Receive.{calls_for, calls_store, fate_of, is_fault, is_faulty, MovesUnder, TurnsUnder}
-use Rattle.aoe_target.specs.Reply.{data_of}
-use Rattle.aoe_target.specs.Sectors.{learns, puts, sectors_of, settles, Sectors}
+use Rattle.aoe_target.specs.Sectors.{puts, sectors_of, settles, Sectors}
 use Rattle.aoe_target.specs.Verdict.{verdict as verdict_of}
 use Rattle.aoe_history.specs.declared.entry.Fate.{Fate}
 use Rattle.aoe_history.specs.declared.entry.Fate.TheVariants.{Replied}
@@ -37,8 +36,8 @@ use Rattle.aoe_sim_shelves.proofs.StepLemmas.{step_sectors}
 
 -- PLUMBING
 
-both-then : (R S : Under → Under → Type 0) (x y : Option Under) → ((d e : Under) → R d e → S d e) → BothTell R x y → BothTell S x y
-both-then R S x y f p = grind arith
+both-then : (R S : Under → Under → Type 0) (x y : Option Under) → BothTell R x y → ((d e : Under) → R d e → S d e) → BothTell S x y
+both-then R S x y p f = grind arith
 
 some-then : (R : Sectors → Sectors → Type 0) (P Q : Sectors → Type 0) (o p : Option Sectors) → ((k l : Sectors) → R k l → P k → Q l)
     → BothTell R o p → IfSome o P → IfSome p Q
@@ -55,10 +54,6 @@ of-whole : (room : ℕ) (u : Unsettled) → u.written ≤ room → u.struck ≡ 
 of-whole room u le e = grind (arith, nat_tests)
 
 -- THE CALLS
-
-turns-calls : (answer : AtaAnswer) (failed : Bool) (shown : Option Contents) (x y : Option Under) → calls_for answer ≡ true
-    → TurnsUnder answer failed shown x y → BothTell (CallsUnder failed) x y
-turns-calls answer failed shown x y c p = grind arith
 
 pub moves-calls : (v : Verdict) (failed : Bool) (shown : Option Contents) (x y : Option Under) → calls_store v ≡ true
     → MovesUnder v failed shown x y → BothTell (CallsUnder failed) x y
@@ -93,7 +88,7 @@ under-then n z w cache x y keeps u = grind arith
 
 module _ (n : ℕ) (cache : Option ℕ) (z w : Slot) (x y : Option Under) where
   pub under-wrote : (count : ℕ) → Writes count z w → BothTell (Spends count) x y → IsUnder n cache z x → IsUnder n cache w y
-  under-wrote count wrote spends = under-then n z w cache x y (both-then (Spends count) _ x y (λ d e s. record {
+  under-wrote count wrote spends = under-then n z w cache x y (both-then _ _ x y spends (λ d e s. record {
     room = s.room;
     known = λ room is known whole.
         let fits = whole-of room w.unsettled whole in
@@ -106,23 +101,23 @@ module _ (n : ℕ) (cache : Option ℕ) (z w : Slot) (x y : Option Under) where
           enough = omega (arith, b.enough, stays.fewer);
           settled = λ i low. rw (same i, stays.bytes) (b.settled i low);
         }) wrote.settled (known (of-whole room z.unsettled (omega arith) (sym wrote.struck ∙ fits.1)));
-  }) spends)
+  }))
 
   -- a call was struck, and nothing is known of the disk
   pub under-struck : w.unsettled.struck ≡ true → BothTell (λ (d e : Under). e.room ≡ d.room) x y → IsUnder n cache z x → IsUnder n cache w y
-  under-struck struck same = under-then n z w cache x y (both-then (λ (d e : Under). e.room ≡ d.room) _ x y (λ d e room. record {
+  under-struck struck same = under-then n z w cache x y (both-then _ _ x y same (λ d e room. record {
     room = room;
     known = λ room is known whole. absurd (not-both w.unsettled.struck struck (whole-of room w.unsettled whole).1);
-  }) same)
+  }))
 
   -- a sync: what was known is settled
   pub under-synced : (shown : Option Contents) → BothTell (λ (k l : Sectors). (s : ℕ) → l.settled s ≡ k.known s) z.state.sectors w.state.sectors
       → BothTell (AgreesWithin n) (option_map sectors_of shown) z.state.sectors → BothTell (FreesUnder false shown) x y
       → IsUnder n cache z x → IsUnder n cache w y
-  under-synced shown settled agrees frees = under-then n z w cache x y (both-then (FreesUnder false shown) _ x y (λ d e f. record {
+  under-synced shown settled agrees frees = under-then n z w cache x y (both-then _ _ x y frees (λ d e f. record {
     room = f.calls.room;
     known = λ room is known whole. synced room e (f.calls.room ∙ is) shown z.state.sectors w.state.sectors agrees settled (f.done refl);
-  }) frees)
+  }))
     where
       synced : (room : ℕ) (e : Under) → e.room ≡ room → (shown : Option Contents) (o p : Option Sectors)
           → BothTell (AgreesWithin n) (option_map sectors_of shown) o
@@ -148,10 +143,10 @@ spends-none d e room bytes free = record {
 }
 
 pub armed-under : (arm : Arm) (x y : Option Under) → BothTell (ArmsUnder arm) x y → BothTell (Spends 0) x y
-armed-under arm x y p = both-then (ArmsUnder arm) _ x y (λ d e a. spends-none d e a.room (rw a.arms.contents) a.free) p
+armed-under arm x y p = both-then _ _ x y p (λ d e a. spends-none d e a.room (rw a.arms.contents) a.free)
 
 read-under : (failed : Bool) (x y : Option Under) → BothTell (ReadsUnder failed) x y → BothTell (Spends 0) x y
-read-under failed x y p = both-then (ReadsUnder failed) _ x y (λ d e r. spends-none d e r.calls.room (rw r.same) r.free) p
+read-under failed x y p = both-then _ _ x y p (λ d e r. spends-none d e r.calls.room (rw r.same) r.free)
 
 same-under : (x : Option Under) → BothTell (Spends 0) x x
 same-under x = grind (arith, spends-none)
@@ -171,10 +166,6 @@ module _ (n : ℕ) (slot : SlotSetup) (f : List ℕ) (z : Slot) where
   v = verdict_of slot.station z.state.lists f
 
   -- a frame that isn't a call of the store
-  idle-ata : (h : Header) (args : AtaArgs) (answer : AtaAnswer) (g : target.Fate) → calls_for answer ≡ false
-      → AllowsAta slot.station z.state.sectors h args answer g → SameSettled z.state.sectors (option_map (after_ata f answer g) z.state.sectors)
-  idle-ata h args answer g c a = grind arith
-
   idle-sectors : (w : Verdict) (g : target.Fate) → calls_store w ≡ false → Allows slot.station z.state f w g
       → SameSettled z.state.sectors (after slot.station f w g z.state).sectors
   idle-sectors w g c a = grind (arith, step_sectors)
@@ -193,7 +184,7 @@ module _ (n : ℕ) (slot : SlotSetup) (f : List ℕ) (z : Slot) where
         → IsUnder n slot.cache (after_frame slot f fate z) y
     under-failed fate failed s calls =
         under-struck n slot.cache z (after_frame slot f fate z) x y (rw c (struck-call fate z.unsettled s))
-        (both-then (CallsUnder failed) _ x y (λ d e r. r.room) calls)
+        (both-then _ _ x y calls (λ d e r. r.room))
 
     module _ (shown : Option Contents) (agrees : BothTell (AgreesWithin n) (option_map sectors_of shown) z.state.sectors) (u : IsUnder n slot.cache z x)
         (number : ℕ) (out : List ℕ) where
@@ -207,17 +198,11 @@ module _ (n : ℕ) (slot : SlotSetup) (f : List ℕ) (z : Slot) where
       done-then args (ata.Put span) (effect.Wrote w) called s p a =
           under-wrote n slot.cache z _ x y span.count
           (record { written = rw a.0; struck = refl; settled = both-map _ (puts w (written (drop 24 f) w)) z.state.sectors (λ k s. refl) })
-          (both-then (SpendsUnder span.count false) _ x y (λ d e r. record { room = r.calls.room; within = r.within }) p) u
+          (both-then _ _ x y p (λ d e r. record { room = r.calls.room; within = r.within })) u
       done-then args ata.Sync effect.Synced called s p a =
           under-synced n slot.cache z _ x y shown (both-map _ settles z.state.sectors (λ k s. refl)) agrees p u
-      done-then args (ata.Give span) effect.None called s p a =
-          under-wrote n slot.cache z _ x y 0
-          (record { written = omega arith; struck = refl; settled = both-map _ (learns span (data_of span out)) z.state.sectors (λ k s. refl) })
-          (read-under false x y p) u
-      done-then args (ata.Verify span) effect.None called s p a =
-          under-wrote n slot.cache z _ x y 0
-          (record { written = omega arith; struck = refl; settled = both-map _ (λ k. k) z.state.sectors (λ k s. refl) })
-          (read-under false x y p) u
+      done-then args answer effect.None called s p a =
+          under-wrote n slot.cache z _ x y 0 (record { written = omega arith; struck = refl; settled = grind arith }) (read-under false x y (grind arith)) u
       done-then args answer e called s p a = absurd (grind arith)
 
       -- the call was done
@@ -231,8 +216,7 @@ module _ (n : ℕ) (slot : SlotSetup) (f : List ℕ) (z : Slot) where
           → Allows slot.station z.state f v (fate_of w out) → IsUnder n slot.cache (after_frame slot f (noted None w number out) z) y
       under-noted heard.Ignored struck p a = absurd (must-reply slot.station z.state f v target.ignored c a)
       under-noted heard.Silent struck p a = absurd (must-reply slot.station z.state f v target.silent c a)
-      under-noted (heard.Replied e) struck p a = go (is_fault e) refl
-        where
-          go : (b : Bool) → is_fault e ≡ b → IsUnder n slot.cache (after_frame slot f (Replied e number out) z) y
-          go true fault = under-failed (Replied e number out) (is_fault e) (struck ∙ fault) (moves-calls v (is_fault e) shown x y c p) u
-          go false fault = rw c (under-done v e c fault (rw fault at p) a)
+      under-noted (heard.Replied e) struck p a = elim (cases_Bool (is_fault e)) [
+        | inl fault ↦ under-failed (Replied e number out) (is_fault e) (struck ∙ fault) (moves-calls v (is_fault e) shown x y c p) u
+        | inr fault ↦ rw c (under-done v e c fault (rw fault at p) a)
+      ]
