@@ -1,12 +1,11 @@
 -- What is known of sectors of which not all is known, and what a frame leaves of it.
-use Rattle.std.proofs.Common.{◌≡◌, ◌<◌, ◌≤◌, ◌+◌, ◌-◌, ℕ, Bool, true, false, List, drop, Option, Some, None, refl, sym, ◌∙◌, arith}
+use Rattle.std.proofs.Common.{◌≡◌, ◌<◌, ◌≤◌, ◌+◌, ◌-◌, ℕ, Bool, true, false, List, Option, Some, None, refl, sym, ◌∙◌, arith}
 use Rattle.std.specs.Prelude.{IfSome}
 use Rattle.std.specs.Option.{option_map}
 use Rattle.std.proofs.lemmas.Bool.Decides.{nat_tests}
 use Rattle.aoe_base.specs.declared.sectors.Span.{Span}
 use Rattle.aoe_disk.specs.State.{BothTell}
 use Rattle.aoe_frame.specs.declared.header.Header.{Header}
-use Rattle.aoe_ata.specs.Decision.{written}
 use Rattle.aoe_ata.specs.declared.args.AtaArgs.{AtaArgs}
 use Rattle.aoe_ata.specs.declared.decision.AtaAnswer.{AtaAnswer}
 use Rattle.aoe_ata.specs.declared.decision.AtaAnswer.TheVariants.{Give, Put}
@@ -14,7 +13,7 @@ use Rattle.aoe_target.specs.declared.heard.Effect.TheVariants as effect
 use Rattle.aoe_target.specs.declared.station.Station.{Station}
 use Rattle.aoe_target.specs.Law.{after_ata, cut, replied, AllowsAta, Fate}
 use Rattle.aoe_target.specs.Reply.{data_of}
-use Rattle.aoe_target.specs.Sectors.{in_span, learns, puts, spoils, value_in, Agrees, Sectors, Tells}
+use Rattle.aoe_target.specs.Sectors.{in_span, spoils, value_in, Agrees, Sectors, Tells}
 use Rattle.aoe_target.proofs.SectorLemmas.{known_same}
 use Rattle.aoe_sim_shelves.specs.Rack.{AgreesWithin, SameWithin}
 use Rattle.aoe_sim_shelves.proofs.WithinLemmas.{ata_exact, ata_within, same_then}
@@ -48,27 +47,19 @@ told_value span bytes a told s e =
     rw place at (told (s - span.at) (omega arith))
 
 module _ (n : ℕ) (a b : Sectors) (ab : AgreesWithin n a b) where
-  puts_known : (span : Span) (bytes : List ℕ) → Knows n (puts span bytes a) (puts span bytes b)
-  puts_known span bytes = record { known = λ s l. grind (arith, ab.known s l); marks = λ s l. grind (arith, ab.marks s l) }
-
   spoils_known : (span : Span) → Knows n (spoils span a) (spoils span b)
   spoils_known span = record {
     known = λ s l. let same : b.exact ≡ true → a.known s ≡ b.known s = λ e. (ab.same e).known s l in grind (arith, ab.known s l, ab.exact);
     marks = λ s l. grind (arith, ab.marks s l);
   }
 
-  learns_known : (span : Span) (bytes : List ℕ) → Tells span bytes a → Knows n (learns span bytes a) (learns span bytes b)
-  learns_known span bytes told = record {
-    known = λ s l. grind (arith, ab.known s l, told_value span bytes a told s);
-    marks = ab.marks;
-  }
-
   module _ (station : Station) (h : Header) (args : AtaArgs) (f : List ℕ) where
     ata_known : (fate : Fate) (answer : AtaAnswer) → AllowsAta station (Some a) h args answer fate
         → Knows n (after_ata f answer fate a) (after_ata f answer fate b)
     ata_known cut (Put span) p = spoils_known span
-    ata_known (replied effect.None reply) (Give span) p = learns_known span (data_of span reply) p.2
-    ata_known (replied (effect.Wrote span) reply) answer p = puts_known span (written (drop 24 f) span)
+    ata_known (replied effect.None reply) (Give span) p =
+        record { known = λ s l. grind (arith, ab.known s l, told_value span (data_of span reply) a p.2 s); marks = ab.marks }
+    ata_known (replied (effect.Wrote span) reply) answer p = record { known = λ s l. grind (arith, ab.known s l); marks = λ s l. grind (arith, ab.marks s l) }
     ata_known (replied (effect.WriteFault span) reply) answer p = spoils_known span
     ata_known (replied effect.Synced reply) answer p = record { known = ab.known; marks = λ s l e. refl }
     ata_known _ _ p = record { known = ab.known; marks = ab.marks }

@@ -6,9 +6,8 @@ use Rattle.std.proofs.lemmas.Option.{gets, slice_get-get_or, slice_get_within}
 use Rattle.std.specs.Prelude.{slice_get, IsSomeAnd}
 use Rattle.aoe_base.specs.declared.address.TargetId.{TargetId}
 use Rattle.aoe_disk.specs.declared.loss.Loss.{Loss}
-use Rattle.aoe_net.specs.Network.{fresh_bytes, numbered, IsFull}
+use Rattle.aoe_net.specs.Network.{fresh_bytes, numbered}
 use Rattle.aoe_shelf.specs.Slot.{ChangesAt}
-use Rattle.aoe_target.specs.declared.heard.Effect.{Effect}
 use Rattle.aoe_target.specs.declared.heard.Heard.{Heard}
 use Rattle.aoe_target.specs.declared.heard.Heard.TheVariants as heard
 use Rattle.aoe_history.specs.declared.entry.Entry.{Entry}
@@ -129,19 +128,21 @@ module _ {i : ℕ} {f : List ℕ} {w : Heard} {out : List ℕ} {x y : MemoryRack
     comes None is = goes-on (sym is)
     comes (Some how) is = is-cut how (sym is)
 
-    meets-full : (e : Effect) → stop_at armed w ≡ None → w ≡ heard.Replied e → IsFull (network s.life h) out
+    -- or its reply is the next frame, for which there is no room
+    no-room : (life : ℕ) (o : Option Loss) (v : Heard) → o ≡ stop_at armed w → w ≡ v → IsReplyFull o v (network life h) out
         → MeetsFull s (ArriveAtSome number f slots (drop i slots) h) h
-    meets-full e none is full =
+    no-room life None (heard.Replied e) is same full =
         let fate : Fate = Replied e (next_number h) out in
         record {
           entry = Arrived slot.station.id number fate;
           called_for = rw (drop-at slots i slot found)
               (inr (inl (fate, noted-uncut (heard.Replied e) (next_number h) out, some-here number f slots (drop (suc i) slots) (came fate))));
-          may_come = rw is at (goes-on none).reached.lawful.0;
+          may_come = rw same at (goes-on (sym is)).reached.lawful.0;
           bytes = out;
           brings = refl;
           full = full;
         }
+    no-room life _ _ is same full = absurd full
 
   -- the frame came to the slot
   pub turn-comes : (m : List Entry) → m ≡ Arrived dev number (noted stop w (next_number h) out) ∷ h → ComesToSlot s slots i number f stop h m y
@@ -150,14 +151,8 @@ module _ {i : ℕ} {f : List ℕ} {w : Heard} {out : List ℕ} {x y : MemoryRack
       let name : dev ≡ slot.0.station.id = rw (z.change.found, (served slot.0 slot.1).station) at z.name in
       rw (e, name) (comes slot.0 slot.1 stop z.is)
 
-  -- or its reply is the next frame, for which there is no room
   pub turn-full : (life : ℕ) → IsReplyFull stop w (network life h) out → MeetsFull s (ArriveAtSome number f slots (drop i slots) h) h
-  turn-full life full = go stop w z.is refl full
-    where
-      go : (o : Option Loss) (v : Heard) → o ≡ stop_at armed w → w ≡ v → IsReplyFull o v (network life h) out
-          → MeetsFull s (ArriveAtSome number f slots (drop i slots) h) h
-      go None (heard.Replied e) is same full = let slot = slot-here in meets-full slot.0 slot.1 e (sym is) same full
-      go _ _ is same full = absurd full
+  turn-full life full = let slot = slot-here in no-room slot.0 slot.1 life stop w z.is refl full
 
 -- ONE SLOT AFTER THE OTHER
 

@@ -1,5 +1,5 @@
 -- A target that lost its power and was mounted again, and what is known of it.
-use Rattle.std.proofs.Common.{◌≡◌, ◌<◌, ◌-◌, ◌/◌, inl, ℕ, zero, suc, Bool, true, false, not, if◌then◌else◌, List, length, replicate, Option, Some, None, refl, sym, ap, subst, ◌∙◌, arith}
+use Rattle.std.proofs.Common.{◌≡◌, ◌<◌, ◌-◌, ◌/◌, inl, ℕ, zero, suc, Bool, true, false, not, if◌then◌else◌, List, length, replicate, Option, Some, None, refl, sym, ap, ◌∙◌, arith}
 use Rattle.std.specs.Bool.{OnTrue}
 use Rattle.std.specs.List.{list_all}
 use Rattle.std.specs.Prelude.{is_none, IfSome}
@@ -24,6 +24,7 @@ use Rattle.aoe_lists.specs.Settings.{Settings}
 use Rattle.aoe_target.specs.Device.{MayStand, State}
 use Rattle.aoe_target.specs.Device as target
 use Rattle.aoe_target.specs.Sectors.{sectors_of, Sectors}
+use Rattle.aoe_target.specs.declared.station.Station.{Station}
 use Rattle.aoe_target.proofs.DeviceLemmas.{first_state}
 use Rattle.aoe_history.specs.Setup.{SlotSetup}
 use Rattle.aoe_history.specs.Slots.{after_crash, all_settled, is_cached_whole, left_known, left_sectors, Slot, Unsettled}
@@ -38,17 +39,20 @@ opened_marks {how} {a} {b} l s = rw l.rest (is_loose-replicate (length b.bytes /
 
 -- A STORE WITHOUT A CACHE
 
-module _ {how : Loss} {a b : Memory} (l : Loses how a b) (u : Unsettled) (n : ℕ) (slot : SlotSetup) (direct : slot.cache ≡ None) where
-  left_value : (k : Sectors) → SameWithin n (sectors_of (contents_of a)) k → (s : ℕ) → s < n → Some (sector b.bytes s) ≡ left_known slot u how k s
+module _ {how : Loss} {a b : Memory} (l : Loses how a b) (u : Unsettled) (n : ℕ) (station : Station) where
+  abbrev direct : SlotSetup
+  direct = record { station = station; cache = None }
+
+  left_value : (k : Sectors) → SameWithin n (sectors_of (contents_of a)) k → (s : ℕ) → s < n → Some (sector b.bytes s) ≡ left_known direct u how k s
   left_value k same s low =
-      rw (direct, ← same.marks s low, ← same.known s low, ← same.settled s low) (grind (arith, l.image.kept s, l.image.lost s))
+      rw (← same.marks s low, ← same.known s low, ← same.settled s low) (grind (arith, l.image.kept s, l.image.lost s))
 
   both_left : (y : Option Sectors) → BothTell (AgreesWithin n) (Some (sectors_of (contents_of a))) y
-      → BothTell (AgreesWithin n) (Some (sectors_of (contents_of b))) (option_map (left_sectors slot u how) y)
+      → BothTell (AgreesWithin n) (Some (sectors_of (contents_of b))) (option_map (left_sectors direct u how) y)
   both_left None agrees = absurd agrees
   both_left (Some k) agrees =
       let value = left_value k (agrees.same (sym agrees.exact)) in
-      same_agrees n (sectors_of (contents_of b)) (left_sectors slot u how k) (record {
+      same_agrees n (sectors_of (contents_of b)) (left_sectors direct u how k) (record {
         known = value;
         marks = λ s low. opened_marks l s;
         settled = λ s low. rw l.rest (value s low);
@@ -75,19 +79,22 @@ cached_sector : (new old shown : List ℕ) (marked whole : Bool) (known settled 
     → IfSome (if marked then (if whole then settled else None) else known) (λ v. Some new ≡ Some v)
 cached_sector new old shown marked whole known settled solid knows settles = grind arith
 
-module _ {how : Loss} {a b : Cache Memory} (l : LosesCache how a b) (n : ℕ) (slot : SlotSetup) (room : ℕ) (is : slot.cache ≡ Some room) (u : Unsettled) where
+module _ {how : Loss} {a b : Cache Memory} (l : LosesCache how a b) (u : Unsettled) (n : ℕ) (station : Station) (room : ℕ) where
+  abbrev cached : SlotSetup
+  cached = record { station = station; cache = Some room }
+
   module _ (k : Sectors) (agrees : AgreesWithin n (sectors_of (seen_contents a.held (contents_of a.disk))) k)
       (below : is_cached_whole room u ≡ true → IsBelow n room u k (under_of state_of a)) where
-    cached_value : (s : ℕ) → s < n → IfSome (left_known slot u how k s) (λ v. Some (sector b.disk.bytes s) ≡ Some v)
+    cached_value : (s : ℕ) → s < n → IfSome (left_known cached u how k s) (λ v. Some (sector b.disk.bytes s) ≡ Some v)
     cached_value s low =
-        rw is (cached_sector _ (sector a.disk.bytes s) (sector (laid_over a.disk.bytes a.held) s) (k.marks s) (is_cached_whole room u) (k.known s) (k.settled s)
+        cached_sector _ (sector a.disk.bytes s) (sector (laid_over a.disk.bytes a.held) s) (k.marks s) (is_cached_whole room u) (k.known s) (k.settled s)
         (λ solid. let kept = l.kept.kept s (agrees.marks s low solid) in (l.disk.image.kept s kept.0, kept.1))
         (agrees.known s low)
         (λ whole.
         let down = below whole in
-        (l.disk.image.kept s (firm (a.room - length a.held) down.left (contents_of a.disk) s down.free), down.settled s low)))
+        (l.disk.image.kept s (firm (a.room - length a.held) down.left (contents_of a.disk) s down.free), down.settled s low))
 
-    cached_within : AgreesWithin n (sectors_of (seen_contents b.held (contents_of b.disk))) (left_sectors slot u how k)
+    cached_within : AgreesWithin n (sectors_of (seen_contents b.held (contents_of b.disk))) (left_sectors cached u how k)
     cached_within = rw l.held (record {
       known = cached_value;
       marks = λ s low e. opened_marks l.disk s;
@@ -95,7 +102,7 @@ module _ {how : Loss} {a b : Cache Memory} (l : LosesCache how a b) (n : ℕ) (s
       exact = agrees.exact;
     })
 
-    cached_below : b.room ≡ room → IsBelow n room all_settled (left_sectors slot u how k) (under_of state_of b)
+    cached_below : b.room ≡ room → IsBelow n room all_settled (left_sectors cached u how k) (under_of state_of b)
     cached_below same = record {
       left = room;
       free =
@@ -107,8 +114,8 @@ module _ {how : Loss} {a b : Cache Memory} (l : LosesCache how a b) (n : ℕ) (s
 
   cached_left : (y : Option Sectors) → BothTell (AgreesWithin n) (Some (sectors_of (seen_contents a.held (contents_of a.disk)))) y
       → OnTrue (is_cached_whole room u) (IfSome y (λ k. IsBelow n room u k (under_of state_of a))) → b.room ≡ room
-      → BothTell (AgreesWithin n) (Some (sectors_of (seen_contents b.held (contents_of b.disk)))) (option_map (left_sectors slot u how) y)
-      × IfSome (option_map (left_sectors slot u how) y) (λ k. IsBelow n room all_settled k (under_of state_of b))
+      → BothTell (AgreesWithin n) (Some (sectors_of (seen_contents b.held (contents_of b.disk)))) (option_map (left_sectors cached u how) y)
+      × IfSome (option_map (left_sectors cached u how) y) (λ k. IsBelow n room all_settled k (under_of state_of b))
   cached_left None agrees below same = absurd agrees
   cached_left (Some k) agrees below same =
       (cached_within k agrees (λ w. OnTrue_at w below), cached_below k agrees (λ w. OnTrue_at w below) same)
@@ -121,23 +128,16 @@ pub record LeavesStore (n : ℕ) (slot : SlotSetup) (how : Loss) (z : Slot) (b :
       (option_map (left_sectors slot z.unsettled how) z.state.sectors)
   pub under : (lists : Settings) → IsUnder n slot.cache (after_crash slot lists how z) (any_under state_of b)
 
-left_store : (how : Loss) (a b : AnyStore Memory) → LosesStore how a b → (n : ℕ) (slot : SlotSetup) (z : Slot) (cache : Option ℕ) → slot.cache ≡ cache
+left_store : (how : Loss) (a b : AnyStore Memory) → LosesStore how a b → (n : ℕ) (station : Station) (z : Slot) (cache : Option ℕ)
     → IsUnder n cache z (any_under state_of a) → BothTell (AgreesWithin n) (option_map sectors_of (any_state state_of a).contents) z.state.sectors
-    → LeavesStore n slot how z b
-left_store how (Direct a) (Direct b) l n slot z None is under agrees = record {
-  sectors = both_left l z.unsettled n slot is z.state.sectors agrees;
-  under = λ lists. rw is tt;
-}
-left_store how (Cached a) (Cached b) l n slot z (Some room) is under agrees =
+    → LeavesStore n (record { station = station; cache = cache }) how z b
+left_store how (Direct a) (Direct b) l n station z None under agrees =
+    record { sectors = both_left l z.unsettled n station z.state.sectors agrees; under = λ lists. tt }
+left_store how (Cached a) (Cached b) l n station z (Some room) under agrees =
     let same : b.room ≡ room = l.room ∙ under.0 in
-    let left = cached_left l n slot room is z.unsettled z.state.sectors agrees under.1 same in
-    record {
-      sectors = left.0;
-      under = λ lists.
-          subst (λ (o : Option ℕ). IsUnder n o (after_crash slot lists how z) (Some (under_of state_of b))) (sym is)
-          (same, OnTrue_from _ _ (λ whole. left.1));
-    }
-left_store how _ _ l n slot z cache is under agrees = absurd (grind arith)
+    let left = cached_left l z.unsettled n station room z.state.sectors agrees under.1 same in
+    record { sectors = left.0; under = λ lists. (same, OnTrue_from _ _ (λ whole. left.1)) }
+left_store how _ _ l n station z cache under agrees = absurd (grind arith)
 
 pub lost_sectors : (how : Loss) (a b : AnyStore Memory) → LosesStore how a b → (any_state state_of b).sectors ≡ (any_state state_of a).sectors
 lost_sectors how a b l = grind arith
@@ -169,7 +169,7 @@ module _ {how : Loss} {a b : Target} (r : Restarts how a b) where
   module _ (n : ℕ) (slot : SlotSetup) (before : Slot) (under : IsUnder n slot.cache before (any_under state_of a.store))
       (h : HoldsWithin n (device a) before.state) where
     left : LeavesStore n slot how before b.store
-    left = left_store how a.store b.store r.store n slot before slot.cache refl under h.sectors
+    left = left_store how a.store b.store r.store n slot.station before slot.cache under h.sectors
 
     -- what is known of it after the crash
     pub restarted_holds : HoldsWithin n (device b) (after_crash slot b.keep.lists how before).state

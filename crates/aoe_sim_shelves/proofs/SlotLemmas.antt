@@ -1,5 +1,5 @@
 -- A frame that comes to a slot: its fate is lawful, and the disks of the slot are afterwards what the history says.
-use Rattle.std.proofs.Common.{◌≡◌, Bool, true, false, if◌then◌else◌, ℕ, List, ◌∷◌, Option, Some, None, inl, inr, is_none, is_some, refl, sym, ap, ◌∙◌, arith}
+use Rattle.std.proofs.Common.{◌||◌, ◌≡◌, Bool, true, false, if◌then◌else◌, ℕ, List, ◌∷◌, Option, Some, None, inl, inr, is_none, is_some, refl, sym, ap, ◌∙◌, arith}
 use Rattle.std.proofs.lemmas.Bool.Decides.{nat_tests}
 use Rattle.std.proofs.lemmas.Bool.{cases_Bool, OnTrue_at, OnTrue_from}
 use Rattle.std.specs.Option.{option_map}
@@ -32,7 +32,7 @@ use Rattle.aoe_sim_shelves.specs.declared.rack.Stops.{Stops}
 use Rattle.aoe_sim_shelves.specs.Arrival.{noted, stop_at}
 use Rattle.aoe_sim_shelves.specs.Rack.{stop_in, HoldsWithin, IsDue, IsServing, IsStanding, IsStoreDue, IsUnder}
 use Rattle.aoe_sim_shelves.proofs.DueLemmas.{due-store-then, due-then, struck-in-turn, struck-store, Strikes}
-use Rattle.aoe_sim_shelves.proofs.FateLemmas.{called-kept, edited-done, faulty-calls, loss-of, noted-fate, noted-faulty, noted-strike, noted-unkept, one-disk, stop-of, unkept-calls, IsLoss, Runs}
+use Rattle.aoe_sim_shelves.proofs.FateLemmas.{called-kept, edited-done, faulty-calls, loss-of, noted-fate, noted-faulty, noted-strike, noted-unkept, one-disk, stop-of, unkept-calls, Runs}
 use Rattle.aoe_sim_shelves.proofs.StepLemmas.{held, known_in, stepped, StepsWithin}
 use Rattle.aoe_sim_shelves.proofs.UnderLemmas.{moves-calls, under-failed, under-idle, under-noted}
 use Rattle.aoe_sim_shelves.proofs.Words.{device, Target}
@@ -198,40 +198,35 @@ module _ {slot : SlotSetup} {h : List Entry} {f : List ℕ} {x : Heard} {out : L
       | inr c ↦ rw (z.idle c) (under-idle slot.station.sectors slot f (slot_after slot h) Cut _ c allowed k.under)
     ]
 
-    standing : IsLoss slot.station (state_after slot h) f v x out z.allowed → IsStanding slot n u
-    standing loss = record {
-      station = z.station;
-      under = rw flow.known (cut-under loss.allowed);
-      holds = rw (flow.known, state_after) (rw loss.left at z.holds);
-    }
+    broken : (is_faulty x || is_unkept x) ≡ true → KeepsArming slot h f Cut → IsStop slot h f how → Breaks slot h f how n u
+    broken failed arming stop =
+        let loss = loss-of slot.station (state_after slot h) f v x out z.allowed failed in
+        record {
+          law = loss.allowed;
+          arming = arming;
+          stop = stop;
+          standing = record {
+            station = z.station;
+            under = rw flow.known (cut-under loss.allowed);
+            holds = rw (flow.known, state_after) (rw loss.left at z.holds);
+          };
+        }
 
     store-breaks : is_faulty x ≡ true → stops.store ≡ Some how → Breaks slot h f how n u
     store-breaks failed stop =
         let called : calls Store slot h f ≡ true = faulty-calls slot.station (state_after slot h) f v x out z.allowed failed in
-        let loss = loss-of slot.station (state_after slot h) f v x out z.allowed (rw failed) in
-        record {
-          law = loss.allowed;
-          arming = record {
-            store = OnTrue_from _ _ (λ c. store-struck Cut c (sym failed) (λ e y mode. ap is_some (mode ∙ sym k.store_stop ∙ stop)));
-            keep = OnTrue_from _ _ (λ c. absurd (not-both _ c (one-disk slot.station (state_after slot h) f v called)));
-          };
-          stop = record { which = Store; called = called; mode = sym k.store_stop ∙ stop };
-          standing = standing loss;
-        }
+        broken (rw failed) (record {
+          store = OnTrue_from _ _ (λ c. store-struck Cut c (sym failed) (λ e y mode. ap is_some (mode ∙ sym k.store_stop ∙ stop)));
+          keep = OnTrue_from _ _ (λ c. absurd (not-both _ c (one-disk slot.station (state_after slot h) f v called)));
+        }) (record { which = Store; called = called; mode = sym k.store_stop ∙ stop })
 
     keep-breaks : is_unkept x ≡ true → stops.keep ≡ Some how → Breaks slot h f how n u
     keep-breaks failed stop =
         let called : calls Keep slot h f ≡ true = unkept-calls slot.station (state_after slot h) f v x out z.allowed failed in
-        let loss = loss-of slot.station (state_after slot h) f v x out z.allowed (grind arith) in
-        record {
-          law = loss.allowed;
-          arming = record {
-            store = OnTrue_from _ _ (λ c. absurd (not-both _ called (one-disk slot.station (state_after slot h) f v c)));
-            keep = OnTrue_from _ _ (λ c. keep-struck Cut c (sym failed) (λ e y mode. ap is_some (mode ∙ sym k.keep_stop ∙ stop)));
-          };
-          stop = record { which = Keep; called = called; mode = sym k.keep_stop ∙ stop };
-          standing = standing loss;
-        }
+        broken (grind arith) (record {
+          store = OnTrue_from _ _ (λ c. absurd (not-both _ called (one-disk slot.station (state_after slot h) f v c)));
+          keep = OnTrue_from _ _ (λ c. keep-struck Cut c (sym failed) (λ e y mode. ap is_some (mode ∙ sym k.keep_stop ∙ stop)));
+        }) (record { which = Keep; called = called; mode = sym k.keep_stop ∙ stop })
 
     pub breaks : stop_at stops x ≡ Some how → Breaks slot h f how n u
     breaks is = elim (stop-of stops how x is) [ inl s ↦ store-breaks s.0 s.1 | inr s ↦ keep-breaks s.0 s.1 ]

@@ -214,9 +214,8 @@ module _ (n : ℕ) (slot : SlotSetup) (f : List ℕ) (z : Slot) where
       -- what a target did with a frame that made it call its store
       pub under-noted : (w : Heard) → is_struck (noted None w number out) ≡ is_faulty w → MovesUnder v (is_faulty w) shown x y
           → Allows slot.station z.state f v (fate_of w out) → IsUnder n slot.cache (after_frame slot f (noted None w number out) z) y
-      under-noted heard.Ignored struck p a = absurd (must-reply slot.station z.state f v target.ignored c a)
-      under-noted heard.Silent struck p a = absurd (must-reply slot.station z.state f v target.silent c a)
       under-noted (heard.Replied e) struck p a = elim (cases_Bool (is_fault e)) [
         | inl fault ↦ under-failed (Replied e number out) (is_fault e) (struck ∙ fault) (moves-calls v (is_fault e) shown x y c p) u
         | inr fault ↦ rw c (under-done v e c fault (rw fault at p) a)
       ]
+      under-noted w struck p a = absurd (must-reply slot.station z.state f v (fate_of w out) c a)

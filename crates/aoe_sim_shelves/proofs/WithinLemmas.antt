@@ -1,8 +1,8 @@
 -- What is known of a device of so many sectors, and what a frame leaves of it.
-use Rattle.std.proofs.Common.{◌≡◌, ◌≤◌, ◌+◌, ℕ, Bool, true, false, if◌then◌else◌, List, drop, refl, ◌∙◌, arith}
+use Rattle.std.proofs.Common.{◌≡◌, ◌≤◌, ◌+◌, ℕ, Bool, true, false, if◌then◌else◌, List, refl, ◌∙◌, arith}
 use Rattle.std.proofs.lemmas.Bool.Decides.{nat_tests}
 use Rattle.aoe_base.specs.declared.sectors.Span.{Span}
-use Rattle.aoe_ata.specs.Decision.{answer_of, decision, written}
+use Rattle.aoe_ata.specs.Decision.{answer_of, decision}
 use Rattle.aoe_ata.specs.declared.command.AtaCommand.{AtaCommand}
 use Rattle.aoe_ata.specs.declared.decision.AtaAnswer.{AtaAnswer}
 use Rattle.aoe_ata.specs.declared.decision.AtaAnswer.TheVariants.{Give, Put}
@@ -12,8 +12,7 @@ use Rattle.aoe_target.specs.declared.station.Station.{Station}
 use Rattle.aoe_target.specs.declared.verdict.Verdict.{Verdict}
 use Rattle.aoe_target.specs.declared.verdict.Verdict.TheVariants as verdict
 use Rattle.aoe_target.specs.Law.{after_ata, cut, replied, Fate}
-use Rattle.aoe_target.specs.Reply.{data_of}
-use Rattle.aoe_target.specs.Sectors.{learns, puts, spoils, Same, Sectors}
+use Rattle.aoe_target.specs.Sectors.{spoils, Same, Sectors}
 use Rattle.aoe_target.specs.Verdict.{ata_verdict, decided, is_heard, judged}
 use Rattle.aoe_target.specs.Verdict as judge
 use Rattle.aoe_sim_shelves.specs.Rack.{SameWithin}
@@ -29,15 +28,7 @@ same_then n a b c ab bc = record {
 }
 
 module _ (n : ℕ) (a b : Sectors) (ab : SameWithin n a b) where
-  puts_within : (span : Span) (bytes : List ℕ) → SameWithin n (puts span bytes a) (puts span bytes b)
-  puts_within span bytes = record {
-    known = λ s l. rw (ab.known s l);
-    marks = λ s l. rw (ab.marks s l);
-    settled = ab.settled;
-    exact = ab.exact;
-  }
-
-  pub spoils_within : (span : Span) → SameWithin n (spoils span a) (spoils span b)
+  spoils_within : (span : Span) → SameWithin n (spoils span a) (spoils span b)
   spoils_within span = record {
     known = λ s l. rw (ab.exact, ab.known s l);
     marks = λ s l. rw (ab.marks s l);
@@ -45,20 +36,15 @@ module _ (n : ℕ) (a b : Sectors) (ab : SameWithin n a b) where
     exact = ab.exact;
   }
 
-  learns_within : (span : Span) (bytes : List ℕ) → SameWithin n (learns span bytes a) (learns span bytes b)
-  learns_within span bytes = record {
-    known = λ s l. rw (ab.known s l);
-    marks = ab.marks;
-    settled = ab.settled;
-    exact = ab.exact;
-  }
-
   pub ata_within : (fate : Fate) (f : List ℕ) (answer : AtaAnswer) → SameWithin n (after_ata f answer fate a) (after_ata f answer fate b)
   ata_within cut f (Put span) = spoils_within span
-  ata_within (replied effect.None reply) f (Give span) = learns_within span (data_of span reply)
-  ata_within (replied (effect.Wrote span) reply) f answer = puts_within span (written (drop 24 f) span)
+  ata_within (replied effect.None reply) f (Give span) =
+      record { known = λ s l. rw (ab.known s l); marks = ab.marks; settled = ab.settled; exact = ab.exact }
+  ata_within (replied (effect.Wrote span) reply) f answer =
+      record { known = λ s l. rw (ab.known s l); marks = λ s l. rw (ab.marks s l); settled = ab.settled; exact = ab.exact }
   ata_within (replied (effect.WriteFault span) reply) f answer = spoils_within span
-  ata_within (replied effect.Synced reply) f answer = record { known = ab.known; marks = λ s l. refl; settled = ab.known; exact = ab.exact }
+  ata_within (replied effect.Synced reply) f answer =
+      record { known = ab.known; marks = λ s l. refl; settled = ab.known; exact = ab.exact }
   ata_within _ f _ = ab
 
 -- whether it is known what failed calls leave stays so

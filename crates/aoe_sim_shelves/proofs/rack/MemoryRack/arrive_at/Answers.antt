@@ -10,14 +10,12 @@ use Rattle.aoe_sim_shelves.proofs.rack.MemoryRack.arrive_at.Goals as goal
 pub invariant_of-self : goal.invariant_of-self
 invariant_of-self c =
     let r = c.receive_slot-heard.ensures in
-    let k = c.self.invariant in
-    rack-kept k.targets r.receives r.rest (receives-same r.receives.change) _ k refl
+    rack-kept c.self.invariant.targets r.receives r.rest (receives-same r.receives.change) _ c.self.invariant refl
 
 pub invariant_of-self-2 : goal.invariant_of-self-2
 invariant_of-self-2 c =
     let r = c.receive_slot-heard.ensures in
-    let k = c.self.invariant in
-    rack-kept k.targets r.receives r.rest (receives-same r.receives.change) _ k refl
+    rack-kept c.self.invariant.targets r.receives r.rest (receives-same r.receives.change) _ c.self.invariant refl
 
 pub returns-in-Err-clause-full : goal.returns-in-Err-clause-full
 returns-in-Err-clause-full c full s slots reached =

@@ -27,9 +27,3 @@ returns-clause-err c = on-err c.note_each.result c.note_each.ensures.err (λ e s
 
 pub returns-clause-stations : goal.returns-clause-stations
 returns-clause-stations c = rw (← c.self.view_is) (same_stations _ _ c.restart.ensures.restarts)
-
-pub returns-clause-restarts : goal.returns-clause-restarts
-returns-clause-restarts c = rw (← c.self.view_is) c.restart.ensures.restarts
-
-pub returns-clause-found : goal.returns-clause-found
-returns-clause-found c = on-ok c.note_each.result c.note_each.ensures.ok (λ e. ap (λ (r : Recorded). r.entries) e)
