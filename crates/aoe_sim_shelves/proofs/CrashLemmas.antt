@@ -1,8 +1,8 @@
 -- A target that lost its power and was mounted again, and what is known of it.
-use Rattle.std.proofs.Common.{◌≡◌, ◌<◌, ◌-◌, ◌/◌, inl, ℕ, zero, suc, Bool, true, false, not, if◌then◌else◌, List, length, replicate, Option, Some, None, refl, sym, ap, ◌∙◌, arith}
+use Rattle.std.proofs.Common.{◌≡◌, ◌<◌, ◌-◌, ◌/◌, inl, ℕ, zero, suc, Bool, true, false, not, if◌then◌else◌, List, length, replicate, Option, Some, None, refl, sym, ◌∙◌, arith}
 use Rattle.std.specs.Bool.{OnTrue}
 use Rattle.std.specs.List.{list_all}
-use Rattle.std.specs.Prelude.{is_none, IfSome}
+use Rattle.std.specs.Prelude.{IfSome}
 use Rattle.std.proofs.lemmas.Bool.{OnTrue_at, OnTrue_from}
 use Rattle.std.specs.Option.{option_map}
 use Rattle.std.proofs.lemmas.Grind.{common_steps}
@@ -14,12 +14,12 @@ use Rattle.aoe_cache.specs.declared.any.AnyStore.{AnyStore}
 use Rattle.aoe_cache.specs.declared.any.AnyStore.TheVariants.{Direct, Cached}
 use Rattle.aoe_base.specs.declared.address.Mac.{Mac}
 use Rattle.aoe_disk.specs.Arming.{number_of}
-use Rattle.aoe_disk.specs.Calls.{MovesDue}
-use Rattle.aoe_disk.specs.Memory.{armed_of, contents_of, state_of, Memory}
+use Rattle.aoe_disk.specs.Memory.{contents_of, state_of, Memory}
 use Rattle.aoe_disk.specs.State.{is_loose, sector, BothTell, Contents}
 use Rattle.aoe_disk.specs.declared.loss.Loss.{Loss}
 use Rattle.aoe_disk.proofs.Pieces.{is_loose-replicate}
 use Rattle.aoe_keep.specs.Found.{Finds}
+use Rattle.aoe_keep.specs.Keep.{HasMounted}
 use Rattle.aoe_lists.specs.Settings.{Settings}
 use Rattle.aoe_target.specs.Device.{MayStand, State}
 use Rattle.aoe_target.specs.Device as target
@@ -144,9 +144,10 @@ lost_sectors how a b l = grind arith
 
 -- A TARGET
 
--- no call is due after those that none was due before
-pub idle : (o x : Option ℕ) (m : ℕ) (s : Bool) → o ≡ None → MovesDue m false s o x → x ≡ None
-idle o x m s e p = grind arith
+-- a disk that is mounted while no call of it is to fail
+pub mounted_unarmed : (disk new : Memory) (lists : Settings) → HasMounted (state_of disk) (state_of new) lists → option_map number_of disk.arming ≡ None
+    → option_map number_of new.arming ≡ None
+mounted_unarmed disk new lists m none = grind (arith, m.mounts.run.run.schedule.due)
 
 module _ {how : Loss} {a b : Target} (r : Restarts how a b) where
   -- a crash leaves lists that may stand, and they are those that the keep finds
@@ -161,27 +162,17 @@ module _ {how : Loss} {a b : Target} (r : Restarts how a b) where
   store_unarmed = grind (arith, r.store)
 
   pub keep_unarmed : option_map number_of b.keep.disk.arming ≡ None
-  keep_unarmed =
-      let run = r.mounted.mounts.run in
-      idle (option_map number_of r.disk.arming) _ run.calls (is_none (armed_of r.disk.arming)) (ap (λ (m : Memory). option_map number_of m.arming) r.keep.rest)
-      run.run.schedule.due
+  keep_unarmed = mounted_unarmed r.disk b.keep.disk b.keep.lists r.mounted (rw r.keep.rest)
 
-  module _ (n : ℕ) (slot : SlotSetup) (before : Slot) (under : IsUnder n slot.cache before (any_under state_of a.store))
-      (h : HoldsWithin n (device a) before.state) where
-    left : LeavesStore n slot how before b.store
-    left = left_store how a.store b.store r.store n slot.station before slot.cache under h.sectors
-
-    -- what is known of it after the crash
-    pub restarted_holds : HoldsWithin n (device b) (after_crash slot b.keep.lists how before).state
-    restarted_holds = record {
-      lists = refl;
-      crash = λ image left. let l = r.mounted.finds image left in (l.0, l.1, inl l.2);
-      sectors = left.sectors;
-    }
-
-    -- and of the disk under its store
-    pub restarted_under : IsUnder n slot.cache (after_crash slot b.keep.lists how before) (any_under state_of b.store)
-    restarted_under = left.under b.keep.lists
+  -- what is known of it after the crash, and of the disk under its store
+  pub restarted : (n : ℕ) (slot : SlotSetup) (z : Slot) → IsUnder n slot.cache z (any_under state_of a.store) → HoldsWithin n (device a) z.state
+      → IsUnder n slot.cache (after_crash slot b.keep.lists how z) (any_under state_of b.store)
+      × HoldsWithin n (device b) (after_crash slot b.keep.lists how z).state
+  restarted n slot z under h =
+      let left = left_store how a.store b.store r.store n slot.station z slot.cache under h.sectors in (
+        left.under b.keep.lists,
+        record { lists = refl; crash = λ image left. let l = r.mounted.finds image left in (l.0, l.1, inl l.2); sectors = left.sectors },
+      )
 
   -- it is a target of its shelf still
   pub restarted_target : {major : ℕ} {ports : List Mac} {mtu : ℕ} → IsTargetOf major ports mtu a → IsTargetOf major ports mtu b

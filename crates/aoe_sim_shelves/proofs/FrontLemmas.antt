@@ -15,9 +15,6 @@ use Rattle.aoe_initiator.proofs.ListLemmas.{get-there as there}
 -- THE FRONT OF A LIST
 
 module _ {X : Type 0} (xs : List X) (y : X) where
-  get_front : (i : ℕ) (x : X) → slice_get xs i ≡ Some x → slice_get (xs ++ y ∷ []) i ≡ Some x
-  get_front i x e = grind (arith, common_steps, gets)
-
   pub get_last : slice_get (xs ++ y ∷ []) (length xs) ≡ Some y
   get_last = grind (arith, common_steps, gets)
 
@@ -60,7 +57,7 @@ more_minors ts t m = grind (arith, common_steps)
 
 module _ (shelf : Shelf) (front : List Target) (t : Target) (is : shelf.targets ≡ front ++ t ∷ []) (k : AreTargets shelf) where
   in_front : (i : ℕ) (u : Target) → slice_get front i ≡ Some u → slice_get shelf.targets i ≡ Some u
-  in_front i u at = rw is (get_front front t i u at)
+  in_front i u at = rw is (grind (arith, common_steps, gets))
 
   at_last : slice_get shelf.targets (length front) ≡ Some t
   at_last = rw is (get_last front t)

@@ -21,7 +21,7 @@ use Rattle.aoe_sim_shelves.specs.declared.rack.Stops.{Stops}
 use Rattle.aoe_sim_shelves.specs.Crash.{with_crashes, RestartEach}
 use Rattle.aoe_sim_shelves.specs.Rack.{IsServing, MemoryRack, Serves, Stands}
 use Rattle.aoe_sim_shelves.proofs.Apart.{says-crashed, SaysSame}
-use Rattle.aoe_sim_shelves.proofs.CrashLemmas.{keep_unarmed, restarted_holds, restarted_lists, restarted_under, store_unarmed}
+use Rattle.aoe_sim_shelves.proofs.CrashLemmas.{keep_unarmed, restarted, restarted_lists, store_unarmed}
 use Rattle.aoe_sim_shelves.proofs.FrontLemmas.{get_replicate, get_take, was}
 use Rattle.aoe_sim_shelves.proofs.SlotLemmas.{same-self}
 use Rattle.aoe_sim_shelves.proofs.Words.{Target}
@@ -129,10 +129,11 @@ module _ {slots : List SlotSetup} {h : List Entry} {how : Loss} {x : MemoryRack}
     serving stops is =
         let u = was r i t b in
         let standing = k.each i slot u.0 a u.1 in
+        let left = restarted u.2 slot.station.sectors slot (slot_after slot h) standing.under standing.holds in
         record {
           station = u.2.station ∙ standing.station;
-          under = rw crashed.known (restarted_under u.2 slot.station.sectors slot (slot_after slot h) standing.under standing.holds);
-          holds = rw (crashed.known, state_after) (restarted_holds u.2 slot.station.sectors slot (slot_after slot h) standing.under standing.holds);
+          under = rw crashed.known left.0;
+          holds = rw (crashed.known, state_after) left.1;
           store_due = rw (crashed.stretches Store) (store_unarmed u.2);
           keep_due = rw (crashed.stretches Keep, keep_unarmed u.2);
           store_stop = rw (is, crashed.stretches Store);

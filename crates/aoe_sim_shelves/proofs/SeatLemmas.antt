@@ -1,6 +1,6 @@
 -- A target over disks that were just opened.
 use Rattle.std.proofs.Common.{◌≡◌, ◌<◌, ◌≤◌, ◌+◌, ◌-◌, ◌*◌, ◌/◌, ◌==◌, inl, inr, ℕ, Bool, true, false, List, [], ◌∷◌, ◌++◌, length, get_or, take, replicate, Option, Some, None, refl, sym, ap, ◌∙◌, arith, get_or-take, get_or-drop}
-use Rattle.std.specs.Prelude.{slice_get, is_none, IsSomeAnd, Ok}
+use Rattle.std.specs.Prelude.{slice_get, IsSomeAnd, Ok}
 use Rattle.std.specs.Option.{option_map}
 use Rattle.std.proofs.lemmas.Bool.{OnTrue_from}
 use Rattle.std.proofs.lemmas.Bool.Decides.{nat_tests}
@@ -13,7 +13,7 @@ use Rattle.aoe_cache.specs.declared.any.AnyStore.{AnyStore}
 use Rattle.aoe_base.specs.declared.address.Mac.{Mac}
 use Rattle.aoe_base.specs.declared.address.TargetId.{TargetId}
 use Rattle.aoe_disk.specs.Arming.{number_of}
-use Rattle.aoe_disk.specs.Memory.{armed_of, contents_of, fresh, state_of, Memory}
+use Rattle.aoe_disk.specs.Memory.{contents_of, fresh, state_of, Memory}
 use Rattle.aoe_disk.specs.State.{sector, BothTell}
 use Rattle.aoe_disk.specs.declared.loss.Loss.{Loss}
 use Rattle.aoe_disk.proofs.Pieces.{is_loose-replicate}
@@ -31,7 +31,7 @@ use Rattle.aoe_history.specs.Slots.{all_settled, new_slot, zero_sector}
 use Rattle.aoe_sim_shelves.specs.Crash.{Loses, LosesStore, Restarts}
 use Rattle.aoe_sim_shelves.specs.Rack.{over, AgreesWithin, IsBelow, IsServing, IsStoreDue, IsTargetOf, IsUnder, MemoryRack, SameWithin, Serves}
 use Rattle.aoe_sim_shelves.proofs.AgreeLemmas.{same_agrees}
-use Rattle.aoe_sim_shelves.proofs.CrashLemmas.{idle, lost_sectors, opened_free}
+use Rattle.aoe_sim_shelves.proofs.CrashLemmas.{lost_sectors, mounted_unarmed, opened_free}
 use Rattle.aoe_sim_shelves.proofs.FrontLemmas.{front_of, get_last, get_split, last_of, length_last}
 use Rattle.aoe_sim_shelves.proofs.Words.{device, stations, Shelf, Target}
 
@@ -152,9 +152,7 @@ module _ (major : ℕ) (ports : List Mac) (mtu minor : ℕ) (cache : Option ℕ)
   no_lists = let stands : found (replicate m 0) ≡ Ok keep.lists = rw k.lists at k.mounted.mounts.stands.0 in cc (zeros_found m)
 
   unarmed : option_map number_of keep.disk.arming ≡ None
-  unarmed =
-      let run = k.mounted.mounts.run in
-      idle (option_map number_of disk.arming) _ run.calls (is_none (armed_of disk.arming)) (rw k.lists) run.run.schedule.due
+  unarmed = mounted_unarmed disk keep.disk keep.lists k.mounted (rw k.lists)
 
   new_serving : IsServing new_setup [] new_target (record { store = None; keep = None })
   new_serving = record {

@@ -1,5 +1,5 @@
 -- The disk of a store with a cache, and what is settled there.
-use Rattle.std.proofs.Common.{inl, inr, ◌≡◌, ◌≤◌, ◌+◌, ℕ, Bool, true, false, List, drop, Option, Some, None, refl, sym, ap, ◌∙◌, arith}
+use Rattle.std.proofs.Common.{inl, inr, ◌≡◌, ◌≤◌, ◌+◌, ℕ, Bool, true, false, List, Option, Some, None, refl, sym, ap, ◌∙◌, arith}
 use Rattle.std.proofs.lemmas.Bool.Decides.{nat_tests}
 use Rattle.std.proofs.lemmas.Bool.{cases_Bool}
 use Rattle.std.specs.Prelude.{IfSome}
@@ -8,7 +8,6 @@ use Rattle.aoe_disk.specs.State.{BothTell, Contents}
 use Rattle.aoe_disk.specs.declared.armed.Arm.{Arm}
 use Rattle.aoe_store.specs.Under.{bytes_under, ArmsUnder, CallsUnder, FreesUnder, ReadsUnder, StaysUnder, Under}
 use Rattle.aoe_frame.specs.Header.{fields}
-use Rattle.aoe_ata.specs.Decision.{written}
 use Rattle.aoe_ata.specs.declared.args.AtaArgs.{AtaArgs}
 use Rattle.aoe_ata.specs.declared.decision.AtaAnswer.{AtaAnswer}
 use Rattle.aoe_ata.specs.declared.decision.AtaAnswer.TheVariants as ata
@@ -23,7 +22,7 @@ use Rattle.aoe_target.specs.Device.{State}
 use Rattle.aoe_target.specs.Law.{after, after_ata, step_of, Allows, AllowsAta}
 use Rattle.aoe_target.specs.Law as target
 use Rattle.aoe_target.specs.Receive.{calls_for, calls_store, fate_of, is_fault, is_faulty, MovesUnder, TurnsUnder}
-use Rattle.aoe_target.specs.Sectors.{puts, sectors_of, settles, Sectors}
+use Rattle.aoe_target.specs.Sectors.{sectors_of, Sectors}
 use Rattle.aoe_target.specs.Verdict.{verdict as verdict_of}
 use Rattle.aoe_history.specs.declared.entry.Fate.{Fate}
 use Rattle.aoe_history.specs.declared.entry.Fate.TheVariants.{Replied}
@@ -42,9 +41,6 @@ both-then R S x y p f = grind arith
 some-then : (R : Sectors → Sectors → Type 0) (P Q : Sectors → Type 0) (o p : Option Sectors) → ((k l : Sectors) → R k l → P k → Q l)
     → BothTell R o p → IfSome o P → IfSome p Q
 some-then R P Q o p f r i = grind arith
-
-both-map : (R : Sectors → Sectors → Type 0) (g : Sectors → Sectors) (o : Option Sectors) → ((k : Sectors) → R k (g k)) → BothTell R o (option_map g o)
-both-map R g o f = grind arith
 
 -- a crash leaves what was settled
 whole-of : (room : ℕ) (u : Unsettled) → is_cached_whole room u ≡ true → (u.written ≤ room) × (u.struck ≡ false)
@@ -153,9 +149,6 @@ same-under x = grind (arith, spends-none)
 
 -- WHAT A FRAME LEAVES
 
-struck-call : (fate : Fate) (w : Unsettled) → is_struck fate ≡ true → (after_call fate w).struck ≡ true
-struck-call fate w e = grind arith
-
 -- a call of the store is answered, unless the power is lost in it
 must-reply : (station : Station) (k : State) (f : List ℕ) (v : Verdict) (g : target.Fate) → calls_store v ≡ true → Allows station k f v g
     → target.RepliesOrCut (λ e r. Unit {0}) g
@@ -183,7 +176,7 @@ module _ (n : ℕ) (slot : SlotSetup) (f : List ℕ) (z : Slot) where
     pub under-failed : (fate : Fate) (failed : Bool) → is_struck fate ≡ true → BothTell (CallsUnder failed) x y → IsUnder n slot.cache z x
         → IsUnder n slot.cache (after_frame slot f fate z) y
     under-failed fate failed s calls =
-        under-struck n slot.cache z (after_frame slot f fate z) x y (rw c (struck-call fate z.unsettled s))
+        under-struck n slot.cache z (after_frame slot f fate z) x y (rw c (grind arith))
         (both-then _ _ x y calls (λ d e r. r.room))
 
     module _ (shown : Option Contents) (agrees : BothTell (AgreesWithin n) (option_map sectors_of shown) z.state.sectors) (u : IsUnder n slot.cache z x)
@@ -197,10 +190,10 @@ module _ (n : ℕ) (slot : SlotSetup) (f : List ℕ) (z : Slot) where
           → IsUnder n slot.cache (left (verdict.Ata (record { args = args; answer = answer })) e) y
       done-then args (ata.Put span) (effect.Wrote w) called s p a =
           under-wrote n slot.cache z _ x y span.count
-          (record { written = rw a.0; struck = refl; settled = both-map _ (puts w (written (drop 24 f) w)) z.state.sectors (λ k s. refl) })
+          (record { written = rw a.0; struck = refl; settled = grind arith })
           (both-then _ _ x y p (λ d e r. record { room = r.calls.room; within = r.within })) u
       done-then args ata.Sync effect.Synced called s p a =
-          under-synced n slot.cache z _ x y shown (both-map _ settles z.state.sectors (λ k s. refl)) agrees p u
+          under-synced n slot.cache z _ x y shown (grind arith) agrees p u
       done-then args answer effect.None called s p a =
           under-wrote n slot.cache z _ x y 0 (record { written = omega arith; struck = refl; settled = grind arith }) (read-under false x y (grind arith)) u
       done-then args answer e called s p a = absurd (grind arith)

@@ -1,7 +1,6 @@
 -- Each exit, by what is known of the slots that the frame came to.
 use Rattle.std.proofs.Common.{◌≡◌, ◌≤◌, length, Option, Some, None, Err, sym, ap, ◌∙◌, arith, add-one}
-use Rattle.std.specs.Prelude.{IsErrAnd, OnErr, Result}
-use Rattle.aoe_net.specs.declared.refusal.NetRefusal.TheVariants.{Full}
+use Rattle.std.specs.Prelude.{OnErr, Result}
 use Rattle.aoe_disk.specs.declared.loss.Loss.{Loss}
 use Rattle.aoe_sim_shelves.specs.Arrival.{IsCut}
 use Rattle.aoe_sim_shelves.specs.Rack.{MemoryRack}
@@ -14,9 +13,6 @@ on-err r P p = grind arith
 not-some : (o : Option Loss) → ((how : Loss) → o ≡ Some how → ⊥) → o ≡ None
 not-some o whole = grind arith
 
-of-err : {T E : Type 0} (r : Result T E) (e : E) (P : E → Type 0) → IsErrAnd r P → r ≡ Err e → P e
-of-err r e P p is = rw is at p
-
 pub returns-in_err-how-clause-err : goal.returns-in_err-how-clause-err
 returns-in_err-how-clause-err c = on-err c.from_residual.result _ (λ s slots shelf serves lawful fresh.
     let p = c.slots.invariant.passes s slots (record { shelf = shelf; serves = serves; lawful = lawful; fresh = fresh }) in
@@ -25,7 +21,7 @@ returns-in_err-how-clause-err c = on-err c.from_residual.result _ (λ s slots sh
 pub returns-in_err-how-clause-full : goal.returns-in_err-how-clause-full
 returns-in_err-how-clause-full c full s slots shelf serves lawful fresh =
     let p = c.slots.invariant.passes s slots (record { shelf = shelf; serves = serves; lawful = lawful; fresh = fresh }) in
-    passes-full p _ (c.in_err-how.ensures.full (ap Err (sym (of-err c.from_residual.result Full _ c.from_residual.ensures.1 full))) s slots p.reached)
+    passes-full p _ (c.in_err-how.ensures.full (ap Err (sym (rw full at c.from_residual.ensures.1))) s slots p.reached)
 
 pub returns-in-Ok-clause-ok : goal.returns-in-Ok-clause-ok
 returns-in-Ok-clause-ok c s slots shelf serves lawful fresh =
