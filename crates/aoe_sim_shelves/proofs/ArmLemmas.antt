@@ -7,7 +7,6 @@ use Rattle.std.specs.Prelude.{slice_get, slice_set, IfSome, IsSomeAnd}
 use Rattle.arrayvec.proofs.ArrayVecLemmas.{items-with_items}
 use Rattle.aoe_cache.specs.Any.{any_state, any_under}
 use Rattle.aoe_cache.specs.declared.any.AnyStore.{AnyStore}
-use Rattle.aoe_cache.specs.declared.any.AnyStore.TheVariants.{Direct, Cached}
 use Rattle.aoe_store.specs.Under.{ArmsUnder}
 use Rattle.aoe_base.specs.declared.address.TargetId.{TargetId}
 use Rattle.aoe_disk.specs.Arming.{Arms, ArmsTo}
@@ -27,7 +26,7 @@ use Rattle.aoe_script.specs.declared.event.Which.{Which}
 use Rattle.aoe_script.specs.declared.event.Which.TheVariants.{Store, Keep}
 use Rattle.aoe_sim_shelves.specs.declared.rack.Stops.{Stops}
 use Rattle.aoe_sim_shelves.specs.Arming.{arm_of, with_stop, ArmsDisk}
-use Rattle.aoe_sim_shelves.specs.Rack.{IsDue, IsOnceDue, IsRack, IsServing, IsStoreDue, Serves}
+use Rattle.aoe_sim_shelves.specs.Rack.{IsDue, IsRack, IsServing, IsStoreDue, Serves}
 use Rattle.aoe_sim_shelves.proofs.Apart.{says-armed, serves-on}
 use Rattle.aoe_sim_shelves.proofs.RackLemmas.{rack-kept, IsSameTarget}
 use Rattle.aoe_sim_shelves.proofs.SlotLemmas.{same-self}
@@ -39,19 +38,13 @@ use Rattle.aoe_initiator.proofs.ListLemmas.{get-there as there}
 abbrev pub begun : ℕ → Option Loss → Stretch
 begun k mode = record { k = k; mode = mode; frames = 0; struck = false }
 
-module _ (k : ℕ) (mode : Option Loss) {old new : Schedule} (a : Arms (arm_of k mode) old new) (told : is_some new.due ≡ true) where
-  due-begun : (which : Which) → 0 < k → IsDue which (Some (begun k mode)) new
-  due-begun which first = grind (arith, a.due, a.armed)
-
-  -- the disk of a cached store
-  once-begun : IsOnceDue (begun k mode) new
-  once-begun = grind (arith, a.due, a.armed)
+due-begun : (k : ℕ) (mode : Option Loss) {old new : Schedule} → Arms (arm_of k mode) old new → is_some new.due ≡ true → (which : Which) → 0 < k
+    → IsDue which (Some (begun k mode)) new
+due-begun k mode a told which first = grind (arith, a.due, a.armed)
 
 store-begun : (k : ℕ) (mode : Option Loss) (s t : AnyStore Memory) → 0 < k → ArmsTo (arm_of k mode) (any_state state_of s) (any_state state_of t)
     → BothTell (ArmsUnder (arm_of k mode)) (any_under state_of s) (any_under state_of t) → IsStoreDue (Some (begun k mode)) t
-store-begun k mode (Direct m) (Direct n) first a u = due-begun k mode a.schedule refl Store first
-store-begun k mode (Cached c) (Cached d) first a u = once-begun k mode u.arms.schedule refl
-store-begun k mode _ _ first a u = absurd u
+store-begun k mode s t first a u = grind (arith, a.schedule)
 
 still-finds : (o p : Option Contents) (k : State) → p ≡ o → IfSome o (Finds (MayStand k)) → IfSome p (Finds (MayStand k))
 still-finds o p k e finds = rw e finds

@@ -1,11 +1,10 @@
 -- Which call of an armed disk fails, in calls of the disk and in frames of the slot.
-use Rattle.std.proofs.Common.{◌≡◌, ℕ, Bool, true, Option, Some, None, is_none, arith}
+use Rattle.std.proofs.Common.{◌≡◌, ℕ, Bool, true, Option, None, is_none, arith}
 use Rattle.std.proofs.lemmas.Bool.Decides.{nat_tests}
 use Rattle.std.specs.Prelude.{MatchBool}
 use Rattle.std.specs.Option.{option_map}
 use Rattle.aoe_cache.specs.Any.{any_state, any_under}
 use Rattle.aoe_cache.specs.declared.any.AnyStore.{AnyStore}
-use Rattle.aoe_cache.specs.declared.any.AnyStore.TheVariants.{Direct, Cached}
 use Rattle.aoe_disk.specs.Calls.{IsRun, MovesOn}
 use Rattle.aoe_disk.specs.Memory.{state_of, Memory}
 use Rattle.aoe_disk.specs.State.{BothTell, Schedule}
@@ -15,7 +14,7 @@ use Rattle.aoe_history.specs.ShelfLaw.{one_more, IsStrike, IsStruckInTurn, IsStr
 use Rattle.aoe_history.specs.Slots.{is_struck, Slot}
 use Rattle.aoe_script.specs.declared.event.Which.{Which}
 use Rattle.aoe_script.specs.declared.event.Which.TheVariants.{Store}
-use Rattle.aoe_sim_shelves.specs.Rack.{calls_per, stop_in, IsDue, IsOnce, IsStoreDue, IsUnder}
+use Rattle.aoe_sim_shelves.specs.Rack.{calls_per, stop_in, IsDue, IsStoreDue, IsUnder}
 
 -- where a call failed, the power was lost in it just where the disk is armed for that
 abbrev pub Strikes : Bool → Option Stretch → Fate → Type 0
@@ -31,27 +30,14 @@ module _ (which : Which) {failed : Bool} {before after : ℕ} {d e : Schedule} (
   pub due-then : (failed ≡ true → stop_in x ≡ None) → IsDue which (option_map (one_more fate) x) e
   due-then running = grind (arith, nat_tests, run.due, run.kind)
 
--- the disk of a store with a cache may be called any number of times: one call at most fails after an arming
-module _ {m : ℕ} {failed : Bool} {before after : ℕ} {d e : Schedule} (run : MovesOn m failed before after d e) (x : Option Stretch)
-    (due : IsOnce x d) (fate : Fate) (is : is_struck fate ≡ failed) where
-  struck-once : Strikes failed x fate → IsStruckOnce x fate
-  struck-once strikes = grind (arith, run.due)
-
-  once-then : (failed ≡ true → stop_in x ≡ None) → IsOnce (option_map (one_more fate) x) e
-  once-then running = grind (arith, run.due, run.kind)
-
--- either store
+-- either store: the disk of one with a cache may be called any number of times, and one call at most fails after an arming
 module _ (x : Option Stretch) (fate : Fate) (failed : Bool) (is : is_struck fate ≡ failed) where
   pub struck-store : (n : ℕ) (z : Slot) (cache : Option ℕ) (s t : AnyStore Memory) → IsUnder n cache z (any_under state_of s) → IsStoreDue x s
       → IsRun 1 failed (any_state state_of s) (any_state state_of t) → BothTell (CallsUnder failed) (any_under state_of s) (any_under state_of t)
       → Strikes failed x fate → MatchBool (is_none cache) (IsStruckInTurn Store x fate) (IsStruckOnce x fate)
-  struck-store n z None (Direct a) (Direct b) u due run calls strikes = struck-in-turn Store run.schedule x due fate is strikes
-  struck-store n z (Some room) (Cached a) (Cached b) u due run calls strikes = struck-once calls.run.schedule x due fate is strikes
-  struck-store n z _ _ _ u due run calls strikes = absurd (grind arith)
+  struck-store n z cache s t u due run calls strikes = grind (arith, nat_tests, run.schedule, calls)
 
   pub due-store-then : (s t : AnyStore Memory) → IsStoreDue x s → IsRun 1 failed (any_state state_of s) (any_state state_of t)
       → BothTell (CallsUnder failed) (any_under state_of s) (any_under state_of t) → (failed ≡ true → stop_in x ≡ None)
       → IsStoreDue (option_map (one_more fate) x) t
-  due-store-then (Direct a) (Direct b) due run calls running = due-then Store run.schedule x due fate running
-  due-store-then (Cached a) (Cached b) due run calls running = once-then calls.run.schedule x due fate is running
-  due-store-then _ _ due run calls running = absurd calls
+  due-store-then s t due run calls running = grind (arith, nat_tests, run.schedule, calls)

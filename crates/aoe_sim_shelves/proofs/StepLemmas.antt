@@ -10,15 +10,12 @@ use Rattle.aoe_frame.specs.declared.header.Header.{Header}
 use Rattle.aoe_base.specs.declared.sectors.Span.{Span}
 use Rattle.aoe_ata.specs.declared.args.AtaArgs.{AtaArgs}
 use Rattle.aoe_ata.specs.declared.decision.AtaAnswer.{AtaAnswer}
-use Rattle.aoe_ata.specs.declared.decision.AtaAnswer.TheVariants.{Give}
 use Rattle.aoe_lists.specs.Step.{Step}
-use Rattle.aoe_target.specs.declared.heard.Effect.TheVariants as effect
 use Rattle.aoe_target.specs.declared.station.Station.{Station}
 use Rattle.aoe_target.specs.declared.verdict.Verdict.{Verdict}
 use Rattle.aoe_target.specs.declared.verdict.Verdict.TheVariants as verdict
 use Rattle.aoe_target.specs.Device.{Holds, State}
-use Rattle.aoe_target.specs.Law.{after, after_step, replied, step_of, Allows, AllowsAta, Fate, IsStep}
-use Rattle.aoe_target.specs.Reply.{data_of}
+use Rattle.aoe_target.specs.Law.{after, after_step, step_of, Allows, AllowsAta, Fate, IsStep}
 use Rattle.aoe_target.specs.Sectors.{sectors_of, Sectors, Tells}
 use Rattle.aoe_target.specs.Verdict as judge
 use Rattle.aoe_sim_shelves.specs.Rack.{AgreesWithin, HoldsWithin}
@@ -36,8 +33,7 @@ tells_within n span bytes x y xy end told = grind (arith, pass)
 allows_within : (n : ℕ) (station : Station) (x y : Option Sectors) → BothTell (AgreesWithin n) x y
     → (h : Header) (args : AtaArgs) (answer : AtaAnswer) (fate : Fate)
     → InEnd n answer → AllowsAta station x h args answer fate → AllowsAta station y h args answer fate
-allows_within n station x y xy h args (Give span) (replied effect.None reply) end g = (g.0, g.1, tells_within n span (data_of span reply) x y xy end g.2)
-allows_within n station x y xy h args _ _ end g = g
+allows_within n station x y xy h args answer fate end g = grind (arith, tells_within)
 
 -- A STEP
 

@@ -1,5 +1,5 @@
 -- What is known of a device of so many sectors, and what a frame leaves of it.
-use Rattle.std.proofs.Common.{◌≡◌, ◌≤◌, ◌+◌, ℕ, Bool, true, false, if◌then◌else◌, List, refl, ◌∙◌, arith}
+use Rattle.std.proofs.Common.{◌≡◌, ◌≤◌, ◌+◌, ℕ, Bool, if◌then◌else◌, List, refl, ◌∙◌, arith}
 use Rattle.std.proofs.lemmas.Bool.Decides.{nat_tests}
 use Rattle.aoe_base.specs.declared.sectors.Span.{Span}
 use Rattle.aoe_ata.specs.Decision.{answer_of, decision}
@@ -69,8 +69,7 @@ unfolding decision
 decided_end n max args = grind (arith, answer_end)
 
 either : (n : ℕ) (b : Bool) (x y : Verdict) → Ranged n x → Ranged n y → Ranged n (if b then x else y)
-either n true x y p q = p
-either n false x y p q = q
+either n b x y p q = grind arith
 
 pub verdict_end : (station : Station) (lists : Settings) (f : List ℕ) → Ranged station.sectors (judge.verdict station lists f)
 unfolding judge.verdict
