@@ -1,21 +1,17 @@
 -- An entry that says nothing of a host leaves what the history says of it.
-use Rattle.std.proofs.Common.{ℕ, suc, ◌-◌, ◌≤◌, ◌≡◌, if◌then◌else◌, nat_eq, nat_le, ◌==◌, true, false, not, ◌&&◌, List, ◌∷◌, Option, Some, None, refl, ap, ◌∙◌, arith}
-use Rattle.std.specs.Option.{option_and_then}
-use Rattle.std.proofs.lemmas.Bool.Decides.{nat_tests}
+use Rattle.std.proofs.Common.{ℕ, ◌≡◌, true, List, ◌∷◌, Some, refl}
 use Rattle.aoe_net.specs.Network.{fresh_bytes, numbered, SentFrame}
-use Rattle.aoe_frame.specs.Header.{fields}
 use Rattle.aoe_history.specs.declared.entry.Entry.{Entry}
-use Rattle.aoe_history.specs.declared.entry.Entry.TheVariants.{Submitted, Refused, Sent, Injected, Arrived, Took, Done, Ticked}
+use Rattle.aoe_history.specs.declared.entry.Entry.TheVariants.{Submitted, Sent, Injected, Arrived, Took, Done, Ticked}
 use Rattle.aoe_history.specs.declared.entry.Fate.TheVariants.{Replied}
-use Rattle.aoe_history.specs.Commands.{is_of, last_response, log_of, path_ended, path_of, submission, tickets}
-use Rattle.aoe_history.specs.Frames.{arriving, bytes_of, clock, frames, network}
-use Rattle.aoe_history.specs.Setup.{device_no, is_called, HostSetup}
+use Rattle.aoe_history.specs.Commands.{last_response, log_of, path_ended, submission, tickets}
+use Rattle.aoe_history.specs.Frames.{arriving, clock, frames, network}
+use Rattle.aoe_history.specs.Setup.{HostSetup}
 use Rattle.aoe_history.proofs.FrameLemmas.{numbered-later}
 use Rattle.aoe_sim_hosts.specs.Host.{is_apart}
-use Rattle.aoe_initiator.specs.HostLog.Event.{Ends, Sends, Submits}
 use Rattle.aoe_initiator.specs.declared.outcome.Outcome.{Outcome}
 use Rattle.aoe_initiator.specs.declared.outcome.Outcome.TheVariants.{GaveUp}
-use Rattle.aoe_history.proofs.LogicLemmas.{and-false, if-false, not-true}
+use Rattle.aoe_history.proofs.LogicLemmas.{not-true, some-then}
 
 pub record Leaves (host : HostSetup) (h n : List Entry) : Type 0 where
   pub count : tickets host n ≡ tickets host h
@@ -27,78 +23,60 @@ pub record Leaves (host : HostSetup) (h n : List Entry) : Type 0 where
 
 -- ---- frames that can be handed over
 
-not-above : (k n : ℕ) → k ≤ n → (k == suc n) ≡ false
-not-above k n le = grind (arith, nat_tests)
-
 -- a frame more leaves those that are there
-pub arrives-later : (h n : List Entry) (g : SentFrame) → frames n ≡ g ∷ frames h → clock n ≡ clock h → (life k : ℕ) (f : List ℕ) → arriving life h k ≡ Some f → arriving life n k ≡ Some f
-arrives-later h n g more time life k f e = go (numbered (frames h) k) refl e
-  where
-    go : (o : Option SentFrame) → numbered (frames h) k ≡ o → option_and_then (fresh_bytes (network life h) (clock h)) o ≡ Some f → arriving life n k ≡ Some f
-    go None q e = absurd (cc)
-    go (Some z) q e =
-        let later : numbered (frames n) k ≡ Some z = ap (λ (fs : List SentFrame). numbered fs k) more ∙ numbered-later g (frames h) k z q in
-        ap (λ (o : Option SentFrame). option_and_then (fresh_bytes (network life n) (clock n)) o) later
-        ∙ ap (λ (now : ℕ). if nat_le (now - z.birth) life then Some z.bytes else None) time
-        ∙ e
+arrives-later : (h n : List Entry) (g : SentFrame) → frames n ≡ g ∷ frames h → clock n ≡ clock h → (life k : ℕ) (f : List ℕ) → arriving life h k ≡ Some f
+    → arriving life n k ≡ Some f
+arrives-later h n g more time life k f e =
+    let x = some-then (fresh_bytes (network life h) (clock h)) (numbered (frames h) k) f e in
+    rw (more, numbered-later g (frames h) k x.0 x.1, time) x.2
 
 -- ---- the path of a response
 
-pub path-left : (host : HostSetup) (h n : List Entry) (t : ℕ) (o : Outcome) → submission host n t ≡ submission host h t → last_response host n ≡ last_response host h → path_ended host n t o ≡ path_ended host h t o
+pub path-left : (host : HostSetup) (h n : List Entry) (t : ℕ) (o : Outcome) → submission host n t ≡ submission host h t
+    → last_response host n ≡ last_response host h → path_ended host n t o ≡ path_ended host h t o
 path-left host h n t (GaveUp first now) a b = refl
 path-left host h n t _ a b = cc
 
 -- ---- entries of others
 
-pub leaves : (host : HostSetup) (h : List Entry) (e : Entry) → is_apart host e ≡ true → Leaves host h (e ∷ h)
-leaves host h (Submitted name t dev op) away = let other = not-true (is_called host name) away in record {
-  count = if-false (is_called host name) (suc (tickets host h)) (tickets host h) other;
-  time = refl;
-  log = if-false (is_called host name) (Submits (record { 0 = t }) (device_no host dev) op ∷ log_of host h) (log_of host h) other;
-  submissions = λ c. if-false (is_of host c name t) (Some (record { dev = dev; op = op })) (submission host h c) (and-false (is_called host name) (nat_eq t c) other);
-  response = refl;
-  arrives = λ life k f e. e;
-}
-leaves host h (Refused name refusal) away = record { count = refl; time = refl; log = refl; submissions = λ c. refl; response = refl; arrives = λ life k f e. e }
-leaves host h (Sent name t number bytes) away = let other = not-true (is_called host name) away in record {
-  count = refl;
-  time = refl;
-  log = if-false (is_called host name) (Sends (record { 0 = t }) (fields bytes).tag (path_of host (submission host h t) bytes) ∷ log_of host h) (log_of host h) other;
-  submissions = λ c. refl;
-  response = refl;
-  arrives = arrives-later h (Sent name t number bytes ∷ h) (record { bytes = bytes; birth = clock h }) refl refl;
-}
-leaves host h (Injected number bytes) away = record {
-  count = refl;
-  time = refl;
-  log = refl;
-  submissions = λ c. refl;
-  response = refl;
-  arrives = arrives-later h (Injected number bytes ∷ h) (record { bytes = bytes; birth = clock h }) refl refl;
-}
-leaves host h (Arrived dev frame (Replied effect number bytes)) away = record {
-  count = refl;
-  time = refl;
-  log = refl;
-  submissions = λ c. refl;
-  response = refl;
-  arrives = arrives-later h (Arrived dev frame (Replied effect number bytes) ∷ h) (record { bytes = bytes; birth = clock h }) refl refl;
-}
-leaves host h (Took name number stale) away = let other = not-true (is_called host name) away in record {
-  count = refl;
-  time = refl;
-  log = refl;
-  submissions = λ c. refl;
-  response = if-false (is_called host name && not stale) (Some (bytes_of h number)) (last_response host h) (and-false (is_called host name) (not stale) other);
-  arrives = λ life k f e. e;
-}
-leaves host h (Done name t outcome) away = let other = not-true (is_called host name) away in record {
-  count = refl;
-  time = refl;
-  log = if-false (is_called host name) (Ends (record { 0 = t }) (path_ended host h t outcome) ∷ log_of host h) (log_of host h) other;
-  submissions = λ c. refl;
-  response = refl;
-  arrives = λ life k f e. e;
-}
-leaves host h (Ticked ms) away = absurd (cc)
-leaves host h _ away = record { count = refl; time = refl; log = refl; submissions = λ c. refl; response = refl; arrives = λ life k f e. e }
+module _ (host : HostSetup) (h : List Entry) where
+  count-left : (e : Entry) → is_apart host e ≡ true → tickets host (e ∷ h) ≡ tickets host h
+  count-left (Submitted name t dev op) away = rw (not-true _ away)
+  count-left _ away = refl
+
+  time-left : (e : Entry) → is_apart host e ≡ true → clock (e ∷ h) ≡ clock h
+  time-left (Ticked ms) away = absurd cc
+  time-left _ away = refl
+
+  log-left : (e : Entry) → is_apart host e ≡ true → log_of host (e ∷ h) ≡ log_of host h
+  log-left (Submitted name t dev op) away = rw (not-true _ away)
+  log-left (Sent name t number bytes) away = rw (not-true _ away)
+  log-left (Done name t outcome) away = rw (not-true _ away)
+  log-left (Ticked ms) away = absurd cc
+  log-left _ away = refl
+
+  submissions-left : (e : Entry) → is_apart host e ≡ true → (c : ℕ) → submission host (e ∷ h) c ≡ submission host h c
+  submissions-left (Submitted name t dev op) away c = rw (not-true _ away)
+  submissions-left _ away c = refl
+
+  response-left : (e : Entry) → is_apart host e ≡ true → last_response host (e ∷ h) ≡ last_response host h
+  response-left (Took name number stale) away = rw (not-true _ away)
+  response-left _ away = refl
+
+  arrives-left : (e : Entry) → is_apart host e ≡ true → (life k : ℕ) (f : List ℕ) → arriving life h k ≡ Some f → arriving life (e ∷ h) k ≡ Some f
+  arrives-left (Sent name t number bytes) away = arrives-later h (Sent name t number bytes ∷ h) (record { bytes = bytes; birth = clock h }) refl refl
+  arrives-left (Injected number bytes) away = arrives-later h (Injected number bytes ∷ h) (record { bytes = bytes; birth = clock h }) refl refl
+  arrives-left (Arrived dev frame (Replied effect number bytes)) away =
+      arrives-later h (Arrived dev frame (Replied effect number bytes) ∷ h) (record { bytes = bytes; birth = clock h }) refl refl
+  arrives-left (Ticked ms) away = absurd cc
+  arrives-left _ away = λ life k f e. e
+
+  pub leaves : (e : Entry) → is_apart host e ≡ true → Leaves host h (e ∷ h)
+  leaves e away = record {
+    count = count-left e away;
+    time = time-left e away;
+    log = log-left e away;
+    submissions = submissions-left e away;
+    response = response-left e away;
+    arrives = arrives-left e away;
+  }

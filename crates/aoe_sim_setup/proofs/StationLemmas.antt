@@ -1,21 +1,21 @@
 -- The stations of good lines, by their names and addresses.
-use Rattle.std.proofs.Common.{Option, ℕ, ◌<◌, ◌≡◌, ◌≢◌, ◌∙◌, ◌⊎◌, inl, inr, Bool, true, false, List, take, Some, refl, sym, ap, subst, arith}
+use Rattle.std.proofs.Common.{ℕ, ◌<◌, ◌≡◌, ◌≢◌, inl, inr, true, false, List, take, Some, refl, sym, ap, arith}
 use Rattle.std.specs.Prelude.{slice_get}
 use Rattle.std.specs.List.{list_any}
-use Rattle.std.proofs.lemmas.Bool.{cases_order, or_cases}
+use Rattle.std.proofs.lemmas.Bool.{both_ways, false_from_ne_true, or_cases, or_left}
 use Rattle.std.proofs.lemmas.Option.{none-some, same_Some}
 use Rattle.arrayvec.specs.ArrayVec.{ArrayVec}
 use Rattle.aoe_base.specs.declared.address.Mac.{Mac}
 use Rattle.aoe_base.specs.Addresses.{holds}
 use Rattle.aoe_script.specs.declared.setup.Setup.{Setup as Line}
 use Rattle.aoe_script.specs.declared.setup.Setup.TheVariants.{Shelf, Host}
-use Rattle.aoe_script.specs.Rules.{is_host_named, is_shelf_named, is_station_named, same}
+use Rattle.aoe_script.specs.Rules.{is_station_named, same}
 use Rattle.aoe_history.specs.Groups.Station.{Shelf as ShelfStation, Host as HostStation}
 use Rattle.aoe_sim_setup.specs.Layout.{addresses_in, placed, station_named, stations_of, Placed}
 use Rattle.aoe_sim_setup.specs.Stations.{HasStations, IsStation}
 use Rattle.aoe_sim_setup.proofs.GoodLines.{AreGood}
-use Rattle.aoe_sim_setup.proofs.LineLemmas.{names-behind, one-line, same-is, same-self}
-use Rattle.aoe_sim_setup.proofs.ListLemmas.{any-passes, find-by, filtered-at, ordered-filtered, Ordered}
+use Rattle.aoe_sim_setup.proofs.LineLemmas.{one-line, same-is, same-self, HostLine, ShelfLine}
+use Rattle.aoe_sim_setup.proofs.ListLemmas.{any-passes, find-by, filtered-at, in-order, none-before, ordered-filtered, Ordered}
 
 -- the line of a station has its addresses and its name
 ports-in : (line : Line) (p : Placed) → placed line ≡ Some p → addresses_in line ≡ p.ports
@@ -23,95 +23,63 @@ ports-in (Shelf name major ports mtu) p e = ap (λ z. z.ports) (same_Some _ p e)
 ports-in (Host name ports room dead) p e = ap (λ z. z.ports) (same_Some _ p e)
 ports-in _ p e = absurd (none-some p e)
 
--- both names are different, where neither line declares the other's
-apart-name : (line : Line) (p : Placed) (name : ArrayVec ℕ) → placed line ≡ Some p → is_shelf_named name line ≡ false → is_host_named name line ≡ false → p.name ≢ name
-apart-name (Shelf other major ports mtu) p name e f g s =
-    let t : same other name ≡ true = subst (λ z. same other z ≡ true) (ap (λ z. z.name) (same_Some _ p e) ∙ s) (same-self other) in
-    absurd cc
-apart-name (Host other ports room dead) p name e f g s =
-    let t : same other name ≡ true = subst (λ z. same other z ≡ true) (ap (λ z. z.name) (same_Some _ p e) ∙ s) (same-self other) in
-    absurd cc
-apart-name _ p name e f g s = none-some p e
+name-in : (line : Line) (p : Placed) → placed line ≡ Some p → is_station_named p.name line ≡ true
+name-in (Shelf name major ports mtu) p e = rw (← same_Some _ p e) (or_left _ _ (same-self name))
+name-in (Host name ports room dead) p e = rw (← same_Some _ p e) (same-self name)
+name-in _ p e = absurd (none-some p e)
+
+station-in : (name : ArrayVec ℕ) (line : Line) → is_station_named name line ≡ true → (p : Placed) × (placed line ≡ Some p) × (p.name ≡ name)
+station-in name (Shelf other major ports mtu) t = elim (or_cases (same other name) false t) [
+  | inl is ↦ (record { name = other; ports = ports.items; station = ShelfStation major }, refl, same-is other name is)
+  | inr never ↦ absurd cc
+]
+station-in name (Host other ports room dead) t = (record { name = other; ports = ports.items; station = HostStation other }, refl, same-is other name t)
+station-in name _ t = absurd cc
 
 module _ (lines : List Line) (good : AreGood lines) where
-  new-name : (k : ℕ) (line : Line) (p : Placed) → slice_get lines k ≡ Some line → placed line ≡ Some p → list_any (is_station_named p.name) (take k lines) ≡ false
-  new-name k (Shelf name major ports mtu) p e f =
-      subst (λ z. list_any (is_station_named z) (take k lines) ≡ false) (ap (λ z. z.name) (same_Some _ p f)) (good.shelf k name major ports mtu e).new_name
-  new-name k (Host name ports room dead) p e f =
-      subst (λ z. list_any (is_station_named z) (take k lines) ≡ false) (ap (λ z. z.name) (same_Some _ p f)) (good.host k name ports room dead e).new_name
+  new-name : (k : ℕ) (line : Line) (p : Placed) → slice_get lines k ≡ Some line → placed line ≡ Some p
+      → list_any (is_station_named p.name) (take k lines) ≡ false
+  new-name k (Shelf name major ports mtu) p e f = rw (← same_Some _ p f) (good.shelf k _ _ _ _ e).new_name
+  new-name k (Host name ports room dead) p e f = rw (← same_Some _ p f) (good.host k _ _ _ _ e).new_name
   new-name k _ p e f = absurd (none-some p f)
 
   names-differ : Ordered (λ a b. a.name ≢ b.name) (stations_of lines)
-  names-differ = ordered-filtered (λ a b. a.name ≢ b.name) placed lines (λ i j a b lt p q c d x y. go i j a b lt p q c d x y)
-    where
-      go : (i j : ℕ) (a b : Line) → i < j → slice_get lines i ≡ Some a → slice_get lines j ≡ Some b → (c d : Placed) → placed a ≡ Some c → placed b ≡ Some d → c.name ≢ d.name
-      go i j a b lt p q c d x y = let n = names-behind lines good i j a d.name lt p (new-name j b d q y) in apart-name a c d.name x n.0 n.1
+  names-differ = ordered-filtered _ placed lines (λ i j a b lt p q c d x y s.
+      both_ways _ (none-before (is_station_named d.name) lines i j a lt p (new-name j b d q y)) (rw s at (name-in a c x)))
 
   ports-differ : Ordered (λ a b. (port : Mac) → holds a.ports port ≡ true → holds b.ports port ≡ true → ⊥) (stations_of lines)
-  ports-differ = ordered-filtered (λ a b. (port : Mac) → holds a.ports port ≡ true → holds b.ports port ≡ true → ⊥) placed lines (λ i j a b lt p q c d x y. go i j a b lt p q c d x y)
-    where
-      go : (i j : ℕ) (a b : Line) → i < j → slice_get lines i ≡ Some a → slice_get lines j ≡ Some b → (c d : Placed) → placed a ≡ Some c → placed b ≡ Some d
-          → (port : Mac) → holds c.ports port ≡ true → holds d.ports port ≡ true → ⊥
-      go i j a b lt p q c d x y port s t =
-          let same-place : i ≡ j = one-line lines good i j a b port p q (ap (λ z. holds z port) (ports-in a c x) ∙ s) (ap (λ z. holds z port) (ports-in b d y) ∙ t) in
-          absurd (omega arith)
+  ports-differ = ordered-filtered _ placed lines (λ i j a b lt p q c d x y port s t.
+      let same-place = one-line lines good i j a b port p q (rw (ports-in a c x) s) (rw (ports-in b d y) t) in
+      absurd (omega arith))
 
   -- it is found by its name
   pub found-station : (i : ℕ) (p : Placed) → slice_get (stations_of lines) i ≡ Some p → station_named lines p.name ≡ Some p
-  found-station i p e =
-      find-by (λ (a b : Placed). same a.name b.name) (stations_of lines) i p (λ j k a b lt s t. differ (same a.name b.name) refl (names-differ j k a b lt s t)) e (same-self p.name)
-    where
-      differ : {a b : ArrayVec ℕ} (t : Bool) → same a b ≡ t → a ≢ b → same a b ≡ false
-      differ {a} {b} true is ne = absurd (ne (same-is a b is))
-      differ false is ne = is
+  found-station i p e = find-by (λ (a b : Placed). same a.name b.name) (stations_of lines) i p
+      (λ j k a b lt s t. false_from_ne_true _ (λ is. names-differ j k a b lt s t (same-is a.name b.name is))) e (same-self p.name)
 
   pub has-stations : HasStations lines
   has-stations = record {
     found = found-station;
-    names = λ i j a b p q ne. by-order i j a b p q ne (cases_order i j);
-    ports = λ i j a b port p q s t. one-place i j a b port p q s t (cases_order i j);
+    names = λ i j a b p q ne. in-order i j ne (λ lt. names-differ i j a b lt p q) (λ lt s. names-differ j i b a lt q p (sym s));
+    ports = λ i j a b port p q s t.
+        let before : i < j → ⊥ = λ lt. ports-differ i j a b lt p q port s t in
+        let behind : j < i → ⊥ = λ lt. ports-differ j i b a lt q p port t s in
+        omega arith;
   }
-    where
-      by-order : (i j : ℕ) (a b : Placed) → slice_get (stations_of lines) i ≡ Some a → slice_get (stations_of lines) j ≡ Some b → i ≢ j → (i ≡ j) ⊎ ((i < j) ⊎ (j < i)) → a.name ≢ b.name
-      by-order i j a b p q ne (inl e) = absurd (ne e)
-      by-order i j a b p q ne (inr (inl lt)) = names-differ i j a b lt p q
-      by-order i j a b p q ne (inr (inr lt)) = λ s. names-differ j i b a lt q p (sym s)
-
-      one-place : (i j : ℕ) (a b : Placed) (port : Mac) → slice_get (stations_of lines) i ≡ Some a → slice_get (stations_of lines) j ≡ Some b → holds a.ports port ≡ true → holds b.ports port ≡ true
-          → (i ≡ j) ⊎ ((i < j) ⊎ (j < i)) → i ≡ j
-      one-place i j a b port p q s t (inl e) = e
-      one-place i j a b port p q s t (inr (inl lt)) = absurd (ports-differ i j a b lt p q port s t)
-      one-place i j a b port p q s t (inr (inr lt)) = absurd (ports-differ j i b a lt q p port t s)
 
   -- those of host lines and of shelf lines
-  pub host-station : (k : ℕ) (name : ArrayVec ℕ) (ports : ArrayVec Mac) (room dead : Option ℕ) → slice_get lines k ≡ Some (Host name ports room dead)
-      → station_named lines name ≡ Some record { name = name; ports = ports.items; station = HostStation name }
-  host-station k name ports room dead e =
-      let place : Placed = record { name = name; ports = ports.items; station = HostStation name } in
-      let p = filtered-at placed lines k (Host name ports room dead) place e refl in
-      found-station p.at place p.there
+  pub host-station : {name : ArrayVec ℕ} (x : HostLine lines name)
+      → station_named lines name ≡ Some record { name = name; ports = x.ports.items; station = HostStation name }
+  host-station x = let p = filtered-at placed lines x.at _ _ x.there refl in found-station p.at _ p.there
 
-  pub shelf-station : (k : ℕ) (name : ArrayVec ℕ) (major : ℕ) (ports : ArrayVec Mac) (mtu : ℕ) → slice_get lines k ≡ Some (Shelf name major ports mtu)
-      → station_named lines name ≡ Some record { name = name; ports = ports.items; station = ShelfStation major }
-  shelf-station k name major ports mtu e =
-      let place : Placed = record { name = name; ports = ports.items; station = ShelfStation major } in
-      let p = filtered-at placed lines k (Shelf name major ports mtu) place e refl in
-      found-station p.at place p.there
+  pub shelf-station : {name : ArrayVec ℕ} (x : ShelfLine lines name)
+      → station_named lines name ≡ Some record { name = name; ports = x.ports.items; station = ShelfStation x.major }
+  shelf-station x = let p = filtered-at placed lines x.at _ _ x.there refl in found-station p.at _ p.there
 
   -- a station with this name
   pub station-called : (name : ArrayVec ℕ) → list_any (is_station_named name) lines ≡ true → IsStation lines name
-  station-called name any = let s = any-passes (is_station_named name) lines any in go s.x s.at s.there s.passes
-    where
-      is-station : (line : Line) (k : ℕ) (p : Placed) → slice_get lines k ≡ Some line → placed line ≡ Some p → p.name ≡ name → IsStation lines name
-      is-station line k p e gives called =
-          let at = filtered-at placed lines k line p e gives in
-          record { at = at.at; place = p; there = at.there; called = called; found = subst (λ n. station_named lines n ≡ Some p) called (found-station at.at p at.there) }
-
-      go : (line : Line) (k : ℕ) → slice_get lines k ≡ Some line → is_station_named name line ≡ true → IsStation lines name
-      go (Shelf other major ports mtu) k e t =
-          elim (or_cases (same other name) false t) [
-            | inl is ↦ is-station (Shelf other major ports mtu) k (record { name = other; ports = ports.items; station = ShelfStation major }) e refl (same-is other name is)
-            | inr never ↦ absurd cc
-          ]
-      go (Host other ports room dead) k e t = is-station (Host other ports room dead) k (record { name = other; ports = ports.items; station = HostStation other }) e refl (same-is other name t)
-      go _ k e t = absurd cc
+  station-called name any =
+      let s = any-passes (is_station_named name) lines any in
+      let p = station-in name s.x s.holds in
+      let at = filtered-at placed lines s.at s.x p.0 s.there p.1 in
+      record { at = at.at; place = p.0; there = at.there; called = p.2; found = rw p.2 at (found-station at.at p.0 at.there) }

@@ -1,20 +1,20 @@
 -- What lawful histories have can be printed.
-use Rattle.std.proofs.Common.{◌≡◌, ◌∙◌, ◌+◌, ℕ, Bool, true, false, List, [], ◌∷◌, Option, Some, None, ap}
-use Rattle.std.specs.Prelude.{◌==◌, nat_le, nat_lt, if◌then◌else◌, slice_get, All, IsSomeAnd}
+use Rattle.std.proofs.Common.{◌≡◌, ◌∙◌, ℕ, List, [], ◌∷◌, Option, Some, None, ap, arith}
+use Rattle.std.specs.Prelude.{slice_get, All, IsSomeAnd}
 use Rattle.std.specs.Option.{option_and_then}
+use Rattle.std.proofs.lemmas.Bool.Decides.{nat_tests}
 use Rattle.std.proofs.lemmas.List.Elements.{All-cons, All-head, All-nil, All-tail}
 use Rattle.aoe_base.specs.declared.address.TargetId.{TargetId}
 use Rattle.aoe_initiator.specs.declared.device.Attached.{Attached}
 use Rattle.aoe_initiator.specs.declared.device.Device.{Device}
 use Rattle.aoe_initiator.specs.declared.op.Op.{Op}
-use Rattle.aoe_initiator.specs.declared.op.Op.TheVariants.{Read, Write, Flush, Identify, Config, Masks, Reserve}
+use Rattle.aoe_initiator.specs.declared.op.Op.TheVariants.{Read, Write}
 use Rattle.aoe_initiator.specs.declared.refusal.SubmitRefusal.{SubmitRefusal}
-use Rattle.aoe_initiator.specs.declared.refusal.SubmitRefusal.TheVariants.{NoMemory, OutOfRange, TooLong, Backlog, Empty}
+use Rattle.aoe_initiator.specs.declared.refusal.SubmitRefusal.TheVariants.{NoMemory}
 use Rattle.aoe_initiator.specs.Host.{Host}
-use Rattle.aoe_initiator.specs.HostLaw.{held_at, most_held, op_refusal, or_backlog, span_refusal, submit_refusal}
-use Rattle.aoe_initiator.specs.Op.{span_of}
+use Rattle.aoe_initiator.specs.HostLaw.{held_at, op_refusal, or_backlog, submit_refusal}
 use Rattle.aoe_history.specs.declared.entry.Entry.{Entry}
-use Rattle.aoe_history.specs.declared.entry.Entry.TheVariants.{Submitted, Refused, Sent, Injected, Arrived, Took, Done, Ticked, Lost, Armed, Crashed}
+use Rattle.aoe_history.specs.declared.entry.Entry.TheVariants.{Submitted, Refused}
 use Rattle.aoe_history.specs.Commands.{host_after}
 use Rattle.aoe_history.specs.HostLaw.{IsRefused}
 use Rattle.aoe_history.specs.Lawful.{IsLawful, MayCome}
@@ -23,40 +23,25 @@ use Rattle.aoe_transcript.specs.Print.{CanPrint, HasCause, IsFromLine}
 
 -- ---- no host refuses because it is out of memory
 
-span_cause : (empty long out : Bool) (max : ℕ) → (if empty then Some Empty else if long then Some (TooLong max) else if out then Some OutOfRange else None) ≡ Some NoMemory → ⊥
-span_cause true long out max e = absurd cc
-span_cause false true out max e = absurd cc
-span_cause false false true max e = absurd cc
-span_cause false false false max e = absurd cc
-
-spans : (about : Attached) (at count : ℕ) → span_refusal about at count ≡ Some NoMemory → ⊥
-spans about at count e = span_cause (count == 0) (nat_lt about.max count) (nat_lt about.total (at + count)) about.max e
-
 ops : (about : Attached) (op : Op) → op_refusal about op ≡ Some NoMemory → ⊥
-ops about (Read span) e = spans about span.at span.count e
-ops about (Write at bytes) e = spans about at (span_of (Write at bytes)).count e
-ops about Flush e = absurd cc
-ops about Identify e = absurd cc
-ops about (Config ccmd text) e = absurd cc
-ops about (Masks edit dirs) e = absurd cc
-ops about (Reserve rcmd list) e = absurd cc
+ops about (Read span) e = grind (arith, nat_tests)
+ops about (Write at bytes) e = grind (arith, nat_tests)
+ops about _ e = absurd cc
 
 devices : (op : Op) (device : Option Device) → option_and_then (λ (d : Device). op_refusal d.about op) device ≡ Some NoMemory → ⊥
 devices op None e = absurd cc
 devices op (Some d) e = ops d.about op e
 
-backlog_cause : (full : Bool) (held : ℕ) → (if full then Some (Backlog held) else None) ≡ Some NoMemory → ⊥
-backlog_cause true held e = absurd cc
-backlog_cause false held e = absurd cc
-
 backlogs : (held : ℕ) (refusal : Option SubmitRefusal) → (refusal ≡ Some NoMemory → ⊥) → or_backlog held refusal ≡ Some NoMemory → ⊥
 backlogs held (Some refusal) other e = other e
-backlogs held None other e = backlog_cause (nat_le most_held held) held e
+backlogs held None other e = grind (arith, nat_tests)
 
 submits : (host : Host) (n : ℕ) (op : Op) → submit_refusal host n op ≡ Some NoMemory → ⊥
-submits host n op e = backlogs (held_at host n) (option_and_then (λ (d : Device). op_refusal d.about op) (slice_get host.devices n)) (devices op (slice_get host.devices n)) e
+submits host n op e =
+    backlogs (held_at host n) (option_and_then (λ (d : Device). op_refusal d.about op) (slice_get host.devices n)) (devices op (slice_get host.devices n)) e
 
-refusal_cause : (s : Setup) (host : HostSetup) (h : List Entry) (dev : TargetId) (op : Op) (refusal : SubmitRefusal) → IsRefused s host h dev op refusal → HasCause refusal
+refusal_cause : (s : Setup) (host : HostSetup) (h : List Entry) (dev : TargetId) (op : Op) (refusal : SubmitRefusal) → IsRefused s host h dev op refusal
+    → HasCause refusal
 refusal_cause s host h dev op refusal r e = submits (host_after s host h) r.device op (r.refused ∙ ap Some e)
 
 refused : (s : Setup) (h : List Entry) (refusal : SubmitRefusal) (host : Option HostSetup)
@@ -69,15 +54,7 @@ refused s h refusal (Some host) may = refusal_cause s host h may.0 may.1 refusal
 one : (s : Setup) (h : List Entry) (e : Entry) → MayCome s h e → IsFromLine e → CanPrint e
 one s h (Submitted name ticket dev op) may line = line
 one s h (Refused name refusal) may line = refused s h refusal (host_called s name) may
-one s h (Sent name ticket number bytes) may line = tt
-one s h (Injected number bytes) may line = tt
-one s h (Arrived dev frame fate) may line = tt
-one s h (Took name frame stale) may line = tt
-one s h (Done name ticket outcome) may line = tt
-one s h (Ticked ms) may line = tt
-one s h (Lost frame) may line = tt
-one s h (Armed dev which k mode) may line = tt
-one s h (Crashed dev lists how) may line = tt
+one s h _ may line = tt
 
 pub prints : (s : Setup) (h : List Entry) → IsLawful s h → All IsFromLine h → All CanPrint h
 prints s [] lawful lines = All-nil CanPrint

@@ -4,5 +4,5 @@ use Rattle.aoe_transcript.proofs.print.put_addresses.Goals as goal
 
 pub macs-preserved : goal.macs-preserved
 macs-preserved c =
-    joined 44 digits_text c.args.macs.now c.macs.i _ c.args.out.now.items c.macs.out.items c.put_between.new.out.items c.put_bytes.new.out.items c.macs-test.true
-    c.macs.invariant c.in_ok-put_between.ensures c.in_ok-put_bytes.ensures
+    joined 44 digits_text c.args.macs.now c.macs.i _ c.args.out.now.items c.macs.out.items c.put_between.new.out.items c.put_bytes.new.out.items
+    c.macs-test.true c.macs.invariant c.in_ok-put_between.ensures c.in_ok-put_bytes.ensures

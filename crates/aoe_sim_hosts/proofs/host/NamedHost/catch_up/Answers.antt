@@ -1,8 +1,6 @@
-use Rattle.std.proofs.Common.{ℕ, List, sym, ap, subst, ◌∙◌}
-use Rattle.arrayvec.specs.ArrayVec.{ArrayVec}
+use Rattle.std.proofs.Common.{List, ap, ◌∙◌}
 use Rattle.aoe_initiator.specs.declared.outcome.Done.{Done}
-use Rattle.aoe_sim_hosts.specs.Host.{Awaits, NamedHost}
-use Rattle.aoe_sim_hosts.specs.Turns.{HasBegun}
+use Rattle.aoe_sim_hosts.specs.Host.{NamedHost}
 use Rattle.aoe_sim_hosts.proofs.IdLemmas.{ids-same}
 use Rattle.aoe_sim_hosts.proofs.TellLemmas.{begun, told-all, Advanced}
 use Rattle.aoe_sim_hosts.proofs.host.NamedHost.catch_up.Goals as goal
@@ -25,14 +23,11 @@ went c = record {
 
 pub returns-clause-ok : goal.returns-clause-ok
 returns-clause-ok c = on-ok c.tell_all.result c.tell_all.ensures.ok (λ all s host got a lawful.
-    let x : NamedHost = record { name = c.self.inside.name; core = c.self.inside.core } in
-    let waits : Awaits s host got c.args.run.now.entries x = subst (λ (z : NamedHost). Awaits s host got c.args.run.now.entries z) (sym c.self.view_is) a in
-    told-all s host got c.args.run.now.entries x waits lawful c.advance.new.self (went c) c.tell_all.new.run.entries c.tell_all.new.self all.0
+    told-all s host got c.args.run.now.entries _ (rw (← c.self.view_is) at a) lawful c.advance.new.self (went c)
+    c.tell_all.new.run.entries c.tell_all.new.self all.0
     (c.tell_all.ensures.same ∙ ap (λ (w : List Done). let z : NamedHost = record { name = c.self.inside.name; core = record c.advance.new.self { waiting = w } } in z) all.1))
 
 pub returns-clause-err : goal.returns-clause-err
 returns-clause-err c = on-err c.tell_all.result c.tell_all.ensures.err (λ some s host got a lawful.
-    let x : NamedHost = record { name = c.self.inside.name; core = c.self.inside.core } in
-    let waits : Awaits s host got c.args.run.now.entries x = subst (λ (z : NamedHost). Awaits s host got c.args.run.now.entries z) (sym c.self.view_is) a in
-    subst (λ (n : ArrayVec ℕ). HasBegun s host got n c.args.run.now.entries c.tell_all.new.run.entries) (ap (λ (z : NamedHost). z.name) c.self.view_is)
-    (begun s host got c.args.run.now.entries x waits lawful c.advance.new.self (went c) c.tell_all.new.run.entries some.0 some.1))
+    rw (← c.self.view_is)
+    (begun s host got c.args.run.now.entries _ (rw (← c.self.view_is) at a) lawful c.advance.new.self (went c) c.tell_all.new.run.entries some.0 some.1))

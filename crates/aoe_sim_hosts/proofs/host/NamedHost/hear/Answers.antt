@@ -1,7 +1,7 @@
-use Rattle.std.proofs.Common.{◌≡◌, Bool, refl, sym, subst, ap, ◌∙◌}
+use Rattle.std.proofs.Common.{◌≡◌, refl, sym, ap, ◌∙◌}
 use Rattle.aoe_sim_hosts.specs.Host.{NamedHost}
 use Rattle.aoe_sim_hosts.proofs.IdLemmas.{ids-same}
-use Rattle.aoe_sim_hosts.proofs.TakeLemmas.{heard, is_stale, Heard}
+use Rattle.aoe_sim_hosts.proofs.TakeLemmas.{heard, is_stale}
 use Rattle.aoe_sim_hosts.proofs.host.NamedHost.hear.Goals as goal
 use Rattle.aoe_sim_hosts.proofs.host.NamedHost.hear.Goals.{in-Finished, in-Stale}
 
@@ -12,9 +12,9 @@ pub returns-clause-heard : goal.returns-clause-heard
 returns-clause-heard c =
     let z : NamedHost = record { name = c.self.inside.name; core = c.receive.new.self } in
     let x : NamedHost = record { name = c.self.inside.name; core = c.self.inside.core } in
-    let of : Heard x z c.args.frame.now (is_stale c.receive.result) = heard x z c.args.frame.now c.receive.result refl c.receive.ensures.same.0 c.receive.ensures.same.1 c.receive.ensures.same.2 c.receive.ensures.taken in
+    let same = c.receive.ensures.same in
     let said : is_stale c.receive.result ≡ c.match-receive.result = elim c.match-receive.branch [
       | in-Finished w ↦ ap is_stale w.in-Finished.is ∙ sym w.result-is
       | in-Stale w ↦ ap is_stale w.in-Stale.is ∙ sym w.result-is
     ] in
-    subst (λ (b : Bool). Heard c.args.self.now z c.args.frame.now b) said (subst (λ (n : NamedHost). Heard n z c.args.frame.now (is_stale c.receive.result)) c.self.view_is of)
+    rw (← c.self.view_is, ← said) (heard x z c.args.frame.now c.receive.result refl same.0 same.1 same.2 c.receive.ensures.taken)

@@ -14,7 +14,8 @@ invariant-frames l = record {
   name : l.self-inside.name ≡ l.fn.self.name;
   tickets : l.self-inside.core.last_ticket ≡ l.fn.self.core.last_ticket;
   sent : (s : Setup) (host : HostSetup) → IsSettled s host l.fn.run.entries l.fn.self → IsLawful s l.fn.run.entries
-      → HasSent s l.fn.self.name l.fn.run.entries l.run.entries × IsSettled s host l.run.entries (record { name = l.self-inside.name; core = l.self-inside.core });
+      → HasSent s l.fn.self.name l.fn.run.entries l.run.entries × IsSettled s host l.run.entries
+      (record { name = l.self-inside.name; core = l.self-inside.core });
 }
 
 abbrev pub decreases-frames : goal.decreases-frames
