@@ -1,15 +1,16 @@
 -- Hosts of which nothing is said, hosts in time that goes by, and a host of which nothing was said yet.
-use Rattle.std.proofs.Common.{ℕ, ◌+◌, ◌≡◌, true, false, List, [], ◌∷◌, Option, Some, None, sym, ◌∙◌, arith}
+use Rattle.std.proofs.Common.{ℕ, ◌≤◌, ◌≡◌, true, false, List, [], ◌∷◌, Option, Some, None, refl, sym, ◌∙◌, arith}
 use Rattle.std.proofs.lemmas.Bool.{both_ways}
+use Rattle.std.specs.Prelude.{IfSome}
 use Rattle.std.proofs.lemmas.Option.{IfSome_then}
 use Rattle.aoe_history.specs.declared.entry.Entry.{Entry}
 use Rattle.aoe_history.specs.declared.entry.Entry.TheVariants.{Ticked}
-use Rattle.aoe_history.specs.Commands.{log_of}
+use Rattle.aoe_history.specs.Commands.{log_of, tickets}
 use Rattle.aoe_history.specs.Frames.{clock}
 use Rattle.aoe_history.specs.Groups.{Got}
 use Rattle.aoe_history.specs.HostLaw.{IsAnswered}
 use Rattle.aoe_history.specs.Setup.{HostSetup, Setup}
-use Rattle.aoe_sim_hosts.specs.Host.{is_apart, is_told, log_with, Awaits, IsHost, IsSettled, NamedHost}
+use Rattle.aoe_sim_hosts.specs.Host.{is_apart, is_told, log_with, told_of, Awaits, IsHost, IsSettled, NamedHost, TellsSame}
 use Rattle.aoe_sim_hosts.proofs.Commands.{answer-later}
 use Rattle.aoe_sim_hosts.proofs.Leaves.{leaves, path-left, Leaves}
 use Rattle.aoe_sim_hosts.proofs.Same.{advanced, tells-itself}
@@ -62,45 +63,37 @@ pub awaits-apart : (s : Setup) (host : HostSetup) (got : Option Got) (e : Entry)
     → Awaits s host got h x → Awaits s host got (e ∷ h) x
 awaits-apart s host got e h x away = awaits-left s host got h (e ∷ h) x (leaves host h e away)
 
--- a settled host awaits its turn, with nothing to tell
-pub awaits-settled : (s : Setup) (host : HostSetup) (h : List Entry) (x : NamedHost) → IsSettled s host h x → Awaits s host None h x
-awaits-settled s host h x y = record {
+from-settled : (s : Setup) (host : HostSetup) (got : Option Got) (h n : List Entry) (x : NamedHost) → IsSettled s host h x → tickets host n ≡ tickets host h
+    → clock h ≤ clock n → TellsSame (Advances (record { 0 = clock n }) ∷ log_of host h) (log_with host got n) → told_of host got ≡ []
+    → IfSome got (λ g. is_told host g ≡ true → IsAnswered s host n g.ticket g.outcome) → Awaits s host got n x
+from-settled s host got h n x y count past same none response = record {
   is = y.is;
-  last = y.last;
+  last = y.last ∙ sym count;
   past = omega (arith, y.time);
   log = log_of host h;
   matches = y.matches;
-  same = advanced (log_of host h) (clock h) (sym y.matches.time ∙ y.time);
-  waiting = y.waiting;
-  response = tt;
+  same = same;
+  waiting = y.waiting ∙ sym none;
+  response = response;
 }
+
+still : {s : Setup} {host : HostSetup} {h : List Entry} {x : NamedHost} → IsSettled s host h x
+    → TellsSame (Advances (record { 0 = clock h }) ∷ log_of host h) (log_of host h)
+still {host = host} {h} y = advanced (log_of host h) (clock h) (sym y.matches.time ∙ y.time)
+
+-- a settled host awaits its turn, with nothing to tell
+pub awaits-settled : (s : Setup) (host : HostSetup) (h : List Entry) (x : NamedHost) → IsSettled s host h x → Awaits s host None h x
+awaits-settled s host h x y = from-settled s host None h h x y refl (omega arith) (still y) refl tt
 
 -- and where the response was another host's
 pub awaits-other : (s : Setup) (host : HostSetup) (got : Got) (h : List Entry) (x : NamedHost) → is_told host got ≡ false → IsSettled s host h x
     → Awaits s host (Some got) h x
-awaits-other s host got h x other y = record {
-  is = y.is;
-  last = y.last;
-  past = omega (arith, y.time);
-  log = log_of host h;
-  matches = y.matches;
-  same = rw other (advanced (log_of host h) (clock h) (sym y.matches.time ∙ y.time));
-  waiting = rw other y.waiting;
-  response = λ told. absurd (both_ways _ other told);
-}
+awaits-other s host got h x other y =
+    from-settled s host (Some got) h h x y refl (omega arith) (rw other (still y)) (rw other) (λ told. absurd (both_ways _ other told))
 
 -- time goes by
 pub awaits-ticked : (s : Setup) (host : HostSetup) (ms : ℕ) (h : List Entry) (x : NamedHost) → IsSettled s host h x → Awaits s host None (Ticked ms ∷ h) x
-awaits-ticked s host ms h x y = record {
-  is = y.is;
-  last = y.last;
-  past = omega (arith, y.time);
-  log = log_of host h;
-  matches = y.matches;
-  same = tells-itself (Advances (record { 0 = clock h + ms }) ∷ log_of host h);
-  waiting = y.waiting;
-  response = tt;
-}
+awaits-ticked s host ms h x y = from-settled s host None h (Ticked ms ∷ h) x y refl (omega arith) (tells-itself _) refl tt
 
 -- a host of which nothing was said yet
 pub settled-new : (s : Setup) (host : HostSetup) (x : NamedHost) → IsHost s host x → x.core.clock ≡ 0 → x.core.last_ticket ≡ 0 → x.core.waiting ≡ []

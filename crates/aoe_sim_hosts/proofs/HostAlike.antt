@@ -39,61 +39,53 @@ both-about P None None same none some = none
 both-about P (Some d) (Some e) same none some = some d e cc
 both-about P _ _ same none some = absurd cc
 
-pub about-at : {a b : Host} (n : ℕ) → IsAlike a b → about (slice_get a.devices n) ≡ about (slice_get b.devices n)
-about-at {a} {b} n x = rw (← slice_get-map (λ (d : Device). d.about) a.devices n, x.abouts) (slice_get-map (λ (d : Device). d.about) b.devices n)
+module _ {a b : Host} (x : IsAlike a b) where
+  about-at : (n : ℕ) → about (slice_get a.devices n) ≡ about (slice_get b.devices n)
+  about-at n = rw (← slice_get-map (λ (d : Device). d.about) a.devices n, x.abouts) (slice_get-map (λ (d : Device). d.about) b.devices n)
 
--- PATHS
+  -- paths
+  paths-alike : (n : ℕ) → paths_to a n ≡ paths_to b n
+  paths-alike n =
+      let count = λ (ports : List Mac) (o : Option Device). option_map_or (λ (d : Device). length ports * length d.about.remotes.items) o 0 in
+      both-about (λ o p. count a.ports o ≡ count b.ports p) _ _ (about-at n) refl (λ d e same. rw (x.ports, same))
 
-paths-alike : (a b : Host) (n : ℕ) → IsAlike a b → paths_to a n ≡ paths_to b n
-paths-alike a b n x =
-    let count = λ (ports : List Mac) (o : Option Device). option_map_or (λ (d : Device). length ports * length d.about.remotes.items) o 0 in
-    both-about (λ o p. count a.ports o ≡ count b.ports p) _ _ (about-at n x) refl (λ d e same. rw (x.ports, same))
+  pub path-alike : (log : List Event) (sent : Sent) → IsOnNextPath a log sent → IsOnNextPath b log sent
+  path-alike log sent n = record { command = n.command; there = n.there; ticket = n.ticket; next = rw (paths-alike n.command.device.0) at n.next }
 
-pub path-alike : (a b : Host) (log : List Event) (sent : Sent) → IsAlike a b → IsOnNextPath a log sent → IsOnNextPath b log sent
-path-alike a b log sent x n = record {
-  command = n.command;
-  there = n.there;
-  ticket = n.ticket;
-  next = rw (paths-alike a b n.command.device.0 x) at n.next;
-}
+  -- frames
+  spelled-alike : (op : Op) (device : DeviceNo) (path : PathNo) (tag : ℕ) → spelled_for a op device path tag ≡ spelled_for b op device path tag
+  spelled-alike op device path tag =
+      let spelled = λ (ports : List Mac) (o : Option Device).
+      option_and_then (λ (d : Device). option_map (λ pair. request op d.about.id pair.1 pair.0 tag) (pair_at ports d.about.remotes.items path.0)) o in
+      both-about (λ o p. spelled a.ports o ≡ spelled b.ports p) _ _ (about-at device.0) refl (λ d e same. rw (x.ports, same))
 
--- FRAMES
+  pub frame-alike : (cs : List HostCommand) (sent : Sent) (f : List ℕ) → IsFrameOf a cs sent f → IsFrameOf b cs sent f
+  frame-alike cs sent f n = record {
+    command = n.command;
+    there = n.there;
+    ticket = n.ticket;
+    bytes = sym (spelled-alike n.command.op n.command.device sent.path sent.tag) ∙ n.bytes;
+  }
 
-spelled-alike : (a b : Host) (op : Op) (device : DeviceNo) (path : PathNo) (tag : ℕ) → IsAlike a b
-    → spelled_for a op device path tag ≡ spelled_for b op device path tag
-spelled-alike a b op device path tag x =
-    let spelled = λ (ports : List Mac) (o : Option Device).
-    option_and_then (λ (d : Device). option_map (λ pair. request op d.about.id pair.1 pair.0 tag) (pair_at ports d.about.remotes.items path.0)) o in
-    both-about (λ o p. spelled a.ports o ≡ spelled b.ports p) _ _ (about-at device.0 x) refl (λ d e same. rw (x.ports, same))
+  -- what may be sent next
+  next-by : (t : Bool) (cs : List HostCommand) (sent : Sent) → IsNextBy t a cs sent → IsNextBy t b cs sent
+  next-by true cs sent n = record { command = n.command; first_due = rw x.clock at n.first_due; ticket = n.ticket; tag = n.tag }
+  next-by false cs sent n = record {
+    nothing_due = rw x.clock at n.nothing_due;
+    room = rw (x.life, x.clock, x.room) at n.room;
+    command = n.command;
+    there = n.there;
+    ticket = n.ticket;
+    clear = rw (x.life, x.clock) at n.clear;
+    lowest = rw (x.life, x.clock) at n.lowest;
+    free = rw (x.life, x.clock) at n.free;
+  }
 
-pub frame-alike : (a b : Host) (cs : List HostCommand) (sent : Sent) (f : List ℕ) → IsAlike a b → IsFrameOf a cs sent f → IsFrameOf b cs sent f
-frame-alike a b cs sent f x n = record {
-  command = n.command;
-  there = n.there;
-  ticket = n.ticket;
-  bytes = sym (spelled-alike a b n.command.op n.command.device sent.path sent.tag x) ∙ n.bytes;
-}
+  pub next-alike : (cs : List HostCommand) (sent : Sent) → IsNext a cs sent → IsNext b cs sent
+  next-alike cs sent n = next-by sent.again cs sent n
 
--- WHAT MAY BE SENT NEXT
-
-next-by : (t : Bool) (a b : Host) (cs : List HostCommand) (sent : Sent) → IsAlike a b → IsNextBy t a cs sent → IsNextBy t b cs sent
-next-by true a b cs sent x n = record { command = n.command; first_due = rw x.clock at n.first_due; ticket = n.ticket; tag = n.tag }
-next-by false a b cs sent x n = record {
-  nothing_due = rw x.clock at n.nothing_due;
-  room = rw (x.life, x.clock, x.room) at n.room;
-  command = n.command;
-  there = n.there;
-  ticket = n.ticket;
-  clear = rw (x.life, x.clock) at n.clear;
-  lowest = rw (x.life, x.clock) at n.lowest;
-  free = rw (x.life, x.clock) at n.free;
-}
-
-pub next-alike : (a b : Host) (cs : List HostCommand) (sent : Sent) → IsAlike a b → IsNext a cs sent → IsNext b cs sent
-next-alike a b cs sent x n = next-by sent.again a b cs sent x n
-
-pub quiet-alike : (a b : Host) (cs : List HostCommand) → IsAlike a b → IsQuiet a cs → IsQuiet b cs
-quiet-alike a b cs x n = record { nothing_due = rw x.clock at n.nothing_due; nothing_clear = rw (x.life, x.clock, x.room) at n.nothing_clear }
+  pub quiet-alike : (cs : List HostCommand) → IsQuiet a cs → IsQuiet b cs
+  quiet-alike cs n = record { nothing_due = rw x.clock at n.nothing_due; nothing_clear = rw (x.life, x.clock, x.room) at n.nothing_clear }
 
 -- A HOST AND WHAT THE HISTORY SAYS OF IT
 

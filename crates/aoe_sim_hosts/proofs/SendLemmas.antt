@@ -1,5 +1,5 @@
 -- A host sends a frame: the request of the command that is next, which bears its tag and goes on its path.
-use Rattle.std.proofs.Common.{ℕ, ◌≡◌, ◌<◌, List, ◌∷◌, ◌++◌, length, Some, refl, sym, ap, ◌∙◌, append_assoc, Contains}
+use Rattle.std.proofs.Common.{ℕ, ◌≡◌, ◌<◌, List, ◌∷◌, ◌++◌, length, Some, refl, sym, ap, subst, ◌∙◌, append_assoc, Contains}
 use Rattle.std.specs.Prelude.{slice_get}
 use Rattle.std.proofs.lemmas.List.Elements.{All-contains}
 use Rattle.std.proofs.lemmas.Nat.{from_be_bytes-to_be_bytes_4}
@@ -16,8 +16,8 @@ use Rattle.aoe_initiator.specs.declared.device.Attached.{Attached}
 use Rattle.aoe_initiator.specs.declared.op.Op.{Op}
 use Rattle.aoe_initiator.specs.declared.step.Sent as step
 use Rattle.aoe_initiator.specs.Host.{Host, Matches}
-use Rattle.aoe_initiator.specs.HostLaw.{spelled_for, IsFrameOf, IsNext, IsOnNextPath, IsQuiet}
-use Rattle.aoe_initiator.specs.HostLog.{commands, Event}
+use Rattle.aoe_initiator.specs.HostLaw.{IsFrameOf, IsNext, IsOnNextPath, IsQuiet}
+use Rattle.aoe_initiator.specs.HostLog.{commands, Event, HostCommand}
 use Rattle.aoe_initiator.specs.HostLog.Event.{Sends}
 use Rattle.aoe_initiator.specs.Request.{arguments, request, request_header}
 use Rattle.aoe_initiator.proofs.ListLemmas.{Contains-get}
@@ -26,13 +26,13 @@ use Rattle.aoe_paths.specs.PathTable.{new_paths, pair_at}
 use Rattle.aoe_paths.proofs.PairLemmas.{pair-split}
 use Rattle.aoe_history.specs.declared.entry.Entry.{Entry}
 use Rattle.aoe_history.specs.declared.entry.Entry.TheVariants.{Sent}
-use Rattle.aoe_history.specs.Commands.{commands_of, host_after, log_of, path_of, submission, Submission}
+use Rattle.aoe_history.specs.Commands.{commands_of, host_after, log_of, path_of, submission}
 use Rattle.aoe_history.specs.Frames.{network, next_number}
 use Rattle.aoe_history.specs.Groups.{SendsSome}
 use Rattle.aoe_history.specs.Groups.SendsSome.{sends_one}
 use Rattle.aoe_history.specs.HostLaw.{IsSent}
 use Rattle.aoe_history.specs.Lawful.{IsLawful, MayCome}
-use Rattle.aoe_history.specs.Setup.{device_no, HostSetup, Setup}
+use Rattle.aoe_history.specs.Setup.{HostSetup, Setup}
 use Rattle.aoe_sim_hosts.specs.Host.{AreAddresses, IsHost, IsSettled, NamedHost}
 use Rattle.aoe_sim_hosts.specs.Turns.{HasSent}
 use Rattle.aoe_sim_hosts.proofs.HostAlike.{about, alike, frame-alike, next-alike, path-alike, quiet-alike}
@@ -65,7 +65,7 @@ request-bears op id remote local tag d s small =
     let h = request_header op id remote local tag in
     rw (append_assoc (header_bytes h) (arguments op)) (bears-header h _ d s small)
 
--- THE PATH OF A FRAME
+-- THE FRAME THAT IS SENT
 
 -- a frame is the request to a device of a host, between the ports that a path joins
 pub record IsRequest (host : HostSetup) (op : Op) (device : DeviceNo) (path : PathNo) (tag : ℕ) (f : List ℕ) : Type 0 where
@@ -76,56 +76,50 @@ pub record IsRequest (host : HostSetup) (op : Op) (device : DeviceNo) (path : Pa
   pub joined : pair_at host.ports about.remotes.items path.0 ≡ Some (local, remote)
   pub is : request op about.id remote local tag ≡ f
 
-spelled-request : (s : Setup) (host : HostSetup) (x : NamedHost) (op : Op) (device : DeviceNo) (path : PathNo) (tag : ℕ) (f : List ℕ) → IsHost s host x
-    → spelled_for x.core op device path tag ≡ Some f
-    → IsRequest host op device path tag f
-spelled-request s host x op device path tag f is e =
-    let d = some-then _ (slice_get x.core.devices device.0) f e in
-    let spelt = some-mapped _ (pair_at x.core.ports d.0.about.remotes.items path.0) f d.2 in
-    record {
-      about = d.0.about;
-      there = sym (about-kept s host x device.0 is) ∙ ap about d.1;
-      local = spelt.0.0;
-      remote = spelt.0.1;
-      joined = ap (λ (ports : List Mac). pair_at ports d.0.about.remotes.items path.0) (sym is.ports) ∙ spelt.1;
-      is = spelt.2;
-    }
-
-module _ {s : Setup} {host : HostSetup} {x : NamedHost} (is : IsHost s host x) {op : Op} {device : DeviceNo} {path : PathNo} {tag : ℕ} {f : List ℕ}
-    (r : IsRequest host op device path tag f) (small : tag < 4294967296) where
-  there : Contains host.devices r.about
-  there = Contains-get host.devices device.0 r.about r.there
-
-  its-header : Bears f (request_header op r.about.id r.remote r.local tag)
-  its-header =
-      let ends = pair-split (new_paths host.ports r.about.remotes.items) path.0 r.local r.remote r.joined in
-      let own = All-contains (λ (a : Mac). length a.0 ≡ 6) host.ports r.local is.addresses (Contains-get host.ports _ r.local ends.0) in
-      let remotes = All-contains (λ (d : Attached). AreAddresses d.remotes.items) host.devices r.about is.remote_addresses there in
-      let other = All-contains (λ (a : Mac). length a.0 ≡ 6) r.about.remotes.items r.remote remotes (Contains-get r.about.remotes.items _ r.remote ends.1) in
-      rw (← r.is) (request-bears op r.about.id r.remote r.local tag other own small)
-
-  -- the history reads the path of a frame from its addresses
-  its-path : (asked : Submission) → device ≡ device_no host asked.dev → path_of host (Some asked) f ≡ path
-  its-path asked device_is =
-      let far = All-contains (λ (d : Attached). IsDistinct d.remotes.items) host.devices r.about is.remotes there in
-      rw (← ap (λ (n : DeviceNo). n.0) device_is, r.there, its-header.src, its-header.dst)
-      (path-given host r.about path.0 r.local r.remote is.distinct far r.joined)
-
--- THE FRAME THAT IS SENT
-
 module _ (s : Setup) (host : HostSetup) (h : List Entry) (x : NamedHost) (settled : IsSettled s host h x) (lawful : IsLawful s h)
     (sent : step.Sent) (f : List ℕ) (frame : IsFrameOf x.core (commands_of host h) sent f) (small : sent.tag < 4294967296) where
-  of : IsRequest host frame.command.op frame.command.device sent.path sent.tag f
-  of = spelled-request s host x frame.command.op frame.command.device sent.path sent.tag f settled.is frame.bytes
+  abbrev is : IsHost s host x
+  is = settled.is
 
+  abbrev c : HostCommand
+  c = frame.command
+
+  of : IsRequest host c.op c.device sent.path sent.tag f
+  of =
+      let d = some-then _ (slice_get x.core.devices c.device.0) f frame.bytes in
+      let spelt = some-mapped _ (pair_at x.core.ports d.0.about.remotes.items sent.path.0) f d.2 in
+      record {
+        about = d.0.about;
+        there = sym (about-kept s host x c.device.0 is) ∙ ap about d.1;
+        local = spelt.0.0;
+        remote = spelt.0.1;
+        joined = ap (λ (ports : List Mac). pair_at ports d.0.about.remotes.items sent.path.0) (sym is.ports) ∙ spelt.1;
+        is = spelt.2;
+      }
+
+  there : Contains host.devices of.about
+  there = Contains-get host.devices c.device.0 of.about of.there
+
+  bears : Bears f (request_header c.op of.about.id of.remote of.local sent.tag)
+  bears =
+      let ends = pair-split (new_paths host.ports of.about.remotes.items) sent.path.0 of.local of.remote of.joined in
+      let own = All-contains (λ (a : Mac). length a.0 ≡ 6) host.ports of.local is.addresses (Contains-get host.ports _ of.local ends.0) in
+      let remotes = All-contains (λ (d : Attached). AreAddresses d.remotes.items) host.devices of.about is.remote_addresses there in
+      let other = All-contains (λ (a : Mac). length a.0 ≡ 6) of.about.remotes.items of.remote remotes (Contains-get _ _ of.remote ends.1) in
+      subst (λ (g : List ℕ). Bears g (request_header c.op of.about.id of.remote of.local sent.tag)) of.is
+      (request-bears c.op of.about.id of.remote of.local sent.tag other own small)
+
+  -- the history reads the path of a frame from its addresses
   path-back : path_of host (submission host h sent.ticket.0) f ≡ sent.path
   path-back =
-      let asked = submitted-of s host x.name settled.is.called h lawful frame.command frame.there in
-      rw (← frame.ticket, asked.there) (its-path settled.is of small asked.asked asked.device)
+      let asked = submitted-of s host x.name is.called h lawful c frame.there in
+      let far = All-contains (λ (d : Attached). IsDistinct d.remotes.items) host.devices of.about is.remotes there in
+      rw (← frame.ticket, asked.there, ← ap (λ (n : DeviceNo). n.0) asked.device, of.there, bears.src, bears.dst)
+      (path-given host of.about sent.path.0 of.local of.remote is.distinct far of.joined)
 
   -- the history says of the frame what the host did
   pub log-sent : log_of host (Sent x.name sent.ticket.0 (next_number h) f ∷ h) ≡ Sends sent.ticket sent.tag sent.path ∷ log_of host h
-  log-sent = rw (is-called s x.name host settled.is.called, (its-header settled.is of small).tag, path-back)
+  log-sent = rw (is-called s x.name host is.called, bears.tag, path-back)
 
 -- a frame that the core of a host gave
 pub record Pulled (old : Host) (sent : step.Sent) (f : List ℕ) (new : Host) : Type 0 where
@@ -152,9 +146,9 @@ module _ {s : Setup} {host : HostSetup} {name : ArrayVec ℕ} {h m : List Entry}
       let is_sent : IsSent s host m sent.ticket.0 (next_number m) f = record {
         sent = sent;
         ticket_is = refl;
-        may = next-alike x.core (host_after s host m) (commands log) sent same (pulled.next log matches);
-        path = path-alike x.core (host_after s host m) log sent same (pulled.path log matches);
-        frame = frame-alike x.core (host_after s host m) (commands log) sent f same (pulled.frame log matches);
+        may = next-alike same (commands log) sent (pulled.next log matches);
+        path = path-alike same log sent (pulled.path log matches);
+        frame = frame-alike same (commands log) sent f (pulled.frame log matches);
         tag_fits = pulled.small;
         number_is = refl;
       } in
@@ -180,5 +174,5 @@ pub settled-quiet : (s : Setup) (host : HostSetup) (h : List Entry) (x : NamedHo
     → IsSettled s host h (record { name = x.name; core = new }) × IsQuiet (host_after s host h) (commands_of host h)
 settled-quiet s host h x new settled quiet stays same = (
   settled-same s host h h x _ refl same refl refl (stays (log_of host h) settled.matches) settled,
-  quiet-alike x.core (host_after s host h) (commands_of host h) (alike s host h x settled.is settled.time) (quiet (log_of host h) settled.matches),
+  quiet-alike (alike s host h x settled.is settled.time) (commands_of host h) (quiet (log_of host h) settled.matches),
 )

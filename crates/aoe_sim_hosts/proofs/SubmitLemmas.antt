@@ -1,6 +1,6 @@
 -- What a host submits, by what it keeps and by the history.
 use Rattle.std.proofs.Common.{ℕ, suc, ◌+◌, ◌<◌, ◌≡◌, true, List, ◌∷◌, length, map, Option, Some, None, refl, sym, ap, ◌∙◌, arith, add-one}
-use Rattle.std.specs.Prelude.{◌≢◌, position, unwrap_or, IfErr, IfNone, IfOk, IfSome, OnErr, Result, Ok, Err}
+use Rattle.std.specs.Prelude.{◌≢◌, position, IfErr, IfNone, IfOk, IfSome, OnErr, Result, Ok, Err}
 use Rattle.std.specs.Option.{option_and_then}
 use Rattle.std.proofs.lemmas.List.{length-map}
 use Rattle.arrayvec.specs.ArrayVec.{ArrayVec}
@@ -14,7 +14,7 @@ use Rattle.aoe_history.specs.declared.entry.Entry.TheVariants.{Refused, Submitte
 use Rattle.aoe_history.specs.Commands.{host_after, log_of, tickets}
 use Rattle.aoe_history.specs.Groups.{submit_entry, submitted_as}
 use Rattle.aoe_history.specs.Lawful.{IsLawful}
-use Rattle.aoe_history.specs.Setup.{device_no, device_place, is_called, HostSetup, Setup}
+use Rattle.aoe_history.specs.Setup.{device_place, is_called, HostSetup, Setup}
 use Rattle.aoe_sim_hosts.specs.Host.{Awaits, IsSettled, NamedHost}
 use Rattle.aoe_sim_hosts.proofs.Apart.{awaits-settled, settled-apart}
 use Rattle.aoe_sim_hosts.proofs.Called.{is-called}
@@ -51,9 +51,6 @@ refusal-after s host h x n op law y inside =
     let refused = both-about (λ o p. refusal o ≡ refusal p) _ _ (about-after s host h n ∙ sym (about-kept s host x n y.is)) refl (λ d e same. rw same) in
     rw (held, refused)
 
-device-number : (host : HostSetup) (dev : TargetId) (device : DeviceNo) → device_place host dev ≡ Some device.0 → device_no host dev ≡ device
-device-number host dev device place = ap (λ (o : Option ℕ). let d : DeviceNo = record { 0 = unwrap_or o 0 } in d) place
-
 -- an entry of what is submitted, behind which the host is settled
 abbrev pub IsEntered : Setup → HostSetup → List Entry → NamedHost → NamedHost → TargetId → Op → Entry → Type 0
 IsEntered s host h x z dev op entry = (entry ≡ submitted_as s host h x.name dev op) × IsLawful s (entry ∷ h) × IsSettled s host (entry ∷ h) z
@@ -64,14 +61,11 @@ module _ (s : Setup) (host : HostSetup) (h : List Entry) (x : NamedHost) (dev : 
   at : device_place host dev ≡ Some device.0
   at = place-about x.core.devices host.devices dev y.is.devices ∙ place
 
-  number : device_no host dev ≡ device
-  number = device-number host dev device at
-
   answer : (o : Option SubmitRefusal) → submit_refusal x.core device.0 op ≡ o → submit_refusal (host_after s host h) device.0 op ≡ o
   answer o e = refusal-after s host h x device.0 op law y inside ∙ e
 
   entry-is : (o : Option SubmitRefusal) → submit_refusal x.core device.0 op ≡ o → submit_entry s host h x.name dev op o ≡ submitted_as s host h x.name dev op
-  entry-is o e = ap (submit_entry s host h x.name dev op) (sym (ap (λ (d : DeviceNo). submit_refusal (host_after s host h) d.0 op) number ∙ answer o e))
+  entry-is o e = rw (at, answer o e)
 
   -- a command is taken
   pub taken : (z : NamedHost) (ticket : Ticket) → CanSubmit op → submit_refusal x.core device.0 op ≡ None → z.name ≡ x.name → HasTaken x.core z.core ticket
@@ -84,7 +78,7 @@ module _ (s : Setup) (host : HostSetup) (h : List Entry) (x : NamedHost) (dev : 
       is = host-same s host x z name same.0 y.is;
       last = rw mine (same.2 ∙ is_next);
       time = same.1 ∙ y.time;
-      matches = rw (mine, number) (matches (log_of host h) y.matches);
+      matches = rw (mine, at) (matches (log_of host h) y.matches);
       waiting = same.3 ∙ y.waiting;
     },
   )
@@ -142,18 +136,15 @@ refused-as (Some q) r p op some none other =
 module _ (x z : NamedHost) (dev : TargetId) (device : DeviceNo) (op copy : Op) (n : ArrayVec ℕ) (law : IsHeldLaw)
     (place : position (λ (d : Device). same_id d.about.id dev) x.core.devices ≡ Some device.0) (inside : device.0 < length x.core.devices)
     (can : CanSubmit op) (copied : copy ≡ op) (named : n ≡ x.name) (name : z.name ≡ x.name) where
-  by-answer : (answer : Answer) → Answers x.core z.core device op answer → (entry : Entry)
-      → IfOk answer (λ t. entry ≡ Submitted n t.0 dev copy) → IfErr answer (λ e. (entry ≡ Refused n e.0) × (e.0 ≢ NoRoom)) → IsEntry x z dev op entry
-  by-answer (Ok t) a entry is other s host h y lawful =
-      rw (is, named, copied) (taken s host h x dev device op law y lawful place inside z t can (not-refused _ t op a.refused) name a.same a.ticket a.matches)
-  by-answer (Err (r, p)) a entry is other s host h y lawful =
-      rw (other.0, named, same-host z x name a.unchanged) (refused s host h x dev device op law y lawful place inside r can (refused-as _ r p op a.refused a.no_memory other.1))
-
   -- what is taken down of an operation, by what the core answers
   pub entered : (answer : Answer) → Answers x.core z.core device op answer → (result : Result Entry NoMemory)
       → IfOk result (λ entry. IfOk answer (λ t. entry ≡ Submitted n t.0 dev copy))
       → IfOk result (λ entry. IfErr answer (λ e. (entry ≡ Refused n e.0) × (e.0 ≢ NoRoom))) → IfOk result (IsEntry x z dev op)
-  entered answer a (Ok entry) is other = by-answer answer a entry is other
+  entered (Ok t) a (Ok entry) is other = λ s host h y lawful.
+      rw (is, named, copied) (taken s host h x dev device op law y lawful place inside z t can (not-refused _ t op a.refused) name a.same a.ticket a.matches)
+  entered (Err (r, p)) a (Ok entry) is other = λ s host h y lawful.
+      let refusal = refused-as _ r p op a.refused a.no_memory other.1 in
+      rw (other.0, named, same-host z x name a.unchanged) (refused s host h x dev device op law y lawful place inside r can refusal)
   entered answer a (Err e) is other = tt
 
 -- the devices stay, whatever the core answers

@@ -36,63 +36,42 @@ tells-ended a b (d ∷ dones) same = let x = tells-ended a b dones same in recor
   paths = λ n. rw (x.time, x.commands_are, x.paths n);
 }
 
--- THE COMMANDS THAT ARE GIVEN UP
-
--- what comes of it that commands of a lawful history were given up
-pub record IsNoted (s : Setup) (host : HostSetup) (name : ArrayVec ℕ) (h : List Entry) (dones : List Done) : Type 0 where
-  pub gives : GivesUp name h (noted name dones h)
-  pub lawful : IsLawful s (noted name dones h)
-  pub log : log_of host (noted name dones h) ≡ ended dones (log_of host h)
-  pub time : clock (noted name dones h) ≡ clock h
-  pub tickets_are : tickets host (noted name dones h) ≡ tickets host h
+-- a host took down some outcomes: the history is lawful, no time went by, no ticket was given, and this is what the host did
+pub record Tells (s : Setup) (host : HostSetup) (h m : List Entry) (log : List Event) : Type 0 where
+  pub lawful : IsLawful s m
+  pub log_is : log_of host m ≡ log
+  pub time : clock m ≡ clock h
+  pub tickets_are : tickets host m ≡ tickets host h
 
 module _ (s : Setup) (host : HostSetup) (name : ArrayVec ℕ) (called : host_called s name ≡ Some host) (h : List Entry) (lawful : IsLawful s h) where
   own : is_called host name ≡ true
   own = is-called s name host called
 
+  -- commands were given up in turn
   gave-up : (log : List Event) (now : ℕ) → now ≡ clock h → TellsSame log (log_of host h) → (dones : List Done) → GaveUpInTurn host.dead now log dones
-      → IsNoted s host name h dones
-  gave-up log now time same [] given = record { gives = gives_none; lawful = lawful; log = refl; time = refl; tickets_are = refl }
+      → GivesUp name h (noted name dones h) × Tells s host h (noted name dones h) (ended dones (log_of host h))
+  gave-up log now time same [] given = (gives_none, record { lawful = lawful; log_is = refl; time = refl; tickets_are = refl })
   gave-up log now time same (d ∷ dones) given =
-      let before = gave-up log now time same dones given.0 in
+      let (gives, before) = gave-up log now time same dones given.0 in
       let m : List Entry = noted name dones h in
       let o = given.1.0 in
       let is : d ≡ given_up now o = given.1.2 in
-      let sames : commands (ended dones log) ≡ commands_of host m = (tells-ended log (log_of host h) dones same).commands_are ∙ ap commands (sym before.log) in
+      let sames : commands (ended dones log) ≡ commands_of host m = (tells-ended log (log_of host h) dones same).commands_are ∙ ap commands (sym before.log_is) in
       let still : now ≡ clock m = time ∙ sym before.time in
       let may : IsDone s host m d.ticket.0 d.outcome
-      = inr (record { command = o; late = rw (sames, still) at given.1.1; ticket_is = rw is; gives = rw (is, still) }) in
-      record {
-        gives = rw is (gives_one o.ticket.0 o.flying.first (record { 0 = now }) before.gives);
-        lawful = (rw called may, before.lawful);
-        log = rw (is, own, before.log);
-        time = before.time;
-        tickets_are = before.tickets_are;
-      }
+      = inr (record { command = o; late = rw (sames, still) at given.1.1; ticket_is = rw is; gives = rw (is, still) }) in (
+        rw is (gives_one o.ticket.0 o.flying.first (record { 0 = now }) gives),
+        record { lawful = (rw called may, before.lawful); log_is = rw (is, own, before.log_is); time = before.time; tickets_are = before.tickets_are },
+      )
 
--- THE OUTCOME OF THE RESPONSE
-
--- what comes of it that the outcome of a response was told
-pub record IsTold (s : Setup) (host : HostSetup) (name : ArrayVec ℕ) (got : Option Got) (h : List Entry) : Type 0 where
-  pub lawful : IsLawful s (told name host got h)
-  pub log : log_of host (told name host got h) ≡ log_with host got h
-  pub time : clock (told name host got h) ≡ clock h
-  pub tickets_are : tickets host (told name host got h) ≡ tickets host h
-  pub is : noted name (told_of host got) h ≡ told name host got h
-
-told-first : (s : Setup) (host : HostSetup) (name : ArrayVec ℕ) (got : Option Got) (h : List Entry) → host_called s name ≡ Some host → IsLawful s h
-    → IfSome got (λ x. is_told host x ≡ true → IsAnswered s host h x.ticket x.outcome) → IsTold s host name got h
-told-first s host name None h called lawful answered = record { lawful = lawful; log = refl; time = refl; tickets_are = refl; is = refl }
-told-first s host name (Some got) h called lawful answered = elim (cases_Bool (is_told host got)) [
-  | inl mine ↦ record {
-    lawful = rw (mine, called) (inl (answered mine), lawful);
-    log = rw (mine, is-called s name host called);
-    time = rw mine;
-    tickets_are = rw mine;
-    is = rw mine;
-  }
-  | inr other ↦ record { lawful = rw other lawful; log = rw other; time = rw other; tickets_are = rw other; is = rw other }
-]
+  -- the outcome of a response was told
+  told-first : (got : Option Got) → IfSome got (λ x. is_told host x ≡ true → IsAnswered s host h x.ticket x.outcome)
+      → Tells s host h (told name host got h) (log_with host got h) × (noted name (told_of host got) h ≡ told name host got h)
+  told-first None answered = (record { lawful = lawful; log_is = refl; time = refl; tickets_are = refl }, refl)
+  told-first (Some got) answered = elim (cases_Bool (is_told host got)) [
+    | inl mine ↦ (record { lawful = rw (mine, called) (inl (answered mine), lawful); log_is = rw (mine, own); time = rw mine; tickets_are = rw mine }, rw mine)
+    | inr other ↦ (record { lawful = rw other lawful; log_is = rw other; time = rw other; tickets_are = rw other }, rw other)
+  ]
 
 -- LISTS OF OUTCOMES
 
@@ -150,30 +129,31 @@ pub record Advanced (x : NamedHost) (h : List Entry) (core : Host) : Type 0 wher
 
 module _ (s : Setup) (host : HostSetup) (got : Option Got) (h : List Entry) (x : NamedHost) (a : Awaits s host got h x)
     (lawful : IsLawful s h) (core : Host) (went : Advanced x h core) where
-  first : IsTold s host x.name got h
-  first = told-first s host x.name got h a.is.called lawful a.response
-
   abbrev mid : List Entry
   mid = told x.name host got h
 
   abbrev log : List Event
   log = Advances went.now ∷ a.log
 
+  first : Tells s host h mid (log_with host got h) × (noted x.name (told_of host got) h ≡ mid)
+  first = told-first s host x.name a.is.called h lawful got a.response
+
   time : core.clock ≡ clock h
   time = omega (arith, a.past, went.at, went.time)
 
   same : TellsSame log (log_of host mid)
-  same = rw first.log (rw (← went.at) at a.same)
+  same = rw first.0.log_is (rw (← went.at) at a.same)
 
   -- some of the commands were given up in turn
-  noted-some : (before rest : List Done) → went.dones ≡ before ++ rest → IsNoted s host x.name mid rest
+  noted-some : (before rest : List Done) → went.dones ≡ before ++ rest
+      → GivesUp x.name mid (noted x.name rest mid) × Tells s host mid (noted x.name rest mid) (ended rest (log_of host mid))
   noted-some before rest whole =
       let given = rw (a.is.dead, whole) at (went.gave a.log a.matches).0 in
-      gave-up s host x.name a.is.called mid first.lawful log core.clock (time ∙ sym first.time) same rest
+      gave-up s host x.name a.is.called mid first.0.lawful log core.clock (time ∙ sym first.0.time) same rest
       (given-behind host.dead core.clock log before rest given)
 
   noted-is : (dones rest : List Done) → dones ≡ rest ++ told_of host got → noted x.name dones h ≡ noted x.name rest mid
-  noted-is dones rest is = rw (is, noted-append x.name rest (told_of host got) h, first.is)
+  noted-is dones rest is = rw (is, noted-append x.name rest (told_of host got) h, first.1)
 
   reversed : (dones rest : List Done) → core.waiting ≡ reverse dones ++ rest → reverse rest ++ dones ≡ went.dones ++ told_of host got
   reversed dones rest waited = turned (told_of host got) went.dones dones rest (few-told host got) (rw (went.waiting, a.waiting) at waited)
@@ -183,30 +163,30 @@ module _ (s : Setup) (host : HostSetup) (got : Option Got) (h : List Entry) (x :
   begun m rest notes = elim (behind (reverse rest) notes.dones went.dones (told_of host got) (reversed notes.dones rest notes.waited) (few-told host got)) [
     | inl none ↦ rw (notes.is, none) (record { begun = inl refl; lawful = lawful })
     | inr b ↦
-        let n = noted-some b.before b.rest b.whole in
-        rw (notes.is, noted-is notes.dones b.rest b.is) (record { begun = inr n.gives; lawful = n.lawful })
+        let (gives, n) = noted-some b.before b.rest b.whole in
+        rw (notes.is, noted-is notes.dones b.rest b.is) (record { begun = inr gives; lawful = n.lawful })
   ]
 
   -- all outcomes were told
   pub told-all : (m : List Entry) (y : NamedHost) → Notes x.name core.waiting [] h m → y ≡ record { name = x.name; core = record core { waiting = [] } }
       → HasTold s host got h m y
   told-all m y notes is_y =
-      let n = noted-some [] went.dones refl in
+      let (gives, n) = noted-some [] went.dones refl in
       let e : List Entry = noted x.name went.dones mid in
       let gave = went.gave a.log a.matches in
-      let now : core.clock ≡ clock e = time ∙ sym (n.time ∙ first.time) in
+      let now : core.clock ≡ clock e = time ∙ sym (n.time ∙ first.0.time) in
       let sames = tells-ended log (log_of host mid) went.dones same in
       let w = went.same in
       let kept : IsSame x.core (record core { waiting = [] }) = record { ports = w.ports; life = w.life; room = w.room; dead = w.dead; devices = w.devices } in
       rw (notes.is, noted-is notes.dones went.dones (reversed notes.dones [] notes.waited), is_y) (record {
-        gives_up = n.gives;
-        none_late = rw (a.is.dead, now, sames.commands_are, ← n.log) at gave.1;
+        gives_up = gives;
+        none_late = rw (a.is.dead, now, sames.commands_are, ← n.log_is) at gave.1;
         lawful = n.lawful;
         settled = record {
           is = host-same s host x _ refl kept a.is;
-          last = went.last ∙ a.last ∙ sym (n.tickets_are ∙ first.tickets_are);
+          last = went.last ∙ a.last ∙ sym (n.tickets_are ∙ first.0.tickets_are);
           time = now;
-          matches = matches-taken (log_of host e) core [] (rw (← n.log) at (matches-same _ _ core sames gave.2));
+          matches = matches-taken (log_of host e) core [] (rw (← n.log_is) at (matches-same _ _ core sames gave.2));
           waiting = refl;
         };
       })

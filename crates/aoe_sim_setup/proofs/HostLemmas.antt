@@ -103,7 +103,8 @@ module _ (lines : List Line) (good : AreGood lines) where
   hosts-apart = ordered-filtered _ (host_in lines) lines (λ i j a b lt p q c d s t.
       let x = host-at lines i a c p s in
       let y = host-at lines j b d q t in
-      let new = names-behind lines good x.0.line.at y.0.line.at _ y.0.name (omega arith) x.0.line.there (good.host y.0.line.at _ _ _ _ y.0.line.there).new_name in
+      let g = good.host y.0.line.at _ _ _ _ y.0.line.there in
+      let new = names-behind lines good x.0.line.at y.0.line.at _ y.0.name (omega arith) x.0.line.there g.new_name in
       rw (← x.0.host_is, ← y.0.host_is) new.1)
 
   found-host : (i : ℕ) (host : HostSetup) (name : ArrayVec ℕ) → slice_get (setup_of lines).hosts i ≡ Some host → is_called host name ≡ true

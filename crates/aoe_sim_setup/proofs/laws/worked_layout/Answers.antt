@@ -15,7 +15,8 @@ each-good _ = refl
 
 one-fits : (n : ℕ) → n < 256 → All IsAddress (port n ∷ [])
 one-fits n small =
-    All-cons IsAddress (port n) [] record { six = refl; bytes = All-from_recursion IsByte (port n).0 (omega arith, (omega arith, (omega arith, (omega arith, (omega arith, (small, tt)))))) }
+    All-cons IsAddress (port n) []
+    record { six = refl; bytes = All-from_recursion IsByte (port n).0 (omega arith, (omega arith, (omega arith, (omega arith, (omega arith, (small, tt)))))) }
     (All-nil IsAddress)
 
 pub returns-clause-script : goal.returns-clause-script

@@ -25,7 +25,8 @@ pub returns-clause-ok : goal.returns-clause-ok
 returns-clause-ok c = on-ok c.tell_all.result c.tell_all.ensures.ok (λ all s host got a lawful.
     told-all s host got c.args.run.now.entries _ (rw (← c.self.view_is) at a) lawful c.advance.new.self (went c)
     c.tell_all.new.run.entries c.tell_all.new.self all.0
-    (c.tell_all.ensures.same ∙ ap (λ (w : List Done). let z : NamedHost = record { name = c.self.inside.name; core = record c.advance.new.self { waiting = w } } in z) all.1))
+    (c.tell_all.ensures.same
+    ∙ ap (λ (w : List Done). let z : NamedHost = record { name = c.self.inside.name; core = record c.advance.new.self { waiting = w } } in z) all.1))
 
 pub returns-clause-err : goal.returns-clause-err
 returns-clause-err c = on-err c.tell_all.result c.tell_all.ensures.err (λ some s host got a lawful.

@@ -6,7 +6,8 @@ use Rattle.aoe_sim_hosts.proofs.host.NamedHost.enter.Goals as goal
 
 pub invariant_of-self : goal.invariant_of-self
 invariant_of-self c =
-    ids-same _ _ _ (devices-stay c.self.inside.core c.submit-answer.new.self c.submit-answer.result c.submit-answer.ensures.same c.submit-answer.ensures.unchanged) c.self.invariant
+    let e = c.submit-answer.ensures in
+    ids-same _ _ _ (devices-stay c.self.inside.core c.submit-answer.new.self c.submit-answer.result e.same e.unchanged) c.self.invariant
 
 pub returns-clause-ok : goal.returns-clause-ok
 returns-clause-ok c =
@@ -17,5 +18,5 @@ returns-clause-ok c =
     let d = c.device-device in
     entered c.args.self.now z c.args.dev d.result c.args.op c.args.copy c.copy_of-host.result c.held_law.ensures d.ensures.place d.ensures.inside
     c.requires.can c.requires.same (c.copy_of-host.ensures ∙ name) name c.submit-answer.result
-    (rw (← c.self.view_is) (record { refused = e.refused; no_memory = e.no_memory; ticket = e.ticket; matches = e.matches; same = e.same; unchanged = e.unchanged })
-    ) c.entry_of.result f.taken f.refused
+    (rw (← c.self.view_is)
+    (record { refused = e.refused; no_memory = e.no_memory; ticket = e.ticket; matches = e.matches; same = e.same; unchanged = e.unchanged })) c.entry_of.result f.taken f.refused

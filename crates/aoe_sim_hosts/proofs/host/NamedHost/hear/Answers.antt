@@ -12,9 +12,8 @@ pub returns-clause-heard : goal.returns-clause-heard
 returns-clause-heard c =
     let z : NamedHost = record { name = c.self.inside.name; core = c.receive.new.self } in
     let x : NamedHost = record { name = c.self.inside.name; core = c.self.inside.core } in
-    let same = c.receive.ensures.same in
     let said : is_stale c.receive.result ≡ c.match-receive.result = elim c.match-receive.branch [
       | in-Finished w ↦ ap is_stale w.in-Finished.is ∙ sym w.result-is
       | in-Stale w ↦ ap is_stale w.in-Stale.is ∙ sym w.result-is
     ] in
-    rw (← c.self.view_is, ← said) (heard x z c.args.frame.now c.receive.result refl same.0 same.1 same.2 c.receive.ensures.taken)
+    rw (← c.self.view_is, ← said) (heard x z c.args.frame.now c.receive.result refl c.receive.ensures.same c.receive.ensures.taken)

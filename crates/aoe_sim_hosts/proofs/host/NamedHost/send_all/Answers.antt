@@ -5,6 +5,7 @@ use Rattle.aoe_sim_hosts.specs.Host.{NamedHost}
 use Rattle.aoe_sim_hosts.proofs.IdLemmas.{ids-same}
 use Rattle.aoe_sim_hosts.proofs.SendLemmas.{sends-full, sent-more, settled-quiet, Pulled}
 use Rattle.aoe_sim_hosts.proofs.host.NamedHost.send_all.Goals as goal
+use Rattle.aoe_sim_hosts.proofs.host.NamedHost.send_all.Goals.{After-send}
 
 pub frames-init : goal.frames-init
 frames-init c = record {
@@ -23,19 +24,23 @@ pub invariant_of-self-in_default : goal.invariant_of-self-in_default
 invariant_of-self-in_default c =
     ids-same c.frames.self-inside.ids.items c.frames.self-inside.core.devices c.pull.new.self.devices c.pull.ensures.same.0.devices c.frames.invariant.ids
 
+pulled : (c : After-send) → Pulled c.frames.self-inside.core c.in-Some.sent c.pull.new.out.items c.pull.new.self
+pulled c =
+    let step = c.in-Some.ensures in
+    record { next = step.next; frame = step.frame; path = step.path; sends = step.sends; same = step.same; small = omega arith }
+
 pub frames-preserved : goal.frames-preserved
 frames-preserved c =
     let step = c.in-Some.ensures in
     let i = c.frames.invariant in
-    let pulled : Pulled c.frames.self-inside.core c.in-Some.sent c.pull.new.out.items c.pull.new.self
-    = record { next = step.next; frame = step.frame; path = step.path; sends = step.sends; same = step.same; small = omega arith } in
     let more = rw c.as_slice.ensures.value at c.in-Ok.ensures.ok in
     record {
       ids = ids-same c.frames.self-inside.ids.items c.frames.self-inside.core.devices c.pull.new.self.devices step.same.0.devices i.ids;
       life = ap (λ (r : Recorded). r.life) more ∙ i.life;
       name = i.name;
       tickets = step.same.2 ∙ i.tickets;
-      sent = λ s host settled lawful. sent-more i.name pulled (i.sent s host settled lawful) c.send.new.self.entries (ap (λ (r : Recorded). r.entries) more);
+      sent = λ s host settled lawful.
+          sent-more i.name (pulled c.before) (i.sent s host settled lawful) c.send.new.self.entries (ap (λ (r : Recorded). r.entries) more);
     }
 
 pub returns-in-Err-clause-some : goal.returns-in-Err-clause-some
@@ -43,12 +48,9 @@ returns-in-Err-clause-some c = λ s host settled lawful. rw c.in-Err.ensures.err
 
 pub returns-in-Err-clause-full : goal.returns-in-Err-clause-full
 returns-in-Err-clause-full c = λ is_full s host settled lawful.
-    let step = c.in-Some.ensures in
     let i = c.frames.invariant in
-    let pulled : Pulled c.frames.self-inside.core c.in-Some.sent c.pull.new.out.items c.pull.new.self
-    = record { next = step.next; frame = step.frame; path = step.path; sends = step.sends; same = step.same; small = omega arith } in
     rw c.in-Err.ensures.err
-    (sends-full i.name pulled (i.sent s host settled lawful) c.frames.run.life (rw c.as_slice.ensures.value at (c.in-Err.ensures.full is_full)))
+    (sends-full i.name (pulled c.before) (i.sent s host settled lawful) c.frames.run.life (rw c.as_slice.ensures.value at (c.in-Err.ensures.full is_full)))
 
 pub returns-clause-some : goal.returns-clause-some
 returns-clause-some c = λ s host settled lawful. (c.frames.invariant.sent s host settled lawful).0

@@ -13,5 +13,6 @@ outcomes-preserved c =
       life = ap (λ (r : Recorded). r.life) more ∙ i.life;
       same = told-same c.args.self.now c.outcomes.self c.self.inside.name c.self.inside.core c.take_done.new.self c.self.view_is i.same step.same;
       notes = noted-more c.args.self.now.name c.args.self.now.core.waiting c.outcomes.self.core.waiting c.take_done.new.self.waiting c.in-Some.done
-          c.args.run.now.entries c.outcomes.run.entries c.tell.new.run.entries i.notes (rw (← c.self.view_is) step.first) (ap (λ (r : Recorded). r.entries) more);
+          c.args.run.now.entries c.outcomes.run.entries c.tell.new.run.entries i.notes (rw (← c.self.view_is) step.first)
+          (ap (λ (r : Recorded). r.entries) more);
     }
