@@ -1,8 +1,8 @@
 -- What the host law says of a host by its history, and what a host keeps of it.
-use Rattle.std.proofs.Common.{ℕ, zero, suc, ◌+◌, ◌≤◌, ◌<◌, ◌≡◌, inl, inr, if◌then◌else◌, nat_eq, Bool, true, false, List, [], ◌∷◌, length, map, Option, Some, None, refl, sym, ap, ◌∙◌, arith, add-zero, zero-add, Contains}
-use Rattle.std.specs.Prelude.{drop, slice_get}
-use Rattle.std.specs.Option.{option_and_then, option_map_or}
-use Rattle.std.proofs.lemmas.Bool.{cases_Bool, eq-eqb, ne_eqb, not-false}
+use Rattle.std.proofs.Common.{ℕ, zero, suc, ◌+◌, ◌≤◌, ◌<◌, ◌≡◌, inl, inr, nat_eq, true, false, List, [], ◌∷◌, length, map, Some, refl, sym, ap, ◌∙◌, arith, add-zero, zero-add, Contains}
+use Rattle.std.specs.Prelude.{slice_get}
+use Rattle.std.specs.Option.{option_map_or}
+use Rattle.std.proofs.lemmas.Bool.{cases_Bool, cond_both, eq-eqb, ne_eqb, not-false}
 use Rattle.std.proofs.lemmas.List.Elements.{Contains-push_cases}
 use Rattle.std.proofs.lemmas.Option.{slice_get-map}
 use Rattle.arrayvec.specs.ArrayVec.{ArrayVec}
@@ -10,7 +10,6 @@ use Rattle.aoe_base.specs.declared.address.Mac.{Mac}
 use Rattle.aoe_base.specs.declared.address.TargetId.{TargetId}
 use Rattle.aoe_base.specs.declared.counted.Ticket.{Ticket}
 use Rattle.aoe_frame.specs.declared.header.Header.{Header}
-use Rattle.aoe_frame.specs.Header.{head}
 use Rattle.aoe_hold.specs.Commands.{unsent_count}
 use Rattle.aoe_history.specs.declared.entry.Entry.{Entry}
 use Rattle.aoe_history.specs.declared.entry.Entry.TheVariants.{Submitted, Sent, Took, Done, Ticked}
@@ -28,7 +27,6 @@ use Rattle.aoe_initiator.specs.declared.op.Op.{Op}
 use Rattle.aoe_initiator.specs.Host.{Host}
 use Rattle.aoe_initiator.specs.HostLaw.{answer_to, is_answered, is_from}
 use Rattle.aoe_initiator.specs.HostLog.{at_ticket, commands, entered_at, HostCommand}
-use Rattle.aoe_initiator.specs.Response.{answer}
 use Rattle.aoe_history.proofs.LogicLemmas.{if-true}
 use Rattle.aoe_initiator.proofs.ListLemmas.{Contains-map_from}
 
@@ -52,8 +50,8 @@ about-kept s host x n is = rw (← slice_get-map (λ (d : Device). d.about) x.co
 
 -- how many commands wait there for their first send, by the history
 pub unsent-after : (s : Setup) (host : HostSetup) (h : List Entry) (n : ℕ) → n < length host.devices
-    → option_map_or (λ (d : Device). unsent_count d.holds.commands) (slice_get (host_after s host h).devices n) 0 ≡ unsent_count
-    (entered_at n (commands_of host h))
+    → option_map_or (λ (d : Device). unsent_count d.holds.commands) (slice_get (host_after s host h).devices n) 0
+    ≡ unsent_count (entered_at n (commands_of host h))
 unsent-after s host h n inside = rw zero-add at (devices-unsent host.ports s.life (clock h) (commands_of host h) 0 host.devices n inside)
 
 -- ---- what a frame answers
@@ -68,13 +66,9 @@ answered-same a b c h ports devices =
 -- two hosts with the same ports and devices are answered the same
 pub answer-same : (a b : Host) (c : HostCommand) (f : List ℕ) → a.ports ≡ b.ports
     → about (slice_get a.devices c.device.0) ≡ about (slice_get b.devices c.device.0) → answer_to a c f ≡ answer_to b c f
-answer-same a b c f ports devices = go (head f)
-  where
-    go : (o : Option Header)
-        → option_and_then (λ h. if is_answered a c h then answer c.op h (drop 24 f) else None) o ≡ option_and_then
-        (λ h. if is_answered b c h then answer c.op h (drop 24 f) else None) o
-    go None = refl
-    go (Some h) = rw (answered-same a b c h ports devices)
+answer-same a b c f ports devices =
+    let same : (h : Header) → is_answered a c h ≡ is_answered b c h = λ h. answered-same a b c h ports devices in
+    simp same
 
 -- what a frame answers by what the host keeps, and by the history
 pub answer-after : (s : Setup) (host : HostSetup) (h : List Entry) (x : NamedHost) (c : HostCommand) (f : List ℕ) → IsHost s host x
@@ -116,11 +110,7 @@ keeps-submission host h n c y (ticket, device, op) more same x = record {
 }
 
 asks-at : (t : Ticket) (change : HostCommand → HostCommand) → ((c : HostCommand) → Asks (change c) c) → (c : HostCommand) → Asks (at_ticket t change c) c
-asks-at t change each c = go (nat_eq c.ticket.0 t.0)
-  where
-    go : (b : Bool) → Asks (if b then change c else c) c
-    go true = each c
-    go false = (refl, refl, refl)
+asks-at t change each c = cond_both (nat_eq c.ticket.0 t.0) (change c) c (λ y. Asks y c) (λ _. each c) (λ _. (refl, refl, refl))
 
 module _ (host : HostSetup) (h n : List Entry) (count : tickets host n ≡ tickets host h)
     (same : (c : ℕ) → submission host n c ≡ submission host h c) (before : AreSubmissions host h) where
@@ -134,8 +124,7 @@ module _ (host : HostSetup) (h n : List Entry) (count : tickets host n ≡ ticke
   same-commands is c there = keeps-submission host h n c c (refl, refl, refl) (omega arith) (same c.ticket.0) (before c (rw is at there))
 
 submitted-now : (host : HostSetup) (h : List Entry) (name : ArrayVec ℕ) (t : ℕ) (dev : TargetId) (op : Op) → is_called host name ≡ true
-    → t ≡ suc (tickets host h)
-    → AreSubmissions host h → AreSubmissions host (Submitted name t dev op ∷ h)
+    → t ≡ suc (tickets host h) → AreSubmissions host h → AreSubmissions host (Submitted name t dev op ∷ h)
 submitted-now host h name t dev op own next before c there = elim (Contains-push_cases (commands_of host h) _ c (rw own at there)) [
   | inl old ↦
       let x = before c old in
