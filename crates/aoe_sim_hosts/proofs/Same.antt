@@ -49,8 +49,7 @@ abbrev pub Stays : Host → Host → Type 0
 Stays a b = IsSame a b × (b.clock ≡ a.clock) × (b.last_ticket ≡ a.last_ticket) × (b.waiting ≡ a.waiting)
 
 pub settled-same : (s : Setup) (host : HostSetup) (h n : List Entry) (x y : NamedHost) → y.name ≡ x.name → Stays x.core y.core
-    → tickets host n ≡ tickets host h → clock n ≡ clock h
-    → Matches (log_of host n) y.core → IsSettled s host h x → IsSettled s host n y
+    → tickets host n ≡ tickets host h → clock n ≡ clock h → Matches (log_of host n) y.core → IsSettled s host h x → IsSettled s host n y
 settled-same s host h n x y name same count time matches settled = record {
   is = host-same s host x y name same.0 settled.is;
   last = same.2 ∙ settled.last ∙ sym count;

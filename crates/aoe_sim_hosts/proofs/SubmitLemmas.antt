@@ -42,8 +42,7 @@ HasTaken x z t = IsSame x z × (z.clock ≡ x.clock) × (z.last_ticket ≡ t.0) 
 
 -- a host refuses what the history says
 pub refusal-after : (s : Setup) (host : HostSetup) (h : List Entry) (x : NamedHost) (n : ℕ) (op : Op) → IsHeldLaw → IsSettled s host h x
-    → n < length x.core.devices
-    → submit_refusal (host_after s host h) n op ≡ submit_refusal x.core n op
+    → n < length x.core.devices → submit_refusal (host_after s host h) n op ≡ submit_refusal x.core n op
 refusal-after s host h x n op law y inside =
     let long = simp length-map at (ap length y.is.devices) in
     let held = unsent-after s host h n (omega arith) ∙ sym (law (log_of host h) x.core n y.matches inside) in
@@ -51,57 +50,16 @@ refusal-after s host h x n op law y inside =
     let refused = both-about (λ o p. refusal o ≡ refusal p) _ _ (about-after s host h n ∙ sym (about-kept s host x n y.is)) refl (λ d e same. rw same) in
     rw (held, refused)
 
+-- ---- what is taken down
+
 -- an entry of what is submitted, behind which the host is settled
 abbrev pub IsEntered : Setup → HostSetup → List Entry → NamedHost → NamedHost → TargetId → Op → Entry → Type 0
 IsEntered s host h x z dev op entry = (entry ≡ submitted_as s host h x.name dev op) × IsLawful s (entry ∷ h) × IsSettled s host (entry ∷ h) z
 
-module _ (s : Setup) (host : HostSetup) (h : List Entry) (x : NamedHost) (dev : TargetId) (device : DeviceNo) (op : Op)
-    (law : IsHeldLaw) (y : IsSettled s host h x) (lawful : IsLawful s h)
-    (place : position (λ (d : Device). same_id d.about.id dev) x.core.devices ≡ Some device.0) (inside : device.0 < length x.core.devices) where
-  at : device_place host dev ≡ Some device.0
-  at = place-about x.core.devices host.devices dev y.is.devices ∙ place
-
-  answer : (o : Option SubmitRefusal) → submit_refusal x.core device.0 op ≡ o → submit_refusal (host_after s host h) device.0 op ≡ o
-  answer o e = refusal-after s host h x device.0 op law y inside ∙ e
-
-  entry-is : (o : Option SubmitRefusal) → submit_refusal x.core device.0 op ≡ o → submit_entry s host h x.name dev op o ≡ submitted_as s host h x.name dev op
-  entry-is o e = rw (at, answer o e)
-
-  -- a command is taken
-  pub taken : (z : NamedHost) (ticket : Ticket) → CanSubmit op → submit_refusal x.core device.0 op ≡ None → z.name ≡ x.name → HasTaken x.core z.core ticket
-      → ticket.0 ≡ x.core.last_ticket + 1 → ((log : List Event) → Matches log x.core → Matches (Submits ticket device op ∷ log) z.core)
-      → IsEntered s host h x z dev op (Submitted x.name ticket.0 dev op)
-  taken z ticket can fine name same next matches = (
-    rw is_next (entry-is None fine),
-    (rw y.is.called (record { device = device.0; attached = at; can = can; taken = answer None fine; next = is_next }), lawful),
-    record {
-      is = host-same s host x z name same.0 y.is;
-      last = rw mine (same.2 ∙ is_next);
-      time = same.1 ∙ y.time;
-      matches = rw (mine, at) (matches (log_of host h) y.matches);
-      waiting = same.3 ∙ y.waiting;
-    },
-  )
-    where
-      mine : is_called host x.name ≡ true
-      mine = is-called s x.name host y.is.called
-
-      is_next : ticket.0 ≡ suc (tickets host h)
-      is_next = next ∙ add-one x.core.last_ticket ∙ ap suc y.last
-
-  -- a command is refused
-  pub refused : (refusal : SubmitRefusal) → CanSubmit op → submit_refusal x.core device.0 op ≡ Some refusal
-      → IsEntered s host h x x dev op (Refused x.name refusal)
-  refused refusal can no_room = (
-    entry-is (Some refusal) no_room,
-    (rw y.is.called (dev, op, record { device = device.0; attached = at; can = can; refused = answer (Some refusal) no_room }), lawful),
-    settled-apart s host (Refused x.name refusal) h x refl y,
-  )
-
--- ---- what is taken down
-
 abbrev pub IsEntry : NamedHost → NamedHost → TargetId → Op → Entry → Type 0
 IsEntry x z dev op entry = (s : Setup) (host : HostSetup) (h : List Entry) → IsSettled s host h x → IsLawful s h → IsEntered s host h x z dev op entry
+
+-- ---- what the core answers
 
 abbrev pub Answer : Type 0
 Answer = Result Ticket (SubmitRefusal × Op)
@@ -133,19 +91,59 @@ refused-as (Some q) r p op some none other =
     let is : pair ≡ said = cc in
     ap (λ (e : SubmitRefusal × Op). Some e.0) (sym is)
 
-module _ (x z : NamedHost) (dev : TargetId) (device : DeviceNo) (op copy : Op) (n : ArrayVec ℕ) (law : IsHeldLaw)
-    (place : position (λ (d : Device). same_id d.about.id dev) x.core.devices ≡ Some device.0) (inside : device.0 < length x.core.devices)
-    (can : CanSubmit op) (copied : copy ≡ op) (named : n ≡ x.name) (name : z.name ≡ x.name) where
+-- ---- a command of a host
+
+module _ (x : NamedHost) (dev : TargetId) (device : DeviceNo) (op : Op) (law : IsHeldLaw) (can : CanSubmit op)
+    (place : position (λ (d : Device). same_id d.about.id dev) x.core.devices ≡ Some device.0) (inside : device.0 < length x.core.devices) where
+  module _ (s : Setup) (host : HostSetup) (h : List Entry) (y : IsSettled s host h x) (lawful : IsLawful s h) where
+    at : device_place host dev ≡ Some device.0
+    at = place-about x.core.devices host.devices dev y.is.devices ∙ place
+
+    answer : (o : Option SubmitRefusal) → submit_refusal x.core device.0 op ≡ o → submit_refusal (host_after s host h) device.0 op ≡ o
+    answer o e = refusal-after s host h x device.0 op law y inside ∙ e
+
+    entry-is : (o : Option SubmitRefusal) → submit_refusal x.core device.0 op ≡ o → submit_entry s host h x.name dev op o ≡ submitted_as s host h x.name dev op
+    entry-is o e = rw (at, answer o e)
+
+    -- a command is taken
+    taken : (z : NamedHost) (ticket : Ticket) → submit_refusal x.core device.0 op ≡ None → z.name ≡ x.name → HasTaken x.core z.core ticket
+        → ticket.0 ≡ x.core.last_ticket + 1 → ((log : List Event) → Matches log x.core → Matches (Submits ticket device op ∷ log) z.core)
+        → IsEntered s host h x z dev op (Submitted x.name ticket.0 dev op)
+    taken z ticket fine name same next matches = (
+      rw is_next (entry-is None fine),
+      (rw y.is.called (record { device = device.0; attached = at; can = can; taken = answer None fine; next = is_next }), lawful),
+      record {
+        is = host-same s host x z name same.0 y.is;
+        last = rw mine (same.2 ∙ is_next);
+        time = same.1 ∙ y.time;
+        matches = rw (mine, at) (matches (log_of host h) y.matches);
+        waiting = same.3 ∙ y.waiting;
+      },
+    )
+      where
+        mine : is_called host x.name ≡ true
+        mine = is-called s x.name host y.is.called
+
+        is_next : ticket.0 ≡ suc (tickets host h)
+        is_next = next ∙ add-one x.core.last_ticket ∙ ap suc y.last
+
+    -- a command is refused
+    refused : (refusal : SubmitRefusal) → submit_refusal x.core device.0 op ≡ Some refusal → IsEntered s host h x x dev op (Refused x.name refusal)
+    refused refusal no_room = (
+      entry-is (Some refusal) no_room,
+      (rw y.is.called (dev, op, record { device = device.0; attached = at; can = can; refused = answer (Some refusal) no_room }), lawful),
+      settled-apart s host (Refused x.name refusal) h x refl y,
+    )
+
   -- what is taken down of an operation, by what the core answers
-  pub entered : (answer : Answer) → Answers x.core z.core device op answer → (result : Result Entry NoMemory)
-      → IfOk result (λ entry. IfOk answer (λ t. entry ≡ Submitted n t.0 dev copy))
+  pub entered : (z : NamedHost) (copy : Op) (n : ArrayVec ℕ) → copy ≡ op → n ≡ x.name → z.name ≡ x.name → (answer : Answer) → Answers x.core z.core device op answer
+      → (result : Result Entry NoMemory) → IfOk result (λ entry. IfOk answer (λ t. entry ≡ Submitted n t.0 dev copy))
       → IfOk result (λ entry. IfErr answer (λ e. (entry ≡ Refused n e.0) × (e.0 ≢ NoRoom))) → IfOk result (IsEntry x z dev op)
-  entered (Ok t) a (Ok entry) is other = λ s host h y lawful.
-      rw (is, named, copied) (taken s host h x dev device op law y lawful place inside z t can (not-refused _ t op a.refused) name a.same a.ticket a.matches)
-  entered (Err (r, p)) a (Ok entry) is other = λ s host h y lawful.
-      let refusal = refused-as _ r p op a.refused a.no_memory other.1 in
-      rw (other.0, named, same-host z x name a.unchanged) (refused s host h x dev device op law y lawful place inside r can refusal)
-  entered answer a (Err e) is other = tt
+  entered z copy n copied named name (Ok t) a (Ok entry) is other = λ s host h y lawful.
+      rw (is, named, copied) (taken s host h y lawful z t (not-refused _ t op a.refused) name a.same a.ticket a.matches)
+  entered z copy n copied named name (Err (r, p)) a (Ok entry) is other = λ s host h y lawful.
+      rw (other.0, named, same-host z x name a.unchanged) (refused s host h y lawful r (refused-as _ r p op a.refused a.no_memory other.1))
+  entered z copy n copied named name answer a (Err e) is other = tt
 
 -- the devices stay, whatever the core answers
 pub devices-stay : (x z : Host) (answer : Answer) → IfOk answer (λ t. HasTaken x z t) → OnErr answer (z ≡ x)
@@ -155,6 +153,5 @@ devices-stay x z (Err e) same unchanged = rw unchanged
 
 -- what an event line submits is taken down, and the host awaits its turn
 pub submitted-with : (s : Setup) (host : HostSetup) (h m : List Entry) (x z : NamedHost) (dev : TargetId) (op : Op) (entry : Entry) → m ≡ entry ∷ h
-    → IsEntered s host h x z dev op entry
-    → (m ≡ submitted_as s host h x.name dev op ∷ h) × IsLawful s m × Awaits s host None m z
+    → IsEntered s host h x z dev op entry → (m ≡ submitted_as s host h x.name dev op ∷ h) × IsLawful s m × Awaits s host None m z
 submitted-with s host h m x z dev op entry is t = rw is (rw t.0, t.1, awaits-settled s host (entry ∷ h) z t.2)

@@ -56,7 +56,8 @@ module _ (s : Setup) (host : HostSetup) (name : ArrayVec ℕ) (called : host_cal
       let m : List Entry = noted name dones h in
       let o = given.1.0 in
       let is : d ≡ given_up now o = given.1.2 in
-      let sames : commands (ended dones log) ≡ commands_of host m = (tells-ended log (log_of host h) dones same).commands_are ∙ ap commands (sym before.log_is) in
+      let sames : commands (ended dones log) ≡ commands_of host m
+      = (tells-ended log (log_of host h) dones same).commands_are ∙ ap commands (sym before.log_is) in
       let still : now ≡ clock m = time ∙ sym before.time in
       let may : IsDone s host m d.ticket.0 d.outcome
       = inr (record { command = o; late = rw (sames, still) at given.1.1; ticket_is = rw is; gives = rw (is, still) }) in (

@@ -1,11 +1,12 @@
 -- The ranges of what good lines declare.
-use Rattle.std.proofs.Common.{length, ℕ, suc, ◌<◌, ◌≤◌, ◌≡◌, ◌∙◌, true, List, [], ◌∷◌, Option, Some, None, refl, ap, arith}
+use Rattle.std.proofs.Common.{length, ℕ, suc, ◌<◌, ◌≤◌, ◌≡◌, ◌∙◌, ◌-◌, ◌/◌, true, List, [], ◌∷◌, Option, Some, None, refl, ap, arith}
 use Rattle.std.specs.Prelude.{slice_get, is_some, option_and_then, unwrap_or}
 use Rattle.std.specs.List.{find}
 use Rattle.std.proofs.lemmas.Bool.Decides.{nat_tests}
+use Rattle.arrayvec.specs.ArrayVec.{ArrayVec}
 use Rattle.aoe_initiator.specs.declared.device.Attached.{Attached}
 use Rattle.aoe_initiator.specs.HostLaw.{same_id}
-use Rattle.aoe_history.specs.Setup.{HostSetup, SlotSetup}
+use Rattle.aoe_history.specs.Setup.{HostSetup}
 use Rattle.aoe_script.specs.declared.setup.Setup.{Setup as Line}
 use Rattle.aoe_script.specs.declared.setup.Setup.TheVariants.{Life, Host}
 use Rattle.aoe_script.specs.Rules.{is_cache, is_host as is_host_line, is_limit}
@@ -13,9 +14,9 @@ use Rattle.aoe_sim_setup.specs.Layout.{host_in, default_dead, default_life, defa
 use Rattle.aoe_sim_setup.specs.Stations.{HasRanges, IsCache, IsDevice, IsHost, IsSlot}
 use Rattle.aoe_sim_setup.proofs.GoodLines.{within, AreGood}
 use Rattle.aoe_sim_setup.proofs.HostLemmas.{device-from, devices-apart, host-at, host-from, DeviceFrom, HostFrom}
+use Rattle.aoe_sim_setup.proofs.LineLemmas.{slot_in, SlotLine}
 use Rattle.aoe_sim_setup.proofs.ListLemmas.{apart-by, few-filtered}
-use Rattle.aoe_sim_setup.proofs.SetupLemmas.{most-sectors}
-use Rattle.aoe_sim_setup.proofs.SlotLemmas.{same-turn, slot-from, SlotFrom}
+use Rattle.aoe_sim_setup.proofs.SlotLemmas.{same-turn, slot-from}
 
 -- ---- numbers of a host
 
@@ -43,27 +44,22 @@ life-by (Life ms ∷ lines) few = few 0 ms refl
 life-by (_ ∷ lines) few = life-by lines (λ k ms e. few (suc k) ms e)
 
 module _ (lines : List Line) (good : AreGood lines) where
+  -- the ranges of a slot by its two lines
+  pub line-ranges : {name : ArrayVec ℕ} {minor : ℕ} (x : SlotLine lines name minor) → IsSlot (slot_in x) × (x.shelf.major < 65535) × (minor < 255)
+  line-ranges x =
+      let g = good.shelf x.shelf.at _ _ _ _ x.shelf.there in
+      let s = good.slot x.at _ _ _ _ x.there in
+      let some : 0 < (x.shelf.mtu - 36) / 512 = omega (arith, g.least) in
+      let most : (x.shelf.mtu - 36) / 512 ≤ 17 = omega (arith, g.most) in (
+        record { ports = g.ports_are; sectors = s.least; size = s.most; some = some; max = most; cache = is-cache x.room s.cache },
+        omega (arith, g.number),
+        omega (arith, s.number),
+      )
+
   is-device : (d : Attached) → DeviceFrom lines d → IsDevice d
   is-device d x =
-      let g = good.shelf x.line.shelf.at _ _ _ _ x.line.shelf.there in
-      let s = good.slot x.line.at _ _ _ _ x.line.there in
-      let m = most-sectors x.line.shelf.mtu g.least g.most in
-      rw (← x.device_is) (record {
-        remotes = g.ports_are;
-        major = omega (arith, g.number);
-        minor = omega (arith, s.number);
-        sectors = s.least;
-        size = s.most;
-        some = m.0;
-        max = m.1;
-      })
-
-  is-slot : (slot : SlotSetup) → SlotFrom lines slot → IsSlot slot
-  is-slot slot x =
-      let g = good.shelf x.line.shelf.at _ _ _ _ x.line.shelf.there in
-      let s = good.slot x.line.at _ _ _ _ x.line.there in
-      let m = most-sectors x.line.shelf.mtu g.least g.most in
-      rw (← x.slot_is) (record { ports = g.ports_are; sectors = s.least; size = s.most; some = m.0; max = m.1; cache = is-cache x.line.room s.cache })
+      let (s, major, minor) = line-ranges x.line in
+      rw (← x.device_is) (record { remotes = s.ports; major = major; minor = minor; sectors = s.sectors; size = s.size; some = s.some; max = s.max })
 
   is-host : (host : HostSetup) → HostFrom lines host → IsHost host
   is-host host h =
@@ -92,5 +88,5 @@ module _ (lines : List Line) (good : AreGood lines) where
     life = life-by lines good.life;
     few_hosts = few-hosts;
     hosts = λ i host e. is-host host (host-from lines i host e);
-    slots = λ i slot e. is-slot slot (slot-from lines good slot (record { at = i; there = e }));
+    slots = λ i slot e. let x = slot-from lines good slot (record { at = i; there = e }) in rw (← x.slot_is) (line-ranges x.line).0;
   }

@@ -1,5 +1,5 @@
 -- The setup of good lines is one.
-use Rattle.std.proofs.Common.{ℕ, ◌<◌, ◌≤◌, ◌≡◌, ◌∙◌, ◌-◌, ◌/◌, true, List, length, All, Some, refl, ap, arith, Contains}
+use Rattle.std.proofs.Common.{ℕ, ◌≡◌, ◌∙◌, true, List, length, All, Some, refl, ap, arith, Contains}
 use Rattle.std.specs.Prelude.{slice_get}
 use Rattle.aoe_base.specs.declared.address.Mac.{Mac}
 use Rattle.aoe_base.specs.Addresses.{holds}
@@ -14,10 +14,8 @@ use Rattle.aoe_sim_setup.proofs.HostLemmas.{device-from, host-from, DeviceFrom, 
 use Rattle.aoe_sim_setup.proofs.LineLemmas.{held-at, one-line, slot_in}
 use Rattle.aoe_sim_setup.proofs.ListLemmas.{contains-at, place-of}
 use Rattle.aoe_sim_setup.proofs.MacLemmas.{six-bytes}
+use Rattle.aoe_sim_setup.proofs.RangeLemmas.{line-ranges}
 use Rattle.aoe_sim_setup.proofs.SlotLemmas.{slot-found, slot-from, slot-placed, SlotFrom}
-
-pub most-sectors : (mtu : ℕ) → 1500 ≤ mtu → mtu ≤ 9000 → (0 < (mtu - 36) / 512) × ((mtu - 36) / 512 ≤ 17)
-most-sectors mtu least most = (omega arith, omega arith)
 
 module _ (lines : List Line) (good : AreGood lines) where
   host-of : (host : HostSetup) → Contains (setup_of lines).hosts host → HostFrom lines host
@@ -68,12 +66,11 @@ module _ (lines : List Line) (good : AreGood lines) where
         let shelf = y.line.shelf in
         two-kinds host slot x y (one-line lines good x.line.at shelf.at _ _ port x.line.there shelf.there (in-host host x port e) (in-slot slot y port f));
     slot_names = λ slot c. slot-found lines good slot (place-of (setup_of lines).slots slot c);
-    some_port = λ slot c. let x = slot-of slot c in rw (← x.slot_is) (good.shelf x.line.shelf.at _ _ _ _ x.line.shelf.there).ports_are.some;
-    majors = λ slot c. let x = slot-of slot c in let g = good.shelf x.line.shelf.at _ _ _ _ x.line.shelf.there in rw (← x.slot_is) (omega (arith, g.number));
-    minors = λ slot c. let x = slot-of slot c in let g = good.slot x.line.at _ _ _ _ x.line.there in rw (← x.slot_is) (omega (arith, g.number));
-    size = λ slot c. let x = slot-of slot c in let g = good.slot x.line.at _ _ _ _ x.line.there in rw (← x.slot_is) (omega (arith, g.most));
-    max = λ slot c. let x = slot-of slot c in let g = good.shelf x.line.shelf.at _ _ _ _ x.line.shelf.there in
-        rw (← x.slot_is) (most-sectors x.line.shelf.mtu g.least g.most).1;
+    some_port = λ slot c. let x = slot-of slot c in rw (← x.slot_is) (line-ranges lines good x.line).0.ports.some;
+    majors = λ slot c. let x = slot-of slot c in rw (← x.slot_is) (line-ranges lines good x.line).1;
+    minors = λ slot c. let x = slot-of slot c in rw (← x.slot_is) (line-ranges lines good x.line).2;
+    size = λ slot c. let x = slot-of slot c in let r = line-ranges lines good x.line in rw (← x.slot_is) (omega (arith, r.0.size));
+    max = λ slot c. let x = slot-of slot c in rw (← x.slot_is) (line-ranges lines good x.line).0.max;
     attached = λ host d p q.
         let h = host-of host p in
         let at = place-of host.devices d q in

@@ -42,8 +42,7 @@ not_not false = refl
 pub seen_more : {S : Type 0} (before after : HashSet Command S) (host : ArrayVec ℕ) (name : Bor (List ℕ)) (ticket frame : ℕ)
     (bytes : List ℕ) (is_new : Bool) (h : List Entry)
     → name.now ≡ host.items → is_new ≡ not (contains same_command before (name, ticket)) → Updates same_command before after (name, ticket) true
-    → HasSent before h
-    → (not is_new ≡ sends_again (Sent host ticket frame bytes) h) × HasSent after (Sent host ticket frame bytes ∷ h)
+    → HasSent before h → (not is_new ≡ sends_again (Sent host ticket frame bytes) h) × HasSent after (Sent host ticket frame bytes ∷ h)
 seen_more before after host name ticket frame bytes is_new h same was updates has = (
   rw (was, not_not, has (name, ticket), same),
   λ command. updates.0 command ∙ rw (or_cond, has command, same),
