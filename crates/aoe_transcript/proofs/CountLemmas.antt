@@ -1,6 +1,6 @@
 -- What one entry more counts.
-use Rattle.std.proofs.Common.{◌≡◌, ◌∙◌, ◌+◌, ◌<◌, ◌≤◌, ℕ, Bool, true, false, not, cond, ◌||◌, List, [], ◌∷◌, length, reverse, take, refl, add-zero, arith}
-use Rattle.std.specs.Prelude.{count_by, if◌then◌else◌, Some, slice_get}
+use Rattle.std.proofs.Common.{◌≡◌, ◌∙◌, ◌+◌, ◌<◌, ◌≤◌, ℕ, Bool, true, not, cond, ◌||◌, List, [], ◌∷◌, length, reverse, take, refl, add-zero, arith}
+use Rattle.std.specs.Prelude.{count_by, Some, slice_get}
 use Rattle.std.specs.Borrow.{Bor}
 use Rattle.std.specs.HashSet.{contains, HashSet, Updates}
 use Rattle.std.proofs.lemmas.List.{length-reverse, length-take, reverse-append, take_more}
@@ -32,12 +32,10 @@ arrived_counts before events n dev frame fate h is replies =
 -- ---- commands that were seen
 
 or_cond : (a b : Bool) → cond a true b ≡ (a || b)
-or_cond true b = refl
-or_cond false b = refl
+or_cond a b = grind arith
 
 not_not : (b : Bool) → not (not b) ≡ b
-not_not true = refl
-not_not false = refl
+not_not b = grind arith
 
 pub seen_more : {S : Type 0} (before after : HashSet Command S) (host : ArrayVec ℕ) (name : Bor (List ℕ)) (ticket frame : ℕ)
     (bytes : List ℕ) (is_new : Bool) (h : List Entry)
@@ -57,13 +55,9 @@ frames_within (Injected frame bytes ∷ h) = omega (arith, frames_within h)
 frames_within (Arrived dev frame (Replied effect number bytes) ∷ h) = omega (arith, frames_within h)
 frames_within (_ ∷ h) = omega (arith, frames_within h)
 
-at_most_one : (b : Bool) → (if b then 1 else 0) ≤ 1
-at_most_one true = omega arith
-at_most_one false = omega arith
-
 repeats_within : (h : List Entry) → repeats h ≤ length h
 repeats_within [] = omega arith
-repeats_within (entry ∷ h) = omega (arith, repeats_within h, at_most_one (sends_again entry h))
+repeats_within (entry ∷ h) = grind (arith, repeats_within h)
 
 pub counts_fit : (limit events : ℕ) (h : List Entry) → length h < limit → AreBelow limit (summary_of events h)
 counts_fit limit events h short = record {
