@@ -136,8 +136,8 @@ module _ (x : NamedHost) (dev : TargetId) (device : DeviceNo) (op : Op) (law : I
     )
 
   -- what is taken down of an operation, by what the core answers
-  pub entered : (z : NamedHost) (copy : Op) (n : ArrayVec ℕ) → copy ≡ op → n ≡ x.name → z.name ≡ x.name → (answer : Answer) → Answers x.core z.core device op answer
-      → (result : Result Entry NoMemory) → IfOk result (λ entry. IfOk answer (λ t. entry ≡ Submitted n t.0 dev copy))
+  pub entered : (z : NamedHost) (copy : Op) (n : ArrayVec ℕ) → copy ≡ op → n ≡ x.name → z.name ≡ x.name → (answer : Answer)
+      → Answers x.core z.core device op answer → (result : Result Entry NoMemory) → IfOk result (λ entry. IfOk answer (λ t. entry ≡ Submitted n t.0 dev copy))
       → IfOk result (λ entry. IfErr answer (λ e. (entry ≡ Refused n e.0) × (e.0 ≢ NoRoom))) → IfOk result (IsEntry x z dev op)
   entered z copy n copied named name (Ok t) a (Ok entry) is other = λ s host h y lawful.
       rw (is, named, copied) (taken s host h y lawful z t (not-refused _ t op a.refused) name a.same a.ticket a.matches)
