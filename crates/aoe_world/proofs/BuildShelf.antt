@@ -1,10 +1,10 @@
 -- A shelf that is built from the lines of a script.
-use Rattle.std.proofs.Common.{ℕ, ◌+◌, ◌≡◌, ◌∙◌, ◌≤◌, ◌==◌, Bool, true, false, if◌then◌else◌, ◌&&◌, ◌||◌, List, [], ◌∷◌, ◌++◌, length, take, Option, Some, None, refl, sym, ap, subst, arith}
+use Rattle.std.proofs.Common.{ℕ, ◌+◌, ◌≡◌, ◌≤◌, ◌==◌, Bool, true, false, if◌then◌else◌, ◌&&◌, ◌||◌, List, [], ◌∷◌, ◌++◌, length, take, Option, Some, None, refl, sym, arith}
 use Rattle.std.specs.Prelude.{map, slice_get, option_map, IfSome}
 use Rattle.std.specs.List.{cons_option, filter_map, list_any}
 use Rattle.std.specs.Option.{option_to_list}
 use Rattle.std.proofs.lemmas.Option.{slice_get_within}
-use Rattle.std.proofs.lemmas.List.{map-append}
+use Rattle.std.proofs.lemmas.List.{map-append, take_all}
 use Rattle.arrayvec.specs.ArrayVec.{ArrayVec}
 use Rattle.aoe_base.specs.declared.address.Mac.{Mac}
 use Rattle.aoe_history.specs.Setup.{shelf_of, SlotSetup}
@@ -15,28 +15,33 @@ use Rattle.aoe_sim_setup.proofs.RangeLemmas.{is-cache}
 use Rattle.aoe_sim_setup.proofs.SlotLemmas.{has-shelves}
 use Rattle.aoe_sim_shelves.specs.Rack.{MemoryRack, Serves}
 use Rattle.aoe_script.specs.declared.setup.Setup.{Setup as Line}
-use Rattle.aoe_script.specs.declared.setup.Setup.TheVariants.{Life, Shelf, Slot, Host, Attach}
+use Rattle.aoe_script.specs.declared.setup.Setup.TheVariants.{Shelf, Slot}
 use Rattle.aoe_script.specs.Lines.{IsScript, ScriptLines}
 use Rattle.aoe_script.specs.Rules.{is_slot, same}
 use Rattle.aoe_cache.specs.declared.any.AnyStore.{AnyStore}
 use Rattle.aoe_disk.specs.Memory.{Memory}
 use Rattle.aoe_target.specs.declared.station.Station.{Station}
 use Rattle.aoe_target.specs.Mounted.{Mounted}
-use Rattle.aoe_world.proofs.BuildLists.{any-map, at-own, grown, take-all}
+use Rattle.aoe_world.proofs.BuildLists.{any-map, at-own, grown}
 use Rattle.aoe_world.specs.Build.{CanAdd}
 use Rattle.aoe_world.specs.declared.build.SlotLine.{SlotLine}
+
+abbrev pub stations_of_slots : List SlotSetup → List Station
+stations_of_slots slots = map (λ (s : SlotSetup). s.station) slots
+
+abbrev pub stations_of_shelf : MemoryRack → List Station
+stations_of_shelf x = map (λ (t : Mounted (AnyStore Memory) Memory). t.station) x.shelf.targets
 
 -- a shelf with the slots of the first n lines
 pub record ShelfSoFar (lines : List Line) (name : ArrayVec ℕ) (major : ℕ) (ports : ArrayVec Mac) (mtu n : ℕ) (x : MemoryRack) : Type 0 where
   pub words : x.shelf ≡ record { major = major; ports = ports.items; mtu = mtu; targets = x.shelf.targets }
-  pub stations : map (λ (t : Mounted (AnyStore Memory) Memory). t.station) x.shelf.targets ≡ map (λ (s : SlotSetup). s.station) (filter_map (slot_of_shelf name major ports.items mtu) (take n lines))
+  pub stations : stations_of_shelf x ≡ stations_of_slots (filter_map (slot_of_shelf name major ports.items mtu) (take n lines))
   pub serves : Serves (filter_map (slot_of_shelf name major ports.items mtu) (take n lines)) [] x
 
 -- the slot that a line declares, as one of this shelf
 abbrev pub slot-given : MemoryRack → Option SlotLine → Option SlotSetup
 slot-given x slot = option_map (λ (z : SlotLine). slot_with x.shelf.major x.shelf.ports x.shelf.mtu z.minor z.sectors z.room) slot
 
--- the minor of a slot is that of its line
 and-true : (b : Bool) → (b && true) ≡ b
 and-true true = refl
 and-true false = refl
@@ -45,91 +50,75 @@ and-false : (b : Bool) → (b && false) ≡ false
 and-false true = refl
 and-false false = refl
 
-pub minors-are : (name : ArrayVec ℕ) (major : ℕ) (ports : List Mac) (mtu minor : ℕ) (lines : List Line)
+-- the minor of a slot is that of its line
+minors-are : (name : ArrayVec ℕ) (major : ℕ) (ports : List Mac) (mtu minor : ℕ) (lines : List Line)
     → list_any (λ (s : SlotSetup). s.station.id.minor == minor) (filter_map (slot_of_shelf name major ports mtu) lines) ≡ list_any (is_slot name minor) lines
 minors-are name major ports mtu minor [] = refl
-minors-are name major ports mtu minor (Life ms ∷ lines) = minors-are name major ports mtu minor lines
-minors-are name major ports mtu minor (Shelf other number list size ∷ lines) = minors-are name major ports mtu minor lines
 minors-are name major ports mtu minor (Slot other number sectors room ∷ lines) = go (same other name) (minors-are name major ports mtu minor lines)
   where
-    go : (b : Bool) → list_any (λ (s : SlotSetup). s.station.id.minor == minor) (filter_map (slot_of_shelf name major ports mtu) lines) ≡ list_any (is_slot name minor) lines
-        → list_any (λ (s : SlotSetup). s.station.id.minor == minor) (cons_option (if b then Some (slot_with major ports mtu number sectors room) else None) (filter_map (slot_of_shelf name major ports mtu) lines))
+    go : (b : Bool)
+        → list_any (λ (s : SlotSetup). s.station.id.minor == minor) (filter_map (slot_of_shelf name major ports mtu) lines) ≡ list_any (is_slot name minor) lines → list_any (λ (s : SlotSetup). s.station.id.minor == minor)
+        (cons_option (if b then Some (slot_with major ports mtu number sectors room) else None) (filter_map (slot_of_shelf name major ports mtu) lines))
         ≡ (((number == minor) && b) || list_any (is_slot name minor) lines)
-    go true more = ap (λ b. (number == minor) || b) more ∙ ap (λ b. b || list_any (is_slot name minor) lines) (sym (and-true (number == minor)))
-    go false more = more ∙ ap (λ b. b || list_any (is_slot name minor) lines) (sym (and-false (number == minor)))
-minors-are name major ports mtu minor (Host other list room dead ∷ lines) = minors-are name major ports mtu minor lines
-minors-are name major ports mtu minor (Attach host shelf number ∷ lines) = minors-are name major ports mtu minor lines
+    go true more = rw (and-true (number == minor), more)
+    go false more = rw (and-false (number == minor)) more
+minors-are name major ports mtu minor (line ∷ lines) = minors-are name major ports mtu minor lines
 
-module _ (lines : List Line) (name : ArrayVec ℕ) (major : ℕ) (ports : ArrayVec Mac) (mtu : ℕ) where
-  pub shelf-begun : (x : MemoryRack) → x ≡ record { shelf = record { major = major; ports = ports.items; mtu = mtu; targets = [] }; stops = [] } → Serves [] [] x → ShelfSoFar lines name major ports mtu 0 x
-  shelf-begun x e serves = record {
-    words = ap (λ (z : MemoryRack). z.shelf) e ∙ ap (λ ts. record { major = major; ports = ports.items; mtu = mtu; targets = ts }) (sym (ap (λ (z : MemoryRack). z.shelf.targets) e));
-    stations = ap (λ (z : MemoryRack). map (λ (t : Mounted (AnyStore Memory) Memory). t.station) z.shelf.targets) e;
-    serves = serves;
-  }
+pub shelf-begun : {lines : List Line} {name : ArrayVec ℕ} {major : ℕ} {ports : ArrayVec Mac} {mtu : ℕ} {x : MemoryRack}
+    → x ≡ record { shelf = record { major = major; ports = ports.items; mtu = mtu; targets = [] }; stops = [] } → Serves [] [] x
+    → ShelfSoFar lines name major ports mtu 0 x
+shelf-begun e serves = record { words = rw e; stations = rw e; serves = serves }
 
-  with-targets : (x y : MemoryRack) → x.shelf ≡ record { major = major; ports = ports.items; mtu = mtu; targets = x.shelf.targets }
-      → record x.shelf { targets = y.shelf.targets } ≡ record { major = major; ports = ports.items; mtu = mtu; targets = y.shelf.targets }
-  with-targets x y words =
-      ap (λ m. record { major = m; ports = x.shelf.ports; mtu = x.shelf.mtu; targets = y.shelf.targets }) (ap (λ z. z.major) words)
-      ∙ ap (λ ps. record { major = major; ports = ps; mtu = x.shelf.mtu; targets = y.shelf.targets }) (ap (λ z. z.ports) words)
-      ∙ ap (λ m. record { major = major; ports = ports.items; mtu = m; targets = y.shelf.targets }) (ap (λ z. z.mtu) words)
+module _ {lines : List Line} {name : ArrayVec ℕ} {major : ℕ} {ports : ArrayVec Mac} {mtu n : ℕ} {line : Line} {x : MemoryRack}
+    (at : slice_get lines n ≡ Some line) (k : ShelfSoFar lines name major ports mtu n x) where
+  pub shelf-more : (y : MemoryRack) (given : Option SlotSetup) → slot_of_shelf name x.shelf.major x.shelf.ports x.shelf.mtu line ≡ given
+      → ((before : List SlotSetup) → Serves before [] x → Serves (before ++ option_to_list given) [] y)
+      → stations_of_shelf y ≡ stations_of_shelf x ++ stations_of_slots (option_to_list given)
+      → y.shelf ≡ record x.shelf { targets = y.shelf.targets } → ShelfSoFar lines name major ports mtu (n + 1) y
+  shelf-more y given is serves stations rest =
+      let said : slot_of_shelf name major ports.items mtu line ≡ given = rw k.words at is in
+      let more = grown (slot_of_shelf name major ports.items mtu) lines n line at in
+      record {
+        words = rw k.words at rest;
+        stations = rw (stations, k.stations, more, said)
+            (sym (map-append (λ (s : SlotSetup). s.station) (filter_map (slot_of_shelf name major ports.items mtu) (take n lines)) (option_to_list given)));
+        serves = rw (more, said) (serves _ k.serves);
+      }
 
-  module _ (n : ℕ) (line : Line) (x : MemoryRack) (at : slice_get lines n ≡ Some line) (k : ShelfSoFar lines name major ports mtu n x) where
-    pub shelf-more : (y : MemoryRack) (given : Option SlotSetup) → slot_of_shelf name x.shelf.major x.shelf.ports x.shelf.mtu line ≡ given
-        → ((before : List SlotSetup) → Serves before [] x → Serves (before ++ option_to_list given) [] y)
-        → map (λ (t : Mounted (AnyStore Memory) Memory). t.station) y.shelf.targets ≡ map (λ (t : Mounted (AnyStore Memory) Memory). t.station) x.shelf.targets ++ map (λ (s : SlotSetup). s.station) (option_to_list given)
-        → y.shelf ≡ record x.shelf { targets = y.shelf.targets } → ShelfSoFar lines name major ports mtu (n + 1) y
-    shelf-more y given is serves stations rest =
-        let more : filter_map (slot_of_shelf name major ports.items mtu) (take n lines) ++ option_to_list given ≡ filter_map (slot_of_shelf name major ports.items mtu) (take (n + 1) lines)
-        = ap (λ o. filter_map (slot_of_shelf name major ports.items mtu) (take n lines) ++ option_to_list o) (sym is ∙ ap (λ z. slot_of_shelf name z.major z.ports z.mtu line) k.words)
-        ∙ sym (grown (slot_of_shelf name major ports.items mtu) lines n line at) in
-        record {
-          words = rest ∙ with-targets x y k.words;
-          stations = stations ∙ ap (λ zs. zs ++ map (λ (s : SlotSetup). s.station) (option_to_list given)) k.stations
-              ∙ sym (map-append (λ (s : SlotSetup). s.station) (filter_map (slot_of_shelf name major ports.items mtu) (take n lines)) (option_to_list given))
-              ∙ ap (map (λ (s : SlotSetup). s.station)) more;
-          serves = subst (λ z. Serves z [] y) more (serves (filter_map (slot_of_shelf name major ports.items mtu) (take n lines)) k.serves);
-        }
-
-    pub shelf-can : (minor sectors : ℕ) (cache : Option ℕ) → minor ≤ 254 → sectors ≤ 65536 → IsCache cache → list_any (is_slot name minor) (take n lines) ≡ false
-        → slot_of_shelf name major ports.items mtu line ≡ Some (slot_with major ports.items mtu minor sectors cache) → length (filter_map (slot_of_shelf name major ports.items mtu) lines) ≤ 16 → CanAdd minor sectors cache x
-    shelf-can minor sectors cache number size room new is few =
-        let before = filter_map (slot_of_shelf name major ports.items mtu) (take n lines) in
-        let own = slice_get_within (filter_map (slot_of_shelf name major ports.items mtu) lines) (length before) (slot_with major ports.items mtu minor sectors cache)
-        (at-own (slot_of_shelf name major ports.items mtu) lines n line (slot_with major ports.items mtu minor sectors cache) at is) in
-        let count = k.serves.count in
-        record {
-          number = omega (arith, number);
-          size = omega (arith, size);
-          cache = room;
-          few = omega (arith, own, few, count);
-          other = any-map (λ (t : Mounted (AnyStore Memory) Memory). t.station) (λ (z : Station). z.id.minor == minor) x.shelf.targets
-              ∙ ap (list_any (λ (z : Station). z.id.minor == minor)) k.stations
-              ∙ sym (any-map (λ (s : SlotSetup). s.station) (λ (z : Station). z.id.minor == minor) before)
-              ∙ minors-are name major ports.items mtu minor (take n lines)
-              ∙ new;
-        }
+  shelf-can : (minor sectors : ℕ) (cache : Option ℕ) → minor ≤ 254 → sectors ≤ 65536 → IsCache cache → list_any (is_slot name minor) (take n lines) ≡ false
+      → slot_of_shelf name major ports.items mtu line ≡ Some (slot_with major ports.items mtu minor sectors cache)
+      → length (filter_map (slot_of_shelf name major ports.items mtu) lines) ≤ 16 → CanAdd minor sectors cache x
+  shelf-can minor sectors cache number size room new is few =
+      let before = filter_map (slot_of_shelf name major ports.items mtu) (take n lines) in
+      let own = slice_get_within _ (length before) _ (at-own (slot_of_shelf name major ports.items mtu) lines n line _ at is) in
+      record {
+        number = omega (arith, number);
+        size = omega (arith, size);
+        cache = room;
+        few = omega (arith, own, few, k.serves.count);
+        other = rw (any-map (λ (t : Mounted (AnyStore Memory) Memory). t.station) (λ (z : Station). z.id.minor == minor) x.shelf.targets, k.stations,
+          ← any-map (λ (s : SlotSetup). s.station) (λ (z : Station). z.id.minor == minor) before, minors-are name major ports.items mtu minor (take n lines)) new;
+      }
 
 -- ---- a shelf of a script
 
-module _ (script : ScriptLines) (is : IsScript script) (at : ℕ) (name : ArrayVec ℕ) (major : ℕ) (ports : ArrayVec Mac) (mtu : ℕ) (there : slice_get script.setups at ≡ Some (Shelf name major ports mtu)) where
+module _ {script : ScriptLines} {name : ArrayVec ℕ} {major : ℕ} {ports : ArrayVec Mac} {mtu : ℕ} (is : IsScript script) (at : ℕ)
+    (there : slice_get script.setups at ≡ Some (Shelf name major ports mtu)) where
   pub shelf-words : (major ≤ 65534) × (1 ≤ length ports.items) × (1500 ≤ mtu) × (mtu ≤ 9000)
   shelf-words = let good = (are-good script is).shelf at name major ports mtu there in (good.number, good.ports_are.some, good.least, good.most)
 
   -- the slot of the next line can be added
-  pub slot-can : (n : ℕ) (line : Line) (x : MemoryRack) → slice_get script.setups n ≡ Some line → ShelfSoFar script.setups name major ports mtu n x
+  pub slot-can : {n : ℕ} {line : Line} {x : MemoryRack} → slice_get script.setups n ≡ Some line → ShelfSoFar script.setups name major ports mtu n x
       → (slot : Option SlotLine) → IfSome slot (λ z. line ≡ Slot name z.minor z.sectors z.room)
-      → slot_of_shelf name major ports.items mtu line ≡ option_map (λ (z : SlotLine). slot_with major ports.items mtu z.minor z.sectors z.room) slot → IfSome slot (λ z. CanAdd z.minor z.sectors z.room x)
-  slot-can n line x here k None line-is given = tt
-  slot-can n line x here k (Some z) line-is given =
-      let good = (are-good script is).slot n name z.minor z.sectors z.room (here ∙ ap Some line-is) in
-      shelf-can script.setups name major ports mtu n line x here k z.minor z.sectors z.room good.number good.most (is-cache z.room good.cache) good.new given
+      → slot_of_shelf name major ports.items mtu line ≡ option_map (λ (z : SlotLine). slot_with major ports.items mtu z.minor z.sectors z.room) slot
+      → IfSome slot (λ z. CanAdd z.minor z.sectors z.room x)
+  slot-can here k None line-is given = tt
+  slot-can {n} here k (Some z) line-is given =
+      let good = (are-good script is).slot n name z.minor z.sectors z.room (rw line-is at here) in
+      shelf-can here k z.minor z.sectors z.room good.number good.most (is-cache z.room good.cache) good.new given
       ((has-shelves script.setups (are-good script is)).few at name major ports mtu there)
 
-  pub shelf-built : (n : ℕ) (x : MemoryRack) → n ≡ length script.setups → ShelfSoFar script.setups name major ports mtu n x → Serves (shelf_of (setup_of script.setups) major) [] x
-  shelf-built n x end k =
-      subst (λ z. Serves z [] x)
-      (ap (filter_map (slot_of_shelf name major ports.items mtu)) (ap (λ m. take m script.setups) end ∙ take-all script.setups)
-      ∙ sym ((has-shelves script.setups (are-good script is)).all at name major ports mtu there))
-      k.serves
+  pub shelf-built : {n : ℕ} {x : MemoryRack} → length script.setups ≤ n → ShelfSoFar script.setups name major ports mtu n x
+      → Serves (shelf_of (setup_of script.setups) major) [] x
+  shelf-built {n} end k =
+      rw ((has-shelves script.setups (are-good script is)).all at name major ports mtu there) (rw (take_all n script.setups end) at k.serves)

@@ -1,7 +1,8 @@
 -- Events that come one after the other.
-use Rattle.std.proofs.Common.{◌≡◌, ◌∙◌, ◌+◌, ◌≤◌, ◌<◌, if◌then◌else◌, nat_le, Bool, true, false, ℕ, zero, suc, List, [], ◌∷◌, take, Some, None, refl, sym, subst, arith}
+use Rattle.std.proofs.Common.{◌≡◌, ◌∙◌, ◌+◌, ◌≤◌, ◌<◌, if◌then◌else◌, nat_le, Bool, true, false, ℕ, zero, suc, List, [], ◌∷◌, take, Some, None, refl, add-one, arith}
 use Rattle.std.specs.Prelude.{slice_get}
 use Rattle.std.proofs.lemmas.Bool.Decides.{nat_tests}
+use Rattle.std.proofs.lemmas.Option.{same_Some}
 use Rattle.aoe_history.specs.declared.entry.Entry.{Entry}
 use Rattle.aoe_history.specs.Setup.{Setup}
 use Rattle.aoe_sim_setup.specs.Layout.{setup_of}
@@ -20,17 +21,12 @@ use Rattle.aoe_world.specs.Replay.{end_of, Filled, IsSound, Plays, Stops}
 
 module _ (s : Setup) (lines : List Line) where
   plays_on : (events : List Event) (i : ℕ) (event : Event) (cursor : ℕ) (h : List Entry) (middle : ℕ) (m : List Entry) (behind : ℕ) (later : List Entry)
-      → slice_get events i ≡ Some event → Plays s lines (take i events) cursor h middle m → Comes s lines event middle m behind later → Plays s lines (take (i + 1) events) cursor h behind later
+      → slice_get events i ≡ Some event → Plays s lines (take i events) cursor h middle m → Comes s lines event middle m behind later
+      → Plays s lines (take (suc i) events) cursor h behind later
   plays_on (e ∷ events) zero event cursor h middle m behind later is plays comes =
-      let same : event ≡ e = cc in
-      let P : Event → Type 0 = λ x. Comes s lines x middle m behind later in
-      let Q : ℕ → Type 0 = λ k. Comes s lines e k m behind later in
-      let R : List Entry → Type 0 = λ l. Comes s lines e cursor l behind later in
-      (behind, later, subst R plays.1 (subst Q plays.0 (subst P same comes)), (refl, refl))
+      (behind, later, rw (same_Some e event is, ← plays.0, ← plays.1) comes, (refl, refl))
   plays_on (e ∷ events) (suc i) event cursor h middle m behind later is plays comes =
-      let one : suc i + 1 ≡ suc (i + 1) = omega arith in
-      let P : ℕ → Type 0 = λ k. Plays s lines (take k (e ∷ events)) cursor h behind later in
-      subst P (sym one) (plays.0, plays.1, plays.2, plays_on events i event plays.0 plays.1 middle m behind later is plays.3 comes)
+      (plays.0, plays.1, plays.2, plays_on events i event plays.0 plays.1 middle m behind later is plays.3 comes)
   plays_on [] _ event cursor h middle m behind later is plays comes = absurd cc
 
 -- the first so many events of a script came in this world
@@ -42,15 +38,16 @@ pub record IsPlayed (script : ScriptLines) (i : ℕ) (world : Stepped) : Type 0 
 
 -- one more came
 pub one_played : (script : ScriptLines) (i : ℕ) (old new : Stepped) (event : Event) → IsPlayed script i old → slice_get script.events i ≡ Some event
-    → Comes (setup_of old.lines) old.lines event old.cursor old.entries new.cursor new.entries → new.lines ≡ old.lines → new.events ≡ old.events + 1 → new.refused ≡ None → IsPlayed script (i + 1) new
-one_played script i old new event before is comes lines counted goes =
-    let P : List Line → Type 0 = λ l. Comes (setup_of l) l event old.cursor old.entries new.cursor new.entries in
-    record {
-      lines_are = lines ∙ before.lines_are;
-      counted = omega (arith, counted, before.counted);
-      goes_on = goes;
-      plays = plays_on (setup_of script.setups) script.setups script.events i event 1 [] old.cursor old.entries new.cursor new.entries is before.plays (subst P before.lines_are comes);
-    }
+    → Comes (setup_of old.lines) old.lines event old.cursor old.entries new.cursor new.entries → new.lines ≡ old.lines → new.events ≡ old.events + 1
+    → new.refused ≡ None → IsPlayed script (i + 1) new
+one_played script i old new event before is comes lines counted goes = record {
+  lines_are = lines ∙ before.lines_are;
+  counted = omega (arith, counted, before.counted);
+  goes_on = goes;
+  plays =
+      rw (add-one i) (plays_on (setup_of script.setups) script.setups script.events i event 1 [] old.cursor old.entries new.cursor new.entries is before.plays
+    (rw before.lines_are at comes));
+}
 
 -- of the next a part came
 module _ (script : ScriptLines) (i : ℕ) (old new : Stepped) (event : Event) (before : IsPlayed script i old) (is : slice_get script.events i ≡ Some event)
@@ -60,27 +57,23 @@ module _ (script : ScriptLines) (i : ℕ) (old new : Stepped) (event : Event) (b
   begun l = ComesSome (setup_of l) l event old.cursor old.entries
 
   abbrev filled : MeetsFull (setup_of old.lines) (begun old.lines) new.entries → Filled script
-  filled full =
-      let P : List Line → Type 0 = λ l. begun l new.entries in
-      let F : List Line → Type 0 = λ l. MeetsFull (setup_of l) (begun l) new.entries in
-      let S : List Line → Type 0 = λ l. IsSound (setup_of l) new.entries in
-      record {
-        count = i;
-        event = event;
-        is_next = is;
-        cursor = old.cursor;
-        before = old.entries;
-        plays = before.plays;
-        entries = new.entries;
-        begins = subst P before.lines_are begins;
-        sound = subst S (lines ∙ before.lines_are) sound;
-        full = subst F before.lines_are full;
-      }
+  filled full = record {
+    count = i;
+    event = event;
+    is_next = is;
+    cursor = old.cursor;
+    before = old.entries;
+    plays = before.plays;
+    entries = new.entries;
+    begins = rw before.lines_are at begins;
+    sound = rw (lines ∙ before.lines_are) at sound;
+    full = rw before.lines_are at full;
+  }
 
   counted : (b : Bool) (frames bytes : ℕ) → nat_le 200000 frames ≡ b → IsRefusedAt (setup_of old.lines) (begun old.lines) new.entries (NetFull frames bytes)
       → Stops (if b then Limit Frames else Limit FrameBytes) script
-  counted true frames bytes q (count, full) = let n = count.0 in let most : 200000 ≤ frames = grind (arith, nat_tests, q) in (filled full, omega (arith, n, most))
-  counted false frames bytes q (count, full) = let n = count.0 in let below : frames < 200000 = grind (arith, nat_tests, q) in (filled full, omega (arith, n, below))
+  counted true frames bytes q (count, full) = let most : 200000 ≤ frames = grind (arith, nat_tests, q) in (filled full, omega (arith, count.0, most))
+  counted false frames bytes q (count, full) = let below : frames < 200000 = grind (arith, nat_tests, q) in (filled full, omega (arith, count.0, below))
 
   pub stops : (refusal : WorldRefusal) → IsRefusedAt (setup_of old.lines) (begun old.lines) new.entries refusal → Stops (end_of refusal) script
   stops refused.NoMemory at = tt

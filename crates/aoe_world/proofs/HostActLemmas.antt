@@ -1,174 +1,118 @@
 -- An act of one host.
-use Rattle.std.proofs.Common.{ℕ, ◌≡◌, ◌≢◌, ◌≤◌, ◌<◌, ◌⊎◌, Bool, true, false, not, List, ◌∷◌, Option, Some, None, refl, sym, ap, subst, ◌∙◌, arith, inl, inr, MatchOption}
+use Rattle.std.proofs.Common.{ℕ, ◌≡◌, Bool, true, false, List, ◌∷◌, length, Option, Some, None, refl, sym, ap, subst, ◌∙◌, arith}
 use Rattle.std.specs.Prelude.{slice_get, slice_set}
 use Rattle.std.specs.Str.{bytes_eq}
-use Rattle.std.proofs.lemmas.Bool.{cases_lt}
-use Rattle.std.proofs.lemmas.Option.{same_Some}
+use Rattle.std.proofs.lemmas.List.{length-set}
 use Rattle.std.proofs.lemmas.Slice.Eq.{bytes_eq-Decides}
 use Rattle.arrayvec.specs.ArrayVec.{ArrayVec}
 use Rattle.aoe_base.specs.declared.address.TargetId.{TargetId}
 use Rattle.aoe_history.specs.declared.entry.Entry.{Entry}
-use Rattle.aoe_history.specs.declared.entry.Entry.TheVariants.{Lost, Refused, Submitted, Took}
-use Rattle.aoe_history.specs.Commands.{host_after}
+use Rattle.aoe_history.specs.declared.entry.Entry.TheVariants.{Refused, Submitted}
 use Rattle.aoe_history.specs.Frames.{arriving}
-use Rattle.aoe_history.specs.Groups.{submit_entry, submitted_as, ComesTo, Enters, Got, Takes}
+use Rattle.aoe_history.specs.Groups.{submit_entry, submitted_as, Enters, Got, Takes}
 use Rattle.aoe_history.specs.Groups.Act.{Hand, Submit}
 use Rattle.aoe_history.specs.Groups.Station.{Host as HostStation}
 use Rattle.aoe_history.specs.Lawful.{IsLawful}
-use Rattle.aoe_history.specs.Setup.{device_no, is_called, HostSetup, Setup}
+use Rattle.aoe_history.specs.Setup.{is_called, HostSetup, Setup, SlotSetup}
+use Rattle.aoe_history.proofs.LogicLemmas.{untrue}
 use Rattle.aoe_sim_hosts.proofs.Apart.{awaits-other, awaits-settled}
 use Rattle.aoe_sim_hosts.proofs.Called.{is-called}
-use Rattle.aoe_sim_hosts.specs.Host.{is_apart as is_apart_of_host, is_told, Awaits, IsSettled, NamedHost}
+use Rattle.aoe_sim_hosts.specs.Host.{is_apart as is_apart_of_host, Awaits, IsSettled, NamedHost}
 use Rattle.aoe_initiator.specs.declared.op.Op.{Op}
 use Rattle.aoe_initiator.specs.declared.refusal.SubmitRefusal.{SubmitRefusal}
-use Rattle.aoe_initiator.specs.HostLaw.{submit_refusal}
 use Rattle.aoe_sim_shelves.specs.Rack.{is_apart as is_apart_of_slots}
-use Rattle.aoe_world.proofs.AddsLemmas.{adds_none, adds_one, Adds}
-use Rattle.aoe_world.proofs.TurnLemmas.{get-set, length-set, set-get, settled-adds}
-use Rattle.aoe_world.proofs.ActLemmas.{shelves-after}
+use Rattle.aoe_world.proofs.AddsLemmas.{adds-entry, takes-adds, Adds}
+use Rattle.aoe_world.proofs.ListLemmas.{set-each}
+use Rattle.aoe_world.proofs.TurnLemmas.{settled-adds, shelves-after}
 use Rattle.aoe_world.specs.declared.sim.Sim.{Sim}
-use Rattle.aoe_world.specs.Sim.{AllServe, AllSettled, HadTurns, IsNetwork, IsReady}
+use Rattle.aoe_world.specs.Sim.{IsNetwork, IsReady, IsTurning}
 
 bytes-apart : (a b : List ℕ) → bytes_eq a b ≡ false → bytes_eq b a ≡ false
-bytes-apart a b e = go (bytes_eq b a) refl
-  where
-    go : (c : Bool) → bytes_eq b a ≡ c → c ≡ false
-    go false q = refl
-    go true q = let same : b ≡ a = (bytes_eq-Decides b a).0 q in let back = (bytes_eq-Decides a b).1 (sym same) in absurd (cc)
+bytes-apart a b e = untrue (bytes_eq b a) (λ q. let back = (bytes_eq-Decides a b).1 (sym ((bytes_eq-Decides b a).0 q)) in cc)
 
 -- a host has one name
 pub one-name : (host : HostSetup) (a b : ArrayVec ℕ) → is_called host a ≡ true → is_called host b ≡ true → a ≡ b
 one-name host a b ca cb =
-    let ea : host.name ≡ a.items = (bytes_eq-Decides host.name a.items).0 ca in
-    let eb : host.name ≡ b.items = (bytes_eq-Decides host.name b.items).0 cb in
-    ap {B = ArrayVec ℕ} (λ l. record { items = l }) (sym ea ∙ eb)
+    ap {B = ArrayVec ℕ} (λ l. record { items = l }) (sym ((bytes_eq-Decides host.name a.items).0 ca) ∙ (bytes_eq-Decides host.name b.items).0 cb)
 
 -- the response is the host's, if there is one
 abbrev pub IsMine : HostSetup → Option Got → Type 0
 IsMine host None = Unit {0}
 IsMine host (Some got) = got.host ≡ host
 
-not-false : (b : Bool) → b ≡ false → not b ≡ true
-not-false false e = refl
-not-false true e = absurd (cc)
-
-module _ (s : Setup) (majors : List ℕ) (i : ℕ) (host : HostSetup) (net : IsNetwork s majors) (at : slice_get s.hosts i ≡ Some host) where
-  -- what a host takes says nothing of another host
-  pub took-apart : (name : ArrayVec ℕ) (number : ℕ) (stale : Bool) (j : ℕ) (other : HostSetup) → is_called host name ≡ true → slice_get s.hosts j ≡ Some other → j ≢ i → is_called other name ≡ false
-  took-apart name number stale j other called ej apart = net.names i j host other name at ej (λ e. apart (sym e)) called
-
-  told-apart : (name : ArrayVec ℕ) (j : ℕ) (other : HostSetup) (got : Got) → is_called host name ≡ true → slice_get s.hosts j ≡ Some other → j ≢ i → got.host ≡ host → is_told other got ≡ false
-  told-apart name j other got called ej apart mine =
-      let named : host.name ≡ name.items = (bytes_eq-Decides host.name name.items).0 called in
-      let is = net.names i j host other name at ej (λ e. apart (sym e)) called in
-      let far : bytes_eq other.name host.name ≡ false = subst (λ l. bytes_eq other.name l ≡ false) (sym named) is in
-      subst (λ (o : HostSetup). bytes_eq o.name other.name ≡ false) (sym mine) (bytes-apart other.name host.name far)
-
-  awaits-on : (name : ArrayVec ℕ) (got : Option Got) (j : ℕ) (other : HostSetup) (m : List Entry) (y : NamedHost) → is_called host name ≡ true → slice_get s.hosts j ≡ Some other → j ≢ i
-      → IsMine host got → IsSettled s other m y → Awaits s other got m y
-  awaits-on name None j other m y called ej apart mine k = awaits-settled s other m y k
-  awaits-on name (Some got) j other m y called ej apart mine k = awaits-other s other got m y (told-apart name j other got called ej apart mine) k
-
-  module _ (name : ArrayVec ℕ) (got : Option Got) (x y : NamedHost) (h m : List Entry) (hosts : List NamedHost) (called : is_called host name ≡ true) (ex : slice_get hosts i ≡ Some x) (mine : IsMine host got)
-      (adds : (j : ℕ) (other : HostSetup) → slice_get s.hosts j ≡ Some other → j ≢ i → Adds (is_apart_of_host other) h m) (done : Awaits s host got m y) (k : AllSettled s h hosts) where
-    here : (j : ℕ) (other : HostSetup) (z : NamedHost) → j ≡ i → slice_get s.hosts j ≡ Some other → slice_get (slice_set hosts i y) j ≡ Some z → Awaits s other got m z
-    here j other z is ej ez =
-        let eo : host ≡ other = same_Some host other (sym at ∙ ap (slice_get s.hosts) (sym is) ∙ ej) in
-        let ey : y ≡ z = same_Some y z (sym (set-get hosts i x y ex) ∙ ap (slice_get (slice_set hosts i y)) (sym is) ∙ ez) in
-        subst (λ (w : NamedHost). Awaits s other got m w) ey (subst (λ (o : HostSetup). Awaits s o got m y) eo done)
-
-    elsewhere : (j : ℕ) (other : HostSetup) (z : NamedHost) → j ≢ i → slice_get s.hosts j ≡ Some other → slice_get (slice_set hosts i y) j ≡ Some z → Awaits s other got m z
-    elsewhere j other z apart ej ez =
-        let before : slice_get hosts j ≡ Some z = sym (get-set hosts i j y apart) ∙ ez in
-        awaits-on name got j other m z called ej apart mine (settled-adds s other z h m (adds j other ej apart) (k.each j other z ej before))
-
-    waits : (j : ℕ) (other : HostSetup) (z : NamedHost) → slice_get s.hosts j ≡ Some other → slice_get (slice_set hosts i y) j ≡ Some z → (j < i) ⊎ (i ≤ j) → Awaits s other got m z
-    waits j other z ej ez (inl below) = elsewhere j other z (λ e. omega (arith, e, below)) ej ez
-    waits j other z ej ez (inr above) = elim (cases_lt i j) [
-      | inl later ↦ elsewhere j other z (λ e. omega (arith, e, later)) ej ez
-      | inr upto ↦ here j other z (omega (arith, above, upto)) ej ez
-    ]
-
-    -- one host did something, and the others wait for their turns
-    pub one-host : HadTurns s got m 0 (slice_set hosts i y)
-    one-host = record {
-      count = length-set hosts i y ∙ k.count;
-      settled = λ j other z ej ez below. absurd (omega (arith, below));
-      waiting = λ j other z ej ez above. waits j other z ej ez (cases_lt j i);
-    }
-
--- a host takes a frame by one entry, and a response that it took is its own
-pub takes-mine : (s : Setup) (host : HostSetup) (name : ArrayVec ℕ) (number : ℕ) (f : List ℕ) (h m : List Entry) (got : Option Got) → Takes s host name number f h got m → IsMine host got
+-- a response that a host took is its own
+takes-mine : (s : Setup) (host : HostSetup) (name : ArrayVec ℕ) (number : ℕ) (f : List ℕ) (h m : List Entry) (got : Option Got)
+    → Takes s host name number f h got m → IsMine host got
 takes-mine s host name number f h m None t = tt
 takes-mine s host name number f h m (Some got) t = t.0
 
-pub takes-adds : (p : Entry → Bool) (s : Setup) (host : HostSetup) (name : ArrayVec ℕ) (number : ℕ) (f : List ℕ) (h m : List Entry) (got : Option Got)
-    → ((stale : Bool) → p (Took name number stale) ≡ true) → Takes s host name number f h got m → Adds p h m
-takes-adds p s host name number f h m None t k = subst (Adds p h) (sym k.1) (adds_one _ (t true) adds_none)
-takes-adds p s host name number f h m (Some got) t k = subst (Adds p h) (sym k.2) (adds_one _ (t false) adds_none)
+submit-adds : {p : Entry → Bool} {h m : List Entry} (s : Setup) (host : HostSetup) (name : ArrayVec ℕ) (dev : TargetId) (op : Op) (o : Option SubmitRefusal)
+    → ((ticket : ℕ) → p (Submitted name ticket dev op) ≡ true) → ((refusal : SubmitRefusal) → p (Refused name refusal) ≡ true)
+    → m ≡ submit_entry s host h name dev op o ∷ h → Adds p h m
+submit-adds s host name dev op None a b is = adds-entry (a _) is
+submit-adds s host name dev op (Some refusal) a b is = adds-entry (b refusal) is
 
--- A HOST TAKES A FRAME
+-- a host of this name, before and after it did something
+module _ {s : Setup} {majors : List ℕ} {host : HostSetup} (name : ArrayVec ℕ) (i : ℕ) (x y : NamedHost) (old new : Sim)
+    (net : IsNetwork s majors) (k : IsReady s majors old) (at : slice_get s.hosts i ≡ Some host) (called : is_called host name ≡ true)
+    (there : slice_get old.hosts.items i ≡ Some x) (life : new.run.life ≡ old.run.life)
+    (hosts : new.hosts.items ≡ slice_set old.hosts.items i y) (shelves : new.shelves ≡ old.shelves) where
+  -- what another host waits for is no response of this one
+  others-wait : (got : Option Got) (other : HostSetup) (m : List Entry) (z : NamedHost) → is_called other name ≡ false → IsMine host got → IsSettled s other m z
+      → Awaits s other got m z
+  others-wait None other m z apart mine settled = awaits-settled s other m z settled
+  others-wait (Some got) other m z apart mine settled =
+      awaits-other s other got m z (rw (mine, (bytes_eq-Decides host.name name.items).0 called) (bytes-apart other.name name.items apart)) settled
 
--- what a host took makes the act
-pub record HasTaken (s : Setup) (majors : List ℕ) (name : ArrayVec ℕ) (number i : ℕ) (y : NamedHost) (old : Sim) (m : List Entry) : Type 0 where
-  pub got : Option Got
-  pub enters : Enters s old.run.entries (Hand number (HostStation name)) got m
-  pub lawful : IsLawful s m
-  pub hosts_are : HadTurns s got m 0 (slice_set old.hosts.items i y)
-  pub shelves_are : AllServe s majors m old.shelves.items
+  -- it did something, and the others wait for their turns
+  turning-one : {got : Option Got} → IsMine host got → IsLawful s new.run.entries → Awaits s host got new.run.entries y
+      → ((other : HostSetup) → is_called other name ≡ false → Adds (is_apart_of_host other) old.run.entries new.run.entries)
+      → ((slots : List SlotSetup) → Adds (is_apart_of_slots slots) old.run.entries new.run.entries) → IsTurning s majors got 0 new
+  turning-one {got} mine lawful done of-hosts of-slots = record {
+    life = life ∙ k.life;
+    lawful = lawful;
+    hosts_are = record {
+      count = ap length hosts ∙ length-set old.hosts.items i y ∙ k.hosts_are.count;
+      settled = λ j other z ej ez below. absurd (omega (arith, below));
+      waiting = λ j other z ej ez above. waits j other z ej (rw hosts at ez);
+    };
+    shelves_are = rw shelves (shelves-after of-slots k.shelves_are);
+  }
+    where
+      waits : (j : ℕ) (other : HostSetup) (z : NamedHost) → slice_get s.hosts j ≡ Some other → slice_get (slice_set old.hosts.items i y) j ≡ Some z
+          → Awaits s other got new.run.entries z
+      waits = set-each s.hosts old.hosts.items i host y (λ j other z. Awaits s other got new.run.entries z) at done
+          (λ j other z apart ej ez.
+          let away = net.names i j host other name at ej (λ e. apart (sym e)) called in
+          others-wait got other new.run.entries z away mine (settled-adds (of-hosts other away) (k.hosts_are.each j other z ej ez)))
 
-pub has-taken : (s : Setup) (majors : List ℕ) (name : ArrayVec ℕ) (number i : ℕ) (f : List ℕ) (x y : NamedHost) (old : Sim) (m : List Entry) (host : HostSetup) → IsNetwork s majors → IsReady s majors old
-    → slice_get s.hosts i ≡ Some host → is_called host name ≡ true → slice_get old.hosts.items i ≡ Some x → arriving s.life old.run.entries number ≡ Some f
-    → ((z : Setup) (o : HostSetup) → IsSettled z o old.run.entries x → IsLawful z old.run.entries → arriving z.life old.run.entries number ≡ Some f
-    → (got : Option Got) × Takes z o x.name number f old.run.entries got m × IsLawful z m × Awaits z o got m y)
-    → HasTaken s majors name number i y old m
-has-taken s majors name number i f x y old m host net k at called there fresh took =
-    let h = old.run.entries in
-    let settled = k.hosts_are.each i host x at there in
-    let t = took s host settled k.lawful fresh in
-    let own : is_called host x.name ≡ true = is-called s x.name host settled.is.called in
-    let takes = subst (λ n. Takes s host n number f h t.0 m) (one-name host x.name name own called) t.1 in
-    let adds : (p : Entry → Bool) → ((stale : Bool) → p (Took name number stale) ≡ true) → Adds p h m = (λ p all. takes-adds p s host name number f h m t.0 all takes) in
-    record {
-      got = t.0;
-      enters = subst (λ o. MatchOption o ((t.0 ≡ None) × (m ≡ Lost number ∷ h)) (λ g. ComesTo s number g (HostStation name) h t.0 m)) (sym fresh)
-          (host, net.called i host name at called, takes);
-      lawful = t.2;
-      hosts_are = one-host s majors i host net at name t.0 x y h m old.hosts.items called there (takes-mine s host name number f h m t.0 takes)
-          (λ j other ej apart. adds (is_apart_of_host other) (λ stale. not-false _ (took-apart s majors i host net at name number stale j other called ej apart))) t.3 k.hosts_are;
-      shelves_are = shelves-after s majors h m old.shelves.items (λ slots. adds (is_apart_of_slots slots) (λ stale. refl)) k.shelves_are;
-    }
+  own : x.name ≡ name
+  own = one-name host x.name name (is-called s x.name host (k.hosts_are.each i host x at there).is.called) called
 
--- A HOST SUBMITS
+  -- it took a frame
+  pub has-taken : (number : ℕ) (f : List ℕ) → arriving s.life old.run.entries number ≡ Some f
+      → ((z : Setup) (o : HostSetup) → IsSettled z o old.run.entries x → IsLawful z old.run.entries → arriving z.life old.run.entries number ≡ Some f
+      → (got : Option Got) × Takes z o x.name number f old.run.entries got new.run.entries × IsLawful z new.run.entries × Awaits z o got new.run.entries y)
+      → (got : Option Got) × Enters s old.run.entries (Hand number (HostStation name)) got new.run.entries × IsTurning s majors got 0 new
+  has-taken number f fresh took =
+      let t = took s host (k.hosts_are.each i host x at there) k.lawful fresh in
+      let takes = subst (λ n. Takes s host n number f old.run.entries t.0 new.run.entries) own t.1 in (
+        t.0,
+        rw fresh (host, net.called i host name at called, takes),
+        turning-one (takes-mine s host name number f old.run.entries new.run.entries t.0 takes) t.2 t.3
+            (λ other away. takes-adds s host name number f t.0 (λ stale. rw away) takes) (λ slots. takes-adds s host name number f t.0 (λ stale. refl) takes),
+      )
 
-pub record HasSubmitted (s : Setup) (majors : List ℕ) (name : ArrayVec ℕ) (dev : TargetId) (op : Op) (i : ℕ) (y : NamedHost) (old : Sim) (m : List Entry) : Type 0 where
-  pub enters : Enters s old.run.entries (Submit name dev op) None m
-  pub lawful : IsLawful s m
-  pub hosts_are : HadTurns s None m 0 (slice_set old.hosts.items i y)
-  pub shelves_are : AllServe s majors m old.shelves.items
-
-entry-adds : (p : Entry → Bool) (s : Setup) (host : HostSetup) (h : List Entry) (name : ArrayVec ℕ) (dev : TargetId) (op : Op) (o : Option SubmitRefusal)
-    → ((ticket : ℕ) → p (Submitted name ticket dev op) ≡ true) → ((refusal : SubmitRefusal) → p (Refused name refusal) ≡ true) → p (submit_entry s host h name dev op o) ≡ true
-entry-adds p s host h name dev op None a b = a _
-entry-adds p s host h name dev op (Some refusal) a b = b refusal
-
-pub has-submitted : (s : Setup) (majors : List ℕ) (name : ArrayVec ℕ) (dev : TargetId) (op : Op) (i : ℕ) (x y : NamedHost) (old : Sim) (m : List Entry) (host : HostSetup) → IsNetwork s majors
-    → IsReady s majors old → slice_get s.hosts i ≡ Some host → is_called host name ≡ true → slice_get old.hosts.items i ≡ Some x
-    → ((z : Setup) (o : HostSetup) → IsSettled z o old.run.entries x → IsLawful z old.run.entries
-    → (m ≡ submitted_as z o old.run.entries x.name dev op ∷ old.run.entries) × IsLawful z m × Awaits z o None m y)
-    → HasSubmitted s majors name dev op i y old m
-has-submitted s majors name dev op i x y old m host net k at called there took =
-    let h = old.run.entries in
-    let settled = k.hosts_are.each i host x at there in
-    let t = took s host settled k.lawful in
-    let own : is_called host x.name ≡ true = is-called s x.name host settled.is.called in
-    let is : m ≡ submitted_as s host h name dev op ∷ h = subst (λ n. m ≡ submitted_as s host h n dev op ∷ h) (one-name host x.name name own called) t.0 in
-    let adds : (p : Entry → Bool) → ((ticket : ℕ) → p (Submitted name ticket dev op) ≡ true) → ((refusal : SubmitRefusal) → p (Refused name refusal) ≡ true) → Adds p h m =
-    (λ p a b. subst (Adds p h) (sym is) (adds_one _ (entry-adds p s host h name dev op (submit_refusal (host_after s host h) (device_no host dev).0 op) a b) adds_none)) in
-    record {
-      enters = (refl, (host, net.called i host name at called, is));
-      lawful = t.1;
-      hosts_are = one-host s majors i host net at name None x y h m old.hosts.items called there tt
-          (λ j other ej apart. adds (is_apart_of_host other) (λ ticket. not-false _ (took-apart s majors i host net at name 0 true j other called ej apart)) (λ refusal. refl)) t.2 k.hosts_are;
-      shelves_are = shelves-after s majors h m old.shelves.items (λ slots. adds (is_apart_of_slots slots) (λ ticket. refl) (λ refusal. refl)) k.shelves_are;
-    }
+  -- it submitted a command
+  pub has-submitted : (dev : TargetId) (op : Op)
+      → ((z : Setup) (o : HostSetup) → IsSettled z o old.run.entries x → IsLawful z old.run.entries
+      → (new.run.entries ≡ submitted_as z o old.run.entries x.name dev op ∷ old.run.entries) × IsLawful z new.run.entries × Awaits z o None new.run.entries y)
+      → (got : Option Got) × Enters s old.run.entries (Submit name dev op) got new.run.entries × IsTurning s majors got 0 new
+  has-submitted dev op took =
+      let t = took s host (k.hosts_are.each i host x at there) k.lawful in
+      let is : new.run.entries ≡ submitted_as s host old.run.entries name dev op ∷ old.run.entries = rw own at t.0 in (
+        None,
+        (refl, (host, net.called i host name at called, is)),
+        turning-one tt t.1 t.2 (λ other away. submit-adds s host name dev op _ (λ ticket. rw away) (λ refusal. refl) is)
+            (λ slots. submit-adds s host name dev op _ (λ ticket. refl) (λ refusal. refl) is),
+      )

@@ -8,6 +8,7 @@ mod EventLemmas
 pub mod GroupLemmas
 mod GroupSome
 mod HostActLemmas
+mod ListLemmas
 mod PassLemmas
 mod PlaceLemmas
 mod PlanLemmas

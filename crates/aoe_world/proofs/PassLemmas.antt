@@ -1,6 +1,5 @@
 -- Frames that are treated one after another, from the cursor on.
-use Rattle.std.proofs.Common.{ℕ, suc, ◌≡◌, ◌≤◌, ◌<◌, List, length, Ok, sym, subst, arith, inl, inr, ◌⊎◌}
-use Rattle.std.proofs.lemmas.Bool.{cases_lt}
+use Rattle.std.proofs.Common.{ℕ, suc, ◌≡◌, ◌≤◌, ◌<◌, List, length, Ok, arith, ◌⊎◌}
 use Rattle.aoe_history.specs.declared.entry.Entry.{Entry}
 use Rattle.aoe_history.specs.Frames.{frames}
 use Rattle.aoe_history.specs.Groups.{Act, Follows}
@@ -19,37 +18,29 @@ pub record Passing (s : Setup) (majors : List ℕ) (acts : List Entry → ℕ �
   pub from_one : 1 ≤ behind
   pub within : behind ≤ suc (length (frames now.run.entries))
 
-module _ (s : Setup) (majors : List ℕ) (acts : List Entry → ℕ → List Act) (cursor : ℕ) (old : Sim) where
-  pub passing-none : IsReady s majors old → 1 ≤ cursor → cursor ≤ suc (length (frames old.run.entries)) → Passing s majors acts 0 cursor cursor old old
-  passing-none ready first within = record { moves = Moves.moves_none; ready = ready; from_one = first; within = within }
+pub passing-none : {s : Setup} {majors : List ℕ} {acts : List Entry → ℕ → List Act} {cursor : ℕ} {old : Sim} → IsReady s majors old → 1 ≤ cursor
+    → cursor ≤ suc (length (frames old.run.entries)) → Passing s majors acts 0 cursor cursor old old
+passing-none ready first within = record { moves = Moves.moves_none; ready = ready; from_one = first; within = within }
 
-  module _ (count behind : ℕ) (now : Sim) (p : Passing s majors acts count cursor behind old now) where
-    pub passing-next : (k j : ℕ) (later : Sim) → k ≡ suc count → j ≡ suc behind → behind ≤ length (frames now.run.entries)
-        → Follows s (acts now.run.entries behind) now.run.entries later.run.entries × IsReady s majors later → Passing s majors acts k cursor j old later
-    passing-next k j later ek ej le (follows, ready) =
-        subst (λ i. Passing s majors acts i cursor j old later) (sym ek)
-        (subst (λ i. Passing s majors acts (suc count) cursor i old later) (sym ej) (record {
-          moves = Moves.moves_one p.moves le follows;
-          ready = ready;
-          from_one = omega arith;
-          within = let more = follows-grow s (acts now.run.entries behind) now.run.entries later.run.entries follows in omega (arith, le, more);
-        }))
+module _ {s : Setup} {majors : List ℕ} {acts : List Entry → ℕ → List Act} {count cursor behind : ℕ} {old now : Sim}
+    (p : Passing s majors acts count cursor behind old now) where
+  pub passing-next : {later : Sim} → behind ≤ length (frames now.run.entries)
+      → Follows s (acts now.run.entries behind) now.run.entries later.run.entries × IsReady s majors later
+      → Passing s majors acts (suc count) cursor (suc behind) old later
+  passing-next {later} le (follows, ready) = record {
+    moves = Moves.moves_one p.moves le follows;
+    ready = ready;
+    from_one = omega arith;
+    within = omega (arith, le, follows-grow s (acts now.run.entries behind) now.run.entries later.run.entries follows);
+  }
 
-    -- one came in part
-    pub passed-begun : (n : ℕ) (refusal : NetRefusal) (later : Sim) → count < n → behind ≤ length (frames now.run.entries)
-        → IsLeft s (FollowsSome s (acts now.run.entries behind) now.run.entries) refusal later.run.entries
-        → IsLeft s (MovesSome s acts n cursor old.run.entries) refusal later.run.entries
-    passed-begun n refusal later lt le left =
-        left-more s (FollowsSome s (acts now.run.entries behind) now.run.entries) (MovesSome s acts n cursor old.run.entries) refusal later.run.entries
-        (λ m some. record { count = count; before = lt; behind = behind; mid = now.run.entries; moves = p.moves; there = le; follows = some }) left
+  -- one came in part
+  pub passed-begun : {refusal : NetRefusal} {m : List Entry} (n : ℕ) → count < n → behind ≤ length (frames now.run.entries)
+      → IsLeft s (FollowsSome s (acts now.run.entries behind) now.run.entries) refusal m → IsLeft s (MovesSome s acts n cursor old.run.entries) refusal m
+  passed-begun n lt le left =
+      left-more (λ m some. record { count = count; before = lt; behind = behind; mid = now.run.entries; moves = p.moves; there = le; follows = some }) left
 
-    -- no frame is left, or so many were treated
-    pub passed-all : (n : ℕ) → length (frames now.run.entries) < behind → count ≤ n → Moved {T = Unit {0}} (Ok tt) s majors acts n cursor behind old now
-    passed-all n past le = (record { count = count; moves = p.moves; ends = end (cases_lt count n) }, p.ready, p.from_one, p.within)
-      where
-        end : (count < n) ⊎ (n ≤ count) → (count ≡ n) ⊎ ((count < n) × (length (frames now.run.entries) < behind))
-        end (inl lt) = inr (lt, past)
-        end (inr ge) = inl (omega (arith, le, ge))
-
-    pub passed-so-many : (n : ℕ) → count ≡ n → Moved {T = Unit {0}} (Ok tt) s majors acts n cursor behind old now
-    passed-so-many n e = (record { count = count; moves = p.moves; ends = inl e }, p.ready, p.from_one, p.within)
+  -- so many were treated, or no frame is left
+  pub passed-by : (n : ℕ) → (count ≡ n) ⊎ ((count < n) × (length (frames now.run.entries) < behind))
+      → Moved {T = Unit {0}} (Ok tt) s majors acts n cursor behind old now
+  passed-by n ends = (record { count = count; moves = p.moves; ends = ends }, p.ready, p.from_one, p.within)

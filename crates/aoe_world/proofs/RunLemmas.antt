@@ -1,8 +1,8 @@
 -- What becomes of a script, and of the sink.
-use Rattle.std.proofs.Common.{inl, inr, ◌≡◌, ◌∙◌, ◌<◌, ◌≤◌, ℕ, List, [], ◌++◌, length, Option, Some, None, refl, sym, ap, subst, arith}
+use Rattle.std.proofs.Common.{inl, inr, ◌≡◌, ◌∙◌, ◌<◌, ◌≤◌, ℕ, List, [], ◌++◌, length, Option, Some, None, refl, sym, ap, arith}
 use Rattle.std.proofs.lemmas.List.{length-append, append-nil}
 use Rattle.aoe_base.specs.Faults.{Rose}
-use Rattle.aoe_io.specs.Bytes.{Gave, IsEnded}
+use Rattle.aoe_io.specs.Bytes.{Gave}
 use Rattle.aoe_history.specs.declared.entry.Entry.{Entry}
 use Rattle.aoe_sim_setup.specs.Layout.{setup_of}
 use Rattle.aoe_script.specs.declared.refusal.ScriptRefusal.{ScriptRefusal}
@@ -23,8 +23,8 @@ left_alone _ a = refl
 
 -- ---- the run of a script
 
-pub finished : (part : Part) (end : ReplayEnd) (script : ScriptLines) (held held' : Option (List ℕ)) (run : Played script) → TakesText end held held' (text_of part script run)
-    → RunsTo part end script held held'
+pub finished : (part : Part) (end : ReplayEnd) (script : ScriptLines) (held held' : Option (List ℕ)) (run : Played script)
+    → TakesText end held held' (text_of part script run) → RunsTo part end script held held'
 finished part Ended script held held' run writes = (run, writes)
 finished part SinkFault script held held' run writes = (run, writes)
 finished part NoMemory script held held' run writes = writes
@@ -36,15 +36,8 @@ pub finished_in : (part : Part) (end : ReplayEnd) (script : ScriptLines) (held h
     → IsSound (setup_of world.lines) world.entries
     → count ≡ length script.events → entries ≡ world.entries → TakesText end held held' (part_text part count entries) → RunsTo part end script held held'
 finished_in part end script held held' world count entries lines plays sound counted same writes =
-    let P : List Line → Type 0 = λ l. IsSound (setup_of l) world.entries in
-    let R : ℕ → Type 0 = λ k. TakesText end held held' (part_text part k world.entries) in
-    let S : List Entry → Type 0 = λ l. TakesText end held held' (part_text part count l) in
-    finished part end script held held' record {
-      entries = world.entries;
-      cursor = world.cursor;
-      plays = plays;
-      sound = subst P lines sound;
-    } (subst R counted (subst S same writes))
+    finished part end script held held' (record { entries = world.entries; cursor = world.cursor; plays = plays; sound = rw lines at sound })
+    (rw (counted, same) at writes)
 
 pub stopped : (part : Part) (end : ReplayEnd) (script : ScriptLines) (held : Option (List ℕ)) → Stops end script → RunsTo part end script held held
 stopped part NoMemory script held stops = refl
@@ -55,7 +48,7 @@ stopped part SinkFault script held stops = absurd stops
 stopped part _ script held stops = stops
 
 pub stops_no_sink : (end : ReplayEnd) (script : ScriptLines) → Stops end script → end ≡ SinkFault → ⊥
-stops_no_sink end script stops e = let P : ReplayEnd → Type 0 = λ x. Stops x script in subst P e stops
+stops_no_sink end script stops e = rw e at stops
 
 -- ---- a replay
 
@@ -89,12 +82,12 @@ module _ (left left' : Option (List ℕ)) (text : List ℕ) (read : IsRead left 
     ran_script _ runs = absurd runs
 
     pub ran : (end : ReplayEnd) (script : ScriptLines) → script ≡ script_of text → Runs end script held held' → Replayed end left left' held held'
-    ran end script is runs = let P : ScriptLines → Type 0 = λ x. Runs end x held held' in ran_script end (subst P is runs)
+    ran end script is runs = ran_script end (rw is at runs)
 
 -- ---- a script of no text
 
 no_fault : (before after : ℕ) → IsFaultless before after → Rose before after → ⊥
-no_fault before after f rose = let more : before < after = rose f.room in omega (arith, f.same, more)
+no_fault before after f rose = omega (arith, f.same, rose f.room)
 
 -- where the sink doesn't fail its run comes to its end, or stops
 pub comes_through : (part : Part) (end : ReplayEnd) (script : ScriptLines) (held held' : Option (List ℕ)) (sinks sinks' : ℕ) → RunsTo part end script held held'
@@ -109,7 +102,8 @@ comes_through part _ script held held' sinks sinks' runs sink rose = absurd runs
 -- ---- what is refused is refused for its text alone
 
 -- a source that tells its bytes gave a front of them
-front_of : (left left' : Option (List ℕ)) (bytes text : List ℕ) → left ≡ Some bytes → Gave left left' text → (rest : List ℕ) × (left' ≡ Some rest) × (bytes ≡ text ++ rest)
+front_of : (left left' : Option (List ℕ)) (bytes text : List ℕ) → left ≡ Some bytes → Gave left left' text
+    → (rest : List ℕ) × (left' ≡ Some rest) × (bytes ≡ text ++ rest)
 front_of left None bytes text is gave = absurd (let both : Some bytes ≡ None = sym is ∙ gave in cc)
 front_of left (Some rest) bytes text is gave = (rest, refl, (let both : Some bytes ≡ Some (text ++ rest) = sym is ∙ gave in cc))
 
@@ -117,22 +111,22 @@ front_of left (Some rest) bytes text is gave = (rest, refl, (let both : Some byt
 all_of : (left left' : Option (List ℕ)) (bytes text : List ℕ) → left ≡ Some bytes → GaveAll left left' text → bytes ≡ text
 all_of left left' bytes text is all =
     let f = front_of left left' bytes text is all.gave in
-    let none : f.0 ≡ [] = subst IsEnded f.1 all.ended in
-    f.2 ∙ ap (λ (r : List ℕ). text ++ r) none ∙ append-nil text
+    let none : f.0 ≡ [] = rw f.1 at all.ended in
+    f.2 ∙ rw none (append-nil text)
 
 no_refusal : (left left' : Option (List ℕ)) (bytes : List ℕ) (cause : ScriptRefusal) → left ≡ Some bytes → refusal bytes ≡ None → Refuses left left' cause → ⊥
 no_refusal left left' bytes cause is good r =
-    let same : refusal bytes ≡ refusal r.0 = ap refusal (all_of left left' bytes r.0 is r.1) in
-    let both : None ≡ Some cause = sym good ∙ same ∙ r.2 in
+    let both : None ≡ Some cause = sym good ∙ ap refusal (all_of left left' bytes r.0 is r.1) ∙ r.2 in
     cc
 
 module _ (left left' held held' : Option (List ℕ)) (bytes : List ℕ) (sources sources' sinks sinks' : ℕ) (is : left ≡ Some bytes) (good : refusal bytes ≡ None)
     (source : IsFaultless sources sources') (sink : IsFaultless sinks sinks') where
   -- the text that it gave to its end is all of its bytes
   stops_of : (end : ReplayEnd) (text : List ℕ) → GaveAll left left' text → Stops end (script_of text) → Stops end (script_of bytes)
-  stops_of end text gave stops = subst (λ (t : List ℕ). Stops end (script_of t)) (sym (all_of left left' bytes text is gave)) stops
+  stops_of end text gave stops = rw (all_of left left' bytes text is gave) stops
 
-  pub goes_through : (end : ReplayEnd) → Replayed end left left' held held' → (end ≡ SourceFault → Rose sources sources') → (end ≡ SinkFault → Rose sinks sinks') → HasRun end (script_of bytes)
+  pub goes_through : (end : ReplayEnd) → Replayed end left left' held held' → (end ≡ SourceFault → Rose sources sources')
+      → (end ≡ SinkFault → Rose sinks sinks') → HasRun end (script_of bytes)
   goes_through Ended r a b = inl refl
   goes_through NoMemory r a b = inr tt
   goes_through (Limit Frames) r a b = inr (stops_of (Limit Frames) r.0 r.1 r.3.0)

@@ -1,9 +1,10 @@
 -- A frame that is handed to one station after another.
-use Rattle.std.proofs.Common.{ℕ, zero, suc, ◌≡◌, ◌<◌, Bool, true, false, List, [], ◌∷◌, ◌++◌, length, map, take, drop, Option, Some, None, Result, Ok, Err, get_or, refl, sym, ap, subst, ◌∙◌, arith, inl, inr, cond}
-use Rattle.std.specs.Prelude.{filter, nat_lt, slice_get}
+use Rattle.std.proofs.Common.{ℕ, suc, ◌≡◌, ◌≤◌, Bool, true, false, List, [], ◌∷◌, ◌++◌, length, map, take, drop, Option, Some, None, Result, Ok, Err, refl, sym, ap, ◌∙◌, append_assoc, arith, inl, inr}
+use Rattle.std.specs.Prelude.{filter, slice_get}
 use Rattle.std.specs.Option.{option_map_or}
-use Rattle.std.proofs.lemmas.Bool.Decides.{nat_tests}
-use Rattle.std.proofs.lemmas.Option.{same_Some, slice_get_within}
+use Rattle.std.proofs.lemmas.List.{append-nil, map-append, take-append-drop, take_all}
+use Rattle.std.proofs.lemmas.List.Elements.{filter-append}
+use Rattle.std.proofs.lemmas.Option.{slice_get_within}
 use Rattle.aoe_base.specs.declared.address.Mac.{Mac}
 use Rattle.aoe_frame.specs.Header.{fields}
 use Rattle.aoe_net.specs.declared.refusal.NetRefusal.{NetRefusal}
@@ -19,305 +20,192 @@ use Rattle.aoe_world.specs.declared.act.At.TheVariants as at
 use Rattle.aoe_world.specs.declared.place.Place.{Place}
 use Rattle.aoe_world.specs.declared.sim.Sim.{Sim}
 use Rattle.aoe_world.specs.Schedule.{addressees, gets, hand_each, handings, is_for, FollowsSome}
-use Rattle.aoe_world.proofs.ActLemmas.{left-more}
 use Rattle.aoe_world.specs.Sim.{ArePlaces, Does, DoesAll, IsAt, IsInside, IsLeft, IsReady}
+use Rattle.aoe_world.proofs.ActLemmas.{left-more}
+use Rattle.aoe_world.proofs.ListLemmas.{take-next}
 use Rattle.aoe_world.proofs.ScheduleKeeps.{hand-fresh}
-use Rattle.aoe_world.proofs.TurnLemmas.{take-all}
-use Rattle.aoe_history.proofs.LogicLemmas.{map-append}
 use Rattle.aoe_initiator.proofs.ListLemmas.{get-there as there}
 
 -- ACTS ONE AFTER ANOTHER
 
-pub follows-more : (s : Setup) (acts : List Act) (act : Act) (h n m : List Entry) → Follows s acts h n → Group s n act m → Follows s (acts ++ act ∷ []) h m
-follows-more s [] act h n m e g = (m, subst (λ k. Group s k act m) e g, refl)
-follows-more s (a ∷ acts) act h n m (k, first, rest) g = (k, first, follows-more s acts act k n m rest g)
+follows-more : {s : Setup} {act : Act} {n m : List Entry} (acts : List Act) (h : List Entry) → Follows s acts h n → Group s n act m
+    → Follows s (acts ++ act ∷ []) h m
+follows-more {m = m} [] h e g = (m, rw e at g, refl)
+follows-more (a ∷ acts) h (k, first, rest) g = (k, first, follows-more acts k rest g)
 
-pub follows-begun : (s : Setup) (acts : List Act) (act : Act) (more : List Act) (h n m : List Entry) → Follows s acts h n → IsBegun s n act m
+follows-begun : (s : Setup) (acts : List Act) (act : Act) (more : List Act) (h n m : List Entry) → Follows s acts h n → IsBegun s n act m
     → FollowsSome s (acts ++ act ∷ more) h m
-follows-begun s [] act more h n m e b = inl (subst (λ k. IsBegun s k act m) e b)
+follows-begun s [] act more h n m e b = inl (rw e at b)
 follows-begun s (a ∷ acts) act more h n m (k, first, rest) b = inr (k, first, follows-begun s acts act more k n m rest b)
 
--- ADDRESSEES
+-- one act, of which nothing counts of what was before but the history
+pub does-all : {T : Type 0} (r : Result T NetRefusal) (s : Setup) (majors : List ℕ) (act : Act) (old mid new : Sim) → mid.run.entries ≡ old.run.entries
+    → Does r s majors act mid new → DoesAll r s majors (act ∷ []) old new
+does-all (Ok u) s majors act old mid new e (g, ready) = ((new.run.entries, rw e at g, refl), ready)
+does-all (Err refusal) s majors act old mid new e left = left-more (λ m begun. inl begun) (rw e at left)
 
-module _ (f : List ℕ) where
-  -- the station at k gets the frame, or not: the addressees so far
-  pub addressees-next : (stations : List Placed) (k : ℕ) (p : Placed) → slice_get stations k ≡ Some p → gets f p ≡ true
-      → addressees (take (suc k) stations) f ≡ addressees (take k stations) f ++ p.station ∷ []
-  addressees-next [] k p e t = absurd (cc)
-  addressees-next (x ∷ stations) zero p e t =
-      let is : x ≡ p = same_Some x p e in
-      subst (λ (y : Placed). addressees (y ∷ []) f ≡ p.station ∷ []) (sym is) (first p t)
-    where
-      first : (p : Placed) → gets f p ≡ true → addressees (p ∷ []) f ≡ p.station ∷ []
-      first p t = ap (λ b. map (λ (q : Placed). q.station) (cond b (p ∷ []) [])) t
-  addressees-next (x ∷ stations) (suc k) p e t = go (gets f x) refl (addressees-next stations k p e t)
-    where
-      go : (b : Bool) → gets f x ≡ b → addressees (take (suc k) stations) f ≡ addressees (take k stations) f ++ p.station ∷ []
-          → map (λ (q : Placed). q.station) (cond b (x ∷ filter (gets f) (take (suc k) stations)) (filter (gets f) (take (suc k) stations)))
-          ≡ map (λ (q : Placed). q.station) (cond b (x ∷ filter (gets f) (take k stations)) (filter (gets f) (take k stations))) ++ p.station ∷ []
-      go true is same = ap (λ ys. x.station ∷ ys) same
-      go false is same = same
-
-  pub addressees-same : (stations : List Placed) (k : ℕ) (p : Placed) → slice_get stations k ≡ Some p → gets f p ≡ false
-      → addressees (take (suc k) stations) f ≡ addressees (take k stations) f
-  addressees-same [] k p e t = absurd (cc)
-  addressees-same (x ∷ stations) zero p e t =
-      let is : x ≡ p = same_Some x p e in
-      subst (λ (y : Placed). addressees (y ∷ []) f ≡ []) (sym is) (first p t)
-    where
-      first : (p : Placed) → gets f p ≡ false → addressees (p ∷ []) f ≡ []
-      first p t = ap (λ b. map (λ (q : Placed). q.station) (cond b (p ∷ []) [])) t
-  addressees-same (x ∷ stations) (suc k) p e t = go (gets f x) refl (addressees-same stations k p e t)
-    where
-      go : (b : Bool) → gets f x ≡ b → addressees (take (suc k) stations) f ≡ addressees (take k stations) f
-          → map (λ (q : Placed). q.station) (cond b (x ∷ filter (gets f) (take (suc k) stations)) (filter (gets f) (take (suc k) stations)))
-          ≡ map (λ (q : Placed). q.station) (cond b (x ∷ filter (gets f) (take k stations)) (filter (gets f) (take k stations)))
-      go true is same = ap (λ ys. x.station ∷ ys) same
-      go false is same = same
-
-  -- those so far are the first of all
-  pub addressees-begin : (stations : List Placed) (k : ℕ) → addressees stations f ≡ addressees (take k stations) f ++ addressees (drop k stations) f
-  addressees-begin (x ∷ stations) (suc k) = go (gets f x) refl (addressees-begin stations k)
-    where
-      go : (b : Bool) → gets f x ≡ b → addressees stations f ≡ addressees (take k stations) f ++ addressees (drop k stations) f
-          → map (λ (q : Placed). q.station) (cond b (x ∷ filter (gets f) stations) (filter (gets f) stations))
-          ≡ map (λ (q : Placed). q.station) (cond b (x ∷ filter (gets f) (take k stations)) (filter (gets f) (take k stations))) ++ addressees (drop k stations) f
-      go true is same = ap (λ ys. x.station ∷ ys) same
-      go false is same = same
-  addressees-begin [] (suc k) = refl
-  addressees-begin _ _ = refl
+pub ready-same : {s : Setup} {majors : List ℕ} {old new : Sim} → new ≡ record old { frame = new.frame } → IsReady s majors old → IsReady s majors new
+ready-same e ready = rw e (record { life = ready.life; lawful = ready.lawful; hosts_are = ready.hosts_are; shelves_are = ready.shelves_are })
 
 -- PLACES
 
 -- where a station is, one stands
-pub at-inside : (s : Setup) (majors : List ℕ) (place : At) (station : Station) (sim : Sim) → IsReady s majors sim → IsAt s majors place station → IsInside place sim
-at-inside s majors (at.Shelf i) (ShelfStation major) sim ready e =
-    let w = slice_get_within majors i major e in omega (arith, w, ready.shelves_are.count)
-at-inside s majors (at.Host i) (HostStation name) sim ready (host, e, called) =
-    let w = slice_get_within s.hosts i host e in omega (arith, w, ready.hosts_are.count)
-at-inside s majors _ _ sim ready e = absurd e
-
--- STEPS OF THE CODE
-
-pub item-at : {X : Type 0} (xs : List X) (i : ℕ) (x : X) → i < length xs → x ≡ get_or xs i x → slice_get xs i ≡ Some x
-item-at [] i x lt e = absurd (omega (arith, lt))
-item-at (y ∷ xs) zero x lt e = ap Some (sym e)
-item-at (y ∷ xs) (suc i) x lt e = item-at xs i x (omega (arith, lt)) e
+pub at-inside : {s : Setup} {majors : List ℕ} {sim : Sim} → IsReady s majors sim → (place : At) (station : Station) → IsAt s majors place station
+    → IsInside place sim
+at-inside {s} {majors} ready (at.Shelf i) (ShelfStation major) e = omega (arith, slice_get_within majors i major e, ready.shelves_are.count)
+at-inside {s} ready (at.Host i) (HostStation name) (host, e, called) = omega (arith, slice_get_within s.hosts i host e, ready.hosts_are.count)
+at-inside ready _ _ e = absurd e
 
 -- the station of a place
 pub record StandsAt (s : Setup) (majors : List ℕ) (stations : List Placed) (k : ℕ) (place : Place) : Type 0 where
   pub placed : Placed
   pub there_is : slice_get stations k ≡ Some placed
-  pub name : place.name ≡ placed.name
   pub ports : place.ports.items ≡ placed.ports
   pub at_is : IsAt s majors place.at placed.station
 
-pub stands-at : (s : Setup) (majors : List ℕ) (stations : List Placed) (places : List Place) (k : ℕ) (place : Place) → ArePlaces s majors stations places
+pub stands-at : {s : Setup} {majors : List ℕ} {stations : List Placed} {places : List Place} (k : ℕ) (place : Place) → ArePlaces s majors stations places
     → slice_get places k ≡ Some place → StandsAt s majors stations k place
-stands-at s majors stations places k place are e =
-    let w = slice_get_within places k place e in
-    let x = there stations k (omega (arith, w, are.count)) in
+stands-at {stations = stations} {places = places} k place are e =
+    let x = there stations k (omega (arith, slice_get_within places k place e, are.count)) in
     let facts = are.each k x.0 place x.1 e in
-    record { placed = x.0; there_is = x.1; name = facts.0; ports = facts.1; at_is = facts.2 }
+    record { placed = x.0; there_is = x.1; ports = facts.1; at_is = facts.2 }
 
--- ONE ACT, AND THE ACTS OF A FRAME
+-- ADDRESSEES
 
-pub does-all : {T : Type 0} (r : Result T NetRefusal) (s : Setup) (majors : List ℕ) (act : Act) (old new : Sim) → Does r s majors act old new → DoesAll r s majors (act ∷ []) old new
-does-all (Ok u) s majors act old new (g, ready) = ((new.run.entries, g, refl), ready)
-does-all (Err refusal) s majors act old new left =
-    left-more s (IsBegun s old.run.entries act) (FollowsSome s (act ∷ []) old.run.entries) refusal new.run.entries (λ m begun. inl begun) left
+addressees-append : (f : List ℕ) (xs ys : List Placed) → addressees (xs ++ ys) f ≡ addressees xs f ++ addressees ys f
+addressees-append f xs ys = rw (filter-append (gets f) xs ys, map-append (λ (p : Placed). p.station) (filter (gets f) xs) (filter (gets f) ys))
 
--- of a sim only its history counts
-pub all-from : {T : Type 0} (r : Result T NetRefusal) (s : Setup) (majors : List ℕ) (acts : List Act) (old mid new : Sim) → mid.run.entries ≡ old.run.entries
-    → DoesAll r s majors acts mid new → DoesAll r s majors acts old new
-all-from (Ok u) s majors acts old mid new e (f, ready) = (subst (λ h. Follows s acts h new.run.entries) e f, ready)
-all-from (Err refusal) s majors acts old mid new e left = subst (λ h. IsLeft s (FollowsSome s acts h) refusal new.run.entries) e left
+-- of what can be handed over, the addressees among these stations
+abbrev pub among : List Placed → Option (List ℕ) → List Station
+among stations o = option_map_or (λ f. addressees stations f) o []
 
-pub acts-are : {T : Type 0} (r : Result T NetRefusal) (s : Setup) (majors : List ℕ) (acts others : List Act) (old new : Sim) → others ≡ acts
-    → DoesAll r s majors acts old new → DoesAll r s majors others old new
-acts-are r s majors acts others old new e d = subst (λ xs. DoesAll r s majors xs old new) (sym e) d
+among-append : (o : Option (List ℕ)) (xs ys : List Placed) → among (xs ++ ys) o ≡ among xs o ++ among ys o
+among-append None xs ys = refl
+among-append (Some f) xs ys = addressees-append f xs ys
 
-pub ready-same : (s : Setup) (majors : List ℕ) (old new : Sim) → new ≡ record old { frame = new.frame } → IsReady s majors old → IsReady s majors new
-ready-same s majors old new e ready =
-    subst (λ (st : Sim). IsReady s majors st) (sym e) (record { life = ready.life; lawful = ready.lawful; hosts_are = ready.hosts_are; shelves_are = ready.shelves_are })
-
-pub entries-same : (old new : Sim) → new ≡ record old { frame = new.frame } → new.run.entries ≡ old.run.entries
-entries-same old new e = ap (λ (st : Sim). st.run.entries) e
-
-pub handings-none : (s : Setup) (stations : List Placed) (life : ℕ) (h : List Entry) (number : ℕ) → life ≡ s.life → arriving life h number ≡ None
-    → handings s stations h number ≡ Lose number ∷ []
-handings-none s stations life h number e none =
-    ap (λ o. option_map_or (λ f. hand_each number (addressees stations f)) o (Lose number ∷ [])) (ap (λ n. arriving n h number) (sym e) ∙ none)
-
-pub handings-some : (s : Setup) (stations : List Placed) (life : ℕ) (h : List Entry) (number : ℕ) (f : List ℕ) → life ≡ s.life → arriving life h number ≡ Some f
-    → handings s stations h number ≡ hand_each number (addressees stations f)
-handings-some s stations life h number f e some =
-    ap (λ o. option_map_or (λ g. hand_each number (addressees stations g)) o (Lose number ∷ [])) (ap (λ n. arriving n h number) (sym e) ∙ some)
-
--- HANDING TO EACH
-
--- to the stations before the k-th the frame was handed
-pub record Handed (s : Setup) (majors : List ℕ) (stations : List Placed) (number k : ℕ) (any : Bool) (f : List ℕ) (old now : Sim) : Type 0 where
-  pub some : any ≡ nat_lt 0 (length (addressees (take k stations) f))
-  pub follows : Follows s (map (Hand number) (addressees (take k stations) f)) old.run.entries now.run.entries
-  pub ready : IsReady s majors now
-  pub fresh : arriving now.run.life now.run.entries number ≡ Some f
-
-module _ (s : Setup) (majors : List ℕ) (stations : List Placed) (number : ℕ) (f : List ℕ) (old : Sim) where
-  handed-none : IsReady s majors old → arriving old.run.life old.run.entries number ≡ Some f → Handed s majors stations number 0 false f old old
-  handed-none ready fresh = record { some = refl; follows = refl; ready = ready; fresh = fresh }
-
-  module _ (k : ℕ) (p : Placed) (any : Bool) (now : Sim) (at_k : slice_get stations k ≡ Some p) (before : Handed s majors stations number k any f old now) where
-    handed-same : (j : ℕ) → j ≡ suc k → gets f p ≡ false → Handed s majors stations number j any f old now
-    handed-same j e t = subst (λ i. Handed s majors stations number i any f old now) (sym e) (record {
-      some = before.some ∙ ap (λ xs. nat_lt 0 (length xs)) (sym same);
-      follows = subst (λ xs. Follows s (map (Hand number) xs) old.run.entries now.run.entries) (sym same) before.follows;
-      ready = before.ready;
-      fresh = before.fresh;
-    })
-      where
-        same : addressees (take (suc k) stations) f ≡ addressees (take k stations) f
-        same = addressees-same f stations k p at_k t
-
-    handed-next : (j : ℕ) (later : Sim) → j ≡ suc k → gets f p ≡ true → Group s now.run.entries (Hand number p.station) later.run.entries
-        → IsReady s majors later → Handed s majors stations number j true f old later
-    handed-next j later e t g ready = subst (λ i. Handed s majors stations number i true f old later) (sym e) (record {
-      some = some-more (addressees (take k stations) f) ∙ ap (λ xs. nat_lt 0 (length xs)) (sym same);
-      follows =
-          subst (λ xs. Follows s (map (Hand number) xs) old.run.entries later.run.entries) (sym same)
-          (subst (λ acts. Follows s acts old.run.entries later.run.entries) (sym (map-append (Hand number) (addressees (take k stations) f) (p.station ∷ [])))
-          (follows-more s (map (Hand number) (addressees (take k stations) f)) (Hand number p.station) old.run.entries now.run.entries later.run.entries before.follows g));
-      ready = ready;
-      fresh =
-          ap (λ life. arriving life later.run.entries number) (ready.life ∙ sym before.ready.life)
-          ∙ hand-fresh s now.run.life number number f p.station now.run.entries later.run.entries g before.fresh;
-    })
-      where
-        same : addressees (take (suc k) stations) f ≡ addressees (take k stations) f ++ p.station ∷ []
-        same = addressees-next f stations k p at_k t
-
-        above : (n : ℕ) → 0 < n → true ≡ nat_lt 0 n
-        above n lt = grind (arith, nat_tests)
-
-        some-more : (xs : List Station) → true ≡ nat_lt 0 (length (xs ++ p.station ∷ []))
-        some-more [] = refl
-        some-more (x ∷ xs) = above (suc (length (xs ++ p.station ∷ []))) (omega arith)
-
-    handed-begun : (refusal : NetRefusal) (later : Sim) → gets f p ≡ true → IsLeft s (IsBegun s now.run.entries (Hand number p.station)) refusal later.run.entries
-        → IsLeft s (FollowsSome s (hand_each number (addressees stations f)) old.run.entries) refusal later.run.entries
-    handed-begun refusal later t left =
-        subst (λ xs. IsLeft s (FollowsSome s (hand_each number xs) old.run.entries) refusal later.run.entries) (sym stations-are)
-        (left-more s (IsBegun s now.run.entries (Hand number p.station)) (FollowsSome s (hand_each number (first ++ p.station ∷ rest)) old.run.entries) refusal later.run.entries
-        (λ m b. each-some-acts first m (follows-begun s (map (Hand number) first) (Hand number p.station) (map (Hand number) rest) old.run.entries now.run.entries m before.follows b)) left)
-      where
-        first : List Station
-        first = addressees (take k stations) f
-
-        rest : List Station
-        rest = addressees (drop (suc k) stations) f
-
-        append : (xs ys : List Station) → (xs ++ p.station ∷ []) ++ ys ≡ xs ++ p.station ∷ ys
-        append [] ys = refl
-        append (x ∷ xs) ys = ap (λ zs. x ∷ zs) (append xs ys)
-
-        stations-are : addressees stations f ≡ addressees (take k stations) f ++ p.station ∷ addressees (drop (suc k) stations) f
-        stations-are =
-            addressees-begin f stations (suc k)
-            ∙ ap (λ xs. xs ++ addressees (drop (suc k) stations) f) (addressees-next f stations k p at_k t)
-            ∙ append (addressees (take k stations) f) (addressees (drop (suc k) stations) f)
-
-        each-some-acts : (xs : List Station) (m : List Entry) → FollowsSome s (map (Hand number) xs ++ Hand number p.station ∷ map (Hand number) (addressees (drop (suc k) stations) f)) old.run.entries m
-            → FollowsSome s (hand_each number (xs ++ p.station ∷ addressees (drop (suc k) stations) f)) old.run.entries m
-        each-some-acts [] m b = b
-        each-some-acts (x ∷ xs) m b =
-            subst (λ acts. FollowsSome s acts old.run.entries m) (sym (map-append (Hand number) (x ∷ xs) (p.station ∷ addressees (drop (suc k) stations) f))) b
-
--- a frame that can't be handed over is handed to none; the others to the stations before the k-th
-abbrev pub InHand : Option (List ℕ) → Setup → List ℕ → List Placed → (number k : ℕ) → Bool → Sim → Sim → Type 0
-InHand None s majors stations number k any old now = (any ≡ false) × (now ≡ old)
-InHand (Some f) s majors stations number k any old now = Handed s majors stations number k any f old now
-
-pub in-hand-is : (o : Option (List ℕ)) (s : Setup) (majors : List ℕ) (stations : List Placed) (number k : ℕ) (any other : Bool) (old now later : Sim) → other ≡ any → later ≡ now
-    → InHand o s majors stations number k any old now → InHand o s majors stations number k other old later
-in-hand-is o s majors stations number k any other old now later ea el h =
-    subst (λ b. InHand o s majors stations number k b old later) (sym ea) (subst (λ st. InHand o s majors stations number k any old st) (sym el) h)
-
--- the test of the code, over what can be handed over
+-- whether a station with these ports gets it
 abbrev pub tests : Option (List ℕ) → List Mac → Bool
 tests o ports = option_map_or (λ f. is_for (fields f).dst (fields f).src ports) o false
 
-module _ (s : Setup) (majors : List ℕ) (stations : List Placed) (number : ℕ) (old : Sim) (ready : IsReady s majors old) where
-  pub in-hand-none : (o : Option (List ℕ)) → arriving old.run.life old.run.entries number ≡ o → InHand o s majors stations number 0 false old old
-  in-hand-none None e = (refl, refl)
-  in-hand-none (Some f) e = handed-none s majors stations number f old ready e
+among-one : (o : Option (List ℕ)) (p : Placed) → tests o p.ports ≡ true → among (p ∷ []) o ≡ p.station ∷ []
+among-one None p t = absurd cc
+among-one (Some f) p t = rw t
 
-  pub in-hand-ready : (o : Option (List ℕ)) (k : ℕ) (any : Bool) (now : Sim) → InHand o s majors stations number k any old now → IsReady s majors now
-  in-hand-ready None k any now (is, same) = subst (λ (x : Sim). IsReady s majors x) (sym same) ready
-  in-hand-ready (Some f) k any now h = h.ready
+among-none : (o : Option (List ℕ)) (p : Placed) → tests o p.ports ≡ false → among (p ∷ []) o ≡ []
+among-none None p t = refl
+among-none (Some f) p t = rw t
 
-  -- what is handed now is what was at first
-  in-hand-fresh : (o : Option (List ℕ)) (k : ℕ) (any : Bool) (now : Sim) → arriving old.run.life old.run.entries number ≡ o → InHand o s majors stations number k any old now
-      → arriving now.run.life now.run.entries number ≡ o
-  in-hand-fresh None k any now e (is, same) = ap (λ (x : Sim). arriving x.run.life x.run.entries number) same ∙ e
-  in-hand-fresh (Some f) k any now e h = h.fresh
+pub handings-are : (o : Option (List ℕ)) (number : ℕ) (stations : List Placed)
+    → option_map_or (λ f. hand_each number (addressees stations f)) o (Lose number ∷ []) ≡ hand_each number (among stations o)
+handings-are None number stations = refl
+handings-are (Some f) number stations = refl
 
-  module _ (k : ℕ) (p : Placed) (any : Bool) (now : Sim) (at_k : slice_get stations k ≡ Some p) (ports : List Mac) (same : ports ≡ p.ports) (b : Bool)
-      (is : b ≡ tests (arriving now.run.life now.run.entries number) ports) where
-    test-at : (o : Option (List ℕ)) → arriving old.run.life old.run.entries number ≡ o → InHand o s majors stations number k any old now → tests o p.ports ≡ b
-    test-at o e h = ap (tests o) (sym same) ∙ ap (λ x. tests x ports) (sym (in-hand-fresh o k any now e h)) ∙ sym is
+each-with : (number : ℕ) (done : List Station) (st : Station) (rest : List Station)
+    → hand_each number (done ++ st ∷ rest) ≡ map (Hand number) done ++ Hand number st ∷ map (Hand number) rest
+each-with number [] st rest = refl
+each-with number (x ∷ done) st rest = map-append (Hand number) (x ∷ done) (st ∷ rest)
 
-    pub in-hand-same : (o : Option (List ℕ)) (j : ℕ) → arriving old.run.life old.run.entries number ≡ o → j ≡ suc k → b ≡ false → InHand o s majors stations number k any old now
-        → InHand o s majors stations number j any old now
-    in-hand-same None j e ej no_test h = h
-    in-hand-same (Some f) j e ej no_test h = handed-same s majors stations number f old k p any now at_k h j ej (test-at (Some f) e h ∙ no_test)
+-- HANDING TO EACH
 
-    pub in-hand-next : (o : Option (List ℕ)) (j : ℕ) (later : Sim) → arriving old.run.life old.run.entries number ≡ o → j ≡ suc k → b ≡ true → InHand o s majors stations number k any old now
-        → Group s now.run.entries (Hand number p.station) later.run.entries → IsReady s majors later → InHand o s majors stations number j true old later
-    in-hand-next None j later e ej test h g after = let no_test : false ≡ b = test-at None e h in absurd cc
-    in-hand-next (Some f) j later e ej test h g after = handed-next s majors stations number f old k p any now at_k h j later ej (test-at (Some f) e h ∙ test) g after
+-- what could be handed over at first
+abbrev pub at_first : Setup → ℕ → Sim → Option (List ℕ)
+at_first s number old = arriving s.life old.run.entries number
 
-    pub in-hand-begun : (o : Option (List ℕ)) (refusal : NetRefusal) (later : Sim) → arriving old.run.life old.run.entries number ≡ o → b ≡ true → InHand o s majors stations number k any old now
-        → IsLeft s (IsBegun s now.run.entries (Hand number p.station)) refusal later.run.entries
-        → IsLeft s (FollowsSome s (handings s stations old.run.entries number) old.run.entries) refusal later.run.entries
-    in-hand-begun None refusal later e test h left = let no_test : false ≡ b = test-at None e h in absurd cc
-    in-hand-begun (Some f) refusal later e test h left =
-        subst (λ acts. IsLeft s (FollowsSome s acts old.run.entries) refusal later.run.entries) (sym (handings-some s stations old.run.life old.run.entries number f ready.life e))
-        (handed-begun s majors stations number f old k p any now at_k h refusal later (test-at (Some f) e h ∙ test) left)
+-- whether there are any
+abbrev pub AreAny : ℕ → Bool → List Station → Type 0
+AreAny number false stations = stations ≡ []
+AreAny number true stations = hand_each number stations ≡ map (Hand number) stations
 
-  -- all places were looked at: the frame was handed to some
-  pub in-hand-all : (o : Option (List ℕ)) (k : ℕ) (now : Sim) → arriving old.run.life old.run.entries number ≡ o → k ≡ length stations → InHand o s majors stations number k true old now
-      → Follows s (handings s stations old.run.entries number) old.run.entries now.run.entries × IsReady s majors now
-  in-hand-all None k now e ek (is, same) = absurd cc
-  in-hand-all (Some f) k now e ek h =
-      let all : take k stations ≡ stations = ap (λ n. take n stations) ek ∙ take-all stations in (
-        subst (λ acts. Follows s acts old.run.entries now.run.entries) (sym (handings-some s stations old.run.life old.run.entries number f ready.life e))
-            (each-some (addressees stations f) (h.some ∙ ap (λ xs. nat_lt 0 (length (addressees xs f))) all)
-            (subst (λ xs. Follows s (map (Hand number) (addressees xs f)) old.run.entries now.run.entries) all h.follows)),
-        h.ready,
-      )
-    where
-      each-some : (xs : List Station) → true ≡ nat_lt 0 (length xs) → Follows s (map (Hand number) xs) old.run.entries now.run.entries → Follows s (hand_each number xs) old.run.entries now.run.entries
-      each-some [] e f = absurd (cc)
-      each-some (x ∷ xs) e f = f
+-- to the addressees before the k-th station the frame was handed, where it could be handed over at first, and it still can
+pub record InHand (s : Setup) (majors : List ℕ) (stations : List Placed) (number k : ℕ) (any : Bool) (old now : Sim) : Type 0 where
+  pub some : AreAny number any (among (take k stations) (at_first s number old))
+  pub follows : Follows s (map (Hand number) (among (take k stations) (at_first s number old))) old.run.entries now.run.entries
+  pub ready : IsReady s majors now
+  pub fresh : arriving s.life now.run.entries number ≡ at_first s number old
 
-  -- or to none
-  pub in-hand-lost : {T : Type 0} (r : Result T NetRefusal) (o : Option (List ℕ)) (k : ℕ) (now new : Sim) → arriving old.run.life old.run.entries number ≡ o → k ≡ length stations
-      → InHand o s majors stations number k false old now → Does r s majors (Lose number) now new → DoesAll r s majors (handings s stations old.run.entries number) old new
-  in-hand-lost r None k now new e ek (is, same) d =
-      acts-are r s majors (Lose number ∷ []) (handings s stations old.run.entries number) old new (handings-none s stations old.run.life old.run.entries number ready.life e)
-      (all-from r s majors (Lose number ∷ []) old now new (ap (λ (x : Sim). x.run.entries) same) (does-all r s majors (Lose number) now new d))
-  in-hand-lost r (Some f) k now new e ek h d =
-      let all : take k stations ≡ stations = ap (λ n. take n stations) ek ∙ take-all stations in
-      acts-are r s majors (hand_each number (addressees stations f)) (handings s stations old.run.entries number) old new (handings-some s stations old.run.life old.run.entries number f ready.life e)
-      (each-none (addressees stations f) (h.some ∙ ap (λ xs. nat_lt 0 (length (addressees xs f))) all)
-      (subst (λ xs. Follows s (map (Hand number) (addressees xs f)) old.run.entries now.run.entries) all h.follows))
-    where
-      above : (n : ℕ) → true ≡ nat_lt 0 (suc n)
-      above n = grind (arith, nat_tests)
+pub in-hand-none : {s : Setup} {majors : List ℕ} {old : Sim} (stations : List Placed) (number : ℕ) → IsReady s majors old
+    → InHand s majors stations number 0 false old old
+in-hand-none {s} {old = old} stations number ready = record { some = none; follows = rw none; ready = ready; fresh = refl }
+  where
+    go : (o : Option (List ℕ)) → among [] o ≡ []
+    go None = refl
+    go (Some f) = refl
 
-      differ : (n : ℕ) → false ≡ nat_lt 0 (suc n) → ⊥
-      differ n e = let k = above n in cc
+    none : among (take 0 stations) (at_first s number old) ≡ []
+    none = go (at_first s number old)
 
-      each-none : (xs : List Station) → false ≡ nat_lt 0 (length xs) → Follows s (map (Hand number) xs) old.run.entries now.run.entries → DoesAll r s majors (hand_each number xs) old new
-      each-none [] e f = all-from r s majors (Lose number ∷ []) old now new f (does-all r s majors (Lose number) now new d)
-      each-none (x ∷ xs) e f = absurd (differ (length xs) e)
+module _ {s : Setup} {majors : List ℕ} {stations : List Placed} {number k : ℕ} {any : Bool} {old now : Sim}
+    (h : InHand s majors stations number k any old now) where
+  -- what the code tests
+  pub in-hand-test : {ports same_ports : List Mac} {b t : Bool} → ports ≡ same_ports → b ≡ tests (arriving now.run.life now.run.entries number) ports → b ≡ t
+      → tests (at_first s number old) same_ports ≡ t
+  in-hand-test same is test = sym (rw (h.ready.life, h.fresh, same) at is) ∙ test
+
+  module _ (p : Placed) (at_k : slice_get stations k ≡ Some p) where
+    next : among (take (suc k) stations) (at_first s number old)
+        ≡ among (take k stations) (at_first s number old) ++ among (p ∷ []) (at_first s number old)
+    next = rw (take-next stations k p at_k) (among-append (at_first s number old) (take k stations) (p ∷ []))
+
+    -- the station doesn't get it
+    pub in-hand-same : tests (at_first s number old) p.ports ≡ false → InHand s majors stations number (suc k) any old now
+    in-hand-same t = record { some = rw same h.some; follows = rw same h.follows; ready = h.ready; fresh = h.fresh }
+      where
+        same : among (take (suc k) stations) (at_first s number old) ≡ among (take k stations) (at_first s number old)
+        same = next ∙ rw (among-none (at_first s number old) p t) (append-nil (among (take k stations) (at_first s number old)))
+
+    module _ (t : tests (at_first s number old) p.ports ≡ true) where
+      more : among (take (suc k) stations) (at_first s number old) ≡ among (take k stations) (at_first s number old) ++ p.station ∷ []
+      more = rw (among-one (at_first s number old) p t) at next
+
+      -- it got it
+      pub in-hand-next : {later : Sim} → Group s now.run.entries (Hand number p.station) later.run.entries → IsReady s majors later
+          → InHand s majors stations number (suc k) true old later
+      in-hand-next {later} g ready = record {
+        some = rw more (each-with number (among (take k stations) (at_first s number old)) p.station [] ∙ sym (map-append (Hand number) _ (p.station ∷ [])));
+        follows = rw (more, map-append (Hand number) (among (take k stations) (at_first s number old)) (p.station ∷ []))
+            (follows-more (map (Hand number) (among (take k stations) (at_first s number old))) old.run.entries h.follows g);
+        ready = ready;
+        fresh = go (at_first s number old) h.fresh t;
+      }
+        where
+          go : (o : Option (List ℕ)) → arriving s.life now.run.entries number ≡ o → tests o p.ports ≡ true → arriving s.life later.run.entries number ≡ o
+          go None e t = absurd cc
+          go (Some f) e t = hand-fresh s.life number f g e
+
+      -- it got it in part
+      pub in-hand-begun : {refusal : NetRefusal} {m : List Entry} → IsLeft s (IsBegun s now.run.entries (Hand number p.station)) refusal m
+          → IsLeft s (FollowsSome s (handings s stations old.run.entries number) old.run.entries) refusal m
+      in-hand-begun left =
+          left-more
+          (λ m b. rw (handings-are (at_first s number old) number stations, whole,
+          each-with number (among (take k stations) (at_first s number old)) p.station rest)
+          (follows-begun s _ (Hand number p.station) (map (Hand number) rest) old.run.entries now.run.entries m h.follows b))
+          left
+        where
+          rest : List Station
+          rest = among (drop (suc k) stations) (at_first s number old)
+
+          whole : among stations (at_first s number old)
+              ≡ among (take k stations) (at_first s number old) ++ p.station ∷ among (drop (suc k) stations) (at_first s number old)
+          whole =
+              ap (λ l. among l (at_first s number old)) (sym (take-append-drop (suc k) stations))
+              ∙ among-append (at_first s number old) (take (suc k) stations) (drop (suc k) stations)
+              ∙ ap (λ l. l ++ rest) more
+              ∙ append_assoc (among (take k stations) (at_first s number old)) (p.station ∷ []) rest
+
+-- all places were looked at: the frame was handed to some
+pub in-hand-all : {s : Setup} {majors : List ℕ} {stations : List Placed} {number k : ℕ} {old now : Sim} → InHand s majors stations number k true old now
+    → length stations ≤ k → Follows s (handings s stations old.run.entries number) old.run.entries now.run.entries
+in-hand-all {s} {stations = stations} {number = number} {k = k} {old = old} h last =
+    let all = take_all k stations last in
+    let some : hand_each number (among stations (at_first s number old)) ≡ map (Hand number) (among stations (at_first s number old)) = rw all at h.some in
+    rw (handings-are (at_first s number old) number stations, some) (rw all at h.follows)
+
+-- or to none
+pub in-hand-lost : {T : Type 0} (r : Result T NetRefusal) {s : Setup} {majors : List ℕ} {stations : List Placed} {number k : ℕ} {old now : Sim} (new : Sim)
+    → InHand s majors stations number k false old now → length stations ≤ k → Does r s majors (Lose number) now new
+    → DoesAll r s majors (handings s stations old.run.entries number) old new
+in-hand-lost r {s} {majors} {stations} {number} {k} {old} {now} new h last d =
+    let some : among (take k stations) (at_first s number old) ≡ [] = h.some in
+    rw (handings-are (at_first s number old) number stations, rw (take_all k stations last) at some)
+    (does-all r s majors (Lose number) old now new (rw some at h.follows) d)

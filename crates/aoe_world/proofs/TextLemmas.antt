@@ -29,7 +29,8 @@ pub long_text : (text : List ℕ) → refusal text ≡ Some TooLong → 16777216
 unfolding refusal
 long_text text e = go (nat_lt 16777216 (length text)) refl e
   where
-    go : (b : Bool) → nat_lt 16777216 (length text) ≡ b → (if b then Some TooLong else first_refusal (said_by text) (length (said_by text))) ≡ Some TooLong → 16777216 < length text
+    go : (b : Bool) → nat_lt 16777216 (length text) ≡ b → (if b then Some TooLong else first_refusal (said_by text) (length (said_by text))) ≡ Some TooLong
+        → 16777216 < length text
     go true is e = ltb-true 16777216 (length text) is
     go false is e = absurd (never_long_first (said_by text) (length (said_by text)) e)
 
@@ -38,7 +39,8 @@ pub short_text : (text : List ℕ) (cause : Option ScriptRefusal) → refusal te
 unfolding refusal
 short_text text cause e other = go (nat_lt 16777216 (length text)) refl e
   where
-    go : (b : Bool) → nat_lt 16777216 (length text) ≡ b → (if b then Some TooLong else first_refusal (said_by text) (length (said_by text))) ≡ cause → length text ≤ 16777216
+    go : (b : Bool) → nat_lt 16777216 (length text) ≡ b → (if b then Some TooLong else first_refusal (said_by text) (length (said_by text))) ≡ cause
+        → length text ≤ 16777216
     go true is e = absurd (other (sym e))
     go false is e = ltb-false 16777216 (length text) is
 

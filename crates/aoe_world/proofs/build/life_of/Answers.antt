@@ -8,10 +8,10 @@ use Rattle.aoe_world.proofs.build.life_of.Goals as goal
 pub returns-in-Some : goal.returns-in-Some
 returns-in-Some c =
     let says = sym c.life_in.ensures ∙ c.in-Some.is in
-    let first = find-here (λ line. is_some (life_in line)) c.args.script.now.setups c.lines.i c.setup.result.now c.setup.ensures.setup (ap is_some says) c.lines.invariant in
+    let first = find-here (λ line. is_some (life_in line)) c.args.script.now.setups c.lines.i _ c.setup.ensures.setup (ap is_some says) c.lines.invariant in
     sym (life-said c.args.script.now.setups c.setup.result.now c.in-Some.ms first says)
 
 pub lines-preserved : goal.lines-preserved
 lines-preserved c =
-    find-past (λ line. is_some (life_in line)) c.args.script.now.setups c.lines.i c.setup.result.now c.setup.ensures.setup
+    find-past (λ line. is_some (life_in line)) c.args.script.now.setups c.lines.i _ c.setup.ensures.setup
     (ap is_some (sym c.life_in.ensures ∙ c.in_default.is)) c.lines.invariant

@@ -5,8 +5,9 @@ use Rattle.aoe_world.proofs.build.shelf_named.Goals as goal
 
 pub returns-in-Some : goal.returns-in-Some
 returns-in-Some c =
-    let found = shelf-here c.args.script.now.setups c.lines.i c.setup.result.now c.args.wanted.now c.in-Some.line.major c.in-Some.line.ports c.in-Some.line.mtu c.setup.ensures.setup c.in-Some.ensures c.lines.invariant in
-    record { found = found; words = shelf-words c.args.script.now c.setups-i-end.ensures.script c.args.wanted.now c.in-Some.line.major c.in-Some.line.ports c.in-Some.line.mtu found }
+    let found = shelf-here c.args.script.now.setups c.lines.i c.setup.ensures.setup c.in-Some.ensures c.lines.invariant in
+    record { found = found; words = shelf-words c.setups-i-end.ensures.script c.args.wanted.now _ _ _ found }
 
 pub lines-preserved : goal.lines-preserved
-lines-preserved c = find-past (is_shelf_named c.args.wanted.now) c.args.script.now.setups c.lines.i c.setup.result.now c.setup.ensures.setup c.in_default.ensures c.lines.invariant
+lines-preserved c =
+    find-past (is_shelf_named c.args.wanted.now) c.args.script.now.setups c.lines.i _ c.setup.ensures.setup c.in_default.ensures c.lines.invariant

@@ -1,7 +1,4 @@
 -- Each event comes behind those before it, or a part of it.
-use Rattle.std.proofs.Common.{subst, sym}
-use Rattle.aoe_world.specs.declared.end.ReplayEnd.{ReplayEnd}
-use Rattle.aoe_world.specs.Replay.{Stops}
 use Rattle.aoe_world.proofs.EventLemmas.{one_played, stops}
 use Rattle.aoe_world.proofs.events.run_events.Goals as goal
 
@@ -9,10 +6,8 @@ pub returns-in-Err-clause-stops : goal.returns-in-Err-clause-stops
 returns-in-Err-clause-stops c =
     let begins = rw c.events.invariant.goes_on at c.in-Err.ensures.begins in
     let why = rw c.events.invariant.goes_on at c.in-Err.ensures.why in
-    let stopped = (stops c.args.script.now c.events.i c.events.world c.step.new.self c.event.result.now c.events.invariant c.event.ensures.event begins
-    c.in-Err.ensures.lines (record { lawful = c.in-Err.ensures.lawful; reading = c.in-Err.ensures.reading; room = c.in-Err.ensures.room })
-    c.in-Err.refusal why) in
-    subst (λ (end : ReplayEnd). Stops end c.args.script.now) (sym c.end_of.ensures) stopped
+    rw c.end_of.ensures (stops c.args.script.now c.events.i c.events.world c.step.new.self _ c.events.invariant c.event.ensures.event begins c.in-Err.ensures.lines
+    (record { lawful = c.in-Err.ensures.lawful; reading = c.in-Err.ensures.reading; room = c.in-Err.ensures.room }) c.in-Err.refusal why)
 
 pub events-preserved : goal.events-preserved
 events-preserved c =

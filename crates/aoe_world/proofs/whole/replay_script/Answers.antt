@@ -1,12 +1,9 @@
 -- A text that was read to its end and spells a script has the end of its run.
-use Rattle.std.proofs.Common.{List, ℕ, subst, sym}
 use Rattle.aoe_world.proofs.RunLemmas.{ran}
-use Rattle.aoe_world.specs.Replay.{IsRead}
 use Rattle.aoe_world.proofs.whole.replay_script.Goals as goal
 
 pub returns-in-Ok-script_in-clause-replayed : goal.returns-in-Ok-script_in-clause-replayed
 returns-in-Ok-script_in-clause-replayed g c =
-    let P : List ℕ → Type 0 = λ t. IsRead (g.S.Source.left c.args.source.now) (g.S.Source.left c.read_text.new.source) t in
-    ran (g.S.Source.left c.args.source.now) (g.S.Source.left c.read_text.new.source) c.as_slice.result.now (subst P (sym c.as_slice.ensures.value) c.in-Ok.ensures.read)
+    ran (g.S.Source.left c.args.source.now) (g.S.Source.left c.read_text.new.source) c.as_slice.result.now (rw c.as_slice.ensures.value c.in-Ok.ensures.read)
     (g.K.Sink.held c.args.sink.now) (g.K.Sink.held c.run_script.new.sink) c.in-Ok-script_in.ensures.good c.run_script.result c.in-Ok-script_in.script
     c.in-Ok-script_in.ensures.script c.run_script.ensures.runs

@@ -4,8 +4,10 @@ use Rattle.aoe_world.proofs.whole.run_script.Goals as goal
 
 pub returns-in-Ok-run_events-clause-runs : goal.returns-in-Ok-run_events-clause-runs
 returns-in-Ok-run_events-clause-runs g c =
-    finished_in c.args.part c.write_run.result c.args.script.now (g.K.Sink.held c.args.sink.now) (g.K.Sink.held c.write_run.new.sink) c.run_events.new.world c.count.result c.history.result.now
-    c.run_events.ensures.lines c.in-Ok-run_events.ensures.plays (record { lawful = c.history.ensures.lawful; reading = c.history.ensures.reading; room = c.history.ensures.room }) c.count.ensures.count c.history.ensures.history c.write_run.ensures.writes
+    finished_in c.args.part c.write_run.result c.args.script.now (g.K.Sink.held c.args.sink.now) (g.K.Sink.held c.write_run.new.sink) c.run_events.new.world
+    c.count.result c.history.result.now c.run_events.ensures.lines c.in-Ok-run_events.ensures.plays
+    (record { lawful = c.history.ensures.lawful; reading = c.history.ensures.reading; room = c.history.ensures.room })
+    c.count.ensures.count c.history.ensures.history c.write_run.ensures.writes
 
 pub returns-clause-runs : goal.returns-clause-runs
 returns-clause-runs g c = stopped c.args.part c.in-Err-run_events.end c.args.script.now (g.K.Sink.held c.args.sink.now) c.in-Err-run_events.ensures.stops
@@ -18,12 +20,3 @@ returns-clause-sink_fault g c = λ e. absurd (stops_no_sink c.in-Err-run_events.
 
 pub write_run-requires : goal.write_run-requires
 write_run-requires g c = rw c.history.ensures.history c.history.ensures.printable
-
-pub run_events-requires : goal.run_events-requires
-run_events-requires g c = c.in-Ok.ensures.new
-
-pub returns-in-Ok-run_events-clause-leaves : goal.returns-in-Ok-run_events-clause-leaves
-returns-in-Ok-run_events-clause-leaves g c = c.write_run.ensures.leaves
-
-pub returns-in-Ok-run_events-clause-sink_fault : goal.returns-in-Ok-run_events-clause-sink_fault
-returns-in-Ok-run_events-clause-sink_fault g c = c.write_run.ensures.sink_fault
