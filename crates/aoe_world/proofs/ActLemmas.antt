@@ -1,5 +1,5 @@
 -- Acts: their entries, and then the turns of the hosts.
-use Rattle.std.proofs.Common.{ℕ, ◌≡◌, ◌≢◌, ◌<◌, nat_eq, true, false, not, List, [], ◌∷◌, Option, Some, None, Result, Ok, Err, refl, ap, ◌∙◌, arith, inl, inr, IsErrAnd, OnErr, OnOk}
+use Rattle.std.proofs.Common.{ℕ, ◌≡◌, ◌≢◌, nat_eq, true, false, not, List, [], ◌∷◌, Option, Some, None, Result, Ok, Err, refl, ap, ◌∙◌, arith, inl, inr, IsErrAnd, OnErr, OnOk}
 use Rattle.std.specs.Prelude.{slice_get, slice_set}
 use Rattle.std.specs.List.{list_any}
 use Rattle.std.proofs.lemmas.Bool.{eqb-true}

@@ -1,5 +1,5 @@
 -- A host that is built from the lines of a script.
-use Rattle.std.proofs.Common.{ℕ, ◌+◌, ◌≡◌, ◌∙◌, ◌<◌, ◌≤◌, ◌==◌, true, false, List, [], ◌++◌, length, take, drop, Option, Some, None, refl, sym, ap, arith, Contains}
+use Rattle.std.proofs.Common.{ℕ, ◌+◌, ◌≡◌, ◌∙◌, ◌≤◌, ◌==◌, true, false, List, [], ◌++◌, length, take, drop, Option, Some, None, refl, sym, ap, arith, Contains}
 use Rattle.std.specs.Prelude.{map, slice_get, option_map, is_some, unwrap_or, IfSome}
 use Rattle.std.specs.List.{filter_map, find, position_or_len}
 use Rattle.std.specs.Option.{option_to_list}
@@ -9,7 +9,6 @@ use Rattle.std.proofs.lemmas.Option.{slice_get_within}
 use Rattle.std.proofs.lemmas.List.{length-map, take_all}
 use Rattle.arrayvec.specs.ArrayVec.{ArrayVec}
 use Rattle.aoe_base.specs.declared.address.Mac.{Mac}
-use Rattle.aoe_base.specs.Addresses.{IsDistinct}
 use Rattle.aoe_history.specs.Setup.{host_called, HostSetup, IsSetup}
 use Rattle.aoe_sim_hosts.proofs.AddressLemmas.{host-addresses, remote-addresses}
 use Rattle.aoe_sim_hosts.proofs.Apart.{settled-new}
@@ -133,32 +132,12 @@ pub if-some : {X : Type 0} {P : X → Type 0} (o : Option X) → ((x : X) → o 
 if-some None each = tt
 if-some (Some x) each = each x refl
 
--- what a host of a line wants
-pub record Begins (ports : ArrayVec Mac) (life room dead : ℕ) : Type 0 where
-  pub port : 0 < length ports.items
-  pub differ : IsDistinct ports.items
-  pub life_few : life ≤ 600000
-  pub some_room : 0 < room
-  pub most_room : room ≤ 16384
-  pub some_time : 0 < dead
-
 module _ {script : ScriptLines} {name : ArrayVec ℕ} {ports : ArrayVec Mac} {room dead : Option ℕ} (is : IsScript script) (at : ℕ)
     (there : slice_get script.setups at ≡ Some (Host name ports room dead)) where
   pub words-of : HasWords (host_of script.setups name ports.items room dead)
   words-of =
       let p = filtered-at (host_in script.setups) script.setups at (Host name ports room dead) (host_of script.setups name ports.items room dead) there refl in
       (has-ranges script.setups (are-good script is)).hosts p.at _ p.there
-
-  pub begins : {life r t : ℕ} → life ≡ (setup_of script.setups).life → r ≡ unwrap_or room default_room → t ≡ unwrap_or dead default_dead → Begins ports life r t
-  begins life-is room-is dead-is =
-      rw (life-is, room-is, dead-is) (record {
-        port = words-of.ports.some;
-        differ = words-of.ports.distinct;
-        life_few = life-few is;
-        some_room = words-of.some_room;
-        most_room = words-of.room;
-        some_time = words-of.some_time;
-      })
 
   pub host-built : {n : ℕ} {x : NamedHost} → length script.setups ≤ n
       → HostSoFar script.setups name ports (setup_of script.setups).life (unwrap_or room default_room) (unwrap_or dead default_dead) n x

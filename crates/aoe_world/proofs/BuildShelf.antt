@@ -50,18 +50,20 @@ and-false : (b : Bool) → (b && false) ≡ false
 and-false true = refl
 and-false false = refl
 
+abbrev has_minor : ℕ → SlotSetup → Bool
+has_minor minor slot = slot.station.id.minor == minor
+
 -- the minor of a slot is that of its line
 minors-are : (name : ArrayVec ℕ) (major : ℕ) (ports : List Mac) (mtu minor : ℕ) (lines : List Line)
-    → list_any (λ (s : SlotSetup). s.station.id.minor == minor) (filter_map (slot_of_shelf name major ports mtu) lines) ≡ list_any (is_slot name minor) lines
+    → list_any (has_minor minor) (filter_map (slot_of_shelf name major ports mtu) lines) ≡ list_any (is_slot name minor) lines
 minors-are name major ports mtu minor [] = refl
-minors-are name major ports mtu minor (Slot other number sectors room ∷ lines) = go (same other name) (minors-are name major ports mtu minor lines)
+minors-are name major ports mtu minor (Slot other number sectors room ∷ lines) = go (same other name) _ (minors-are name major ports mtu minor lines)
   where
-    go : (b : Bool)
-        → list_any (λ (s : SlotSetup). s.station.id.minor == minor) (filter_map (slot_of_shelf name major ports mtu) lines) ≡ list_any (is_slot name minor) lines → list_any (λ (s : SlotSetup). s.station.id.minor == minor)
-        (cons_option (if b then Some (slot_with major ports mtu number sectors room) else None) (filter_map (slot_of_shelf name major ports mtu) lines))
+    go : (b : Bool) (slots : List SlotSetup) → list_any (has_minor minor) slots ≡ list_any (is_slot name minor) lines
+        → list_any (has_minor minor) (cons_option (if b then Some (slot_with major ports mtu number sectors room) else None) slots)
         ≡ (((number == minor) && b) || list_any (is_slot name minor) lines)
-    go true more = rw (and-true (number == minor), more)
-    go false more = rw (and-false (number == minor)) more
+    go true slots more = rw (and-true (number == minor), more)
+    go false slots more = rw (and-false (number == minor)) more
 minors-are name major ports mtu minor (line ∷ lines) = minors-are name major ports mtu minor lines
 
 pub shelf-begun : {lines : List Line} {name : ArrayVec ℕ} {major : ℕ} {ports : ArrayVec Mac} {mtu : ℕ} {x : MemoryRack}
@@ -97,7 +99,8 @@ module _ {lines : List Line} {name : ArrayVec ℕ} {major : ℕ} {ports : ArrayV
         cache = room;
         few = omega (arith, own, few, k.serves.count);
         other = rw (any-map (λ (t : Mounted (AnyStore Memory) Memory). t.station) (λ (z : Station). z.id.minor == minor) x.shelf.targets, k.stations,
-          ← any-map (λ (s : SlotSetup). s.station) (λ (z : Station). z.id.minor == minor) before, minors-are name major ports.items mtu minor (take n lines)) new;
+          ← any-map (λ (s : SlotSetup). s.station) (λ (z : Station). z.id.minor == minor) before,
+          minors-are name major ports.items mtu minor (take n lines)) new;
       }
 
 -- ---- a shelf of a script

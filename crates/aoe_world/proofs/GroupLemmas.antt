@@ -28,13 +28,6 @@ pub record Grows (time asked : ℕ) (h m : List Entry) : Type 0 where
 pub grows-none : {h : List Entry} → Grows 0 0 h h
 grows-none = record { time_is = omega arith; tickets_are = λ host. omega arith; lines_are = λ all. all }
 
-grows-most : {a b c d : ℕ} {h m : List Entry} → a ≤ b → c ≤ d → Grows a c h m → Grows b d h m
-grows-most time asked x = record {
-  time_is = omega (arith, x.time_is, time);
-  tickets_are = λ host. omega (arith, x.tickets_are host, asked);
-  lines_are = x.lines_are;
-}
-
 -- behind one more step that takes no time and submits nothing
 pub grows-on : {a c : ℕ} {h m n : List Entry} → Grows a c h m → Grows 0 0 m n → Grows a c h n
 grows-on x y = record {
@@ -135,7 +128,7 @@ abbrev pub GrowsByLine : List Entry → List Entry → Type 0
 GrowsByLine h m = Grows 10000000 1 h m
 
 pub little : {h m : List Entry} → Grows 0 0 h m → GrowsByLine h m
-little x = grows-most (omega arith) (omega arith) x
+little x = record { time_is = omega (arith, x.time_is); tickets_are = λ host. omega (arith, x.tickets_are host); lines_are = x.lines_are }
 
 submits : (s : Setup) (host : HostSetup) (h : List Entry) (name : ArrayVec ℕ) (dev : TargetId) (op : Op) (refusal : Option SubmitRefusal) → IsAsked op
     → GrowsByLine h (submit_entry s host h name dev op refusal ∷ h)

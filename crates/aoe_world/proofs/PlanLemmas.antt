@@ -1,5 +1,5 @@
 -- The acts that event lines come to.
-use Rattle.std.proofs.Common.{ℕ, suc, ◌≡◌, ◌≤◌, ◌<◌, ◌-◌, ◌⊎◌, ◌∙◌, Bool, List, [], ◌∷◌, length, Option, Some, None, Result, Ok, Err, refl, sym, ap, subst, arith, inl, inr, MatchOption}
+use Rattle.std.proofs.Common.{ℕ, suc, ◌≡◌, ◌≤◌, ◌-◌, ◌⊎◌, ◌∙◌, Bool, List, [], ◌∷◌, length, Option, Some, None, Result, Ok, Err, refl, sym, ap, subst, arith, inl, inr, MatchOption}
 use Rattle.std.specs.Prelude.{position, slice_get, IfOk, IfSome, IsSomeAnd}
 use Rattle.std.proofs.lemmas.Option.{same_Some, slice_get_within}
 use Rattle.arrayvec.specs.ArrayVec.{ArrayVec}
@@ -15,7 +15,7 @@ use Rattle.aoe_history.specs.Frames.{frames}
 use Rattle.aoe_history.specs.Groups.{Act as Said, Follows}
 use Rattle.aoe_history.specs.Groups.Act.{Arm, Crash, Hand, Submit}
 use Rattle.aoe_history.specs.Groups.Station.{Shelf as ShelfStation, Host as HostStation}
-use Rattle.aoe_history.specs.Setup.{HostSetup, Setup}
+use Rattle.aoe_history.specs.Setup.{Setup}
 use Rattle.aoe_initiator.specs.declared.device.Attached.{Attached}
 use Rattle.aoe_initiator.specs.declared.device.Device.{Device}
 use Rattle.aoe_initiator.specs.declared.op.Op.{Op}

@@ -1,12 +1,11 @@
 -- What becomes of a script, and of the sink.
-use Rattle.std.proofs.Common.{inl, inr, ◌≡◌, ◌∙◌, ◌<◌, ◌≤◌, ℕ, List, [], ◌++◌, length, Option, Some, None, refl, sym, ap, arith}
+use Rattle.std.proofs.Common.{inl, inr, ◌≡◌, ◌∙◌, ◌≤◌, ℕ, List, [], ◌++◌, length, Option, Some, None, refl, sym, ap, arith}
 use Rattle.std.proofs.lemmas.List.{length-append, append-nil}
 use Rattle.aoe_base.specs.Faults.{Rose}
 use Rattle.aoe_io.specs.Bytes.{Gave}
 use Rattle.aoe_history.specs.declared.entry.Entry.{Entry}
 use Rattle.aoe_sim_setup.specs.Layout.{setup_of}
 use Rattle.aoe_script.specs.declared.refusal.ScriptRefusal.{ScriptRefusal}
-use Rattle.aoe_script.specs.declared.setup.Setup.{Setup as Line}
 use Rattle.aoe_world.specs.World.{Stepped}
 use Rattle.aoe_script.specs.Lines.{ScriptLines, refusal, script_of}
 use Rattle.aoe_world.specs.declared.part.Part.{Part}

@@ -1,5 +1,5 @@
 -- What the groups of acts keep of a history: its frames, and while no time goes by which of them can be handed over.
-use Rattle.std.proofs.Common.{ℕ, suc, ◌≡◌, ◌≤◌, Bool, true, List, [], ◌∷◌, length, Option, Some, refl, arith}
+use Rattle.std.proofs.Common.{ℕ, suc, ◌≡◌, ◌≤◌, Bool, true, List, [], ◌∷◌, length, Option, Some, arith}
 use Rattle.std.specs.Option.{option_and_then}
 use Rattle.std.proofs.lemmas.Bool.{ne_eqb}
 use Rattle.aoe_net.specs.Network.{fresh_bytes, numbered, SentFrame}

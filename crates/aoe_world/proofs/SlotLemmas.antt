@@ -1,5 +1,5 @@
 -- The slot of a device: its shelf by the number, and in it the target by the minor.
-use Rattle.std.proofs.Common.{ℕ, ◌≡◌, ◌≢◌, ◌<◌, ◌∙◌, Bool, List, length, Option, Some, None, sym, ap, arith}
+use Rattle.std.proofs.Common.{ℕ, ◌≡◌, ◌≢◌, ◌∙◌, Bool, List, Some, None, sym, ap, arith}
 use Rattle.std.specs.Prelude.{nat_eq, position, slice_get, Contains, IfSome}
 use Rattle.std.proofs.lemmas.Bool.{eq-eqb, eqb-true}
 use Rattle.std.proofs.lemmas.Option.{slice_get_within}

@@ -6,7 +6,7 @@ use Rattle.std.proofs.lemmas.Bool.{ltb-false, ltb-true}
 use Rattle.aoe_script.specs.declared.line.Line.{Line}
 use Rattle.aoe_script.specs.declared.refusal.Why.{Why}
 use Rattle.aoe_script.specs.declared.refusal.ScriptRefusal.{ScriptRefusal}
-use Rattle.aoe_script.specs.declared.refusal.ScriptRefusal.TheVariants.{BadLine, TooMany, TooLong}
+use Rattle.aoe_script.specs.declared.refusal.ScriptRefusal.TheVariants.{TooLong}
 use Rattle.aoe_script.specs.Lines.{ScriptLines, first_refusal, line_refusal, refusal, refusal_at, refused_for, said_by}
 
 never_long_line : (number : ℕ) (w : Option Why) (over : Bool) → refused_for number w over ≡ Some TooLong → ⊥
@@ -35,9 +35,9 @@ long_text text e = go (nat_lt 16777216 (length text)) refl e
     go false is e = absurd (never_long_first (said_by text) (length (said_by text)) e)
 
 -- what isn't refused for its length is short
-pub short_text : (text : List ℕ) (cause : Option ScriptRefusal) → refusal text ≡ cause → (cause ≡ Some TooLong → ⊥) → length text ≤ 16777216
+pub short_text : {cause : Option ScriptRefusal} (text : List ℕ) → refusal text ≡ cause → (cause ≡ Some TooLong → ⊥) → length text ≤ 16777216
 unfolding refusal
-short_text text cause e other = go (nat_lt 16777216 (length text)) refl e
+short_text {cause} text e other = go (nat_lt 16777216 (length text)) refl e
   where
     go : (b : Bool) → nat_lt 16777216 (length text) ≡ b → (if b then Some TooLong else first_refusal (said_by text) (length (said_by text))) ≡ cause
         → length text ≤ 16777216
@@ -45,10 +45,4 @@ short_text text cause e other = go (nat_lt 16777216 (length text)) refl e
     go false is e = ltb-false 16777216 (length text) is
 
 pub short_none : (text : List ℕ) → refusal text ≡ None → length text ≤ 16777216
-short_none text e = short_text text None e (λ f. cc)
-
-pub short_bad : (text : List ℕ) (line : ℕ) (w : Why) → refusal text ≡ Some (BadLine line w) → length text ≤ 16777216
-short_bad text line w e = short_text text (Some (BadLine line w)) e (λ f. cc)
-
-pub short_many : (text : List ℕ) → refusal text ≡ Some TooMany → length text ≤ 16777216
-short_many text e = short_text text (Some TooMany) e (λ f. cc)
+short_none text e = short_text text e (λ f. cc)

@@ -1,13 +1,12 @@
 -- How long a history grows by an event, and what a world keeps.
 use Rattle.std.proofs.Common.{ℕ, suc, ◌≡◌, ◌≤◌, ◌<◌, ◌+◌, ◌-◌, true, List, [], ◌∷◌, Option, Some, None, refl, arith, inl, inr}
-use Rattle.std.specs.Prelude.{length, map, All, IfNone, IfSome}
+use Rattle.std.specs.Prelude.{length, map, All, IfNone}
 use Rattle.std.proofs.lemmas.List.Elements.{All-cons, All-nil}
 use Rattle.arrayvec.specs.ArrayVec.{ArrayVec}
 use Rattle.aoe_base.specs.declared.address.TargetId.{TargetId}
 use Rattle.aoe_initiator.specs.declared.op.Op.{Op}
 use Rattle.aoe_history.specs.declared.entry.Entry.{Entry}
-use Rattle.aoe_history.specs.Commands.{tickets}
-use Rattle.aoe_history.specs.Frames.{arriving, clock, frames}
+use Rattle.aoe_history.specs.Frames.{arriving, frames}
 use Rattle.aoe_history.specs.Groups.{Act, Station}
 use Rattle.aoe_history.specs.Groups.Act.{Hand, Lose, Submit, Tick}
 use Rattle.aoe_history.specs.Lawful.{IsLawful}
@@ -31,7 +30,7 @@ use Rattle.aoe_net.specs.declared.refusal.NetRefusal.TheVariants.{Full}
 use Rattle.aoe_world.specs.declared.refusal.WorldRefusal.{WorldRefusal}
 use Rattle.aoe_world.specs.declared.refusal.WorldRefusal.TheVariants.{NetFull, NoMemory}
 use Rattle.aoe_world.specs.declared.sim.Sim.{Sim}
-use Rattle.aoe_world.specs.Schedule.{acts_of, hand_each, handings, losses, Comes, ComesSome, Moves, MovesBy, MovesSome}
+use Rattle.aoe_world.specs.Schedule.{acts_of, hand_each, handings, Comes, ComesSome, Moves, MovesBy, MovesSome}
 use Rattle.aoe_world.specs.Plan.{Knows}
 use Rattle.aoe_world.specs.Sim.{IsLeft, IsReady}
 use Rattle.aoe_world.specs.World.{IsCounted, IsGoing, IsRefusedAt, IsStaged, IsWorld}

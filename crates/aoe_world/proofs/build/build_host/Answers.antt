@@ -1,5 +1,5 @@
 use Rattle.std.proofs.Common.{arith}
-use Rattle.aoe_world.proofs.BuildHost.{begins, device-can, host-begun, host-built, host-more, words-of}
+use Rattle.aoe_world.proofs.BuildHost.{device-can, host-begun, host-built, host-more, life-few, words-of}
 use Rattle.aoe_world.proofs.build.build_host.Goals as goal
 
 pub overflow_cast-room : goal.overflow_cast-room
@@ -7,8 +7,15 @@ overflow_cast-room c = let words = words-of c.setups-count.ensures.script c.requ
 
 pub new-requires : goal.new-requires
 new-requires c =
-    let b = begins c.setups-count.ensures.script c.requires.0 c.requires.1 c.life_of-life.ensures c.unwrap_or-room.ensures c.unwrap_or.ensures in
-    record { port = b.port; differ = b.differ; life = b.life_few; some_room = b.some_room; room = b.most_room; dead = b.some_time }
+    let words = words-of c.setups-count.ensures.script c.requires.0 c.requires.1 in
+    record {
+      port = words.ports.some;
+      differ = words.ports.distinct;
+      life = rw c.life_of-life.ensures (life-few c.setups-count.ensures.script);
+      some_room = rw c.unwrap_or-room.ensures words.some_room;
+      room = rw c.unwrap_or-room.ensures words.room;
+      dead = rw c.unwrap_or.ensures words.some_time;
+    }
 
 pub lines-init : goal.lines-init
 lines-init c =
