@@ -95,7 +95,7 @@ turning-by : {s : Setup} {majors : List ℕ} {old mid : Sim} (e : Entry) → IsR
     → mid.hosts ≡ old.hosts → mid.shelves ≡ old.shelves → HadTurns s None (e ∷ old.run.entries) 0 old.hosts.items
     → ((slots : List SlotSetup) → is_apart_of_slots slots e ≡ true) → IsTurning s majors None 0 mid
 turning-by e k may run hosts shelves waiting apart = record {
-  life = ap (λ r. r.life) run ∙ k.life;
+  life = rw run k.life;
   lawful = rw run (may, k.lawful);
   hosts_are = rw (run, hosts) waiting;
   shelves_are = rw (run, shelves) (shelves-after (λ slots. adds-entry (apart slots) refl) k.shelves_are);

@@ -37,22 +37,21 @@ pub record IsPlayed (script : ScriptLines) (i : ℕ) (world : Stepped) : Type 0 
   pub plays : Plays (setup_of script.setups) script.setups (take i script.events) 1 [] world.cursor world.entries
 
 -- one more came
-pub one_played : (script : ScriptLines) (i : ℕ) (old new : Stepped) (event : Event) → IsPlayed script i old → slice_get script.events i ≡ Some event
+pub one_played : {script : ScriptLines} {i : ℕ} {old : Stepped} {event : Event} (new : Stepped) → IsPlayed script i old → slice_get script.events i ≡ Some event
     → Comes (setup_of old.lines) old.lines event old.cursor old.entries new.cursor new.entries → new.lines ≡ old.lines → new.events ≡ old.events + 1
     → new.refused ≡ None → IsPlayed script (i + 1) new
-one_played script i old new event before is comes lines counted goes = record {
+one_played {script} {i} {old} {event} new before is comes lines counted goes = record {
   lines_are = lines ∙ before.lines_are;
   counted = omega (arith, counted, before.counted);
   goes_on = goes;
-  plays =
-      rw (add-one i) (plays_on (setup_of script.setups) script.setups script.events i event 1 [] old.cursor old.entries new.cursor new.entries is before.plays
-    (rw before.lines_are at comes));
+  plays = rw (add-one i) (plays_on (setup_of script.setups) script.setups script.events i event 1 [] old.cursor old.entries new.cursor new.entries
+      is before.plays (rw before.lines_are at comes));
 }
 
 -- of the next a part came
-module _ (script : ScriptLines) (i : ℕ) (old new : Stepped) (event : Event) (before : IsPlayed script i old) (is : slice_get script.events i ≡ Some event)
-    (begins : ComesSome (setup_of old.lines) old.lines event old.cursor old.entries new.entries) (lines : new.lines ≡ old.lines)
-    (sound : IsSound (setup_of new.lines) new.entries) where
+module _ {script : ScriptLines} {i : ℕ} {old : Stepped} {event : Event} (new : Stepped) (before : IsPlayed script i old)
+    (is : slice_get script.events i ≡ Some event) (begins : ComesSome (setup_of old.lines) old.lines event old.cursor old.entries new.entries)
+    (lines : new.lines ≡ old.lines) (sound : IsSound (setup_of new.lines) new.entries) where
   abbrev begun : List Line → List Entry → Type 0
   begun l = ComesSome (setup_of l) l event old.cursor old.entries
 

@@ -116,7 +116,7 @@ module _ {lines : List Line} {places : List Place} {sim : Sim} (knows : Knows li
       go None e none = some-shelf knows.ready dev is.number e
       go (Some i) e none =
           let x = there sim.shelves.items i (placed-inside (has_number dev) sim.shelves.items i e) in
-          one-is (setup_of lines) is.slot is.called is.inside (serves-slots knows.ready dev i x.0 e x.1) (rw x.1 at none)
+          one-is is (serves-slots knows.ready dev i x.0 e x.1) (rw x.1 at none)
 
   -- the host with a name submits a command
   pub gives-submit : {name : ArrayVec ℕ} {dev : TargetId} (i : ℕ) (o : Op) → IsAsked lines (setup_of lines) name dev → CanSubmit o

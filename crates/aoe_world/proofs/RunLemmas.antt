@@ -4,6 +4,7 @@ use Rattle.std.proofs.lemmas.List.{length-append, append-nil}
 use Rattle.aoe_base.specs.Faults.{Rose}
 use Rattle.aoe_io.specs.Bytes.{Gave}
 use Rattle.aoe_history.specs.declared.entry.Entry.{Entry}
+use Rattle.aoe_history.proofs.LogicLemmas.{some-mapped}
 use Rattle.aoe_sim_setup.specs.Layout.{setup_of}
 use Rattle.aoe_script.specs.declared.refusal.ScriptRefusal.{ScriptRefusal}
 use Rattle.aoe_world.specs.World.{Stepped}
@@ -100,18 +101,16 @@ comes_through part _ script held held' sinks sinks' runs sink rose = absurd runs
 
 -- ---- what is refused is refused for its text alone
 
--- a source that tells its bytes gave a front of them
+-- a source that tells its bytes gave a front of them, and to the end all of them
 front_of : (left left' : Option (List ℕ)) (bytes text : List ℕ) → left ≡ Some bytes → Gave left left' text
-    → (rest : List ℕ) × (left' ≡ Some rest) × (bytes ≡ text ++ rest)
-front_of left None bytes text is gave = absurd (let both : Some bytes ≡ None = sym is ∙ gave in cc)
-front_of left (Some rest) bytes text is gave = (rest, refl, (let both : Some bytes ≡ Some (text ++ rest) = sym is ∙ gave in cc))
+    → (rest : List ℕ) × (left' ≡ Some rest) × (text ++ rest ≡ bytes)
+front_of left left' bytes text is gave = some-mapped (λ rest. text ++ rest) left' bytes (sym gave ∙ is)
 
--- to the end it gave all of them
 all_of : (left left' : Option (List ℕ)) (bytes text : List ℕ) → left ≡ Some bytes → GaveAll left left' text → bytes ≡ text
 all_of left left' bytes text is all =
     let f = front_of left left' bytes text is all.gave in
     let none : f.0 ≡ [] = rw f.1 at all.ended in
-    f.2 ∙ rw none (append-nil text)
+    sym f.2 ∙ rw none (append-nil text)
 
 no_refusal : (left left' : Option (List ℕ)) (bytes : List ℕ) (cause : ScriptRefusal) → left ≡ Some bytes → refusal bytes ≡ None → Refuses left left' cause → ⊥
 no_refusal left left' bytes cause is good r =

@@ -111,6 +111,10 @@ each-with number (x ∷ done) st rest = map-append (Hand number) (x ∷ done) (s
 abbrev pub at_first : Setup → ℕ → Sim → Option (List ℕ)
 at_first s number old = arriving s.life old.run.entries number
 
+-- its addressees before the k-th station
+abbrev pub so_far : Setup → List Placed → ℕ → Sim → ℕ → List Station
+so_far s stations number old k = among (take k stations) (at_first s number old)
+
 -- whether there are any
 abbrev pub AreAny : ℕ → Bool → List Station → Type 0
 AreAny number false stations = stations ≡ []
@@ -118,8 +122,8 @@ AreAny number true stations = hand_each number stations ≡ map (Hand number) st
 
 -- to the addressees before the k-th station the frame was handed, where it could be handed over at first, and it still can
 pub record InHand (s : Setup) (majors : List ℕ) (stations : List Placed) (number k : ℕ) (any : Bool) (old now : Sim) : Type 0 where
-  pub some : AreAny number any (among (take k stations) (at_first s number old))
-  pub follows : Follows s (map (Hand number) (among (take k stations) (at_first s number old))) old.run.entries now.run.entries
+  pub some : AreAny number any (so_far s stations number old k)
+  pub follows : Follows s (map (Hand number) (so_far s stations number old k)) old.run.entries now.run.entries
   pub ready : IsReady s majors now
   pub fresh : arriving s.life now.run.entries number ≡ at_first s number old
 
@@ -131,7 +135,7 @@ in-hand-none {s} {old = old} stations number ready = record { some = none; follo
     go None = refl
     go (Some f) = refl
 
-    none : among (take 0 stations) (at_first s number old) ≡ []
+    none : so_far s stations number old 0 ≡ []
     none = go (at_first s number old)
 
 module _ {s : Setup} {majors : List ℕ} {stations : List Placed} {number k : ℕ} {any : Bool} {old now : Sim}
@@ -142,28 +146,27 @@ module _ {s : Setup} {majors : List ℕ} {stations : List Placed} {number k : �
   in-hand-test same is test = sym (rw (h.ready.life, h.fresh, same) at is) ∙ test
 
   module _ (p : Placed) (at_k : slice_get stations k ≡ Some p) where
-    next : among (take (suc k) stations) (at_first s number old)
-        ≡ among (take k stations) (at_first s number old) ++ among (p ∷ []) (at_first s number old)
+    next : so_far s stations number old (suc k) ≡ so_far s stations number old k ++ among (p ∷ []) (at_first s number old)
     next = rw (take-next stations k p at_k) (among-append (at_first s number old) (take k stations) (p ∷ []))
 
     -- the station doesn't get it
     pub in-hand-same : tests (at_first s number old) p.ports ≡ false → InHand s majors stations number (suc k) any old now
     in-hand-same t = record { some = rw same h.some; follows = rw same h.follows; ready = h.ready; fresh = h.fresh }
       where
-        same : among (take (suc k) stations) (at_first s number old) ≡ among (take k stations) (at_first s number old)
-        same = next ∙ rw (among-none (at_first s number old) p t) (append-nil (among (take k stations) (at_first s number old)))
+        same : so_far s stations number old (suc k) ≡ so_far s stations number old k
+        same = next ∙ rw (among-none (at_first s number old) p t) (append-nil (so_far s stations number old k))
 
     module _ (t : tests (at_first s number old) p.ports ≡ true) where
-      more : among (take (suc k) stations) (at_first s number old) ≡ among (take k stations) (at_first s number old) ++ p.station ∷ []
+      more : so_far s stations number old (suc k) ≡ so_far s stations number old k ++ p.station ∷ []
       more = rw (among-one (at_first s number old) p t) at next
 
       -- it got it
       pub in-hand-next : {later : Sim} → Group s now.run.entries (Hand number p.station) later.run.entries → IsReady s majors later
           → InHand s majors stations number (suc k) true old later
       in-hand-next {later} g ready = record {
-        some = rw more (each-with number (among (take k stations) (at_first s number old)) p.station [] ∙ sym (map-append (Hand number) _ (p.station ∷ [])));
-        follows = rw (more, map-append (Hand number) (among (take k stations) (at_first s number old)) (p.station ∷ []))
-            (follows-more (map (Hand number) (among (take k stations) (at_first s number old))) old.run.entries h.follows g);
+        some = rw more (each-with number (so_far s stations number old k) p.station [] ∙ sym (map-append (Hand number) _ (p.station ∷ [])));
+        follows = rw (more, map-append (Hand number) (so_far s stations number old k) (p.station ∷ []))
+            (follows-more (map (Hand number) (so_far s stations number old k)) old.run.entries h.follows g);
         ready = ready;
         fresh = go (at_first s number old) h.fresh t;
       }
@@ -177,21 +180,19 @@ module _ {s : Setup} {majors : List ℕ} {stations : List Placed} {number k : �
           → IsLeft s (FollowsSome s (handings s stations old.run.entries number) old.run.entries) refusal m
       in-hand-begun left =
           left-more
-          (λ m b. rw (handings-are (at_first s number old) number stations, whole,
-          each-with number (among (take k stations) (at_first s number old)) p.station rest)
+          (λ m b. rw (handings-are (at_first s number old) number stations, whole, each-with number (so_far s stations number old k) p.station rest)
           (follows-begun s _ (Hand number p.station) (map (Hand number) rest) old.run.entries now.run.entries m h.follows b))
           left
         where
           rest : List Station
           rest = among (drop (suc k) stations) (at_first s number old)
 
-          whole : among stations (at_first s number old)
-              ≡ among (take k stations) (at_first s number old) ++ p.station ∷ among (drop (suc k) stations) (at_first s number old)
+          whole : among stations (at_first s number old) ≡ so_far s stations number old k ++ p.station ∷ among (drop (suc k) stations) (at_first s number old)
           whole =
               ap (λ l. among l (at_first s number old)) (sym (take-append-drop (suc k) stations))
               ∙ among-append (at_first s number old) (take (suc k) stations) (drop (suc k) stations)
               ∙ ap (λ l. l ++ rest) more
-              ∙ append_assoc (among (take k stations) (at_first s number old)) (p.station ∷ []) rest
+              ∙ append_assoc (so_far s stations number old k) (p.station ∷ []) rest
 
 -- all places were looked at: the frame was handed to some
 pub in-hand-all : {s : Setup} {majors : List ℕ} {stations : List Placed} {number k : ℕ} {old now : Sim} → InHand s majors stations number k true old now
@@ -206,6 +207,6 @@ pub in-hand-lost : {T : Type 0} (r : Result T NetRefusal) {s : Setup} {majors : 
     → InHand s majors stations number k false old now → length stations ≤ k → Does r s majors (Lose number) now new
     → DoesAll r s majors (handings s stations old.run.entries number) old new
 in-hand-lost r {s} {majors} {stations} {number} {k} {old} {now} new h last d =
-    let some : among (take k stations) (at_first s number old) ≡ [] = h.some in
+    let some : so_far s stations number old k ≡ [] = h.some in
     rw (handings-are (at_first s number old) number stations, rw (take_all k stations last) at some)
     (does-all r s majors (Lose number) old now new (rw some at h.follows) d)

@@ -26,13 +26,16 @@ use Rattle.aoe_world.specs.declared.sim.Sim.{Sim}
 use Rattle.aoe_world.specs.Sim.{IsEntered, IsNetwork, IsReady, IsTurning}
 use Rattle.aoe_initiator.proofs.ListLemmas.{get-there as there}
 
+abbrev pub Target : Type 0
+Target = Mounted (AnyStore Memory) Memory
+
 -- what is said of a frame that comes to a shelf, for each history with which it agrees
 abbrev pub OfArrival : ℕ → List ℕ → MemoryRack → List Entry → (Setup → List SlotSetup → Type 0) → Type 0
 OfArrival number f x h P =
     (z : Setup) (slots : List SlotSetup) → AreSlots z slots → Serves slots h x → IsLawful z h → arriving z.life h number ≡ Some f → P z slots
 
 -- a target is that of its slot
-pub slot-at : {slots : List SlotSetup} {h : List Entry} {x : MemoryRack} → Serves slots h x → (j : ℕ) (t : Mounted (AnyStore Memory) Memory)
+pub slot-at : {slots : List SlotSetup} {h : List Entry} {x : MemoryRack} → Serves slots h x → (j : ℕ) (t : Target)
     → slice_get x.shelf.targets j ≡ Some t → (slot : SlotSetup) × (slice_get slots j ≡ Some slot) × (t.station ≡ slot.station)
 slot-at {slots} {x = x} serves j t e =
     let w = slice_get_within x.shelf.targets j t e in
@@ -63,7 +66,7 @@ module _ {s : Setup} {majors : List ℕ} (i major : ℕ) (x y : MemoryRack) (old
 
   -- a disk of it was armed
   pub has-armed : IsLawful s new.run.entries → Serves (shelf_of s major) new.run.entries y → Serves (shelf_of s major) old.run.entries x
-      → (slot : ℕ) (t : Mounted (AnyStore Memory) Memory) (which : Which) (n : ℕ) (mode : Option Loss) → slice_get x.shelf.targets slot ≡ Some t
+      → (slot : ℕ) (t : Target) (which : Which) (n : ℕ) (mode : Option Loss) → slice_get x.shelf.targets slot ≡ Some t
       → new.run.entries ≡ Armed t.station.id which n mode ∷ old.run.entries → IsTurning s majors None 0 new
   has-armed lawful serves before slot t which n mode et is =
       turning-shelf lawful serves (λ host. adds-entry refl is) (λ other apart. adds-entry (away other apart) is)

@@ -4,19 +4,18 @@ use Rattle.std.specs.Prelude.{nat_eq, position, slice_get, Contains, IfSome}
 use Rattle.std.proofs.lemmas.Bool.{eq-eqb, eqb-true}
 use Rattle.std.proofs.lemmas.Option.{slice_get_within}
 use Rattle.aoe_base.specs.declared.address.TargetId.{TargetId}
-use Rattle.aoe_cache.specs.declared.any.AnyStore.{AnyStore}
-use Rattle.aoe_disk.specs.Memory.{Memory}
 use Rattle.aoe_history.specs.declared.entry.Entry.{Entry}
 use Rattle.aoe_history.specs.Setup.{shelf_of, Setup, SlotSetup}
 use Rattle.aoe_history.proofs.LogicLemmas.{not-both}
 use Rattle.aoe_sim_setup.proofs.ListLemmas.{place-of}
+use Rattle.aoe_script.specs.declared.setup.Setup.{Setup as Line}
 use Rattle.aoe_sim_shelves.specs.Rack.{MemoryRack, Serves}
-use Rattle.aoe_target.specs.Mounted.{Mounted}
+use Rattle.aoe_sim_setup.specs.Stations.{IsThere}
 use Rattle.aoe_world.specs.declared.sim.Sim.{Sim}
 use Rattle.aoe_world.specs.Acts.{id_at, CanArm}
 use Rattle.aoe_world.specs.Sim.{IsReady}
 use Rattle.aoe_world.proofs.ListLemmas.{filter-at}
-use Rattle.aoe_world.proofs.ShelfActLemmas.{slot-at}
+use Rattle.aoe_world.proofs.ShelfActLemmas.{slot-at, Target}
 use Rattle.aoe_initiator.proofs.ListLemmas.{get-there as there, not-placed, placed, Contains-get}
 
 -- a shelf has the number of the device
@@ -28,18 +27,18 @@ abbrev pub HasNone : TargetId → MemoryRack → Type 0
 HasNone dev x = (j : ℕ) → IfSome (slice_get x.shelf.targets j) (λ t. t.station.id.minor ≢ dev.minor)
 
 -- one of the targets that serve the device's slots is the device
-pub one-is : (s : Setup) {dev : TargetId} {h : List Entry} {x : MemoryRack} (slot : SlotSetup) → slot.station.id ≡ dev → Contains (shelf_of s dev.major) slot
-    → Serves (shelf_of s dev.major) h x → HasNone dev x → ⊥
-one-is s {dev} {x = x} slot called inside serves none =
-    let p = place-of (shelf_of s dev.major) slot inside in
-    let w = slice_get_within (shelf_of s dev.major) p.at slot p.there in
+pub one-is : {lines : List Line} {s : Setup} {dev : TargetId} {h : List Entry} {x : MemoryRack} → IsThere lines s dev → Serves (shelf_of s dev.major) h x
+    → HasNone dev x → ⊥
+one-is {s = s} {dev = dev} {x = x} is serves none =
+    let p = place-of (shelf_of s dev.major) is.slot is.inside in
+    let w = slice_get_within (shelf_of s dev.major) p.at is.slot p.there in
     let t = there x.shelf.targets p.at (omega (arith, w, serves.count)) in
     let stops = there x.stops p.at (omega (arith, w, serves.stops)) in
     let differ : t.0.station.id.minor ≢ dev.minor = rw t.1 at (none p.at) in
-    differ (rw ((serves.each p.at slot t.0 stops.0 p.there t.1 stops.1).station, called))
+    differ (rw ((serves.each p.at is.slot t.0 stops.0 p.there t.1 stops.1).station, is.called))
 
 -- the target with its minor is the device
-pub is-device : {h : List Entry} {x : MemoryRack} (s : Setup) (dev : TargetId) (j : ℕ) (t : Mounted (AnyStore Memory) Memory)
+pub is-device : {h : List Entry} {x : MemoryRack} (s : Setup) (dev : TargetId) (j : ℕ) (t : Target)
     → Serves (shelf_of s dev.major) h x → slice_get x.shelf.targets j ≡ Some t → t.station.id.minor ≡ dev.minor → t.station.id ≡ dev
 is-device s dev j t serves et minor =
     let slot = slot-at serves j t et in
@@ -66,7 +65,7 @@ module _ {s : Setup} {majors : List ℕ} {sim : Sim} (ready : IsReady s majors s
       (not-placed (has_number dev) sim.shelves.items x.0 e (Contains-get sim.shelves.items p.at x.0 x.1))
 
   -- the target at a place has the name of its slot
-  pub id-at : (i j : ℕ) (x : MemoryRack) (t : Mounted (AnyStore Memory) Memory) → slice_get sim.shelves.items i ≡ Some x → slice_get x.shelf.targets j ≡ Some t
+  pub id-at : (i j : ℕ) (x : MemoryRack) (t : Target) → slice_get sim.shelves.items i ≡ Some x → slice_get x.shelf.targets j ≡ Some t
       → id_at s majors i j ≡ t.station.id
   id-at i j x t ex et =
       let m = there majors i (omega (arith, slice_get_within sim.shelves.items i x ex, ready.shelves_are.count)) in
