@@ -1,6 +1,6 @@
 -- Entries that come to a history, each of one kind.
 use Rattle.std.proofs.Common.{ℕ, suc, ◌≡◌, Bool, true, false, if◌then◌else◌, List, [], ◌∷◌, Option, Some, None, refl, inl, inr}
-use Rattle.std.specs.Prelude.{slice_get}
+use Rattle.std.specs.Prelude.{slice_get, MatchOption}
 use Rattle.std.specs.Str.{bytes_eq}
 use Rattle.arrayvec.specs.ArrayVec.{ArrayVec}
 use Rattle.aoe_disk.specs.declared.loss.Loss.{Loss}
@@ -92,3 +92,8 @@ pub arrive-adds : {p : Entry → Bool} {h m : List Entry} {shelf : List SlotSetu
 arrive-adds frame f [] all t e = adds-same e
 arrive-adds frame f (slot ∷ slots) all t (inl (fate, uncut, rest)) = adds-on (t.arrived 0 slot frame fate refl) (arrive-adds frame f slots all (others t) rest)
 arrive-adds frame f (slot ∷ slots) all t (inr (how, stop, crash)) = adds-on (t.arrived 0 slot frame Cut refl) (crash-adds how _ all crash)
+
+-- what is so in both cases of an option
+pub either-way : {X A P : Type 0} {B : X → Type 0} (o : Option X) → MatchOption o A B → (A → P) → ((x : X) → B x → P) → P
+either-way None k a b = a k
+either-way (Some x) k a b = b x k

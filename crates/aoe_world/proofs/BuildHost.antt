@@ -35,41 +35,17 @@ use Rattle.aoe_world.specs.Build.{CanAttach}
 
 -- ---- numbers
 
-pub life-said : (lines : List Line) (line : Line) (ms : ℕ) → find (λ line. is_some (life_in line)) lines ≡ Some line → life_in line ≡ Some ms
-    → (setup_of lines).life ≡ ms
-life-said lines line ms e f = rw (e, f)
-
 module _ {script : ScriptLines} (is : IsScript script) where
   pub life-few : (setup_of script.setups).life ≤ 600000
   life-few = (has-ranges script.setups (are-good script is)).life
 
-  pub shelf-words : (shelf : ArrayVec ℕ) (major : ℕ) (ports : ArrayVec Mac) (mtu : ℕ)
+  pub shelf-words : {shelf : ArrayVec ℕ} {major : ℕ} {ports : ArrayVec Mac} {mtu : ℕ}
       → find (is_shelf_named shelf) script.setups ≡ Some (Shelf shelf major ports mtu) → (major ≤ 65534) × (1500 ≤ mtu) × (mtu ≤ 9000)
-  shelf-words shelf major ports mtu e =
-      let g = (are-good script is).shelf (position_or_len (is_shelf_named shelf) script.setups) shelf major ports mtu (rw find_at at e) in
-      (g.number, g.least, g.most)
+  shelf-words e = let g = (are-good script is).shelf _ _ _ _ _ (rw find_at at e) in (g.number, g.least, g.most)
 
-  pub slot-words : (shelf : ArrayVec ℕ) (minor sectors : ℕ) (room : Option ℕ) → find (is_slot shelf minor) script.setups ≡ Some (Slot shelf minor sectors room)
+  pub slot-words : {shelf : ArrayVec ℕ} {minor sectors : ℕ} {room : Option ℕ} → find (is_slot shelf minor) script.setups ≡ Some (Slot shelf minor sectors room)
       → minor ≤ 254
-  slot-words shelf minor sectors room e =
-      ((are-good script is).slot (position_or_len (is_slot shelf minor) script.setups) shelf minor sectors room (rw find_at at e)).number
-
--- ---- a device
-
-pub shelf-here : {line : Line} {shelf : ArrayVec ℕ} {major : ℕ} {ports : ArrayVec Mac} {mtu : ℕ} (lines : List Line) (n : ℕ) → slice_get lines n ≡ Some line
-    → line ≡ Shelf shelf major ports mtu → find (is_shelf_named shelf) (drop n lines) ≡ find (is_shelf_named shelf) lines
-    → find (is_shelf_named shelf) lines ≡ Some (Shelf shelf major ports mtu)
-shelf-here {shelf = shelf} lines n at is so = find-here (is_shelf_named shelf) lines n _ (rw is at at) (same-self shelf) so
-
-pub slot-here : {line : Line} {shelf : ArrayVec ℕ} {minor sectors : ℕ} {room : Option ℕ} (lines : List Line) (n : ℕ) → slice_get lines n ≡ Some line
-    → line ≡ Slot shelf minor sectors room → find (is_slot shelf minor) (drop n lines) ≡ find (is_slot shelf minor) lines
-    → find (is_slot shelf minor) lines ≡ Some (Slot shelf minor sectors room)
-slot-here {shelf = shelf} {minor = minor} lines n at is so =
-    find-here (is_slot shelf minor) lines n _ (rw is at at) (and_from (minor == minor) (same shelf shelf) (eq-eqb minor minor refl) (same-self shelf)) so
-
-pub attached-by : {line : Line} {other shelf : ArrayVec ℕ} {minor : ℕ} (lines : List Line) (host : ArrayVec ℕ) → line ≡ Attach other shelf minor
-    → same other host ≡ true → option_map about (slot_named lines shelf minor) ≡ attached_to lines host line
-attached-by lines host is same-one = rw (is, same-one)
+  slot-words e = ((are-good script is).slot _ _ _ _ _ (rw find_at at e)).number
 
 -- ---- a host with the devices of the first n lines
 

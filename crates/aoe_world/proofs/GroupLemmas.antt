@@ -1,6 +1,6 @@
 -- How long a history grows by the groups of acts: its time, what was submitted, and that event lines ask for it.
 use Rattle.std.proofs.Common.{ℕ, suc, ◌≡◌, ◌≤◌, ◌+◌, Bool, true, false, List, [], ◌∷◌, Option, Some, None, ◌⊎◌, refl, arith, inl, inr, if◌then◌else◌}
-use Rattle.std.specs.Prelude.{All, MatchOption}
+use Rattle.std.specs.Prelude.{All}
 use Rattle.std.proofs.lemmas.List.Elements.{All-cons, All-head, All-tail}
 use Rattle.arrayvec.specs.ArrayVec.{ArrayVec}
 use Rattle.aoe_base.specs.declared.address.TargetId.{TargetId}
@@ -15,7 +15,7 @@ use Rattle.aoe_history.specs.Groups.Act.{Arm, Crash, Hand, Inject, Lose, Submit,
 use Rattle.aoe_history.specs.Groups.Station.{Shelf as ShelfStation, Host as HostStation}
 use Rattle.aoe_history.specs.Setup.{is_called, shelf_of, HostSetup, Setup, SlotSetup}
 use Rattle.aoe_transcript.specs.Print.{IsAsked, IsFromLine}
-use Rattle.aoe_world.proofs.AddsLemmas.{adds-entry, adds-keep, adds-more, adds-same, arrive-adds, crash-adds, takes-adds, turn-adds, Adds, SpeaksOf, TellsOf}
+use Rattle.aoe_world.proofs.AddsLemmas.{adds-entry, adds-keep, adds-more, adds-same, arrive-adds, crash-adds, either-way, takes-adds, turn-adds, Adds, SpeaksOf, TellsOf}
 
 -- SO MUCH
 
@@ -80,16 +80,12 @@ comes-adds : (s : Setup) (frame : ℕ) (f : List ℕ) (station : Station) (h : L
 comes-adds s frame f (ShelfStation major) h got m (none, arrives) = arrive-adds frame f (shelf_of s major) speaks-aside speaks-aside arrives
 comes-adds s frame f (HostStation name) h got m (host, called, takes) = takes-adds s host name frame f got (λ stale. refl) takes
 
-hand-adds : (s : Setup) (frame : ℕ) (f : Option (List ℕ)) (station : Station) (h : List Entry) (got : Option Got) (m : List Entry)
-    → MatchOption f ((got ≡ None) × (m ≡ Lost frame ∷ h)) (λ f. ComesTo s frame f station h got m) → Adds is_aside h m
-hand-adds s frame None station h got m (none, is) = adds-entry refl is
-hand-adds s frame (Some f) station h got m comes = comes-adds s frame f station h got m comes
-
 pub enters-adds : (s : Setup) (h : List Entry) (act : Act) (got : Option Got) (m : List Entry) → IsAside act → Enters s h act got m → Adds is_aside h m
 enters-adds s h (Inject bytes) got m aside (none, is) = adds-entry refl is
 enters-adds s h (Arm dev which k mode) got m aside (none, is) = adds-entry refl is
 enters-adds s h (Crash major how) got m aside (none, crash) = crash-adds how (shelf_of s major) speaks-aside crash
-enters-adds s h (Hand frame station) got m aside x = hand-adds s frame (arriving s.life h frame) station h got m x
+enters-adds s h (Hand frame station) got m aside x =
+    either-way (arriving s.life h frame) x (λ lost. adds-entry refl lost.1) (λ f comes. comes-adds s frame f station h got m comes)
 enters-adds s h (Lose frame) got m aside (none, is) = adds-entry refl is
 enters-adds s h _ got m aside x = absurd aside
 

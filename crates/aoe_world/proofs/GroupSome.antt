@@ -1,6 +1,6 @@
 -- How long a history grows by acts of which not all came.
 use Rattle.std.proofs.Common.{ℕ, ◌≡◌, List, [], ◌∷◌, Option, Some, None, refl, inl, inr}
-use Rattle.std.specs.Prelude.{All, MatchOption}
+use Rattle.std.specs.Prelude.{All}
 use Rattle.std.proofs.lemmas.List.Elements.{All-head, All-tail}
 use Rattle.aoe_disk.specs.declared.loss.Loss.{Loss}
 use Rattle.aoe_history.specs.declared.entry.Entry.{Entry}
@@ -9,7 +9,7 @@ use Rattle.aoe_history.specs.Groups.{Act, ArriveAtSome, CrashSome, EntersSome, G
 use Rattle.aoe_history.specs.Groups.Act.{Crash, Hand}
 use Rattle.aoe_history.specs.Groups.Station.{Shelf as ShelfStation}
 use Rattle.aoe_history.specs.Setup.{shelf_of, HostSetup, Setup, SlotSetup}
-use Rattle.aoe_world.proofs.AddsLemmas.{adds-more, adds-on, adds-same, ends, sends, turn-adds, Adds}
+use Rattle.aoe_world.proofs.AddsLemmas.{adds-more, adds-on, adds-same, either-way, ends, sends, turn-adds, Adds}
 use Rattle.aoe_world.proofs.GroupLemmas.{enters-adds, enters-grows, group-aside, group-grows, grows-adds, grows-none, grows-on, is_aside, little, tells-aside, AreOfLine, Grows, GrowsByLine, IsAside, IsOfLine}
 use Rattle.aoe_world.specs.Schedule.{FollowsSome}
 
@@ -26,14 +26,10 @@ arrive-some frame f shelf (slot ∷ slots) h m (inl is) = adds-same is
 arrive-some frame f shelf (slot ∷ slots) h m (inr (inl (fate, uncut, rest))) = adds-on refl (arrive-some frame f shelf slots _ m rest)
 arrive-some frame f shelf (slot ∷ slots) h m (inr (inr (how, stop, rest))) = adds-on refl (crash-some how shelf _ m rest)
 
-hand-some : (s : Setup) (frame : ℕ) (f : Option (List ℕ)) (major : ℕ) (h m : List Entry)
-    → MatchOption f (m ≡ h) (λ f. ArriveAtSome frame f (shelf_of s major) (shelf_of s major) h m) → Adds is_aside h m
-hand-some s frame None major h m is = adds-same is
-hand-some s frame (Some f) major h m x = arrive-some frame f (shelf_of s major) (shelf_of s major) h m x
-
 enters-some : (s : Setup) (h : List Entry) (act : Act) (m : List Entry) → EntersSome s h act m → Adds is_aside h m
 enters-some s h (Crash major how) m x = crash-some how (shelf_of s major) h m x
-enters-some s h (Hand frame (ShelfStation major)) m x = hand-some s frame (arriving s.life h frame) major h m x
+enters-some s h (Hand frame (ShelfStation major)) m x =
+    either-way (arriving s.life h frame) x (λ is. adds-same is) (λ f k. arrive-some frame f (shelf_of s major) (shelf_of s major) h m k)
 enters-some s h _ m is = adds-same is
 
 -- TURNS

@@ -76,9 +76,6 @@ module _ {s : Setup} {majors : List ℕ} {got : Option Got} {h m : List Entry} (
         (λ j other y apart ej ey above. awaits-adds (others-apart j other ej apart) (k.waiting j other y ej ey (omega (arith, above))));
   }
 
-  serve-on : {shelves : List MemoryRack} → AllServe s majors h shelves → AllServe s majors m shelves
-  serve-on k = shelves-after (λ slots. turn-adds (record { done = λ name ticket outcome called. refl; sent = λ name ticket number bytes called. refl }) turn) k
-
 -- THE LOOP
 
 -- so many hosts had their turn
@@ -124,7 +121,10 @@ module _ {old now : Sim} {i end : ℕ} (x : NamedHost) (g : Going old now i end)
               life = life ∙ k.life;
               lawful = t.1;
               hosts_are = rw hosts (one-more i at.0 net at.1 t.0 y now.hosts.items t.2 k.hosts_are);
-              shelves_are = rw shelves (serve-on i at.0 net at.1 t.0 k.shelves_are);
+              shelves_are = rw shelves (shelves-after (λ slots. turn-adds (record {
+                done = λ name ticket outcome called. refl;
+                sent = λ name ticket number bytes called. refl;
+              }) t.0) k.shelves_are);
             },
           )
 
