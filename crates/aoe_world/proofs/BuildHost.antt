@@ -1,9 +1,9 @@
 -- A host that is built from the lines of a script.
-use Rattle.std.proofs.Common.{ℕ, ◌+◌, ◌≡◌, ◌∙◌, ◌≤◌, ◌==◌, true, false, List, [], ◌++◌, length, take, drop, Option, Some, None, refl, sym, ap, arith, Contains}
-use Rattle.std.specs.Prelude.{map, slice_get, option_map, is_some, unwrap_or, IfSome}
-use Rattle.std.specs.List.{filter_map, find, position_or_len}
+use Rattle.std.proofs.Common.{ℕ, ◌+◌, ◌≡◌, ◌∙◌, ◌≤◌, false, List, [], ◌++◌, length, take, Option, Some, None, refl, sym, ap, arith, Contains}
+use Rattle.std.specs.Prelude.{map, slice_get, unwrap_or, IfSome}
+use Rattle.std.specs.List.{filter_map, find}
 use Rattle.std.specs.Option.{option_to_list}
-use Rattle.std.proofs.lemmas.Bool.{and_from, eq-eqb, ne_eqb}
+use Rattle.std.proofs.lemmas.Bool.{ne_eqb}
 use Rattle.std.proofs.lemmas.List.Folds.{find_at, list_any_none}
 use Rattle.std.proofs.lemmas.Option.{slice_get_within}
 use Rattle.std.proofs.lemmas.List.{length-map, take_all}
@@ -18,19 +18,18 @@ use Rattle.aoe_initiator.specs.declared.device.Device.{Device}
 use Rattle.aoe_initiator.specs.Host.{new_host, Matches}
 use Rattle.aoe_initiator.specs.HostLaw.{has_id, same_id}
 use Rattle.aoe_initiator.specs.HostLog.{Event}
-use Rattle.aoe_sim_setup.specs.Layout.{about, attached_to, default_dead, default_room, devices_of, host_in, host_of, life_in, setup_of, slot_named}
+use Rattle.aoe_sim_setup.specs.Layout.{attached_to, default_dead, default_room, devices_of, host_in, host_of, setup_of}
 use Rattle.aoe_sim_setup.specs.Stations.{IsDevice, IsHost as HasWords}
 use Rattle.aoe_sim_setup.proofs.GoodLines.{are-good}
 use Rattle.aoe_sim_setup.proofs.HostLemmas.{has-hosts}
-use Rattle.aoe_sim_setup.proofs.LineLemmas.{same-self}
 use Rattle.aoe_sim_setup.proofs.ListLemmas.{contains-at, filtered-at}
 use Rattle.aoe_sim_setup.proofs.RangeLemmas.{has-ranges}
 use Rattle.aoe_sim_setup.proofs.SetupLemmas.{is-setup}
 use Rattle.aoe_script.specs.declared.setup.Setup.{Setup as Line}
-use Rattle.aoe_script.specs.declared.setup.Setup.TheVariants.{Shelf, Slot, Host, Attach}
+use Rattle.aoe_script.specs.declared.setup.Setup.TheVariants.{Shelf, Slot, Host}
 use Rattle.aoe_script.specs.Lines.{IsScript, ScriptLines}
-use Rattle.aoe_script.specs.Rules.{is_shelf_named, is_slot, same}
-use Rattle.aoe_world.proofs.BuildLists.{all-at, any-map, at-own, early, few-given, find-here, grown}
+use Rattle.aoe_script.specs.Rules.{is_shelf_named, is_slot}
+use Rattle.aoe_world.proofs.BuildLists.{all-at, any-map, at-own, early, few-given, grown}
 use Rattle.aoe_world.specs.Build.{CanAttach}
 
 -- ---- numbers
@@ -81,8 +80,13 @@ module _ {lines : List Line} {name : ArrayVec ℕ} {ports : ArrayVec Mac} {life 
     some = device.some;
     most = device.max;
     few =
-        omega (arith, length-map {A = Device} {B = Attached} x.core.devices (λ z. z.about),
-          ap length k.devices, few-given (attached_to lines name) lines n, few);
+        omega (
+          arith,
+          length-map {A = Device} {B = Attached} x.core.devices (λ z. z.about),
+          ap length k.devices,
+          few-given (attached_to lines name) lines n,
+          few,
+        );
     allowed = rw (new, ne_eqb (length d.remotes.items) 0 (λ e. omega (arith, device.remotes.some, e)));
   }
     where

@@ -98,9 +98,12 @@ module _ {lines : List Line} {name : ArrayVec ℕ} {major : ℕ} {ports : ArrayV
         size = omega (arith, size);
         cache = room;
         few = omega (arith, own, few, k.serves.count);
-        other = rw (any-map (λ (t : Mounted (AnyStore Memory) Memory). t.station) (λ (z : Station). z.id.minor == minor) x.shelf.targets, k.stations,
+        other = rw (
+          any-map (λ (t : Mounted (AnyStore Memory) Memory). t.station) (λ (z : Station). z.id.minor == minor) x.shelf.targets,
+          k.stations,
           ← any-map (λ (s : SlotSetup). s.station) (λ (z : Station). z.id.minor == minor) before,
-          minors-are name major ports.items mtu minor (take n lines)) new;
+          minors-are name major ports.items mtu minor (take n lines),
+        ) new;
       }
 
 -- ---- a shelf of a script

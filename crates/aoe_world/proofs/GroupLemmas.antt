@@ -7,7 +7,7 @@ use Rattle.aoe_base.specs.declared.address.TargetId.{TargetId}
 use Rattle.aoe_initiator.specs.declared.op.Op.{Op}
 use Rattle.aoe_initiator.specs.declared.refusal.SubmitRefusal.{SubmitRefusal}
 use Rattle.aoe_history.specs.declared.entry.Entry.{Entry}
-use Rattle.aoe_history.specs.declared.entry.Entry.TheVariants.{Submitted, Ticked, Lost}
+use Rattle.aoe_history.specs.declared.entry.Entry.TheVariants.{Submitted, Ticked}
 use Rattle.aoe_history.specs.Commands.{tickets}
 use Rattle.aoe_history.specs.Frames.{arriving, clock}
 use Rattle.aoe_history.specs.Groups.{submit_entry, Act, ComesTo, Enters, Follows, Got, Group, Station, Turns}

@@ -1,5 +1,5 @@
 -- How long a history grows by acts of which not all came.
-use Rattle.std.proofs.Common.{ℕ, ◌≡◌, List, [], ◌∷◌, Option, Some, None, refl, inl, inr}
+use Rattle.std.proofs.Common.{ℕ, List, [], ◌∷◌, Option, refl, inl, inr}
 use Rattle.std.specs.Prelude.{All}
 use Rattle.std.proofs.lemmas.List.Elements.{All-head, All-tail}
 use Rattle.aoe_disk.specs.declared.loss.Loss.{Loss}
