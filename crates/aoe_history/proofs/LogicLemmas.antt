@@ -1,43 +1,39 @@
 -- Facts of truth values, options, results and lists.
-use Rattle.std.proofs.Common.{if◌then◌else◌, not, nat_eq, ◌&&◌, ◌||◌, ℕ, suc, ◌≤◌, ◌≡◌, Bool, true, false, List, [], ◌∷◌, ◌++◌, map, Option, Some, None, refl, ap, subst, arith}
+use Rattle.std.proofs.Common.{if◌then◌else◌, not, nat_eq, ◌&&◌, ◌||◌, ℕ, suc, ◌≤◌, ◌≡◌, ◌≢◌, Bool, true, false, List, [], ◌∷◌, ◌++◌, map, Option, Some, None, refl, ap, arith}
 use Rattle.std.specs.Prelude.{Result, Ok, Err, IsSomeAnd, OnErr, OnOk, option_and_then, option_map}
-use Rattle.std.proofs.lemmas.Bool.Decides.{nat_tests}
+use Rattle.std.proofs.lemmas.Bool as bool
 
 pub if-true : {X : Type 0} (b : Bool) (x y : X) → b ≡ true → (if b then x else y) ≡ x
-if-true true x y e = refl
-if-true false x y e = absurd (cc)
+if-true b x y e = rw e
 
 pub if-false : {X : Type 0} (b : Bool) (x y : X) → b ≡ false → (if b then x else y) ≡ y
-if-false true x y e = absurd (cc)
-if-false false x y e = refl
+if-false b x y e = rw e
 
 pub and-false : (b c : Bool) → b ≡ false → (b && c) ≡ false
-and-false true c e = absurd (cc)
-and-false false c e = refl
+and-false b c e = rw e
 
 pub or-right : (b c : Bool) → c ≡ true → (b || c) ≡ true
-or-right true c e = refl
-or-right false c e = e
+or-right = bool.or_right
 
 pub not-true : (b : Bool) → not b ≡ true → b ≡ false
-not-true true e = absurd (cc)
-not-true false e = refl
+not-true = bool.not-true
 
 pub not-both : (b : Bool) → b ≡ true → b ≡ false → ⊥
-not-both true p q = cc
-not-both false p q = cc
+not-both b p q = cc
 
 pub untrue : (b : Bool) → (b ≡ true → ⊥) → b ≡ false
-untrue true f = absurd (f refl)
-untrue false f = refl
+untrue = bool.false_from_ne_true
+
+-- what is of another number isn't meant
+pub not-of : (b : Bool) (c d : ℕ) → (b ≡ true → c ≢ d) → (b && nat_eq c d) ≡ false
+not-of true c d other = bool.ne_eqb c d (other refl)
+not-of false c d other = refl
 
 pub other-number : (b : Bool) (n k : ℕ) → k ≤ n → (b && nat_eq (suc n) k) ≡ false
-other-number true n k le = grind (arith, nat_tests)
-other-number false n k le = refl
+other-number b n k le = not-of b (suc n) k (λ e p. omega arith)
 
 pub own-number : (b : Bool) (c : ℕ) → b ≡ true → (b && nat_eq c c) ≡ true
-own-number true c e = grind (arith, nat_tests)
-own-number false c e = absurd (cc)
+own-number b c e = bool.and_from b (nat_eq c c) e (bool.eq-eqb c c refl)
 
 pub map-map : {X Y Z : Type 0} (f : Y → Z) (g : X → Y) (xs : List X) → map f (map g xs) ≡ map (λ x. f (g x)) xs
 map-map f g [] = refl
@@ -48,7 +44,7 @@ map-append f [] ys = refl
 map-append f (x ∷ xs) ys = ap (λ l. f x ∷ l) (map-append f xs ys)
 
 pub some-and : {X : Type 0} (P : X → Type 0) (o : Option X) (x : X) → o ≡ Some x → IsSomeAnd o P → P x
-some-and P o x e a = subst (λ z. IsSomeAnd z P) e a
+some-and P o x e a = rw e at a
 
 pub some-mapped : {X Y : Type 0} (f : X → Y) (o : Option X) (y : Y) → option_map f o ≡ Some y → (x : X) × (o ≡ Some x) × (f x ≡ y)
 some-mapped f None y e = absurd (cc)

@@ -1,68 +1,75 @@
 -- What a send of a host says of its earlier commands.
-use Rattle.std.proofs.Common.{ℕ, ◌<◌, ◌≡◌, ◌⊎◌, inl, inr, cond, nat_lt, Bool, true, false, not, ◌&&◌, ◌||◌, List, [], ◌∷◌, map, refl, subst, arith, Contains}
-use Rattle.std.specs.List.{filter, list_any}
-use Rattle.std.proofs.lemmas.Bool.Decides.{nat_tests}
-use Rattle.std.proofs.lemmas.List.Elements.{Contains-append_cases}
+use Rattle.std.proofs.Common.{ℕ, ◌<◌, ◌≡◌, ◌⊎◌, inl, inr, Bool, true, false, ◌&&◌, ◌||◌, List, [], ◌∷◌, Option, Some, None, refl, ap, arith, Contains}
+use Rattle.std.specs.List.{cons_option, filter_map, list_any}
+use Rattle.std.proofs.lemmas.Bool.{and_parts, both_ways, lt-ltb, not-false, not-true, or_parts}
+use Rattle.std.proofs.lemmas.List.Folds.{list_any_at}
 use Rattle.aoe_hold.specs.declared.command.Command.{Command}
 use Rattle.aoe_hold.specs.Commands.{all_gone, conflict, finished, has_effect, is_unsent, keeps_back, rests_on_effects}
 use Rattle.aoe_initiator.specs.HostLaw.{is_clear_at}
-use Rattle.aoe_initiator.specs.HostLog.{as_entered, entered_at, is_at, HostCommand}
-use Rattle.aoe_history.proofs.LogicLemmas.{not-true}
+use Rattle.aoe_initiator.specs.HostLog.{as_entered, is_at, HostCommand}
+use Rattle.aoe_initiator.proofs.ListLemmas.{Contains-cons, Contains-cons_cases, Contains-filter, Contains-map}
+use Rattle.aoe_history.proofs.LogicLemmas.{untrue}
+
+-- LISTS
 
 pub only-one : {Z : Type 0} (m c : Z) → Contains (m ∷ []) c → m ≡ c
 only-one m c x = let z : x.0 ≡ 0 = (let lt = x.1 in omega arith) in rw z at x.2
 
 pub or-parts : (a b : Bool) → (a || b) ≡ false → (a ≡ false) × (b ≡ false)
-or-parts true b e = absurd (cc)
-or-parts false b e = (refl, e)
-
--- of what is filtered and mapped none passes a test
-any-none : {X Y : Type 0} (p : Y → Bool) (f : X → Y) (q : X → Bool) (xs : List X) (x : X) → list_any p (map f (filter q xs)) ≡ false → Contains xs x → q x ≡ true → p (f x) ≡ false
-any-none p f q [] x e there t = let lt = there.1 in absurd (omega arith)
-any-none p f q (y ∷ xs) x e there t = go (q y) refl e (λ r g. any-none p f q xs x g r t) (Contains-append_cases (y ∷ []) xs x there)
-  where
-    go : (b : Bool) → q y ≡ b → list_any p (map f (cond b (y ∷ filter q xs) (filter q xs))) ≡ false → (Contains xs x → list_any p (map f (filter q xs)) ≡ false → p (f x) ≡ false)
-        → (Contains (y ∷ []) x ⊎ Contains xs x) → p (f x) ≡ false
-    go true qy e more (inl z) = subst (λ w. p (f w) ≡ false) (only-one y x z) (or-parts (p (f y)) (list_any p (map f (filter q xs))) e).0
-    go true qy e more (inr r) = more r (or-parts (p (f y)) (list_any p (map f (filter q xs))) e).1
-    go false qy e more (inl z) = absurd (let s : q x ≡ false = subst (λ w. q w ≡ false) (only-one y x z) qy in cc)
-    go false qy e more (inr r) = more r e
+or-parts = or_parts
 
 pub and-parts : (a b : Bool) → (a && b) ≡ true → (a ≡ true) × (b ≡ true)
-and-parts true b e = (refl, e)
-and-parts false b e = absurd (cc)
+and-parts = and_parts
+
+-- what none of a list is
+pub none-of : {X : Type 0} (p : X → Bool) (xs : List X) (x : X) → list_any p xs ≡ false → Contains xs x → p x ≡ false
+none-of p xs x e there = untrue (p x) (λ t. both_ways _ e (list_any_at p xs there.0 x there.1 (rw there.2 t)))
+
+option-cases : {Y : Type 0} (o : Option Y) (ys : List Y) (y : Y) → Contains (cons_option o ys) y → (o ≡ Some y) ⊎ Contains ys y
+option-cases None ys y there = inr there
+option-cases (Some a) ys y there = elim (Contains-cons_cases a y ys there) [ inl own ↦ inl (ap Some own) | inr behind ↦ inr behind ]
+
+behind-option : {Y : Type 0} (o : Option Y) (ys : List Y) (y : Y) → Contains ys y → Contains (cons_option o ys) y
+behind-option None ys y there = there
+behind-option (Some a) ys y there = Contains-cons a y ys there
+
+-- what a filter gives, and what it gives that of
+pub filtered-from : {X Y : Type 0} (f : X → Option Y) (xs : List X) (y : Y) → Contains (filter_map f xs) y → (x : X) × Contains xs x × (f x ≡ Some y)
+filtered-from f [] y there = absurd (omega (arith, there.1))
+filtered-from f (x ∷ xs) y there = elim (option-cases (f x) (filter_map f xs) y there) [
+  | inl own ↦ (x, (0, omega arith, refl), own)
+  | inr behind ↦ let from = filtered-from f xs y behind in (from.0, Contains-cons x from.0 xs from.1, from.2)
+]
+
+pub filtered : {X Y : Type 0} (f : X → Option Y) (xs : List X) (x : X) (y : Y) → Contains xs x → f x ≡ Some y → Contains (filter_map f xs) y
+filtered f [] x y there e = absurd (omega (arith, there.1))
+filtered f (z ∷ xs) x y there e = elim (Contains-cons_cases z x xs there) [
+  | inl own ↦ rw (own, e) (0, omega arith, refl)
+  | inr behind ↦ behind-option (f z) (filter_map f xs) y (filtered f xs x y behind e)
+]
+
+-- EARLIER COMMANDS
 
 -- an earlier command in conflict is finished, and its frames are gone where they matter
 pub record IsPast (life now : ℕ) (earlier later : Command) : Type 0 where
   pub done : finished earlier.stage ≡ true
   pub gone : has_effect earlier.kind ≡ true → rests_on_effects later.kind ≡ true → all_gone life now earlier.stage ≡ true
 
-past-of : (fin eff res gone : Bool) → (not fin || ((eff && res) && not gone)) ≡ false → (fin ≡ true) × (eff ≡ true → res ≡ true → gone ≡ true)
-past-of true true true true e = (refl, λ p q. refl)
-past-of true true false gone e = (refl, λ p q. absurd (cc))
-past-of true false res gone e = (refl, λ p q. absurd (cc))
-past-of _ _ _ _ e = absurd (cc)
-
-lt-true : (a b : ℕ) → a < b → nat_lt a b ≡ true
-lt-true a b lt = grind (arith, nat_tests)
-
-kept-parts : (a b c : Bool) → ((a && b) && c) ≡ false → a ≡ true → b ≡ true → c ≡ false
-kept-parts true true c e p q = e
-kept-parts _ _ c e p q = absurd (cc)
-
-pub past-by : (life now : ℕ) (earlier later : Command) → keeps_back life now earlier later ≡ false → earlier.ticket.0 < later.ticket.0 → conflict earlier later ≡ true → IsPast life now earlier later
-past-by life now earlier later e lt co =
-    let c = kept-parts (nat_lt earlier.ticket.0 later.ticket.0) (conflict earlier later) (not (finished earlier.stage) || ((has_effect earlier.kind && rests_on_effects later.kind) && not (all_gone life now earlier.stage))) e (lt-true earlier.ticket.0 later.ticket.0 lt) co in
-    let p = past-of (finished earlier.stage) (has_effect earlier.kind) (rests_on_effects later.kind) (all_gone life now earlier.stage) c in
-    record { done = p.0; gone = p.1 }
+past-by : (life now : ℕ) (earlier later : Command) → keeps_back life now earlier later ≡ false
+    → earlier.ticket.0 < later.ticket.0 → conflict earlier later ≡ true
+    → IsPast life now earlier later
+past-by life now earlier later e lt co = let parts = or_parts _ _ (rw (lt-ltb _ _ lt, co) at e) in record {
+  done = not-false _ parts.0;
+  gone = λ effect rests. not-false _ (rw (effect, rests) at parts.1);
+}
 
 -- a command that is clear was never sent, and each earlier one in conflict at its device is past
-pub clear-past : (life now : ℕ) (cs : List HostCommand) (c x : HostCommand) → is_clear_at life now cs c ≡ true → Contains cs x → is_at c.device.0 x ≡ true → x.ticket.0 < c.ticket.0
+pub clear-past : (life now : ℕ) (cs : List HostCommand) (c x : HostCommand) → is_clear_at life now cs c ≡ true
+    → Contains cs x → is_at c.device.0 x ≡ true → x.ticket.0 < c.ticket.0
     → conflict (as_entered x) (as_entered c) ≡ true → IsPast life now (as_entered x) (as_entered c)
 clear-past life now cs c x clear there at lt co =
-    let p = and-parts (is_unsent (as_entered c)) (not (list_any (λ earlier. keeps_back life now earlier (as_entered c)) (entered_at c.device.0 cs))) clear in
-    past-by life now (as_entered x) (as_entered c) (any-none (λ earlier. keeps_back life now earlier (as_entered c)) as_entered (is_at c.device.0) cs x
-    (not-true (list_any (λ earlier. keeps_back life now earlier (as_entered c)) (entered_at c.device.0 cs)) p.1) there at) lt co
+    let none = not-true _ (and_parts _ _ clear).1 in
+    past-by life now _ _ (none-of _ _ _ none (Contains-map as_entered _ x (Contains-filter (is_at c.device.0) cs x there at))) lt co
 
 pub clear-unsent : (life now : ℕ) (cs : List HostCommand) (c : HostCommand) → is_clear_at life now cs c ≡ true → is_unsent (as_entered c) ≡ true
-clear-unsent life now cs c clear = (and-parts (is_unsent (as_entered c)) (not (list_any (λ earlier. keeps_back life now earlier (as_entered c)) (entered_at c.device.0 cs))) clear).0
+clear-unsent life now cs c clear = (and_parts _ _ clear).0
