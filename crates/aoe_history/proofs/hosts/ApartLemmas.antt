@@ -5,6 +5,7 @@ use Rattle.std.proofs.lemmas.Bool.Decides.{nat_tests}
 use Rattle.aoe_base.specs.declared.address.TargetId.{TargetId}
 use Rattle.aoe_base.specs.declared.sectors.Span.{Span}
 use Rattle.aoe_base.specs.Spans.{overlap}
+use Rattle.aoe_hold.specs.declared.command.Command.{Command}
 use Rattle.aoe_hold.specs.declared.command.Stage.TheVariants.{Unsent}
 use Rattle.aoe_hold.specs.Commands.{conflict, has_effect, rests_on_effects}
 use Rattle.aoe_initiator.specs.declared.op.Op.{Op}
@@ -51,8 +52,11 @@ overlaps : (a b : Span) (s : ℕ) → in_span a s ≡ true → in_span b s ≡ t
 overlaps a b s p q = grind (arith, nat_tests)
 
 -- a conflict of what two operations ask
+abbrev entered : Op → Command
+entered op = record { ticket = record { 0 = 0 }; kind = kind_of op; span = span_of op; stage = Unsent }
+
 abbrev op_clash : Op → Op → Bool
-op_clash x y = conflict (record { ticket = record { 0 = 0 }; kind = kind_of x; span = span_of x; stage = Unsent }) (record { ticket = record { 0 = 0 }; kind = kind_of y; span = span_of y; stage = Unsent })
+op_clash x y = conflict (entered x) (entered y)
 
 conflicts : (host : HostSetup) (slot : SlotSetup) (h : List Entry) (d c : ℕ) (a b : Op) → AsksAt slot (submission host h d) a
     → AsksAt slot (submission host h c) b → op_clash a b ≡ true → in_conflict host h d c ≡ true
@@ -69,19 +73,16 @@ flush-write at bytes = grind (arith, nat_tests)
 -- UNDER WAY
 
 module _ (life : ℕ) (host : HostSetup) (h : List Entry) (b : Base life host h) (g : AreGone life host h) where
-  -- an earlier command in conflict is done once a later one was sent
-  earlier-done : {slot : SlotSetup} (d c : ℕ) {x y : Sending} {a l : Op} → sends_of host h c ≡ Some x → sends_of host h d ≡ Some y
-      → d < c → AsksAt slot (submission host h d) a → AsksAt slot (submission host h c) l
-      → op_clash a l ≡ true → was_done host h d ≡ true
-  earlier-done d c p q lt asks later clash = b.order c d _ p (b.bounds d _ q).0 lt (conflicts host _ h d c _ _ asks later clash)
+  -- an earlier command in conflict is done once a later one was sent, and over where it has effects and the later one rests on them
+  module _ {slot : SlotSetup} (d c : ℕ) {x y : Sending} {a l : Op} (p : sends_of host h c ≡ Some x) (q : sends_of host h d ≡ Some y) (lt : d < c)
+      (asks : AsksAt slot (submission host h d) a) (later : AsksAt slot (submission host h c) l) (clash : op_clash a l ≡ true) where
+    earlier-done : was_done host h d ≡ true
+    earlier-done = b.order c d _ p (b.bounds d _ q).0 lt (conflicts host _ h d c _ _ asks later clash)
 
-  -- it is over where it has effects and the later one rests on them
-  earlier-over : {slot : SlotSetup} (d c : ℕ) {x y : Sending} {a l : Op} → sends_of host h c ≡ Some x → sends_of host h d ≡ Some y
-      → d < c → AsksAt slot (submission host h d) a → AsksAt slot (submission host h c) l
-      → op_clash a l ≡ true → has_effect (kind_of a) ≡ true → rests_on_effects (kind_of l) ≡ true → is_active life host h d y ≡ true → ⊥
-  earlier-over d c p q lt asks later clash effect rests active =
-      let gone = g c d _ _ p q (b.bounds d _ q).0 lt (conflicts host _ h d c _ _ asks later clash) (rw asks.is effect) (rw later.is rests) in
-      let over = rw (earlier-done d c p q lt asks later clash, gone) at active in cc
+    earlier-over : has_effect (kind_of a) ≡ true → rests_on_effects (kind_of l) ≡ true → is_active life host h d y ≡ true → ⊥
+    earlier-over effect rests active =
+        let gone = g c d _ _ p q (b.bounds d _ q).0 lt (conflicts host _ h d c _ _ asks later clash) (rw asks.is effect) (rw later.is rests) in
+        let over = rw (earlier-done, gone) at active in cc
 
   -- two writes of a sector that are under way are one
   pub one-write : (slot : SlotSetup) (s c d : ℕ) (x y : Sending) (v w : List ℕ) → sends_of host h c ≡ Some x

@@ -93,7 +93,7 @@ module _ (s : Setup) (host : HostSetup) (mine : IsNamed s host) (ok : IsSetup s)
   asked [] l c x e = absurd (cc)
   asked (Submitted name t dev op ∷ h) l c x e = elim (cases_Bool (is_called host name && nat_eq t c)) [
     | inl own ↦ (
-        let new = some-and (λ z. IsSubmitted s z h t dev op) _ host (mine name (and_parts _ _ own).0) l.0 in
+        let new = some-and _ _ host (mine name (and_parts _ _ own).0) l.0 in
         let is = same_Some _ x (rw own at e) in
         rw (← is) (askable s host h t dev op ok there new))
     | inr other ↦ asked h l.1 c x (rw other at e)
@@ -105,7 +105,7 @@ module _ (s : Setup) (host : HostSetup) (mine : IsNamed s host) (ok : IsSetup s)
   submitted-there (Submitted name t dev op ∷ h) l c above le = elim (cases_Bool (is_called host name && nat_eq t c)) [
     | inl own ↦ (record { dev = dev; op = op }, rw own)
     | inr other ↦ (
-        let next = λ (own : is_called host name ≡ true). (some-and (λ z. IsSubmitted s z h t dev op) _ host (mine name own) l.0).next in
+        let next = λ (own : is_called host name ≡ true). (some-and _ _ host (mine name own) l.0).next in
         rw other (submitted-there h l.1 c above (by-count _ t c _ other next le)))
   ]
   submitted-there (_ ∷ h) l c above le = submitted-there h l.1 c above le
@@ -134,7 +134,8 @@ heard-at station h e major minor =
 data-is : (f : List ℕ) (op : Op) (at : ℕ) (bytes : List ℕ) (id : TargetId) (remote local : Mac) (tag : ℕ) → op ≡ Write at bytes
     → CanSpell op → HasSectors op → Fits (request_header op id remote local tag)
     → f ≡ request op id remote local tag → written (drop 24 f) (span_of (Write at bytes)) ≡ bytes
-data-is f op at bytes id remote local tag e can some fits is = rw (is, e) (request-writes at bytes id remote local tag (rw e at can).0 (rw e at some).1 (rw e at fits))
+data-is f op at bytes id remote local tag e can some fits is =
+    rw (is, e) (request-writes at bytes id remote local tag (rw e at can).0 (rw e at some).1 (rw e at fits))
 
 module _ (s : Setup) (host : HostSetup) (h : List Entry) (run : HasHost s host h) (slot : SlotSetup) (there : Contains s.slots slot) where
   pub understood : (frame : SentFrame) (lists : Settings) (d : AtaDecision) → (sent : IsSentFor host h frame)
@@ -151,7 +152,8 @@ module _ (s : Setup) (host : HostSetup) (h : List Entry) (run : HasHost s host h
       let at : IsAttachedTo s r.about = run.setup.attached host r.about mine (Contains-get _ _ r.about r.there) in
       let its = found _ s.slots at.slot at.there in
       let eq = ids-same at.slot.station.id r.about.id its.1 in
-      let heard = heard-at slot.station (request_header x.op r.about.id r.remote r.local sent.sending.tag) c.heard (rw eq at (run.setup.majors at.slot its.0)) (rw eq at (run.setup.minors at.slot its.0)) in
+      let header = request_header x.op r.about.id r.remote r.local sent.sending.tag in
+      let heard = heard-at slot.station header c.heard (rw eq at (run.setup.majors at.slot its.0)) (rw eq at (run.setup.minors at.slot its.0)) in
       record {
         slot_is = rw (ap (λ (a : Attached). a.id) same ∙ k.id) at heard;
         answer_is = request-asks x.op r.about.id r.remote r.local sent.sending.tag slot.station lists d k.can k.sectors fits w;

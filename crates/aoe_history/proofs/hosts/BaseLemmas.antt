@@ -84,7 +84,8 @@ finished-done : (sends : Option Sending) (done : Bool) → finished (stage sends
 finished-done (Some s) true e = refl
 finished-done _ _ e = absurd (cc)
 
-module _ (life : ℕ) (host : HostSetup) (h : List Entry) (name : ArrayVec ℕ) (c number : ℕ) (f : List ℕ) (mine : is_called host name ≡ true) (r : MayBeSent life host h c f) (reads : (fields f).tag ≡ r.tag) where
+module _ (life : ℕ) (host : HostSetup) (h : List Entry) (name : ArrayVec ℕ) (c number : ℕ) (f : List ℕ)
+    (mine : is_called host name ≡ true) (r : MayBeSent life host h c f) (reads : (fields f).tag ≡ r.tag) where
   abbrev pub after : List Entry
   after = Sent name c number f ∷ h
 

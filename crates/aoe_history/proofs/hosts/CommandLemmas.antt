@@ -1,5 +1,5 @@
 -- A host's commands, each by what the history says of it.
-use Rattle.std.proofs.Common.{ℕ, zero, suc, ◌+◌, ◌<◌, ◌≤◌, ◌≡◌, inl, inr, if◌then◌else◌, max, nat_eq, Bool, true, false, ◌||◌, List, [], ◌∷◌, ◌++◌, map, Option, Some, None, refl, ap, ◌∙◌, arith, Contains}
+use Rattle.std.proofs.Common.{ℕ, zero, suc, ◌+◌, ◌<◌, ◌≤◌, ◌≡◌, inl, inr, if◌then◌else◌, max, nat_eq, Bool, true, false, ◌||◌, List, [], ◌∷◌, ◌++◌, map, Option, Some, None, refl, sym, ap, ◌∙◌, arith, Contains}
 use Rattle.std.proofs.lemmas.Bool.{cases_Bool}
 use Rattle.std.proofs.lemmas.Bool.Decides.{nat_tests}
 use Rattle.std.proofs.lemmas.List.Elements.{Contains-push_cases}
@@ -15,7 +15,7 @@ use Rattle.aoe_history.specs.declared.entry.Entry.TheVariants.{Submitted, Sent, 
 use Rattle.aoe_history.specs.CommandView.{sends_of, upto, view, views, was_done}
 use Rattle.aoe_history.specs.Commands.{commands_of, log_of, tickets}
 use Rattle.aoe_history.specs.Frames.{clock}
-use Rattle.aoe_history.specs.HostLaw.{IsDone, IsSent, IsSubmitted}
+use Rattle.aoe_history.specs.HostLaw.{IsDone, IsSent}
 use Rattle.aoe_history.specs.Lawful.{IsLawful}
 use Rattle.aoe_history.specs.Setup.{host_called, is_called, HostSetup, Setup}
 use Rattle.aoe_history.proofs.hosts.SendLemmas.{filtered-from}
@@ -50,52 +50,52 @@ one-more : {Y : Type 0} (f g : ℕ → Y) (n : ℕ) (y : Y) → ((k : ℕ) → k
     → y ≡ g (suc n) → map f (upto n) ++ y ∷ [] ≡ map g (upto (suc n))
 one-more f g n y e own = rw (map-append g, map-upto f g n e, own)
 
-module _ (host : HostSetup) (h : List Entry) (k : Known host h) (name : ArrayVec ℕ) (c : ℕ) where
-  sent-known : (number : ℕ) (bytes : List ℕ) → (is_called host name ≡ true → c ≤ tickets host h) → Known host (Sent name c number bytes ∷ h)
-  sent-known number bytes le = record {
-    list = elim (cases_Bool (is_called host name)) [
-      | inl own ↦ rw (own, k.list, k.time, map-map) (map-upto _ (view host (Sent name c number bytes ∷ h)) (tickets host h) (λ n m. rw (own, same-number n c) (sent-if _ (view host h n) _)))
-      | inr other ↦ rw (other, k.list) (map-upto (view host h) (view host (Sent name c number bytes ∷ h)) (tickets host h) (λ n m. rw other))
-    ];
-    time = elim (cases_Bool (is_called host name)) [ inl own ↦ rw own k.time | inr other ↦ rw other k.time ];
-    unsent = λ d lt. rw (not-of _ c d (λ own e. let n = le own in omega arith)) (k.unsent d lt);
-    undone = k.undone;
+module _ (host : HostSetup) (h : List Entry) (k : Known host h) where
+  -- an entry that changes nothing of the host's commands
+  same-known : (n : List Entry) → commands_of host n ≡ commands_of host h → log.clock (log_of host n) ≡ clock n → tickets host n ≡ tickets host h
+      → ((d : ℕ) → view host n d ≡ view host h d) → Known host n
+  same-known n list time count same = record {
+    list = rw (list, count, k.list) (map-upto (view host h) (view host n) (tickets host h) (λ d le. sym (same d)));
+    time = time;
+    unsent = λ d lt. ap (λ (x : HostCommand). x.sends) (same d) ∙ k.unsent d (omega arith);
+    undone = λ d lt. ap (λ (x : HostCommand). x.done) (same d) ∙ k.undone d (omega arith);
   }
 
-  done-known : (outcome : Outcome) → (is_called host name ≡ true → c ≤ tickets host h) → Known host (Done name c outcome ∷ h)
-  done-known outcome le = record {
-    list = elim (cases_Bool (is_called host name)) [
-      | inl own ↦ rw (own, k.list, map-map) (map-upto _ (view host (Done name c outcome ∷ h)) (tickets host h) (λ n m. rw (own, same-number n c) (ended-if _ (view host h n))))
-      | inr other ↦ rw (other, k.list) (map-upto (view host h) (view host (Done name c outcome ∷ h)) (tickets host h) (λ n m. rw other))
-    ];
-    time = elim (cases_Bool (is_called host name)) [ inl own ↦ rw own k.time | inr other ↦ rw other k.time ];
-    unsent = k.unsent;
-    undone = λ d lt. rw (not-of _ c d (λ own e. let n = le own in omega arith)) (k.undone d lt);
-  }
+  module _ (name : ArrayVec ℕ) (c : ℕ) where
+    sent-known : (number : ℕ) (bytes : List ℕ) → (is_called host name ≡ true → c ≤ tickets host h) → Known host (Sent name c number bytes ∷ h)
+    sent-known number bytes le = let n = Sent name c number bytes ∷ h in elim (cases_Bool (is_called host name)) [
+      | inl own ↦ record {
+        list = rw (own, k.list, k.time, map-map) (map-upto _ (view host n) (tickets host h) (λ d in'. rw (own, same-number d c) (sent-if _ (view host h d) _)));
+        time = rw own k.time;
+        unsent = λ d lt. rw (not-of _ c d (λ own e. let m = le own in omega arith)) (k.unsent d lt);
+        undone = k.undone;
+      }
+      | inr other ↦ same-known n (rw other) (rw other k.time) refl (λ d. rw other)
+    ]
 
-  -- the ticket of a submission is the next
-  submitted-known : (dev : TargetId) (op : Op) → (is_called host name ≡ true → c ≡ suc (tickets host h)) → Known host (Submitted name c dev op ∷ h)
-  submitted-known dev op next = elim (cases_Bool (is_called host name)) [
-    | inl own ↦ (let new = next own in record {
-      list = rw (own, k.list) (one-more (view host h) (view host (Submitted name c dev op ∷ h)) (tickets host h) _ (λ d le. rw (new, other-number _ _ d le))
-          (rw (new, own-number _ _ own, k.unsent (suc (tickets host h)) (omega arith), k.undone (suc (tickets host h)) (omega arith))));
-      time = rw own k.time;
-      unsent = rw own (λ d lt. k.unsent d (omega arith));
-      undone = rw own (λ d lt. k.undone d (omega arith));
-    })
-    | inr other ↦ record {
-      list = rw (other, k.list) (map-upto (view host h) (view host (Submitted name c dev op ∷ h)) (tickets host h) (λ d le. rw other));
-      time = rw other k.time;
-      unsent = rw other k.unsent;
-      undone = rw other k.undone;
-    }
-  ]
+    done-known : (outcome : Outcome) → (is_called host name ≡ true → c ≤ tickets host h) → Known host (Done name c outcome ∷ h)
+    done-known outcome le = let n = Done name c outcome ∷ h in elim (cases_Bool (is_called host name)) [
+      | inl own ↦ record {
+        list = rw (own, k.list, map-map) (map-upto _ (view host n) (tickets host h) (λ d in'. rw (own, same-number d c) (ended-if _ (view host h d))));
+        time = rw own k.time;
+        unsent = k.unsent;
+        undone = λ d lt. rw (not-of _ c d (λ own e. let m = le own in omega arith)) (k.undone d lt);
+      }
+      | inr other ↦ same-known n (rw other) (rw other k.time) refl (λ d. rw other)
+    ]
 
-ticked-known : (host : HostSetup) (h : List Entry) (ms : ℕ) → Known host h → Known host (Ticked ms ∷ h)
-ticked-known host h ms k = record { list = k.list; time = later _ _ k.time; unsent = k.unsent; undone = k.undone }
-  where
-    later : (m n : ℕ) → m ≡ n → max m (n + ms) ≡ n + ms
-    later m n e = grind arith
+    -- the ticket of a submission is the next
+    submitted-known : (dev : TargetId) (op : Op) → (is_called host name ≡ true → c ≡ suc (tickets host h)) → Known host (Submitted name c dev op ∷ h)
+    submitted-known dev op next = let n = Submitted name c dev op ∷ h in let t = tickets host h in elim (cases_Bool (is_called host name)) [
+      | inl own ↦ (let new = next own in record {
+        list = rw (own, k.list) (one-more (view host h) (view host n) t _ (λ d le. rw (new, other-number _ _ d le))
+            (rw (new, own-number _ _ own, k.unsent (suc t) (omega arith), k.undone (suc t) (omega arith))));
+        time = rw own k.time;
+        unsent = rw own (λ d lt. k.unsent d (omega arith));
+        undone = rw own (λ d lt. k.undone d (omega arith));
+      })
+      | inr other ↦ same-known n (rw other) (rw other k.time) (rw other) (λ d. rw other)
+    ]
 
 -- A COMMAND BY ITS TICKET
 
@@ -166,11 +166,13 @@ done-submitted s host h c outcome k (inr x) = (sent-at host h c x.command k x.la
 module _ (s : Setup) (host : HostSetup) (mine : IsNamed s host) where
   pub known : (h : List Entry) → IsLawful s h → Known host h
   known [] l = record { list = refl; time = refl; unsent = λ c lt. refl; undone = λ c lt. refl }
-  known (Submitted name c dev op ∷ h) l =
-      submitted-known host h (known h l.1) name c dev op (λ e. (some-and (λ x. IsSubmitted s x h c dev op) _ host (mine name e) l.0).next)
+  known (Submitted name c dev op ∷ h) l = submitted-known host h (known h l.1) name c dev op (λ e. (some-and _ _ host (mine name e) l.0).next)
   known (Sent name c number bytes ∷ h) l = let k = known h l.1 in
-      sent-known host h k name c number bytes (λ e. sent-submitted s host h c number bytes k (some-and (λ x. IsSent s x h c number bytes) _ host (mine name e) l.0))
+      sent-known host h k name c number bytes (λ e. sent-submitted s host h c number bytes k (some-and _ _ host (mine name e) l.0))
   known (Done name c outcome ∷ h) l = let k = known h l.1 in
-      done-known host h k name c outcome (λ e. done-submitted s host h c outcome k (some-and (λ x. IsDone s x h c outcome) _ host (mine name e) l.0))
-  known (Ticked ms ∷ h) l = ticked-known host h ms (known h l.1)
-  known (_ ∷ h) l = let k = known h l.1 in record { list = k.list; time = k.time; unsent = k.unsent; undone = k.undone }
+      done-known host h k name c outcome (λ e. done-submitted s host h c outcome k (some-and _ _ host (mine name e) l.0))
+  known (Ticked ms ∷ h) l = let k = known h l.1 in same-known host h k (Ticked ms ∷ h) refl (later _ _ ms k.time) refl (λ d. refl)
+    where
+      later : (m n ms : ℕ) → m ≡ n → max m (n + ms) ≡ n + ms
+      later m n ms e = grind arith
+  known (x ∷ h) l = let k = known h l.1 in same-known host h k (x ∷ h) refl k.time refl (λ d. refl)

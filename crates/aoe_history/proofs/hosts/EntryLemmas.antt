@@ -15,7 +15,7 @@ use Rattle.aoe_initiator.specs.HostLog.{HostCommand, Sending}
 use Rattle.aoe_net.specs.Network.{numbered, SentFrame}
 use Rattle.aoe_history.specs.declared.entry.Entry.{Entry}
 use Rattle.aoe_history.specs.declared.entry.Entry.TheVariants.{Submitted, Sent, Done}
-use Rattle.aoe_history.specs.Commands.{host_after, tickets}
+use Rattle.aoe_history.specs.Commands.{host_after, submission, tickets}
 use Rattle.aoe_history.specs.CommandView.{sends_of, was_done, IsSentFor}
 use Rattle.aoe_history.specs.Frames.{clock}
 use Rattle.aoe_history.specs.HostLaw.{IsDone}
@@ -41,27 +41,26 @@ more-tickets : (b : Bool) (n : ℕ) → n ≤ (if b then suc n else n)
 more-tickets true n = omega arith
 more-tickets false n = omega arith
 
+-- an entry by which nothing is done
+pub undone-keeps : (host : HostSetup) (h n : List Entry) → ((c : ℕ) → sends_of host n c ≡ sends_of host h c) → ((c : ℕ) → was_done host n c ≡ was_done host h c)
+    → clock h ≤ clock n → tickets host h ≤ tickets host n → ((c : ℕ) → c ≤ tickets host h → submission host n c ≡ submission host h c) → Keeps host h n
+undone-keeps host h n sends done time count submissions = record {
+  sends = sends;
+  done = λ c e. done c ∙ e;
+  ended = λ c e. inl (sym (done c) ∙ e);
+  time = time;
+  count = count;
+  submissions = submissions;
+}
+
 pub submitted-keeps : (host : HostSetup) (h : List Entry) (name : ArrayVec ℕ) (c : ℕ) (dev : TargetId) (op : Op)
     → (is_called host name ≡ true → c ≡ suc (tickets host h)) → Keeps host h (Submitted name c dev op ∷ h)
-submitted-keeps host h name c dev op new = record {
-  sends = λ d. refl;
-  done = λ d e. e;
-  ended = λ d e. inl e;
-  time = omega arith;
-  count = more-tickets _ _;
-  submissions = λ d le. rw (not-of _ c d (λ own e. let is = new own in omega arith));
-}
+submitted-keeps host h name c dev op new = undone-keeps host h _ (λ d. refl) (λ d. refl) (omega arith) (more-tickets _ _)
+    (λ d le. rw (not-of _ c d (λ own e. let is = new own in omega arith)))
 
 pub sent-keeps : (host : HostSetup) (h : List Entry) (name : ArrayVec ℕ) (c number : ℕ) (f : List ℕ)
     → is_called host name ≡ false → Keeps host h (Sent name c number f ∷ h)
-sent-keeps host h name c number f other = record {
-  sends = λ d. rw other;
-  done = λ d e. e;
-  ended = λ d e. inl e;
-  time = omega arith;
-  count = omega arith;
-  submissions = λ d le. refl;
-}
+sent-keeps host h name c number f other = undone-keeps host h (Sent name c number f ∷ h) (λ d. rw other) (λ d. refl) (omega arith) (omega arith) (λ d le. refl)
 
 pub done-keeps : (host : HostSetup) (h : List Entry) (name : ArrayVec ℕ) (c : ℕ) (outcome : Outcome)
     → (is_called host name ≡ true → is_some (sends_of host h c) ≡ true) → Keeps host h (Done name c outcome ∷ h)
@@ -134,7 +133,8 @@ foreign-frame host h g fs foreign all number f e from = elim (numbered-cases g f
   | inr q ↦ all number f q from
 ]
 
-module _ (life : ℕ) (host : HostSetup) (h : List Entry) (name : ArrayVec ℕ) (c number : ℕ) (f : List ℕ) (mine : is_called host name ≡ true) (r : MayBeSent life host h c f) (reads : (fields f).tag ≡ r.tag) where
+module _ (life : ℕ) (host : HostSetup) (h : List Entry) (name : ArrayVec ℕ) (c number : ℕ) (f : List ℕ)
+    (mine : is_called host name ≡ true) (r : MayBeSent life host h c f) (reads : (fields f).tag ≡ r.tag) where
   still-sent : Base life host h → (g : SentFrame) → IsSentFor host h g → IsSentFor host (Sent name c number f ∷ h) g
   still-sent b g x = elim (cases_Bool (is_called host name && nat_eq c x.ticket)) [
     | inl own ↦ record {

@@ -34,7 +34,8 @@ gone-by : (life now : ℕ) (y : Sending) (done : Bool) → all_gone life now (st
 gone-by life now y true e = e
 gone-by life now y false e = e
 
-module _ (life : ℕ) (host : HostSetup) (h : List Entry) (name : ArrayVec ℕ) (c number : ℕ) (f : List ℕ) (mine : is_called host name ≡ true) (r : MayBeSent life host h c f) (reads : (fields f).tag ≡ r.tag) (b : Base life host h) (g : AreGone life host h) where
+module _ (life : ℕ) (host : HostSetup) (h : List Entry) (name : ArrayVec ℕ) (c number : ℕ) (f : List ℕ)
+    (mine : is_called host name ≡ true) (r : MayBeSent life host h c f) (reads : (fields f).tag ≡ r.tag) (b : Base life host h) (g : AreGone life host h) where
   -- an earlier command in conflict isn't sent any more
   not-again : (e : ℕ) (x : Sending) → sends_of host h e ≡ Some x → 0 < c → c < e → in_conflict host h c e ≡ true → ⊥
   not-again e x s above lt co = let done = b.order e c x s above lt co in elim r.may [

@@ -1,20 +1,18 @@
 -- What holds of the commands and frames of a host in each lawful history.
-use Rattle.std.proofs.Common.{ℕ, ◌≡◌, ◌≤◌, inl, inr, List, [], ◌∷◌, IsSomeAnd, refl, sym, ap, ◌∙◌, arith, Contains}
+use Rattle.std.proofs.Common.{ℕ, inl, inr, List, [], ◌∷◌, IsSomeAnd, refl, ap, arith, Contains}
 use Rattle.std.proofs.lemmas.Bool.{cases_Bool}
 use Rattle.arrayvec.specs.ArrayVec.{ArrayVec}
 use Rattle.aoe_frame.specs.declared.header.Header.{Header}
 use Rattle.aoe_history.specs.declared.entry.Entry.{Entry}
 use Rattle.aoe_history.specs.declared.entry.Entry.TheVariants.{Submitted, Sent, Injected, Arrived, Done}
 use Rattle.aoe_history.specs.declared.entry.Fate.TheVariants.{Replied}
-use Rattle.aoe_history.specs.CommandView.{sends_of, was_done}
-use Rattle.aoe_history.specs.Commands.{submission, tickets}
-use Rattle.aoe_history.specs.Frames.{clock, frames}
-use Rattle.aoe_history.specs.HostLaw.{IsDone, IsSent, IsSubmitted}
-use Rattle.aoe_history.specs.Lawful.{HasHost, IsArrival, IsLawful}
+use Rattle.aoe_history.specs.Frames.{frames}
+use Rattle.aoe_history.specs.HostLaw.{IsSent}
+use Rattle.aoe_history.specs.Lawful.{HasHost, IsLawful}
 use Rattle.aoe_history.specs.Setup.{host_called, is_called, HostSetup, IsSetup, Setup}
 use Rattle.aoe_history.proofs.hosts.BaseLemmas.{keeps-base, sent-base, Base, Keeps}
 use Rattle.aoe_history.proofs.hosts.CommandLemmas.{known, IsNamed, Known}
-use Rattle.aoe_history.proofs.hosts.EntryLemmas.{done-flies, done-keeps, foreign-frame, keeps-frames, named, sent-frames, sent-keeps, submitted-keeps, AreSentFor}
+use Rattle.aoe_history.proofs.hosts.EntryLemmas.{undone-keeps, done-flies, done-keeps, foreign-frame, keeps-frames, named, sent-frames, sent-keeps, submitted-keeps, AreSentFor}
 use Rattle.aoe_history.proofs.hosts.GoneLemmas.{keeps-gone, sent-gone, AreGone}
 use Rattle.aoe_history.proofs.hosts.ReadyLemmas.{ready}
 use Rattle.aoe_history.proofs.hosts.SentLemmas.{found, host-there, request-header}
@@ -35,24 +33,12 @@ module _ (s : Setup) (host : HostSetup) (mine : IsNamed s host) (ok : IsSetup s)
     gone = keeps-gone s.life host h n k x.base x.gone;
   }
 
-  -- an entry of others
-  quiet : (h n : List Entry) → ((c : ℕ) → sends_of host n c ≡ sends_of host h c) → ((c : ℕ) → was_done host n c ≡ was_done host h c)
-      → ((c : ℕ) → submission host n c ≡ submission host h c) → clock h ≤ clock n → tickets host n ≡ tickets host h → Keeps host h n
-  quiet h n sends done subs time count = record {
-    sends = sends;
-    done = λ c e. done c ∙ e;
-    ended = λ c e. inl (sym (done c) ∙ e);
-    time = time;
-    count = omega arith;
-    submissions = λ c le. subs c;
-  }
-
   sent : (h : List Entry) (name : ArrayVec ℕ) (c number : ℕ) (f : List ℕ) → IsLawful s h
       → IsSomeAnd (host_called s name) (λ o. IsSent s o h c number f) → Holds s host h
       → Holds s host (Sent name c number f ∷ h)
   sent h name c number f lawful law x = elim (cases_Bool (is_called host name)) [
     | inl own ↦ (
-        let r = ready s host h c number f (known s host mine h lawful) (some-and (λ o. IsSent s o h c number f) _ host (mine name own) law) in
+        let r = ready s host h c number f (known s host mine h lawful) (some-and _ _ host (mine name own) law) in
         let tag = ap (λ (z : Header). z.tag) (request-header s host _ _ r.tag f ok there r.request) in
         record {
           base = sent-base s.life host h name c number f own r tag x.base;
@@ -60,7 +46,7 @@ module _ (s : Setup) (host : HostSetup) (mine : IsNamed s host) (ok : IsSetup s)
           gone = sent-gone s.life host h name c number f own r tag x.base x.gone;
         })
     | inr other ↦ (
-        let o = some-such (λ o. IsSent s o h c number f) _ law in
+        let o = some-such _ _ law in
         let its = host-there s name o.0 o.1 in
         kept h _ (sent-keeps host h name c number f other) (foreign-frame host _ _ (frames h)
         (λ from. let same = request-source s o.0 host h c number f ok its.0 there o.2 from in not-both _ (rw (← same) at its.1) other)) x)
@@ -73,19 +59,19 @@ module _ (s : Setup) (host : HostSetup) (mine : IsNamed s host) (ok : IsSetup s)
     gone = λ c d x y p q above lt co eff rests. absurd (cc);
   }
   holds (Submitted name c dev op ∷ h) l =
-      kept h _ (submitted-keeps host h name c dev op (λ e. (some-and (λ x. IsSubmitted s x h c dev op) _ host (mine name e) l.0).next)) (λ all. all) (holds h l.1)
+      kept h _ (submitted-keeps host h name c dev op (λ e. (some-and _ _ host (mine name e) l.0).next)) (λ all. all) (holds h l.1)
   holds (Sent name c number f ∷ h) l = sent h name c number f l.1 l.0 (holds h l.1)
-  holds (Injected number f ∷ h) l = kept h (Injected number f ∷ h) (quiet h _ (λ c. refl) (λ c. refl) (λ c. refl) (omega arith) refl)
+  holds (Injected number f ∷ h) l = kept h (Injected number f ∷ h) (undone-keeps host h _ (λ c. refl) (λ c. refl) (omega arith) (omega arith) (λ c le. refl))
       (foreign-frame host _ _ (frames h) (foreign-source s host h number f there l.0)) (holds h l.1)
   holds (Arrived dev frame (Replied e number r) ∷ h) l =
-      let slot = some-such (λ slot. IsArrival s slot h frame (Replied e number r)) _ l.0 in
+      let slot = some-such _ _ l.0 in
       let port = (found _ s.slots slot.0 slot.1).0 in
-      kept h (Arrived dev frame (Replied e number r) ∷ h) (quiet h _ (λ c. refl) (λ c. refl) (λ c. refl) (omega arith) refl)
+      kept h (Arrived dev frame (Replied e number r) ∷ h) (undone-keeps host h _ (λ c. refl) (λ c. refl) (omega arith) (omega arith) (λ c le. refl))
       (foreign-frame host _ _ (frames h) (replied-source s host slot.0 h slot.2.bytes r e number ok there port slot.2.law)) (holds h l.1)
   holds (Done name c outcome ∷ h) l =
-      kept h _ (done-keeps host h name c outcome (λ e. (done-flies s host h c outcome (known s host mine h l.1) (some-and (λ x. IsDone s x h c outcome) _ host (mine name e) l.0)).0))
+      kept h _ (done-keeps host h name c outcome (λ e. (done-flies s host h c outcome (known s host mine h l.1) (some-and _ _ host (mine name e) l.0)).0))
       (λ all. all) (holds h l.1)
-  holds (x ∷ h) l = kept h (x ∷ h) (quiet h _ (λ c. refl) (λ c. refl) (λ c. refl) (omega arith) refl) (λ all. all) (holds h l.1)
+  holds (x ∷ h) l = kept h (x ∷ h) (undone-keeps host h _ (λ c. refl) (λ c. refl) (omega arith) (omega arith) (λ c le. refl)) (λ all. all) (holds h l.1)
 
 pub known-of : (s : Setup) (host : HostSetup) (h : List Entry) → HasHost s host h → Known host h
 known-of s host h x = known s host (named s x.name host x.called) h x.lawful

@@ -53,39 +53,35 @@ contains-upto (suc n) d above le = elim (cases_lt n d) [
 view-there : (host : HostSetup) (h : List Entry) (d : ℕ) → Known host h → 0 < d → d ≤ tickets host h → Contains (commands_of host h) (view host h d)
 view-there host h d k above le = rw k.list (Contains-map (view host h) (upto (tickets host h)) d (contains-upto _ d above le))
 
--- FIRST SENDS
+-- SENDS
 
 never-sent : (sends : Option Sending) (done : Bool) → unsent (stage sends done) ≡ true → sends ≡ None
 never-sent None done e = refl
 never-sent (Some s) true e = absurd (cc)
 never-sent (Some s) false e = absurd (cc)
 
-first-send : (s : Setup) (host : HostSetup) (h : List Entry) (c : ℕ) (sent : step.Sent) → Known host h → sent.ticket.0 ≡ c
-    → IsNextBy false (host_after s host h) (commands_of host h) sent → IsFirstSend s.life host h c sent.tag
-first-send s host h c sent k ticket may =
+-- what may be sent next
+send-by : (s : Setup) (host : HostSetup) (h : List Entry) (c : ℕ) (sent : step.Sent) (again : Bool) → Known host h → sent.ticket.0 ≡ c
+    → IsNextBy again (host_after s host h) (commands_of host h) sent → IsFirstSend s.life host h c sent.tag ⊎ IsRepeatSend host h c sent.tag
+send-by s host h c sent true k ticket may =
+    let v = sent-at host h c may.command k may.first_due.there (ap (λ t. t.0) may.ticket ∙ ticket) in
+    inr (record {
+      before = v.sending;
+      sent = v.sent;
+      flying = ap (λ (o : Outstanding). o.finished) v.is ∙ not-true _ (and_parts _ _ may.first_due.passes).0;
+      same = ap (λ (o : Outstanding). o.flying.tag) v.is ∙ may.tag;
+    })
+send-by s host h c sent false k ticket may =
     let v = view-at host h c may.command k may.there (ap (λ t. t.0) may.ticket ∙ ticket) in
     let clear = rw (← v.is) at may.clear in
     let le = v.submitted in
-    record {
+    inl (record {
       unsent = never-sent _ _ (clear-unsent s.life (clock h) (commands_of host h) (view host h c) clear);
       free = λ d y above le sends alive. eqb-false _ _ (none-of (has_tag sent.tag) _ (outstanding (view host h d) y) may.free (Contains-filter _ _ _
           (filtered as_sent _ (view host h d) _ (view-there host h d k above le) (ap (option_map (outstanding (view host h d))) sends)) alive));
       past = λ d above lt co. let parts = and_parts _ _ co in
           clear-past s.life (clock h) _ (view host h c) (view host h d) clear (view-there host h d k above (omega arith)) parts.0 lt parts.1;
-    }
-
--- REPEATS
-
-repeat-send : (s : Setup) (host : HostSetup) (h : List Entry) (c : ℕ) (sent : step.Sent) → Known host h → sent.ticket.0 ≡ c
-    → IsNextBy true (host_after s host h) (commands_of host h) sent → IsRepeatSend host h c sent.tag
-repeat-send s host h c sent k ticket may =
-    let v = sent-at host h c may.command k may.first_due.there (ap (λ t. t.0) may.ticket ∙ ticket) in
-    record {
-      before = v.sending;
-      sent = v.sent;
-      flying = ap (λ (o : Outstanding). o.finished) v.is ∙ not-true _ (and_parts _ _ may.first_due.passes).0;
-      same = ap (λ (o : Outstanding). o.flying.tag) v.is ∙ may.tag;
-    }
+    })
 
 pub ready : (s : Setup) (host : HostSetup) (h : List Entry) (c number : ℕ) (f : List ℕ) → Known host h
     → IsSent s host h c number f → MayBeSent s.life host h c f
@@ -96,10 +92,5 @@ ready s host h c number f k x =
       above = v.above;
       submitted = v.submitted;
       request = rw (← v.is) at (spelled-request s host h x.frame.command.op x.frame.command.device x.sent.path x.sent.tag f x.tag_fits x.frame.bytes);
-      may = go x.sent.again x.may;
+      may = send-by s host h c x.sent x.sent.again k x.ticket_is x.may;
     }
-  where
-    go : (again : Bool) → IsNextBy again (host_after s host h) (commands_of host h) x.sent
-        → IsFirstSend s.life host h c x.sent.tag ⊎ IsRepeatSend host h c x.sent.tag
-    go true m = inr (repeat-send s host h c x.sent k x.ticket_is m)
-    go false m = inl (first-send s host h c x.sent k x.ticket_is m)

@@ -1,10 +1,9 @@
 -- What a host sends: the request of a command that is next, with its tag.
-use Rattle.std.proofs.Common.{ℕ, zero, suc, ◌+◌, ◌<◌, ◌≡◌, inl, inr, Bool, true, List, [], ◌∷◌, Option, Some, refl, sym, ap, ◌∙◌, arith, Contains}
+use Rattle.std.proofs.Common.{ℕ, zero, suc, ◌+◌, ◌<◌, ◌≡◌, inl, inr, Bool, true, List, [], ◌∷◌, Some, refl, sym, ap, ◌∙◌, arith, Contains}
 use Rattle.std.specs.Prelude.{slice_get}
 use Rattle.std.specs.List.{find}
-use Rattle.std.specs.Option.{option_and_then, option_map}
+use Rattle.std.specs.Option.{option_map}
 use Rattle.std.proofs.lemmas.Bool.{and_parts, cases_Bool, eqb-true}
-use Rattle.std.proofs.lemmas.Option.{some_pair_parts}
 use Rattle.arrayvec.specs.ArrayVec.{ArrayVec}
 use Rattle.aoe_base.specs.declared.address.Mac.{Mac}
 use Rattle.aoe_base.specs.declared.address.TargetId.{TargetId}
@@ -18,7 +17,7 @@ use Rattle.aoe_initiator.specs.declared.device.Device.{Device}
 use Rattle.aoe_initiator.specs.declared.op.Op.{Op}
 use Rattle.aoe_initiator.specs.HostLaw.{same_id, spelled_for}
 use Rattle.aoe_initiator.specs.HostLog.{HostCommand}
-use Rattle.aoe_initiator.specs.Request.{request_header}
+use Rattle.aoe_initiator.specs.Request.{request, request_header}
 use Rattle.aoe_history.specs.declared.entry.Entry.{Entry}
 use Rattle.aoe_history.specs.Commands.{devices_of, host_after}
 use Rattle.aoe_history.specs.CommandView.{IsRequest}
@@ -54,27 +53,25 @@ pub device-at : (ports : List Mac) (life now n : ℕ) (cs : List HostCommand) (d
     → slice_get (devices_of ports life now cs n ds) k ≡ Some d → slice_get ds k ≡ Some d.about
 device-at ports life now n cs ds k d e = sym (about-at ports life now n cs ds k) ∙ ap (option_map (λ (x : Device). x.about)) e
 
-pair-split : (x y : Option Mac) (pair : Mac × Mac) → option_and_then {U = Mac × Mac} (λ l. option_map {U = Mac × Mac} (λ r. (l, r)) y) x ≡ Some pair → (x ≡ Some pair.0) × (y ≡ Some pair.1)
-pair-split (Some l) (Some r) pair e = let same = some_pair_parts l pair.0 r pair.1 e in (ap Some same.0, ap Some same.1)
-pair-split _ _ pair e = absurd (cc)
-
 -- what is spelled for a command is its request
 pub spelled-request : (s : Setup) (host : HostSetup) (h : List Entry) (op : Op) (device : DeviceNo) (path : PathNo) (tag : ℕ) (f : List ℕ)
     → tag < 4294967296 → spelled_for (host_after s host h) op device path tag ≡ Some f → IsRequest host device op tag f
 spelled-request s host h op device path tag f small e =
     let there = some-then _ _ f e in
     let d = there.0 in
-    let spelt = some-mapped _ _ f there.2 in
-    let ends = pair-split _ _ spelt.0 spelt.1 in
+    let pair = some-mapped _ _ f there.2 in
+    let local = some-then _ _ pair.0 pair.1 in
+    let remote = some-mapped _ _ pair.0 local.2 in
+    let is : request op d.about.id remote.0 local.0 tag ≡ f = rw (← remote.2) at pair.2 in
     record {
       about = d.about;
       there = device-at _ _ _ _ _ host.devices device.0 d there.1;
-      local = spelt.0.0;
-      remote = spelt.0.1;
-      own = holds-at _ _ _ ends.0;
-      other = holds-at _ _ _ ends.1;
+      local = local.0;
+      remote = remote.0;
+      own = holds-at _ _ _ local.1;
+      other = holds-at _ _ _ remote.1;
       fits = small;
-      is = sym spelt.2;
+      is = sym is;
     }
 
 -- HEADERS
