@@ -24,6 +24,10 @@ not-both b p q = cc
 pub untrue : (b : Bool) → (b ≡ true → ⊥) → b ≡ false
 untrue = bool.false_from_ne_true
 
+pub if-some : {X : Type 0} (b : Bool) (o : Option X) (y : X) → (if b then o else None) ≡ Some y → (b ≡ true) × (o ≡ Some y)
+if-some true o y e = (refl, e)
+if-some false o y e = absurd (cc)
+
 -- what is of another number isn't meant
 pub not-of : (b : Bool) (c d : ℕ) → (b ≡ true → c ≢ d) → (b && nat_eq c d) ≡ false
 not-of true c d other = bool.ne_eqb c d (other refl)

@@ -1,5 +1,5 @@
 -- The writes of a host that are under way, beside its other commands.
-use Rattle.std.proofs.Common.{ℕ, ◌+◌, ◌-◌, ◌<◌, ◌≤◌, ◌≡◌, inl, inr, if◌then◌else◌, nat_lt, Bool, true, false, not, ◌&&◌, List, Option, Some, None, refl, sym, ◌∙◌, arith}
+use Rattle.std.proofs.Common.{ℕ, ◌+◌, ◌-◌, ◌<◌, ◌≤◌, ◌≡◌, inl, inr, nat_lt, Bool, true, false, not, ◌&&◌, List, Option, Some, None, refl, sym, ◌∙◌, arith}
 use Rattle.std.proofs.lemmas.Bool.{cases_order, eq-eqb}
 use Rattle.std.proofs.lemmas.Bool.Decides.{nat_tests}
 use Rattle.aoe_base.specs.declared.address.TargetId.{TargetId}
@@ -23,7 +23,7 @@ use Rattle.aoe_history.proofs.hosts.BaseLemmas.{Base}
 use Rattle.aoe_history.proofs.FrameLemmas.{birth_of, arrives}
 use Rattle.aoe_history.proofs.hosts.GoneLemmas.{AreGone}
 use Rattle.aoe_history.proofs.hosts.SentLemmas.{ids-same}
-use Rattle.aoe_history.proofs.LogicLemmas.{not-both}
+use Rattle.aoe_history.proofs.LogicLemmas.{if-some, not-both}
 
 pub record WritesTo (slot : SlotSetup) (o : Option Submission) (s : ℕ) (v : List ℕ) : Type 0 where
   pub at : ℕ
@@ -32,19 +32,15 @@ pub record WritesTo (slot : SlotSetup) (o : Option Submission) (s : ℕ) (v : Li
   pub inside : in_span (span_of (Write at bytes)) s ≡ true
   pub value : v ≡ value_in (span_of (Write at bytes)) bytes s
 
-some-if : {X : Type 0} (b : Bool) (o : Option X) (y : X) → (if b then o else None) ≡ Some y → (b ≡ true) × (o ≡ Some y)
-some-if true o y e = (refl, e)
-some-if false o y e = absurd (cc)
-
 by-op : (slot : SlotSetup) (dev : TargetId) (op : Op) (s : ℕ) (v : List ℕ) → is_slot slot dev ≡ true
     → op_writes op s ≡ Some v → WritesTo slot (Some (record { dev = dev; op = op })) s v
-by-op slot dev (Write at bytes) s v is e = let here = some-if _ _ v e in
+by-op slot dev (Write at bytes) s v is e = let here = if-some _ _ v e in
     record { at = at; bytes = bytes; asks = record { dev = dev; is = refl; slot_is = is }; inside = here.0; value = (let value = here.1 in cc) }
 by-op slot dev _ s v is e = absurd (cc)
 
 pub writes-to : (slot : SlotSetup) (o : Option Submission) (s : ℕ) (v : List ℕ) → writes slot o s ≡ Some v → WritesTo slot o s v
 writes-to slot None s v e = absurd (cc)
-writes-to slot (Some x) s v e = let its = some-if _ _ v e in by-op slot x.dev x.op s v its.0 its.1
+writes-to slot (Some x) s v e = let its = if-some _ _ v e in by-op slot x.dev x.op s v its.0 its.1
 
 -- CONFLICTS
 

@@ -62,25 +62,6 @@ askable-op about (Write at bytes) m t can e = let s = span-of about at (length b
 askable-op about (Config ccmd text) m t can e = (can.1, tt)
 askable-op about _ m t can e = (tt, tt)
 
-askable : (s : Setup) (host : HostSetup) (h : List Entry) (c : ℕ) (dev : TargetId) (op : Op) → IsSetup s → Contains s.hosts host
-    → IsSubmitted s host h c dev op → IsAskable host (record { dev = dev; op = op })
-askable s host h c dev op ok mine x =
-    let a = get-there host.devices x.device (placed-inside _ host.devices x.device x.attached) in
-    let d = some-mapped _ _ a.0 (about-at host.ports s.life (clock h) 0 (commands_of host h) host.devices x.device ∙ a.1) in
-    let free : op_refusal a.0 op ≡ None = no-backlog _ _ (rw (d.1, d.2) at x.taken) in
-    let at : IsAttachedTo s a.0 = ok.attached host a.0 mine (Contains-get host.devices x.device a.0 a.1) in
-    let there = found _ s.slots at.slot at.there in
-    let max : a.0.max ≤ 17 = rw at.max (ok.max at.slot there.0) in
-    let total : a.0.total ≤ 281474976710656 = rw at.total (ok.size at.slot there.0) in
-    let both = askable-op a.0 op max total x.can free in
-    record {
-      can = both.0;
-      sectors = both.1;
-      about = a.0;
-      place = rw x.attached a.1;
-      id = ids-same a.0.id dev (placed _ host.devices x.device a.0 x.attached a.1);
-    }
-
 -- SUBMISSIONS
 
 -- a ticket that isn't that of a new submission
@@ -89,13 +70,31 @@ by-count true t c n other new le = let is = new refl in let differs = eqb-false 
 by-count false t c n other new le = le
 
 module _ (s : Setup) (host : HostSetup) (mine : IsNamed s host) (ok : IsSetup s) (there : Contains s.hosts host) where
+  askable : (h : List Entry) (c : ℕ) (dev : TargetId) (op : Op) → IsSubmitted s host h c dev op → IsAskable host (record { dev = dev; op = op })
+  askable h c dev op x =
+      let a = get-there host.devices x.device (placed-inside _ host.devices x.device x.attached) in
+      let d = some-mapped _ _ a.0 (about-at host.ports s.life (clock h) 0 (commands_of host h) host.devices x.device ∙ a.1) in
+      let free : op_refusal a.0 op ≡ None = no-backlog _ _ (rw (d.1, d.2) at x.taken) in
+      let at : IsAttachedTo s a.0 = ok.attached host a.0 there (Contains-get host.devices x.device a.0 a.1) in
+      let slot = found _ s.slots at.slot at.there in
+      let max : a.0.max ≤ 17 = rw at.max (ok.max at.slot slot.0) in
+      let total : a.0.total ≤ 281474976710656 = rw at.total (ok.size at.slot slot.0) in
+      let both = askable-op a.0 op max total x.can free in
+      record {
+        can = both.0;
+        sectors = both.1;
+        about = a.0;
+        place = rw x.attached a.1;
+        id = ids-same a.0.id dev (placed _ host.devices x.device a.0 x.attached a.1);
+      }
+
   pub asked : (h : List Entry) → IsLawful s h → (c : ℕ) (x : Submission) → submission host h c ≡ Some x → IsAskable host x
   asked [] l c x e = absurd (cc)
   asked (Submitted name t dev op ∷ h) l c x e = elim (cases_Bool (is_called host name && nat_eq t c)) [
     | inl own ↦ (
         let new = some-and _ _ host (mine name (and_parts _ _ own).0) l.0 in
         let is = same_Some _ x (rw own at e) in
-        rw (← is) (askable s host h t dev op ok there new))
+        rw (← is) (askable h t dev op new))
     | inr other ↦ asked h l.1 c x (rw other at e)
   ]
   asked (_ ∷ h) l c x e = asked h l.1 c x e

@@ -153,10 +153,9 @@ sent-at host h c o k there e =
 abbrev pub IsNamed : Setup → HostSetup → Type 0
 IsNamed s host = (name : ArrayVec ℕ) → is_called host name ≡ true → host_called s name ≡ Some host
 
-sent-submitted : (s : Setup) (host : HostSetup) (h : List Entry) (c number : ℕ) (bytes : List ℕ)
-    → Known host h → IsSent s host h c number bytes → c ≤ tickets host h
-sent-submitted s host h c number bytes k x =
-    let v = view-at host h c x.frame.command k x.frame.there (ap (λ t. t.0) x.frame.ticket ∙ x.ticket_is) in v.submitted
+pub sent-view : (s : Setup) (host : HostSetup) (h : List Entry) (c number : ℕ) (f : List ℕ) → Known host h → (x : IsSent s host h c number f)
+    → IsViewAt host h c x.frame.command
+sent-view s host h c number f k x = view-at host h c x.frame.command k x.frame.there (ap (λ t. t.0) x.frame.ticket ∙ x.ticket_is)
 
 done-submitted : (s : Setup) (host : HostSetup) (h : List Entry) (c : ℕ) (outcome : Outcome)
     → Known host h → IsDone s host h c outcome → c ≤ tickets host h
@@ -168,7 +167,7 @@ module _ (s : Setup) (host : HostSetup) (mine : IsNamed s host) where
   known [] l = record { list = refl; time = refl; unsent = λ c lt. refl; undone = λ c lt. refl }
   known (Submitted name c dev op ∷ h) l = submitted-known host h (known h l.1) name c dev op (λ e. (some-and _ _ host (mine name e) l.0).next)
   known (Sent name c number bytes ∷ h) l = let k = known h l.1 in
-      sent-known host h k name c number bytes (λ e. sent-submitted s host h c number bytes k (some-and _ _ host (mine name e) l.0))
+      sent-known host h k name c number bytes (λ e. (sent-view s host h c number bytes k (some-and _ _ host (mine name e) l.0)).submitted)
   known (Done name c outcome ∷ h) l = let k = known h l.1 in
       done-known host h k name c outcome (λ e. done-submitted s host h c outcome k (some-and _ _ host (mine name e) l.0))
   known (Ticked ms ∷ h) l = let k = known h l.1 in same-known host h k (Ticked ms ∷ h) refl (later _ _ ms k.time) refl (λ d. refl)

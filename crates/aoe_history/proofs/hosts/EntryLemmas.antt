@@ -1,5 +1,5 @@
 -- How each kind of entry keeps what holds of a host's commands and frames.
-use Rattle.std.proofs.Common.{ℕ, suc, ◌≤◌, ◌≡◌, ◌⊎◌, inl, inr, if◌then◌else◌, nat_eq, ◌==◌, Bool, true, false, ◌&&◌, List, ◌∷◌, length, Option, Some, None, is_some, refl, sym, ap, ◌∙◌, arith}
+use Rattle.std.proofs.Common.{ℕ, suc, ◌≤◌, ◌≡◌, ◌⊎◌, inl, inr, nat_eq, ◌==◌, true, false, ◌&&◌, List, ◌∷◌, length, Option, Some, None, is_some, refl, sym, ap, ◌∙◌, arith}
 use Rattle.std.proofs.lemmas.Bool.{and_parts, cases_Bool, eqb-true, not-true, or_cases, or_right}
 use Rattle.std.proofs.lemmas.Slice.Eq.{bytes_eq-Decides}
 use Rattle.arrayvec.specs.ArrayVec.{ArrayVec}
@@ -26,7 +26,7 @@ use Rattle.aoe_history.proofs.hosts.ReadyLemmas.{MayBeSent}
 use Rattle.aoe_history.proofs.hosts.BaseLemmas as base
 use Rattle.aoe_history.proofs.hosts.CommandLemmas.{sent-at, view-at, IsNamed, Known}
 use Rattle.aoe_history.proofs.hosts.SentLemmas.{host-there}
-use Rattle.aoe_history.proofs.LogicLemmas.{not-of, some-then}
+use Rattle.aoe_history.proofs.LogicLemmas.{if-some, not-of, some-then}
 
 -- a host is the one that its name names
 pub named : (s : Setup) (name : ArrayVec ℕ) (host : HostSetup) → host_called s name ≡ Some host → IsNamed s host
@@ -37,13 +37,11 @@ named s name host e other mine =
 
 -- SUBMISSIONS, SENDS AND OUTCOMES
 
-more-tickets : (b : Bool) (n : ℕ) → n ≤ (if b then suc n else n)
-more-tickets true n = omega arith
-more-tickets false n = omega arith
-
 -- an entry by which nothing is done
-pub undone-keeps : (host : HostSetup) (h n : List Entry) → ((c : ℕ) → sends_of host n c ≡ sends_of host h c) → ((c : ℕ) → was_done host n c ≡ was_done host h c)
-    → clock h ≤ clock n → tickets host h ≤ tickets host n → ((c : ℕ) → c ≤ tickets host h → submission host n c ≡ submission host h c) → Keeps host h n
+pub undone-keeps : (host : HostSetup) (h n : List Entry) → ((c : ℕ) → sends_of host n c ≡ sends_of host h c)
+    → ((c : ℕ) → was_done host n c ≡ was_done host h c)
+    → clock h ≤ clock n → tickets host h ≤ tickets host n
+    → ((c : ℕ) → c ≤ tickets host h → submission host n c ≡ submission host h c) → Keeps host h n
 undone-keeps host h n sends done time count submissions = record {
   sends = sends;
   done = λ c e. done c ∙ e;
@@ -53,28 +51,27 @@ undone-keeps host h n sends done time count submissions = record {
   submissions = submissions;
 }
 
-pub submitted-keeps : (host : HostSetup) (h : List Entry) (name : ArrayVec ℕ) (c : ℕ) (dev : TargetId) (op : Op)
-    → (is_called host name ≡ true → c ≡ suc (tickets host h)) → Keeps host h (Submitted name c dev op ∷ h)
-submitted-keeps host h name c dev op new = undone-keeps host h _ (λ d. refl) (λ d. refl) (omega arith) (more-tickets _ _)
-    (λ d le. rw (not-of _ c d (λ own e. let is = new own in omega arith)))
+module _ (host : HostSetup) (h : List Entry) (name : ArrayVec ℕ) (c : ℕ) where
+  pub submitted-keeps : (dev : TargetId) (op : Op) → (is_called host name ≡ true → c ≡ suc (tickets host h))
+      → Keeps host h (Submitted name c dev op ∷ h)
+  submitted-keeps dev op new = undone-keeps host h _ (λ d. refl) (λ d. refl) (omega arith) (grind arith)
+      (λ d le. rw (not-of _ c d (λ own e. let is = new own in omega arith)))
 
-pub sent-keeps : (host : HostSetup) (h : List Entry) (name : ArrayVec ℕ) (c number : ℕ) (f : List ℕ)
-    → is_called host name ≡ false → Keeps host h (Sent name c number f ∷ h)
-sent-keeps host h name c number f other = undone-keeps host h (Sent name c number f ∷ h) (λ d. rw other) (λ d. refl) (omega arith) (omega arith) (λ d le. refl)
+  pub sent-keeps : (number : ℕ) (f : List ℕ) → is_called host name ≡ false → Keeps host h (Sent name c number f ∷ h)
+  sent-keeps number f other = undone-keeps host h (Sent name c number f ∷ h) (λ d. rw other) (λ d. refl) (omega arith) (omega arith) (λ d le. refl)
 
-pub done-keeps : (host : HostSetup) (h : List Entry) (name : ArrayVec ℕ) (c : ℕ) (outcome : Outcome)
-    → (is_called host name ≡ true → is_some (sends_of host h c) ≡ true) → Keeps host h (Done name c outcome ∷ h)
-done-keeps host h name c outcome sent = record {
-  sends = λ d. refl;
-  done = λ d e. or_right _ _ e;
-  ended = λ d e. elim (or_cases _ _ e) [
-    | inl own ↦ (let parts = and_parts _ _ own in inr (rw (eqb-true c d parts.1) at (sent parts.0)))
-    | inr before ↦ inl before
-  ];
-  time = omega arith;
-  count = omega arith;
-  submissions = λ d le. refl;
-}
+  pub done-keeps : (outcome : Outcome) → (is_called host name ≡ true → is_some (sends_of host h c) ≡ true) → Keeps host h (Done name c outcome ∷ h)
+  done-keeps outcome sent = record {
+    sends = λ d. refl;
+    done = λ d e. or_right _ _ e;
+    ended = λ d e. elim (or_cases _ _ e) [
+      | inl own ↦ (let parts = and_parts _ _ own in inr (rw (eqb-true c d parts.1) at (sent parts.0)))
+      | inr before ↦ inl before
+    ];
+    time = omega arith;
+    count = omega arith;
+    submissions = λ d le. refl;
+  }
 
 -- THE COMMAND THAT IS DONE
 
@@ -86,12 +83,8 @@ tagged tag (Some x) e = refl
 answered-flies : (host : Host) (c : HostCommand) (f : List ℕ) (a : Answer) → answer_to host c f ≡ Some a → (is_some c.sends ≡ true) × (c.done ≡ false)
 answered-flies host c f a e =
     let h = some-then _ (head f) a e in
-    let own = and_parts _ _ (and_parts _ _ (and_parts _ _ (taken-if _ _ h.2)).0).1 in
+    let own = and_parts _ _ (and_parts _ _ (and_parts _ _ (if-some _ _ a h.2).0).0).1 in
     (tagged h.0.tag c.sends own.1, not-true _ own.0)
-  where
-    taken-if : (b : Bool) (o : Option Answer) → (if b then o else None) ≡ Some a → b ≡ true
-    taken-if true o e = refl
-    taken-if false o e = absurd (cc)
 
 pub done-flies : (s : Setup) (host : HostSetup) (h : List Entry) (c : ℕ) (outcome : Outcome) → Known host h
     → IsDone s host h c outcome → (is_some (sends_of host h c) ≡ true) × (was_done host h c ≡ false)

@@ -49,7 +49,7 @@ module _ (s : Setup) (host : HostSetup) (mine : IsNamed s host) (ok : IsSetup s)
         let o = some-such _ _ law in
         let its = host-there s name o.0 o.1 in
         kept h _ (sent-keeps host h name c number f other) (foreign-frame host _ _ (frames h)
-        (λ from. let same = request-source s o.0 host h c number f ok its.0 there o.2 from in not-both _ (rw (← same) at its.1) other)) x)
+        (λ from. let same = request-source s host ok there h number f o.0 c its.0 o.2 from in not-both _ (rw (← same) at its.1) other)) x)
   ]
 
   pub holds : (h : List Entry) → IsLawful s h → Holds s host h
@@ -62,12 +62,12 @@ module _ (s : Setup) (host : HostSetup) (mine : IsNamed s host) (ok : IsSetup s)
       kept h _ (submitted-keeps host h name c dev op (λ e. (some-and _ _ host (mine name e) l.0).next)) (λ all. all) (holds h l.1)
   holds (Sent name c number f ∷ h) l = sent h name c number f l.1 l.0 (holds h l.1)
   holds (Injected number f ∷ h) l = kept h (Injected number f ∷ h) (undone-keeps host h _ (λ c. refl) (λ c. refl) (omega arith) (omega arith) (λ c le. refl))
-      (foreign-frame host _ _ (frames h) (foreign-source s host h number f there l.0)) (holds h l.1)
+      (foreign-frame host _ _ (frames h) (foreign-source s host ok there h number f l.0)) (holds h l.1)
   holds (Arrived dev frame (Replied e number r) ∷ h) l =
       let slot = some-such _ _ l.0 in
       let port = (found _ s.slots slot.0 slot.1).0 in
       kept h (Arrived dev frame (Replied e number r) ∷ h) (undone-keeps host h _ (λ c. refl) (λ c. refl) (omega arith) (omega arith) (λ c le. refl))
-      (foreign-frame host _ _ (frames h) (replied-source s host slot.0 h slot.2.bytes r e number ok there port slot.2.law)) (holds h l.1)
+      (foreign-frame host _ _ (frames h) (replied-source s host ok there h number slot.2.bytes slot.0 r e port slot.2.law)) (holds h l.1)
   holds (Done name c outcome ∷ h) l =
       kept h _ (done-keeps host h name c outcome (λ e. (done-flies s host h c outcome (known s host mine h l.1) (some-and _ _ host (mine name e) l.0)).0))
       (λ all. all) (holds h l.1)

@@ -14,7 +14,7 @@ use Rattle.aoe_history.specs.CommandView.{in_conflict, is_live, sends_of, upto, 
 use Rattle.aoe_history.specs.Frames.{clock}
 use Rattle.aoe_history.specs.HostLaw.{IsSent}
 use Rattle.aoe_history.specs.Setup.{HostSetup, Setup}
-use Rattle.aoe_history.proofs.hosts.CommandLemmas.{sent-at, view-at, Known}
+use Rattle.aoe_history.proofs.hosts.CommandLemmas.{sent-at, sent-view, view-at, Known}
 use Rattle.aoe_history.proofs.hosts.SendLemmas.{clear-past, clear-unsent, filtered, none-of, IsPast}
 use Rattle.aoe_history.proofs.hosts.SentLemmas.{spelled-request}
 use Rattle.std.specs.Option.{option_map}
@@ -86,11 +86,11 @@ send-by s host h c sent false k ticket may =
 pub ready : (s : Setup) (host : HostSetup) (h : List Entry) (c number : ℕ) (f : List ℕ) → Known host h
     → IsSent s host h c number f → MayBeSent s.life host h c f
 ready s host h c number f k x =
-    let v = view-at host h c x.frame.command k x.frame.there (ap (λ t. t.0) x.frame.ticket ∙ x.ticket_is) in
+    let v = sent-view s host h c number f k x in
     record {
       tag = x.sent.tag;
       above = v.above;
       submitted = v.submitted;
-      request = rw (← v.is) at (spelled-request s host h x.frame.command.op x.frame.command.device x.sent.path x.sent.tag f x.tag_fits x.frame.bytes);
+      request = rw (← v.is) at (spelled-request s host h _ _ _ _ f x.tag_fits x.frame.bytes);
       may = send-by s host h c x.sent x.sent.again k x.ticket_is x.may;
     }

@@ -21,7 +21,7 @@ use Rattle.aoe_initiator.specs.Request.{request, request_header}
 use Rattle.aoe_history.specs.declared.entry.Entry.{Entry}
 use Rattle.aoe_history.specs.Commands.{devices_of, host_after}
 use Rattle.aoe_history.specs.CommandView.{IsRequest}
-use Rattle.aoe_history.specs.Setup.{host_called, is_called, is_slot, HostSetup, IsAttachedTo, IsSetup, Setup}
+use Rattle.aoe_history.specs.Setup.{host_called, is_called, HostSetup, IsAttachedTo, IsSetup, Setup}
 use Rattle.aoe_history.proofs.replies.RequestLemmas.{fields-are, request-head}
 use Rattle.aoe_history.proofs.LogicLemmas.{some-mapped, some-then}
 use Rattle.aoe_initiator.proofs.ListLemmas.{Contains-cons, Contains-get}
@@ -80,25 +80,22 @@ pub ids-same : (a b : TargetId) → same_id a b ≡ true → a ≡ b
 ids-same a b e = let p = and_parts _ _ e in λ i. record { major = eqb-true a.major b.major p.0 i; minor = eqb-true a.minor b.minor p.1 i }
 
 -- a request's header fits, and is read in it
-pub request-fits : (s : Setup) (host : HostSetup) (device : DeviceNo) (op : Op) (tag : ℕ) (f : List ℕ)
-    → IsSetup s → Contains s.hosts host → (r : IsRequest host device op tag f)
-    → Fits (request_header op r.about.id r.remote r.local tag)
-request-fits s host device op tag f ok mine r =
-    let a : IsAttachedTo s r.about = ok.attached host r.about mine (Contains-get host.devices device.0 r.about r.there) in
-    let there = found (λ slot. is_slot slot r.about.id) s.slots a.slot a.there in
-    let port : holds a.slot.station.ports.items r.remote ≡ true = rw a.remotes at r.other in
-    let major = rw (ids-same a.slot.station.id r.about.id there.1) at (ok.majors a.slot there.0) in
-    record {
-      dst = ok.shelf_addresses a.slot r.remote there.0 port;
-      src = ok.host_addresses host r.local mine r.own;
-      version = omega arith;
-      flags = inl refl;
-      major = omega arith;
-      tag = r.fits;
-    }
+module _ (s : Setup) (host : HostSetup) (device : DeviceNo) (op : Op) (tag : ℕ) (f : List ℕ) (ok : IsSetup s) (mine : Contains s.hosts host)
+    (r : IsRequest host device op tag f) where
+  pub request-fits : Fits (request_header op r.about.id r.remote r.local tag)
+  request-fits =
+      let a : IsAttachedTo s r.about = ok.attached host r.about mine (Contains-get host.devices device.0 r.about r.there) in
+      let there = found _ s.slots a.slot a.there in
+      let port : holds a.slot.station.ports.items r.remote ≡ true = rw a.remotes at r.other in
+      let major = rw (ids-same a.slot.station.id r.about.id there.1) at (ok.majors a.slot there.0) in
+      record {
+        dst = ok.shelf_addresses a.slot r.remote there.0 port;
+        src = ok.host_addresses host r.local mine r.own;
+        version = omega arith;
+        flags = inl refl;
+        major = omega arith;
+        tag = r.fits;
+      }
 
-pub request-header : (s : Setup) (host : HostSetup) (device : DeviceNo) (op : Op) (tag : ℕ) (f : List ℕ)
-    → IsSetup s → Contains s.hosts host → (r : IsRequest host device op tag f)
-    → fields f ≡ request_header op r.about.id r.remote r.local tag
-request-header s host device op tag f ok mine r =
-    ap fields r.is ∙ fields-are _ _ (request-head _ _ _ _ _ (request-fits s host device op tag f ok mine r))
+  pub request-header : fields f ≡ request_header op r.about.id r.remote r.local tag
+  request-header = ap fields r.is ∙ fields-are _ _ (request-head _ _ _ _ _ request-fits)

@@ -107,16 +107,6 @@ port-holds station h lt = elim (cases_Bool (holds station.ports.items h.dst)) [
   | inr other ↦ rw other (holds-each station.ports.items 0 h.dst lt)
 ]
 
-reply-source : (s : Setup) (slot : SlotSetup) (h : List Entry) (f r : List ℕ) (e : Effect) (number : ℕ)
-    → IsSetup s → Contains s.slots slot → KeepsShelfLaw slot h f (Replied e number r)
-    → holds slot.station.ports.items (fields r).src ≡ true
-unfolding spelled
-reply-source s slot h f r e number ok there law =
-    let reply = replies slot.station (state_after slot h) f r e (verdict_after slot h f) law in
-    let port = port-holds slot.station (fields f) (ok.some_port slot there) in
-    let long = is-long f (has-head slot.station (state_after slot h) f r e law) in
-    rw (reply.is, source-is (replying slot.station (fields f) reply.error) reply.args (source-length f long) (ok.shelf_addresses slot _ there port)) port
-
 -- FRAMES OF OTHERS
 
 pub some-such : {X : Type 0} (P : X → Type 0) (o : Option X) → IsSomeAnd o P → (x : X) × (o ≡ Some x) × P x
@@ -127,21 +117,25 @@ some-such P (Some x) a = (x, refl, a)
 pub none-there : {X : Type 0} (p : X → Bool) (xs : List X) (x : X) → list_any p xs ≡ false → Contains xs x → p x ≡ false
 none-there = none-of
 
--- a frame that comes from elsewhere
-pub foreign-source : (s : Setup) (host : HostSetup) (h : List Entry) (number : ℕ) (f : List ℕ)
-    → Contains s.hosts host → IsForeign s h number f → is_from host f ≡ true → ⊥
-foreign-source s host h number f mine x from = both_ways _ (none-of _ s.hosts host (or_parts _ _ x.source).0 mine) from
+module _ (s : Setup) (host : HostSetup) (ok : IsSetup s) (mine : Contains s.hosts host) (h : List Entry) (number : ℕ) (f : List ℕ) where
+  -- a frame that comes from elsewhere
+  pub foreign-source : IsForeign s h number f → is_from host f ≡ true → ⊥
+  foreign-source x from = both_ways _ (none-of _ s.hosts host (or_parts _ _ x.source).0 mine) from
 
--- a reply
-pub replied-source : (s : Setup) (host : HostSetup) (slot : SlotSetup) (h : List Entry) (f r : List ℕ) (e : Effect) (number : ℕ)
-    → IsSetup s → Contains s.hosts host → Contains s.slots slot
-    → KeepsShelfLaw slot h f (Replied e number r) → is_from host r ≡ true → ⊥
-replied-source s host slot h f r e number ok mine there law from = ok.shelf_ports host slot (fields r).src mine there from (reply-source s slot h f r e number ok there law)
+  -- a reply
+  pub replied-source : (slot : SlotSetup) (r : List ℕ) (e : Effect) → Contains s.slots slot
+      → KeepsShelfLaw slot h f (Replied e number r) → is_from host r ≡ true → ⊥
+  unfolding spelled
+  replied-source slot r e there law from =
+      let reply = replies slot.station (state_after slot h) f r e (verdict_after slot h f) law in
+      let port = port-holds slot.station (fields f) (ok.some_port slot there) in
+      let long = is-long f (has-head slot.station (state_after slot h) f r e law) in
+      let source = source-is (replying slot.station (fields f) reply.error) reply.args (source-length f long) (ok.shelf_addresses slot _ there port) in
+      ok.shelf_ports host slot (fields r).src mine there from (rw (reply.is, source) port)
 
--- a request of a host
-pub request-source : (s : Setup) (o host : HostSetup) (h : List Entry) (c number : ℕ) (f : List ℕ) → IsSetup s → Contains s.hosts o
-    → Contains s.hosts host → IsSent s o h c number f → is_from host f ≡ true → host ≡ o
-request-source s o host h c number f ok other mine x from =
-    let r = spelled-request s o h x.frame.command.op x.frame.command.device x.sent.path x.sent.tag f x.tag_fits x.frame.bytes in
-    let is : (fields f).src.0 ≡ r.local.0 = ap (λ (z : Header). z.src.0) (request-header s o _ _ x.sent.tag f ok other r) in
-    ok.host_ports host o r.local mine other (rw is at from) r.own
+  -- a request of a host
+  pub request-source : (o : HostSetup) (c : ℕ) → Contains s.hosts o → IsSent s o h c number f → is_from host f ≡ true → host ≡ o
+  request-source o c other x from =
+      let r = spelled-request s o h _ _ _ _ f x.tag_fits x.frame.bytes in
+      let is : (fields f).src.0 ≡ r.local.0 = ap (λ (z : Header). z.src.0) (request-header s o _ _ _ f ok other r) in
+      ok.host_ports host o r.local mine other (rw is at from) r.own
