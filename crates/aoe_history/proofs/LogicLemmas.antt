@@ -2,6 +2,7 @@
 use Rattle.std.proofs.Common.{if◌then◌else◌, not, nat_eq, ◌&&◌, ◌||◌, ℕ, suc, ◌≤◌, ◌≡◌, ◌≢◌, Bool, true, false, List, [], ◌∷◌, ◌++◌, map, Option, Some, None, refl, ap, arith}
 use Rattle.std.specs.Prelude.{Result, Ok, Err, IsSomeAnd, OnErr, OnOk, option_and_then, option_map}
 use Rattle.std.proofs.lemmas.Bool as bool
+use Rattle.std.proofs.lemmas.Bool.Decides.{nat_tests}
 
 pub if-true : {X : Type 0} (b : Bool) (x y : X) → b ≡ true → (if b then x else y) ≡ x
 if-true b x y e = rw e
@@ -25,13 +26,11 @@ pub untrue : (b : Bool) → (b ≡ true → ⊥) → b ≡ false
 untrue = bool.false_from_ne_true
 
 pub if-some : {X : Type 0} (b : Bool) (o : Option X) (y : X) → (if b then o else None) ≡ Some y → (b ≡ true) × (o ≡ Some y)
-if-some true o y e = (refl, e)
-if-some false o y e = absurd (cc)
+if-some b o y e = grind arith
 
 -- what is of another number isn't meant
 pub not-of : (b : Bool) (c d : ℕ) → (b ≡ true → c ≢ d) → (b && nat_eq c d) ≡ false
-not-of true c d other = bool.ne_eqb c d (other refl)
-not-of false c d other = refl
+not-of b c d other = grind (arith, nat_tests)
 
 pub other-number : (b : Bool) (n k : ℕ) → k ≤ n → (b && nat_eq (suc n) k) ≡ false
 other-number b n k le = not-of b (suc n) k (λ e p. omega arith)

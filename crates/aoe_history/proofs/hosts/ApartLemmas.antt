@@ -119,8 +119,7 @@ module _ (life : ℕ) (host : HostSetup) (h : List Entry) (b : Base life host h)
 
 -- a frame of a host that can arrive is of a command that is under way
 still-on : (life now birth last : ℕ) (done : Bool) → now ≤ birth + life → birth ≤ last → not (done && nat_lt life (now - last)) ≡ true
-still-on life now birth last true le lt = grind (arith, nat_tests)
-still-on life now birth last false le lt = refl
+still-on life now birth last done le lt = grind (arith, nat_tests)
 
 pub arriving-active : (life : ℕ) (host : HostSetup) (h : List Entry) (number : ℕ) (frame : SentFrame)
     → numbered (frames h) number ≡ Some frame → arriving life h number ≡ Some frame.bytes → (x : IsSentFor host h frame)

@@ -44,8 +44,7 @@ pub ids-same : (a b : TargetId) → same_id a b ≡ true → a ≡ b
 ids-same = sent.ids-same
 
 no-backlog : (held : ℕ) (o : Option SubmitRefusal) → or_backlog held o ≡ None → o ≡ None
-no-backlog held None e = refl
-no-backlog held (Some r) e = absurd (cc)
+no-backlog held o e = grind arith
 
 pub record IsSpan (about : Attached) (at count : ℕ) : Type 0 where
   pub some : count ≢ 0
@@ -66,8 +65,7 @@ askable-op about _ m t can e = (tt, tt)
 
 -- a ticket that isn't that of a new submission
 by-count : (b : Bool) (t c n : ℕ) → (b && nat_eq t c) ≡ false → (b ≡ true → t ≡ suc n) → c ≤ (if b then suc n else n) → c ≤ n
-by-count true t c n other new le = let is = new refl in let differs = eqb-false t c other in omega arith
-by-count false t c n other new le = le
+by-count b t c n other new le = grind (arith, nat_tests)
 
 module _ (s : Setup) (host : HostSetup) (mine : IsNamed s host) (ok : IsSetup s) (there : Contains s.hosts host) where
   askable : (h : List Entry) (c : ℕ) (dev : TargetId) (op : Op) → IsSubmitted s host h c dev op → IsAskable host (record { dev = dev; op = op })

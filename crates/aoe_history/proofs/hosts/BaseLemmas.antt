@@ -40,8 +40,7 @@ pub record Keeps (host : HostSetup) (h n : List Entry) : Type 0 where
 -- a command that is live was so before
 pub live-by : (rest now later last : ℕ) (done done2 : Bool) → now ≤ later → (done ≡ true → done2 ≡ true)
     → not (done2 && nat_lt rest (later - last)) ≡ true → not (done && nat_lt rest (now - last)) ≡ true
-live-by rest now later last false done2 le d e = refl
-live-by rest now later last true done2 le d e = let is = rw (d refl) at e in grind (arith, nat_tests)
+live-by rest now later last done done2 le d e = grind (arith, nat_tests)
 
 pub keeps-base : (life : ℕ) (host : HostSetup) (h n : List Entry) → Keeps host h n → Base life host h → Base life host n
 keeps-base life host h n k b = record {
@@ -66,8 +65,7 @@ abbrev pub more : HostSetup → List Entry → ℕ → List ℕ → ℕ → Send
 more host h c f d = one_more (fields f).tag (record { 0 = clock h }) (path_of host (submission host h c) f) (timeout_at host h d c f) (sends_of host h d)
 
 pub more-last : (tag : ℕ) (now : Millis) (path : PathNo) (t : ℕ) (o : Option Sending) → (one_more tag now path t o).last ≡ now
-more-last tag now path t None = refl
-more-last tag now path t (Some x) = refl
+more-last tag now path t o = grind arith
 
 pub more-tag : (tag : ℕ) (now : Millis) (path : PathNo) (t : ℕ) (x : Sending) (o : Option Sending)
     → o ≡ Some x → (one_more tag now path t o).tag ≡ x.tag
@@ -77,12 +75,10 @@ pub sent-last : (host : HostSetup) (h : List Entry) (c : ℕ) (f : List ℕ) (d 
 sent-last host h c f d = ap (λ (m : Millis). m.0) (more-last _ _ _ _ (sends_of host h d))
 
 is-some-if : (b : Bool) (x : Sending) (o : Option Sending) → is_some o ≡ true → is_some (if b then Some x else o) ≡ true
-is-some-if true x o e = refl
-is-some-if false x o e = e
+is-some-if b x o e = grind arith
 
 finished-done : (sends : Option Sending) (done : Bool) → finished (stage sends done) ≡ true → done ≡ true
-finished-done (Some s) true e = refl
-finished-done _ _ e = absurd (cc)
+finished-done sends done e = grind arith
 
 module _ (life : ℕ) (host : HostSetup) (h : List Entry) (name : ArrayVec ℕ) (c number : ℕ) (f : List ℕ)
     (mine : is_called host name ≡ true) (r : MayBeSent life host h c f) (reads : (fields f).tag ≡ r.tag) where

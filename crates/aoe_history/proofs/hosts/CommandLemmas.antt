@@ -35,12 +35,10 @@ same-number : (n c : ℕ) → nat_eq n c ≡ nat_eq c n
 same-number n c = grind (arith, nat_tests)
 
 sent-if : (b : Bool) (x : HostCommand) (o : Option Sending) → (if b then record x { sends = o } else x) ≡ record x { sends = if b then o else x.sends }
-sent-if true x o = refl
-sent-if false x o = refl
+sent-if b x o = grind arith
 
 ended-if : (b : Bool) (x : HostCommand) → (if b then record x { done = true } else x) ≡ record x { done = b || x.done }
-ended-if true x = refl
-ended-if false x = refl
+ended-if b x = grind arith
 
 map-upto : {Y : Type 0} (f g : ℕ → Y) (n : ℕ) → ((k : ℕ) → k ≤ n → f k ≡ g k) → map f (upto n) ≡ map g (upto n)
 map-upto f g zero e = refl

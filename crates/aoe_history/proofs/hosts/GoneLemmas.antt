@@ -31,8 +31,7 @@ keeps-gone life host h n k b g c d x y p q above lt co eff rests =
     later now then last le e = grind (arith, nat_tests)
 
 gone-by : (life now : ℕ) (y : Sending) (done : Bool) → all_gone life now (stage (Some y) done) ≡ true → is_gone life now y.last.0 ≡ true
-gone-by life now y true e = e
-gone-by life now y false e = e
+gone-by life now y done e = grind arith
 
 module _ (life : ℕ) (host : HostSetup) (h : List Entry) (name : ArrayVec ℕ) (c number : ℕ) (f : List ℕ)
     (mine : is_called host name ≡ true) (r : MayBeSent life host h c f) (reads : (fields f).tag ≡ r.tag) (b : Base life host h) (g : AreGone life host h) where

@@ -54,7 +54,7 @@ module _ (s : Setup) (host : HostSetup) (mine : IsNamed s host) (ok : IsSetup s)
 
   pub holds : (h : List Entry) → IsLawful s h → Holds s host h
   holds [] l = record {
-    base = record { bounds = λ c x e. absurd (cc); last = λ c x e. absurd (cc); done = λ c e. absurd (cc); order = λ c d x e a lt co. absurd (cc); tags = λ c d x y p q u v t. absurd (cc) };
+    base = search arith;
     frames = λ k f e from. absurd (cc);
     gone = λ c d x y p q above lt co eff rests. absurd (cc);
   }

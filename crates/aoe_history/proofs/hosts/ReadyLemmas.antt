@@ -56,9 +56,7 @@ view-there host h d k above le = rw k.list (Contains-map (view host h) (upto (ti
 -- SENDS
 
 never-sent : (sends : Option Sending) (done : Bool) → unsent (stage sends done) ≡ true → sends ≡ None
-never-sent None done e = refl
-never-sent (Some s) true e = absurd (cc)
-never-sent (Some s) false e = absurd (cc)
+never-sent sends done e = grind arith
 
 -- what may be sent next
 send-by : (s : Setup) (host : HostSetup) (h : List Entry) (c : ℕ) (sent : step.Sent) (again : Bool) → Known host h → sent.ticket.0 ≡ c
