@@ -90,10 +90,7 @@ module _ (life : ℕ) (host : HostSetup) (h : List Entry) (name : ArrayVec ℕ) 
 
   -- it is the one that was sent, or another that was sent before
   pub sent-cases : (d : ℕ) (x : Sending) → sends_of host after d ≡ Some x → ((d ≡ c) × (x ≡ more host h c f d)) ⊎ (sends_of host h d ≡ Some x)
-  sent-cases d x e = elim (cases_Bool (is_called host name && nat_eq c d)) [
-    | inl own ↦ inl (sym (eqb-true c d (and_parts _ _ own).1), (let is = rw own at e in cc))
-    | inr other ↦ inr (rw other at e)
-  ]
+  sent-cases d x e = grind (arith, nat_tests)
 
   pub tag-is : (more host h c f c).tag ≡ r.tag
   tag-is = elim r.may [ inl first ↦ rw first.unsent reads | inr again ↦ rw again.sent again.same ]

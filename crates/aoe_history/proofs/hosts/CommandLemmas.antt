@@ -65,7 +65,7 @@ module _ (host : HostSetup) (h : List Entry) (k : Known host h) where
       | inl own ↦ record {
         list = rw (own, k.list, k.time, map-map) (map-upto _ (view host n) (tickets host h) (λ d in'. rw (own, same-number d c) (sent-if _ (view host h d) _)));
         time = rw own k.time;
-        unsent = λ d lt. rw (not-of _ c d (λ own e. let m = le own in omega arith)) (k.unsent d lt);
+        unsent = λ d lt. grind (arith, nat_tests, k.unsent d lt);
         undone = k.undone;
       }
       | inr other ↦ same-known n (rw other) (rw other k.time) refl (λ d. rw other)
@@ -77,7 +77,7 @@ module _ (host : HostSetup) (h : List Entry) (k : Known host h) where
         list = rw (own, k.list, map-map) (map-upto _ (view host n) (tickets host h) (λ d in'. rw (own, same-number d c) (ended-if _ (view host h d))));
         time = rw own k.time;
         unsent = k.unsent;
-        undone = λ d lt. rw (not-of _ c d (λ own e. let m = le own in omega arith)) (k.undone d lt);
+        undone = λ d lt. grind (arith, nat_tests, k.undone d lt);
       }
       | inr other ↦ same-known n (rw other) (rw other k.time) refl (λ d. rw other)
     ]

@@ -2,6 +2,7 @@
 use Rattle.std.proofs.Common.{ℕ, suc, ◌≤◌, ◌≡◌, ◌⊎◌, inl, inr, nat_eq, ◌==◌, true, false, ◌&&◌, List, ◌∷◌, length, Option, Some, None, is_some, refl, sym, ap, ◌∙◌, arith}
 use Rattle.std.proofs.lemmas.Bool.{and_parts, cases_Bool, eqb-true, not-true, or_cases, or_right}
 use Rattle.std.proofs.lemmas.Slice.Eq.{bytes_eq-Decides}
+use Rattle.std.proofs.lemmas.Bool.Decides.{nat_tests}
 use Rattle.arrayvec.specs.ArrayVec.{ArrayVec}
 use Rattle.aoe_base.specs.declared.address.TargetId.{TargetId}
 use Rattle.aoe_flight.specs.declared.outstanding.Outstanding.{Outstanding}
@@ -55,7 +56,7 @@ module _ (host : HostSetup) (h : List Entry) (name : ArrayVec ℕ) (c : ℕ) whe
   pub submitted-keeps : (dev : TargetId) (op : Op) → (is_called host name ≡ true → c ≡ suc (tickets host h))
       → Keeps host h (Submitted name c dev op ∷ h)
   submitted-keeps dev op new = undone-keeps host h _ (λ d. refl) (λ d. refl) (omega arith) (grind arith)
-      (λ d le. rw (not-of _ c d (λ own e. let is = new own in omega arith)))
+      (λ d le. grind (arith, nat_tests))
 
   pub sent-keeps : (number : ℕ) (f : List ℕ) → is_called host name ≡ false → Keeps host h (Sent name c number f ∷ h)
   sent-keeps number f other = undone-keeps host h (Sent name c number f ∷ h) (λ d. rw other) (λ d. refl) (omega arith) (omega arith) (λ d le. refl)
@@ -64,10 +65,7 @@ module _ (host : HostSetup) (h : List Entry) (name : ArrayVec ℕ) (c : ℕ) whe
   done-keeps outcome sent = record {
     sends = λ d. refl;
     done = λ d e. or_right _ _ e;
-    ended = λ d e. elim (or_cases _ _ e) [
-      | inl own ↦ (let parts = and_parts _ _ own in inr (rw (eqb-true c d parts.1) at (sent parts.0)))
-      | inr before ↦ inl before
-    ];
+    ended = λ d e. grind (arith, nat_tests);
     time = omega arith;
     count = omega arith;
     submissions = λ d le. refl;
@@ -80,10 +78,7 @@ tagged tag sends e = grind arith
 
 -- a command that is answered was sent, and isn't done
 answered-flies : (host : Host) (c : HostCommand) (f : List ℕ) (a : Answer) → answer_to host c f ≡ Some a → (is_some c.sends ≡ true) × (c.done ≡ false)
-answered-flies host c f a e =
-    let h = some-then _ (head f) a e in
-    let own = and_parts _ _ (and_parts _ _ (and_parts _ _ (if-some _ _ a h.2).0).0).1 in
-    (tagged h.0.tag c.sends own.1, not-true _ own.0)
+answered-flies host c f a e = grind (arith, nat_tests)
 
 pub done-flies : (s : Setup) (host : HostSetup) (h : List Entry) (c : ℕ) (outcome : Outcome) → Known host h
     → IsDone s host h c outcome → (is_some (sends_of host h c) ≡ true) × (was_done host h c ≡ false)
@@ -102,10 +97,7 @@ abbrev pub AreSentFor : HostSetup → List Entry → List SentFrame → Type 0
 AreSentFor host h fs = (k : ℕ) (f : SentFrame) → numbered fs k ≡ Some f → reading.is_from host f.bytes ≡ true → IsSentFor host h f
 
 pub numbered-cases : (g : SentFrame) (fs : List SentFrame) (k : ℕ) (f : SentFrame) → numbered (g ∷ fs) k ≡ Some f → (g ≡ f) ⊎ (numbered fs k ≡ Some f)
-numbered-cases g fs k f e = elim (cases_Bool (k == suc (length fs))) [
-  | inl own ↦ inl (let is = rw own at e in cc)
-  | inr other ↦ inr (rw other at e)
-]
+numbered-cases g fs k f e = grind arith
 
 pub keeps-frames : (life : ℕ) (host : HostSetup) (h n : List Entry) (fs : List SentFrame) → Keeps host h n
     → Base life host h → AreSentFor host h fs → AreSentFor host n fs

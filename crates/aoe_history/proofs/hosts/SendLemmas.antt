@@ -1,5 +1,6 @@
 -- What a send of a host says of its earlier commands.
 use Rattle.std.proofs.Common.{ℕ, ◌<◌, ◌≡◌, ◌⊎◌, inl, inr, Bool, true, false, ◌&&◌, ◌||◌, List, [], ◌∷◌, Option, Some, None, refl, ap, arith, Contains}
+use Rattle.std.proofs.lemmas.Bool.Decides.{nat_tests}
 use Rattle.std.specs.List.{cons_option, filter_map, list_any}
 use Rattle.std.proofs.lemmas.Bool.{and_parts, both_ways, lt-ltb, not-false, not-true, or_parts}
 use Rattle.std.proofs.lemmas.List.Folds.{list_any_at}
@@ -26,8 +27,7 @@ pub none-of : {X : Type 0} (p : X → Bool) (xs : List X) (x : X) → list_any p
 none-of p xs x e there = untrue (p x) (λ t. both_ways _ e (list_any_at p xs there.0 x there.1 (rw there.2 t)))
 
 option-cases : {Y : Type 0} (o : Option Y) (ys : List Y) (y : Y) → Contains (cons_option o ys) y → (o ≡ Some y) ⊎ Contains ys y
-option-cases None ys y there = inr there
-option-cases (Some a) ys y there = elim (Contains-cons_cases a y ys there) [ inl own ↦ inl (ap Some own) | inr behind ↦ inr behind ]
+option-cases o ys y there = grind (arith, Contains-cons_cases)
 
 behind-option : {Y : Type 0} (o : Option Y) (ys : List Y) (y : Y) → Contains ys y → Contains (cons_option o ys) y
 behind-option None ys y there = there
@@ -58,10 +58,7 @@ pub record IsPast (life now : ℕ) (earlier later : Command) : Type 0 where
 past-by : (life now : ℕ) (earlier later : Command) → keeps_back life now earlier later ≡ false
     → earlier.ticket.0 < later.ticket.0 → conflict earlier later ≡ true
     → IsPast life now earlier later
-past-by life now earlier later e lt co = let parts = or_parts _ _ (rw (lt-ltb _ _ lt, co) at e) in record {
-  done = not-false _ parts.0;
-  gone = λ effect rests. not-false _ (rw (effect, rests) at parts.1);
-}
+past-by life now earlier later e lt co = grind (arith, nat_tests)
 
 -- a command that is clear was never sent, and each earlier one in conflict at its device is past
 pub clear-past : (life now : ℕ) (cs : List HostCommand) (c x : HostCommand) → is_clear_at life now cs c ≡ true

@@ -1,5 +1,6 @@
 -- Where the frames in the network come from, by the address of their source.
 use Rattle.std.proofs.Common.{is_some, slice_range, nat_le, ℕ, ◌<◌, ◌≤◌, ◌≡◌, inl, inr, Bool, true, false, List, ◌++◌, length, Option, Some, None, IsSomeAnd, refl, ap, arith, Contains, append_assoc}
+use Rattle.std.proofs.lemmas.Bool.Decides.{nat_tests}
 use Rattle.std.specs.List.{list_any}
 use Rattle.std.proofs.lemmas.Bool.{both_ways, cases_Bool, leb-true, or_parts}
 use Rattle.std.proofs.lemmas.List.{drop_at, length-drop, length-take, take_at}
@@ -85,10 +86,10 @@ replies station k f r e _ x = absurd (cc)
 pub has-head : (station : Station) (k : State) (f r : List ℕ) (e : Effect)
     → Allows station k f (verdict station k.lists f) (replied e r) → is_some (head f) ≡ true
 unfolding verdict
-has-head station k f r e x = elim (cases_Bool (is_some (head f))) [ inl there ↦ there | inr none ↦ absurd (let is = rw none at x in cc) ]
+has-head station k f r e x = grind arith
 
 pub is-long : (f : List ℕ) → is_some (head f) ≡ true → 24 ≤ length f
-is-long f e = elim (cases_Bool (nat_le 24 (length f))) [ inl le ↦ leb-true 24 (length f) le | inr less ↦ absurd (let none = rw less at e in cc) ]
+is-long f e = grind (arith, nat_tests)
 
 pub source-length : (f : List ℕ) → 24 ≤ length f → length (fields f).src.0 ≡ 6
 source-length f le = simp (length-take, length-drop) (omega arith)
