@@ -60,12 +60,6 @@ conflicts host slot h d c a b p q e =
     let same = sym (ids-same _ p.dev p.slot_is) ∙ ids-same _ q.dev q.slot_is in
     rw (p.is, q.is, same, eq-eqb (device_no host q.dev).0 _ refl) e
 
-write-flush : (at : ℕ) (bytes : List ℕ) → op_clash (Write at bytes) Flush ≡ true
-write-flush at bytes = grind (arith, nat_tests)
-
-flush-write : (at : ℕ) (bytes : List ℕ) → op_clash Flush (Write at bytes) ≡ true
-flush-write at bytes = grind (arith, nat_tests)
-
 -- UNDER WAY
 
 module _ (life : ℕ) (host : HostSetup) (h : List Entry) (b : Base life host h) (g : AreGone life host h) where
@@ -101,8 +95,8 @@ module _ (life : ℕ) (host : HostSetup) (h : List Entry) (b : Base life host h)
       let n = writes-to slot (submission host h d) s w wd in
       elim (cases_order c d) [
         | inl same ↦ (let none = rw (← same, asks.is, asks.slot_is) at wd in cc)
-        | inr (inl lt) ↦ not-both _ (earlier-done c d q p lt asks n.asks (flush-write n.at n.bytes)) flying
-        | inr (inr lt) ↦ earlier-over d c p q lt n.asks asks (write-flush n.at n.bytes) refl refl e
+        | inr (inl lt) ↦ not-both _ (earlier-done c d q p lt asks n.asks (grind (arith, nat_tests))) flying
+        | inr (inr lt) ↦ earlier-over d c p q lt n.asks asks (grind (arith, nat_tests)) refl refl e
       ]
 
   -- no write of a sector flies beside a read of it
@@ -118,13 +112,12 @@ module _ (life : ℕ) (host : HostSetup) (h : List Entry) (b : Base life host h)
       ]
 
 -- a frame of a host that can arrive is of a command that is under way
-still-on : (life now birth last : ℕ) (done : Bool) → now ≤ birth + life → birth ≤ last → not (done && nat_lt life (now - last)) ≡ true
-still-on life now birth last done le lt = grind (arith, nat_tests)
-
 pub arriving-active : (life : ℕ) (host : HostSetup) (h : List Entry) (number : ℕ) (frame : SentFrame)
     → numbered (frames h) number ≡ Some frame → arriving life h number ≡ Some frame.bytes → (x : IsSentFor host h frame)
     → is_active life host h x.ticket x.sending ≡ true
 arriving-active life host h number frame e fresh x =
     let a = arrives life h number frame.bytes fresh in
     let born : birth_of h number ≡ frame.birth = rw e in
-    still-on life (clock h) frame.birth x.sending.last.0 _ (let le = a.fresh in omega arith) x.time
+    let le = a.fresh in
+    let time = x.time in
+    grind (arith, nat_tests)

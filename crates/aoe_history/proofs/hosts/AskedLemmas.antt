@@ -55,10 +55,6 @@ askable-op about _ m t can e = (tt, tt)
 
 -- SUBMISSIONS
 
--- a ticket that isn't that of a new submission
-by-count : (b : Bool) (t c n : ℕ) → (b && nat_eq t c) ≡ false → (b ≡ true → t ≡ suc n) → c ≤ (if b then suc n else n) → c ≤ n
-by-count b t c n other new le = grind (arith, nat_tests)
-
 module _ (s : Setup) (host : HostSetup) (mine : IsNamed s host) (ok : IsSetup s) (there : Contains s.hosts host) where
   askable : (h : List Entry) (c : ℕ) (dev : TargetId) (op : Op) → IsSubmitted s host h c dev op → IsAskable host (record { dev = dev; op = op })
   askable h c dev op x =
@@ -95,7 +91,7 @@ module _ (s : Setup) (host : HostSetup) (mine : IsNamed s host) (ok : IsSetup s)
     | inl own ↦ (record { dev = dev; op = op }, rw own)
     | inr other ↦ (
         let next = λ (own : is_called host name ≡ true). (some-and _ _ host (mine name own) l.0).next in
-        rw other (submitted-there h l.1 c above (by-count _ t c _ other next le)))
+        rw other (submitted-there h l.1 c above (grind (arith, nat_tests))))
   ]
   submitted-there (_ ∷ h) l c above le = submitted-there h l.1 c above le
 
@@ -109,13 +105,9 @@ there-of s host h x = submitted-there s host (named s x.name host x.called) x.se
 
 -- FRAMES AT A SLOT
 
-heard-number : (a b any : ℕ) → (a == b || a == any) ≡ true → a < any → nat_eq b a ≡ true
-heard-number a b any e lt = grind (arith, nat_tests)
-
 -- a target that hears a request with a number of its own has that number
 heard-at : (station : Station) (h : Header) → is_heard station h ≡ true → h.id.major < 65535 → h.id.minor < 255 → same_id station.id h.id ≡ true
-heard-at station h e major minor =
-    grind (arith, nat_tests)
+heard-at station h e major minor = grind (arith, nat_tests)
 
 -- what a write asks stands in its frame
 data-is : (f : List ℕ) (op : Op) (at : ℕ) (bytes : List ℕ) (id : TargetId) (remote local : Mac) (tag : ℕ) → op ≡ Write at bytes

@@ -74,12 +74,6 @@ more-tag tag now path t x o e = rw e
 pub sent-last : (host : HostSetup) (h : List Entry) (c : ℕ) (f : List ℕ) (d : ℕ) → (more host h c f d).last.0 ≡ clock h
 sent-last host h c f d = ap (λ (m : Millis). m.0) (more-last _ _ _ _ (sends_of host h d))
 
-is-some-if : (b : Bool) (x : Sending) (o : Option Sending) → is_some o ≡ true → is_some (if b then Some x else o) ≡ true
-is-some-if b x o e = grind arith
-
-finished-done : (sends : Option Sending) (done : Bool) → finished (stage sends done) ≡ true → done ≡ true
-finished-done sends done e = grind arith
-
 module _ (life : ℕ) (host : HostSetup) (h : List Entry) (name : ArrayVec ℕ) (c number : ℕ) (f : List ℕ)
     (mine : is_called host name ≡ true) (r : MayBeSent life host h c f) (reads : (fields f).tag ≡ r.tag) where
   abbrev pub after : List Entry
@@ -98,7 +92,7 @@ module _ (life : ℕ) (host : HostSetup) (h : List Entry) (name : ArrayVec ℕ) 
   module _ (b : Base life host h) where
     own-order : (d : ℕ) → 0 < d → d < c → in_conflict host h d c ≡ true → was_done host h d ≡ true
     own-order d above lt co = elim r.may [
-      | inl first ↦ finished-done _ _ (first.past d above lt co).done
+      | inl first ↦ (let past = (first.past d above lt co).done in grind arith)
       | inr again ↦ b.order c d again.before again.sent above lt co
     ]
 
@@ -113,7 +107,7 @@ module _ (life : ℕ) (host : HostSetup) (h : List Entry) (name : ArrayVec ℕ) 
     sent-base = record {
       bounds = λ d x e. elim (sent-cases d x e) [ inl p ↦ rw p.0 (r.above, r.submitted) | inr q ↦ b.bounds d x q ];
       last = λ d x e. elim (sent-cases d x e) [ inl p ↦ rw (p.1, sent-last host h c f d) (omega arith) | inr q ↦ b.last d x q ];
-      done = λ d e. is-some-if _ _ _ (b.done d e);
+      done = λ d e. grind (arith, b.done d e);
       order = λ e d x s above lt co. elim (sent-cases e x s) [
         | inl p ↦ own-order d above (rw p.0 at lt) (rw p.0 at co)
         | inr q ↦ b.order e d x q above lt co

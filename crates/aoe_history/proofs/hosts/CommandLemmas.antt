@@ -31,15 +31,6 @@ pub record Known (host : HostSetup) (h : List Entry) : Type 0 where
 
 -- ONE ENTRY MORE
 
-same-number : (n c : ℕ) → nat_eq n c ≡ nat_eq c n
-same-number n c = grind (arith, nat_tests)
-
-sent-if : (b : Bool) (x : HostCommand) (o : Option Sending) → (if b then record x { sends = o } else x) ≡ record x { sends = if b then o else x.sends }
-sent-if b x o = grind arith
-
-ended-if : (b : Bool) (x : HostCommand) → (if b then record x { done = true } else x) ≡ record x { done = b || x.done }
-ended-if b x = grind arith
-
 map-upto : {Y : Type 0} (f g : ℕ → Y) (n : ℕ) → ((k : ℕ) → k ≤ n → f k ≡ g k) → map f (upto n) ≡ map g (upto n)
 map-upto f g zero e = refl
 map-upto f g (suc n) e = rw (map-append f, map-append g, map-upto f g n (λ k le. e k (omega arith)), e (suc n) (omega arith))
@@ -63,7 +54,7 @@ module _ (host : HostSetup) (h : List Entry) (k : Known host h) where
     sent-known : (number : ℕ) (bytes : List ℕ) → (is_called host name ≡ true → c ≤ tickets host h) → Known host (Sent name c number bytes ∷ h)
     sent-known number bytes le = let n = Sent name c number bytes ∷ h in elim (cases_Bool (is_called host name)) [
       | inl own ↦ record {
-        list = rw (own, k.list, k.time, map-map) (map-upto _ (view host n) (tickets host h) (λ d in'. rw (own, same-number d c) (sent-if _ (view host h d) _)));
+        list = rw (own, k.list, k.time, map-map) (map-upto _ (view host n) (tickets host h) (λ d in'. rw own (grind (arith, nat_tests))));
         time = rw own k.time;
         unsent = λ d lt. grind (arith, nat_tests, k.unsent d lt);
         undone = k.undone;
@@ -74,7 +65,7 @@ module _ (host : HostSetup) (h : List Entry) (k : Known host h) where
     done-known : (outcome : Outcome) → (is_called host name ≡ true → c ≤ tickets host h) → Known host (Done name c outcome ∷ h)
     done-known outcome le = let n = Done name c outcome ∷ h in elim (cases_Bool (is_called host name)) [
       | inl own ↦ record {
-        list = rw (own, k.list, map-map) (map-upto _ (view host n) (tickets host h) (λ d in'. rw (own, same-number d c) (ended-if _ (view host h d))));
+        list = rw (own, k.list, map-map) (map-upto _ (view host n) (tickets host h) (λ d in'. rw own (grind (arith, nat_tests))));
         time = rw own k.time;
         unsent = k.unsent;
         undone = λ d lt. grind (arith, nat_tests, k.undone d lt);
@@ -168,8 +159,5 @@ module _ (s : Setup) (host : HostSetup) (mine : IsNamed s host) where
       sent-known host h k name c number bytes (λ e. (sent-view s host h c number bytes k (some-and _ _ host (mine name e) l.0)).submitted)
   known (Done name c outcome ∷ h) l = let k = known h l.1 in
       done-known host h k name c outcome (λ e. done-submitted s host h c outcome k (some-and _ _ host (mine name e) l.0))
-  known (Ticked ms ∷ h) l = let k = known h l.1 in same-known host h k (Ticked ms ∷ h) refl (later _ _ ms k.time) refl (λ d. refl)
-    where
-      later : (m n ms : ℕ) → m ≡ n → max m (n + ms) ≡ n + ms
-      later m n ms e = grind arith
+  known (Ticked ms ∷ h) l = let k = known h l.1 in same-known host h k (Ticked ms ∷ h) refl (let is = k.time in grind arith) refl (λ d. refl)
   known (x ∷ h) l = let k = known h l.1 in same-known host h k (x ∷ h) refl k.time refl (λ d. refl)

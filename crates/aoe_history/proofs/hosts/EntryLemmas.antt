@@ -73,9 +73,6 @@ module _ (host : HostSetup) (h : List Entry) (name : ArrayVec ℕ) (c : ℕ) whe
 
 -- THE COMMAND THAT IS DONE
 
-tagged : (tag : ℕ) (sends : Option Sending) → has_tag tag sends ≡ true → is_some sends ≡ true
-tagged tag sends e = grind arith
-
 -- a command that is answered was sent, and isn't done
 answered-flies : (host : Host) (c : HostCommand) (f : List ℕ) (a : Answer) → answer_to host c f ≡ Some a → (is_some c.sends ≡ true) × (c.done ≡ false)
 answered-flies host c f a e = grind (arith, nat_tests)

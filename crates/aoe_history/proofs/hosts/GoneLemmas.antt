@@ -25,13 +25,9 @@ keeps-gone life host h n k b g c d x y p q above lt co eff rests =
     let t : sends_of host h d ≡ Some y = sym (k.sends d) ∙ q in
     let own = k.submissions c (b.bounds c x s).1 in
     let other = k.submissions d (b.bounds d y t).1 in
-    later _ _ y.last.0 k.time (g c d x y s t above lt (rw (other, own) at co) (rw other at eff) (rw own at rests))
-  where
-    later : (now then last : ℕ) → now ≤ then → nat_lt life (now - last) ≡ true → nat_lt life (then - last) ≡ true
-    later now then last le e = grind (arith, nat_tests)
-
-gone-by : (life now : ℕ) (y : Sending) (done : Bool) → all_gone life now (stage (Some y) done) ≡ true → is_gone life now y.last.0 ≡ true
-gone-by life now y done e = grind arith
+    let gone = g c d x y s t above lt (rw (other, own) at co) (rw other at eff) (rw own at rests) in
+    let le = k.time in
+    grind (arith, nat_tests)
 
 module _ (life : ℕ) (host : HostSetup) (h : List Entry) (name : ArrayVec ℕ) (c number : ℕ) (f : List ℕ)
     (mine : is_called host name ≡ true) (r : MayBeSent life host h c f) (reads : (fields f).tag ≡ r.tag) (b : Base life host h) (g : AreGone life host h) where
@@ -46,7 +42,7 @@ module _ (life : ℕ) (host : HostSetup) (h : List Entry) (name : ArrayVec ℕ) 
       → has_effect (kind_of (view host h d).op) ≡ true → rests_on_effects (kind_of (view host h c).op) ≡ true
       → is_gone life (clock h) y.last.0 ≡ true
   own-gone d y s above lt co eff rests = elim r.may [
-    | inl first ↦ gone-by life (clock h) y _ (rw s at ((first.past d above lt co).gone eff rests))
+    | inl first ↦ (let gone = rw s at ((first.past d above lt co).gone eff rests) in grind arith)
     | inr again ↦ g c d again.before y again.sent s above lt co eff rests
   ]
 

@@ -4,7 +4,7 @@ use Rattle.std.proofs.lemmas.Bool.{and_parts, cases_lt, eqb-false, not-true}
 use Rattle.std.proofs.lemmas.List.Elements.{Contains-append_left, Contains-push}
 use Rattle.aoe_flight.specs.declared.outstanding.Outstanding.{Outstanding}
 use Rattle.aoe_flight.specs.Outstanding.{has_tag}
-use Rattle.aoe_hold.specs.Commands.{unsent}
+use Rattle.aoe_hold.specs.Commands.{is_unsent}
 use Rattle.aoe_initiator.specs.declared.step.Sent as step
 use Rattle.aoe_initiator.specs.HostLaw.{IsNextBy}
 use Rattle.aoe_initiator.specs.HostLog.{as_entered, as_sent, outstanding, stage, Sending}
@@ -15,7 +15,7 @@ use Rattle.aoe_history.specs.Frames.{clock}
 use Rattle.aoe_history.specs.HostLaw.{IsSent}
 use Rattle.aoe_history.specs.Setup.{HostSetup, Setup}
 use Rattle.aoe_history.proofs.hosts.CommandLemmas.{sent-at, sent-view, view-at, Known}
-use Rattle.aoe_history.proofs.hosts.SendLemmas.{clear-past, clear-unsent, filtered, none-of, IsPast}
+use Rattle.aoe_history.proofs.hosts.SendLemmas.{clear-past, filtered, none-of, IsPast}
 use Rattle.aoe_history.proofs.hosts.SentLemmas.{spelled-request}
 use Rattle.std.specs.Option.{option_map}
 use Rattle.aoe_initiator.proofs.ListLemmas.{Contains-filter, Contains-map}
@@ -55,9 +55,6 @@ view-there host h d k above le = rw k.list (Contains-map (view host h) (upto (ti
 
 -- SENDS
 
-never-sent : (sends : Option Sending) (done : Bool) → unsent (stage sends done) ≡ true → sends ≡ None
-never-sent sends done e = grind arith
-
 -- what may be sent next
 send-by : (s : Setup) (host : HostSetup) (h : List Entry) (c : ℕ) (sent : step.Sent) (again : Bool) → Known host h → sent.ticket.0 ≡ c
     → IsNextBy again (host_after s host h) (commands_of host h) sent → IsFirstSend s.life host h c sent.tag ⊎ IsRepeatSend host h c sent.tag
@@ -74,7 +71,7 @@ send-by s host h c sent false k ticket may =
     let clear = rw (← v.is) at may.clear in
     let le = v.submitted in
     inl (record {
-      unsent = never-sent _ _ (clear-unsent s.life (clock h) (commands_of host h) (view host h c) clear);
+      unsent = (let is = (and_parts (is_unsent (as_entered (view host h c))) _ clear).0 in grind arith);
       free = λ d y above le sends alive. eqb-false _ _ (none-of (has_tag sent.tag) _ (outstanding (view host h d) y) may.free (Contains-filter _ _ _
           (filtered as_sent _ (view host h d) _ (view-there host h d k above le) (ap (option_map (outstanding (view host h d))) sends)) alive));
       past = λ d above lt co. let parts = and_parts _ _ co in

@@ -68,5 +68,3 @@ clear-past life now cs c x clear there at lt co =
     let none = not-true _ (and_parts _ _ clear).1 in
     past-by life now _ _ (none-of _ _ _ none (Contains-map as_entered _ x (Contains-filter (is_at c.device.0) cs x there at))) lt co
 
-pub clear-unsent : (life now : ℕ) (cs : List HostCommand) (c : HostCommand) → is_clear_at life now cs c ≡ true → is_unsent (as_entered c) ≡ true
-clear-unsent life now cs c clear = (and_parts _ _ clear).0

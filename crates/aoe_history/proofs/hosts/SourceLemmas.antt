@@ -103,10 +103,7 @@ source-is h args d s = simp append_assoc (rw (drop_at h.dst.0 _ 6 d, take_at h.s
 
 -- the port that a reply comes from is the shelf's
 pub port-holds : (station : Station) (h : Header) → 0 < length station.ports.items → holds station.ports.items (reply_port station h) ≡ true
-port-holds station h lt = elim (cases_Bool (holds station.ports.items h.dst)) [
-  | inl own ↦ rw own own
-  | inr other ↦ rw other (holds-each station.ports.items 0 h.dst lt)
-]
+port-holds station h lt = grind (arith, holds-each)
 
 -- FRAMES OF OTHERS
 
