@@ -1,6 +1,6 @@
 -- Facts of truth values, options, results and lists.
 use Rattle.std.proofs.Common.{if◌then◌else◌, not, nat_eq, ◌&&◌, ◌||◌, ℕ, suc, ◌≤◌, ◌≡◌, ◌≢◌, Bool, true, false, List, [], ◌∷◌, ◌++◌, map, Option, Some, None, refl, ap, arith}
-use Rattle.std.specs.Prelude.{Result, Ok, Err, IsSomeAnd, OnErr, OnOk, option_and_then, option_map}
+use Rattle.std.specs.Prelude.{Result, IsSomeAnd, OnErr, OnOk, option_and_then, option_map}
 use Rattle.std.proofs.lemmas.Bool as bool
 use Rattle.std.proofs.lemmas.Bool.Decides.{nat_tests}
 
@@ -50,17 +50,13 @@ pub some-and : {X : Type 0} (P : X → Type 0) (o : Option X) (x : X) → o ≡ 
 some-and P o x e a = rw e at a
 
 pub some-mapped : {X Y : Type 0} (f : X → Y) (o : Option X) (y : Y) → option_map f o ≡ Some y → (x : X) × (o ≡ Some x) × (f x ≡ y)
-some-mapped f None y e = absurd (cc)
-some-mapped f (Some x) y e = (x, refl, cc)
+some-mapped f o y e = grind arith
 
 pub some-then : {X Y : Type 0} (f : X → Option Y) (o : Option X) (y : Y) → option_and_then f o ≡ Some y → (x : X) × (o ≡ Some x) × (f x ≡ Some y)
-some-then f None y e = absurd (cc)
-some-then f (Some x) y e = (x, refl, e)
+some-then f o y e = grind arith
 
 pub on-ok : {T E P Q : Type 0} (r : Result T E) → OnOk r P → (P → Q) → OnOk r Q
-on-ok (Ok x) p f = f p
-on-ok (Err e) p f = tt
+on-ok r p f = grind arith
 
 pub on-err : {T E P Q : Type 0} (r : Result T E) → OnErr r P → (P → Q) → OnErr r Q
-on-err (Ok x) p f = tt
-on-err (Err e) p f = f p
+on-err r p f = grind arith

@@ -1,5 +1,5 @@
 -- The writes of a host that are under way, beside its other commands.
-use Rattle.std.proofs.Common.{ℕ, ◌+◌, ◌-◌, ◌<◌, ◌≤◌, ◌≡◌, inl, inr, nat_lt, Bool, true, false, not, ◌&&◌, List, Option, Some, None, refl, sym, ◌∙◌, arith}
+use Rattle.std.proofs.Common.{ℕ, ◌<◌, ◌≡◌, inl, inr, Bool, true, false, List, Option, Some, None, refl, sym, ◌∙◌, arith}
 use Rattle.std.proofs.lemmas.Bool.{cases_order, eq-eqb}
 use Rattle.std.proofs.lemmas.Bool.Decides.{nat_tests}
 use Rattle.aoe_base.specs.declared.address.TargetId.{TargetId}
@@ -17,7 +17,7 @@ use Rattle.aoe_target.specs.Sectors.{in_span, value_in}
 use Rattle.aoe_history.specs.declared.entry.Entry.{Entry}
 use Rattle.aoe_history.specs.Commands.{op_writes, submission, writes, Submission}
 use Rattle.aoe_history.specs.CommandView.{in_conflict, is_active, sends_of, was_done, AsksAt, IsSentFor}
-use Rattle.aoe_history.specs.Frames.{arriving, clock, frames}
+use Rattle.aoe_history.specs.Frames.{arriving, frames}
 use Rattle.aoe_history.specs.Setup.{device_no, is_slot, HostSetup, SlotSetup}
 use Rattle.aoe_history.proofs.hosts.BaseLemmas.{Base}
 use Rattle.aoe_history.proofs.FrameLemmas.{birth_of, arrives}

@@ -1,6 +1,6 @@
 -- What a host asks of its devices, and which slot takes its frames.
-use Rattle.std.proofs.Common.{ℕ, suc, ◌+◌, ◌/◌, ◌<◌, ◌≤◌, ◌≡◌, ◌≢◌, inl, inr, if◌then◌else◌, nat_eq, ◌==◌, Bool, true, false, ◌&&◌, ◌||◌, List, [], ◌∷◌, drop, length, Option, Some, None, refl, sym, ap, ◌∙◌, arith, Contains}
-use Rattle.std.proofs.lemmas.Bool.{and_from, and_parts, cases_Bool, eqb-false}
+use Rattle.std.proofs.Common.{ℕ, ◌<◌, ◌≤◌, ◌≡◌, inl, inr, nat_eq, true, ◌&&◌, List, [], ◌∷◌, drop, Option, Some, None, sym, ap, ◌∙◌, arith, Contains}
+use Rattle.std.proofs.lemmas.Bool.{and_parts, cases_Bool}
 use Rattle.std.proofs.lemmas.Bool.Decides.{nat_tests}
 use Rattle.std.proofs.lemmas.Option.{same_Some}
 use Rattle.aoe_base.specs.declared.address.Mac.{Mac}
@@ -11,9 +11,9 @@ use Rattle.aoe_ata.specs.Decision.{written}
 use Rattle.aoe_ata.specs.declared.decision.AtaDecision.{AtaDecision}
 use Rattle.aoe_initiator.specs.declared.device.Attached.{Attached}
 use Rattle.aoe_initiator.specs.declared.op.Op.{Op}
-use Rattle.aoe_initiator.specs.declared.op.Op.TheVariants.{Read, Write, Config}
+use Rattle.aoe_initiator.specs.declared.op.Op.TheVariants.{Write}
 use Rattle.aoe_initiator.specs.declared.refusal.SubmitRefusal.{SubmitRefusal}
-use Rattle.aoe_initiator.specs.HostLaw.{op_refusal, or_backlog, same_id, span_refusal}
+use Rattle.aoe_initiator.specs.HostLaw.{op_refusal, or_backlog, same_id}
 use Rattle.aoe_initiator.specs.Op.{span_of, CanSubmit}
 use Rattle.aoe_initiator.specs.Request.{request, request_header, CanSpell}
 use Rattle.aoe_lists.specs.Settings.{Settings}
@@ -48,10 +48,7 @@ no-backlog held o e = grind arith
 
 askable-op : (about : Attached) (op : Op) → about.max ≤ 17 → about.total ≤ 281474976710656
     → CanSubmit op → op_refusal about op ≡ None → CanSpell op × HasSectors op
-askable-op about (Read span) m t can e = grind (arith, nat_tests)
-askable-op about (Write at bytes) m t can e = grind (arith, nat_tests)
-askable-op about (Config ccmd text) m t can e = (can.1, tt)
-askable-op about _ m t can e = (tt, tt)
+askable-op about op m t can e = grind (arith, nat_tests)
 
 -- SUBMISSIONS
 

@@ -1,14 +1,12 @@
 -- What holds of the commands of a host in each lawful history.
-use Rattle.std.proofs.Common.{ℕ, ◌-◌, ◌<◌, ◌≤◌, ◌≡◌, ◌⊎◌, inl, inr, if◌then◌else◌, nat_eq, nat_lt, Bool, true, false, not, ◌&&◌, List, ◌∷◌, Option, Some, None, is_some, refl, sym, ap, ◌∙◌, arith}
-use Rattle.std.proofs.lemmas.Bool.{and_parts, cases_Bool, eqb-true}
+use Rattle.std.proofs.Common.{ℕ, ◌-◌, ◌<◌, ◌≤◌, ◌≡◌, ◌⊎◌, inl, inr, nat_lt, Bool, true, not, ◌&&◌, List, ◌∷◌, Option, Some, is_some, sym, ap, ◌∙◌, arith}
 use Rattle.std.proofs.lemmas.Bool.Decides.{nat_tests}
 use Rattle.arrayvec.specs.ArrayVec.{ArrayVec}
 use Rattle.aoe_base.specs.declared.counted.Millis.{Millis}
 use Rattle.aoe_base.specs.declared.counted.PathNo.{PathNo}
 use Rattle.aoe_flight.specs.Outstanding.{rest_time}
 use Rattle.aoe_frame.specs.Header.{fields}
-use Rattle.aoe_hold.specs.Commands.{finished}
-use Rattle.aoe_initiator.specs.HostLog.{one_more, stage, Sending}
+use Rattle.aoe_initiator.specs.HostLog.{one_more, Sending}
 use Rattle.aoe_history.specs.declared.entry.Entry.{Entry}
 use Rattle.aoe_history.specs.declared.entry.Entry.TheVariants.{Sent}
 use Rattle.aoe_history.specs.Commands.{path_of, submission, tickets}

@@ -1,5 +1,5 @@
 -- A host's commands, each by what the history says of it.
-use Rattle.std.proofs.Common.{ℕ, zero, suc, ◌+◌, ◌<◌, ◌≤◌, ◌≡◌, inl, inr, if◌then◌else◌, max, nat_eq, Bool, true, false, ◌||◌, List, [], ◌∷◌, ◌++◌, map, Option, Some, None, refl, sym, ap, ◌∙◌, arith, Contains}
+use Rattle.std.proofs.Common.{ℕ, zero, suc, ◌<◌, ◌≤◌, ◌≡◌, inl, inr, true, false, List, [], ◌∷◌, ◌++◌, map, Some, None, refl, sym, ap, ◌∙◌, arith, Contains}
 use Rattle.std.proofs.lemmas.Bool.{cases_Bool}
 use Rattle.std.proofs.lemmas.Bool.Decides.{nat_tests}
 use Rattle.std.proofs.lemmas.List.Elements.{Contains-push_cases}
@@ -19,7 +19,7 @@ use Rattle.aoe_history.specs.HostLaw.{IsDone, IsSent}
 use Rattle.aoe_history.specs.Lawful.{IsLawful}
 use Rattle.aoe_history.specs.Setup.{host_called, is_called, HostSetup, Setup}
 use Rattle.aoe_history.proofs.hosts.SendLemmas.{filtered-from}
-use Rattle.aoe_history.proofs.LogicLemmas.{map-append, map-map, not-of, other-number, own-number, some-and, some-mapped}
+use Rattle.aoe_history.proofs.LogicLemmas.{map-append, map-map, other-number, own-number, some-and, some-mapped}
 use Rattle.aoe_initiator.proofs.ListLemmas.{Contains-map_from}
 
 -- what holds of the commands of a lawful history
@@ -90,10 +90,7 @@ module _ (host : HostSetup) (h : List Entry) (k : Known host h) where
 
 in-upto : (n c : ℕ) → Contains (upto n) c → (0 < c) × (c ≤ n)
 in-upto zero c there = absurd (omega (arith, there.1))
-in-upto (suc n) c there = elim (Contains-push_cases (upto n) (suc n) c there) [
-  | inl x ↦ (let p = in-upto n c x in (p.0, omega arith))
-  | inr e ↦ (omega arith, omega arith)
-]
+in-upto (suc n) c there = grind (arith, Contains-push_cases (upto n) (suc n) c there, in-upto n c)
 
 -- a command of the host's, by its ticket
 pub record IsView (host : HostSetup) (h : List Entry) (x : HostCommand) : Type 0 where

@@ -1,18 +1,18 @@
 -- How each kind of entry keeps what holds of a host's commands and frames.
-use Rattle.std.proofs.Common.{ℕ, suc, ◌≤◌, ◌≡◌, ◌⊎◌, inl, inr, nat_eq, ◌==◌, true, false, ◌&&◌, List, ◌∷◌, length, Option, Some, None, is_some, refl, sym, ap, ◌∙◌, arith}
-use Rattle.std.proofs.lemmas.Bool.{and_parts, cases_Bool, eqb-true, not-true, or_cases, or_right}
+use Rattle.std.proofs.Common.{ℕ, suc, ◌≤◌, ◌≡◌, ◌⊎◌, inl, inr, nat_eq, true, false, ◌&&◌, List, ◌∷◌, Some, is_some, refl, sym, ap, ◌∙◌, arith}
+use Rattle.std.proofs.lemmas.Bool.{and_parts, cases_Bool, not-true, or_right}
 use Rattle.std.proofs.lemmas.Slice.Eq.{bytes_eq-Decides}
 use Rattle.std.proofs.lemmas.Bool.Decides.{nat_tests}
 use Rattle.arrayvec.specs.ArrayVec.{ArrayVec}
 use Rattle.aoe_base.specs.declared.address.TargetId.{TargetId}
 use Rattle.aoe_flight.specs.declared.outstanding.Outstanding.{Outstanding}
-use Rattle.aoe_frame.specs.Header.{fields, head}
+use Rattle.aoe_frame.specs.Header.{fields}
 use Rattle.aoe_initiator.specs.declared.op.Op.{Op}
 use Rattle.aoe_initiator.specs.declared.outcome.Outcome.{Outcome}
 use Rattle.aoe_initiator.specs.declared.response.Answer.{Answer}
 use Rattle.aoe_initiator.specs.Host.{Host}
-use Rattle.aoe_initiator.specs.HostLaw.{answer_to, has_tag}
-use Rattle.aoe_initiator.specs.HostLog.{HostCommand, Sending}
+use Rattle.aoe_initiator.specs.HostLaw.{answer_to}
+use Rattle.aoe_initiator.specs.HostLog.{HostCommand}
 use Rattle.aoe_net.specs.Network.{numbered, SentFrame}
 use Rattle.aoe_history.specs.declared.entry.Entry.{Entry}
 use Rattle.aoe_history.specs.declared.entry.Entry.TheVariants.{Submitted, Sent, Done}
@@ -27,7 +27,6 @@ use Rattle.aoe_history.proofs.hosts.ReadyLemmas.{MayBeSent}
 use Rattle.aoe_history.proofs.hosts.BaseLemmas as base
 use Rattle.aoe_history.proofs.hosts.CommandLemmas.{sent-at, view-at, IsNamed, Known}
 use Rattle.aoe_history.proofs.hosts.SentLemmas.{host-there}
-use Rattle.aoe_history.proofs.LogicLemmas.{if-some, not-of, some-then}
 
 -- a host is the one that its name names
 pub named : (s : Setup) (name : ArrayVec ℕ) (host : HostSetup) → host_called s name ≡ Some host → IsNamed s host

@@ -1,10 +1,10 @@
 -- Once a command that rests on effects was sent, no frame of an earlier one in conflict that has effects can arrive.
-use Rattle.std.proofs.Common.{ℕ, ◌-◌, ◌<◌, ◌≤◌, ◌≡◌, inl, inr, nat_lt, Bool, true, false, List, ◌∷◌, Some, sym, ◌∙◌, arith}
+use Rattle.std.proofs.Common.{ℕ, ◌<◌, ◌≡◌, inl, inr, true, List, ◌∷◌, Some, sym, ◌∙◌, arith}
 use Rattle.std.proofs.lemmas.Bool.Decides.{nat_tests}
 use Rattle.arrayvec.specs.ArrayVec.{ArrayVec}
 use Rattle.aoe_frame.specs.Header.{fields}
-use Rattle.aoe_hold.specs.Commands.{all_gone, has_effect, is_gone, rests_on_effects}
-use Rattle.aoe_initiator.specs.HostLog.{stage, Sending}
+use Rattle.aoe_hold.specs.Commands.{has_effect, is_gone, rests_on_effects}
+use Rattle.aoe_initiator.specs.HostLog.{Sending}
 use Rattle.aoe_initiator.specs.Op.{kind_of}
 use Rattle.aoe_history.specs.declared.entry.Entry.{Entry}
 use Rattle.aoe_history.specs.declared.entry.Entry.TheVariants.{Sent}

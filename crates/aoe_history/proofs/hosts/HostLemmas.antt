@@ -53,11 +53,7 @@ module _ (s : Setup) (host : HostSetup) (mine : IsNamed s host) (ok : IsSetup s)
   ]
 
   pub holds : (h : List Entry) → IsLawful s h → Holds s host h
-  holds [] l = record {
-    base = search arith;
-    frames = λ k f e from. absurd (cc);
-    gone = λ c d x y p q above lt co eff rests. absurd (cc);
-  }
+  holds [] l = search arith
   holds (Submitted name c dev op ∷ h) l =
       kept h _ (submitted-keeps host h name c dev op (λ e. (some-and _ _ host (mine name e) l.0).next)) (λ all. all) (holds h l.1)
   holds (Sent name c number f ∷ h) l = sent h name c number f l.1 l.0 (holds h l.1)

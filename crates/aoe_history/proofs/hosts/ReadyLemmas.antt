@@ -1,5 +1,5 @@
 -- When a command is sent: for the first time, once it is clear, with a tag of its own; or again, with its tag.
-use Rattle.std.proofs.Common.{ℕ, zero, suc, ◌<◌, ◌≤◌, ◌≡◌, ◌≢◌, ◌⊎◌, inl, inr, Bool, true, false, List, [], ◌∷◌, Option, Some, None, refl, ap, ◌∙◌, arith, Contains}
+use Rattle.std.proofs.Common.{ℕ, zero, suc, ◌<◌, ◌≤◌, ◌≡◌, ◌≢◌, ◌⊎◌, inl, inr, Bool, true, false, List, [], ◌∷◌, Some, None, ap, ◌∙◌, arith, Contains}
 use Rattle.std.proofs.lemmas.Bool.{and_parts, cases_lt, eqb-false, not-true}
 use Rattle.std.proofs.lemmas.List.Elements.{Contains-append_left, Contains-push}
 use Rattle.aoe_flight.specs.declared.outstanding.Outstanding.{Outstanding}
@@ -7,7 +7,7 @@ use Rattle.aoe_flight.specs.Outstanding.{has_tag}
 use Rattle.aoe_hold.specs.Commands.{is_unsent}
 use Rattle.aoe_initiator.specs.declared.step.Sent as step
 use Rattle.aoe_initiator.specs.HostLaw.{IsNextBy}
-use Rattle.aoe_initiator.specs.HostLog.{as_entered, as_sent, outstanding, stage, Sending}
+use Rattle.aoe_initiator.specs.HostLog.{as_entered, as_sent, outstanding, Sending}
 use Rattle.aoe_history.specs.declared.entry.Entry.{Entry}
 use Rattle.aoe_history.specs.Commands.{commands_of, host_after, tickets}
 use Rattle.aoe_history.specs.CommandView.{in_conflict, is_live, sends_of, upto, view, was_done, IsRequest}

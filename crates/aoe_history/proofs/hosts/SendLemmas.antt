@@ -1,11 +1,11 @@
 -- What a send of a host says of its earlier commands.
-use Rattle.std.proofs.Common.{ℕ, ◌<◌, ◌≡◌, ◌⊎◌, inl, inr, Bool, true, false, ◌&&◌, ◌||◌, List, [], ◌∷◌, Option, Some, None, refl, ap, arith, Contains}
+use Rattle.std.proofs.Common.{ℕ, ◌<◌, ◌≡◌, ◌⊎◌, inl, inr, Bool, true, false, ◌&&◌, ◌||◌, List, [], ◌∷◌, Option, Some, None, refl, arith, Contains}
 use Rattle.std.proofs.lemmas.Bool.Decides.{nat_tests}
 use Rattle.std.specs.List.{cons_option, filter_map, list_any}
-use Rattle.std.proofs.lemmas.Bool.{and_parts, both_ways, lt-ltb, not-false, not-true, or_parts}
+use Rattle.std.proofs.lemmas.Bool.{and_parts, both_ways, not-true, or_parts}
 use Rattle.std.proofs.lemmas.List.Folds.{list_any_at}
 use Rattle.aoe_hold.specs.declared.command.Command.{Command}
-use Rattle.aoe_hold.specs.Commands.{all_gone, conflict, finished, has_effect, is_unsent, keeps_back, rests_on_effects}
+use Rattle.aoe_hold.specs.Commands.{all_gone, conflict, finished, has_effect, keeps_back, rests_on_effects}
 use Rattle.aoe_initiator.specs.HostLaw.{is_clear_at}
 use Rattle.aoe_initiator.specs.HostLog.{as_entered, is_at, HostCommand}
 use Rattle.aoe_initiator.proofs.ListLemmas.{Contains-cons, Contains-cons_cases, Contains-filter, Contains-map}
@@ -67,4 +67,3 @@ pub clear-past : (life now : ℕ) (cs : List HostCommand) (c x : HostCommand) �
 clear-past life now cs c x clear there at lt co =
     let none = not-true _ (and_parts _ _ clear).1 in
     past-by life now _ _ (none-of _ _ _ none (Contains-map as_entered _ x (Contains-filter (is_at c.device.0) cs x there at))) lt co
-

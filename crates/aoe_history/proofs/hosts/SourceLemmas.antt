@@ -1,8 +1,8 @@
 -- Where the frames in the network come from, by the address of their source.
-use Rattle.std.proofs.Common.{is_some, slice_range, nat_le, ℕ, ◌<◌, ◌≤◌, ◌≡◌, inl, inr, Bool, true, false, List, ◌++◌, length, Option, Some, None, IsSomeAnd, refl, ap, arith, Contains, append_assoc}
+use Rattle.std.proofs.Common.{is_some, slice_range, ℕ, ◌<◌, ◌≤◌, ◌≡◌, Bool, true, false, List, ◌++◌, length, Option, Some, None, IsSomeAnd, refl, ap, arith, Contains, append_assoc}
 use Rattle.std.proofs.lemmas.Bool.Decides.{nat_tests}
 use Rattle.std.specs.List.{list_any}
-use Rattle.std.proofs.lemmas.Bool.{both_ways, cases_Bool, leb-true, or_parts}
+use Rattle.std.proofs.lemmas.Bool.{both_ways, or_parts}
 use Rattle.std.proofs.lemmas.List.{drop_at, length-drop, length-take, take_at}
 use Rattle.aoe_frame.specs.declared.header.Header.{Header}
 use Rattle.aoe_base.specs.declared.refusal.AoeError.{AoeError}
