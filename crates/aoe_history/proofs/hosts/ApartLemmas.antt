@@ -32,15 +32,8 @@ pub record WritesTo (slot : SlotSetup) (o : Option Submission) (s : ℕ) (v : Li
   pub inside : in_span (span_of (Write at bytes)) s ≡ true
   pub value : v ≡ value_in (span_of (Write at bytes)) bytes s
 
-by-op : (slot : SlotSetup) (dev : TargetId) (op : Op) (s : ℕ) (v : List ℕ) → is_slot slot dev ≡ true
-    → op_writes op s ≡ Some v → WritesTo slot (Some (record { dev = dev; op = op })) s v
-by-op slot dev (Write at bytes) s v is e = let here = if-some _ _ v e in
-    record { at = at; bytes = bytes; asks = record { dev = dev; is = refl; slot_is = is }; inside = here.0; value = (let value = here.1 in cc) }
-by-op slot dev _ s v is e = absurd (cc)
-
 pub writes-to : (slot : SlotSetup) (o : Option Submission) (s : ℕ) (v : List ℕ) → writes slot o s ≡ Some v → WritesTo slot o s v
-writes-to slot None s v e = absurd (cc)
-writes-to slot (Some x) s v e = let its = if-some _ _ v e in by-op slot x.dev x.op s v its.0 its.1
+writes-to slot o s v e = grind arith
 
 -- CONFLICTS
 

@@ -115,8 +115,7 @@ pub view-at : (host : HostSetup) (h : List Entry) (c : ℕ) (x : HostCommand) �
     → Contains (commands_of host h) x → x.ticket.0 ≡ c → IsViewAt host h c x
 view-at host h c x k there e =
     let v = viewed host h x k there in
-    let same : v.ticket ≡ c = ap (λ (z : HostCommand). z.ticket.0) v.is ∙ e in
-    record { above = rw same at v.above; submitted = rw same at v.submitted; is = rw same at v.is }
+    grind arith
 
 -- it is that of a command that was sent
 pub record IsSentAt (host : HostSetup) (h : List Entry) (c : ℕ) (o : Outstanding) : Type 0 where

@@ -81,10 +81,10 @@ pub done-flies : (s : Setup) (host : HostSetup) (h : List Entry) (c : ℕ) (outc
 done-flies s host h c outcome k (inl x) =
     let v = view-at host h c x.response.command k x.response.there x.response.ticket_is in
     let flies = answered-flies (host_after s host h) x.response.command x.bytes x.response.answer x.response.says in
-    (ap (λ (z : HostCommand). is_some z.sends) v.is ∙ flies.0, ap (λ (z : HostCommand). z.done) v.is ∙ flies.1)
+    grind arith
 done-flies s host h c outcome k (inr x) =
     let v = sent-at host h c x.command k x.late.there x.ticket_is in
-    (rw v.sent, ap (λ (o : Outstanding). o.finished) v.is ∙ not-true _ (and_parts _ _ x.late.passes).0)
+    grind (arith, x.late.passes)
 
 -- FRAMES
 

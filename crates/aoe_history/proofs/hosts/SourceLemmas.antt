@@ -44,43 +44,8 @@ pub record IsReply (station : Station) (f r : List ℕ) : Type 0 where
   pub args : List ℕ
   pub is : r ≡ spelled station (fields f) error args
 
-module _ (station : Station) (f r : List ℕ) where
-  reply : (error : Option AoeError) (args : List ℕ) → r ≡ spelled station (fields f) error args → IsReply station f r
-  reply error args is = record { error = error; args = args; is = is }
-
-  alone : (e : Effect) (error : Option AoeError) (args : List ℕ)
-      → replied e r ≡ replied effect.None (spelled station (fields f) error args) → IsReply station f r
-  alone e error args is = reply error args (cc)
-
-  ata-replies : (k : Option Sectors) (e : Effect) (args : AtaArgs) (a : AtaAnswer)
-      → AllowsAta station k (fields f) args a (replied e r) → IsReply station f r
-  ata-replies k e args ata.Abort x = alone e _ _ x
-  ata-replies k e args ata.NotFound x = alone e _ _ x
-  ata-replies k e args ata.Page x = alone e _ _ x
-  ata-replies k e args ata.Mode x = alone e _ _ x
-  ata-replies k effect.None args (ata.Give span) x = reply _ _ x.1
-  ata-replies k effect.ReadFault args (ata.Give span) x = reply _ _ x
-  ata-replies k effect.None args (ata.Verify span) x = reply _ _ x
-  ata-replies k effect.ReadFault args (ata.Verify span) x = reply _ _ x
-  ata-replies k (effect.Wrote s) args (ata.Put span) x = reply _ _ x.1
-  ata-replies k (effect.WriteFault s) args (ata.Put span) x = reply _ _ x.1
-  ata-replies k effect.Synced args ata.Sync x = reply _ _ x
-  ata-replies k effect.SyncFault args ata.Sync x = reply _ _ x
-  ata-replies k e args a x = absurd x
-
-  step-replies : (e : Effect) (s : Step) → AllowsStep station f s (replied e r) → IsReply station f r
-  step-replies e step.Silent x = absurd (cc)
-  step-replies e (step.Reply None args) x = alone e _ _ x
-  step-replies e (step.Reply (Some error) args) x = alone e _ _ x
-  step-replies effect.Edited (step.Change next args) x = reply _ _ x
-  step-replies effect.EditFault (step.Change next args) x = reply _ _ x
-  step-replies e (step.Change next args) x = absurd x
-
 pub replies : (station : Station) (k : State) (f r : List ℕ) (e : Effect) (v : Verdict) → Allows station k f v (replied e r) → IsReply station f r
-replies station k f r e (Refused error) x = alone station f r e _ _ x
-replies station k f r e (Lists c) x = step-replies station f r e _ x
-replies station k f r e (Ata d) x = ata-replies station f r k.sectors e d.args d.answer x
-replies station k f r e _ x = absurd (cc)
+replies station k f r e v x = grind arith
 
 -- a frame that is replied to has a header
 pub has-head : (station : Station) (k : State) (f r : List ℕ) (e : Effect)
