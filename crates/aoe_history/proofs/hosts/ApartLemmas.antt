@@ -1,8 +1,7 @@
 -- The writes of a host that are under way, beside its other commands.
-use Rattle.std.proofs.Common.{ℕ, ◌<◌, ◌≡◌, inl, inr, Bool, true, false, List, Option, Some, None, refl, sym, ◌∙◌, arith}
+use Rattle.std.proofs.Common.{ℕ, ◌<◌, ◌≡◌, inl, inr, Bool, true, false, List, Option, Some, refl, sym, ◌∙◌, arith}
 use Rattle.std.proofs.lemmas.Bool.{cases_order, eq-eqb}
 use Rattle.std.proofs.lemmas.Bool.Decides.{nat_tests}
-use Rattle.aoe_base.specs.declared.address.TargetId.{TargetId}
 use Rattle.aoe_base.specs.declared.sectors.Span.{Span}
 use Rattle.aoe_base.specs.Spans.{overlap}
 use Rattle.aoe_hold.specs.declared.command.Command.{Command}
@@ -15,15 +14,15 @@ use Rattle.aoe_initiator.specs.Op.{kind_of, span_of}
 use Rattle.aoe_net.specs.Network.{numbered, SentFrame}
 use Rattle.aoe_target.specs.Sectors.{in_span, value_in}
 use Rattle.aoe_history.specs.declared.entry.Entry.{Entry}
-use Rattle.aoe_history.specs.Commands.{op_writes, submission, writes, Submission}
+use Rattle.aoe_history.specs.Commands.{submission, writes, Submission}
 use Rattle.aoe_history.specs.CommandView.{in_conflict, is_active, sends_of, was_done, AsksAt, IsSentFor}
 use Rattle.aoe_history.specs.Frames.{arriving, frames}
-use Rattle.aoe_history.specs.Setup.{device_no, is_slot, HostSetup, SlotSetup}
+use Rattle.aoe_history.specs.Setup.{device_no, HostSetup, SlotSetup}
 use Rattle.aoe_history.proofs.hosts.BaseLemmas.{Base}
 use Rattle.aoe_history.proofs.FrameLemmas.{birth_of, arrives}
 use Rattle.aoe_history.proofs.hosts.GoneLemmas.{AreGone}
 use Rattle.aoe_history.proofs.hosts.SentLemmas.{ids-same}
-use Rattle.aoe_history.proofs.LogicLemmas.{if-some, not-both}
+use Rattle.aoe_history.proofs.LogicLemmas.{not-both}
 
 pub record WritesTo (slot : SlotSetup) (o : Option Submission) (s : ℕ) (v : List ℕ) : Type 0 where
   pub at : ℕ

@@ -1,11 +1,10 @@
 -- How each kind of entry keeps what holds of a host's commands and frames.
-use Rattle.std.proofs.Common.{ℕ, suc, ◌≤◌, ◌≡◌, ◌⊎◌, inl, inr, nat_eq, true, false, ◌&&◌, List, ◌∷◌, Some, is_some, refl, sym, ap, ◌∙◌, arith}
-use Rattle.std.proofs.lemmas.Bool.{and_parts, cases_Bool, not-true, or_right}
+use Rattle.std.proofs.Common.{ℕ, suc, ◌≡◌, ◌⊎◌, inl, inr, nat_eq, true, false, ◌&&◌, List, ◌∷◌, Some, is_some, sym, ◌∙◌, arith}
+use Rattle.std.proofs.lemmas.Bool.{cases_Bool}
 use Rattle.std.proofs.lemmas.Slice.Eq.{bytes_eq-Decides}
 use Rattle.std.proofs.lemmas.Bool.Decides.{nat_tests}
 use Rattle.arrayvec.specs.ArrayVec.{ArrayVec}
 use Rattle.aoe_base.specs.declared.address.TargetId.{TargetId}
-use Rattle.aoe_flight.specs.declared.outstanding.Outstanding.{Outstanding}
 use Rattle.aoe_frame.specs.Header.{fields}
 use Rattle.aoe_initiator.specs.declared.op.Op.{Op}
 use Rattle.aoe_initiator.specs.declared.outcome.Outcome.{Outcome}
@@ -16,7 +15,7 @@ use Rattle.aoe_initiator.specs.HostLog.{HostCommand}
 use Rattle.aoe_net.specs.Network.{numbered, SentFrame}
 use Rattle.aoe_history.specs.declared.entry.Entry.{Entry}
 use Rattle.aoe_history.specs.declared.entry.Entry.TheVariants.{Submitted, Sent, Done}
-use Rattle.aoe_history.specs.Commands.{host_after, submission, tickets}
+use Rattle.aoe_history.specs.Commands.{host_after, tickets}
 use Rattle.aoe_history.specs.CommandView.{sends_of, was_done, IsSentFor}
 use Rattle.aoe_history.specs.Frames.{clock}
 use Rattle.aoe_history.specs.HostLaw.{IsDone}
@@ -37,38 +36,16 @@ named s name host e other mine =
 
 -- SUBMISSIONS, SENDS AND OUTCOMES
 
--- an entry by which nothing is done
-pub undone-keeps : (host : HostSetup) (h n : List Entry) → ((c : ℕ) → sends_of host n c ≡ sends_of host h c)
-    → ((c : ℕ) → was_done host n c ≡ was_done host h c)
-    → clock h ≤ clock n → tickets host h ≤ tickets host n
-    → ((c : ℕ) → c ≤ tickets host h → submission host n c ≡ submission host h c) → Keeps host h n
-undone-keeps host h n sends done time count submissions = record {
-  sends = sends;
-  done = λ c e. done c ∙ e;
-  ended = λ c e. inl (sym (done c) ∙ e);
-  time = time;
-  count = count;
-  submissions = submissions;
-}
-
 module _ (host : HostSetup) (h : List Entry) (name : ArrayVec ℕ) (c : ℕ) where
   pub submitted-keeps : (dev : TargetId) (op : Op) → (is_called host name ≡ true → c ≡ suc (tickets host h))
       → Keeps host h (Submitted name c dev op ∷ h)
-  submitted-keeps dev op new = undone-keeps host h _ (λ d. refl) (λ d. refl) (omega arith) (grind arith)
-      (λ d le. grind (arith, nat_tests))
+  submitted-keeps dev op new = grind (arith, nat_tests)
 
   pub sent-keeps : (number : ℕ) (f : List ℕ) → is_called host name ≡ false → Keeps host h (Sent name c number f ∷ h)
-  sent-keeps number f other = undone-keeps host h (Sent name c number f ∷ h) (λ d. rw other) (λ d. refl) (omega arith) (omega arith) (λ d le. refl)
+  sent-keeps number f other = grind (arith, nat_tests)
 
   pub done-keeps : (outcome : Outcome) → (is_called host name ≡ true → is_some (sends_of host h c) ≡ true) → Keeps host h (Done name c outcome ∷ h)
-  done-keeps outcome sent = record {
-    sends = λ d. refl;
-    done = λ d e. or_right _ _ e;
-    ended = λ d e. grind (arith, nat_tests);
-    time = omega arith;
-    count = omega arith;
-    submissions = λ d le. refl;
-  }
+  done-keeps outcome sent = grind (arith, nat_tests)
 
 -- THE COMMAND THAT IS DONE
 
@@ -108,10 +85,7 @@ keeps-frames life host h n fs k b all number f e from = let x = all number f e f
 -- one more frame, which isn't the host's
 pub foreign-frame : (host : HostSetup) (h : List Entry) (g : SentFrame) (fs : List SentFrame)
     → (reading.is_from host g.bytes ≡ true → ⊥) → AreSentFor host h fs → AreSentFor host h (g ∷ fs)
-foreign-frame host h g fs foreign all number f e from = elim (numbered-cases g fs number f e) [
-  | inl z ↦ absurd (foreign (rw (← z) at from))
-  | inr q ↦ all number f q from
-]
+foreign-frame host h g fs foreign all number f e from = grind (arith, numbered-cases g fs number f e, all number f)
 
 module _ (life : ℕ) (host : HostSetup) (h : List Entry) (name : ArrayVec ℕ) (c number : ℕ) (f : List ℕ)
     (mine : is_called host name ≡ true) (r : MayBeSent life host h c f) (reads : (fields f).tag ≡ r.tag) where

@@ -1,5 +1,5 @@
 -- What holds of the commands and frames of a host in each lawful history.
-use Rattle.std.proofs.Common.{ℕ, inl, inr, List, [], ◌∷◌, IsSomeAnd, refl, ap, arith, Contains}
+use Rattle.std.proofs.Common.{ℕ, inl, inr, List, [], ◌∷◌, IsSomeAnd, ap, arith, Contains}
 use Rattle.std.proofs.lemmas.Bool.{cases_Bool}
 use Rattle.arrayvec.specs.ArrayVec.{ArrayVec}
 use Rattle.aoe_frame.specs.declared.header.Header.{Header}
@@ -12,7 +12,7 @@ use Rattle.aoe_history.specs.Lawful.{HasHost, IsLawful}
 use Rattle.aoe_history.specs.Setup.{host_called, is_called, HostSetup, IsSetup, Setup}
 use Rattle.aoe_history.proofs.hosts.BaseLemmas.{keeps-base, sent-base, Base, Keeps}
 use Rattle.aoe_history.proofs.hosts.CommandLemmas.{known, IsNamed, Known}
-use Rattle.aoe_history.proofs.hosts.EntryLemmas.{undone-keeps, done-flies, done-keeps, foreign-frame, keeps-frames, named, sent-frames, sent-keeps, submitted-keeps, AreSentFor}
+use Rattle.aoe_history.proofs.hosts.EntryLemmas.{done-flies, done-keeps, foreign-frame, keeps-frames, named, sent-frames, sent-keeps, submitted-keeps, AreSentFor}
 use Rattle.aoe_history.proofs.hosts.GoneLemmas.{keeps-gone, sent-gone, AreGone}
 use Rattle.aoe_history.proofs.hosts.ReadyLemmas.{ready}
 use Rattle.aoe_history.proofs.hosts.SentLemmas.{found, host-there, request-header}
@@ -57,17 +57,17 @@ module _ (s : Setup) (host : HostSetup) (mine : IsNamed s host) (ok : IsSetup s)
   holds (Submitted name c dev op ∷ h) l =
       kept h _ (submitted-keeps host h name c dev op (λ e. (some-and _ _ host (mine name e) l.0).next)) (λ all. all) (holds h l.1)
   holds (Sent name c number f ∷ h) l = sent h name c number f l.1 l.0 (holds h l.1)
-  holds (Injected number f ∷ h) l = kept h (Injected number f ∷ h) (undone-keeps host h _ (λ c. refl) (λ c. refl) (omega arith) (omega arith) (λ c le. refl))
+  holds (Injected number f ∷ h) l = kept h (Injected number f ∷ h) (grind arith)
       (foreign-frame host _ _ (frames h) (foreign-source s host ok there h number f l.0)) (holds h l.1)
   holds (Arrived dev frame (Replied e number r) ∷ h) l =
       let slot = some-such _ _ l.0 in
       let port = (found _ s.slots slot.0 slot.1).0 in
-      kept h (Arrived dev frame (Replied e number r) ∷ h) (undone-keeps host h _ (λ c. refl) (λ c. refl) (omega arith) (omega arith) (λ c le. refl))
+      kept h (Arrived dev frame (Replied e number r) ∷ h) (grind arith)
       (foreign-frame host _ _ (frames h) (replied-source s host ok there h number slot.2.bytes slot.0 r e port slot.2.law)) (holds h l.1)
   holds (Done name c outcome ∷ h) l =
       kept h _ (done-keeps host h name c outcome (λ e. (done-flies s host h c outcome (known s host mine h l.1) (some-and _ _ host (mine name e) l.0)).0))
       (λ all. all) (holds h l.1)
-  holds (x ∷ h) l = kept h (x ∷ h) (undone-keeps host h _ (λ c. refl) (λ c. refl) (omega arith) (omega arith) (λ c le. refl)) (λ all. all) (holds h l.1)
+  holds (x ∷ h) l = kept h (x ∷ h) (grind arith) (λ all. all) (holds h l.1)
 
 pub known-of : (s : Setup) (host : HostSetup) (h : List Entry) → HasHost s host h → Known host h
 known-of s host h x = known s host (named s x.name host x.called) h x.lawful

@@ -17,13 +17,12 @@ use Rattle.aoe_initiator.specs.declared.device.Device.{Device}
 use Rattle.aoe_initiator.specs.declared.op.Op.{Op}
 use Rattle.aoe_initiator.specs.HostLaw.{same_id, spelled_for}
 use Rattle.aoe_initiator.specs.HostLog.{HostCommand}
-use Rattle.aoe_initiator.specs.Request.{request, request_header}
+use Rattle.aoe_initiator.specs.Request.{request_header}
 use Rattle.aoe_history.specs.declared.entry.Entry.{Entry}
 use Rattle.aoe_history.specs.Commands.{devices_of, host_after}
 use Rattle.aoe_history.specs.CommandView.{IsRequest}
 use Rattle.aoe_history.specs.Setup.{host_called, is_called, HostSetup, IsAttachedTo, IsSetup, Setup}
 use Rattle.aoe_history.proofs.replies.RequestLemmas.{fields-are, request-head}
-use Rattle.aoe_history.proofs.LogicLemmas.{some-mapped, some-then}
 use Rattle.aoe_initiator.proofs.ListLemmas.{Contains-cons, Contains-get}
 
 -- LISTS
@@ -57,22 +56,7 @@ device-at ports life now n cs ds k d e = sym (about-at ports life now n cs ds k)
 pub spelled-request : (s : Setup) (host : HostSetup) (h : List Entry) (op : Op) (device : DeviceNo) (path : PathNo) (tag : ℕ) (f : List ℕ)
     → tag < 4294967296 → spelled_for (host_after s host h) op device path tag ≡ Some f → IsRequest host device op tag f
 spelled-request s host h op device path tag f small e =
-    let there = some-then _ _ f e in
-    let d = there.0 in
-    let pair = some-mapped _ _ f there.2 in
-    let local = some-then _ _ pair.0 pair.1 in
-    let remote = some-mapped _ _ pair.0 local.2 in
-    let is : request op d.about.id remote.0 local.0 tag ≡ f = rw (← remote.2) at pair.2 in
-    record {
-      about = d.about;
-      there = device-at _ _ _ _ _ host.devices device.0 d there.1;
-      local = local.0;
-      remote = remote.0;
-      own = holds-at _ _ _ local.1;
-      other = holds-at _ _ _ remote.1;
-      fits = small;
-      is = sym is;
-    }
+    grind (arith, device-at, holds-at)
 
 -- HEADERS
 

@@ -9,20 +9,12 @@ use Rattle.aoe_base.specs.declared.refusal.AoeError.{AoeError}
 use Rattle.aoe_base.specs.Addresses.{holds}
 use Rattle.aoe_base.proofs.AddressLemmas.{holds-each}
 use Rattle.aoe_frame.specs.Header.{fields, head, header_bytes, padded}
-use Rattle.aoe_ata.specs.declared.args.AtaArgs.{AtaArgs}
-use Rattle.aoe_ata.specs.declared.decision.AtaAnswer.{AtaAnswer}
-use Rattle.aoe_ata.specs.declared.decision.AtaAnswer.TheVariants as ata
-use Rattle.aoe_lists.specs.Step.{Step}
-use Rattle.aoe_lists.specs.Step as step
 use Rattle.aoe_target.specs.declared.heard.Effect.{Effect}
-use Rattle.aoe_target.specs.declared.heard.Effect.TheVariants as effect
 use Rattle.aoe_target.specs.declared.station.Station.{Station}
 use Rattle.aoe_target.specs.declared.verdict.Verdict.{Verdict}
-use Rattle.aoe_target.specs.declared.verdict.Verdict.TheVariants.{Ata, Lists, Refused}
 use Rattle.aoe_target.specs.Device.{State}
-use Rattle.aoe_target.specs.Law.{replied, Allows, AllowsAta, AllowsStep}
+use Rattle.aoe_target.specs.Law.{replied, Allows}
 use Rattle.aoe_target.specs.Reply.{reply_port, spelled}
-use Rattle.aoe_target.specs.Sectors.{Sectors}
 use Rattle.aoe_target.specs.Verdict.{verdict}
 use Rattle.aoe_history.specs.declared.entry.Entry.{Entry}
 use Rattle.aoe_history.specs.HostLaw.{IsSent}
