@@ -46,9 +46,9 @@ entered op = record { ticket = record { 0 = 0 }; kind = kind_of op; span = span_
 abbrev op_clash : Op → Op → Bool
 op_clash x y = conflict (entered x) (entered y)
 
-conflicts : (host : HostSetup) (slot : SlotSetup) (h : List Entry) (d c : ℕ) (a b : Op) → AsksAt slot (submission host h d) a
+conflicts : (host : HostSetup) {slot : SlotSetup} (h : List Entry) (d c : ℕ) {a b : Op} → AsksAt slot (submission host h d) a
     → AsksAt slot (submission host h c) b → op_clash a b ≡ true → in_conflict host h d c ≡ true
-conflicts host slot h d c a b p q e =
+conflicts host h d c p q e =
     let same = sym (ids-same _ p.dev p.slot_is) ∙ ids-same _ q.dev q.slot_is in
     rw (p.is, q.is, same, eq-eqb (device_no host q.dev).0 _ refl) e
 
@@ -59,11 +59,11 @@ module _ (life : ℕ) (host : HostSetup) (h : List Entry) (b : Base life host h)
   module _ {slot : SlotSetup} (d c : ℕ) {x y : Sending} {a l : Op} (p : sends_of host h c ≡ Some x) (q : sends_of host h d ≡ Some y) (lt : d < c)
       (asks : AsksAt slot (submission host h d) a) (later : AsksAt slot (submission host h c) l) (clash : op_clash a l ≡ true) where
     earlier-done : was_done host h d ≡ true
-    earlier-done = b.order c d _ p (b.bounds d _ q).0 lt (conflicts host _ h d c _ _ asks later clash)
+    earlier-done = b.order c d _ p (b.bounds d _ q).0 lt (conflicts host h d c asks later clash)
 
     earlier-over : has_effect (kind_of a) ≡ true → rests_on_effects (kind_of l) ≡ true → is_active life host h d y ≡ true → ⊥
     earlier-over effect rests active =
-        let gone = g c d _ _ p q (b.bounds d _ q).0 lt (conflicts host _ h d c _ _ asks later clash) (rw asks.is effect) (rw later.is rests) in
+        let gone = g c d _ _ p q (b.bounds d _ q).0 lt (conflicts host h d c asks later clash) (rw asks.is effect) (rw later.is rests) in
         let over = rw (earlier-done, gone) at active in cc
 
   -- two writes of a sector that are under way are one

@@ -40,8 +40,8 @@ pub live-by : (rest now later last : ℕ) (done done2 : Bool) → now ≤ later 
     → not (done2 && nat_lt rest (later - last)) ≡ true → not (done && nat_lt rest (now - last)) ≡ true
 live-by rest now later last done done2 le d e = grind (arith, nat_tests)
 
-pub keeps-base : (life : ℕ) (host : HostSetup) (h n : List Entry) → Keeps host h n → Base life host h → Base life host n
-keeps-base life host h n k b = record {
+pub keeps-base : {life : ℕ} {host : HostSetup} {h n : List Entry} → Keeps host h n → Base life host h → Base life host n
+keeps-base {life} {host} {h} {n} k b = record {
   bounds = λ c x e. let p = b.bounds c x (was c e) in (p.0, omega arith);
   last = λ c x e. let p = b.last c x (was c e) in omega arith;
   done = λ c e. rw k.sends (elim (k.ended c e) [ inl d ↦ b.done c d | inr s ↦ s ]);

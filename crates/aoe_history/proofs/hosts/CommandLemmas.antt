@@ -111,11 +111,8 @@ pub record IsViewAt (host : HostSetup) (h : List Entry) (c : ℕ) (x : HostComma
   pub submitted : c ≤ tickets host h
   pub is : view host h c ≡ x
 
-pub view-at : (host : HostSetup) (h : List Entry) (c : ℕ) (x : HostCommand) → Known host h
-    → Contains (commands_of host h) x → x.ticket.0 ≡ c → IsViewAt host h c x
-view-at host h c x k there e =
-    let v = viewed host h x k there in
-    grind arith
+pub view-at : {host : HostSetup} {h : List Entry} {c : ℕ} {x : HostCommand} → Known host h → Contains (commands_of host h) x → x.ticket.0 ≡ c → IsViewAt host h c x
+view-at {host} {h} {c} {x} k there e = let v = viewed host h x k there in grind arith
 
 -- it is that of a command that was sent
 pub record IsSentAt (host : HostSetup) (h : List Entry) (c : ℕ) (o : Outstanding) : Type 0 where
@@ -124,13 +121,13 @@ pub record IsSentAt (host : HostSetup) (h : List Entry) (c : ℕ) (o : Outstandi
   pub sent : sends_of host h c ≡ Some sending
   pub is : outstanding (view host h c) sending ≡ o
 
-pub sent-at : (host : HostSetup) (h : List Entry) (c : ℕ) (o : Outstanding) → Known host h
-    → Contains (sent_of (commands_of host h)) o → o.ticket.0 ≡ c → IsSentAt host h c o
-sent-at host h c o k there e =
+pub sent-at : {host : HostSetup} {h : List Entry} {c : ℕ} {o : Outstanding} → Known host h → Contains (sent_of (commands_of host h)) o → o.ticket.0 ≡ c
+    → IsSentAt host h c o
+sent-at {host} {h} {c} {o} k there e =
     let x = filtered-from as_sent (commands_of host h) o there in
     let y = some-mapped (outstanding x.0) x.0.sends o x.2 in
-    let v = view-at host h c x.0 k x.1 (ap (λ (z : Outstanding). z.ticket.0) y.2 ∙ e) in
-    record { submitted = v.submitted; sending = y.0; sent = ap (λ (z : HostCommand). z.sends) v.is ∙ y.1; is = ap (λ z. outstanding z y.0) v.is ∙ y.2 }
+    let v = view-at k x.1 (ap (λ (z : Outstanding). z.ticket.0) y.2 ∙ e) in
+    grind arith
 
 -- THE COMMANDS OF A LAWFUL HISTORY
 
@@ -140,12 +137,12 @@ IsNamed s host = (name : ArrayVec ℕ) → is_called host name ≡ true → host
 
 pub sent-view : (s : Setup) (host : HostSetup) (h : List Entry) (c number : ℕ) (f : List ℕ) → Known host h → (x : IsSent s host h c number f)
     → IsViewAt host h c x.frame.command
-sent-view s host h c number f k x = view-at host h c x.frame.command k x.frame.there (ap (λ t. t.0) x.frame.ticket ∙ x.ticket_is)
+sent-view s host h c number f k x = view-at k x.frame.there (ap (λ t. t.0) x.frame.ticket ∙ x.ticket_is)
 
 done-submitted : (s : Setup) (host : HostSetup) (h : List Entry) (c : ℕ) (outcome : Outcome)
     → Known host h → IsDone s host h c outcome → c ≤ tickets host h
-done-submitted s host h c outcome k (inl x) = (view-at host h c x.response.command k x.response.there x.response.ticket_is).submitted
-done-submitted s host h c outcome k (inr x) = (sent-at host h c x.command k x.late.there x.ticket_is).submitted
+done-submitted s host h c outcome k (inl x) = (view-at k x.response.there x.response.ticket_is).submitted
+done-submitted s host h c outcome k (inr x) = (sent-at k x.late.there x.ticket_is).submitted
 
 module _ (s : Setup) (host : HostSetup) (mine : IsNamed s host) where
   pub known : (h : List Entry) → IsLawful s h → Known host h

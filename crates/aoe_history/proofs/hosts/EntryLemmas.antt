@@ -56,11 +56,11 @@ answered-flies host c f a e = grind (arith, nat_tests)
 pub done-flies : (s : Setup) (host : HostSetup) (h : List Entry) (c : ℕ) (outcome : Outcome) → Known host h
     → IsDone s host h c outcome → (is_some (sends_of host h c) ≡ true) × (was_done host h c ≡ false)
 done-flies s host h c outcome k (inl x) =
-    let v = view-at host h c x.response.command k x.response.there x.response.ticket_is in
+    let v = view-at k x.response.there x.response.ticket_is in
     let flies = answered-flies (host_after s host h) x.response.command x.bytes x.response.answer x.response.says in
     grind arith
 done-flies s host h c outcome k (inr x) =
-    let v = sent-at host h c x.command k x.late.there x.ticket_is in
+    let v = sent-at k x.late.there x.ticket_is in
     grind (arith, x.late.passes)
 
 -- FRAMES
@@ -72,9 +72,9 @@ AreSentFor host h fs = (k : ℕ) (f : SentFrame) → numbered fs k ≡ Some f �
 pub numbered-cases : (g : SentFrame) (fs : List SentFrame) (k : ℕ) (f : SentFrame) → numbered (g ∷ fs) k ≡ Some f → (g ≡ f) ⊎ (numbered fs k ≡ Some f)
 numbered-cases g fs k f e = grind arith
 
-pub keeps-frames : (life : ℕ) (host : HostSetup) (h n : List Entry) (fs : List SentFrame) → Keeps host h n
+pub keeps-frames : {life : ℕ} {host : HostSetup} {h n : List Entry} (fs : List SentFrame) → Keeps host h n
     → Base life host h → AreSentFor host h fs → AreSentFor host n fs
-keeps-frames life host h n fs k b all number f e from = let x = all number f e from in record {
+keeps-frames fs k b all number f e from = let x = all number f e from in record {
   ticket = x.ticket;
   sending = x.sending;
   sent = k.sends x.ticket ∙ x.sent;

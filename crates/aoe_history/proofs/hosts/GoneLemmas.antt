@@ -19,8 +19,8 @@ abbrev pub AreGone : ℕ → HostSetup → List Entry → Type 0
 AreGone life host h = (c d : ℕ) (x y : Sending) → sends_of host h c ≡ Some x → sends_of host h d ≡ Some y → 0 < d → d < c → in_conflict host h d c ≡ true
     → has_effect (kind_of (view host h d).op) ≡ true → rests_on_effects (kind_of (view host h c).op) ≡ true → is_gone life (clock h) y.last.0 ≡ true
 
-pub keeps-gone : (life : ℕ) (host : HostSetup) (h n : List Entry) → Keeps host h n → Base life host h → AreGone life host h → AreGone life host n
-keeps-gone life host h n k b g c d x y p q above lt co eff rests =
+pub keeps-gone : {life : ℕ} {host : HostSetup} {h n : List Entry} → Keeps host h n → Base life host h → AreGone life host h → AreGone life host n
+keeps-gone {life} {host} {h} {n} k b g c d x y p q above lt co eff rests =
     let s : sends_of host h c ≡ Some x = sym (k.sends c) ∙ p in
     let t : sends_of host h d ≡ Some y = sym (k.sends d) ∙ q in
     let own = k.submissions c (b.bounds c x s).1 in

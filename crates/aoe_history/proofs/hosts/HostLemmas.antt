@@ -28,9 +28,9 @@ module _ (s : Setup) (host : HostSetup) (mine : IsNamed s host) (ok : IsSetup s)
   -- an entry that sends nothing of the host's, and adds no frame or one of another's
   kept : (h n : List Entry) → Keeps host h n → (AreSentFor host n (frames h) → AreSentFor host n (frames n)) → Holds s host h → Holds s host n
   kept h n k more x = record {
-    base = keeps-base s.life host h n k x.base;
-    frames = more (keeps-frames s.life host h n (frames h) k x.base x.frames);
-    gone = keeps-gone s.life host h n k x.base x.gone;
+    base = keeps-base k x.base;
+    frames = more (keeps-frames (frames h) k x.base x.frames);
+    gone = keeps-gone k x.base x.gone;
   }
 
   sent : (h : List Entry) (name : ArrayVec ℕ) (c number : ℕ) (f : List ℕ) → IsLawful s h

@@ -59,15 +59,10 @@ view-there host h d k above le = rw k.list (Contains-map (view host h) (upto (ti
 send-by : (s : Setup) (host : HostSetup) (h : List Entry) (c : ℕ) (sent : step.Sent) (again : Bool) → Known host h → sent.ticket.0 ≡ c
     → IsNextBy again (host_after s host h) (commands_of host h) sent → IsFirstSend s.life host h c sent.tag ⊎ IsRepeatSend host h c sent.tag
 send-by s host h c sent true k ticket may =
-    let v = sent-at host h c may.command k may.first_due.there (ap (λ t. t.0) may.ticket ∙ ticket) in
-    inr (record {
-      before = v.sending;
-      sent = v.sent;
-      flying = ap (λ (o : Outstanding). o.finished) v.is ∙ not-true _ (and_parts _ _ may.first_due.passes).0;
-      same = ap (λ (o : Outstanding). o.flying.tag) v.is ∙ may.tag;
-    })
+    let v = sent-at k may.first_due.there (ap (λ t. t.0) may.ticket ∙ ticket) in
+    inr (grind (arith, may.first_due.passes))
 send-by s host h c sent false k ticket may =
-    let v = view-at host h c may.command k may.there (ap (λ t. t.0) may.ticket ∙ ticket) in
+    let v = view-at k may.there (ap (λ t. t.0) may.ticket ∙ ticket) in
     let clear = rw (← v.is) at may.clear in
     let le = v.submitted in
     inl (record {
