@@ -43,9 +43,6 @@ use Rattle.aoe_initiator.proofs.ListLemmas.{get-there, placed, placed-inside, Co
 pub ids-same : (a b : TargetId) → same_id a b ≡ true → a ≡ b
 ids-same = sent.ids-same
 
-no-backlog : (held : ℕ) (o : Option SubmitRefusal) → or_backlog held o ≡ None → o ≡ None
-no-backlog held o e = grind arith
-
 askable-op : (about : Attached) (op : Op) → about.max ≤ 17 → about.total ≤ 281474976710656
     → CanSubmit op → op_refusal about op ≡ None → CanSpell op × HasSectors op
 askable-op about op m t can e = grind (arith, nat_tests)
@@ -57,12 +54,10 @@ module _ (s : Setup) (host : HostSetup) (mine : IsNamed s host) (ok : IsSetup s)
   askable h c dev op x =
       let a = get-there host.devices x.device (placed-inside _ host.devices x.device x.attached) in
       let d = some-mapped _ _ a.0 (about-at host.ports s.life (clock h) 0 (commands_of host h) host.devices x.device ∙ a.1) in
-      let free : op_refusal a.0 op ≡ None = no-backlog _ _ (rw (d.1, d.2) at x.taken) in
+      let free : op_refusal a.0 op ≡ None = (let taken = rw (d.1, d.2) at x.taken in grind arith) in
       let at : IsAttachedTo s a.0 = ok.attached host a.0 there (Contains-get host.devices x.device a.0 a.1) in
       let slot = found _ s.slots at.slot at.there in
-      let max : a.0.max ≤ 17 = rw at.max (ok.max at.slot slot.0) in
-      let total : a.0.total ≤ 281474976710656 = rw at.total (ok.size at.slot slot.0) in
-      let both = askable-op a.0 op max total x.can free in
+      let both = askable-op a.0 op (rw at.max (ok.max at.slot slot.0)) (rw at.total (ok.size at.slot slot.0)) x.can free in
       record {
         can = both.0;
         sectors = both.1;

@@ -111,7 +111,8 @@ pub record IsViewAt (host : HostSetup) (h : List Entry) (c : ℕ) (x : HostComma
   pub submitted : c ≤ tickets host h
   pub is : view host h c ≡ x
 
-pub view-at : {host : HostSetup} {h : List Entry} {c : ℕ} {x : HostCommand} → Known host h → Contains (commands_of host h) x → x.ticket.0 ≡ c → IsViewAt host h c x
+pub view-at : {host : HostSetup} {h : List Entry} {c : ℕ} {x : HostCommand} → Known host h
+    → Contains (commands_of host h) x → x.ticket.0 ≡ c → IsViewAt host h c x
 view-at {host} {h} {c} {x} k there e = let v = viewed host h x k there in grind arith
 
 -- it is that of a command that was sent
@@ -121,7 +122,8 @@ pub record IsSentAt (host : HostSetup) (h : List Entry) (c : ℕ) (o : Outstandi
   pub sent : sends_of host h c ≡ Some sending
   pub is : outstanding (view host h c) sending ≡ o
 
-pub sent-at : {host : HostSetup} {h : List Entry} {c : ℕ} {o : Outstanding} → Known host h → Contains (sent_of (commands_of host h)) o → o.ticket.0 ≡ c
+pub sent-at : {host : HostSetup} {h : List Entry} {c : ℕ} {o : Outstanding} → Known host h
+    → Contains (sent_of (commands_of host h)) o → o.ticket.0 ≡ c
     → IsSentAt host h c o
 sent-at {host} {h} {c} {o} k there e =
     let x = filtered-from as_sent (commands_of host h) o there in

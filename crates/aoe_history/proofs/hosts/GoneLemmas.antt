@@ -21,8 +21,8 @@ AreGone life host h = (c d : ℕ) (x y : Sending) → sends_of host h c ≡ Some
 
 pub keeps-gone : {life : ℕ} {host : HostSetup} {h n : List Entry} → Keeps host h n → Base life host h → AreGone life host h → AreGone life host n
 keeps-gone {life} {host} {h} {n} k b g c d x y p q above lt co eff rests =
-    let s : sends_of host h c ≡ Some x = sym (k.sends c) ∙ p in
-    let t : sends_of host h d ≡ Some y = sym (k.sends d) ∙ q in
+    let s = sym (k.sends c) ∙ p in
+    let t = sym (k.sends d) ∙ q in
     let own = k.submissions c (b.bounds c x s).1 in
     let other = k.submissions d (b.bounds d y t).1 in
     let gone = g c d x y s t above lt (rw (other, own) at co) (rw other at eff) (rw own at rests) in
