@@ -1,6 +1,6 @@
 -- Facts of truth values, options, results and lists.
-use Rattle.std.proofs.Common.{if◌then◌else◌, not, nat_eq, ◌&&◌, ◌||◌, ℕ, suc, ◌≤◌, ◌≡◌, ◌≢◌, Bool, true, false, List, [], ◌∷◌, ◌++◌, map, Option, Some, None, refl, ap, arith}
-use Rattle.std.specs.Prelude.{Result, IsSomeAnd, OnErr, OnOk, option_and_then, option_map}
+use Rattle.std.proofs.Common.{if◌then◌else◌, not, nat_eq, ◌&&◌, ◌||◌, ℕ, suc, ◌≤◌, ◌≡◌, Bool, true, false, List, [], ◌∷◌, ◌++◌, map, Option, Some, None, refl, ap, arith}
+use Rattle.std.specs.Prelude.{Result, Ok, Err, IsSomeAnd, OnErr, OnOk, option_and_then, option_map}
 use Rattle.std.proofs.lemmas.Bool as bool
 use Rattle.std.proofs.lemmas.Bool.Decides.{nat_tests}
 
@@ -25,15 +25,8 @@ not-both b p q = cc
 pub untrue : (b : Bool) → (b ≡ true → ⊥) → b ≡ false
 untrue = bool.false_from_ne_true
 
-pub if-some : {X : Type 0} (b : Bool) (o : Option X) (y : X) → (if b then o else None) ≡ Some y → (b ≡ true) × (o ≡ Some y)
-if-some b o y e = grind arith
-
--- what is of another number isn't meant
-pub not-of : (b : Bool) (c d : ℕ) → (b ≡ true → c ≢ d) → (b && nat_eq c d) ≡ false
-not-of b c d other = grind (arith, nat_tests)
-
 pub other-number : (b : Bool) (n k : ℕ) → k ≤ n → (b && nat_eq (suc n) k) ≡ false
-other-number b n k le = not-of b (suc n) k (λ e p. omega arith)
+other-number b n k le = grind (arith, nat_tests)
 
 pub own-number : (b : Bool) (c : ℕ) → b ≡ true → (b && nat_eq c c) ≡ true
 own-number b c e = bool.and_from b (nat_eq c c) e (bool.eq-eqb c c refl)
@@ -50,13 +43,17 @@ pub some-and : {X : Type 0} (P : X → Type 0) (o : Option X) (x : X) → o ≡ 
 some-and P o x e a = rw e at a
 
 pub some-mapped : {X Y : Type 0} (f : X → Y) (o : Option X) (y : Y) → option_map f o ≡ Some y → (x : X) × (o ≡ Some x) × (f x ≡ y)
-some-mapped f o y e = grind arith
+some-mapped f None y e = absurd (cc)
+some-mapped f (Some x) y e = (x, refl, cc)
 
 pub some-then : {X Y : Type 0} (f : X → Option Y) (o : Option X) (y : Y) → option_and_then f o ≡ Some y → (x : X) × (o ≡ Some x) × (f x ≡ Some y)
-some-then f o y e = grind arith
+some-then f None y e = absurd (cc)
+some-then f (Some x) y e = (x, refl, e)
 
 pub on-ok : {T E P Q : Type 0} (r : Result T E) → OnOk r P → (P → Q) → OnOk r Q
-on-ok r p f = grind arith
+on-ok (Ok x) p f = f p
+on-ok (Err e) p f = tt
 
 pub on-err : {T E P Q : Type 0} (r : Result T E) → OnErr r P → (P → Q) → OnErr r Q
-on-err r p f = grind arith
+on-err (Ok x) p f = tt
+on-err (Err e) p f = f p

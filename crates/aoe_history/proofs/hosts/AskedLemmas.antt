@@ -1,5 +1,5 @@
 -- What a host asks of its devices, and which slot takes its frames.
-use Rattle.std.proofs.Common.{ℕ, ◌<◌, ◌≤◌, ◌≡◌, inl, inr, nat_eq, true, ◌&&◌, List, [], ◌∷◌, drop, Option, Some, None, sym, ap, ◌∙◌, arith, Contains}
+use Rattle.std.proofs.Common.{ℕ, ◌<◌, ◌≤◌, ◌≡◌, inl, inr, nat_eq, true, ◌&&◌, List, [], ◌∷◌, drop, Some, None, sym, ap, ◌∙◌, arith, Contains}
 use Rattle.std.proofs.lemmas.Bool.{and_parts, cases_Bool}
 use Rattle.std.proofs.lemmas.Bool.Decides.{nat_tests}
 use Rattle.std.proofs.lemmas.Option.{same_Some}
@@ -12,8 +12,7 @@ use Rattle.aoe_ata.specs.declared.decision.AtaDecision.{AtaDecision}
 use Rattle.aoe_initiator.specs.declared.device.Attached.{Attached}
 use Rattle.aoe_initiator.specs.declared.op.Op.{Op}
 use Rattle.aoe_initiator.specs.declared.op.Op.TheVariants.{Write}
-use Rattle.aoe_initiator.specs.declared.refusal.SubmitRefusal.{SubmitRefusal}
-use Rattle.aoe_initiator.specs.HostLaw.{op_refusal, or_backlog, same_id}
+use Rattle.aoe_initiator.specs.HostLaw.{op_refusal, same_id}
 use Rattle.aoe_initiator.specs.Op.{span_of, CanSubmit}
 use Rattle.aoe_initiator.specs.Request.{request, request_header, CanSpell}
 use Rattle.aoe_lists.specs.Settings.{Settings}

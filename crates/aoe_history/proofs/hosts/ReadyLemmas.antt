@@ -1,8 +1,7 @@
 -- When a command is sent: for the first time, once it is clear, with a tag of its own; or again, with its tag.
 use Rattle.std.proofs.Common.{ℕ, zero, suc, ◌<◌, ◌≤◌, ◌≡◌, ◌≢◌, ◌⊎◌, inl, inr, Bool, true, false, List, [], ◌∷◌, Some, None, ap, ◌∙◌, arith, Contains}
-use Rattle.std.proofs.lemmas.Bool.{and_parts, cases_lt, eqb-false, not-true}
+use Rattle.std.proofs.lemmas.Bool.{and_parts, cases_lt, eqb-false}
 use Rattle.std.proofs.lemmas.List.Elements.{Contains-append_left, Contains-push}
-use Rattle.aoe_flight.specs.declared.outstanding.Outstanding.{Outstanding}
 use Rattle.aoe_flight.specs.Outstanding.{has_tag}
 use Rattle.aoe_hold.specs.Commands.{is_unsent}
 use Rattle.aoe_initiator.specs.declared.step.Sent as step
