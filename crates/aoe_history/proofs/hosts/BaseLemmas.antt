@@ -106,21 +106,6 @@ module _ (life : ℕ) (host : HostSetup) (h : List Entry) (name : ArrayVec ℕ) 
       bounds = λ d x e. elim (sent-cases d x e) [ inl p ↦ rw p.0 (r.above, r.submitted) | inr q ↦ b.bounds d x q ];
       last = λ d x e. elim (sent-cases d x e) [ inl p ↦ rw (p.1, sent-last host h c f d) (omega arith) | inr q ↦ b.last d x q ];
       done = λ d e. grind (arith, b.done d e);
-      order = λ e d x s above lt co. elim (sent-cases e x s) [
-        | inl p ↦ own-order d above (rw p.0 at lt) (rw p.0 at co)
-        | inr q ↦ b.order e d x q above lt co
-      ];
-      tags = λ e d x y p q u v t. elim (sent-cases e x p) [
-        | inl p2 ↦ elim (sent-cases d y q) [
-          | inl q2 ↦ p2.0 ∙ sym q2.0
-          | inr q2 ↦ p2.0 ∙ own-tag d y q2 v (own-tag-of e x p2 ∙ t)
-        ]
-        | inr p2 ↦ elim (sent-cases d y q) [
-          | inl q2 ↦ sym (q2.0 ∙ own-tag e x p2 u (own-tag-of d y q2 ∙ sym t))
-          | inr q2 ↦ b.tags e d x y p2 q2 u v t
-        ]
-      ];
+      order = λ e d x s above lt co. grind (arith, sent-cases e x s, own-order d, b.order e d x);
+      tags = λ e d x y p q u v t. grind (arith, sent-cases e x p, sent-cases d y q, own-tag d y, own-tag e x, b.tags e d x y, tag-is);
     }
-      where
-        own-tag-of : (e : ℕ) (x : Sending) → (e ≡ c) × (x ≡ more host h c f e) → r.tag ≡ x.tag
-        own-tag-of e x p = rw (p.1, p.0) (sym tag-is)

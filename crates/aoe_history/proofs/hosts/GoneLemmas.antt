@@ -33,10 +33,7 @@ module _ (life : ℕ) (host : HostSetup) (h : List Entry) (name : ArrayVec ℕ) 
     (mine : is_called host name ≡ true) (r : MayBeSent life host h c f) (reads : (fields f).tag ≡ r.tag) (b : Base life host h) (g : AreGone life host h) where
   -- an earlier command in conflict isn't sent any more
   not-again : (e : ℕ) (x : Sending) → sends_of host h e ≡ Some x → 0 < c → c < e → in_conflict host h c e ≡ true → ⊥
-  not-again e x s above lt co = let done = b.order e c x s above lt co in elim r.may [
-    | inl first ↦ (let sent = rw first.unsent at (b.done c done) in cc)
-    | inr again ↦ not-both _ done again.flying
-  ]
+  not-again e x s above lt co = grind (arith, b.order e c x s above lt co, b.done c, r.may)
 
   own-gone : (d : ℕ) (y : Sending) → sends_of host h d ≡ Some y → 0 < d → d < c → in_conflict host h d c ≡ true
       → has_effect (kind_of (view host h d).op) ≡ true → rests_on_effects (kind_of (view host h c).op) ≡ true
@@ -47,13 +44,5 @@ module _ (life : ℕ) (host : HostSetup) (h : List Entry) (name : ArrayVec ℕ) 
   ]
 
   pub sent-gone : AreGone life host (Sent name c number f ∷ h)
-  sent-gone e d x y p q above lt co eff rests = let cases = sent-cases life host h name c number f mine r reads in elim (cases e x p) [
-    | inl new ↦ elim (cases d y q) [
-      | inl both ↦ absurd (omega arith)
-      | inr old ↦ own-gone d y old above (rw new.0 at lt) (rw new.0 at co) eff (rw new.0 at rests)
-    ]
-    | inr before ↦ elim (cases d y q) [
-      | inl new ↦ absurd (not-again e x before (rw new.0 at above) (rw new.0 at lt) (rw new.0 at co))
-      | inr old ↦ g e d x y before old above lt co eff rests
-    ]
-  ]
+  sent-gone e d x y p q above lt co eff rests = let cases = sent-cases life host h name c number f mine r reads in
+      grind (arith, cases e x p, cases d y q, own-gone d y, not-again e x, g e d x y)
