@@ -1,5 +1,5 @@
 -- The writes of a host that are under way, beside its other commands.
-use Rattle.std.proofs.Common.{ℕ, ◌<◌, ◌≡◌, inl, inr, Bool, true, false, List, Option, Some, refl, sym, ◌∙◌, arith}
+use Rattle.std.proofs.Common.{ℕ, ◌<◌, ◌≡◌, inl, inr, Bool, true, false, List, Option, Some, refl, arith}
 use Rattle.std.proofs.lemmas.Bool.{cases_order, eq-eqb}
 use Rattle.std.proofs.lemmas.Bool.Decides.{nat_tests}
 use Rattle.aoe_base.specs.declared.sectors.Span.{Span}
@@ -48,9 +48,8 @@ op_clash x y = conflict (entered x) (entered y)
 
 conflicts : (host : HostSetup) {slot : SlotSetup} (h : List Entry) (d c : ℕ) {a b : Op} → AsksAt slot (submission host h d) a
     → AsksAt slot (submission host h c) b → op_clash a b ≡ true → in_conflict host h d c ≡ true
-conflicts host h d c p q e =
-    let same = sym (ids-same _ p.dev p.slot_is) ∙ ids-same _ q.dev q.slot_is in
-    rw (p.is, q.is, same, eq-eqb (device_no host q.dev).0 _ refl) e
+conflicts host {slot} h d c p q e =
+    grind (arith, ids-same slot.station.id p.dev p.slot_is, ids-same slot.station.id q.dev q.slot_is, eq-eqb (device_no host q.dev).0 _ refl)
 
 -- UNDER WAY
 
@@ -62,9 +61,7 @@ module _ (life : ℕ) (host : HostSetup) (h : List Entry) (b : Base life host h)
     earlier-done = b.order c d _ p (b.bounds d _ q).0 lt (conflicts host h d c asks later clash)
 
     earlier-over : has_effect (kind_of a) ≡ true → rests_on_effects (kind_of l) ≡ true → is_active life host h d y ≡ true → ⊥
-    earlier-over effect rests active =
-        let gone = g c d _ _ p q (b.bounds d _ q).0 lt (conflicts host h d c asks later clash) (rw asks.is effect) (rw later.is rests) in
-        let over = rw (earlier-done, gone) at active in cc
+    earlier-over effect rests active = grind (arith, earlier-done, b.bounds d y, conflicts host h d c asks later clash, asks.is, later.is, g c d x y)
 
   -- two writes of a sector that are under way are one
   pub one-write : (slot : SlotSetup) (s c d : ℕ) (x y : Sending) (v w : List ℕ) → sends_of host h c ≡ Some x

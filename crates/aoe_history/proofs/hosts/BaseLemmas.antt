@@ -4,7 +4,6 @@ use Rattle.std.proofs.lemmas.Bool.Decides.{nat_tests}
 use Rattle.arrayvec.specs.ArrayVec.{ArrayVec}
 use Rattle.aoe_base.specs.declared.counted.Millis.{Millis}
 use Rattle.aoe_base.specs.declared.counted.PathNo.{PathNo}
-use Rattle.aoe_flight.specs.Outstanding.{rest_time}
 use Rattle.aoe_frame.specs.Header.{fields}
 use Rattle.aoe_initiator.specs.HostLog.{one_more, Sending}
 use Rattle.aoe_history.specs.declared.entry.Entry.{Entry}
@@ -42,19 +41,12 @@ live-by rest now later last done done2 le d e = grind (arith, nat_tests)
 
 pub keeps-base : {life : ℕ} {host : HostSetup} {h n : List Entry} → Keeps host h n → Base life host h → Base life host n
 keeps-base {life} {host} {h} {n} k b = record {
-  bounds = λ c x e. let p = b.bounds c x (was c e) in (p.0, omega arith);
-  last = λ c x e. let p = b.last c x (was c e) in omega arith;
-  done = λ c e. rw k.sends (elim (k.ended c e) [ inl d ↦ b.done c d | inr s ↦ s ]);
-  order = λ c d x e above lt co. let p = b.bounds c x (was c e) in
-      k.done d (b.order c d x (was c e) above lt (rw (k.submissions d (omega arith), k.submissions c p.1) at co));
-  tags = λ c d x y p q u v t. b.tags c d x y (was c p) (was d q) (live c x u) (live d y v) t;
+  bounds = λ c x e. grind (arith, k.sends c, b.bounds c x);
+  last = λ c x e. grind (arith, k.sends c, b.last c x);
+  done = λ c e. grind (arith, k.sends c, k.ended c e, b.done c);
+  order = λ c d x e above lt co. grind (arith, k.sends c, b.bounds c x, k.submissions c, k.submissions d, b.order c d x, k.done d);
+  tags = λ c d x y p q u v t. grind (arith, nat_tests, k.sends c, k.sends d, k.done c, k.done d, b.tags c d x y);
 }
-  where
-    was : (c : ℕ) {x : Sending} → sends_of host n c ≡ Some x → sends_of host h c ≡ Some x
-    was c e = sym (k.sends c) ∙ e
-
-    live : (c : ℕ) (x : Sending) → is_live life host n c x ≡ true → is_live life host h c x ≡ true
-    live c x e = live-by (rest_time life) _ _ x.last.0 _ _ k.time (k.done c) e
 
 -- A SEND OF THE HOST'S
 
@@ -89,10 +81,7 @@ module _ (life : ℕ) (host : HostSetup) (h : List Entry) (name : ArrayVec ℕ) 
 
   module _ (b : Base life host h) where
     own-order : (d : ℕ) → 0 < d → d < c → in_conflict host h d c ≡ true → was_done host h d ≡ true
-    own-order d above lt co = elim r.may [
-      | inl first ↦ (let past = (first.past d above lt co).done in grind arith)
-      | inr again ↦ b.order c d again.before again.sent above lt co
-    ]
+    own-order d above lt co = grind (arith, r.may, b.order c d)
 
     -- no other live command has the tag
     own-tag : (d : ℕ) (y : Sending) → sends_of host h d ≡ Some y → is_live life host h d y ≡ true → r.tag ≡ y.tag → c ≡ d

@@ -19,7 +19,7 @@ use Rattle.aoe_history.specs.HostLaw.{IsDone, IsSent}
 use Rattle.aoe_history.specs.Lawful.{IsLawful}
 use Rattle.aoe_history.specs.Setup.{host_called, is_called, HostSetup, Setup}
 use Rattle.aoe_history.proofs.hosts.SendLemmas.{filtered-from}
-use Rattle.aoe_history.proofs.LogicLemmas.{map-append, map-map, other-number, own-number, some-and, some-mapped}
+use Rattle.aoe_history.proofs.LogicLemmas.{map-append, map-map, other-number, own-number, some-and}
 use Rattle.aoe_initiator.proofs.ListLemmas.{Contains-map_from}
 
 -- what holds of the commands of a lawful history
@@ -127,9 +127,7 @@ pub sent-at : {host : HostSetup} {h : List Entry} {c : ℕ} {o : Outstanding} �
     → IsSentAt host h c o
 sent-at {host} {h} {c} {o} k there e =
     let x = filtered-from as_sent (commands_of host h) o there in
-    let y = some-mapped (outstanding x.0) x.0.sends o x.2 in
-    let v = view-at k x.1 (ap (λ (z : Outstanding). z.ticket.0) y.2 ∙ e) in
-    grind arith
+    grind (arith, viewed host h x.0 k x.1)
 
 -- THE COMMANDS OF A LAWFUL HISTORY
 

@@ -1,5 +1,5 @@
 -- Once a command that rests on effects was sent, no frame of an earlier one in conflict that has effects can arrive.
-use Rattle.std.proofs.Common.{ℕ, ◌<◌, ◌≡◌, inl, inr, true, List, ◌∷◌, Some, sym, ◌∙◌, arith}
+use Rattle.std.proofs.Common.{ℕ, ◌<◌, ◌≡◌, inl, inr, true, List, ◌∷◌, Some, arith}
 use Rattle.std.proofs.lemmas.Bool.Decides.{nat_tests}
 use Rattle.arrayvec.specs.ArrayVec.{ArrayVec}
 use Rattle.aoe_frame.specs.Header.{fields}
@@ -13,7 +13,6 @@ use Rattle.aoe_history.specs.Frames.{clock}
 use Rattle.aoe_history.specs.Setup.{is_called, HostSetup}
 use Rattle.aoe_history.proofs.hosts.BaseLemmas.{sent-cases, Base, Keeps}
 use Rattle.aoe_history.proofs.hosts.ReadyLemmas.{MayBeSent}
-use Rattle.aoe_history.proofs.LogicLemmas.{not-both}
 
 abbrev pub AreGone : ℕ → HostSetup → List Entry → Type 0
 AreGone life host h = (c d : ℕ) (x y : Sending) → sends_of host h c ≡ Some x → sends_of host h d ≡ Some y → 0 < d → d < c → in_conflict host h d c ≡ true
@@ -21,13 +20,7 @@ AreGone life host h = (c d : ℕ) (x y : Sending) → sends_of host h c ≡ Some
 
 pub keeps-gone : {life : ℕ} {host : HostSetup} {h n : List Entry} → Keeps host h n → Base life host h → AreGone life host h → AreGone life host n
 keeps-gone {life} {host} {h} {n} k b g c d x y p q above lt co eff rests =
-    let s = sym (k.sends c) ∙ p in
-    let t = sym (k.sends d) ∙ q in
-    let own = k.submissions c (b.bounds c x s).1 in
-    let other = k.submissions d (b.bounds d y t).1 in
-    let gone = g c d x y s t above lt (rw (other, own) at co) (rw other at eff) (rw own at rests) in
-    let le = k.time in
-    grind (arith, nat_tests)
+    grind (arith, nat_tests, k.sends c, k.sends d, b.bounds c x, b.bounds d y, k.submissions c, k.submissions d, g c d x y)
 
 module _ (life : ℕ) (host : HostSetup) (h : List Entry) (name : ArrayVec ℕ) (c number : ℕ) (f : List ℕ)
     (mine : is_called host name ≡ true) (r : MayBeSent life host h c f) (reads : (fields f).tag ≡ r.tag) (b : Base life host h) (g : AreGone life host h) where
@@ -39,7 +32,7 @@ module _ (life : ℕ) (host : HostSetup) (h : List Entry) (name : ArrayVec ℕ) 
       → has_effect (kind_of (view host h d).op) ≡ true → rests_on_effects (kind_of (view host h c).op) ≡ true
       → is_gone life (clock h) y.last.0 ≡ true
   own-gone d y s above lt co eff rests = elim r.may [
-    | inl first ↦ (let gone = rw s at ((first.past d above lt co).gone eff rests) in grind arith)
+    | inl first ↦ (let gone = (first.past d above lt co).gone eff rests in grind arith)
     | inr again ↦ g c d again.before y again.sent s above lt co eff rests
   ]
 
