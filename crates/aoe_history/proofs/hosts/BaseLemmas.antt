@@ -77,7 +77,7 @@ module _ (life : ℕ) (host : HostSetup) (h : List Entry) (name : ArrayVec ℕ) 
   sent-cases d x e = grind (arith, nat_tests)
 
   pub tag-is : (more host h c f c).tag ≡ r.tag
-  tag-is = elim r.may [ inl first ↦ rw first.unsent reads | inr again ↦ rw again.sent again.same ]
+  tag-is = grind (arith, r.may)
 
   module _ (b : Base life host h) where
     own-order : (d : ℕ) → 0 < d → d < c → in_conflict host h d c ≡ true → was_done host h d ≡ true
@@ -92,8 +92,8 @@ module _ (life : ℕ) (host : HostSetup) (h : List Entry) (name : ArrayVec ℕ) 
 
     pub sent-base : Base life host after
     sent-base = record {
-      bounds = λ d x e. elim (sent-cases d x e) [ inl p ↦ rw p.0 (r.above, r.submitted) | inr q ↦ b.bounds d x q ];
-      last = λ d x e. elim (sent-cases d x e) [ inl p ↦ rw (p.1, sent-last host h c f d) (omega arith) | inr q ↦ b.last d x q ];
+      bounds = λ d x e. grind (arith, sent-cases d x e, b.bounds d x);
+      last = λ d x e. grind (arith, sent-cases d x e, sent-last host h c f d, b.last d x);
       done = λ d e. grind (arith, b.done d e);
       order = λ e d x s above lt co. grind (arith, sent-cases e x s, own-order d, b.order e d x);
       tags = λ e d x y p q u v t. grind (arith, sent-cases e x p, sent-cases d y q, own-tag d y, own-tag e x, b.tags e d x y, tag-is);

@@ -96,7 +96,7 @@ module _ (life : ℕ) (host : HostSetup) (h : List Entry) (name : ArrayVec ℕ) 
       sending = base.more host h c f x.ticket;
       sent = rw own;
       request = rw x.sent x.request;
-      time = (let t = x.time in let l = b.last x.ticket x.sending x.sent in rw (base.sent-last host h c f x.ticket) (omega arith));
+      time = grind (arith, x.time, b.last x.ticket x.sending x.sent, base.sent-last host h c f x.ticket);
     }
     | inr other ↦ record { ticket = x.ticket; sending = x.sending; sent = rw other x.sent; request = x.request; time = x.time }
   ]

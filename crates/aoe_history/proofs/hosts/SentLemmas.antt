@@ -50,13 +50,12 @@ about-at ports life now n cs (a ∷ ds) (suc k) = about-at ports life now (n + 1
 
 pub device-at : (ports : List Mac) (life now n : ℕ) (cs : List HostCommand) (ds : List Attached) (k : ℕ) (d : Device)
     → slice_get (devices_of ports life now cs n ds) k ≡ Some d → slice_get ds k ≡ Some d.about
-device-at ports life now n cs ds k d e = sym (about-at ports life now n cs ds k) ∙ ap (option_map (λ (x : Device). x.about)) e
+device-at ports life now n cs ds k d e = grind (arith, about-at ports life now n cs ds k)
 
 -- what is spelled for a command is its request
 pub spelled-request : (s : Setup) (host : HostSetup) (h : List Entry) (op : Op) (device : DeviceNo) (path : PathNo) (tag : ℕ) (f : List ℕ)
     → tag < 4294967296 → spelled_for (host_after s host h) op device path tag ≡ Some f → IsRequest host device op tag f
-spelled-request s host h op device path tag f small e =
-    grind (arith, device-at, holds-at)
+spelled-request s host h op device path tag f small e = grind (arith, device-at, holds-at)
 
 -- HEADERS
 
