@@ -1,6 +1,5 @@
 -- What a sector of a device holds for a host.
 pub mod SectorLemmas
-pub mod ArrivalLemmas
 pub mod DeedLemmas
 pub mod AtLemmas
 pub mod ArriveLemmas

@@ -1,8 +1,6 @@
 -- Worked histories, and what wrong stations would do.
 pub mod CaseLemmas
-pub mod CentralCase
 pub mod Histories
-pub mod PathCase
 pub mod Refused
 pub mod RefusedPaths
 pub mod CentralGroups

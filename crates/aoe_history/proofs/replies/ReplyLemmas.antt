@@ -1,5 +1,5 @@
 -- What a host reads in the replies of a target.
-use Rattle.std.proofs.Common.{if◌then◌else◌, nat_le, ◌==◌, ℕ, ◌-◌, ◌≤◌, ◌≡◌, inl, inr, true, List, ◌++◌, length, drop, Option, Some, None, refl, sym, ap, ◌∙◌, arith}
+use Rattle.std.proofs.Common.{if◌then◌else◌, nat_le, ◌==◌, ℕ, ◌-◌, ◌≤◌, ◌≡◌, inl, inr, true, List, ◌++◌, length, drop, Option, Some, None, refl, arith}
 use Rattle.std.proofs.lemmas.Bool.{le-leb}
 use Rattle.std.specs.Option.{option_map}
 use Rattle.aoe_ata.specs.Args.{args_bytes}
@@ -42,10 +42,10 @@ pub says-ata : (op : Op) (h : Header) (station : Station) (a : AtaArgs) (outcome
     → answer op (replying station h None) (args_bytes (reply_of a outcome) ++ rest)
     ≡ (if is_failure (status_of outcome) then Some (AtaError (status_of outcome) (error_of outcome)) else ata_success op (length (args_bytes (reply_of a outcome) ++ rest) - 12))
 unfolding answer
-says-ata (Read span) h station a outcome rest c = by-length (length (args_bytes (reply_of a outcome) ++ rest)) (if is_failure (status_of outcome) then Some (AtaError (status_of outcome) (error_of outcome)) else ata_success (Read span) (length (args_bytes (reply_of a outcome) ++ rest) - 12)) None (omega arith)
-says-ata (Write at bytes) h station a outcome rest c = by-length (length (args_bytes (reply_of a outcome) ++ rest)) (if is_failure (status_of outcome) then Some (AtaError (status_of outcome) (error_of outcome)) else Some Written) None (omega arith)
-says-ata Flush h station a outcome rest c = by-length (length (args_bytes (reply_of a outcome) ++ rest)) (if is_failure (status_of outcome) then Some (AtaError (status_of outcome) (error_of outcome)) else Some Flushed) None (omega arith)
-says-ata Identify h station a outcome rest c = by-length (length (args_bytes (reply_of a outcome) ++ rest)) (if is_failure (status_of outcome) then Some (AtaError (status_of outcome) (error_of outcome)) else ata_success Identify (length (args_bytes (reply_of a outcome) ++ rest) - 12)) None (omega arith)
+says-ata (Read span) h station a outcome rest c = by-length (length (args_bytes (reply_of a outcome) ++ rest)) _ _ (omega arith)
+says-ata (Write at bytes) h station a outcome rest c = by-length (length (args_bytes (reply_of a outcome) ++ rest)) _ _ (omega arith)
+says-ata Flush h station a outcome rest c = by-length (length (args_bytes (reply_of a outcome) ++ rest)) _ _ (omega arith)
+says-ata Identify h station a outcome rest c = by-length (length (args_bytes (reply_of a outcome) ++ rest)) _ _ (omega arith)
 says-ata _ h station a outcome rest c = absurd (cc)
 
 -- A REPLY, READ
@@ -56,26 +56,22 @@ pub record IsRead (reply : List ℕ) (h : Header) (args : List ℕ) : Type 0 whe
   pub zeros : List ℕ
   pub rest : drop 24 reply ≡ args ++ zeros
 
-pub reply-read : (station : Station) (h : Header) (error : Option AoeError) (args : List ℕ) → Fits (replying station h error) → IsRead (spelled station h error args) (replying station h error) args
-unfolding spelled
-reply-read station h error args fits = record {
-  head_is = fields-are (padded (header_bytes (replying station h error) ++ args)) (replying station h error) (padded-head (replying station h error) args fits);
-  zeros = zeros_behind (header_bytes (replying station h error) ++ args);
-  rest = padded-rest (replying station h error) args fits;
-}
-
--- it is read by a host as its header and arguments are
-pub answered-as : (op : Op) (reply args : List ℕ) (h : Header) (a b : Answer) → (r : IsRead reply h args) → answer op (fields reply) (drop 24 reply) ≡ Some a → answer op h (args ++ r.zeros) ≡ Some b → a ≡ b
-answered-as op reply args h a b r p q =
-    some-same a b (sym p ∙ ap (λ x. answer op x (drop 24 reply)) r.head_is ∙ ap (λ l. answer op h l) r.rest ∙ q)
-  where
-    some-same : (a b : Answer) → Some a ≡ Some b → a ≡ b
-    some-same a b e = cc
-
 -- the header of a reply fits where that of the request does
-pub reply-fits : (station : Station) (h : Header) (error : Option AoeError) → Fits h → CanReply station h → Fits (replying station h error)
+reply-fits : (station : Station) (h : Header) (error : Option AoeError) → Fits h → CanReply station h → Fits (replying station h error)
 reply-fits station h None fits can = record { dst = fits.src; src = can.port; version = omega arith; flags = inr (inr (inl refl)); major = can.major; tag = fits.tag }
 reply-fits station h (Some error) fits can = record { dst = fits.src; src = can.port; version = omega arith; flags = inr (inr (inr refl)); major = can.major; tag = fits.tag }
+
+pub reply-read : {station : Station} {h : Header} {args reply : List ℕ} (error : Option AoeError) → Fits h → CanReply station h → reply ≡ spelled station h error args
+    → IsRead reply (replying station h error) args
+unfolding spelled
+reply-read {station} {h} {args} error fits can is =
+    let new = replying station h error in
+    let new_fits = reply-fits station h error fits can in
+    rw is (record {
+      head_is = fields-are (padded (header_bytes new ++ args)) new (padded-head new args new_fits);
+      zeros = zeros_behind (header_bytes new ++ args);
+      rest = padded-rest new args new_fits;
+    })
 
 -- WHAT A RESPONSE TELLS
 

@@ -1,8 +1,7 @@
 -- The entries of worked histories, each by tests that compute.
-use Rattle.std.specs.Bool.{OnTrue}
-use Rattle.std.proofs.Common.{inl, inr, is_none, IfSome, MatchBool, ℕ, suc, ◌+◌, ◌≡◌, ◌<◌, ◌≤◌, Bool, true, false, not, ◌&&◌, ◌||◌, nat_lt, nat_le, List, ◌∷◌, length, drop, Option, Some, None, refl, arith, slice_index_or, All, Contains}
+use Rattle.std.proofs.Common.{inl, inr, is_none, IfSome, MatchBool, ℕ, suc, ◌+◌, ◌≡◌, ◌≤◌, Bool, true, false, not, ◌&&◌, ◌||◌, nat_lt, nat_le, List, ◌∷◌, length, drop, Option, Some, None, refl, arith, slice_index_or, All, Contains}
 use Rattle.std.specs.List.{list_all}
-use Rattle.std.proofs.lemmas.Bool.Decides.{nat_tests}
+use Rattle.std.proofs.lemmas.Bool.{and_parts, leb-true, ltb-true, OnTrue_from}
 use Rattle.std.proofs.lemmas.List.Elements.{Contains-get_or}
 use Rattle.std.proofs.lemmas.List.Sums.{AllPass-from_list_all}
 use Rattle.aoe_flight.specs.declared.outstanding.Outstanding.{Outstanding}
@@ -39,32 +38,42 @@ use Rattle.aoe_history.proofs.LogicLemmas.{not-true}
 abbrev nobody : HostCommand
 nobody = submitted (record { 0 = 0 }) (record { 0 = 0 }) Flush
 
--- the command at a place
-abbrev pub nth : List HostCommand → ℕ → HostCommand
-nth cs k = slice_index_or cs k nobody
+-- the command of the host at a place, and of those that were sent
+abbrev pub nth : HostSetup → List Entry → ℕ → HostCommand
+nth host h k = slice_index_or (commands_of host h) k nobody
+
+abbrev unsent : Outstanding
+unsent = record {
+  ticket = record { 0 = 0 };
+  flying = record { tag = 0; first = record { 0 = 0 }; last = record { 0 = 0 }; path = record { 0 = 0 }; sends = 0 };
+  wait = record { 0 = 0 };
+  finished = false;
+}
+
+abbrev pub nth_sent : HostSetup → List Entry → ℕ → Outstanding
+nth_sent host h k = slice_index_or (sent_of (commands_of host h)) k unsent
+
+-- the path that is next for a command
+abbrev pub path_for : Setup → HostSetup → List Entry → HostCommand → ℕ
+path_for s host h x = next_of (paths_to (host_after s host h) x.device.0) (missed_by x.sends (path_log (log_of host h) x.device.0))
 
 all-fail : {X : Type 0} (p : X → Bool) (xs : List X) → list_all (λ x. not (p x)) xs ≡ true → All (λ x. p x ≡ false) xs
 all-fail p xs e = λ k d lt. not-true (p (slice_index_or xs k d)) (AllPass-from_list_all (λ x. not (p x)) xs e k d lt)
-
-lt-of : (a b : ℕ) → nat_lt a b ≡ true → a < b
-lt-of a b e = grind (arith, nat_tests)
 
 pub or-of : (a b : Bool) → (not a || b) ≡ true → a ≡ true → b ≡ true
 or-of true b e x = e
 or-of false b e x = absurd (cc)
 
-le-of : (a b : ℕ) → nat_le a b ≡ true → a ≤ b
-le-of a b e = grind (arith, nat_tests)
+there : (host : HostSetup) (h : List Entry) (k : ℕ) → nat_lt k (length (commands_of host h)) ≡ true → Contains (commands_of host h) (nth host h k)
+there host h k e = Contains-get_or (commands_of host h) k nobody (ltb-true _ _ e)
 
-pub there : (cs : List HostCommand) (k : ℕ) → nat_lt k (length cs) ≡ true → Contains cs (nth cs k)
-there cs k e = Contains-get_or cs k nobody (lt-of k (length cs) e)
+-- the command at a place is the lowest of those that pass a test
+abbrev is_lowest : (HostCommand → Bool) → HostSetup → List Entry → ℕ → Bool
+is_lowest test host h k = list_all (λ c. not (test c) || nat_le (nth host h k).ticket.0 c.ticket.0) (commands_of host h)
 
--- a command is the lowest of those that pass a test
-abbrev pub is_lowest : (HostCommand → Bool) → List HostCommand → ℕ → Bool
-is_lowest test cs k = list_all (λ c. not (test c) || nat_le (nth cs k).ticket.0 c.ticket.0) cs
-
-lowest-of : (test : HostCommand → Bool) (cs : List HostCommand) (k : ℕ) → is_lowest test cs k ≡ true → All (λ c. test c ≡ true → (nth cs k).ticket.0 ≤ c.ticket.0) cs
-lowest-of test cs k e = λ i d lt clear. le-of (nth cs k).ticket.0 (slice_index_or cs i d).ticket.0 (or-of (test (slice_index_or cs i d)) (nat_le (nth cs k).ticket.0 (slice_index_or cs i d).ticket.0) (AllPass-from_list_all (λ c. not (test c) || nat_le (nth cs k).ticket.0 c.ticket.0) cs e i d lt) clear)
+lowest-of : (test : HostCommand → Bool) (host : HostSetup) (h : List Entry) (k : ℕ) → is_lowest test host h k ≡ true
+    → All (λ c. test c ≡ true → (nth host h k).ticket.0 ≤ c.ticket.0) (commands_of host h)
+lowest-of test host h k e = λ i d lt clear. leb-true _ _ (or-of _ _ (AllPass-from_list_all (λ c. not (test c) || nat_le (nth host h k).ticket.0 c.ticket.0) (commands_of host h) e i d lt) clear)
 
 -- THE ENTRIES OF A HISTORY, the latest first
 
@@ -78,54 +87,47 @@ pub submits : {s : Setup} {host : HostSetup} {h : List Entry} {c : ℕ} {dev : T
 submits attached can taken next = record { device = 0; attached = attached; can = can; taken = taken; next = next }
 
 -- a command of the host is sent for the first time
-pub starts : {s : Setup} {host : HostSetup} {h : List Entry} {c : ℕ} {bytes : List ℕ} (k tag path : ℕ) → (nth (commands_of host h) k).ticket.0 ≡ c
+pub starts : {s : Setup} {host : HostSetup} {h : List Entry} {c : ℕ} {bytes : List ℕ} (k tag path : ℕ) → (nth host h k).ticket.0 ≡ c
     → list_all (λ o. not (is_due (clock h) o)) (sent_of (commands_of host h)) ≡ true
     → nat_lt (length (live (rest_time s.life) (clock h) (sent_of (commands_of host h)))) host.room ≡ true
     → nat_lt k (length (commands_of host h)) ≡ true
-    → is_clear_at s.life (clock h) (commands_of host h) (nth (commands_of host h) k) ≡ true
-    → is_lowest (is_clear_at s.life (clock h) (commands_of host h)) (commands_of host h) k ≡ true
-    → is_taken (live (rest_time s.life) (clock h) (sent_of (commands_of host h))) tag ≡ false → nat_lt tag 4294967296 ≡ true
-    → path ≡ next_of (paths_to (host_after s host h) (nth (commands_of host h) k).device.0) (missed_by (nth (commands_of host h) k).sends (path_log (log_of host h) (nth (commands_of host h) k).device.0))
-    → spelled (host_after s host h) (nth (commands_of host h) k) (record { 0 = path }) tag ≡ Some bytes → IsSent s host h c (next_number h) bytes
-starts {s} {host} {h} {c} {bytes} k tag path is due room within clear lowest free fits next spells = record {
-  sent = record { ticket = (nth (commands_of host h) k).ticket; tag = tag; path = record { 0 = path }; again = false };
-  ticket_is = is;
-  may = record {
-    nothing_due = all-fail (is_due (clock h)) (sent_of (commands_of host h)) due;
-    room = lt-of (length (live (rest_time s.life) (clock h) (sent_of (commands_of host h)))) host.room room;
-    command = nth (commands_of host h) k;
-    there = there (commands_of host h) k within;
-    ticket = refl;
-    clear = clear;
-    lowest = lowest-of (is_clear_at s.life (clock h) (commands_of host h)) (commands_of host h) k lowest;
-    free = free;
-  };
-  path = record { command = nth (commands_of host h) k; there = there (commands_of host h) k within; ticket = refl; next = next };
-  frame = record { command = nth (commands_of host h) k; there = there (commands_of host h) k within; ticket = refl; bytes = spells };
-  tag_fits = lt-of tag 4294967296 fits;
-  number_is = refl;
-}
+    → is_clear_at s.life (clock h) (commands_of host h) (nth host h k) ≡ true
+    → is_lowest (is_clear_at s.life (clock h) (commands_of host h)) host h k ≡ true
+    → is_taken (live (rest_time s.life) (clock h) (sent_of (commands_of host h))) tag ≡ false → nat_lt tag 4294967296 ≡ true → path ≡ path_for s host h (nth host h k)
+    → spelled (host_after s host h) (nth host h k) (record { 0 = path }) tag ≡ Some bytes → IsSent s host h c (next_number h) bytes
+starts {s} {host} {h} k tag path is due room within clear lowest free fits next spells =
+    let its = there host h k within in
+    record {
+      sent = record { ticket = (nth host h k).ticket; tag = tag; path = record { 0 = path }; again = false };
+      ticket_is = is;
+      may = record {
+        nothing_due = all-fail (is_due (clock h)) _ due;
+        room = ltb-true _ _ room;
+        command = nth host h k;
+        there = its;
+        ticket = refl;
+        clear = clear;
+        lowest = lowest-of (is_clear_at s.life (clock h) (commands_of host h)) host h k lowest;
+        free = free;
+      };
+      path = record { command = nth host h k; there = its; ticket = refl; next = next };
+      frame = record { command = nth host h k; there = its; ticket = refl; bytes = spells };
+      tag_fits = ltb-true _ _ fits;
+      number_is = refl;
+    }
 
 -- a response ends a command
-pub responds : {s : Setup} {host : HostSetup} {h : List Entry} {f : List ℕ} {c : ℕ} (k : ℕ) (answer : Answer) → (nth (commands_of host h) k).ticket.0 ≡ c
-    → nat_lt k (length (commands_of host h)) ≡ true → answer_to (host_after s host h) (nth (commands_of host h) k) f ≡ Some answer
-    → IsResponse s host h f c (outcome_of answer (drop 24 f))
-responds {s} {host} {h} k answer is within says = record {
-  command = nth (commands_of host h) k;
-  there = there (commands_of host h) k within;
-  ticket_is = is;
-  answer = answer;
-  says = says;
-  gives = refl;
-}
+pub responds : {s : Setup} {host : HostSetup} {h : List Entry} {f : List ℕ} {c : ℕ} (k : ℕ) (answer : Answer) → (nth host h k).ticket.0 ≡ c
+    → nat_lt k (length (commands_of host h)) ≡ true → answer_to (host_after s host h) (nth host h k) f ≡ Some answer → IsResponse s host h f c (outcome_of answer (drop 24 f))
+responds {host = host} {h} k answer is within says = record { command = nth host h k; there = there host h k within; ticket_is = is; answer = answer; says = says; gives = refl }
 
 -- the host takes it, and the command has its outcome
 pub ends : {s : Setup} {host : HostSetup} {h : List Entry} {name : ArrayVec ℕ} {n c : ℕ} {f : List ℕ} {o : Outcome} → arriving s.life h n ≡ Some f → IsResponse s host h f c o
     → IsDone s host (Took name n false ∷ h) c o × IsTaking s host h n false
-ends {n = n} {c} {f} {o} fresh r = (
-  inl (record { number = n; bytes = f; fresh = fresh; response = record { command = r.command; there = r.there; ticket_is = r.ticket_is; answer = r.answer; says = r.says; gives = r.gives } }),
-  record { bytes = f; fresh = fresh; law = (c, o, r) },
-)
+ends {s} {host} {h} {name} {n} {c} {f} {o} fresh r =
+    let response : IsResponse s host (Took name n false ∷ h) f c o =
+    record { command = r.command; there = r.there; ticket_is = r.ticket_is; answer = r.answer; says = r.says; gives = r.gives } in
+    (inl (record { number = n; bytes = f; fresh = fresh; response = response }), record { bytes = f; fresh = fresh; law = (c, o, r) })
 
 -- two entries before the others
 infixr 4 ◌upon◌
@@ -136,14 +138,10 @@ x upon l = (x.0, (x.1, l))
 unarmed : (slot : SlotSetup) (h : List Entry) (f : List ℕ) (fate : Fate) → stretch Store slot h ≡ None → stretch Keep slot h ≡ None → is_struck fate ≡ false
     → KeepsArming slot h f fate
 unarmed slot h f fate store keep e = record {
-  store = on (calls Store slot h f) (IsStruckBy Store slot (stretch Store slot h) fate) (rw store (by-cache (is_none slot.cache)));
-  keep = on (calls Keep slot h f) (IsStruckBy Keep slot (stretch Keep slot h) fate) (rw keep e);
+  store = OnTrue_from (calls Store slot h f) (IsStruckBy Store slot (stretch Store slot h) fate) (λ called. rw store (by-cache (is_none slot.cache)));
+  keep = OnTrue_from (calls Keep slot h f) (IsStruckBy Keep slot (stretch Keep slot h) fate) (λ called. rw keep e);
 }
   where
-    on : (b : Bool) (P : Type 0) → P → OnTrue b P
-    on true P p = p
-    on false P p = tt
-
     by-cache : (b : Bool) → MatchBool b (is_struck fate ≡ false) (is_struck fate ≡ false)
     by-cache true = e
     by-cache false = e
@@ -156,7 +154,13 @@ tells-one (Some k) at bytes e = λ i lt. let z : i ≡ 0 = omega arith in rw z e
 -- a frame comes to a slot
 pub comes : {s : Setup} {slot : SlotSetup} {h : List Entry} {n : ℕ} {f : List ℕ} {fate : Fate} → arriving s.life h n ≡ Some f → KeepsShelfLaw slot h f fate
     → stretch Store slot h ≡ None → stretch Keep slot h ≡ None → is_struck fate ≡ false → IsNumbered (next_number h) fate → IsArrival s slot h n fate
-comes {s} {slot} {h} {n} {f} {fate} fresh law store keep struck numbered = record { bytes = f; fresh = fresh; law = law; arming = unarmed slot h f fate store keep struck; numbered = numbered }
+comes {slot = slot} {h} {f = f} {fate} fresh law store keep struck numbered = record {
+  bytes = f;
+  fresh = fresh;
+  law = law;
+  arming = unarmed slot h f fate store keep struck;
+  numbered = numbered;
+}
 
 -- one that reads a sector
 pub reads : {s : Setup} {n m : ℕ} {reply : List ℕ} (slot : SlotSetup) (h : List Entry) (f : List ℕ) (at : ℕ) (bytes : List ℕ) → arriving s.life h n ≡ Some f
@@ -167,64 +171,54 @@ reads slot h f at bytes fresh law known store keep numbered = comes fresh (law (
 
 -- A REPEAT
 
-abbrev unsent : Outstanding
-unsent = record { ticket = record { 0 = 0 }; flying = record { tag = 0; first = record { 0 = 0 }; last = record { 0 = 0 }; path = record { 0 = 0 }; sends = 0 }; wait = record { 0 = 0 }; finished = false }
+-- the command at a place of those that were sent passes a test, and none that does comes before it
+abbrev is_first : (Outstanding → Bool) → (Outstanding → Outstanding → Bool) → HostSetup → List Entry → ℕ → Bool
+is_first test before host h k =
+    nat_lt k (length (sent_of (commands_of host h)))
+    && (test (nth_sent host h k) && list_all (λ o. not (test o) || not (before o (nth_sent host h k))) (sent_of (commands_of host h)))
 
--- the command at a place of those that were sent
-abbrev pub nth_sent : List HostCommand → ℕ → Outstanding
-nth_sent cs k = slice_index_or (sent_of cs) k unsent
-
--- it passes a test, and none that does comes before it
-abbrev pub is_first : (Outstanding → Bool) → (Outstanding → Outstanding → Bool) → List HostCommand → ℕ → Bool
-is_first test before cs k =
-    nat_lt k (length (sent_of cs)) && (test (nth_sent cs k) && list_all (λ o. not (test o) || not (before o (nth_sent cs k))) (sent_of cs))
-
-both-of : (a b : Bool) → (a && b) ≡ true → (a ≡ true) × (b ≡ true)
-both-of true b e = (refl, e)
-both-of false b e = absurd (cc)
-
-first-of : (test : Outstanding → Bool) (before : Outstanding → Outstanding → Bool) (cs : List HostCommand) (k : ℕ) → is_first test before cs k ≡ true → IsFirst test before (sent_of cs) (nth_sent cs k)
-first-of test before cs k e =
-    let x = both-of (nat_lt k (length (sent_of cs))) (test (nth_sent cs k) && list_all (λ o. not (test o) || not (before o (nth_sent cs k))) (sent_of cs)) e in
-    let y = both-of (test (nth_sent cs k)) (list_all (λ o. not (test o) || not (before o (nth_sent cs k))) (sent_of cs)) x.1 in
+first-of : (test : Outstanding → Bool) (before : Outstanding → Outstanding → Bool) (host : HostSetup) (h : List Entry) (k : ℕ) → is_first test before host h k ≡ true
+    → IsFirst test before (sent_of (commands_of host h)) (nth_sent host h k)
+first-of test before host h k e =
+    let sent = sent_of (commands_of host h) in
+    let x = and_parts _ _ e in
+    let y = and_parts _ _ x.1 in
     record {
-      there = Contains-get_or (sent_of cs) k unsent (lt-of k (length (sent_of cs)) x.0);
+      there = Contains-get_or sent k unsent (ltb-true _ _ x.0);
       passes = y.0;
-      least = λ i d lt t. not-true (before (slice_index_or (sent_of cs) i d) (nth_sent cs k))
-          (or-of (test (slice_index_or (sent_of cs) i d)) (not (before (slice_index_or (sent_of cs) i d) (nth_sent cs k)))
-          (AllPass-from_list_all (λ o. not (test o) || not (before o (nth_sent cs k))) (sent_of cs) y.1 i d lt) t);
+      least = λ i d lt t. not-true _ (or-of _ _ (AllPass-from_list_all (λ o. not (test o) || not (before o (nth_sent host h k))) sent y.1 i d lt) t);
     }
 
 -- a command of the host is sent again
-pub repeats : {s : Setup} {host : HostSetup} {h : List Entry} {c : ℕ} {bytes : List ℕ} (k j path : ℕ) → (nth_sent (commands_of host h) j).ticket.0 ≡ c
-    → is_first (is_due (clock h)) precedes (commands_of host h) j ≡ true → nat_lt k (length (commands_of host h)) ≡ true
-    → (nth (commands_of host h) k).ticket ≡ (nth_sent (commands_of host h) j).ticket
-    → nat_lt (nth_sent (commands_of host h) j).flying.tag 4294967296 ≡ true
-    → path ≡ next_of (paths_to (host_after s host h) (nth (commands_of host h) k).device.0) (missed_by (nth (commands_of host h) k).sends (path_log (log_of host h) (nth (commands_of host h) k).device.0))
-    → spelled (host_after s host h) (nth (commands_of host h) k) (record { 0 = path }) (nth_sent (commands_of host h) j).flying.tag ≡ Some bytes → IsSent s host h c (next_number h) bytes
-repeats {s} {host} {h} {c} {bytes} k j path is first within same fits next spells = record {
-  sent = record { ticket = (nth_sent (commands_of host h) j).ticket; tag = (nth_sent (commands_of host h) j).flying.tag; path = record { 0 = path }; again = true };
-  ticket_is = is;
-  may = record { command = nth_sent (commands_of host h) j; first_due = first-of (is_due (clock h)) precedes (commands_of host h) j first; ticket = refl; tag = refl };
-  path = record { command = nth (commands_of host h) k; there = there (commands_of host h) k within; ticket = same; next = next };
-  frame = record { command = nth (commands_of host h) k; there = there (commands_of host h) k within; ticket = same; bytes = spells };
-  tag_fits = lt-of (nth_sent (commands_of host h) j).flying.tag 4294967296 fits;
-  number_is = refl;
-}
+pub repeats : {s : Setup} {host : HostSetup} {h : List Entry} {c : ℕ} {bytes : List ℕ} (k j path : ℕ) → (nth_sent host h j).ticket.0 ≡ c
+    → is_first (is_due (clock h)) precedes host h j ≡ true → nat_lt k (length (commands_of host h)) ≡ true → (nth host h k).ticket ≡ (nth_sent host h j).ticket
+    → nat_lt (nth_sent host h j).flying.tag 4294967296 ≡ true → path ≡ path_for s host h (nth host h k)
+    → spelled (host_after s host h) (nth host h k) (record { 0 = path }) (nth_sent host h j).flying.tag ≡ Some bytes → IsSent s host h c (next_number h) bytes
+repeats {host = host} {h} k j path is first within same fits next spells =
+    let x = nth_sent host h j in
+    let its = there host h k within in
+    record {
+      sent = record { ticket = x.ticket; tag = x.flying.tag; path = record { 0 = path }; again = true };
+      ticket_is = is;
+      may = record { command = x; first_due = first-of (is_due (clock h)) precedes host h j first; ticket = refl; tag = refl };
+      path = record { command = nth host h k; there = its; ticket = same; next = next };
+      frame = record { command = nth host h k; there = its; ticket = same; bytes = spells };
+      tag_fits = ltb-true _ _ fits;
+      number_is = refl;
+    }
 
 -- GIVING UP, AND STALE RESPONSES
 
-pub gives-up : {s : Setup} {host : HostSetup} {h : List Entry} {c : ℕ} (j : ℕ) → (nth_sent (commands_of host h) j).ticket.0 ≡ c
-    → is_first (is_expired host.dead (clock h)) lower (commands_of host h) j ≡ true → IsGivenUp s host h c (given_up (clock h) (nth_sent (commands_of host h) j)).outcome
-gives-up {s} {host} {h} {c} j is first = record { command = nth_sent (commands_of host h) j; late = first-of (is_expired host.dead (clock h)) lower (commands_of host h) j first; ticket_is = is; gives = refl }
+pub gives-up : {s : Setup} {host : HostSetup} {h : List Entry} {c : ℕ} (j : ℕ) → (nth_sent host h j).ticket.0 ≡ c
+    → is_first (is_expired host.dead (clock h)) lower host h j ≡ true → IsGivenUp s host h c (given_up (clock h) (nth_sent host h j)).outcome
+gives-up {host = host} {h} j is first = record { command = nth_sent host h j; late = first-of (is_expired host.dead (clock h)) lower host h j first; ticket_is = is; gives = refl }
 
 none-of : {X : Type 0} (o : Option X) → is_none o ≡ true → o ≡ None
 none-of None e = refl
 none-of (Some x) e = absurd (cc)
 
 pub stale : (s : Setup) (host : HostSetup) (h : List Entry) (f : List ℕ) → list_all (λ c. is_none (answer_to (host_after s host h) c f)) (commands_of host h) ≡ true → IsStale s host h f
-stale s host h f e = λ k d lt. none-of (answer_to (host_after s host h) (slice_index_or (commands_of host h) k d) f)
-    (AllPass-from_list_all (λ c. is_none (answer_to (host_after s host h) c f)) (commands_of host h) e k d lt)
+stale s host h f e = λ k d lt. none-of _ (AllPass-from_list_all (λ c. is_none (answer_to (host_after s host h) c f)) (commands_of host h) e k d lt)
 
 pub takes-stale : {s : Setup} {host : HostSetup} {h : List Entry} {n : ℕ} {f : List ℕ} → arriving s.life h n ≡ Some f
     → list_all (λ c. is_none (answer_to (host_after s host h) c f)) (commands_of host h) ≡ true → IsTaking s host h n true
@@ -240,10 +234,10 @@ turns s host name got h mid m called gives late sends due clear = record {
   called = called;
   mid = mid;
   gives_up = gives;
-  none_late = all-fail (is_expired host.dead (clock mid)) (sent_of (commands_of host mid)) late;
+  none_late = all-fail (is_expired host.dead (clock mid)) _ late;
   sends = sends;
   none_next = record {
-    nothing_due = all-fail (is_due (clock m)) (sent_of (commands_of host m)) due;
-    nothing_clear = inr (all-fail (is_clear_at s.life (clock m) (commands_of host m)) (commands_of host m) clear);
+    nothing_due = all-fail (is_due (clock m)) _ due;
+    nothing_clear = inr (all-fail (is_clear_at s.life (clock m) (commands_of host m)) _ clear);
   };
 }

@@ -23,7 +23,7 @@ use Rattle.aoe_history.specs.Example.{a, full, host_a, setup, show, span, tell}
 use Rattle.aoe_history.specs.Frames.{clock}
 use Rattle.aoe_history.specs.Groups.{gives_none, sends_none, sends_one, told, Act, Enters, Follows, Got, Group, SendsSome}
 use Rattle.aoe_history.proofs.worked.CaseLemmas.{turns}
-use Rattle.aoe_history.proofs.worked.CentralCase.{flush-answered, read-answered, write-answered}
+use Rattle.aoe_history.proofs.worked.Histories.{flush-answered, read-answered, write-answered}
 
 not-cut : (e : Effect) (n : ℕ) (bytes : List ℕ) → Replied e n bytes ≡ Cut → ⊥
 not-cut e n bytes p = cc

@@ -1,4 +1,4 @@
--- Histories with failures, crashes and repeats keep the laws.
+-- Worked histories keep the laws.
 use Rattle.std.proofs.Common.{inl, inr, [], ◌∷◌, drop, Some, None, refl, arith}
 use Rattle.aoe_disk.specs.declared.loss.Loss.{Loss}
 use Rattle.aoe_disk.specs.declared.loss.Loss.TheVariants.{Keep, Old, Torn, Mix}
@@ -11,12 +11,60 @@ use Rattle.aoe_initiator.specs.Response.{answer}
 use Rattle.aoe_lists.specs.Reserves.{reserve_answer}
 use Rattle.aoe_target.specs.Reply.{spelled}
 use Rattle.aoe_target.specs.Verdict.{verdict}
-use Rattle.aoe_history.specs.Cases.{crashed_write, failed_write, first_read, flush_frame, giving_up, late_acknowledgement, late_read, left_sector, ones_frame, read_after_crash, read_frame, read_twice, refusal_after_effect, stale_response, stopped_flush, torn_sector}
-use Rattle.aoe_history.specs.Example.{full, host_a, host_b, setup, setup_with, slot, slot_with}
+use Rattle.aoe_history.specs.Cases.{crashed_write, failed_write, first_read, flush_frame, giving_up, late_acknowledgement, late_read, left_sector, ones_frame, read_after_crash, read_frame, read_twice, refusal_after_effect, stale_response, stopped_flush, torn_sector, acknowledged, central_case, flushed, stored, write_frame}
+use Rattle.aoe_history.specs.Example.{full, host_a, host_b, setup, setup_with, slot, slot_with, show, tell}
 use Rattle.aoe_history.specs.Lawful.{IsLawful}
 use Rattle.aoe_history.specs.Slots.{zero_sector}
 use Rattle.aoe_history.proofs.worked.CaseLemmas.{◌after◌, ◌upon◌, comes, ends, gives-up, reads, repeats, responds, starts, submits, takes-stale}
-use Rattle.aoe_history.proofs.worked.CentralCase.{acknowledged-lawful, stored-lawful}
+use Rattle.aoe_ata.specs.declared.reply.AtaOutcome.TheVariants.{Done as Good}
+use Rattle.aoe_initiator.specs.declared.outcome.Outcome.TheVariants.{Read as ReadOutcome, Written, Flushed}
+use Rattle.aoe_history.specs.HostLaw.{IsResponse}
+use Rattle.aoe_history.specs.PathCases.{measured, path_case, read_on, sent_thrice, sent_twice, two_paths, two_slot}
+
+-- THE CENTRAL CASE
+
+pub write-answered : IsResponse setup host_a stored (tell write_frame Good) 1 Written
+unfolding full request spelled answer
+write-answered = responds 0 answers.Written refl refl refl
+
+pub flush-answered : IsResponse setup host_a (drop 2 flushed) (tell flush_frame Good) 2 Flushed
+unfolding full request spelled answer
+flush-answered = responds 1 answers.Flushed refl refl refl
+
+pub read-answered : IsResponse setup host_a (drop 2 central_case) (show (read_frame 3) (full 0x5a)) 3 (ReadOutcome (full 0x5a))
+unfolding full request spelled answer
+read-answered = responds 2 (answers.Data 512) refl refl refl
+
+stored-lawful : IsLawful setup stored
+unfolding full request verdict decision
+stored-lawful =
+    comes refl (refl after refl) refl refl refl refl
+    after starts 0 1 0 refl refl refl refl refl refl refl refl refl refl
+    after submits refl refl refl refl
+    after tt
+
+acknowledged-lawful : IsLawful setup acknowledged
+acknowledged-lawful = ends refl write-answered upon stored-lawful
+
+pub central : IsLawful setup central_case
+unfolding full request verdict decision spelled
+central =
+    ends refl read-answered
+    upon reads slot (drop 3 central_case) (read_frame 3) 3 (full 0x5a) refl (λ t. (refl, refl, t)) refl refl refl refl
+    after starts 2 3 0 refl refl refl refl refl refl refl refl refl refl
+    after submits refl tt refl refl
+    after inl refl
+    after tt
+    after ends refl flush-answered
+    upon comes refl refl refl refl refl refl
+    after tt
+    after starts 1 2 0 refl refl refl refl refl refl refl refl refl refl
+    after tt
+    after tt
+    after submits refl tt refl refl
+    after acknowledged-lawful
+
+-- FAILURES, CRASHES AND REPEATS
 
 pub late : IsLawful setup late_acknowledgement
 unfolding full request verdict decision spelled answer zero_sector torn
@@ -99,9 +147,9 @@ fault =
     after tt
 
 -- what a crash leaves of a store without a cache, and of one with a cache
-pub stored : IsLawful setup (read_after_crash (full 0x5a))
+pub uncached : IsLawful setup (read_after_crash (full 0x5a))
 unfolding full request verdict decision spelled answer zero_sector torn
-stored =
+uncached =
     ends refl (responds 1 (answers.Data 512) refl refl refl)
     upon reads slot crashed_write (read_frame 2) 3 (full 0x5a) refl (λ t. (refl, refl, t)) refl refl refl refl
     after starts 1 2 0 refl refl refl refl refl refl refl refl refl refl
@@ -164,3 +212,35 @@ stopped-mix =
     ends refl (responds 2 (answers.Data 512) refl refl refl)
     upon reads slot (drop 3 (stopped_flush (Mix 0))) (read_frame 3) 3 (left_sector (Mix 0)) refl (λ t. (refl, refl, t)) refl refl refl refl
     after before-read (Mix 0)
+
+-- READS THAT GO FROM PATH TO PATH
+
+twice : IsLawful two_paths sent_twice
+unfolding request spelled
+twice =
+    repeats 0 0 1 refl refl refl refl refl refl refl
+    after tt
+    after starts 0 1 0 refl refl refl refl refl refl refl refl refl refl
+    after submits refl tt refl refl
+    after tt
+
+pub paths : IsLawful two_paths path_case
+unfolding request verdict decision spelled answer zero_sector
+paths =
+    ends refl (responds 0 (answers.Data 512) refl refl refl)
+    upon reads two_slot sent_thrice (read_on 0 0 1) 0 zero_sector refl (λ t. (refl, refl, t)) refl refl refl refl
+    after repeats 0 0 0 refl refl refl refl refl refl refl
+    after tt
+    after tt
+    after twice
+
+-- a read that was sent twice, and another one after its answer
+pub measured-paths : IsLawful two_paths measured
+unfolding request verdict decision spelled answer zero_sector
+measured-paths =
+    starts 1 2 1 refl refl refl refl refl refl refl refl refl refl
+    after submits refl tt refl refl
+    after ends refl (responds 0 (answers.Data 512) refl refl refl)
+    upon reads two_slot (drop 5 measured) (read_on 1 0 1) 0 zero_sector refl (λ t. (refl, refl, t)) refl refl refl refl
+    after tt
+    after twice

@@ -1,6 +1,7 @@
 -- What wrong hosts and shelves would do is refused.
 use Rattle.std.proofs.Common.{ℕ, ◌≡◌, ◌≤◌, ◌⊎◌, inl, inr, Bool, true, false, not, ◌&&◌, ◌∙◌, List, [], ◌∷◌, length, Option, Some, None, refl, sym, ap, arith, slice_index, slice_index_or, All, Contains, nat_eq}
 use Rattle.std.specs.List.{list_all}
+use Rattle.std.proofs.lemmas.Bool.{and_from, eq-eqb}
 use Rattle.std.proofs.lemmas.List.Sums.{AllPass-from_list_all}
 use Rattle.aoe_disk.specs.declared.loss.Loss.{Loss}
 use Rattle.aoe_ata.specs.Decision.{decision}
@@ -35,18 +36,11 @@ use Rattle.aoe_history.specs.Slots.{zero_sector}
 use Rattle.aoe_history.proofs.worked.CaseLemmas.{nth, nth_sent, stale}
 
 -- a command with a ticket is none of these, by a test
-pub no-such : {X : Type 0} (test : X → Bool) (xs : List X) (x : X) → list_all (λ y. not (test y)) xs ≡ true → Contains xs x → test x ≡ true → ⊥
+no-such : {X : Type 0} (test : X → Bool) (xs : List X) (x : X) → list_all (λ y. not (test y)) xs ≡ true → Contains xs x → test x ≡ true → ⊥
 no-such test xs x none there e =
     let n : not (test (slice_index_or xs there.0 x)) ≡ true = AllPass-from_list_all (λ y. not (test y)) xs none there.0 x there.1 in
     let m : not (test x) ≡ true = rw there.2 at n in
     let f : not true ≡ true = rw e at m in cc
-
-pub equal-tickets : (n m : ℕ) → n ≡ m → nat_eq n m ≡ true
-equal-tickets n m e = grind (arith, Rattle.std.proofs.lemmas.Bool.Decides.nat_tests)
-
-both : (x y : Bool) → x ≡ true → y ≡ true → (x && y) ≡ true
-both true y p q = q
-both false y p q = absurd (cc)
 
 -- a command with this ticket isn't sent: none with it is due, and none with it is clear
 pub is-not-sent : (s : Setup) (host : HostSetup) (h : List Entry) (c number : ℕ) (bytes : List ℕ)
@@ -56,18 +50,14 @@ pub is-not-sent : (s : Setup) (host : HostSetup) (h : List Entry) (c number : �
 is-not-sent s host h c number bytes none-due none-clear x = go x.sent.again x.may
   where
     go : (again : Bool) → IsNextBy again (host_after s host h) (commands_of host h) x.sent → ⊥
-    go true n = no-such (λ o. nat_eq o.ticket.0 c && is_due (clock h) o) (sent_of (commands_of host h)) n.command none-due n.first_due.there
-        (both (nat_eq n.command.ticket.0 c) (is_due (clock h) n.command) (equal-tickets n.command.ticket.0 c (ap (λ t. t.0) n.ticket ∙ x.ticket_is)) n.first_due.passes)
-    go false n = no-such (λ y. nat_eq y.ticket.0 c && is_clear_at s.life (clock h) (commands_of host h) y) (commands_of host h) n.command none-clear n.there
-        (both (nat_eq n.command.ticket.0 c) (is_clear_at s.life (clock h) (commands_of host h) n.command) (equal-tickets n.command.ticket.0 c (ap (λ t. t.0) n.ticket ∙ x.ticket_is)) n.clear)
+    go true n = no-such _ _ n.command none-due n.first_due.there (and_from _ _ (eq-eqb _ _ (ap (λ t. t.0) n.ticket ∙ x.ticket_is)) n.first_due.passes)
+    go false n = no-such _ _ n.command none-clear n.there (and_from _ _ (eq-eqb _ _ (ap (λ t. t.0) n.ticket ∙ x.ticket_is)) n.clear)
 
 -- what is stale is no response
-not-both : {X : Type 0} (o : Option X) (x : X) → o ≡ None → o ≡ Some x → ⊥
-not-both o x p q = cc
-
-pub stale-no-response : (s : Setup) (host : HostSetup) (h : List Entry) (f : List ℕ) (c : ℕ) (o : Outcome) → IsStale s host h f → IsResponse s host h f c o → ⊥
-stale-no-response s host h f c o st r = not-both (answer_to (host_after s host h) r.command f) r.answer
-    (rw (← r.there.2) (st r.there.0 r.command r.there.1)) r.says
+stale-no-response : (s : Setup) (host : HostSetup) (h : List Entry) (f : List ℕ) (c : ℕ) (o : Outcome) → IsStale s host h f → IsResponse s host h f c o → ⊥
+stale-no-response s host h f c o st r =
+    let none : answer_to (host_after s host h) r.command f ≡ None = rw (← r.there.2) (st r.there.0 r.command r.there.1) in
+    cc (none, r.says)
 
 -- a flush that is sent as soon as the write before it is acknowledged
 pub early-flush : (number : ℕ) (bytes : List ℕ) → MayCome setup almost_waited (Sent a 2 number bytes) → ⊥
@@ -85,7 +75,7 @@ unfolding full request
 used-tag sent is tag n = go sent.again n
   where
     go : (again : Bool) → IsNextBy again (host_after setup host_a beside_submitted) (commands_of host_a beside_submitted) sent → ⊥
-    go true n = no-such (λ o. nat_eq o.ticket.0 2) (sent_of (commands_of host_a beside_submitted)) n.command refl n.first_due.there (equal-tickets n.command.ticket.0 2 (ap (λ t. t.0) n.ticket ∙ is))
+    go true n = no-such (λ o. nat_eq o.ticket.0 2) (sent_of (commands_of host_a beside_submitted)) n.command refl n.first_due.there (eq-eqb _ _ (ap (λ t. t.0) n.ticket ∙ is))
     go false n = let f = rw tag at n.free in cc
 
 -- a response with the right tag, from any source
@@ -144,11 +134,11 @@ sends-nothing q = go q.nothing_clear
   where
     go : (4096 ≤ 0) ⊎ All (λ c. is_clear_at 2000 0 (commands_of host_a write_submitted) c ≡ false) (commands_of host_a write_submitted) → ⊥
     go (inl le) = omega arith
-    go (inr a) = let e : true ≡ false = a 0 (nth (commands_of host_a write_submitted) 0) (omega arith) in cc
+    go (inr a) = let e : true ≡ false = a 0 (nth host_a write_submitted 0) (omega arith) in cc
 
 pub repeats-never : IsQuiet (host_after setup host_a write_due) (commands_of host_a write_due) → ⊥
 unfolding full request
-repeats-never q = let e : true ≡ false = q.nothing_due 0 (nth_sent (commands_of host_a write_due) 0) (omega arith) in cc
+repeats-never q = let e : true ≡ false = q.nothing_due 0 (nth_sent host_a write_due 0) (omega arith) in cc
 
 -- a frame that is dropped though it can be handed over
 pub dropped : (got : Option Got) → Enters setup write_sent (Hand 1 (Shelf 1)) got (Lost 1 ∷ write_sent) → ⊥
@@ -157,16 +147,13 @@ dropped got (none, inl x) = let e = x.2 in cc
 dropped got (none, inr x) = let e = x.2.1 in cc
 
 -- what a store without a cache holds, read from one with a cache after a crash, and the other way round
-first-byte : (vs ws : List ℕ) → vs ≡ ws → slice_index vs 0 ≡ slice_index ws 0
-first-byte vs ws e = ap (λ v. slice_index v 0) e
-
-differ : ◌≡◌ {A = ℕ} 0x5a 0 → ⊥
-differ e = omega (arith, e)
+differ : (vs ws : List ℕ) → vs ≡ ws → slice_index vs 0 ≡ 0x5a → slice_index ws 0 ≡ 0 → ⊥
+differ vs ws e p q = let same = ap (λ v. slice_index v 0) e in omega arith
 
 pub written-through : MayCome (setup_with (Some 8) (host_a ∷ [])) crashed_write (Arrived device 3 (Replied NoEffect 4 (show (read_frame 2) (full 0x5a)))) → ⊥
 unfolding full request verdict decision spelled zero_sector
-written-through x = differ (first-byte (full 0x5a) zero_sector ((came (read_frame 2) refl x).0.2 0 (omega arith)))
+written-through x = differ (full 0x5a) zero_sector ((came (read_frame 2) refl x).0.2 0 (omega arith)) refl refl
 
 pub held-back : MayCome setup crashed_write (Arrived device 3 (Replied NoEffect 4 (show (read_frame 2) zero_sector))) → ⊥
 unfolding full request verdict decision spelled zero_sector
-held-back x = differ (sym (first-byte zero_sector (full 0x5a) ((came (read_frame 2) refl x).0.2 0 (omega arith))))
+held-back x = differ (full 0x5a) zero_sector (sym ((came (read_frame 2) refl x).0.2 0 (omega arith))) refl refl

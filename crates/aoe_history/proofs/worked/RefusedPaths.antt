@@ -1,41 +1,31 @@
 -- What hosts that choose paths wrongly would do is refused.
-use Rattle.std.proofs.Common.{ℕ, ◌≡◌, ◌||◌, ◌∙◌, Bool, true, false, not, List, ◌∷◌, Option, Some, None, refl, sym, ap, arith, slice_index, slice_index_or, Contains, nat_eq}
+use Rattle.std.proofs.Common.{ℕ, ◌≡◌, ◌||◌, ◌∙◌, Bool, true, false, not, List, ◌∷◌, Option, Some, None, refl, sym, ap, arith, slice_index, Contains, nat_eq}
 use Rattle.std.specs.List.{list_all}
-use Rattle.std.proofs.lemmas.Bool.Decides.{nat_tests}
+use Rattle.std.proofs.lemmas.Bool.{eq-eqb, eqb-true}
 use Rattle.std.proofs.lemmas.List.Sums.{AllPass-from_list_all}
 use Rattle.aoe_base.specs.declared.counted.PathNo.{PathNo}
-use Rattle.aoe_initiator.specs.HostLaw.{paths_to, spelled, IsQuiet}
-use Rattle.aoe_initiator.specs.HostLog.{missed_by, path_log, HostCommand}
+use Rattle.aoe_initiator.specs.HostLaw.{spelled, IsQuiet}
+use Rattle.aoe_initiator.specs.HostLog.{HostCommand}
 use Rattle.aoe_initiator.specs.Request.{request}
 use Rattle.aoe_initiator.specs.Response.{answer}
-use Rattle.aoe_paths.specs.PathLog.{next_of}
 use Rattle.aoe_target.specs.Reply.{spelled as reply_spelled}
 use Rattle.aoe_history.specs.declared.entry.Entry.{Entry}
 use Rattle.aoe_history.specs.declared.entry.Entry.TheVariants.{Sent, Ticked}
-use Rattle.aoe_history.specs.Commands.{commands_of, host_after, log_of}
+use Rattle.aoe_history.specs.Commands.{commands_of, host_after}
 use Rattle.aoe_history.specs.Example.{a}
 use Rattle.aoe_history.specs.HostLaw.{IsSent}
 use Rattle.aoe_history.specs.Lawful.{MayCome}
 use Rattle.aoe_history.specs.PathCases.{almost_grown, due, grown, measured, missed, other_submitted, read_on, two_host, two_paths}
 use Rattle.aoe_history.specs.Setup.{HostSetup, Setup}
 use Rattle.aoe_history.specs.Slots.{zero_sector}
-use Rattle.aoe_history.proofs.worked.CaseLemmas.{nth_sent, or-of}
-use Rattle.aoe_history.proofs.worked.Refused.{equal-tickets, is-not-sent}
+use Rattle.aoe_history.proofs.worked.CaseLemmas.{nth_sent, or-of, path_for}
+use Rattle.aoe_history.proofs.worked.Refused.{is-not-sent}
 
 -- each command with a ticket passes a test
 of-ticket : (test : HostCommand → Bool) (cs : List HostCommand) (c : ℕ) (x : HostCommand) → list_all (λ y. not (nat_eq y.ticket.0 c) || test y) cs ≡ true → Contains cs x
     → x.ticket.0 ≡ c → test x ≡ true
 of-ticket test cs c x e there is =
-    let p : (not (nat_eq (slice_index_or cs there.0 x).ticket.0 c) || test (slice_index_or cs there.0 x)) ≡ true =
-    AllPass-from_list_all (λ (y : HostCommand). not (nat_eq y.ticket.0 c) || test y) cs e there.0 x there.1 in
-    let q = rw there.2 at p in or-of (nat_eq x.ticket.0 c) (test x) q (equal-tickets x.ticket.0 c is)
-
-equal : (n m : ℕ) → nat_eq n m ≡ true → n ≡ m
-equal n m e = grind (arith, nat_tests)
-
--- the path that is next for a command
-abbrev path_for : Setup → HostSetup → List Entry → HostCommand → ℕ
-path_for s host h x = next_of (paths_to (host_after s host h) x.device.0) (missed_by x.sends (path_log (log_of host h) x.device.0))
+    or-of _ _ (rw there.2 at (AllPass-from_list_all (λ (y : HostCommand). not (nat_eq y.ticket.0 c) || test y) cs e there.0 x there.1)) (eq-eqb x.ticket.0 c is)
 
 -- the port that a frame goes to, by its number
 abbrev port_to : List ℕ → ℕ
@@ -51,17 +41,11 @@ sent-to : (s : Setup) (host : HostSetup) (h : List Entry) (c number path to : �
     → ((tag : ℕ) → list_all (λ x. not (nat_eq x.ticket.0 c) || nat_eq (port_of (spelled (host_after s host h) x (record { 0 = path }) tag)) to) (commands_of host h) ≡ true)
     → IsSent s host h c number bytes → port_to bytes ≡ to
 sent-to s host h c number path to bytes next goes x =
-    let is-next : path_for s host h x.path.command ≡ path =
-    equal (path_for s host h x.path.command) path (of-ticket (λ y. nat_eq (path_for s host h y) path) (commands_of host h) c x.path.command next x.path.there
-    (ap (λ t. t.0) x.path.ticket ∙ x.ticket_is)) in
-    let on : x.sent.path.0 ≡ path = x.path.next ∙ is-next in
-    let at : port_of (spelled (host_after s host h) x.frame.command (record { 0 = path }) x.sent.tag) ≡ to =
-    equal (port_of (spelled (host_after s host h) x.frame.command (record { 0 = path }) x.sent.tag)) to
-    (of-ticket (λ y. nat_eq (port_of (spelled (host_after s host h) y (record { 0 = path }) x.sent.tag)) to) (commands_of host h) c x.frame.command (goes x.sent.tag)
-    x.frame.there (ap (λ t. t.0) x.frame.ticket ∙ x.ticket_is)) in
-    let spells : spelled (host_after s host h) x.frame.command (record { 0 = path }) x.sent.tag ≡ Some bytes =
-    ap (λ n. let p : PathNo = record { 0 = n } in spelled (host_after s host h) x.frame.command p x.sent.tag) (sym on) ∙ x.frame.bytes in
-    ap port_of (sym spells) ∙ at
+    let its = of-ticket (λ y. nat_eq (path_for s host h y) path) _ c x.path.command next x.path.there (ap (λ t. t.0) x.path.ticket ∙ x.ticket_is) in
+    let on : x.sent.path ≡ record { 0 = path } = ap (λ n. let p : PathNo = record { 0 = n } in p) (x.path.next ∙ eqb-true _ _ its) in
+    let at = of-ticket (λ y. nat_eq (port_of (spelled (host_after s host h) y (record { 0 = path }) x.sent.tag)) to) _ c x.frame.command (goes x.sent.tag) x.frame.there
+    (ap (λ t. t.0) x.frame.ticket ∙ x.ticket_is) in
+    ap port_of (sym x.frame.bytes) ∙ ap (λ p. port_of (spelled (host_after s host h) x.frame.command p x.sent.tag)) on ∙ eqb-true _ _ at
 
 differ : ◌≡◌ {A = ℕ} 1 2 → ⊥
 differ e = omega (arith, e)
@@ -84,7 +68,7 @@ unmarked number tag x = differ (sent-to two_paths two_host missed 2 number 1 2 (
 -- a host that takes a trip from the first frame of a command that was sent twice, and one that takes it from the last
 pub from-first : IsQuiet (host_after two_paths two_host (Ticked 1000 ∷ measured)) (commands_of two_host (Ticked 1000 ∷ measured)) → ⊥
 unfolding request reply_spelled answer zero_sector
-from-first q = let e : true ≡ false = q.nothing_due 1 (nth_sent (commands_of two_host (Ticked 1000 ∷ measured)) 1) (omega arith) in cc
+from-first q = let e : true ≡ false = q.nothing_due 1 (nth_sent two_host (Ticked 1000 ∷ measured) 1) (omega arith) in cc
 
 pub from-last : (number : ℕ) (bytes : List ℕ) → MayCome two_paths (Ticked 999 ∷ measured) (Sent a 2 number bytes) → ⊥
 unfolding request reply_spelled answer zero_sector
@@ -97,4 +81,4 @@ steady number bytes x = is-not-sent two_paths two_host almost_grown 1 number byt
 
 pub slow : IsQuiet (host_after two_paths two_host grown) (commands_of two_host grown) → ⊥
 unfolding request
-slow q = let e : true ≡ false = q.nothing_due 0 (nth_sent (commands_of two_host grown) 0) (omega arith) in cc
+slow q = let e : true ≡ false = q.nothing_due 0 (nth_sent two_host grown 0) (omega arith) in cc

@@ -1,12 +1,10 @@
-use Rattle.aoe_history.proofs.worked.CentralCase as central_case
 use Rattle.aoe_history.proofs.worked.CentralGroups.{follows}
 use Rattle.aoe_history.proofs.worked.Histories as histories
-use Rattle.aoe_history.proofs.worked.PathCase as path_case
 use Rattle.aoe_history.proofs.cases.worked_histories.Goals as goal
 
 pub returns : goal.returns
 returns c = record {
-  central = central_case.lawful;
+  central = histories.central;
   follows = follows;
   late = histories.late;
   stale = histories.stale;
@@ -17,8 +15,8 @@ returns c = record {
   stopped_old = histories.stopped-old;
   stopped_torn = histories.stopped-torn;
   stopped_mixed = histories.stopped-mix;
-  stored = histories.stored;
+  stored = histories.uncached;
   cached = histories.cached;
-  paths = path_case.lawful;
-  measured = path_case.lawful-measured;
+  paths = histories.paths;
+  measured = histories.measured-paths;
 }

@@ -1,13 +1,8 @@
-use Rattle.std.proofs.Common.{◌≡◌, true, Option, Some, None, is_some, refl}
-use Rattle.aoe_initiator.specs.HostLog.{Sending}
 use Rattle.aoe_history.specs.CommandView.{sends_of}
 use Rattle.aoe_history.proofs.hosts.AskedLemmas.{asked-of}
 use Rattle.aoe_history.proofs.hosts.HostLemmas.{holds-of, known-of}
+use Rattle.aoe_history.proofs.sectors.AtLemmas.{some-there}
 use Rattle.aoe_history.proofs.commands.host_commands_law.Goals as goal
-
-there : (o : Option Sending) → is_some o ≡ true → (x : Sending) × (o ≡ Some x)
-there None e = absurd (cc)
-there (Some x) e = (x, refl)
 
 pub returns : goal.returns
 returns c = record {
@@ -16,7 +11,7 @@ returns c = record {
   sent_once_submitted = λ s host h x. (holds-of s host h x).base.bounds;
   sent_by_now = λ s host h x. (holds-of s host h x).base.last;
   done_once_sent = λ s host h x. (holds-of s host h x).base.done;
-  in_order = λ s host h x later earlier sent above lt conflict. let y = there (sends_of host h later) sent in (holds-of s host h x).base.order later earlier y.0 y.1 above lt conflict;
+  in_order = λ s host h x later earlier sent above lt conflict. let y = some-there (sends_of host h later) sent in (holds-of s host h x).base.order later earlier y.0 y.1 above lt conflict;
   earlier_gone = λ s host h x later earlier a b sent before lt conflict effect rests. let k = holds-of s host h x in k.gone later earlier a b sent before (k.base.bounds earlier b before).0 lt conflict effect rests;
   tags_differ = λ s host h x. (holds-of s host h x).base.tags;
 }
