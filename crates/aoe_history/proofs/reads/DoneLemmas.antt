@@ -2,7 +2,6 @@
 use Rattle.std.proofs.Common.{ℕ, ◌-◌, ◌*◌, ◌≡◌, inl, inr, if◌then◌else◌, nat_le, Bool, true, false, not, ◌&&◌, List, ◌∷◌, length, slice_index, Option, Some, None, IsSomeAnd, refl, Contains}
 use Rattle.std.proofs.lemmas.Option.{cond_some}
 use Rattle.arrayvec.specs.ArrayVec.{ArrayVec}
-use Rattle.aoe_base.specs.declared.sectors.Span.{Span}
 use Rattle.aoe_frame.specs.declared.header.Header.{Header}
 use Rattle.aoe_initiator.specs.declared.op.Op.{Op}
 use Rattle.aoe_initiator.specs.declared.op.Op.TheVariants.{Read, Write, Flush, Identify, Config, Masks, Reserve}
@@ -11,15 +10,13 @@ use Rattle.aoe_initiator.specs.declared.outcome.Outcome.TheVariants as outcome
 use Rattle.aoe_initiator.specs.declared.response.Answer.{Answer}
 use Rattle.aoe_initiator.specs.declared.response.Answer.TheVariants.{Data, Written, Flushed, Told, AtaError, AoeError}
 use Rattle.aoe_initiator.specs.Response.{answer, ata_answer, ata_success, data_if, has_flag, is_failure, outcome_of, told}
-use Rattle.aoe_target.specs.Sectors.{in_span}
 use Rattle.aoe_history.specs.declared.entry.Entry.{Entry}
 use Rattle.aoe_history.specs.declared.entry.Entry.TheVariants.{Done}
 use Rattle.aoe_history.specs.Commands.{submission, Submission}
 use Rattle.aoe_history.specs.CommandView.{sends_of, AsksAt}
-use Rattle.aoe_history.specs.Frames.{frames}
 use Rattle.aoe_history.specs.HostLaw.{IsDone}
 use Rattle.aoe_history.specs.Lawful.{HasHost}
-use Rattle.aoe_history.specs.Reading.{allowed, alone, is_at, spoiled, IsAllowed}
+use Rattle.aoe_history.specs.Reading.{alone, is_at, spoiled}
 use Rattle.aoe_history.specs.Setup.{host_called, is_called, HostSetup, Setup, SlotSetup}
 use Rattle.aoe_history.specs.Slots.{marked_after}
 use Rattle.aoe_history.proofs.LogicLemmas.{not-true, some-and}
@@ -29,7 +26,7 @@ use Rattle.aoe_history.proofs.hosts.EntryLemmas.{done-flies, done-keeps, named}
 use Rattle.aoe_history.proofs.hosts.HostLemmas.{holds-of, known-of}
 use Rattle.aoe_history.proofs.hosts.SendLemmas.{and-parts}
 use Rattle.aoe_history.proofs.reads.EndLemmas.{response-true}
-use Rattle.aoe_history.proofs.reads.TrueLemmas.{keeps-passes, AreTrue, Passes}
+use Rattle.aoe_history.proofs.reads.TrueLemmas.{all-pass, keeps-passes, Kept, StillReads}
 use Rattle.aoe_history.proofs.sectors.AtLemmas.{flying-active, landed, quiet, some-there, wr, At, IsFlying, IsUnderWay}
 use Rattle.aoe_history.proofs.sectors.SectorLemmas.{flushes, settles, Sector}
 
@@ -76,7 +73,7 @@ at-slot slot None e = absurd (cc)
 at-slot slot (Some x) e = (x.op, record { dev = x.dev; is = refl; slot_is = e })
 
 module _ {s : Setup} {host : HostSetup} {h : List Entry} (run : HasHost s host h) (slot : SlotSetup) (there : Contains s.slots slot) (sct : ℕ)
-    (x : At s.life host slot h sct) (replies : AreTrue s.life host slot h sct (frames h)) (name : ArrayVec ℕ) (c : ℕ) where
+    (x : Kept s.life host slot h sct) (name : ArrayVec ℕ) (c : ℕ) where
   abbrev n : Outcome → List Entry
   n o = Done name c o ∷ h
 
@@ -101,68 +98,57 @@ module _ {s : Setup} {host : HostSetup} {h : List Entry} (run : HasHost s host h
       → Sector (IsFlying host (n o)) (IsUnderWay s.life host (n o)) (wr host slot h sct) la holds mark al sa sp may
   ended-at o law = quiet (its-keeps o law) (holds-of s host h run).base slot sct
 
+  pub ended : (o : Outcome) → MayEnd o → At s.life host slot (n o) sct → StillReads host slot h (n o) sct → Kept s.life host slot (n o) sct
+  ended o law at may = record {
+    at = at;
+    replies = all-pass (keeps-passes slot sct (its-keeps o law) (holds-of s host h run).base (λ d. refl) refl refl may) x.replies;
+  }
+
   -- A WRITE
   acknowledged : (v : List ℕ) → wr host slot h sct c ≡ Some v → IsDone s host h c outcome.Written → landed host slot h sct c ≡ true
   acknowledged v w (inl ans) =
       let y = writes-to slot (submission host h c) sct v w in
-      let t = response-true run slot there replies y.asks ans in
+      let t = response-true run slot there x.replies y.asks ans in
       (rw (written-answer t.a _ t.gives) at t.says) y.inside
   acknowledged v w (inr late) = absurd (let e = late.gives in cc)
 
-  pub written-at : MayEnd outcome.Written → At s.life host slot (n outcome.Written) sct
-  written-at law = go (is_called host name && not (spoiled host slot h sct)) refl (wr host slot h sct c) refl
+  pub written : MayEnd outcome.Written → Kept s.life host slot (n outcome.Written) sct
+  written law = go (is_called host name && not (spoiled host slot h sct)) refl (wr host slot h sct c) refl
     where
       go : (t : Bool) → (is_called host name && not (spoiled host slot h sct)) ≡ t → (w : Option (List ℕ)) → wr host slot h sct c ≡ w
-          → At s.life host slot (n outcome.Written) sct
+          → Kept s.life host slot (n outcome.Written) sct
       go true e (Some v) we =
           let p = and-parts _ _ e in
           let fl = flies outcome.Written law p.0 in
           let ac = flying-active s.life host h c fl in
-          let hold = holds-of s host h run in
-          rw (e, we) (ended-at outcome.Written law (settles x c v fl we (acknowledged v we (own outcome.Written law p.0)) (not-true _ p.1)
-          (λ d w a wd. one-write s.life host h hold.base hold.gone slot sct d c a.0 ac.0 w v a.1 ac.1 a.2 ac.2 wd we)))
-      go true e None we = rw (e, we) (ended-at outcome.Written law x)
-      go false e w we = rw e (ended-at outcome.Written law x)
+          let k = holds-of s host h run in
+          let settled = settles x.at c v fl we (acknowledged v we (own outcome.Written law p.0)) (not-true _ p.1)
+          (λ d w a wd. one-write s.life host h k.base k.gone slot sct d c a.0 ac.0 w v a.1 ac.1 a.2 ac.2 wd we) in
+          ended outcome.Written law (rw (e, we) (ended-at outcome.Written law settled))
+          (λ d span fd asks i w m. absurd (none-beside-read s.life host h k.base k.gone slot span sct d c fd.0 fl.0 v fd.1 fl.1 fd.2 fl.2 asks i we))
+      go true e None we = ended outcome.Written law (rw (e, we) (ended-at outcome.Written law x.at)) (λ d span fd asks i w m. rw (e, we) m)
+      go false e w we = ended outcome.Written law (rw e (ended-at outcome.Written law x.at)) (λ d span fd asks i w m. rw e m)
 
   -- A FLUSH
   acknowledged-flush : (op : Op) → AsksAt slot (submission host h c) op → IsDone s host h c outcome.Flushed
       → AsksAt slot (submission host h c) Flush × (alone host slot h sct ≡ true → marked_after slot h sct ≡ false)
   acknowledged-flush op asks (inr late) = absurd (let e = late.gives in cc)
   acknowledged-flush op asks (inl ans) =
-      let t = response-true run slot there replies asks ans in
+      let t = response-true run slot there x.replies asks ans in
       let a = flushed-answer t.a _ t.gives in
       let is = flushed-op op _ _ (rw a at t.answers_it) in
       (rw is at asks, simp (a, is) at t.says)
 
-  pub flushed-at : MayEnd outcome.Flushed → At s.life host slot (n outcome.Flushed) sct
-  flushed-at law = go (is_called host name && is_at slot (submission host h c)) refl
+  pub flushed : MayEnd outcome.Flushed → Kept s.life host slot (n outcome.Flushed) sct
+  flushed law = ended outcome.Flushed law (go (is_called host name && is_at slot (submission host h c)) refl) (λ d span fd asks i w m. m)
     where
       go : (t : Bool) → (is_called host name && is_at slot (submission host h c)) ≡ t → At s.life host slot (n outcome.Flushed) sct
-      go false e = rw e (ended-at outcome.Flushed law x)
+      go false e = rw e (ended-at outcome.Flushed law x.at)
       go true e =
           let p = and-parts _ _ e in
           let y = at-slot slot (submission host h c) p.1 in
           let f = acknowledged-flush y.0 y.1 (own outcome.Flushed law p.0) in
           let fl = flies outcome.Flushed law p.0 in
-          let hold = holds-of s host h run in
-          rw e (ended-at outcome.Flushed law (flushes x f.1
-          (λ d w b wd. none-beside-flush s.life host h hold.base hold.gone slot sct c d fl.0 b.0 w fl.1 b.1 fl.2 b.2 f.0 wd)))
-
-  -- WHAT REPLIES SAY
-  pub ended-passes : (o : Outcome) → MayEnd o
-      → ((d : ℕ) (span : Span) → IsFlying host h d → AsksAt slot (submission host h d) (Read span) → in_span span sct ≡ true → (v : List ℕ)
-      → IsAllowed (Some v) (allowed host slot h sct) → IsAllowed (Some v) (allowed host slot (n o) sct)) → Passes host slot h (n o) sct
-  ended-passes o law may = keeps-passes slot sct (its-keeps o law) (holds-of s host h run).base (λ d. refl) refl refl may
-
-  pub written-passes : MayEnd outcome.Written → Passes host slot h (n outcome.Written) sct
-  written-passes law = ended-passes outcome.Written law (λ d span fl asks i v m. go d span fl asks i v m (is_called host name && not (spoiled host slot h sct)) refl (wr host slot h sct c) refl)
-    where
-      go : (d : ℕ) (span : Span) → IsFlying host h d → AsksAt slot (submission host h d) (Read span) → in_span span sct ≡ true → (v : List ℕ) → IsAllowed (Some v) (allowed host slot h sct)
-          → (t : Bool) → (is_called host name && not (spoiled host slot h sct)) ≡ t → (w : Option (List ℕ)) → wr host slot h sct c ≡ w
-          → IsAllowed (Some v) (allowed host slot (n outcome.Written) sct)
-      go d span fl asks i v m true e (Some w) we =
-          let writer = flies outcome.Written law (and-parts _ _ e).0 in
-          let hold = holds-of s host h run in
-          absurd (none-beside-read s.life host h hold.base hold.gone slot span sct d c fl.0 writer.0 w fl.1 writer.1 fl.2 writer.2 asks i we)
-      go d span fl asks i v m true e None we = rw (e, we) m
-      go d span fl asks i v m false e w we = rw e m
+          let k = holds-of s host h run in
+          rw e (ended-at outcome.Flushed law (flushes x.at f.1
+          (λ d w b wd. none-beside-flush s.life host h k.base k.gone slot sct c d fl.0 b.0 w fl.1 b.1 fl.2 b.2 f.0 wd)))

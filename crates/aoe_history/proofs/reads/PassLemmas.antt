@@ -1,5 +1,5 @@
 -- What arrivals, crashes and sends leave of what replies say.
-use Rattle.std.proofs.Common.{ℕ, ◌≤◌, ◌≡◌, if◌then◌else◌, nat_eq, Bool, true, false, ◌&&◌, ◌||◌, List, ◌∷◌, Option, Some, None, IsSomeAnd, refl, ap, ◌∙◌, arith, Contains}
+use Rattle.std.proofs.Common.{ℕ, ◌≤◌, ◌≡◌, inl, inr, if◌then◌else◌, nat_eq, Bool, true, false, ◌&&◌, ◌||◌, List, ◌∷◌, Option, Some, None, IsSomeAnd, refl, ap, ◌∙◌, arith, Contains}
 use Rattle.std.specs.Option.{option_map}
 use Rattle.arrayvec.specs.ArrayVec.{ArrayVec}
 use Rattle.aoe_base.specs.declared.address.TargetId.{TargetId}
@@ -15,19 +15,18 @@ use Rattle.aoe_history.specs.declared.entry.Entry.TheVariants.{Sent, Arrived, Cr
 use Rattle.aoe_history.specs.declared.entry.Fate.{Fate}
 use Rattle.aoe_history.specs.Commands.{path_of, submission}
 use Rattle.aoe_history.specs.CommandView.{sends_of, timeout_at, AsksAt}
-use Rattle.aoe_history.specs.Frames.{arriving, bytes_of, clock}
+use Rattle.aoe_history.specs.Frames.{bytes_of, clock}
 use Rattle.aoe_history.specs.Lawful.{HasHost, IsArrival}
 use Rattle.aoe_history.specs.Reading.{alone, also, is_from, IsAllowed}
 use Rattle.aoe_history.specs.Setup.{is_called, is_slot, slot_of, HostSetup, Setup, SlotSetup}
-use Rattle.aoe_history.specs.Slots.{after_crash, breaks, known_after, left_sectors, lost, marked_after, marked_in, slot_after, state_after, stores, verdict_after, Slot, Unsettled}
-use Rattle.aoe_history.proofs.FrameLemmas.{bytes-arriving}
-use Rattle.aoe_history.proofs.LogicLemmas.{if-false, if-true, or-right, some-and}
+use Rattle.aoe_history.specs.Slots.{after_crash, breaks, known_after, left_sectors, lost, marked_after, marked_in, slot_after, state_after, stores, verdict_after, Unsettled}
+use Rattle.aoe_history.proofs.LogicLemmas.{or-right}
 use Rattle.aoe_history.proofs.hosts.ApartLemmas.{none-beside-flush}
 use Rattle.aoe_history.proofs.hosts.BaseLemmas as base
 use Rattle.aoe_history.proofs.hosts.BaseLemmas.{Base}
 use Rattle.aoe_history.proofs.hosts.HostLemmas.{holds-of}
 use Rattle.aoe_history.proofs.reads.TrueLemmas.{Passes}
-use Rattle.aoe_history.proofs.sectors.ArriveLemmas.{act-after, named-slot, sectors-there, writer}
+use Rattle.aoe_history.proofs.sectors.ArriveLemmas.{arrival, either, same-sector, sectors-there, writer, IsHere}
 use Rattle.aoe_history.proofs.sectors.AtLemmas.{wr, At, IsFlying, IsUnderWay}
 use Rattle.aoe_history.proofs.sectors.DeedLemmas.{known_in, put, showed, spoilt, synced, Act}
 use Rattle.aoe_history.proofs.sectors.SectorLemmas.{allowed-also, crashes, Writer}
@@ -62,25 +61,21 @@ module _ {s : Setup} {host : HostSetup} {h : List Entry} (run : HasHost s host h
 
   marks-after : (c : ℕ) → IsFlying host h c → AsksAt slot (submission host h c) Flush → (alone host slot h sct ≡ true → marked_after slot h sct ≡ false)
       → alone host slot n sct ≡ true → marked_after slot n sct ≡ false
-  marks-after c fl asks m al = go (is_slot slot dev) refl
+  marks-after c fl asks m al = elim (arrival run slot there sct dev k fate law) [
+    | inl away ↦ (same-sector sct away.1).1 ∙ m was.0
+    | inr here ↦ by-act here here.act
+  ]
     where
-      by-act : (f : List ℕ) → bytes_of h k ≡ f → arriving s.life h k ≡ Some f → is_slot slot dev ≡ true
-          → Act (verdict_after slot h f) f fate sct (known_after slot h sct) (known_after slot n sct) (marked_after slot h sct) (marked_after slot n sct) → marked_after slot n sct ≡ false
-      by-act f bytes fresh is (showed shown p q a b) = q ∙ m (was-alone host slot h dev k fate sct al).0
-      by-act f bytes fresh is (put span v p q a b) =
-          absurd (beside c _ fl asks (writer run slot there sct k f span fresh (rw bytes at ((was-alone host slot h dev k fate sct al).1 (rw (is, a) refl))) v))
-      by-act f bytes fresh is (spoilt span v q a b) =
-          absurd (beside c _ fl asks (writer run slot there sct k f span fresh (rw bytes at ((was-alone host slot h dev k fate sct al).1 (rw (is, bytes, a, b) refl))) v))
-      by-act f bytes fresh is (synced p q a b) = q
+      was : (alone host slot h sct ≡ true) × ((is_slot slot dev && (stores fate sct || breaks (verdict_after slot h (bytes_of h k)) fate sct)) ≡ true → is_from host (bytes_of h k) ≡ true)
+      was = was-alone host slot h dev k fate sct al
 
-      go : (t : Bool) → is_slot slot dev ≡ t → marked_after slot n sct ≡ false
-      go false e =
-          let same : slot_after slot n ≡ slot_after slot h = if-false _ _ _ e in
-          ap (λ (z : Slot). marked_in z.state.sectors sct) same ∙ m (was-alone host slot h dev k fate sct al).0
-      go true e =
-          let a = some-and (λ z. IsArrival s z h k fate) _ slot (named-slot s slot dev run.setup there e) law in
-          let bytes = bytes-arriving s.life h k a.bytes a.fresh in
-          by-act a.bytes bytes a.fresh e (act-after slot h dev k fate a.bytes e a.law bytes sct)
+      by-act : (x : IsHere s.life slot h dev k fate sct)
+          → Act (verdict_after slot h x.frame) x.frame fate sct (known_after slot h sct) (known_after slot n sct) (marked_after slot h sct) (marked_after slot n sct)
+          → marked_after slot n sct ≡ false
+      by-act x (showed shown p q a b) = q ∙ m was.0
+      by-act x (put span v p q a b) = absurd (beside c _ fl asks (writer run slot there sct k x.frame span x.fresh (rw x.bytes at (was.1 (rw (x.is, a) refl))) v))
+      by-act x (spoilt span v q a b) = absurd (beside c _ fl asks (writer run slot there sct k x.frame span x.fresh (rw x.bytes at (was.1 (rw (x.is, x.bytes, a, b) refl))) v))
+      by-act x (synced p q a b) = q
 
   pub arrived-passes : Passes host slot h n sct
   arrived-passes = record {
@@ -99,11 +94,10 @@ unmarked slot u how None s = refl
 unmarked slot u how (Some x) s = refl
 
 crash-marks : (slot : SlotSetup) (h : List Entry) (dev : TargetId) (lists : Settings) (how : Loss) (s : ℕ) → marked_after slot h s ≡ false → marked_after slot (Crashed dev lists how ∷ h) s ≡ false
-crash-marks slot h dev lists how s m = go (is_slot slot dev)
-  where
-    go : (b : Bool) → marked_in (if b then after_crash slot lists how (slot_after slot h) else slot_after slot h).state.sectors s ≡ false
-    go true = unmarked slot (slot_after slot h).unsettled how (state_after slot h).sectors s
-    go false = m
+crash-marks slot h dev lists how s m = elim (either (is_slot slot dev) (after_crash slot lists how (slot_after slot h)) (slot_after slot h)) [
+  | inl hit ↦ (same-sector s hit.1).1 ∙ unmarked slot (slot_after slot h).unsettled how (state_after slot h).sectors s
+  | inr away ↦ (same-sector s away.1).1 ∙ m
+]
 
 pub crashed-passes : (host : HostSetup) (slot : SlotSetup) (h : List Entry) (dev : TargetId) (lists : Settings) (how : Loss) (s : ℕ) → Passes host slot h (Crashed dev lists how ∷ h) s
 crashed-passes host slot h dev lists how s = record {
@@ -120,19 +114,14 @@ left-known : (slot : SlotSetup) (u : Unsettled) (how : Loss) (o : Option Sectors
 left-known slot u how o s y e = rw e refl
 
 pub crashed-at : (life : ℕ) (host : HostSetup) (slot : SlotSetup) (h : List Entry) (dev : TargetId) (lists : Settings) (how : Loss) (s : ℕ) → At life host slot h s → At life host slot (Crashed dev lists how ∷ h) s
-crashed-at life host slot h dev lists how s x = go (is_slot slot dev) refl
-  where
-    go : (b : Bool) → is_slot slot dev ≡ b → At life host slot (Crashed dev lists how ∷ h) s
-    go false e =
-        let same : slot_after slot (Crashed dev lists how ∷ h) ≡ slot_after slot h = if-false _ _ _ e in
-        rw (ap (λ (z : Slot). known_in z.state.sectors s) same, ap (λ (z : Slot). marked_in z.state.sectors s) same, e) x
-    go true e =
-        let y = sectors-there slot h in
-        let u = (slot_after slot h).unsettled in
-        let o = (state_after slot h).sectors in
-        let left : slot_after slot (Crashed dev lists how ∷ h) ≡ after_crash slot lists how (slot_after slot h) = if-true _ _ _ e in
-        let known = ap (λ (z : Slot). known_in z.state.sectors s) left ∙ left-known slot u how o s y.0 y.1 in
-        rw (known, ap (λ (z : Slot). marked_in z.state.sectors s) left ∙ unmarked slot u how o s, e) (crashes x _)
+crashed-at life host slot h dev lists how s x = elim (either (is_slot slot dev) (after_crash slot lists how (slot_after slot h)) (slot_after slot h)) [
+  | inl hit ↦ (let y = sectors-there slot h in
+      let u = (slot_after slot h).unsettled in
+      let o = (state_after slot h).sectors in
+      let now = same-sector s hit.1 in
+      rw (now.0 ∙ left-known slot u how o s y.0 y.1, now.1 ∙ unmarked slot u how o s, hit.0) (crashes x _))
+  | inr away ↦ (let was = same-sector s away.1 in rw (was.0, was.1, away.0) x)
+]
 
 -- SENDS
 

@@ -17,7 +17,6 @@ use Rattle.aoe_history.specs.declared.entry.Entry.TheVariants.{Submitted, Sent, 
 use Rattle.aoe_history.specs.declared.entry.Fate.TheVariants.{Replied}
 use Rattle.aoe_history.specs.Commands.{submission, Submission}
 use Rattle.aoe_history.specs.CommandView.{AsksAt}
-use Rattle.aoe_history.specs.Frames.{frames}
 use Rattle.aoe_history.specs.HostLaw.{IsDone, IsSent, IsSubmitted}
 use Rattle.aoe_history.specs.Lawful.{HasHost, IsForeign, IsLawful}
 use Rattle.aoe_history.specs.Reading.{allowed, alone, HasReadLaw, IsAllowed, KeepsReadLaw, ReadsAllowed}
@@ -30,17 +29,13 @@ use Rattle.aoe_history.proofs.hosts.ReadyLemmas.{ready}
 use Rattle.aoe_history.proofs.hosts.SendLemmas.{or-parts}
 use Rattle.aoe_history.proofs.hosts.SentLemmas.{host-there, request-header, spelled-request}
 use Rattle.aoe_history.proofs.hosts.SourceLemmas.{none-there, some-such}
-use Rattle.aoe_history.proofs.reads.DoneLemmas.{ended-at, ended-passes, flushed-at, written-at, written-passes}
+use Rattle.aoe_history.proofs.reads.DoneLemmas.{ended, ended-at, flushed, written}
 use Rattle.aoe_history.proofs.reads.EndLemmas.{response-true}
 use Rattle.aoe_history.proofs.reads.PassLemmas.{arrived-passes, crashed-at, crashed-passes, sent-passes}
 use Rattle.aoe_history.proofs.reads.ToldLemmas.{new-reply}
-use Rattle.aoe_history.proofs.reads.TrueLemmas.{all-pass, keeps-passes, one-more, AreTrue, IsReplyTo}
+use Rattle.aoe_history.proofs.reads.TrueLemmas.{all-pass, keeps-passes, one-more, IsReplyTo, Kept}
 use Rattle.aoe_history.proofs.sectors.ArriveLemmas.{arrived-at}
 use Rattle.aoe_history.proofs.sectors.AtLemmas.{quiet, sent-at, At}
-
-pub record Kept (s : Setup) (host : HostSetup) (slot : SlotSetup) (h : List Entry) (sct : ℕ) : Type 0 where
-  pub at : At s.life host slot h sct
-  pub replies : AreTrue s.life host slot h sct (frames h)
 
 -- a host's request is no reply, and no frame from elsewhere is one
 request-no-reply : (s : Setup) (o host : HostSetup) (slot : SlotSetup) (h : List Entry) (c number : ℕ) (f : List ℕ) → IsSetup s → Contains s.hosts o → Contains s.slots slot
@@ -78,7 +73,7 @@ module _ (s : Setup) (host : HostSetup) (slot : SlotSetup) (ok : IsSetup s) (own
       sent-at e r (ap (λ (z : Header). z.tag) hd) (base-of h l.1) later.base later.gone slot sct x
   sent-at-it h name c number f l x false e = rw e (quiet (sent-keeps host h name c number f e) (base-of h l.1) slot sct x)
 
-  pub kept : (h : List Entry) → IsLawful s h → Kept s host slot h sct
+  kept : (h : List Entry) → IsLawful s h → Kept s.life host slot h sct
   kept [] l = record {
     at = record {
       lost = λ e. absurd (cc);
@@ -107,34 +102,19 @@ module _ (s : Setup) (host : HostSetup) (slot : SlotSetup) (ok : IsSetup s) (own
       let x = kept h l.1 in
       let b = run h l.1 in
       record {
-        at = arrived-at b slot there sct dev k (Replied e number r) x.at l.0;
+        at = arrived-at b slot there sct dev k (Replied e number r) l.0 x.at;
         replies = one-more (new-reply b slot there sct x.at dev k e number r l.0) (all-pass (arrived-passes b slot there sct dev k (Replied e number r) l.0) x.replies);
       }
   kept (Arrived dev k fate ∷ h) l =
       let x = kept h l.1 in
       let b = run h l.1 in
-      record { at = arrived-at b slot there sct dev k fate x.at l.0; replies = all-pass (arrived-passes b slot there sct dev k fate l.0) x.replies }
-  kept (Done name c outcome.Written ∷ h) l =
-      let x = kept h l.1 in
-      let b = run h l.1 in
-      record {
-        at = written-at b slot there sct x.at x.replies name c l.0;
-        replies = all-pass (written-passes b slot there sct x.at x.replies name c l.0) x.replies;
-      }
-  kept (Done name c outcome.Flushed ∷ h) l =
-      let x = kept h l.1 in
-      let b = run h l.1 in
-      record {
-        at = flushed-at b slot there sct x.at x.replies name c l.0;
-        replies = all-pass (ended-passes b slot there sct x.at x.replies name c outcome.Flushed l.0 (λ d span fl asks i v m. m)) x.replies;
-      }
+      record { at = arrived-at b slot there sct dev k fate l.0 x.at; replies = all-pass (arrived-passes b slot there sct dev k fate l.0) x.replies }
+  kept (Done name c outcome.Written ∷ h) l = written (run h l.1) slot there sct (kept h l.1) name c l.0
+  kept (Done name c outcome.Flushed ∷ h) l = flushed (run h l.1) slot there sct (kept h l.1) name c l.0
   kept (Done name c o ∷ h) l =
       let x = kept h l.1 in
       let b = run h l.1 in
-      record {
-        at = ended-at b slot there sct x.at x.replies name c o l.0 x.at;
-        replies = all-pass (ended-passes b slot there sct x.at x.replies name c o l.0 (λ d span fl asks i v m. m)) x.replies;
-      }
+      ended b slot there sct x name c o l.0 (ended-at b slot there sct x name c o l.0 x.at) (λ d span fl asks i v m. m)
   kept (Crashed dev lists how ∷ h) l =
       let x = kept h l.1 in
       record { at = crashed-at s.life host slot h dev lists how sct x.at; replies = all-pass (crashed-passes host slot h dev lists how sct) x.replies }

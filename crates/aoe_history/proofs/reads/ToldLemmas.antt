@@ -35,7 +35,7 @@ use Rattle.aoe_history.specs.Frames.{bytes_of, clock}
 use Rattle.aoe_history.specs.Lawful.{HasHost, IsArrival}
 use Rattle.aoe_history.specs.Reading.{allowed, alone, IsAllowed}
 use Rattle.aoe_history.specs.Setup.{is_slot, slot_of, HostSetup, Setup, SlotSetup}
-use Rattle.aoe_history.specs.Slots.{marked_in, state_after, verdict_after, Slot}
+use Rattle.aoe_history.specs.Slots.{marked_in, state_after, verdict_after}
 use Rattle.aoe_history.proofs.FrameLemmas.{arrives}
 use Rattle.aoe_history.proofs.hosts.AskedLemmas.{asked-of, ids-same}
 use Rattle.aoe_history.proofs.hosts.HostLemmas.{holds-of}
@@ -45,7 +45,7 @@ use Rattle.aoe_history.proofs.reads.PassLemmas.{allowed-unless, was-alone}
 use Rattle.aoe_history.proofs.reads.TrueLemmas.{IsReplyTo, IsTrue, SaysOf}
 use Rattle.aoe_history.proofs.replies.ConversationLemmas.{response-tells}
 use Rattle.aoe_history.proofs.replies.ReplyLemmas.{reply-read, replying}
-use Rattle.aoe_history.proofs.sectors.ArriveLemmas.{named-slot, sectors-there, slot-arrived}
+use Rattle.aoe_history.proofs.sectors.ArriveLemmas.{named-slot, same-sector, sectors-there, slot-arrived}
 use Rattle.aoe_history.proofs.sectors.AtLemmas.{At}
 use Rattle.aoe_history.proofs.sectors.SectorLemmas.{none-allowed}
 
@@ -99,7 +99,7 @@ module _ {s : Setup} {host : HostSetup} {h : List Entry} (run : HasHost s host h
       → is_some (sends_of host h c) ≡ true → ((command_of op == 0) ≡ true → TellsTruly op (state_after slot h) e r a) → SaysOf host slot n sct c op a r
   by-op c f (Write at bytes) Written is same law sent tells = λ inside. rw (is, tells refl, inside, sent) refl
   by-op c f Flush Flushed is same law sent tells = λ al.
-      ap (λ (z : Slot). marked_in z.state.sectors sct) (slot-arrived slot h dev k (Replied e number r) f is same)
+      (same-sector sct (slot-arrived slot h dev k (Replied e number r) f is same)).1
       ∙ synced-clean slot.station (state_after slot h) f r e (verdict_after slot h f) sct (tells refl) law
   by-op c f (Read span) (Data len) is same law sent tells = λ inside al.
       allowed-unless _ _ _ (shown-allowed s.life host slot h sct span (slice_range (drop 24 r) 12 (12 + len)) x inside (was-alone host slot h dev k (Replied e number r) sct al).0 (tells refl).1)

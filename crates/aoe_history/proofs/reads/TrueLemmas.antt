@@ -16,10 +16,11 @@ use Rattle.aoe_target.specs.Sectors.{in_span, value_in}
 use Rattle.aoe_history.specs.declared.entry.Entry.{Entry}
 use Rattle.aoe_history.specs.Commands.{submission}
 use Rattle.aoe_history.specs.CommandView.{sends_of, was_done, AsksAt}
+use Rattle.aoe_history.specs.Frames.{frames}
 use Rattle.aoe_history.specs.Reading.{allowed, alone, IsAllowed}
 use Rattle.aoe_history.specs.Setup.{HostSetup, SlotSetup}
 use Rattle.aoe_history.specs.Slots.{marked_after}
-use Rattle.aoe_history.proofs.sectors.AtLemmas.{landed, not-before, IsFlying}
+use Rattle.aoe_history.proofs.sectors.AtLemmas.{landed, not-before, At, IsFlying}
 use Rattle.aoe_history.proofs.hosts.BaseLemmas.{Base, Keeps}
 use Rattle.aoe_history.proofs.hosts.EntryLemmas.{numbered-cases}
 
@@ -91,11 +92,15 @@ pub one-more : {life : ℕ} {host : HostSetup} {slot : SlotSetup} {n : List Entr
     → (IsReplyTo host slot g.bytes → IsTrue life host slot n s g) → AreTrue life host slot n s fs → AreTrue life host slot n s (g ∷ fs)
 one-more {g = g} {fs} new all = record { each = λ k r e to. elim (numbered-cases g fs k r e) [ inl z ↦ rw (← z) (new (rw z to)) | inr q ↦ all.each k r q to ] }
 
+-- what may be read of the sector still may
+abbrev pub StillReads : HostSetup → SlotSetup → List Entry → List Entry → ℕ → Type 0
+StillReads host slot h n s = (c : ℕ) (span : Span) → IsFlying host h c → AsksAt slot (submission host h c) (Read span) → in_span span s ≡ true → (v : List ℕ)
+    → IsAllowed (Some v) (allowed host slot h s) → IsAllowed (Some v) (allowed host slot n s)
+
 -- an entry that changes nothing of the sector
 pub keeps-passes : {life : ℕ} {host : HostSetup} {h n : List Entry} (slot : SlotSetup) (s : ℕ) → Keeps host h n → Base life host h
     → ((c : ℕ) → landed host slot n s c ≡ landed host slot h s c) → alone host slot n s ≡ alone host slot h s → marked_after slot n s ≡ marked_after slot h s
-    → ((c : ℕ) (span : Span) → IsFlying host h c → AsksAt slot (submission host h c) (Read span) → in_span span s ≡ true → (v : List ℕ)
-    → IsAllowed (Some v) (allowed host slot h s) → IsAllowed (Some v) (allowed host slot n s)) → Passes host slot h n s
+    → StillReads host slot h n s → Passes host slot h n s
 keeps-passes slot s k b la al ma may = record {
   sent = λ c x e. (x, k.sends c ∙ e, refl, omega arith);
   flying = λ c d. not-before (k.done c) d;
@@ -104,3 +109,8 @@ keeps-passes slot s k b la al ma may = record {
   marks = λ c fl asks m a. ma ∙ m (sym al ∙ a);
   reads = λ c span fl asks i v m a. may c span fl asks i v (m (sym al ∙ a));
 }
+
+-- what is kept of the sector and of the replies in the network
+pub record Kept (life : ℕ) (host : HostSetup) (slot : SlotSetup) (h : List Entry) (s : ℕ) : Type 0 where
+  pub at : At life host slot h s
+  pub replies : AreTrue life host slot h s (frames h)

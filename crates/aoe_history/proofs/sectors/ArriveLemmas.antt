@@ -1,5 +1,5 @@
 -- What holds of a sector of a slot for a host after an arrival.
-use Rattle.std.proofs.Common.{ℕ, ◌≡◌, if◌then◌else◌, Bool, true, false, List, [], ◌∷◌, drop, Some, IsSomeAnd, refl, sym, subst, ap, ◌∙◌, Contains}
+use Rattle.std.proofs.Common.{ℕ, ◌≡◌, ◌⊎◌, inl, inr, if◌then◌else◌, Bool, true, false, List, [], ◌∷◌, drop, Some, IsSomeAnd, refl, sym, subst, ap, ◌∙◌, Contains}
 use Rattle.std.specs.Option.{option_map}
 use Rattle.aoe_base.specs.declared.address.TargetId.{TargetId}
 use Rattle.aoe_base.specs.declared.sectors.Span.{Span}
@@ -24,10 +24,9 @@ use Rattle.aoe_history.specs.Frames.{arriving, bytes_of}
 use Rattle.aoe_history.specs.Lawful.{HasHost, IsArrival}
 use Rattle.aoe_history.specs.Reading.{is_from}
 use Rattle.aoe_history.specs.Setup.{is_slot, slot_of, HostSetup, IsSetup, Setup, SlotSetup}
-use Rattle.aoe_history.specs.ShelfLaw.{KeepsShelfLaw}
 use Rattle.aoe_history.specs.Slots.{after_frame, fate_at, known_after, left_sectors, marked_after, marked_in, slot_after, state_after, verdict_after, Slot}
 use Rattle.aoe_history.proofs.FrameLemmas.{arrives, bytes-arriving}
-use Rattle.aoe_history.proofs.LogicLemmas.{if-false, if-true, some-and}
+use Rattle.aoe_history.proofs.LogicLemmas.{if-true, some-and}
 use Rattle.aoe_history.proofs.hosts.ApartLemmas.{arriving-active, one-write}
 use Rattle.aoe_history.proofs.hosts.AskedLemmas.{ids-same, there-of, understood}
 use Rattle.aoe_history.proofs.hosts.HostLemmas.{holds-of}
@@ -78,9 +77,16 @@ module _ {s : Setup} {host : HostSetup} {h : List Entry} (run : HasHost s host h
 abbrev AreKnown : State → Type 0
 AreKnown k = (x : Sectors) × (k.sectors ≡ Some x)
 
-either : (b : Bool) (x y : Slot) → AreKnown x.state → AreKnown y.state → AreKnown (if b then x else y).state
-either true x y p q = p
-either false x y p q = q
+pub either : (b : Bool) (x y : Slot) → ((b ≡ true) × ((if b then x else y) ≡ x)) ⊎ ((b ≡ false) × ((if b then x else y) ≡ y))
+either true x y = inl (refl, refl)
+either false x y = inr (refl, refl)
+
+known-either : (b : Bool) (x y : Slot) → AreKnown x.state → AreKnown y.state → AreKnown (if b then x else y).state
+known-either true x y p q = p
+known-either false x y p q = q
+
+pub same-sector : {x y : Slot} (s : ℕ) → x ≡ y → (known_in x.state.sectors s ≡ known_in y.state.sectors s) × (marked_in x.state.sectors s ≡ marked_in y.state.sectors s)
+same-sector s e = (ap (λ (z : Slot). known_in z.state.sectors s) e, ap (λ (z : Slot). marked_in z.state.sectors s) e)
 
 still-known : (station : Station) (f : List ℕ) (v : Verdict) (fate : Fate) (k : State) → AreKnown k → AreKnown (after station f v (fate_at fate) k)
 still-known station f (Ata d) fate k p = (_, ap (option_map (after_ata f d.answer (fate_at fate))) p.1)
@@ -89,8 +95,8 @@ still-known station f _ fate k p = p
 
 pub sectors-there : (slot : SlotSetup) (h : List Entry) → AreKnown (state_after slot h)
 sectors-there slot [] = (_, refl)
-sectors-there slot (Arrived dev frame fate ∷ h) = let p = sectors-there slot h in either (is_slot slot dev) _ _ (still-known slot.station (bytes_of h frame) _ fate _ p) p
-sectors-there slot (Crashed dev lists how ∷ h) = let p = sectors-there slot h in either (is_slot slot dev) _ _ (_, ap (option_map (left_sectors slot _ how)) p.1) p
+sectors-there slot (Arrived dev frame fate ∷ h) = let p = sectors-there slot h in known-either (is_slot slot dev) _ _ (still-known slot.station (bytes_of h frame) _ fate _ p) p
+sectors-there slot (Crashed dev lists how ∷ h) = let p = sectors-there slot h in known-either (is_slot slot dev) _ _ (_, ap (option_map (left_sectors slot _ how)) p.1) p
 sectors-there slot (_ ∷ h) = sectors-there slot h
 
 -- the slot after an arrival
@@ -98,35 +104,50 @@ pub slot-arrived : (slot : SlotSetup) (h : List Entry) (dev : TargetId) (k : ℕ
     → slot_after slot (Arrived dev k fate ∷ h) ≡ after_frame slot f fate (slot_after slot h)
 slot-arrived slot h dev k fate f is bytes = if-true _ _ _ is ∙ ap (λ z. after_frame slot z fate (slot_after slot h)) bytes
 
-pub act-after : (slot : SlotSetup) (h : List Entry) (dev : TargetId) (k : ℕ) (fate : Fate) (f : List ℕ) → is_slot slot dev ≡ true → KeepsShelfLaw slot h f fate
-    → bytes_of h k ≡ f → (sct : ℕ) → let n = Arrived dev k fate ∷ h in
-    Act (verdict_after slot h f) f fate sct (known_after slot h sct) (known_after slot n sct) (marked_after slot h sct) (marked_after slot n sct)
-act-after slot h dev k fate f is law bytes sct =
-    let x = sectors-there slot h in
-    let v = verdict_after slot h f in
-    subst (λ (z : Slot). Act v f fate sct (known_after slot h sct) (known_in z.state.sectors sct) (marked_after slot h sct) (marked_in z.state.sectors sct))
-    (sym (slot-arrived slot h dev k fate f is bytes)) (acts slot.station (state_after slot h) f v fate sct x.0 x.1 law)
+-- a frame that came to this slot, and what it did
+pub record IsHere (life : ℕ) (slot : SlotSetup) (h : List Entry) (dev : TargetId) (k : ℕ) (fate : Fate) (s : ℕ) : Type 0 where
+  pub frame : List ℕ
+  pub is : is_slot slot dev ≡ true
+  pub bytes : bytes_of h k ≡ frame
+  pub fresh : arriving life h k ≡ Some frame
+  pub act : Act (verdict_after slot h frame) frame fate s (known_after slot h s) (known_after slot (Arrived dev k fate ∷ h) s) (marked_after slot h s)
+      (marked_after slot (Arrived dev k fate ∷ h) s)
 
-module _ {s : Setup} {host : HostSetup} {h : List Entry} (run : HasHost s host h) (slot : SlotSetup) (there : Contains s.slots slot) (sct : ℕ) (dev : TargetId) (k : ℕ) (fate : Fate) (x : At s.life host slot h sct) where
-  here : (f : List ℕ) → is_slot slot dev ≡ true → bytes_of h k ≡ f → arriving s.life h k ≡ Some f
-      → Act (verdict_after slot h f) f fate sct (known_after slot h sct) (known_after slot (Arrived dev k fate ∷ h) sct) (marked_after slot h sct) (marked_after slot (Arrived dev k fate ∷ h) sct)
-      → At s.life host slot (Arrived dev k fate ∷ h) sct
-  here f e bytes fresh (showed shown p q a b) = rw (p, q, bytes, a, b, e) (landing (learns x shown) (λ c. rw (e, a) refl))
-  here f e bytes fresh (put span v p q a b) =
-      let holds = holds-of s host h run in
-      rw (p, q, bytes, a, b, e) (stores x (flying-active s.life host h) (λ from. writer run slot there sct k f span fresh from v)
-      (λ c d v w y z. one-write s.life host h holds.base holds.gone slot sct c d y.0 z.0 v w y.1 z.1 y.2 z.2))
-  here f e bytes fresh (spoilt span v q a b) = rw (q, bytes, a, b, e) (breaks_it x (λ from. writer run slot there sct k f span fresh from v))
-  here f e bytes fresh (synced p q a b) = rw (p, q, bytes, a, b, e) (landing (syncs x) (λ c. rw (e, a) refl))
+module _ {s : Setup} {host : HostSetup} {h : List Entry} (run : HasHost s host h) (slot : SlotSetup) (there : Contains s.slots slot) (sct : ℕ)
+    (dev : TargetId) (k : ℕ) (fate : Fate) where
+  abbrev n : List Entry
+  n = Arrived dev k fate ∷ h
 
-  pub arrived-at : IsSomeAnd (slot_of s dev) (λ z. IsArrival s z h k fate) → At s.life host slot (Arrived dev k fate ∷ h) sct
-  arrived-at law = go (is_slot slot dev) refl
+  -- a frame comes to another slot, or to this one
+  pub arrival : IsSomeAnd (slot_of s dev) (λ z. IsArrival s z h k fate)
+      → ((is_slot slot dev ≡ false) × (slot_after slot n ≡ slot_after slot h)) ⊎ IsHere s.life slot h dev k fate sct
+  arrival law = elim (either (is_slot slot dev) (after_frame slot (bytes_of h k) fate (slot_after slot h)) (slot_after slot h)) [
+    | inr away ↦ inl away
+    | inl here ↦ (let a = some-and (λ z. IsArrival s z h k fate) _ slot (named-slot s slot dev run.setup there here.0) law in
+        let bytes = bytes-arriving s.life h k a.bytes a.fresh in
+        let x = sectors-there slot h in
+        let now = same-sector sct (slot-arrived slot h dev k fate a.bytes here.0 bytes) in
+        inr (record {
+          frame = a.bytes;
+          is = here.0;
+          bytes = bytes;
+          fresh = a.fresh;
+          act = rw (now.0, now.1) (acts slot.station (state_after slot h) a.bytes (verdict_after slot h a.bytes) fate sct x.0 x.1 a.law);
+        }))
+  ]
+
+  pub arrived-at : IsSomeAnd (slot_of s dev) (λ z. IsArrival s z h k fate) → At s.life host slot h sct → At s.life host slot n sct
+  arrived-at law x = elim (arrival law) [
+    | inl away ↦ (let was = same-sector sct away.1 in rw (was.0, was.1, away.0) (landing x (λ c. rw (away.0) refl)))
+    | inr here ↦ by-act here.frame here.is here.bytes here.fresh here.act
+  ]
     where
-      go : (t : Bool) → is_slot slot dev ≡ t → At s.life host slot (Arrived dev k fate ∷ h) sct
-      go false e =
-          let same : slot_after slot (Arrived dev k fate ∷ h) ≡ slot_after slot h = if-false _ _ _ e in
-          rw (ap (λ (z : Slot). known_in z.state.sectors sct) same, ap (λ (z : Slot). marked_in z.state.sectors sct) same, e) (landing x (λ c. rw e refl))
-      go true e =
-          let a = some-and (λ z. IsArrival s z h k fate) _ slot (named-slot s slot dev run.setup there e) law in
-          let bytes = bytes-arriving s.life h k a.bytes a.fresh in
-          here a.bytes e bytes a.fresh (act-after slot h dev k fate a.bytes e a.law bytes sct)
+      by-act : (f : List ℕ) → is_slot slot dev ≡ true → bytes_of h k ≡ f → arriving s.life h k ≡ Some f
+          → Act (verdict_after slot h f) f fate sct (known_after slot h sct) (known_after slot n sct) (marked_after slot h sct) (marked_after slot n sct) → At s.life host slot n sct
+      by-act f e bytes fresh (showed shown p q a b) = rw (p, q, bytes, a, b, e) (landing (learns x shown) (λ c. rw (e, a) refl))
+      by-act f e bytes fresh (put span v p q a b) =
+          let holds = holds-of s host h run in
+          rw (p, q, bytes, a, b, e) (stores x (flying-active s.life host h) (λ from. writer run slot there sct k f span fresh from v)
+          (λ c d v w y z. one-write s.life host h holds.base holds.gone slot sct c d y.0 z.0 v w y.1 z.1 y.2 z.2))
+      by-act f e bytes fresh (spoilt span v q a b) = rw (q, bytes, a, b, e) (breaks_it x (λ from. writer run slot there sct k f span fresh from v))
+      by-act f e bytes fresh (synced p q a b) = rw (p, q, bytes, a, b, e) (landing (syncs x) (λ c. rw (e, a) refl))

@@ -1,5 +1,6 @@
 -- What holds of a sector of a slot for a host, after each entry but an arrival.
 use Rattle.std.proofs.Common.{ℕ, ◌≡◌, ◌⊎◌, inl, inr, if◌then◌else◌, Bool, true, false, not, ◌&&◌, ◌||◌, List, [], ◌∷◌, Option, Some, None, is_some, refl, sym, ◌∙◌}
+use Rattle.std.proofs.lemmas.Bool.{not-false}
 use Rattle.arrayvec.specs.ArrayVec.{ArrayVec}
 use Rattle.aoe_frame.specs.Header.{fields}
 use Rattle.aoe_initiator.specs.HostLog.{Sending}
@@ -8,7 +9,7 @@ use Rattle.aoe_history.specs.declared.entry.Entry.TheVariants.{Sent, Arrived}
 use Rattle.aoe_history.specs.Commands.{submission, was_sent, writes}
 use Rattle.aoe_history.specs.CommandView.{is_active, sends_of, was_done}
 use Rattle.aoe_history.specs.Frames.{clock}
-use Rattle.aoe_history.specs.Reading.{allowed, alone, is_first, safe, spoiled}
+use Rattle.aoe_history.specs.Reading.{allowed, alone, safe, spoiled}
 use Rattle.aoe_history.specs.Setup.{is_called, is_slot, HostSetup, SlotSetup}
 use Rattle.aoe_history.specs.Slots.{known_after, marked_after, stores}
 use Rattle.aoe_history.proofs.hosts.ApartLemmas.{one-write}
@@ -16,8 +17,9 @@ use Rattle.aoe_history.proofs.hosts.BaseLemmas.{live-by, now-sent, sent-cases, B
 use Rattle.aoe_history.proofs.hosts.BaseLemmas as base
 use Rattle.aoe_history.proofs.hosts.GoneLemmas.{AreGone}
 use Rattle.aoe_history.proofs.hosts.ReadyLemmas.{MayBeSent}
+use Rattle.aoe_history.proofs.hosts.SendLemmas.{and-parts}
 use Rattle.aoe_history.proofs.sectors.SectorLemmas.{begins, weaken, Sector}
-use Rattle.aoe_history.proofs.LogicLemmas.{untrue}
+use Rattle.aoe_history.proofs.LogicLemmas.{not-true, or-right, untrue}
 
 -- a command flies; it is under way
 abbrev pub IsFlying : HostSetup → List Entry → ℕ → Type 0
@@ -55,27 +57,23 @@ sent-same host [] c = refl
 sent-same host (Sent name t number f ∷ h) c = or-some _ _ _ _ (sent-same host h c)
 sent-same host (_ ∷ h) c = sent-same host h c
 
-some-more : (b : Bool) (x : Sending) (o : Option Sending) → is_some o ≡ true → is_some (if b then Some x else o) ≡ true
-some-more true x o e = refl
-some-more false x o e = e
-
 last-true : (a b c r : Bool) → ((a && b && c) || r) ≡ true → (c ≡ true) ⊎ (r ≡ true)
 last-true true true true r e = inl refl
 last-true _ _ _ r e = inr e
 
-pub landed-sent : (host : HostSetup) (slot : SlotSetup) (h : List Entry) (s c : ℕ) → landed host slot h s c ≡ true → is_some (sends_of host h c) ≡ true
+landed-sent : (host : HostSetup) (slot : SlotSetup) (h : List Entry) (s c : ℕ) → landed host slot h s c ≡ true → was_sent host h c ≡ true
 landed-sent host slot [] s c e = absurd (cc)
-landed-sent host slot (Sent name t number f ∷ h) s c e = some-more _ _ _ (landed-sent host slot h s c e)
-landed-sent host slot (Arrived dev frame fate ∷ h) s c e = elim (last-true (is_slot slot dev) (stores fate s) _ _ e) [ inl p ↦ p | inr q ↦ landed-sent host slot h s c q ]
+landed-sent host slot (Sent name t number f ∷ h) s c e = or-right _ _ (landed-sent host slot h s c e)
+landed-sent host slot (Arrived dev frame fate ∷ h) s c e = elim (last-true (is_slot slot dev) (stores fate s) _ _ e) [
+  | inl p ↦ sent-same host h c ∙ p
+  | inr q ↦ landed-sent host slot h s c q
+]
 landed-sent host slot (_ ∷ h) s c e = landed-sent host slot h s c e
 
 -- ENTRIES THAT SEND NOTHING
 
 pub not-before : {done done2 : Bool} → (done ≡ true → done2 ≡ true) → done2 ≡ false → done ≡ false
 not-before {done} f e = untrue done (λ d. let x = f d in cc)
-
-pub flying-before : {host : HostSetup} {h n : List Entry} (c : ℕ) → Keeps host h n → IsFlying host n c → IsFlying host h c
-flying-before c k (x, e, d) = (x, sym (k.sends c) ∙ e, not-before (k.done c) d)
 
 pub flying-active : (life : ℕ) (host : HostSetup) (h : List Entry) (c : ℕ) → IsFlying host h c → IsUnderWay life host h c
 flying-active life host h c (x, e, d) = (x, e, rw d refl)
@@ -88,18 +86,14 @@ module _ {life : ℕ} {host : HostSetup} {h n : List Entry} (k : Keeps host h n)
   pub quiet : {la : ℕ → Bool} {holds : Option (List ℕ)} {mark al sa sp : Bool} {may : Option (List (List ℕ))}
       → Sector (IsFlying host h) (IsUnderWay life host h) (wr host slot h s) la holds mark al sa sp may
       → Sector (IsFlying host n) (IsUnderWay life host n) (wr host slot n s) la holds mark al sa sp may
-  quiet x = weaken x (λ c v f w. let g = flying-before c k f in (g, (before c v (flying-active life host h c g) w).1))
-      (λ c v (y, e, a) w. before c v (y, sym (k.sends c) ∙ e, live-by life (clock h) (clock n) y.last.0 (was_done host h c) (was_done host n c) k.time (k.done c) a) w)
+  quiet x = weaken x
+      (λ c v (y, e, d) w. let f : IsFlying host h c = (y, sym (k.sends c) ∙ e, not-before (k.done c) d) in (f, (before c v (flying-active life host h c f) w).1))
+      (λ c v (y, e, a) w. let l = live-by life (clock h) (clock n) y.last.0 _ _ k.time (k.done c) a in before c v (y, sym (k.sends c) ∙ e, l) w)
 
 -- A SEND OF THE HOST'S
 
 none-written : (wrote : ℕ → Option (List ℕ)) {c d : ℕ} {v : List ℕ} → d ≡ c → wrote c ≡ None → wrote d ≡ Some v → ⊥
 none-written wrote p q r = cc
-
-own-first : (a b t : Bool) → a ≡ true → (a && not b) ≡ t → b ≡ not t
-own-first true true false e p = refl
-own-first true false true e p = refl
-own-first _ _ _ e p = absurd (cc)
 
 module _ {life : ℕ} {host : HostSetup} {h : List Entry} {name : ArrayVec ℕ} {c number : ℕ} {f : List ℕ} (mine : is_called host name ≡ true) (r : MayBeSent life host h c f)
     (reads : (fields f).tag ≡ r.tag) (b : Base life host h) (b2 : Base life host (Sent name c number f ∷ h)) (g2 : AreGone life host (Sent name c number f ∷ h))
@@ -129,17 +123,17 @@ module _ {life : ℕ} {host : HostSetup} {h : List Entry} {name : ArrayVec ℕ} 
       let a = flying-active life host n d fl in
       let o = flying-active life host n c (now-flying e) in
       let same : d ≡ c = one-write life host n b2 g2 slot s d c a.0 o.0 w v a.1 o.1 a.2 o.2 wd wc in
-      untrue (landed host slot h s d) (λ l. cc (landed-sent host slot h s d l, sent-same host h c))
+      untrue (landed host slot h s d) (λ l. cc (landed-sent host slot h s d l))
 
   pub sent-at : At life host slot n s
-  sent-at = go (is_first (is_called host name) (was_sent host h c)) refl (wr host slot h s c) refl
+  sent-at = go (is_called host name && not (was_sent host h c)) refl (wr host slot h s c) refl
     where
-      go : (t : Bool) → is_first (is_called host name) (was_sent host h c) ≡ t → (w : Option (List ℕ)) → wr host slot h s c ≡ w → At life host slot n s
+      go : (t : Bool) → (is_called host name && not (was_sent host h c)) ≡ t → (w : Option (List ℕ)) → wr host slot h s c ≡ w → At life host slot n s
       go false e w we =
-          let again = flew (own-first _ _ _ mine e) in
+          let again = flew (not-false _ (rw mine at e)) in
           rw e (weaken x (λ d v fl wd. (elim (flying-of d fl) [ inl p ↦ rw p again | inr o ↦ o ], wd))
           (λ d v a wd. (elim (active-of d a) [ inl p ↦ rw p (flying-active life host h c again) | inr o ↦ o ], wd)))
       go true e None we =
           rw (e, we) (weaken x (λ d v fl wd. (elim (flying-of d fl) [ inl p ↦ absurd (none-written (wr host slot h s) p we wd) | inr o ↦ o ], wd))
           (λ d v a wd. (elim (active-of d a) [ inl p ↦ absurd (none-written (wr host slot h s) p we wd) | inr o ↦ o ], wd)))
-      go true e (Some v) we = rw (e, we) (begins x c v active-of we (λ d w fl wd. none-landed (own-first _ _ _ mine e) d v w fl we wd))
+      go true e (Some v) we = rw (e, we) (begins x c v active-of we (λ d w fl wd. none-landed (not-true _ (and-parts _ _ e).1) d v w fl we wd))

@@ -7,6 +7,7 @@ use Rattle.std.proofs.lemmas.List.Sums.{AllPass-from_list_all}
 use Rattle.aoe_flight.specs.declared.outstanding.Outstanding.{Outstanding}
 use Rattle.aoe_flight.specs.Outstanding.{is_due, is_expired, is_taken, live, lower, precedes, rest_time, IsFirst}
 use Rattle.aoe_base.specs.declared.address.TargetId.{TargetId}
+use Rattle.aoe_base.specs.declared.counted.PathNo.{PathNo}
 use Rattle.aoe_initiator.specs.declared.op.Op.{Op}
 use Rattle.aoe_initiator.specs.declared.op.Op.TheVariants.{Flush}
 use Rattle.aoe_initiator.specs.declared.outcome.Outcome.{Outcome}
@@ -54,8 +55,11 @@ abbrev pub nth_sent : HostSetup → List Entry → ℕ → Outstanding
 nth_sent host h k = slice_index_or (sent_of (commands_of host h)) k unsent
 
 -- the path that is next for a command
-abbrev pub path_for : Setup → HostSetup → List Entry → HostCommand → ℕ
-path_for s host h x = next_of (paths_to (host_after s host h) x.device.0) (missed_by x.sends (path_log (log_of host h) x.device.0))
+abbrev pub path_for : Setup → HostSetup → List Entry → HostCommand → PathNo
+path_for s host h x = record { 0 = next_of (paths_to (host_after s host h) x.device.0) (missed_by x.sends (path_log (log_of host h) x.device.0)) }
+
+pub passes : {X : Type 0} (test : X → Bool) (xs : List X) (x : X) → list_all test xs ≡ true → Contains xs x → test x ≡ true
+passes test xs x e there = rw there.2 at (AllPass-from_list_all test xs e there.0 x there.1)
 
 all-fail : {X : Type 0} (p : X → Bool) (xs : List X) → list_all (λ x. not (p x)) xs ≡ true → All (λ x. p x ≡ false) xs
 all-fail p xs e = λ k d lt. not-true (p (slice_index_or xs k d)) (AllPass-from_list_all (λ x. not (p x)) xs e k d lt)
@@ -87,18 +91,18 @@ pub submits : {s : Setup} {host : HostSetup} {h : List Entry} {c : ℕ} {dev : T
 submits attached can taken next = record { device = 0; attached = attached; can = can; taken = taken; next = next }
 
 -- a command of the host is sent for the first time
-pub starts : {s : Setup} {host : HostSetup} {h : List Entry} {c : ℕ} {bytes : List ℕ} (k tag path : ℕ) → (nth host h k).ticket.0 ≡ c
+pub starts : {s : Setup} {host : HostSetup} {h : List Entry} {c : ℕ} {bytes : List ℕ} (k tag : ℕ) → (nth host h k).ticket.0 ≡ c
     → list_all (λ o. not (is_due (clock h) o)) (sent_of (commands_of host h)) ≡ true
     → nat_lt (length (live (rest_time s.life) (clock h) (sent_of (commands_of host h)))) host.room ≡ true
     → nat_lt k (length (commands_of host h)) ≡ true
     → is_clear_at s.life (clock h) (commands_of host h) (nth host h k) ≡ true
     → is_lowest (is_clear_at s.life (clock h) (commands_of host h)) host h k ≡ true
-    → is_taken (live (rest_time s.life) (clock h) (sent_of (commands_of host h))) tag ≡ false → nat_lt tag 4294967296 ≡ true → path ≡ path_for s host h (nth host h k)
-    → spelled (host_after s host h) (nth host h k) (record { 0 = path }) tag ≡ Some bytes → IsSent s host h c (next_number h) bytes
-starts {s} {host} {h} k tag path is due room within clear lowest free fits next spells =
+    → is_taken (live (rest_time s.life) (clock h) (sent_of (commands_of host h))) tag ≡ false → nat_lt tag 4294967296 ≡ true
+    → spelled (host_after s host h) (nth host h k) (path_for s host h (nth host h k)) tag ≡ Some bytes → IsSent s host h c (next_number h) bytes
+starts {s} {host} {h} k tag is due room within clear lowest free fits spells =
     let its = there host h k within in
     record {
-      sent = record { ticket = (nth host h k).ticket; tag = tag; path = record { 0 = path }; again = false };
+      sent = record { ticket = (nth host h k).ticket; tag = tag; path = path_for s host h (nth host h k); again = false };
       ticket_is = is;
       may = record {
         nothing_due = all-fail (is_due (clock h)) _ due;
@@ -110,7 +114,7 @@ starts {s} {host} {h} k tag path is due room within clear lowest free fits next 
         lowest = lowest-of (is_clear_at s.life (clock h) (commands_of host h)) host h k lowest;
         free = free;
       };
-      path = record { command = nth host h k; there = its; ticket = refl; next = next };
+      path = record { command = nth host h k; there = its; ticket = refl; next = refl };
       frame = record { command = nth host h k; there = its; ticket = refl; bytes = spells };
       tag_fits = ltb-true _ _ fits;
       number_is = refl;
@@ -190,18 +194,18 @@ first-of test before host h k e =
     }
 
 -- a command of the host is sent again
-pub repeats : {s : Setup} {host : HostSetup} {h : List Entry} {c : ℕ} {bytes : List ℕ} (k j path : ℕ) → (nth_sent host h j).ticket.0 ≡ c
+pub repeats : {s : Setup} {host : HostSetup} {h : List Entry} {c : ℕ} {bytes : List ℕ} (k j : ℕ) → (nth_sent host h j).ticket.0 ≡ c
     → is_first (is_due (clock h)) precedes host h j ≡ true → nat_lt k (length (commands_of host h)) ≡ true → (nth host h k).ticket ≡ (nth_sent host h j).ticket
-    → nat_lt (nth_sent host h j).flying.tag 4294967296 ≡ true → path ≡ path_for s host h (nth host h k)
-    → spelled (host_after s host h) (nth host h k) (record { 0 = path }) (nth_sent host h j).flying.tag ≡ Some bytes → IsSent s host h c (next_number h) bytes
-repeats {host = host} {h} k j path is first within same fits next spells =
+    → nat_lt (nth_sent host h j).flying.tag 4294967296 ≡ true
+    → spelled (host_after s host h) (nth host h k) (path_for s host h (nth host h k)) (nth_sent host h j).flying.tag ≡ Some bytes → IsSent s host h c (next_number h) bytes
+repeats {s} {host} {h} k j is first within same fits spells =
     let x = nth_sent host h j in
     let its = there host h k within in
     record {
-      sent = record { ticket = x.ticket; tag = x.flying.tag; path = record { 0 = path }; again = true };
+      sent = record { ticket = x.ticket; tag = x.flying.tag; path = path_for s host h (nth host h k); again = true };
       ticket_is = is;
       may = record { command = x; first_due = first-of (is_due (clock h)) precedes host h j first; ticket = refl; tag = refl };
-      path = record { command = nth host h k; there = its; ticket = same; next = next };
+      path = record { command = nth host h k; there = its; ticket = same; next = refl };
       frame = record { command = nth host h k; there = its; ticket = same; bytes = spells };
       tag_fits = ltb-true _ _ fits;
       number_is = refl;

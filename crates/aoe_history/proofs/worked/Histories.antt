@@ -39,7 +39,7 @@ stored-lawful : IsLawful setup stored
 unfolding full request verdict decision
 stored-lawful =
     comes refl (refl after refl) refl refl refl refl
-    after starts 0 1 0 refl refl refl refl refl refl refl refl refl refl
+    after starts 0 1 refl refl refl refl refl refl refl refl refl
     after submits refl refl refl refl
     after tt
 
@@ -51,14 +51,14 @@ unfolding full request verdict decision spelled
 central =
     ends refl read-answered
     upon reads slot (drop 3 central_case) (read_frame 3) 3 (full 0x5a) refl (λ t. (refl, refl, t)) refl refl refl refl
-    after starts 2 3 0 refl refl refl refl refl refl refl refl refl refl
+    after starts 2 3 refl refl refl refl refl refl refl refl refl
     after submits refl tt refl refl
     after inl refl
     after tt
     after ends refl flush-answered
     upon comes refl refl refl refl refl refl
     after tt
-    after starts 1 2 0 refl refl refl refl refl refl refl refl refl refl
+    after starts 1 2 refl refl refl refl refl refl refl refl refl
     after tt
     after tt
     after submits refl tt refl refl
@@ -71,7 +71,7 @@ unfolding full request verdict decision spelled answer zero_sector torn
 late =
     ends refl (responds 1 (answers.Data 512) refl refl refl)
     upon reads slot (drop 3 late_acknowledgement) (read_frame 2) 3 torn_sector refl (λ t. (refl, refl, t)) refl refl refl refl
-    after starts 1 2 0 refl refl refl refl refl refl refl refl refl refl
+    after starts 1 2 refl refl refl refl refl refl refl refl refl
     after submits refl tt refl refl
     after ends refl (responds 0 answers.Written refl refl refl)
     upon inl refl
@@ -83,21 +83,21 @@ stale =
     ends refl (responds 2 (answers.Data 512) refl refl refl)
     upon reads slot (drop 3 stale_response) (first_read 3) 0 (full 0x22) refl (λ t. (refl, refl, t)) refl refl refl refl
     after takes-stale refl refl
-    after starts 2 3 0 refl refl refl refl refl refl refl refl refl refl
+    after starts 2 3 refl refl refl refl refl refl refl refl refl
     after submits refl tt refl refl
     after takes-stale refl refl
     after ends refl (responds 1 answers.Written refl refl refl)
     upon comes refl (refl after refl) refl refl refl refl
     after takes-stale refl refl
-    after starts 1 2 0 refl refl refl refl refl refl refl refl refl refl
+    after starts 1 2 refl refl refl refl refl refl refl refl refl
     after submits refl refl refl refl
     after ends refl (responds 0 (answers.Data 512) refl refl refl)
     upon reads slot (drop 3 read_twice) (first_read 1) 0 zero_sector refl (λ t. (refl, refl, t)) refl refl refl refl
-    after repeats 0 0 0 refl refl refl refl refl refl refl
+    after repeats 0 0 refl refl refl refl refl refl
     after tt
     after tt
     after reads slot (drop 7 read_twice) (first_read 1) 0 zero_sector refl (λ t. (refl, refl, t)) refl refl refl refl
-    after starts 0 1 0 refl refl refl refl refl refl refl refl refl refl
+    after starts 0 1 refl refl refl refl refl refl refl refl refl
     after submits refl tt refl refl
     after tt
 
@@ -106,24 +106,24 @@ unfolding full request verdict decision spelled answer zero_sector torn reserve_
 refusal =
     ends refl (responds 1 (answers.Data 512) refl refl refl)
     upon reads slot (drop 3 refusal_after_effect) late_read 0 (full 0x11) refl (λ t. (refl, refl, t)) refl refl refl refl
-    after starts 1 2 0 refl refl refl refl refl refl refl refl refl refl
+    after starts 1 2 refl refl refl refl refl refl refl refl refl
     after submits refl tt refl refl
     after ends refl (responds 1 (answers.Told 2) refl refl refl)
     upon comes refl refl refl refl refl refl
-    after starts 1 2 0 refl refl refl refl refl refl refl refl refl refl
+    after starts 1 2 refl refl refl refl refl refl refl refl refl
     after tt
     after submits refl (omega arith) refl refl
     after ends refl (responds 0 (answers.AoeError 6) refl refl refl)
     upon comes refl refl refl refl refl refl
-    after repeats 0 0 0 refl refl refl refl refl refl refl
+    after repeats 0 0 refl refl refl refl refl refl
     after tt
     after ends refl (responds 0 (answers.Told 8) refl refl refl)
     upon comes refl refl refl refl refl refl
-    after starts 0 1 0 refl refl refl refl refl refl refl refl refl refl
+    after starts 0 1 refl refl refl refl refl refl refl refl refl
     after submits refl (omega arith) refl refl
     after tt
     after comes refl (refl after refl) refl refl refl refl
-    after starts 0 1 0 refl refl refl refl refl refl refl refl refl refl
+    after starts 0 1 refl refl refl refl refl refl refl refl refl
     after submits refl refl refl refl
     after tt
 
@@ -132,7 +132,7 @@ unfolding full request
 gave-up =
     inr (gives-up 0 refl refl)
     after tt
-    after starts 0 1 0 refl refl refl refl refl refl refl refl refl refl
+    after starts 0 1 refl refl refl refl refl refl refl refl refl
     after submits refl refl refl refl
     after tt
 
@@ -141,7 +141,7 @@ unfolding full request verdict decision spelled answer zero_sector torn
 fault =
     ends refl (responds 0 (answers.AtaError 0x41 0x04) refl refl refl)
     upon record { bytes = ones_frame; fresh = refl; law = (refl, refl); arming = record { store = (refl, refl); keep = tt }; numbered = refl }
-    after starts 0 1 0 refl refl refl refl refl refl refl refl refl refl
+    after starts 0 1 refl refl refl refl refl refl refl refl refl
     after submits refl refl refl refl
     after tt
     after tt
@@ -152,7 +152,7 @@ unfolding full request verdict decision spelled answer zero_sector torn
 uncached =
     ends refl (responds 1 (answers.Data 512) refl refl refl)
     upon reads slot crashed_write (read_frame 2) 3 (full 0x5a) refl (λ t. (refl, refl, t)) refl refl refl refl
-    after starts 1 2 0 refl refl refl refl refl refl refl refl refl refl
+    after starts 1 2 refl refl refl refl refl refl refl refl refl
     after submits refl tt refl refl
     after inl refl
     after acknowledged-lawful
@@ -162,12 +162,12 @@ unfolding full request verdict decision spelled answer zero_sector torn
 cached =
     ends refl (responds 1 (answers.Data 512) refl refl refl)
     upon reads (slot_with (Some 8)) crashed_write (read_frame 2) 3 zero_sector refl (λ t. (refl, refl, t)) refl refl refl refl
-    after starts 1 2 0 refl refl refl refl refl refl refl refl refl refl
+    after starts 1 2 refl refl refl refl refl refl refl refl refl
     after submits refl tt refl refl
     after inl refl
     after ends refl (responds 0 answers.Written refl refl refl)
     upon comes refl (refl after refl) refl refl refl refl
-    after starts 0 1 0 refl refl refl refl refl refl refl refl refl refl
+    after starts 0 1 refl refl refl refl refl refl refl refl refl
     after submits refl refl refl refl
     after tt
 
@@ -175,11 +175,11 @@ cached =
 before-read : (how : Loss) → IsLawful setup (drop 3 (stopped_flush how))
 unfolding full request verdict decision spelled answer zero_sector torn
 before-read how =
-    starts 2 3 0 refl refl refl refl refl refl refl refl refl refl
+    starts 2 3 refl refl refl refl refl refl refl refl refl
     after submits refl tt refl refl
     after inl refl
     after record { bytes = flush_frame; fresh = refl; law = tt; arming = record { store = (refl, refl); keep = tt }; numbered = tt }
-    after starts 1 2 0 refl refl refl refl refl refl refl refl refl refl
+    after starts 1 2 refl refl refl refl refl refl refl refl refl
     after submits refl tt refl refl
     after tt
     after tt
@@ -218,9 +218,9 @@ stopped-mix =
 twice : IsLawful two_paths sent_twice
 unfolding request spelled
 twice =
-    repeats 0 0 1 refl refl refl refl refl refl refl
+    repeats 0 0 refl refl refl refl refl refl
     after tt
-    after starts 0 1 0 refl refl refl refl refl refl refl refl refl refl
+    after starts 0 1 refl refl refl refl refl refl refl refl refl
     after submits refl tt refl refl
     after tt
 
@@ -229,7 +229,7 @@ unfolding request verdict decision spelled answer zero_sector
 paths =
     ends refl (responds 0 (answers.Data 512) refl refl refl)
     upon reads two_slot sent_thrice (read_on 0 0 1) 0 zero_sector refl (λ t. (refl, refl, t)) refl refl refl refl
-    after repeats 0 0 0 refl refl refl refl refl refl refl
+    after repeats 0 0 refl refl refl refl refl refl
     after tt
     after tt
     after twice
@@ -238,7 +238,7 @@ paths =
 pub measured-paths : IsLawful two_paths measured
 unfolding request verdict decision spelled answer zero_sector
 measured-paths =
-    starts 1 2 1 refl refl refl refl refl refl refl refl refl refl
+    starts 1 2 refl refl refl refl refl refl refl refl refl
     after submits refl tt refl refl
     after ends refl (responds 0 (answers.Data 512) refl refl refl)
     upon reads two_slot (drop 5 measured) (read_on 1 0 1) 0 zero_sector refl (λ t. (refl, refl, t)) refl refl refl refl

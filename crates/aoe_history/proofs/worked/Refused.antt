@@ -1,8 +1,7 @@
 -- What wrong hosts and shelves would do is refused.
-use Rattle.std.proofs.Common.{ℕ, ◌≡◌, ◌≤◌, ◌⊎◌, inl, inr, Bool, true, false, not, ◌&&◌, ◌∙◌, List, [], ◌∷◌, length, Option, Some, None, refl, sym, ap, arith, slice_index, slice_index_or, All, Contains, nat_eq}
+use Rattle.std.proofs.Common.{ℕ, ◌≡◌, ◌≤◌, ◌⊎◌, inl, inr, Bool, true, false, not, ◌&&◌, ◌∙◌, List, [], ◌∷◌, length, Option, Some, None, refl, sym, ap, arith, slice_index, All, Contains, nat_eq}
 use Rattle.std.specs.List.{list_all}
 use Rattle.std.proofs.lemmas.Bool.{and_from, eq-eqb}
-use Rattle.std.proofs.lemmas.List.Sums.{AllPass-from_list_all}
 use Rattle.aoe_disk.specs.declared.loss.Loss.{Loss}
 use Rattle.aoe_ata.specs.Decision.{decision}
 use Rattle.aoe_flight.specs.Outstanding.{is_due}
@@ -33,14 +32,11 @@ use Rattle.aoe_history.specs.Lawful.{IsArrival, MayCome}
 use Rattle.aoe_history.specs.Setup.{HostSetup, Setup, SlotSetup}
 use Rattle.aoe_history.specs.ShelfLaw.{KeepsArming, KeepsShelfLaw}
 use Rattle.aoe_history.specs.Slots.{zero_sector}
-use Rattle.aoe_history.proofs.worked.CaseLemmas.{nth, nth_sent, stale}
+use Rattle.aoe_history.proofs.worked.CaseLemmas.{nth, nth_sent, passes, stale}
 
 -- a command with a ticket is none of these, by a test
 no-such : {X : Type 0} (test : X → Bool) (xs : List X) (x : X) → list_all (λ y. not (test y)) xs ≡ true → Contains xs x → test x ≡ true → ⊥
-no-such test xs x none there e =
-    let n : not (test (slice_index_or xs there.0 x)) ≡ true = AllPass-from_list_all (λ y. not (test y)) xs none there.0 x there.1 in
-    let m : not (test x) ≡ true = rw there.2 at n in
-    let f : not true ≡ true = rw e at m in cc
+no-such test xs x none there e = let n = passes (λ y. not (test y)) xs x none there in cc
 
 -- a command with this ticket isn't sent: none with it is due, and none with it is clear
 pub is-not-sent : (s : Setup) (host : HostSetup) (h : List Entry) (c number : ℕ) (bytes : List ℕ)

@@ -2,7 +2,6 @@
 use Rattle.std.proofs.Common.{ℕ, ◌≡◌, ◌||◌, ◌∙◌, Bool, true, false, not, List, ◌∷◌, Option, Some, None, refl, sym, ap, arith, slice_index, Contains, nat_eq}
 use Rattle.std.specs.List.{list_all}
 use Rattle.std.proofs.lemmas.Bool.{eq-eqb, eqb-true}
-use Rattle.std.proofs.lemmas.List.Sums.{AllPass-from_list_all}
 use Rattle.aoe_base.specs.declared.counted.PathNo.{PathNo}
 use Rattle.aoe_initiator.specs.HostLaw.{spelled, IsQuiet}
 use Rattle.aoe_initiator.specs.HostLog.{HostCommand}
@@ -18,14 +17,13 @@ use Rattle.aoe_history.specs.Lawful.{MayCome}
 use Rattle.aoe_history.specs.PathCases.{almost_grown, due, grown, measured, missed, other_submitted, read_on, two_host, two_paths}
 use Rattle.aoe_history.specs.Setup.{HostSetup, Setup}
 use Rattle.aoe_history.specs.Slots.{zero_sector}
-use Rattle.aoe_history.proofs.worked.CaseLemmas.{nth_sent, or-of, path_for}
+use Rattle.aoe_history.proofs.worked.CaseLemmas.{nth_sent, or-of, passes, path_for}
 use Rattle.aoe_history.proofs.worked.Refused.{is-not-sent}
 
 -- each command with a ticket passes a test
 of-ticket : (test : HostCommand → Bool) (cs : List HostCommand) (c : ℕ) (x : HostCommand) → list_all (λ y. not (nat_eq y.ticket.0 c) || test y) cs ≡ true → Contains cs x
     → x.ticket.0 ≡ c → test x ≡ true
-of-ticket test cs c x e there is =
-    or-of _ _ (rw there.2 at (AllPass-from_list_all (λ (y : HostCommand). not (nat_eq y.ticket.0 c) || test y) cs e there.0 x there.1)) (eq-eqb x.ticket.0 c is)
+of-ticket test cs c x e there is = or-of _ _ (passes (λ (y : HostCommand). not (nat_eq y.ticket.0 c) || test y) cs x e there) (eq-eqb x.ticket.0 c is)
 
 -- the port that a frame goes to, by its number
 abbrev port_to : List ℕ → ℕ
@@ -37,11 +35,11 @@ port_of (Some f) = port_to f
 
 -- a command is sent to the port that the path that is next for it goes to
 sent-to : (s : Setup) (host : HostSetup) (h : List Entry) (c number path to : ℕ) (bytes : List ℕ)
-    → list_all (λ x. not (nat_eq x.ticket.0 c) || nat_eq (path_for s host h x) path) (commands_of host h) ≡ true
+    → list_all (λ x. not (nat_eq x.ticket.0 c) || nat_eq (path_for s host h x).0 path) (commands_of host h) ≡ true
     → ((tag : ℕ) → list_all (λ x. not (nat_eq x.ticket.0 c) || nat_eq (port_of (spelled (host_after s host h) x (record { 0 = path }) tag)) to) (commands_of host h) ≡ true)
     → IsSent s host h c number bytes → port_to bytes ≡ to
 sent-to s host h c number path to bytes next goes x =
-    let its = of-ticket (λ y. nat_eq (path_for s host h y) path) _ c x.path.command next x.path.there (ap (λ t. t.0) x.path.ticket ∙ x.ticket_is) in
+    let its = of-ticket (λ y. nat_eq (path_for s host h y).0 path) _ c x.path.command next x.path.there (ap (λ t. t.0) x.path.ticket ∙ x.ticket_is) in
     let on : x.sent.path ≡ record { 0 = path } = ap (λ n. let p : PathNo = record { 0 = n } in p) (x.path.next ∙ eqb-true _ _ its) in
     let at = of-ticket (λ y. nat_eq (port_of (spelled (host_after s host h) y (record { 0 = path }) x.sent.tag)) to) _ c x.frame.command (goes x.sent.tag) x.frame.there
     (ap (λ t. t.0) x.frame.ticket ∙ x.ticket_is) in
