@@ -1,12 +1,12 @@
 -- The frames of a history that can still be handed over.
-use Rattle.std.proofs.Common.{if◌then◌else◌, ◌==◌, ℕ, suc, ◌+◌, ◌-◌, ◌≤◌, ◌≡◌, false, List, [], ◌∷◌, length, Option, Some, refl, ap, ◌∙◌, arith}
+use Rattle.std.proofs.Common.{if◌then◌else◌, ◌==◌, ℕ, suc, ◌+◌, ◌-◌, ◌≤◌, ◌≡◌, List, [], ◌∷◌, length, Option, Some, refl, ap, ◌∙◌, arith}
 use Rattle.std.proofs.lemmas.Bool.{leb-true}
 use Rattle.std.proofs.lemmas.Bool.Decides.{nat_tests}
 use Rattle.std.proofs.lemmas.Option.{cond_some}
 use Rattle.std.specs.Option.{option_map_or}
 use Rattle.aoe_net.specs.Network.{fresh_bytes, numbered, SentFrame}
 use Rattle.aoe_history.specs.declared.entry.Entry.{Entry}
-use Rattle.aoe_history.proofs.LogicLemmas.{if-false, some-then}
+use Rattle.aoe_history.proofs.LogicLemmas.{some-then}
 use Rattle.aoe_history.specs.Frames.{arriving, bytes_of, clock, frames, network}
 
 -- when the frame with a number was sent
@@ -48,10 +48,7 @@ arrives life h k f e =
 
 -- a frame has its number after one frame more
 pub numbered-later : (g : SentFrame) (fs : List SentFrame) (k : ℕ) (f : SentFrame) → numbered fs k ≡ Some f → numbered (g ∷ fs) k ≡ Some f
-numbered-later g fs k f is = if-false _ _ _ (not-above k (length fs) (number-within fs k f is)) ∙ is
-  where
-    not-above : (k n : ℕ) → k ≤ n → (k == suc n) ≡ false
-    not-above k n le = grind (arith, nat_tests)
+numbered-later g fs k f is = let le = number-within fs k f is in grind (arith, nat_tests)
 
 -- a frame that can be handed over has its bytes
 pub bytes-arriving : (life : ℕ) (h : List Entry) (k : ℕ) (f : List ℕ) → arriving life h k ≡ Some f → bytes_of h k ≡ f

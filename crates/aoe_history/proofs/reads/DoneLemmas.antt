@@ -1,15 +1,14 @@
 -- What holds of a sector of a slot for a host after a command of a host has its outcome.
-use Rattle.std.proofs.Common.{ℕ, ◌-◌, ◌*◌, ◌≡◌, inl, inr, if◌then◌else◌, nat_le, Bool, true, false, not, ◌&&◌, List, ◌∷◌, length, slice_index, Option, Some, None, IsSomeAnd, refl, Contains}
-use Rattle.std.proofs.lemmas.Option.{cond_some}
+use Rattle.std.proofs.Common.{ℕ, ◌≡◌, inl, inr, Bool, true, false, not, ◌&&◌, List, ◌∷◌, Option, Some, None, IsSomeAnd, refl, arith, Contains}
 use Rattle.arrayvec.specs.ArrayVec.{ArrayVec}
 use Rattle.aoe_frame.specs.declared.header.Header.{Header}
 use Rattle.aoe_initiator.specs.declared.op.Op.{Op}
-use Rattle.aoe_initiator.specs.declared.op.Op.TheVariants.{Read, Write, Flush, Identify, Config, Masks, Reserve}
+use Rattle.aoe_initiator.specs.declared.op.Op.TheVariants.{Flush}
 use Rattle.aoe_initiator.specs.declared.outcome.Outcome.{Outcome}
 use Rattle.aoe_initiator.specs.declared.outcome.Outcome.TheVariants as outcome
 use Rattle.aoe_initiator.specs.declared.response.Answer.{Answer}
-use Rattle.aoe_initiator.specs.declared.response.Answer.TheVariants.{Data, Written, Flushed, Told, AtaError, AoeError}
-use Rattle.aoe_initiator.specs.Response.{answer, ata_answer, ata_success, data_if, has_flag, is_failure, outcome_of, told}
+use Rattle.aoe_initiator.specs.declared.response.Answer.TheVariants.{Written, Flushed}
+use Rattle.aoe_initiator.specs.Response.{answer, outcome_of}
 use Rattle.aoe_history.specs.declared.entry.Entry.{Entry}
 use Rattle.aoe_history.specs.declared.entry.Entry.TheVariants.{Done}
 use Rattle.aoe_history.specs.Commands.{submission, Submission}
@@ -33,40 +32,14 @@ use Rattle.aoe_history.proofs.sectors.SectorLemmas.{flushes, settles, Sector}
 -- ANSWERS AND OUTCOMES
 
 written-answer : (a : Answer) (args : List ℕ) → outcome.Written ≡ outcome_of a args → a ≡ Written
-written-answer Written args e = refl
-written-answer _ args e = absurd (cc)
+written-answer a args e = grind arith
 
 flushed-answer : (a : Answer) (args : List ℕ) → outcome.Flushed ≡ outcome_of a args → a ≡ Flushed
-flushed-answer Flushed args e = refl
-flushed-answer _ args e = absurd (cc)
+flushed-answer a args e = grind arith
 
--- an answer by the flags and registers, and one by the flags and lengths, isn't of a flush where the data aren't
-not-flushed : (flag there failed : Bool) (code status error : ℕ) (o : Option Answer) → (o ≡ Some Flushed → ⊥)
-    → (if flag then Some (AoeError code) else if there then (if failed then Some (AtaError status error) else o) else None) ≡ Some Flushed → ⊥
-not-flushed false true false code status error o f e = f e
-not-flushed _ _ _ code status error o f e = cc
-
-by-registers : (op : Op) (h : Header) (args : List ℕ) → (ata_success op (length args - 12) ≡ Some Flushed → ⊥)
-    → (if has_flag h.flags 0x4 then Some (AoeError h.error) else ata_answer op args) ≡ Some Flushed → ⊥
-by-registers op h args f e =
-    not-flushed (has_flag h.flags 0x4) (nat_le 12 (length args)) (is_failure (slice_index args 3)) h.error (slice_index args 3) (slice_index args 1) _ f e
-
-not-data : (len have : ℕ) → data_if len have ≡ Some Flushed → ⊥
-not-data len have e = let q : Data len ≡ Flushed = (cond_some _ _ _ e).1 in cc
-
-not-told : (flag : Bool) (code : ℕ) (o : Option ℕ) (args : List ℕ) → (if flag then Some (AoeError code) else told o args) ≡ Some Flushed → ⊥
-not-told false code (Some len) args e = let q : Told len ≡ Flushed = (cond_some _ _ _ e).1 in cc
-not-told _ code _ args e = cc
-
-pub flushed-op : (op : Op) (h : Header) (args : List ℕ) → answer op h args ≡ Some Flushed → op ≡ Flush
+flushed-op : (op : Op) (h : Header) (args : List ℕ) → answer op h args ≡ Some Flushed → op ≡ Flush
 unfolding answer
-flushed-op (Read span) h args e = absurd (by-registers (Read span) h args (not-data (512 * span.count) (length args - 12)) e)
-flushed-op (Write at bytes) h args e = absurd (by-registers (Write at bytes) h args (λ x. cc) e)
-flushed-op Flush h args e = refl
-flushed-op Identify h args e = absurd (by-registers Identify h args (not-data 512 (length args - 12)) e)
-flushed-op (Config ccmd text) h args e = absurd (not-told _ _ _ args e)
-flushed-op (Masks edit dirs) h args e = absurd (not-told _ _ _ args e)
-flushed-op (Reserve rcmd list) h args e = absurd (not-told _ _ _ args e)
+flushed-op op h args e = grind arith
 
 at-slot : (slot : SlotSetup) (o : Option Submission) → is_at slot o ≡ true → (op : Op) × AsksAt slot o op
 at-slot slot None e = absurd (cc)

@@ -1,5 +1,5 @@
 -- A response that ends a command says what is so.
-use Rattle.std.proofs.Common.{ℕ, ◌+◌, ◌-◌, ◌*◌, ◌≤◌, ◌≡◌, if◌then◌else◌, nat_lt, Bool, true, false, not, ◌&&◌, List, drop, Option, Some, None, refl, sym, subst, ap, ◌∙◌, arith, Contains}
+use Rattle.std.proofs.Common.{ℕ, ◌+◌, ◌-◌, ◌*◌, ◌≤◌, ◌≡◌, if◌then◌else◌, nat_lt, Bool, true, false, not, ◌&&◌, List, drop, Some, None, refl, sym, subst, ap, ◌∙◌, arith, Contains}
 use Rattle.std.specs.Prelude.{slice_get}
 use Rattle.std.proofs.lemmas.Bool.Decides.{nat_tests}
 use Rattle.arrayvec.specs.ArrayVec.{ArrayVec}
@@ -13,7 +13,7 @@ use Rattle.aoe_initiator.specs.declared.op.Op.{Op}
 use Rattle.aoe_initiator.specs.declared.outcome.Outcome.{Outcome}
 use Rattle.aoe_initiator.specs.declared.response.Answer.{Answer}
 use Rattle.aoe_initiator.specs.Host.{Host}
-use Rattle.aoe_initiator.specs.HostLaw.{answer_to, has_tag, is_answered, is_from}
+use Rattle.aoe_initiator.specs.HostLaw.{answer_to, is_answered}
 use Rattle.aoe_initiator.specs.HostLog.{HostCommand, Sending}
 use Rattle.aoe_initiator.specs.Response.{answer, outcome_of}
 use Rattle.aoe_initiator.proofs.ListLemmas.{Contains-get}
@@ -25,16 +25,14 @@ use Rattle.aoe_history.specs.HostLaw.{IsAnswered}
 use Rattle.aoe_history.specs.Lawful.{HasHost}
 use Rattle.aoe_history.specs.Setup.{HostSetup, Setup, SlotSetup}
 use Rattle.aoe_history.proofs.FrameLemmas.{arrives}
-use Rattle.aoe_history.proofs.LogicLemmas.{not-true, some-then}
+use Rattle.aoe_history.proofs.LogicLemmas.{some-then}
 use Rattle.aoe_history.proofs.hosts.AskedLemmas.{asked-of, ids-same}
 use Rattle.aoe_history.proofs.hosts.CommandLemmas.{viewed}
 use Rattle.aoe_history.proofs.hosts.HostLemmas.{holds-of, known-of}
-use Rattle.aoe_history.proofs.hosts.SendLemmas.{and-parts}
 use Rattle.aoe_history.proofs.hosts.SentLemmas.{device-at, host-there}
 use Rattle.aoe_history.proofs.reads.TrueLemmas.{AreTrue, IsReplyTo, SaysOf}
 use Rattle.aoe_history.proofs.replies.RequestLemmas.{fields-are}
 use Rattle.aoe_history.proofs.sectors.ArriveLemmas.{named-slot}
-use Rattle.aoe_history.proofs.sectors.AtLemmas.{IsFlying}
 
 -- what a response to a command is
 record IsAnswerTo (host : Host) (c : HostCommand) (h : Header) (args : List ℕ) (a : Answer) : Type 0 where
@@ -49,40 +47,9 @@ record IsAnswerTo (host : Host) (c : HostCommand) (h : Header) (args : List ℕ)
   id : h.id ≡ device.about.id
   says : answer c.op h args ≡ Some a
 
-tag-of : (tag : ℕ) (o : Option Sending) → has_tag tag o ≡ true → (x : Sending) × (o ≡ Some x) × (x.tag ≡ tag)
-tag-of tag None e = absurd (cc)
-tag-of tag (Some x) e = (x, refl, grind (arith, nat_tests))
-
-from-device : (o : Option Device) (op : Op) (h : Header) → is_from o op h ≡ true → (d : Device) × (o ≡ Some d) × (holds d.about.remotes.items h.src ≡ true) × (h.id ≡ d.about.id)
-from-device None op h e = absurd (cc)
-from-device (Some d) op h e =
-    let parts = and-parts _ _ (and-parts _ _ e).0 in
-    (d, refl, parts.0, ids-same h.id d.about.id parts.1)
-
-when-answered : (b : Bool) (o : Option Answer) (a : Answer) → (if b then o else None) ≡ Some a → (b ≡ true) × (o ≡ Some a)
-when-answered true o a e = (refl, e)
-when-answered false o a e = absurd (cc)
-
-is-answer : (host : Host) (c : HostCommand) (h : Header) (args : List ℕ) (a : Answer) → (if is_answered host c h then answer c.op h args else None) ≡ Some a → IsAnswerTo host c h args a
-is-answer host c h args a e =
-    let all = when-answered (is_answered host c h) (answer c.op h args) a e in
-    let outer = and-parts _ _ all.0 in
-    let inner = and-parts _ _ outer.0 in
-    let own = and-parts _ _ inner.1 in
-    let t = tag-of h.tag c.sends own.1 in
-    let d = from-device (slice_get host.devices c.device.0) c.op h outer.1 in
-    record {
-      dst = (and-parts _ _ inner.0).1;
-      flying = not-true c.done own.0;
-      sending = t.0;
-      sent = t.1;
-      tag = t.2;
-      device = d.0;
-      there = d.1;
-      src = d.2;
-      id = d.3;
-      says = all.1;
-    }
+is-answer : (host : Host) (c : HostCommand) (h : Header) (args : List ℕ) (a : Answer) → (if is_answered host c h then answer c.op h args else None) ≡ Some a
+    → IsAnswerTo host c h args a
+is-answer host c h args a e = grind (arith, nat_tests, ids-same)
 
 answers : (host : Host) (c : HostCommand) (f : List ℕ) (a : Answer) → answer_to host c f ≡ Some a → IsAnswerTo host c (fields f) (drop 24 f) a
 answers host c f a e = let x = some-then _ (head f) a e in rw (fields-are f x.0 x.1) (is-answer host c x.0 (drop 24 f) a x.2)
@@ -93,12 +60,10 @@ pub record Truth (host : HostSetup) (slot : SlotSetup) (h : List Entry) (s c : �
   pub a : Answer
   pub gives : outcome ≡ outcome_of a (drop 24 bytes)
   pub answers_it : answer op (fields bytes) (drop 24 bytes) ≡ Some a
-  pub flying : IsFlying host h c
   pub says : SaysOf host slot h s c op a bytes
 
 still-live : (life now birth last : ℕ) (done : Bool) → now ≤ birth + life → birth ≤ last + life → not (done && nat_lt (2 * life) (now - last)) ≡ true
-still-live life now birth last true le lt = grind (arith, nat_tests)
-still-live life now birth last false le lt = refl
+still-live life now birth last done le lt = grind (arith, nat_tests)
 
 pub response-true : {s : Setup} {host : HostSetup} {h : List Entry} → HasHost s host h → (slot : SlotSetup) → Contains s.slots slot → {sct c : ℕ} {op : Op} {outcome : Outcome}
     → AreTrue s.life host slot h sct (frames h) → AsksAt slot (submission host h c) op → IsAnswered s host h c outcome → Truth host slot h sct c op outcome
@@ -129,6 +94,5 @@ response-true {s} {host} {h} run slot there {sct} {c} {op} true_ones asks ans =
       a = r.answer;
       gives = r.gives;
       answers_it = answered;
-      flying = (p.sending, p.sent, p.flying);
       says = (rw ticket at t.says) p.flying op asks r.answer answered;
     }

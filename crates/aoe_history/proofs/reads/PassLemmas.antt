@@ -33,15 +33,9 @@ use Rattle.aoe_history.proofs.sectors.SectorLemmas.{allowed-also, crashes, Write
 
 -- ARRIVALS
 
-alone-is : (t own al : Bool) → (if t then own && al else al) ≡ true → (al ≡ true) × (t ≡ true → own ≡ true)
-alone-is true true al e = (e, λ z. refl)
-alone-is true false al e = absurd (cc)
-alone-is false own al e = (e, λ z. absurd (cc))
-
 pub was-alone : (host : HostSetup) (slot : SlotSetup) (h : List Entry) (dev : TargetId) (k : ℕ) (fate : Fate) (s : ℕ) → alone host slot (Arrived dev k fate ∷ h) s ≡ true
     → (alone host slot h s ≡ true) × ((is_slot slot dev && (stores fate s || breaks (verdict_after slot h (bytes_of h k)) fate s)) ≡ true → is_from host (bytes_of h k) ≡ true)
-was-alone host slot h dev k fate s al =
-    alone-is (is_slot slot dev && (stores fate s || breaks (verdict_after slot h (bytes_of h k)) fate s)) (is_from host (bytes_of h k)) (alone host slot h s) al
+was-alone host slot h dev k fate s al = grind arith
 
 pub allowed-unless : (t : Bool) (v : List ℕ) (may : Option (List (List ℕ))) → IsAllowed (Some v) may → IsAllowed (Some v) (if t then None else may)
 allowed-unless true v may x = tt
@@ -90,8 +84,7 @@ module _ {s : Setup} {host : HostSetup} {h : List Entry} (run : HasHost s host h
 -- CRASHES
 
 unmarked : (slot : SlotSetup) (u : Unsettled) (how : Loss) (o : Option Sectors) (s : ℕ) → marked_in (option_map (left_sectors slot u how) o) s ≡ false
-unmarked slot u how None s = refl
-unmarked slot u how (Some x) s = refl
+unmarked slot u how o s = grind arith
 
 crash-marks : (slot : SlotSetup) (h : List Entry) (dev : TargetId) (lists : Settings) (how : Loss) (s : ℕ) → marked_after slot h s ≡ false → marked_after slot (Crashed dev lists how ∷ h) s ≡ false
 crash-marks slot h dev lists how s m = elim (either (is_slot slot dev) (after_crash slot lists how (slot_after slot h)) (slot_after slot h)) [

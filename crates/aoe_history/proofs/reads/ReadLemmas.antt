@@ -75,14 +75,7 @@ module _ (s : Setup) (host : HostSetup) (slot : SlotSetup) (ok : IsSetup s) (own
 
   kept : (h : List Entry) → IsLawful s h → Kept s.life host slot h sct
   kept [] l = record {
-    at = record {
-      lost = λ e. absurd (cc);
-      value = λ al. inl refl;
-      own = λ c v al fl w la sp. absurd (cc);
-      mine = λ c v a w. absurd (cc);
-      clean = λ al sa. refl;
-      still = λ al sa c v a w. absurd (cc);
-    };
+    at = grind arith;
     replies = record { each = λ k r e to. absurd (cc) };
   }
   kept (Submitted name c dev op ∷ h) l =
@@ -122,7 +115,7 @@ module _ (s : Setup) (host : HostSetup) (slot : SlotSetup) (ok : IsSetup s) (own
       let x = kept h l.1 in
       let b = base-of h l.1 in
       let k : Keeps host h (Injected number f ∷ h) =
-      record { sends = λ d. refl; done = λ d e. e; ended = λ d e. inl e; time = omega arith; count = omega arith; submissions = λ d le. refl } in
+      grind arith in
       record {
         at = quiet k b slot sct x.at;
         replies = one-more (λ to. absurd (foreign-no-reply s host slot h number f there l.0 to))
@@ -131,14 +124,13 @@ module _ (s : Setup) (host : HostSetup) (slot : SlotSetup) (ok : IsSetup s) (own
   kept (e ∷ h) l =
       let x = kept h l.1 in
       let b = base-of h l.1 in
-      let k : Keeps host h (e ∷ h) = record { sends = λ d. refl; done = λ d e. e; ended = λ d e. inl e; time = omega arith; count = omega arith; submissions = λ d le. refl } in
+      let k : Keeps host h (e ∷ h) = grind arith in
       record { at = quiet k b slot sct x.at; replies = all-pass (keeps-passes slot sct k b (λ d. refl) refl refl (λ c span fl asks i v m. m)) x.replies }
 
 -- WHAT IS READ
 
 data-answer : (a : Answer) (args bytes : List ℕ) → outcome.Read bytes ≡ outcome_of a args → (len : ℕ) × (a ≡ Data len) × (bytes ≡ slice_range args 12 (12 + len))
-data-answer (Data len) args bytes e = (len, refl, (let q : bytes ≡ slice_range args 12 (12 + len) = cc in q))
-data-answer _ args bytes e = absurd (cc)
+data-answer a args bytes e = grind arith
 
 module _ (s : Setup) (h : List Entry) (name : ArrayVec ℕ) (c : ℕ) (bytes : List ℕ) (ok : IsSetup s) (l : IsLawful s (Done name c (outcome.Read bytes) ∷ h))
     (host : HostSetup) (slot : SlotSetup) (called : host_called s name ≡ Some host) (there : Contains s.slots slot) where

@@ -1,6 +1,5 @@
 -- A new reply says what is so.
 use Rattle.std.proofs.Common.{ℕ, ◌+◌, ◌-◌, ◌<◌, ◌≡◌, ◌==◌, nat_le, nat_lt, true, false, ◌&&◌, List, ◌∷◌, ◌++◌, drop, length, slice_range, Option, Some, None, is_some, IfSome, IsSomeAnd, refl, subst, ap, ◌∙◌, arith, append_assoc, Contains}
-use Rattle.std.specs.Option.{option_map}
 use Rattle.std.proofs.lemmas.Bool.Decides.{nat_tests}
 use Rattle.std.proofs.lemmas.List.{take_at}
 use Rattle.aoe_base.specs.declared.address.TargetId.{TargetId}
@@ -15,17 +14,14 @@ use Rattle.aoe_initiator.specs.declared.response.Answer.{Answer}
 use Rattle.aoe_initiator.specs.declared.response.Answer.TheVariants.{Data, Written, Flushed}
 use Rattle.aoe_initiator.specs.Op.{command_of}
 use Rattle.aoe_initiator.specs.Response.{answer}
-use Rattle.aoe_lists.specs.Step.{Step}
-use Rattle.aoe_lists.specs.Step as step
 use Rattle.aoe_target.specs.declared.heard.Effect.{Effect}
 use Rattle.aoe_target.specs.declared.heard.Effect.TheVariants as effect
 use Rattle.aoe_target.specs.declared.station.Station.{Station}
 use Rattle.aoe_target.specs.declared.verdict.Verdict.{Verdict}
-use Rattle.aoe_target.specs.declared.verdict.Verdict.TheVariants as verdict
 use Rattle.aoe_target.specs.Device.{State}
-use Rattle.aoe_target.specs.Law.{after, replied, step_of, Allows, AllowsStep}
+use Rattle.aoe_target.specs.Law.{after, replied, Allows}
 use Rattle.aoe_target.specs.Reply.{reply_port, spelled}
-use Rattle.aoe_target.specs.Sectors.{in_span, settles, value_in, Sectors, Tells}
+use Rattle.aoe_target.specs.Sectors.{in_span, value_in, Tells}
 use Rattle.aoe_history.specs.declared.entry.Entry.{Entry}
 use Rattle.aoe_history.specs.declared.entry.Entry.TheVariants.{Arrived}
 use Rattle.aoe_history.specs.declared.entry.Fate.TheVariants.{Replied}
@@ -59,20 +55,9 @@ unfolding spelled
 reply-destination station f r x len = rw x.is (destination-is (replying station (fields f) x.error) x.args len)
 
 -- a sync leaves no mark
-no-mark : (o : Option Sectors) (s : ℕ) → marked_in (option_map settles o) s ≡ false
-no-mark None s = refl
-no-mark (Some x) s = refl
-
-step-synced : (station : Station) (f r : List ℕ) (x : Step) → AllowsStep station f x (replied effect.Synced r) → ⊥
-step-synced station f r (step.Change next args) a = a
-step-synced station f r _ a = cc
-
 synced-clean : (station : Station) (k : State) (f r : List ℕ) (e : Effect) (v : Verdict) (s : ℕ) → e ≡ effect.Synced → Allows station k f v (replied e r)
     → marked_in (after station f v (replied e r) k).sectors s ≡ false
-synced-clean station k f r effect.Synced (verdict.Lists c) s q a = absurd (step-synced station f r (step_of station k.lists f c) a)
-synced-clean station k f r effect.Synced (verdict.Ata d) s q a = no-mark k.sectors s
-synced-clean station k f r effect.Synced _ s q a = absurd (cc)
-synced-clean station k f r _ _ s q a = absurd (cc)
+synced-clean station k f r e v s q a = grind arith
 
 inside-at : (at count s : ℕ) → (nat_le at s && nat_lt s (at + count)) ≡ true → (at + (s - at) ≡ s) × (s - at < count)
 inside-at at count s e = (grind (arith, nat_tests), grind (arith, nat_tests))

@@ -1,5 +1,5 @@
 -- What a response tells is what the target did.
-use Rattle.std.proofs.Common.{if◌then◌else◌, slice_range, ◌==◌, ℕ, ◌+◌, ◌-◌, ◌*◌, ◌≡◌, Bool, true, false, List, ◌++◌, take, drop, Option, Some, None, IfSome, refl, sym, ap, ◌∙◌, arith}
+use Rattle.std.proofs.Common.{if◌then◌else◌, slice_range, ◌==◌, ℕ, ◌+◌, ◌*◌, ◌≡◌, Bool, true, false, List, ◌++◌, drop, Option, Some, None, IfSome, refl, sym, ap, ◌∙◌, arith}
 use Rattle.std.proofs.Math.Seq.{drop-drop}
 use Rattle.std.proofs.lemmas.Option.{cond_some}
 use Rattle.aoe_base.specs.declared.address.Mac.{Mac}
@@ -66,7 +66,7 @@ module _ {op : Op} {station : Station} {h : Header} {reply : List ℕ} {a : Answ
       rw a-is (failure-tells k e reply op (status_of o) (error_of o))
 
 data-same : (reply : List ℕ) (n : ℕ) → slice_range (drop 24 reply) 12 (12 + n) ≡ slice_range reply 36 (36 + n)
-data-same reply n = ap (λ (l : List ℕ). take (12 + n - 12) l) (drop-drop 12 24 reply) ∙ ap (λ m. take m (drop 36 reply)) (let e : 12 + n - 12 ≡ 36 + n - 36 = omega arith in e)
+data-same reply n = grind (arith, drop-drop)
 
 -- a read: its data are the sectors that the target showed
 read-told : {station : Station} {h : Header} {reply : List ℕ} {a : Answer} {span : Span} → IsHeard (Read span) station h reply a → (k : State) (args : AtaArgs)

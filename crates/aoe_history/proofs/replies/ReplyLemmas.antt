@@ -1,6 +1,6 @@
 -- What a host reads in the replies of a target.
-use Rattle.std.proofs.Common.{if◌then◌else◌, nat_le, ◌==◌, ℕ, ◌-◌, ◌≤◌, ◌≡◌, inl, inr, true, List, ◌++◌, length, drop, Option, Some, None, refl, arith}
-use Rattle.std.proofs.lemmas.Bool.{le-leb}
+use Rattle.std.proofs.Common.{if◌then◌else◌, ◌==◌, ℕ, ◌-◌, ◌≡◌, inl, inr, true, List, ◌++◌, length, drop, Option, Some, None, refl, arith}
+use Rattle.std.proofs.lemmas.Bool.Decides.{nat_tests}
 use Rattle.std.specs.Option.{option_map}
 use Rattle.aoe_ata.specs.Args.{args_bytes}
 use Rattle.aoe_ata.specs.Reply.{reply_of, status_of, error_of}
@@ -11,7 +11,7 @@ use Rattle.aoe_base.specs.declared.refusal.AoeError.{AoeError}
 use Rattle.aoe_frame.specs.Header.{fields, header_bytes, padded, reply_header, Fits}
 use Rattle.aoe_base.specs.Refusal.{code_of_error}
 use Rattle.aoe_initiator.specs.declared.op.Op.{Op}
-use Rattle.aoe_initiator.specs.declared.op.Op.TheVariants.{Read, Write, Flush, Identify}
+use Rattle.aoe_initiator.specs.declared.op.Op.TheVariants.{Read, Write, Flush}
 use Rattle.aoe_initiator.specs.declared.response.Answer.{Answer}
 use Rattle.aoe_initiator.specs.declared.response.Answer.TheVariants.{Written, Flushed, AtaError, AoeError as AoeErrorAnswer}
 use Rattle.aoe_initiator.specs.Op.{command_of as command}
@@ -34,19 +34,12 @@ pub says-error : (op : Op) (h : Header) (station : Station) (error : AoeError) (
 unfolding answer
 says-error op h station error args = refl
 
-by-length : (n : ℕ) (x y : Option Answer) → 12 ≤ n → (if nat_le 12 n then x else y) ≡ x
-by-length n x y le = rw (le-leb 12 n le) refl
-
 -- a reply without an error is read by its registers
 pub says-ata : (op : Op) (h : Header) (station : Station) (a : AtaArgs) (outcome : AtaOutcome) (rest : List ℕ) → (command op == 0) ≡ true
     → answer op (replying station h None) (args_bytes (reply_of a outcome) ++ rest)
     ≡ (if is_failure (status_of outcome) then Some (AtaError (status_of outcome) (error_of outcome)) else ata_success op (length (args_bytes (reply_of a outcome) ++ rest) - 12))
 unfolding answer
-says-ata (Read span) h station a outcome rest c = by-length (length (args_bytes (reply_of a outcome) ++ rest)) _ _ (omega arith)
-says-ata (Write at bytes) h station a outcome rest c = by-length (length (args_bytes (reply_of a outcome) ++ rest)) _ _ (omega arith)
-says-ata Flush h station a outcome rest c = by-length (length (args_bytes (reply_of a outcome) ++ rest)) _ _ (omega arith)
-says-ata Identify h station a outcome rest c = by-length (length (args_bytes (reply_of a outcome) ++ rest)) _ _ (omega arith)
-says-ata _ h station a outcome rest c = absurd (cc)
+says-ata op h station a outcome rest c = grind (arith, nat_tests)
 
 -- A REPLY, READ
 

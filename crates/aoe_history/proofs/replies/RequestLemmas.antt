@@ -1,13 +1,13 @@
 -- What a target reads in the frame of a request.
-use Rattle.std.proofs.Common.{Result, Ok, Err, if◌then◌else◌, not, nat_le, ◌&&◌, ◌==◌, ℕ, ◌+◌, ◌-◌, ◌*◌, ◌/◌, ◌%◌, ◌^◌, ◌<◌, ◌≡◌, ◌≢◌, Bool, true, false, List, ◌++◌, length, drop, Some, refl, sym, subst, ap, ◌∙◌, arith, append_assoc}
+use Rattle.std.proofs.Common.{Result, Ok, Err, if◌then◌else◌, not, ◌==◌, ℕ, ◌+◌, ◌-◌, ◌*◌, ◌/◌, ◌%◌, ◌^◌, ◌<◌, ◌≡◌, ◌≢◌, Bool, true, false, List, ◌++◌, length, drop, Some, refl, sym, subst, ap, ◌∙◌, arith, append_assoc}
 use Rattle.std.specs.Prelude.{replicate}
 use Rattle.std.proofs.lemmas.Grind.{common_steps}
 use Rattle.std.proofs.lemmas.List.{drop_at, length-append, take_at}
 use Rattle.std.proofs.lemmas.Bool.Decides.{nat_tests}
 use Rattle.std.proofs.lemmas.Option.{cond_some}
-use Rattle.aoe_ata.specs.Args.{args_bytes, args_of, registers}
+use Rattle.aoe_ata.specs.Args.{args_bytes, registers}
 use Rattle.aoe_ata.specs.Command.{command_of}
-use Rattle.aoe_ata.specs.Decision.{answer_of, decision, is_taken, written}
+use Rattle.aoe_ata.specs.Decision.{answer_of, decision, written}
 use Rattle.aoe_ata.specs.declared.decision.AtaAnswer.{AtaAnswer}
 use Rattle.aoe_ata.specs.declared.decision.AtaAnswer.TheVariants.{Page, Sync}
 use Rattle.aoe_ata.specs.declared.decision.AtaDecision.{AtaDecision}
@@ -20,7 +20,7 @@ use Rattle.aoe_target.specs.declared.verdict.ListCommand.TheVariants.{Config as 
 use Rattle.aoe_target.specs.declared.verdict.Verdict.{Verdict}
 use Rattle.aoe_target.specs.declared.verdict.Verdict.TheVariants.{Ata, Ignored, Lists, Refused, Silent}
 use Rattle.aoe_history.specs.Conversation.{asked_for, HasSectors}
-use Rattle.aoe_target.specs.Verdict.{ata_verdict, decided, is_heard, judged, verdict}
+use Rattle.aoe_target.specs.Verdict.{decided, is_heard, judged, verdict}
 use Rattle.aoe_ata.specs.declared.args.AtaArgs.{AtaArgs}
 use Rattle.aoe_base.specs.declared.address.Mac.{Mac}
 use Rattle.aoe_base.specs.declared.address.TargetId.{TargetId}
@@ -51,9 +51,7 @@ padded-rest h args fits = ap (drop 24) (padded-parts h args) ∙ drop_at (header
 -- REGISTERS
 
 pub registers-are : (a : AtaArgs) (rest : List ℕ) → a.lba < 2 ^ 48 → registers (args_bytes a ++ rest) ≡ a
-registers-are a rest lt =
-    let back : args_of (args_bytes a ++ rest) ≡ Some a = grind (arith, common_steps) in
-    (cond_some _ _ _ back).1
+registers-are a rest lt = grind (arith, common_steps)
 
 -- VERDICTS
 
@@ -62,32 +60,19 @@ judged-by : (station : Station) (lists : Settings) (f : List ℕ) (h : Header) (
 unfolding verdict
 judged-by station lists f h v is e = let x = cond_some _ _ _ is in subst (λ y. judged station lists y (drop 24 f) ≡ v) x.1 (rw x.0 at e)
 
-by-checks : (heard admitted version ata config masks reserves : Bool) (v : Verdict) (d : AtaDecision) →
-    (if not heard then Ignored else if not admitted then Silent else if not version then Refused UnsupportedVersion else if ata then v
-    else if config then Lists ConfigStep else if masks then Lists MaskStep else if reserves then Lists ReserveStep else Refused UnrecognizedCommand) ≡ Ata d
-    → (heard ≡ true) × (ata ≡ true) × (v ≡ Ata d)
-by-checks true true true true config masks reserves v d e = (refl, refl, e)
-by-checks true true true false false false true v d e = absurd (cc)
-by-checks _ _ _ _ _ _ _ v d e = absurd (cc)
+by-checks : (heard admitted version ata config masks reserves free : Bool) (r : Result AtaDecision AoeError) (d : AtaDecision) →
+    (if not heard then Ignored else if not admitted then Silent else if not version then Refused UnsupportedVersion
+    else if ata then (if not free then Refused TargetIsReserved else decided r) else if config then Lists ConfigStep else if masks then Lists MaskStep
+    else if reserves then Lists ReserveStep else Refused UnrecognizedCommand) ≡ Ata d → (heard ≡ true) × (ata ≡ true) × (r ≡ Ok d)
+by-checks heard admitted version ata config masks reserves free r d e = grind arith
 
 -- no verdict on an ATA command is a step of the lists
 no-step : (heard admitted version free : Bool) (r : Result AtaDecision AoeError) (c : ListCommand) →
     (if not heard then Ignored else if not admitted then Silent else if not version then Refused UnsupportedVersion else if not free then Refused TargetIsReserved else decided r) ≡ Lists c → ⊥
-no-step true true true true (Ok x) c e = cc
-no-step _ _ _ _ _ c e = cc
+no-step heard admitted version free r c e = grind arith
 
-by-use : (free : Bool) (r : Result AtaDecision AoeError) (d : AtaDecision) → (if not free then Refused TargetIsReserved else decided r) ≡ Ata d → r ≡ Ok d
-by-use true (Ok x) d e = cc
-by-use _ _ d e = absurd (cc)
-
-decided-as : (total max : ℕ) (args : List ℕ) (d : AtaDecision) → decision total max args ≡ Ok d → (d.args ≡ registers args) × (d.answer ≡ answer_of total (command_of (registers args)))
-unfolding decision
-decided-as total max args d e = go (nat_le 12 (length args) && is_taken max (length args - 12) (command_of (registers args))) e
-  where
-    go : (b : Bool) → (if b then Ok (record { args = registers args; answer = answer_of total (command_of (registers args)) }) else Err BadArgument) ≡ Ok d
-        → (d.args ≡ registers args) × (d.answer ≡ answer_of total (command_of (registers args)))
-    go true e = (cc, cc)
-    go false e = absurd (cc)
+ok-if : (b : Bool) (x d : AtaDecision) → (if b then Ok x else Err BadArgument) ≡ Ok d → d ≡ x
+ok-if b x d e = grind arith
 
 -- what a verdict on an ATA command comes of
 pub record ComesOf (station : Station) (h : Header) (args : List ℕ) (d : AtaDecision) : Type 0 where
@@ -97,10 +82,11 @@ pub record ComesOf (station : Station) (h : Header) (args : List ℕ) (d : AtaDe
   pub answer_is : d.answer ≡ answer_of station.sectors (command_of (registers args))
 
 pub comes-of : (station : Station) (lists : Settings) (f : List ℕ) (h : Header) (d : AtaDecision) → head f ≡ Some h → verdict station lists f ≡ Ata d → ComesOf station h (drop 24 f) d
+unfolding decision
 comes-of station lists f h d is e =
-    let c = by-checks _ _ _ _ _ _ _ (ata_verdict station lists h.src (drop 24 f)) d (judged-by station lists f h (Ata d) is e) in
-    let k = decided-as station.sectors station.max (drop 24 f) d (by-use (may_use lists h.src) _ d c.2) in
-    record { heard = c.0; ata = c.1; registers_are = k.0; answer_is = k.1 }
+    let c = by-checks _ _ _ _ _ _ _ (may_use lists h.src) (decision station.sectors station.max (drop 24 f)) d (judged-by station lists f h (Ata d) is e) in
+    let k = ok-if _ _ d c.2 in
+    record { heard = c.0; ata = c.1; registers_are = ap (λ (x : AtaDecision). x.args) k; answer_is = ap (λ (x : AtaDecision). x.answer) k }
 
 -- WHAT A REQUEST ASKS
 

@@ -1,13 +1,12 @@
 -- What holds of a sector of a slot for a host after an arrival.
-use Rattle.std.proofs.Common.{ℕ, ◌≡◌, ◌⊎◌, inl, inr, if◌then◌else◌, Bool, true, false, List, [], ◌∷◌, drop, Some, IsSomeAnd, refl, sym, subst, ap, ◌∙◌, Contains}
+use Rattle.std.proofs.Common.{ℕ, ◌≡◌, ◌⊎◌, inl, inr, if◌then◌else◌, Bool, true, false, List, [], ◌∷◌, drop, Some, IsSomeAnd, refl, sym, subst, ap, ◌∙◌, arith, Contains}
 use Rattle.std.specs.Option.{option_map}
 use Rattle.aoe_base.specs.declared.address.TargetId.{TargetId}
 use Rattle.aoe_base.specs.declared.sectors.Span.{Span}
 use Rattle.aoe_ata.specs.Decision.{written}
-use Rattle.aoe_ata.specs.declared.decision.AtaAnswer.{AtaAnswer}
 use Rattle.aoe_ata.specs.declared.decision.AtaAnswer.TheVariants as ata
 use Rattle.aoe_initiator.specs.declared.op.Op.{Op}
-use Rattle.aoe_initiator.specs.declared.op.Op.TheVariants.{Read, Write}
+use Rattle.aoe_initiator.specs.declared.op.Op.TheVariants.{Write}
 use Rattle.aoe_initiator.specs.Op.{span_of}
 use Rattle.aoe_target.specs.declared.station.Station.{Station}
 use Rattle.aoe_target.specs.declared.verdict.Verdict.{Verdict}
@@ -40,14 +39,8 @@ named-slot s slot dev ok there is = subst (λ (z : TargetId). slot_of s z ≡ So
 
 -- WRITES
 
-within-is : (b : Bool) (answer : AtaAnswer) (z : Span) → (if b then answer else ata.NotFound) ≡ ata.Put z → answer ≡ ata.Put z
-within-is true answer z e = e
-within-is false answer z e = absurd (cc)
-
 put-op : (total : ℕ) (op : Op) (z : Span) → asked_for total op ≡ ata.Put z → (at : ℕ) × (bytes : List ℕ) × (op ≡ Write at bytes) × (span_of (Write at bytes) ≡ z)
-put-op total (Read span) z e = absurd (let q : ata.Give span ≡ ata.Put z = within-is _ _ z e in cc)
-put-op total (Write at bytes) z e = (at, bytes, refl, (let q : ata.Put (span_of (Write at bytes)) ≡ ata.Put z = within-is _ _ z e in cc))
-put-op total _ z e = absurd (cc)
+put-op total op z e = grind arith
 
 writes-value : (slot : SlotSetup) (x : Submission) (at : ℕ) (bytes args : List ℕ) (span : Span) (s : ℕ) → is_slot slot x.dev ≡ true → x.op ≡ Write at bytes
     → span_of (Write at bytes) ≡ span → in_span span s ≡ true → written args span ≡ bytes → writes slot (Some x) s ≡ Some (value_in span (written args span) s)
@@ -78,8 +71,7 @@ abbrev AreKnown : State → Type 0
 AreKnown k = (x : Sectors) × (k.sectors ≡ Some x)
 
 pub either : (b : Bool) (x y : Slot) → ((b ≡ true) × ((if b then x else y) ≡ x)) ⊎ ((b ≡ false) × ((if b then x else y) ≡ y))
-either true x y = inl (refl, refl)
-either false x y = inr (refl, refl)
+either b x y = grind arith
 
 known-either : (b : Bool) (x y : Slot) → AreKnown x.state → AreKnown y.state → AreKnown (if b then x else y).state
 known-either true x y p q = p

@@ -1,5 +1,5 @@
 -- What holds of a sector of a slot for a host, after each entry but an arrival.
-use Rattle.std.proofs.Common.{ℕ, ◌≡◌, ◌⊎◌, inl, inr, if◌then◌else◌, Bool, true, false, not, ◌&&◌, ◌||◌, List, [], ◌∷◌, Option, Some, None, is_some, refl, sym, ◌∙◌}
+use Rattle.std.proofs.Common.{ℕ, ◌≡◌, ◌⊎◌, inl, inr, if◌then◌else◌, Bool, true, false, not, ◌&&◌, ◌||◌, List, [], ◌∷◌, Option, Some, None, is_some, refl, sym, ◌∙◌, arith}
 use Rattle.std.proofs.lemmas.Bool.{not-false}
 use Rattle.arrayvec.specs.ArrayVec.{ArrayVec}
 use Rattle.aoe_frame.specs.Header.{fields}
@@ -45,12 +45,10 @@ At life host slot h s =
 -- SENT AND LANDED
 
 pub some-there : (o : Option Sending) → is_some o ≡ true → (x : Sending) × (o ≡ Some x)
-some-there None e = absurd (cc)
-some-there (Some x) e = (x, refl)
+some-there o e = grind arith
 
 or-some : (b : Bool) (x : Sending) (o : Option Sending) (t : Bool) → t ≡ is_some o → (b || t) ≡ is_some (if b then Some x else o)
-or-some true x o t e = refl
-or-some false x o t e = e
+or-some b x o t e = grind arith
 
 pub sent-same : (host : HostSetup) (h : List Entry) (c : ℕ) → was_sent host h c ≡ is_some (sends_of host h c)
 sent-same host [] c = refl
@@ -58,8 +56,7 @@ sent-same host (Sent name t number f ∷ h) c = or-some _ _ _ _ (sent-same host 
 sent-same host (_ ∷ h) c = sent-same host h c
 
 last-true : (a b c r : Bool) → ((a && b && c) || r) ≡ true → (c ≡ true) ⊎ (r ≡ true)
-last-true true true true r e = inl refl
-last-true _ _ _ r e = inr e
+last-true a b c r e = grind arith
 
 landed-sent : (host : HostSetup) (slot : SlotSetup) (h : List Entry) (s c : ℕ) → landed host slot h s c ≡ true → was_sent host h c ≡ true
 landed-sent host slot [] s c e = absurd (cc)

@@ -1,5 +1,5 @@
 -- What a frame that comes to a slot does to a sector of it.
-use Rattle.std.proofs.Common.{if◌then◌else◌, ℕ, ◌≡◌, Bool, true, false, List, drop, Option, Some, None, refl}
+use Rattle.std.proofs.Common.{if◌then◌else◌, ℕ, ◌≡◌, Bool, true, false, List, drop, Option, Some, None, refl, arith}
 use Rattle.std.specs.Option.{option_and_then, option_or}
 use Rattle.aoe_base.specs.declared.sectors.Span.{Span}
 use Rattle.aoe_ata.specs.Decision.{written}
@@ -10,7 +10,6 @@ use Rattle.aoe_ata.specs.declared.decision.AtaDecision.{AtaDecision}
 use Rattle.aoe_frame.specs.declared.header.Header.{Header}
 use Rattle.aoe_frame.specs.Header.{fields}
 use Rattle.aoe_lists.specs.Step.{Step}
-use Rattle.aoe_lists.specs.Step as step
 use Rattle.aoe_target.specs.declared.heard.Effect.TheVariants as effect
 use Rattle.aoe_target.specs.declared.station.Station.{Station}
 use Rattle.aoe_target.specs.declared.verdict.ListCommand.{ListCommand}
@@ -43,8 +42,7 @@ pub data Act (v : Verdict) (f : List ℕ) (fate : Fate) (s : ℕ) (k k2 : Option
   synced : k2 ≡ k → m2 ≡ false → stores fate s ≡ false → breaks v fate s ≡ false → Act v f fate s k k2 m m2
 
 same : (o : Option (List ℕ)) → o ≡ option_or o None
-same None = refl
-same (Some v) = refl
+same o = grind arith
 
 module _ (station : Station) (k : Option Sectors) (h : Header) (args : AtaArgs) (f : List ℕ) (s : ℕ) (x : Sectors) where
   abbrev Does : AtaAnswer → Fate → Sectors → Type 0
@@ -71,16 +69,11 @@ module _ (station : Station) (k : Option Sectors) (h : Header) (args : AtaArgs) 
   deed _ _ p = showed None (same (x.known s)) refl refl refl
 
 pub step-sectors : (x : Step) (fate : Fate) (k : State) → (after_step x (fate_at fate) k).sectors ≡ k.sectors
-step-sectors (step.Change next args) (Replied effect.EditFault n r) k = refl
-step-sectors _ _ k = refl
+step-sectors x fate k = grind arith
 
 step-still : (station : Station) (f : List ℕ) (x : Step) (c : ListCommand) (fate : Fate) (s : ℕ) → AllowsStep station f x (fate_at fate)
     → (stores fate s ≡ false) × (breaks (Lists c) fate s ≡ false)
-step-still station f (step.Change next args) c (Replied (effect.Wrote span) n r) s a = absurd a
-step-still station f (step.Change next args) c (Replied (effect.WriteFault span) n r) s a = absurd a
-step-still station f _ c (Replied (effect.Wrote span) n r) s a = absurd (cc)
-step-still station f _ c (Replied (effect.WriteFault span) n r) s a = absurd (cc)
-step-still station f _ c _ s a = (refl, refl)
+step-still station f x c fate s a = grind arith
 
 pub acts : (station : Station) (k : State) (f : List ℕ) (v : Verdict) (fate : Fate) (s : ℕ) (x : Sectors) → k.sectors ≡ Some x → Allows station k f v (fate_at fate)
     → Act v f fate s (known_in k.sectors s) (known_in (after station f v (fate_at fate) k).sectors s) (marked_in k.sectors s) (marked_in (after station f v (fate_at fate) k).sectors s)

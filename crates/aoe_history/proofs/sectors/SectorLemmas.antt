@@ -1,5 +1,5 @@
 -- What holds of one sector of one device for one host, as values: how each kind of entry keeps it.
-use Rattle.std.proofs.Common.{ℕ, ◌≡◌, ◌⊎◌, inl, inr, ◌&&◌, ◌||◌, not, Bool, true, false, if◌then◌else◌, List, [], ◌∷◌, Option, Some, None, refl, ap, ◌∙◌}
+use Rattle.std.proofs.Common.{ℕ, ◌≡◌, ◌⊎◌, inl, inr, ◌&&◌, ◌||◌, not, Bool, true, false, if◌then◌else◌, List, [], ◌∷◌, Option, Some, None, refl, ap, ◌∙◌, arith}
 use Rattle.std.specs.Option.{option_or}
 use Rattle.aoe_history.specs.Reading.{also, IsAllowed}
 use Rattle.aoe_history.proofs.hosts.SendLemmas.{and-parts}
@@ -30,8 +30,7 @@ allowed-new v None = tt
 allowed-new v (Some ws) = inl refl
 
 pub none-allowed : (may : Option (List (List ℕ))) → IsAllowed None may → may ≡ None
-none-allowed None a = refl
-none-allowed (Some ws) a = absurd a
+none-allowed may a = grind arith
 
 learnt : (o shown : Option (List ℕ)) (may : Option (List (List ℕ))) → IsAllowed o may → IsAllowed (option_or o shown) may
 learnt (Some v) shown may x = x
@@ -40,9 +39,7 @@ learnt None shown (Some ws) x = absurd x
 
 -- what isn't lost in a crash, or isn't marked, is as it was
 calm : (safe mark : Bool) (left holds : Option (List ℕ)) → (not safe && mark) ≡ false → (safe ≡ true → mark ≡ false) → (if mark then left else holds) ≡ holds
-calm safe false left holds e clean = refl
-calm true true left holds e clean = absurd (let m = clean refl in cc)
-calm false true left holds e clean = absurd (cc)
+calm safe mark left holds e clean = grind arith
 
 module _ {flying active : ℕ → Type 0} {wr : ℕ → Option (List ℕ)} {landed : ℕ → Bool} {holds : Option (List ℕ)} {mark alone safe spoiled : Bool}
     {may : Option (List (List ℕ))} (s : Sector flying active wr landed holds mark alone safe spoiled may) where

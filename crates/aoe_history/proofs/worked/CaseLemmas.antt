@@ -65,8 +65,7 @@ all-fail : {X : Type 0} (p : X → Bool) (xs : List X) → list_all (λ x. not (
 all-fail p xs e = λ k d lt. not-true (p (slice_index_or xs k d)) (AllPass-from_list_all (λ x. not (p x)) xs e k d lt)
 
 pub or-of : (a b : Bool) → (not a || b) ≡ true → a ≡ true → b ≡ true
-or-of true b e x = e
-or-of false b e x = absurd (cc)
+or-of a b e x = grind arith
 
 there : (host : HostSetup) (h : List Entry) (k : ℕ) → nat_lt k (length (commands_of host h)) ≡ true → Contains (commands_of host h) (nth host h k)
 there host h k e = Contains-get_or (commands_of host h) k nobody (ltb-true _ _ e)
@@ -218,8 +217,7 @@ pub gives-up : {s : Setup} {host : HostSetup} {h : List Entry} {c : ℕ} (j : �
 gives-up {host = host} {h} j is first = record { command = nth_sent host h j; late = first-of (is_expired host.dead (clock h)) lower host h j first; ticket_is = is; gives = refl }
 
 none-of : {X : Type 0} (o : Option X) → is_none o ≡ true → o ≡ None
-none-of None e = refl
-none-of (Some x) e = absurd (cc)
+none-of o e = grind arith
 
 pub stale : (s : Setup) (host : HostSetup) (h : List Entry) (f : List ℕ) → list_all (λ c. is_none (answer_to (host_after s host h) c f)) (commands_of host h) ≡ true → IsStale s host h f
 stale s host h f e = λ k d lt. none-of _ (AllPass-from_list_all (λ c. is_none (answer_to (host_after s host h) c f)) (commands_of host h) e k d lt)
