@@ -38,8 +38,7 @@ pub was-alone : (host : HostSetup) (slot : SlotSetup) (h : List Entry) (dev : Ta
 was-alone host slot h dev k fate s al = grind arith
 
 pub allowed-unless : (t : Bool) (v : List ℕ) (may : Option (List (List ℕ))) → IsAllowed (Some v) may → IsAllowed (Some v) (if t then None else may)
-allowed-unless true v may x = tt
-allowed-unless false v may x = x
+allowed-unless t v may a = grind arith
 
 module _ {s : Setup} {host : HostSetup} {h : List Entry} (run : HasHost s host h) (slot : SlotSetup) (there : Contains s.slots slot) (sct : ℕ)
     (dev : TargetId) (k : ℕ) (fate : Fate) (law : IsSomeAnd (slot_of s dev) (λ z. IsArrival s z h k fate)) where
@@ -93,14 +92,7 @@ crash-marks slot h dev lists how s m = elim (either (is_slot slot dev) (after_cr
 ]
 
 pub crashed-passes : (host : HostSetup) (slot : SlotSetup) (h : List Entry) (dev : TargetId) (lists : Settings) (how : Loss) (s : ℕ) → Passes host slot h (Crashed dev lists how ∷ h) s
-crashed-passes host slot h dev lists how s = record {
-  sent = λ c x e. (x, e, refl, omega arith);
-  flying = λ c d. d;
-  asked = λ c x e. refl;
-  stored = λ c l. l;
-  marks = λ c fl asks m al. crash-marks slot h dev lists how s (m al);
-  reads = λ c span fl asks i v m al. allowed-unless _ v _ (m al);
-}
+crashed-passes host slot h dev lists how s = grind (arith, crash-marks, allowed-unless)
 
 left-known : (slot : SlotSetup) (u : Unsettled) (how : Loss) (o : Option Sectors) (s : ℕ) (y : Sectors) → o ≡ Some y
     → known_in (option_map (left_sectors slot u how) o) s ≡ (if marked_in o s then lost slot.cache u how s (y.known s) (y.settled s) else known_in o s)
@@ -119,8 +111,7 @@ crashed-at life host slot h dev lists how s x = elim (either (is_slot slot dev) 
 -- SENDS
 
 also-allowed : (t : Bool) (w : Option (List ℕ)) (v : List ℕ) (may : Option (List (List ℕ))) → IsAllowed (Some v) may → IsAllowed (Some v) (if t then also w may else may)
-also-allowed true (Some w) v may x = allowed-also (Some v) w may x
-also-allowed _ _ v may x = x
+also-allowed t w v may a = grind (arith, allowed-also)
 
 pub sent-passes : {life : ℕ} {host : HostSetup} {h : List Entry} (slot : SlotSetup) (name : ArrayVec ℕ) (c number : ℕ) (f : List ℕ) (s : ℕ) → Base life host h → Passes host slot h (Sent name c number f ∷ h) s
 sent-passes {life} {host} {h} slot name c number f s b = record {

@@ -1,5 +1,5 @@
 -- What a host reads in the replies of a target.
-use Rattle.std.proofs.Common.{if◌then◌else◌, ◌==◌, ℕ, ◌-◌, ◌≡◌, inl, inr, true, List, ◌++◌, length, drop, Option, Some, None, refl, arith}
+use Rattle.std.proofs.Common.{if◌then◌else◌, ◌==◌, ℕ, ◌-◌, ◌≡◌, true, List, ◌++◌, length, drop, Option, Some, None, refl, arith}
 use Rattle.std.proofs.lemmas.Bool.Decides.{nat_tests}
 use Rattle.std.specs.Option.{option_map}
 use Rattle.aoe_ata.specs.Args.{args_bytes}
@@ -11,9 +11,9 @@ use Rattle.aoe_base.specs.declared.refusal.AoeError.{AoeError}
 use Rattle.aoe_frame.specs.Header.{fields, header_bytes, padded, reply_header, Fits}
 use Rattle.aoe_base.specs.Refusal.{code_of_error}
 use Rattle.aoe_initiator.specs.declared.op.Op.{Op}
-use Rattle.aoe_initiator.specs.declared.op.Op.TheVariants.{Read, Write, Flush}
+use Rattle.aoe_initiator.specs.declared.op.Op.TheVariants.{Write, Flush}
 use Rattle.aoe_initiator.specs.declared.response.Answer.{Answer}
-use Rattle.aoe_initiator.specs.declared.response.Answer.TheVariants.{Written, Flushed, AtaError, AoeError as AoeErrorAnswer}
+use Rattle.aoe_initiator.specs.declared.response.Answer.TheVariants.{AtaError, AoeError as AoeErrorAnswer}
 use Rattle.aoe_initiator.specs.Op.{command_of as command}
 use Rattle.aoe_initiator.specs.Response.{answer, ata_success, is_failure}
 use Rattle.aoe_target.specs.declared.station.Station.{Station}
@@ -51,8 +51,7 @@ pub record IsRead (reply : List ℕ) (h : Header) (args : List ℕ) : Type 0 whe
 
 -- the header of a reply fits where that of the request does
 reply-fits : (station : Station) (h : Header) (error : Option AoeError) → Fits h → CanReply station h → Fits (replying station h error)
-reply-fits station h None fits can = record { dst = fits.src; src = can.port; version = omega arith; flags = inr (inr (inl refl)); major = can.major; tag = fits.tag }
-reply-fits station h (Some error) fits can = record { dst = fits.src; src = can.port; version = omega arith; flags = inr (inr (inr refl)); major = can.major; tag = fits.tag }
+reply-fits station h error fits can = grind arith
 
 pub reply-read : {station : Station} {h : Header} {args reply : List ℕ} (error : Option AoeError) → Fits h → CanReply station h → reply ≡ spelled station h error args
     → IsRead reply (replying station h error) args
@@ -70,17 +69,13 @@ reply-read {station} {h} {args} error fits can is =
 
 module _ (k : State) (e : Effect) (reply : List ℕ) where
   pub error-tells : (op : Op) (code : ℕ) → TellsTruly op k e reply (AoeErrorAnswer code)
-  error-tells (Read span) code = tt
-  error-tells _ code = tt
+  error-tells op code = grind arith
 
   pub failure-tells : (op : Op) (status error : ℕ) → TellsTruly op k e reply (AtaError status error)
-  failure-tells (Read span) status error = tt
-  failure-tells _ status error = tt
+  failure-tells op status error = grind arith
 
   pub write-tells : (at : ℕ) (bytes : List ℕ) (a : Answer) → e ≡ Wrote (span_of (Write at bytes)) → TellsTruly (Write at bytes) k e reply a
-  write-tells at bytes Written p = p
-  write-tells at bytes _ p = tt
+  write-tells at bytes a p = grind arith
 
   pub flush-tells : (a : Answer) → e ≡ Synced → TellsTruly Flush k e reply a
-  flush-tells Flushed p = p
-  flush-tells _ p = tt
+  flush-tells a p = grind arith
