@@ -18,7 +18,10 @@ full-said life now h net f c full = rw (← c.sent) full
 
 number-short : (fs : List SentFrame) (k : ℕ) (f : SentFrame) → All IsShort fs → numbered fs k ≡ Some f → IsShort f
 number-short [] k f all e = absurd (cc)
-number-short (g ∷ fs) k f all e = elim (numbered-cases g fs k f e) [ inl z ↦ rw z at (All-head IsShort g fs all) | inr q ↦ number-short fs k f (All-tail IsShort g fs all) q ]
+number-short (g ∷ fs) k f all e = elim (numbered-cases g fs k f e) [
+  | inl z ↦ rw z at (All-head IsShort g fs all)
+  | inr q ↦ number-short fs k f (All-tail IsShort g fs all) q
+]
 
 -- a frame that is handed over isn't too long
 short-handed : (net : Network) (k now : ℕ) (f : List ℕ) → All IsShort net.sent → deliverable net k now ≡ Some f → length f ≤ 9018

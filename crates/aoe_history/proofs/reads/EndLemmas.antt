@@ -65,7 +65,8 @@ pub record Truth (host : HostSetup) (slot : SlotSetup) (h : List Entry) (s c : �
 still-live : (life now birth last : ℕ) (done : Bool) → now ≤ birth + life → birth ≤ last + life → not (done && nat_lt (2 * life) (now - last)) ≡ true
 still-live life now birth last done le lt = grind (arith, nat_tests)
 
-pub response-true : {s : Setup} {host : HostSetup} {h : List Entry} → HasHost s host h → (slot : SlotSetup) → Contains s.slots slot → {sct c : ℕ} {op : Op} {outcome : Outcome}
+pub response-true : {s : Setup} {host : HostSetup} {h : List Entry} → HasHost s host h → (slot : SlotSetup) → Contains s.slots slot
+    → {sct c : ℕ} {op : Op} {outcome : Outcome}
     → AreTrue s.life host slot h sct (frames h) → AsksAt slot (submission host h c) op → IsAnswered s host h c outcome → Truth host slot h sct c op outcome
 response-true {s} {host} {h} run slot there {sct} {c} {op} true_ones asks ans =
     let r = ans.response in
@@ -85,7 +86,8 @@ response-true {s} {host} {h} run slot there {sct} {c} {op} true_ones asks ans =
     } in
     let frame = arrives s.life h ans.number ans.bytes ans.fresh in
     let t = true_ones.each ans.number _ frame.is to in
-    let its_live : is_live s.life host h t.ticket t.sending ≡ true = still-live s.life (clock h) frame.birth t.sending.last.0 (was_done host h t.ticket) frame.young t.time in
+    let its_live : is_live s.life host h t.ticket t.sending ≡ true =
+    still-live s.life (clock h) frame.birth t.sending.last.0 (was_done host h t.ticket) frame.young t.time in
     let live : is_live s.life host h c p.sending ≡ true = rw p.flying refl in
     let ticket = (holds-of s host h run).base.tags t.ticket c t.sending p.sending t.sent p.sent its_live live (sym t.tag ∙ sym p.tag) in
     let answered = rw asks.is at p.says in

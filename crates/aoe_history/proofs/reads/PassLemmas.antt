@@ -33,8 +33,10 @@ use Rattle.aoe_history.proofs.sectors.SectorLemmas.{allowed-also, crashes, Write
 
 -- ARRIVALS
 
-pub was-alone : (host : HostSetup) (slot : SlotSetup) (h : List Entry) (dev : TargetId) (k : ℕ) (fate : Fate) (s : ℕ) → alone host slot (Arrived dev k fate ∷ h) s ≡ true
-    → (alone host slot h s ≡ true) × ((is_slot slot dev && (stores fate s || breaks (verdict_after slot h (bytes_of h k)) fate s)) ≡ true → is_from host (bytes_of h k) ≡ true)
+pub was-alone : (host : HostSetup) (slot : SlotSetup) (h : List Entry) (dev : TargetId) (k : ℕ) (fate : Fate) (s : ℕ)
+    → alone host slot (Arrived dev k fate ∷ h) s ≡ true
+    → (alone host slot h s ≡ true)
+    × ((is_slot slot dev && (stores fate s || breaks (verdict_after slot h (bytes_of h k)) fate s)) ≡ true → is_from host (bytes_of h k) ≡ true)
 was-alone host slot h dev k fate s al = grind arith
 
 pub allowed-unless : (t : Bool) (v : List ℕ) (may : Option (List (List ℕ))) → IsAllowed (Some v) may → IsAllowed (Some v) (if t then None else may)
@@ -59,7 +61,8 @@ module _ {s : Setup} {host : HostSetup} {h : List Entry} (run : HasHost s host h
     | inr here ↦ by-act here here.act
   ]
     where
-      was : (alone host slot h sct ≡ true) × ((is_slot slot dev && (stores fate sct || breaks (verdict_after slot h (bytes_of h k)) fate sct)) ≡ true → is_from host (bytes_of h k) ≡ true)
+      was : (alone host slot h sct ≡ true)
+          × ((is_slot slot dev && (stores fate sct || breaks (verdict_after slot h (bytes_of h k)) fate sct)) ≡ true → is_from host (bytes_of h k) ≡ true)
       was = was-alone host slot h dev k fate sct al
 
       by-act : (x : IsHere s.life slot h dev k fate sct)
@@ -67,7 +70,8 @@ module _ {s : Setup} {host : HostSetup} {h : List Entry} (run : HasHost s host h
           → marked_after slot n sct ≡ false
       by-act x (showed shown p q a b) = q ∙ m was.0
       by-act x (put span v p q a b) = absurd (beside c _ fl asks (writer run slot there sct k x.frame span x.fresh (rw x.bytes at (was.1 (rw (x.is, a) refl))) v))
-      by-act x (spoilt span v q a b) = absurd (beside c _ fl asks (writer run slot there sct k x.frame span x.fresh (rw x.bytes at (was.1 (rw (x.is, x.bytes, a, b) refl))) v))
+      by-act x (spoilt span v q a b) =
+          absurd (beside c _ fl asks (writer run slot there sct k x.frame span x.fresh (rw x.bytes at (was.1 (rw (x.is, x.bytes, a, b) refl))) v))
       by-act x (synced p q a b) = q
 
   pub arrived-passes : Passes host slot h n sct
@@ -85,20 +89,20 @@ module _ {s : Setup} {host : HostSetup} {h : List Entry} (run : HasHost s host h
 unmarked : (slot : SlotSetup) (u : Unsettled) (how : Loss) (o : Option Sectors) (s : ℕ) → marked_in (option_map (left_sectors slot u how) o) s ≡ false
 unmarked slot u how o s = grind arith
 
-crash-marks : (slot : SlotSetup) (h : List Entry) (dev : TargetId) (lists : Settings) (how : Loss) (s : ℕ) → marked_after slot h s ≡ false → marked_after slot (Crashed dev lists how ∷ h) s ≡ false
-crash-marks slot h dev lists how s m = elim (either (is_slot slot dev) (after_crash slot lists how (slot_after slot h)) (slot_after slot h)) [
-  | inl hit ↦ (same-sector s hit.1).1 ∙ unmarked slot (slot_after slot h).unsettled how (state_after slot h).sectors s
-  | inr away ↦ (same-sector s away.1).1 ∙ m
-]
+crash-marks : (slot : SlotSetup) (h : List Entry) (dev : TargetId) (lists : Settings) (how : Loss) (s : ℕ) → marked_after slot h s ≡ false
+    → marked_after slot (Crashed dev lists how ∷ h) s ≡ false
+crash-marks slot h dev lists how s m = grind (arith, unmarked)
 
-pub crashed-passes : (host : HostSetup) (slot : SlotSetup) (h : List Entry) (dev : TargetId) (lists : Settings) (how : Loss) (s : ℕ) → Passes host slot h (Crashed dev lists how ∷ h) s
+pub crashed-passes : (host : HostSetup) (slot : SlotSetup) (h : List Entry) (dev : TargetId) (lists : Settings) (how : Loss) (s : ℕ)
+    → Passes host slot h (Crashed dev lists how ∷ h) s
 crashed-passes host slot h dev lists how s = grind (arith, crash-marks, allowed-unless)
 
 left-known : (slot : SlotSetup) (u : Unsettled) (how : Loss) (o : Option Sectors) (s : ℕ) (y : Sectors) → o ≡ Some y
     → known_in (option_map (left_sectors slot u how) o) s ≡ (if marked_in o s then lost slot.cache u how s (y.known s) (y.settled s) else known_in o s)
 left-known slot u how o s y e = rw e refl
 
-pub crashed-at : (life : ℕ) (host : HostSetup) (slot : SlotSetup) (h : List Entry) (dev : TargetId) (lists : Settings) (how : Loss) (s : ℕ) → At life host slot h s → At life host slot (Crashed dev lists how ∷ h) s
+pub crashed-at : (life : ℕ) (host : HostSetup) (slot : SlotSetup) (h : List Entry) (dev : TargetId) (lists : Settings) (how : Loss) (s : ℕ)
+    → At life host slot h s → At life host slot (Crashed dev lists how ∷ h) s
 crashed-at life host slot h dev lists how s x = elim (either (is_slot slot dev) (after_crash slot lists how (slot_after slot h)) (slot_after slot h)) [
   | inl hit ↦ (let y = sectors-there slot h in
       let u = (slot_after slot h).unsettled in
@@ -110,10 +114,12 @@ crashed-at life host slot h dev lists how s x = elim (either (is_slot slot dev) 
 
 -- SENDS
 
-also-allowed : (t : Bool) (w : Option (List ℕ)) (v : List ℕ) (may : Option (List (List ℕ))) → IsAllowed (Some v) may → IsAllowed (Some v) (if t then also w may else may)
+also-allowed : (t : Bool) (w : Option (List ℕ)) (v : List ℕ) (may : Option (List (List ℕ))) → IsAllowed (Some v) may
+    → IsAllowed (Some v) (if t then also w may else may)
 also-allowed t w v may a = grind (arith, allowed-also)
 
-pub sent-passes : {life : ℕ} {host : HostSetup} {h : List Entry} (slot : SlotSetup) (name : ArrayVec ℕ) (c number : ℕ) (f : List ℕ) (s : ℕ) → Base life host h → Passes host slot h (Sent name c number f ∷ h) s
+pub sent-passes : {life : ℕ} {host : HostSetup} {h : List Entry} (slot : SlotSetup) (name : ArrayVec ℕ) (c number : ℕ) (f : List ℕ) (s : ℕ) → Base life host h
+    → Passes host slot h (Sent name c number f ∷ h) s
 sent-passes {life} {host} {h} slot name c number f s b = record {
   sent = λ d x e. again d x e (is_called host name && nat_eq c d) refl;
   flying = λ d e. e;

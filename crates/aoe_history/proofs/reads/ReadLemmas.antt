@@ -38,7 +38,8 @@ use Rattle.aoe_history.proofs.sectors.ArriveLemmas.{arrived-at}
 use Rattle.aoe_history.proofs.sectors.AtLemmas.{quiet, sent-at, At}
 
 -- a host's request is no reply, and no frame from elsewhere is one
-request-no-reply : (s : Setup) (o host : HostSetup) (slot : SlotSetup) (h : List Entry) (c number : ℕ) (f : List ℕ) → IsSetup s → Contains s.hosts o → Contains s.slots slot
+request-no-reply : (s : Setup) (o host : HostSetup) (slot : SlotSetup) (h : List Entry) (c number : ℕ) (f : List ℕ) → IsSetup s → Contains s.hosts o
+    → Contains s.slots slot
     → IsSent s o h c number f → IsReplyTo host slot f → ⊥
 request-no-reply s o host slot h c number f ok other there x to =
     let command = x.frame.command in
@@ -46,7 +47,8 @@ request-no-reply s o host slot h c number f ok other there x to =
     let is = request-header s o command.device command.op x.sent.tag f ok other r in
     ok.shelf_ports o slot r.local other there r.own (subst (λ (z : Header). holds slot.station.ports.items z.src ≡ true) is to.src)
 
-foreign-no-reply : (s : Setup) (host : HostSetup) (slot : SlotSetup) (h : List Entry) (number : ℕ) (f : List ℕ) → Contains s.slots slot → IsForeign s h number f → IsReplyTo host slot f → ⊥
+foreign-no-reply : (s : Setup) (host : HostSetup) (slot : SlotSetup) (h : List Entry) (number : ℕ) (f : List ℕ) → Contains s.slots slot → IsForeign s h number f
+    → IsReplyTo host slot f → ⊥
 foreign-no-reply s host slot h number f there x to =
     let no : holds slot.station.ports.items (fields f).src ≡ false =
     none-there (λ (z : SlotSetup). holds z.station.ports.items (fields f).src) s.slots slot (or-parts _ _ x.source).1 there in
@@ -96,7 +98,8 @@ module _ (s : Setup) (host : HostSetup) (slot : SlotSetup) (ok : IsSetup s) (own
       let b = run h l.1 in
       record {
         at = arrived-at b slot there sct dev k (Replied e number r) l.0 x.at;
-        replies = one-more (new-reply b slot there sct x.at dev k e number r l.0) (all-pass (arrived-passes b slot there sct dev k (Replied e number r) l.0) x.replies);
+        replies = one-more (new-reply b slot there sct x.at dev k e number r l.0)
+            (all-pass (arrived-passes b slot there sct dev k (Replied e number r) l.0) x.replies);
       }
   kept (Arrived dev k fate ∷ h) l =
       let x = kept h l.1 in
@@ -129,12 +132,14 @@ module _ (s : Setup) (host : HostSetup) (slot : SlotSetup) (ok : IsSetup s) (own
 
 -- WHAT IS READ
 
-data-answer : (a : Answer) (args bytes : List ℕ) → outcome.Read bytes ≡ outcome_of a args → (len : ℕ) × (a ≡ Data len) × (bytes ≡ slice_range args 12 (12 + len))
+data-answer : (a : Answer) (args bytes : List ℕ) → outcome.Read bytes ≡ outcome_of a args
+    → (len : ℕ) × (a ≡ Data len) × (bytes ≡ slice_range args 12 (12 + len))
 data-answer a args bytes e = grind arith
 
 module _ (s : Setup) (h : List Entry) (name : ArrayVec ℕ) (c : ℕ) (bytes : List ℕ) (ok : IsSetup s) (l : IsLawful s (Done name c (outcome.Read bytes) ∷ h))
     (host : HostSetup) (slot : SlotSetup) (called : host_called s name ≡ Some host) (there : Contains s.slots slot) where
-  by-answer : (x : Submission) → submission host h c ≡ Some x → (span : Span) (sct : ℕ) → x.op ≡ op.Read span → is_slot slot x.dev ≡ true → in_span span sct ≡ true → alone host slot h sct ≡ true
+  by-answer : (x : Submission) → submission host h c ≡ Some x → (span : Span) (sct : ℕ) → x.op ≡ op.Read span → is_slot slot x.dev ≡ true
+      → in_span span sct ≡ true → alone host slot h sct ≡ true
       → IsDone s host h c (outcome.Read bytes) → IsAllowed (Some (value_in span bytes sct)) (allowed host slot h sct)
   by-answer x sub span sct is_read is inside al (inr late) = absurd (let e = late.gives in cc)
   by-answer x sub span sct is_read is inside al (inl ans) =
@@ -146,10 +151,13 @@ module _ (s : Setup) (h : List Entry) (name : ArrayVec ℕ) (c : ℕ) (bytes : L
 
   reads-allowed : (o : Option Submission) → submission host h c ≡ o → ReadsAllowed host slot h o bytes
   reads-allowed None sub = tt
-  reads-allowed (Some x) sub = λ span sct is_read is inside al. by-answer x sub span sct is_read is inside al (some-and (λ z. IsDone s z h c (outcome.Read bytes)) _ host called l.0)
+  reads-allowed (Some x) sub = λ span sct is_read is inside al.
+      by-answer x sub span sct is_read is inside al (some-and (λ z. IsDone s z h c (outcome.Read bytes)) _ host called l.0)
 
-finished-reads : (s : Setup) (h : List Entry) (name : ArrayVec ℕ) (c : ℕ) (o : Outcome) → IsSetup s → IsLawful s (Done name c o ∷ h) → KeepsReadLaw s h (Done name c o)
-finished-reads s h name c (outcome.Read bytes) ok l = λ host slot called there. reads-allowed s h name c bytes ok l host slot called there (submission host h c) refl
+finished-reads : (s : Setup) (h : List Entry) (name : ArrayVec ℕ) (c : ℕ) (o : Outcome) → IsSetup s → IsLawful s (Done name c o ∷ h)
+    → KeepsReadLaw s h (Done name c o)
+finished-reads s h name c (outcome.Read bytes) ok l = λ host slot called there.
+    reads-allowed s h name c bytes ok l host slot called there (submission host h c) refl
 finished-reads s h name c _ ok l = tt
 
 pub read-law : (s : Setup) (h : List Entry) → IsSetup s → IsLawful s h → HasReadLaw s h

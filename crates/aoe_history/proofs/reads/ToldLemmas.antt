@@ -1,5 +1,5 @@
 -- A new reply says what is so.
-use Rattle.std.proofs.Common.{ℕ, ◌+◌, ◌-◌, ◌<◌, ◌≡◌, ◌==◌, nat_le, nat_lt, true, false, ◌&&◌, List, ◌∷◌, ◌++◌, drop, length, slice_range, Option, Some, None, is_some, IfSome, IsSomeAnd, refl, subst, ap, ◌∙◌, arith, append_assoc, Contains}
+use Rattle.std.proofs.Common.{ℕ, ◌+◌, ◌-◌, ◌<◌, ◌≡◌, ◌==◌, nat_le, nat_lt, true, false, ◌&&◌, List, ◌∷◌, ◌++◌, drop, length, slice_range, Option, Some, is_some, IfSome, IsSomeAnd, refl, subst, ap, ◌∙◌, arith, append_assoc, Contains}
 use Rattle.std.proofs.lemmas.Bool.Decides.{nat_tests}
 use Rattle.std.proofs.lemmas.List.{take_at}
 use Rattle.aoe_base.specs.declared.address.TargetId.{TargetId}
@@ -63,31 +63,35 @@ inside-at : (at count s : ℕ) → (nat_le at s && nat_lt s (at + count)) ≡ tr
 inside-at at count s e = (grind (arith, nat_tests), grind (arith, nat_tests))
 
 -- what is shown of a sector is allowed
-shown-allowed : (life : ℕ) (host : HostSetup) (slot : SlotSetup) (h : List Entry) (s : ℕ) (span : Span) (bytes : List ℕ) → At life host slot h s → in_span span s ≡ true
+shown-allowed : (life : ℕ) (host : HostSetup) (slot : SlotSetup) (h : List Entry) (s : ℕ) (span : Span) (bytes : List ℕ) → At life host slot h s
+    → in_span span s ≡ true
     → alone host slot h s ≡ true → IfSome (state_after slot h).sectors (Tells span bytes) → IsAllowed (Some (value_in span bytes s)) (allowed host slot h s)
 shown-allowed life host slot h s span bytes x inside al tells =
     let y = sectors-there slot h in
     let p = inside-at span.at span.count s inside in
     go (y.0.known s) (rw p.0 at ((rw y.1 at tells) (s - span.at) p.1)) (rw y.1 at (x.value al))
   where
-    go : (o : Option (List ℕ)) → IfSome o (λ v. value_in span bytes s ≡ v) → IsAllowed o (allowed host slot h s) → IsAllowed (Some (value_in span bytes s)) (allowed host slot h s)
-    go None q a = rw (none-allowed (allowed host slot h s) a) tt
-    go (Some v) q a = rw q a
+    go : (o : Option (List ℕ)) → IfSome o (λ v. value_in span bytes s ≡ v) → IsAllowed o (allowed host slot h s)
+        → IsAllowed (Some (value_in span bytes s)) (allowed host slot h s)
+    go o q a = grind (arith, none-allowed)
 
-module _ {s : Setup} {host : HostSetup} {h : List Entry} (run : HasHost s host h) (slot : SlotSetup) (there : Contains s.slots slot) (sct : ℕ) (x : At s.life host slot h sct)
+module _ {s : Setup} {host : HostSetup} {h : List Entry} (run : HasHost s host h) (slot : SlotSetup) (there : Contains s.slots slot) (sct : ℕ)
+    (x : At s.life host slot h sct)
     (dev : TargetId) (k : ℕ) (e : Effect) (number : ℕ) (r : List ℕ) where
   abbrev n : List Entry
   n = Arrived dev k (Replied e number r) ∷ h
 
   -- what it says, by what it tells
-  by-op : (c : ℕ) (f : List ℕ) (op : Op) (a : Answer) → is_slot slot dev ≡ true → bytes_of h k ≡ f → Allows slot.station (state_after slot h) f (verdict_after slot h f) (replied e r)
+  by-op : (c : ℕ) (f : List ℕ) (op : Op) (a : Answer) → is_slot slot dev ≡ true → bytes_of h k ≡ f
+      → Allows slot.station (state_after slot h) f (verdict_after slot h f) (replied e r)
       → is_some (sends_of host h c) ≡ true → ((command_of op == 0) ≡ true → TellsTruly op (state_after slot h) e r a) → SaysOf host slot n sct c op a r
   by-op c f (Write at bytes) Written is same law sent tells = λ inside. rw (is, tells refl, inside, sent) refl
   by-op c f Flush Flushed is same law sent tells = λ al.
       (same-sector sct (slot-arrived slot h dev k (Replied e number r) f is same)).1
       ∙ synced-clean slot.station (state_after slot h) f r e (verdict_after slot h f) sct (tells refl) law
   by-op c f (Read span) (Data len) is same law sent tells = λ inside al.
-      allowed-unless _ _ _ (shown-allowed s.life host slot h sct span (slice_range (drop 24 r) 12 (12 + len)) x inside (was-alone host slot h dev k (Replied e number r) sct al).0 (tells refl).1)
+      let before = (was-alone host slot h dev k (Replied e number r) sct al).0 in
+      allowed-unless _ _ _ (shown-allowed s.life host slot h sct span (slice_range (drop 24 r) 12 (12 + len)) x inside before (tells refl).1)
   by-op c f _ _ is same law sent tells = tt
 
   can-reply : (z : SlotSetup) → Contains s.slots z → (m : Header) → CanReply z.station m
@@ -96,14 +100,18 @@ module _ {s : Setup} {host : HostSetup} {h : List Entry} (run : HasHost s host h
     major = (let small = run.setup.majors z has in omega arith);
   }
 
-  tells : (device : DeviceNo) (op : Op) (tag : ℕ) (f : List ℕ) → IsRequest host device op tag f → (dev : TargetId) → IsAskable host (record { dev = dev; op = op })
-      → Allows slot.station (state_after slot h) f (verdict_after slot h f) (replied e r) → (a : Answer) → answer op (fields r) (drop 24 r) ≡ Some a → (command_of op == 0) ≡ true
+  tells : (device : DeviceNo) (op : Op) (tag : ℕ) (f : List ℕ) → IsRequest host device op tag f → (dev : TargetId)
+      → IsAskable host (record { dev = dev; op = op })
+      → Allows slot.station (state_after slot h) f (verdict_after slot h f) (replied e r) → (a : Answer) → answer op (fields r) (drop 24 r) ≡ Some a
+      → (command_of op == 0) ≡ true
       → TellsTruly op (state_after slot h) e r a
   tells device op tag f req dev ask law a ans ata =
       let fits = request-fits s host device op tag f run.setup (host-there s run.name host run.called).0 req in
-      response-tells op req.about.id req.remote req.local tag slot.station (state_after slot h) e r a ata ask.can ask.sectors fits (can-reply slot there _) (rw req.is at law) ans
+      response-tells op req.about.id req.remote req.local tag slot.station (state_after slot h) e r a ata ask.can ask.sectors fits
+      (can-reply slot there _) (rw req.is at law) ans
 
-  pub new-reply : IsSomeAnd (slot_of s dev) (λ z. IsArrival s z h k (Replied e number r)) → IsReplyTo host slot r → IsTrue s.life host slot n sct (record { bytes = r; birth = clock h })
+  pub new-reply : IsSomeAnd (slot_of s dev) (λ z. IsArrival s z h k (Replied e number r)) → IsReplyTo host slot r
+      → IsTrue s.life host slot n sct (record { bytes = r; birth = clock h })
   new-reply law to =
       let o = some-such (λ z. IsArrival s z h k (Replied e number r)) (slot_of s dev) law in
       let other = o.0 in
@@ -112,11 +120,13 @@ module _ {s : Setup} {host : HostSetup} {h : List Entry} (run : HasHost s host h
       let reply = replies other.station (state_after other h) f r e (verdict_after other h f) o.2.law in
       let long = is-long f (has-head other.station (state_after other h) f r e o.2.law) in
       let frame = arrives s.life h k f o.2.fresh in
-      let sent = (holds-of s host h run).frames k _ frame.is (subst (λ z. holds host.ports z ≡ true) (reply-destination other.station f r reply (source-length f long)) to.dst) in
+      let from = subst (λ z. holds host.ports z ≡ true) (reply-destination other.station f r reply (source-length f long)) to.dst in
+      let sent = (holds-of s host h run).frames k _ frame.is from in
       let mine = (host-there s run.name host run.called).0 in
       let hd = request-header s host _ _ sent.sending.tag f run.setup mine sent.request in
       let fits = rw (← hd) at (request-fits s host _ _ sent.sending.tag f run.setup mine sent.request) in
-      let head_is : fields r ≡ replying other.station (fields f) reply.error = (reply-read reply.error fits (can-reply other its.0 (fields f)) reply.is).head_is in
+      let head_is : fields r ≡ replying other.station (fields f) reply.error =
+      (reply-read reply.error fits (can-reply other its.0 (fields f)) reply.is).head_is in
       let id : slot.station.id ≡ other.station.id = ids-same slot.station.id (fields r).id to.id ∙ ap (λ (z : Header). z.id) head_is in
       let is : is_slot slot dev ≡ true = rw (← id) at its.1 in
       let same : other ≡ slot = cc (o.1, named-slot s slot dev run.setup there is) in

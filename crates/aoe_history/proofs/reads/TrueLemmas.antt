@@ -39,7 +39,8 @@ pub record IsTrue (life : ℕ) (host : HostSetup) (slot : SlotSetup) (h : List E
   pub sent : sends_of host h ticket ≡ Some sending
   pub tag : (fields r.bytes).tag ≡ sending.tag
   pub time : r.birth ≤ sending.last.0 + life
-  pub says : was_done host h ticket ≡ false → (op : Op) → AsksAt slot (submission host h ticket) op → (a : Answer) → answer op (fields r.bytes) (drop 24 r.bytes) ≡ Some a
+  pub says : was_done host h ticket ≡ false → (op : Op) → AsksAt slot (submission host h ticket) op → (a : Answer)
+      → answer op (fields r.bytes) (drop 24 r.bytes) ≡ Some a
       → SaysOf host slot h s ticket op a r.bytes
 
 -- a frame of the slot to the host
@@ -63,7 +64,8 @@ pub record Passes (host : HostSetup) (slot : SlotSetup) (h n : List Entry) (s : 
       → (alone host slot h s ≡ true → IsAllowed (Some v) (allowed host slot h s)) → alone host slot n s ≡ true → IsAllowed (Some v) (allowed host slot n s)
 
 module _ {host : HostSetup} {slot : SlotSetup} {h n : List Entry} {s : ℕ} (p : Passes host slot h n s) where
-  says-passes : (c : ℕ) → IsFlying host h c → (op : Op) → AsksAt slot (submission host h c) op → (a : Answer) (f : List ℕ) → SaysOf host slot h s c op a f → SaysOf host slot n s c op a f
+  says-passes : (c : ℕ) → IsFlying host h c → (op : Op) → AsksAt slot (submission host h c) op → (a : Answer) (f : List ℕ) → SaysOf host slot h s c op a f
+      → SaysOf host slot n s c op a f
   says-passes c fl (Write at bytes) asks Written f x = λ i. p.stored c (x i)
   says-passes c fl Flush asks Flushed f x = p.marks c fl asks x
   says-passes c fl (Read span) asks (Data len) f x = λ i. p.reads c span fl asks i _ (x i)

@@ -47,7 +47,8 @@ record IsHeard (op : Op) (station : Station) (h : Header) (reply : List ℕ) (a 
 
 module _ {op : Op} {station : Station} {h : Header} {reply : List ℕ} {a : Answer} (x : IsHeard op station h reply a) where
   -- it is read by its header and arguments
-  read : (error : Option Error) (args : List ℕ) → reply ≡ spelled station h error args → (zeros : List ℕ) × (answer op (replying station h error) (args ++ zeros) ≡ Some a)
+  read : (error : Option Error) (args : List ℕ) → reply ≡ spelled station h error args
+      → (zeros : List ℕ) × (answer op (replying station h error) (args ++ zeros) ≡ Some a)
   read error args is = let r = reply-read error x.fits x.can is in (r.zeros, rw (r.head_is, r.rest) at x.says)
 
   -- a reply with an error
@@ -58,7 +59,8 @@ module _ {op : Op} {station : Station} {h : Header} {reply : List ℕ} {a : Answ
       rw a-is (error-tells k e reply op (code_of_error error))
 
   -- a reply with a failure in its registers
-  failed : (k : State) (e : Effect) (args : AtaArgs) (o : AtaOutcome) → (command_of op == 0) ≡ true → is_failure (status_of o) ≡ true → reply ≡ ata_reply station h args o
+  failed : (k : State) (e : Effect) (args : AtaArgs) (o : AtaOutcome) → (command_of op == 0) ≡ true → is_failure (status_of o) ≡ true
+      → reply ≡ ata_reply station h args o
       → TellsTruly op k e reply a
   failed k e args o ata f is =
       let r = read None (args_bytes (reply_of args o)) is in
@@ -76,14 +78,16 @@ read-told {station} {h} {reply} {a} {span} x k args is tells =
     let a-is = (cond_some _ (Data (512 * span.count)) a (sym (says-ata (Read span) h station args outcome.Done (data_of span reply ++ r.0) refl) ∙ r.1)).1 in
     rw (← a-is) (refl, rw (data-same reply (512 * span.count)) tells)
 
-read-by : (b : Bool) {station : Station} {h : Header} {reply : List ℕ} {a : Answer} {span : Span} → IsHeard (Read span) station h reply a → (k : State) (e : Effect) (args : AtaArgs)
+read-by : (b : Bool) {station : Station} {h : Header} {reply : List ℕ} {a : Answer} {span : Span} → IsHeard (Read span) station h reply a
+    → (k : State) (e : Effect) (args : AtaArgs)
     → AllowsAta station k.sectors h args (if b then Give span else NotFound) (replied e reply) → TellsTruly (Read span) k e reply a
 read-by true x k effect.None args y = read-told x k args y.1 y.2
 read-by true x k effect.ReadFault args y = failed x k effect.ReadFault args outcome.Uncorrectable refl refl y
 read-by false x k e args y = failed x k e args outcome.NotFound refl refl (same-reply e effect.None _ _ y)
 read-by true x k _ args y = absurd y
 
-write-by : (b : Bool) {station : Station} {h : Header} {reply : List ℕ} {a : Answer} {at : ℕ} {bytes : List ℕ} → IsHeard (Write at bytes) station h reply a → (k : State) (e : Effect) (args : AtaArgs)
+write-by : (b : Bool) {station : Station} {h : Header} {reply : List ℕ} {a : Answer} {at : ℕ} {bytes : List ℕ} → IsHeard (Write at bytes) station h reply a
+    → (k : State) (e : Effect) (args : AtaArgs)
     → AllowsAta station k.sectors h args (if b then Put (span_of (Write at bytes)) else NotFound) (replied e reply) → TellsTruly (Write at bytes) k e reply a
 write-by true {reply = reply} {at = at} {bytes} x k (effect.Wrote s) args y = write-tells k (effect.Wrote s) reply at bytes _ (ap effect.Wrote y.0)
 write-by true x k (effect.WriteFault s) args y = failed x k (effect.WriteFault s) args outcome.Aborted refl refl y.1
@@ -104,10 +108,12 @@ ata-by Flush x k e args y = flush-by x k e args y
 ata-by _ x k e args y = tt
 
 pub response-tells : (op : Op) (id : TargetId) (remote local : Mac) (tag : ℕ) (station : Station) (k : State) (e : Effect) (reply : List ℕ) (a : Answer)
-    → (command_of op == 0) ≡ true → CanSpell op → HasSectors op → Fits (request_header op id remote local tag) → CanReply station (request_header op id remote local tag)
+    → (command_of op == 0) ≡ true → CanSpell op → HasSectors op → Fits (request_header op id remote local tag)
+    → CanReply station (request_header op id remote local tag)
     → Allows station k (request op id remote local tag) (verdict station k.lists (request op id remote local tag)) (replied e reply)
     → answer op (fields reply) (drop 24 reply) ≡ Some a → TellsTruly op k e reply a
-response-tells op id remote local tag station k e reply a ata spell some fits can allows says = go (verdict station k.lists (request op id remote local tag)) refl allows
+response-tells op id remote local tag station k e reply a ata spell some fits can allows says =
+    go (verdict station k.lists (request op id remote local tag)) refl allows
   where
     its-head : head (request op id remote local tag) ≡ Some (request_header op id remote local tag)
     its-head = request-head op id remote local tag fits
@@ -118,7 +124,8 @@ response-tells op id remote local tag station k e reply a ata spell some fits ca
     x : IsHeard op station (request_header op id remote local tag) reply a
     x = record { fits = fits; can = can; says = says }
 
-    go : (v : Verdict) → verdict station k.lists (request op id remote local tag) ≡ v → Allows station k (request op id remote local tag) v (replied e reply) → TellsTruly op k e reply a
+    go : (v : Verdict) → verdict station k.lists (request op id remote local tag) ≡ v → Allows station k (request op id remote local tag) v (replied e reply)
+        → TellsTruly op k e reply a
     go (Refused error) q y = refused x k e error _ (same-reply e effect.None reply _ (rw is at y))
     go (Lists c) q y = absurd (no-list-step station k.lists _ _ c its-head ata q)
     go (Ata d) q y = ata-by op x k e d.args (rw (is, request-asks op id remote local tag station k.lists d spell some fits q) at y)

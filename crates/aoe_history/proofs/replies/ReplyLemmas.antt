@@ -30,14 +30,16 @@ abbrev pub replying : Station → Header → Option AoeError → Header
 replying station h error = reply_header h station.id (reply_port station h) (option_map code_of_error error)
 
 -- a reply with an error
-pub says-error : (op : Op) (h : Header) (station : Station) (error : AoeError) (args : List ℕ) → answer op (replying station h (Some error)) args ≡ Some (AoeErrorAnswer (code_of_error error))
+pub says-error : (op : Op) (h : Header) (station : Station) (error : AoeError) (args : List ℕ)
+    → answer op (replying station h (Some error)) args ≡ Some (AoeErrorAnswer (code_of_error error))
 unfolding answer
 says-error op h station error args = refl
 
 -- a reply without an error is read by its registers
 pub says-ata : (op : Op) (h : Header) (station : Station) (a : AtaArgs) (outcome : AtaOutcome) (rest : List ℕ) → (command op == 0) ≡ true
     → answer op (replying station h None) (args_bytes (reply_of a outcome) ++ rest)
-    ≡ (if is_failure (status_of outcome) then Some (AtaError (status_of outcome) (error_of outcome)) else ata_success op (length (args_bytes (reply_of a outcome) ++ rest) - 12))
+    ≡ (if is_failure (status_of outcome) then Some (AtaError (status_of outcome) (error_of outcome))
+    else ata_success op (length (args_bytes (reply_of a outcome) ++ rest) - 12))
 unfolding answer
 says-ata op h station a outcome rest c = grind (arith, nat_tests)
 
@@ -53,7 +55,8 @@ pub record IsRead (reply : List ℕ) (h : Header) (args : List ℕ) : Type 0 whe
 reply-fits : (station : Station) (h : Header) (error : Option AoeError) → Fits h → CanReply station h → Fits (replying station h error)
 reply-fits station h error fits can = grind arith
 
-pub reply-read : {station : Station} {h : Header} {args reply : List ℕ} (error : Option AoeError) → Fits h → CanReply station h → reply ≡ spelled station h error args
+pub reply-read : {station : Station} {h : Header} {args reply : List ℕ} (error : Option AoeError) → Fits h → CanReply station h
+    → reply ≡ spelled station h error args
     → IsRead reply (replying station h error) args
 unfolding spelled
 reply-read {station} {h} {args} error fits can is =

@@ -56,7 +56,8 @@ registers-are a rest lt = grind (arith, common_steps)
 -- VERDICTS
 
 -- a frame is judged by its header
-judged-by : (station : Station) (lists : Settings) (f : List ℕ) (h : Header) (v : Verdict) → head f ≡ Some h → verdict station lists f ≡ v → judged station lists h (drop 24 f) ≡ v
+judged-by : (station : Station) (lists : Settings) (f : List ℕ) (h : Header) (v : Verdict) → head f ≡ Some h → verdict station lists f ≡ v
+    → judged station lists h (drop 24 f) ≡ v
 unfolding verdict
 judged-by station lists f h v is e = let x = cond_some _ _ _ is in subst (λ y. judged station lists y (drop 24 f) ≡ v) x.1 (rw x.0 at e)
 
@@ -68,7 +69,8 @@ by-checks heard admitted version ata config masks reserves free r d e = grind ar
 
 -- no verdict on an ATA command is a step of the lists
 no-step : (heard admitted version free : Bool) (r : Result AtaDecision AoeError) (c : ListCommand) →
-    (if not heard then Ignored else if not admitted then Silent else if not version then Refused UnsupportedVersion else if not free then Refused TargetIsReserved else decided r) ≡ Lists c → ⊥
+    (if not heard then Ignored else if not admitted then Silent else if not version then Refused UnsupportedVersion
+    else if not free then Refused TargetIsReserved else decided r) ≡ Lists c → ⊥
 no-step heard admitted version free r c e = grind arith
 
 ok-if : (b : Bool) (x d : AtaDecision) → (if b then Ok x else Err BadArgument) ≡ Ok d → d ≡ x
@@ -81,7 +83,8 @@ pub record ComesOf (station : Station) (h : Header) (args : List ℕ) (d : AtaDe
   pub registers_are : d.args ≡ registers args
   pub answer_is : d.answer ≡ answer_of station.sectors (command_of (registers args))
 
-pub comes-of : (station : Station) (lists : Settings) (f : List ℕ) (h : Header) (d : AtaDecision) → head f ≡ Some h → verdict station lists f ≡ Ata d → ComesOf station h (drop 24 f) d
+pub comes-of : (station : Station) (lists : Settings) (f : List ℕ) (h : Header) (d : AtaDecision) → head f ≡ Some h → verdict station lists f ≡ Ata d
+    → ComesOf station h (drop 24 f) d
 unfolding decision
 comes-of station lists f h d is e =
     let c = by-checks _ _ _ _ _ _ _ (may_use lists h.src) (decision station.sectors station.max (drop 24 f)) d (judged-by station lists f h (Ata d) is e) in
@@ -93,7 +96,8 @@ comes-of station lists f h d is e =
 zero-no : (n : ℕ) → n ≢ 0 → (n == 0) ≡ false
 zero-no n e = grind (arith, nat_tests)
 
-answer-by : (total : ℕ) (args bytes : List ℕ) (a : AtaArgs) (answer : AtaAnswer) → args ≡ args_bytes a ++ bytes → a.lba < 2 ^ 48 → answer_of total (command_of a) ≡ answer
+answer-by : (total : ℕ) (args bytes : List ℕ) (a : AtaArgs) (answer : AtaAnswer) → args ≡ args_bytes a ++ bytes → a.lba < 2 ^ 48
+    → answer_of total (command_of a) ≡ answer
     → answer_of total (command_of (registers args)) ≡ answer
 answer-by total args bytes a answer is lt e = subst (λ r. answer_of total (command_of r) ≡ answer) (sym (ap registers is ∙ registers-are a bytes lt)) e
 
@@ -110,7 +114,8 @@ asked-as total _ args zeros can some c is = absurd (cc)
 written-as : (at : ℕ) (bytes zeros : List ℕ) → length bytes % 512 ≡ 0 → written (arguments (Write at bytes) ++ zeros) (span_of (Write at bytes)) ≡ bytes
 written-as at bytes zeros whole = take_at bytes zeros (12 + 512 * (length bytes / 512) - 12) (omega arith)
 
-pub no-list-step : (station : Station) (lists : Settings) (f : List ℕ) (h : Header) (c : ListCommand) → head f ≡ Some h → (h.command == 0) ≡ true → verdict station lists f ≡ Lists c → ⊥
+pub no-list-step : (station : Station) (lists : Settings) (f : List ℕ) (h : Header) (c : ListCommand) → head f ≡ Some h → (h.command == 0) ≡ true
+    → verdict station lists f ≡ Lists c → ⊥
 no-list-step station lists f h c is ata e =
     no-step _ _ _ (may_use lists h.src) (decision station.sectors station.max (drop 24 f)) c (rw ata at (judged-by station lists f h (Lists c) is e))
 
@@ -119,7 +124,8 @@ no-list-step station lists f h c is ata e =
 pub fields-are : (f : List ℕ) (h : Header) → head f ≡ Some h → fields f ≡ h
 fields-are f h e = (cond_some _ _ _ e).1
 
-pub request-head : (op : Op) (id : TargetId) (remote local : Mac) (tag : ℕ) → Fits (request_header op id remote local tag) → head (request op id remote local tag) ≡ Some (request_header op id remote local tag)
+pub request-head : (op : Op) (id : TargetId) (remote local : Mac) (tag : ℕ) → Fits (request_header op id remote local tag)
+    → head (request op id remote local tag) ≡ Some (request_header op id remote local tag)
 unfolding request
 request-head op id remote local tag fits = padded-head (request_header op id remote local tag) (arguments op) fits
 
@@ -128,14 +134,16 @@ request-rest : (op : Op) (id : TargetId) (remote local : Mac) (tag : ℕ) → Fi
 unfolding request
 request-rest op id remote local tag fits = (_, padded-rest (request_header op id remote local tag) (arguments op) fits)
 
-pub request-asks : (op : Op) (id : TargetId) (remote local : Mac) (tag : ℕ) (station : Station) (lists : Settings) (d : AtaDecision) → CanSpell op → HasSectors op
+pub request-asks : (op : Op) (id : TargetId) (remote local : Mac) (tag : ℕ) (station : Station) (lists : Settings) (d : AtaDecision) → CanSpell op
+    → HasSectors op
     → Fits (request_header op id remote local tag) → verdict station lists (request op id remote local tag) ≡ Ata d → d.answer ≡ asked_for station.sectors op
 request-asks op id remote local tag station lists d can some fits e =
     let c = comes-of station lists _ _ d (request-head op id remote local tag fits) e in
     let r = request-rest op id remote local tag fits in
     c.answer_is ∙ asked-as station.sectors op _ r.0 can some c.ata r.1
 
-pub request-writes : (at : ℕ) (bytes : List ℕ) (id : TargetId) (remote local : Mac) (tag : ℕ) → at < 2 ^ 48 → length bytes % 512 ≡ 0 → Fits (request_header (Write at bytes) id remote local tag)
+pub request-writes : (at : ℕ) (bytes : List ℕ) (id : TargetId) (remote local : Mac) (tag : ℕ) → at < 2 ^ 48 → length bytes % 512 ≡ 0
+    → Fits (request_header (Write at bytes) id remote local tag)
     → written (drop 24 (request (Write at bytes) id remote local tag)) (span_of (Write at bytes)) ≡ bytes
 request-writes at bytes id remote local tag lt whole fits =
     let r = request-rest (Write at bytes) id remote local tag fits in

@@ -39,7 +39,8 @@ named-slot s slot dev ok there is = subst (λ (z : TargetId). slot_of s z ≡ So
 
 -- WRITES
 
-put-op : (total : ℕ) (op : Op) (z : Span) → asked_for total op ≡ ata.Put z → (at : ℕ) × (bytes : List ℕ) × (op ≡ Write at bytes) × (span_of (Write at bytes) ≡ z)
+put-op : (total : ℕ) (op : Op) (z : Span) → asked_for total op ≡ ata.Put z
+    → (at : ℕ) × (bytes : List ℕ) × (op ≡ Write at bytes) × (span_of (Write at bytes) ≡ z)
 put-op total op z e = grind arith
 
 writes-value : (slot : SlotSetup) (x : Submission) (at : ℕ) (bytes args : List ℕ) (span : Span) (s : ℕ) → is_slot slot x.dev ≡ true → x.op ≡ Write at bytes
@@ -61,7 +62,8 @@ module _ {s : Setup} {host : HostSetup} {h : List Entry} (run : HasHost s host h
       record {
         ticket = sent.ticket;
         under_way = (sent.sending, sent.sent, arriving-active s.life host h k _ frame.is fresh sent);
-        writes_it = rw x.1 (writes-value slot x.0 p.0 p.1 (drop 24 f) span sct u.slot_is p.2 p.3 v.inside (ap (written (drop 24 f)) (sym p.3) ∙ u.bytes_are p.0 p.1 p.2));
+        writes_it = rw x.1 (writes-value slot x.0 p.0 p.1 (drop 24 f) span sct u.slot_is p.2 p.3 v.inside
+            (ap (written (drop 24 f)) (sym p.3) ∙ u.bytes_are p.0 p.1 p.2));
       }
 
 -- WHAT ARRIVES AT THE SLOT
@@ -77,7 +79,8 @@ known-either : (b : Bool) (x y : Slot) → AreKnown x.state → AreKnown y.state
 known-either true x y p q = p
 known-either false x y p q = q
 
-pub same-sector : {x y : Slot} (s : ℕ) → x ≡ y → (known_in x.state.sectors s ≡ known_in y.state.sectors s) × (marked_in x.state.sectors s ≡ marked_in y.state.sectors s)
+pub same-sector : {x y : Slot} (s : ℕ) → x ≡ y
+    → (known_in x.state.sectors s ≡ known_in y.state.sectors s) × (marked_in x.state.sectors s ≡ marked_in y.state.sectors s)
 same-sector s e = (ap (λ (z : Slot). known_in z.state.sectors s) e, ap (λ (z : Slot). marked_in z.state.sectors s) e)
 
 still-known : (station : Station) (f : List ℕ) (v : Verdict) (fate : Fate) (k : State) → AreKnown k → AreKnown (after station f v (fate_at fate) k)
@@ -87,8 +90,12 @@ still-known station f _ fate k p = p
 
 pub sectors-there : (slot : SlotSetup) (h : List Entry) → AreKnown (state_after slot h)
 sectors-there slot [] = (_, refl)
-sectors-there slot (Arrived dev frame fate ∷ h) = let p = sectors-there slot h in known-either (is_slot slot dev) _ _ (still-known slot.station (bytes_of h frame) _ fate _ p) p
-sectors-there slot (Crashed dev lists how ∷ h) = let p = sectors-there slot h in known-either (is_slot slot dev) _ _ (_, ap (option_map (left_sectors slot _ how)) p.1) p
+sectors-there slot (Arrived dev frame fate ∷ h) =
+    let p = sectors-there slot h in
+    known-either (is_slot slot dev) _ _ (still-known slot.station (bytes_of h frame) _ fate _ p) p
+sectors-there slot (Crashed dev lists how ∷ h) =
+    let p = sectors-there slot h in
+    known-either (is_slot slot dev) _ _ (_, ap (option_map (left_sectors slot _ how)) p.1) p
 sectors-there slot (_ ∷ h) = sectors-there slot h
 
 -- the slot after an arrival
@@ -135,7 +142,8 @@ module _ {s : Setup} {host : HostSetup} {h : List Entry} (run : HasHost s host h
   ]
     where
       by-act : (f : List ℕ) → is_slot slot dev ≡ true → bytes_of h k ≡ f → arriving s.life h k ≡ Some f
-          → Act (verdict_after slot h f) f fate sct (known_after slot h sct) (known_after slot n sct) (marked_after slot h sct) (marked_after slot n sct) → At s.life host slot n sct
+          → Act (verdict_after slot h f) f fate sct (known_after slot h sct) (known_after slot n sct) (marked_after slot h sct) (marked_after slot n sct)
+          → At s.life host slot n sct
       by-act f e bytes fresh (showed shown p q a b) = rw (p, q, bytes, a, b, e) (landing (learns x shown) (λ c. rw (e, a) refl))
       by-act f e bytes fresh (put span v p q a b) =
           let holds = holds-of s host h run in

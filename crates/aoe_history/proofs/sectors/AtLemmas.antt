@@ -92,14 +92,16 @@ module _ {life : ℕ} {host : HostSetup} {h n : List Entry} (k : Keeps host h n)
 none-written : (wrote : ℕ → Option (List ℕ)) {c d : ℕ} {v : List ℕ} → d ≡ c → wrote c ≡ None → wrote d ≡ Some v → ⊥
 none-written wrote p q r = cc
 
-module _ {life : ℕ} {host : HostSetup} {h : List Entry} {name : ArrayVec ℕ} {c number : ℕ} {f : List ℕ} (mine : is_called host name ≡ true) (r : MayBeSent life host h c f)
+module _ {life : ℕ} {host : HostSetup} {h : List Entry} {name : ArrayVec ℕ} {c number : ℕ} {f : List ℕ} (mine : is_called host name ≡ true)
+    (r : MayBeSent life host h c f)
     (reads : (fields f).tag ≡ r.tag) (b : Base life host h) (b2 : Base life host (Sent name c number f ∷ h)) (g2 : AreGone life host (Sent name c number f ∷ h))
     (slot : SlotSetup) (s : ℕ) (x : At life host slot h s) where
   abbrev n : List Entry
   n = Sent name c number f ∷ h
 
   -- what is so of a command that was sent is so of this one, or was so before
-  this-or-old : (P : Sending → Type 0) (d : ℕ) → (y : Sending) × (sends_of host n d ≡ Some y) × P y → (d ≡ c) ⊎ ((y : Sending) × (sends_of host h d ≡ Some y) × P y)
+  this-or-old : (P : Sending → Type 0) (d : ℕ) → (y : Sending) × (sends_of host n d ≡ Some y) × P y
+      → (d ≡ c) ⊎ ((y : Sending) × (sends_of host h d ≡ Some y) × P y)
   this-or-old P d (y, e, q) = elim (sent-cases life host h name c number f mine r reads d y e) [ inl p ↦ inl p.0 | inr o ↦ inr (y, o, q) ]
 
   flying-of : (d : ℕ) → IsFlying host n d → (d ≡ c) ⊎ IsFlying host h d
@@ -115,7 +117,8 @@ module _ {life : ℕ} {host : HostSetup} {h : List Entry} {name : ArrayVec ℕ} 
   now-flying : was_sent host h c ≡ false → IsFlying host n c
   now-flying e = (base.more host h c f c, now-sent life host h name c number f mine r reads, untrue (was_done host h c) (λ d. cc (b.done c d, sent-same host h c)))
 
-  none-landed : was_sent host h c ≡ false → (d : ℕ) (v w : List ℕ) → IsFlying host n d → wr host slot h s c ≡ Some v → wr host slot h s d ≡ Some w → landed host slot h s d ≡ false
+  none-landed : was_sent host h c ≡ false → (d : ℕ) (v w : List ℕ) → IsFlying host n d → wr host slot h s c ≡ Some v → wr host slot h s d ≡ Some w
+      → landed host slot h s d ≡ false
   none-landed e d v w fl wc wd =
       let a = flying-active life host n d fl in
       let o = flying-active life host n c (now-flying e) in

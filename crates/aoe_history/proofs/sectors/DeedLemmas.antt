@@ -48,7 +48,8 @@ module _ (station : Station) (k : Option Sectors) (h : Header) (args : AtaArgs) 
   abbrev Does : AtaAnswer → Fate → Sectors → Type 0
   Does answer fate y = Act (Ata (record { args = args; answer = answer })) f fate s (x.known s) (y.known s) (x.marks s) (y.marks s)
 
-  stored : (b : Bool) (span : Span) (n : ℕ) (r : List ℕ) → in_span span s ≡ b → Does (ata.Put span) (Replied (effect.Wrote span) n r) (puts span (written (drop 24 f) span) x)
+  stored : (b : Bool) (span : Span) (n : ℕ) (r : List ℕ) → in_span span s ≡ b
+      → Does (ata.Put span) (Replied (effect.Wrote span) n r) (puts span (written (drop 24 f) span) x)
   stored true span n r e = put span (record { decision = _; verdict_is = refl; answer_is = refl; inside = e }) (rw e refl) (rw e refl) e refl
   stored false span n r e = showed None (rw e (same (x.known s))) (rw e refl) e refl
 
@@ -75,8 +76,10 @@ step-still : (station : Station) (f : List ℕ) (x : Step) (c : ListCommand) (fa
     → (stores fate s ≡ false) × (breaks (Lists c) fate s ≡ false)
 step-still station f x c fate s a = grind arith
 
-pub acts : (station : Station) (k : State) (f : List ℕ) (v : Verdict) (fate : Fate) (s : ℕ) (x : Sectors) → k.sectors ≡ Some x → Allows station k f v (fate_at fate)
-    → Act v f fate s (known_in k.sectors s) (known_in (after station f v (fate_at fate) k).sectors s) (marked_in k.sectors s) (marked_in (after station f v (fate_at fate) k).sectors s)
+pub acts : (station : Station) (k : State) (f : List ℕ) (v : Verdict) (fate : Fate) (s : ℕ) (x : Sectors) → k.sectors ≡ Some x
+    → Allows station k f v (fate_at fate)
+    → Act v f fate s (known_in k.sectors s) (known_in (after station f v (fate_at fate) k).sectors s) (marked_in k.sectors s)
+    (marked_in (after station f v (fate_at fate) k).sectors s)
 acts station k f (Ata d) fate s x e a = rw e (deed station k.sectors (fields f) d.args f s x d.answer fate a)
 acts station k f (Lists c) fate s x e a =
     let q = step-still station f (step_of station k.lists f c) c fate s a in

@@ -49,7 +49,8 @@ module _ {flying active : ℕ → Type 0} {wr : ℕ → Option (List ℕ)} {land
 
   -- the host's write of v begins, as c
   pub begins : {flying2 active2 : ℕ → Type 0} (c : ℕ) (v : List ℕ) → ((d : ℕ) → active2 d → (d ≡ c) ⊎ active d) → wr c ≡ Some v
-      → ((d : ℕ) (w : List ℕ) → flying2 d → wr d ≡ Some w → landed d ≡ false) → Sector flying2 active2 wr landed holds mark alone false false (also (Some v) may)
+      → ((d : ℕ) (w : List ℕ) → flying2 d → wr d ≡ Some w → landed d ≡ false)
+      → Sector flying2 active2 wr landed holds mark alone false false (also (Some v) may)
   begins c v a wc l = record {
     lost = grind arith;
     value = λ al. allowed-also holds v may (s.value al);
@@ -71,7 +72,8 @@ module _ {flying active : ℕ → Type 0} {wr : ℕ → Option (List ℕ)} {land
 
   -- an arrival stores v, of a frame of the host's where it is one
   pub stores : {landed2 : ℕ → Bool} {its : Bool} {v : List ℕ} → ((d : ℕ) → flying d → active d) → (its ≡ true → Writer active wr v)
-      → ((c d : ℕ) (x w : List ℕ) → active c → active d → wr c ≡ Some x → wr d ≡ Some w → c ≡ d) → Sector flying active wr landed2 (Some v) true (its && alone) safe spoiled may
+      → ((c d : ℕ) (x w : List ℕ) → active c → active d → wr c ≡ Some x → wr d ≡ Some w → c ≡ d)
+      → Sector flying active wr landed2 (Some v) true (its && alone) safe spoiled may
   stores {its = its} {v} fa it one = grind (arith, and-parts)
 
   -- an arrival breaks the sector, by a frame of the host's where it is one

@@ -76,7 +76,8 @@ is_lowest test host h k = list_all (λ c. not (test c) || nat_le (nth host h k).
 
 lowest-of : (test : HostCommand → Bool) (host : HostSetup) (h : List Entry) (k : ℕ) → is_lowest test host h k ≡ true
     → All (λ c. test c ≡ true → (nth host h k).ticket.0 ≤ c.ticket.0) (commands_of host h)
-lowest-of test host h k e = λ i d lt clear. leb-true _ _ (or-of _ _ (AllPass-from_list_all (λ c. not (test c) || nat_le (nth host h k).ticket.0 c.ticket.0) (commands_of host h) e i d lt) clear)
+lowest-of test host h k e = λ i d lt clear.
+    leb-true _ _ (or-of _ _ (AllPass-from_list_all (λ c. not (test c) || nat_le (nth host h k).ticket.0 c.ticket.0) (commands_of host h) e i d lt) clear)
 
 -- THE ENTRIES OF A HISTORY, the latest first
 
@@ -121,11 +122,14 @@ starts {s} {host} {h} k tag is due room within clear lowest free fits spells =
 
 -- a response ends a command
 pub responds : {s : Setup} {host : HostSetup} {h : List Entry} {f : List ℕ} {c : ℕ} (k : ℕ) (answer : Answer) → (nth host h k).ticket.0 ≡ c
-    → nat_lt k (length (commands_of host h)) ≡ true → answer_to (host_after s host h) (nth host h k) f ≡ Some answer → IsResponse s host h f c (outcome_of answer (drop 24 f))
-responds {host = host} {h} k answer is within says = record { command = nth host h k; there = there host h k within; ticket_is = is; answer = answer; says = says; gives = refl }
+    → nat_lt k (length (commands_of host h)) ≡ true → answer_to (host_after s host h) (nth host h k) f ≡ Some answer
+    → IsResponse s host h f c (outcome_of answer (drop 24 f))
+responds {host = host} {h} k answer is within says =
+    record { command = nth host h k; there = there host h k within; ticket_is = is; answer = answer; says = says; gives = refl }
 
 -- the host takes it, and the command has its outcome
-pub ends : {s : Setup} {host : HostSetup} {h : List Entry} {name : ArrayVec ℕ} {n c : ℕ} {f : List ℕ} {o : Outcome} → arriving s.life h n ≡ Some f → IsResponse s host h f c o
+pub ends : {s : Setup} {host : HostSetup} {h : List Entry} {name : ArrayVec ℕ} {n c : ℕ} {f : List ℕ} {o : Outcome} → arriving s.life h n ≡ Some f
+    → IsResponse s host h f c o
     → IsDone s host (Took name n false ∷ h) c o × IsTaking s host h n false
 ends {s} {host} {h} {name} {n} {c} {f} {o} fresh r =
     let response : IsResponse s host (Took name n false ∷ h) f c o =
@@ -146,11 +150,11 @@ unarmed slot h f fate store keep e = record {
 }
   where
     by-cache : (b : Bool) → MatchBool b (is_struck fate ≡ false) (is_struck fate ≡ false)
-    by-cache true = e
-    by-cache false = e
+    by-cache b = grind arith
 
 -- data for one sector tell what is known of it
-tells-one : (o : Option Sectors) (at : ℕ) (bytes : List ℕ) → IfSome o (λ k. IfSome (k.known (at + 0)) (λ v. sector bytes 0 ≡ v)) → IfSome o (Tells (record { at = at; count = 1 }) bytes)
+tells-one : (o : Option Sectors) (at : ℕ) (bytes : List ℕ) → IfSome o (λ k. IfSome (k.known (at + 0)) (λ v. sector bytes 0 ≡ v))
+    → IfSome o (Tells (record { at = at; count = 1 }) bytes)
 tells-one None at bytes e = e
 tells-one (Some k) at bytes e = λ i lt. let z : i ≡ 0 = omega arith in rw z e
 
@@ -180,7 +184,8 @@ is_first test before host h k =
     nat_lt k (length (sent_of (commands_of host h)))
     && (test (nth_sent host h k) && list_all (λ o. not (test o) || not (before o (nth_sent host h k))) (sent_of (commands_of host h)))
 
-first-of : (test : Outstanding → Bool) (before : Outstanding → Outstanding → Bool) (host : HostSetup) (h : List Entry) (k : ℕ) → is_first test before host h k ≡ true
+first-of : (test : Outstanding → Bool) (before : Outstanding → Outstanding → Bool) (host : HostSetup) (h : List Entry) (k : ℕ)
+    → is_first test before host h k ≡ true
     → IsFirst test before (sent_of (commands_of host h)) (nth_sent host h k)
 first-of test before host h k e =
     let sent = sent_of (commands_of host h) in
@@ -196,7 +201,8 @@ first-of test before host h k e =
 pub repeats : {s : Setup} {host : HostSetup} {h : List Entry} {c : ℕ} {bytes : List ℕ} (k j : ℕ) → (nth_sent host h j).ticket.0 ≡ c
     → is_first (is_due (clock h)) precedes host h j ≡ true → nat_lt k (length (commands_of host h)) ≡ true → (nth host h k).ticket ≡ (nth_sent host h j).ticket
     → nat_lt (nth_sent host h j).flying.tag 4294967296 ≡ true
-    → spelled (host_after s host h) (nth host h k) (path_for s host h (nth host h k)) (nth_sent host h j).flying.tag ≡ Some bytes → IsSent s host h c (next_number h) bytes
+    → spelled (host_after s host h) (nth host h k) (path_for s host h (nth host h k)) (nth_sent host h j).flying.tag ≡ Some bytes
+    → IsSent s host h c (next_number h) bytes
 repeats {s} {host} {h} k j is first within same fits spells =
     let x = nth_sent host h j in
     let its = there host h k within in
@@ -214,12 +220,14 @@ repeats {s} {host} {h} k j is first within same fits spells =
 
 pub gives-up : {s : Setup} {host : HostSetup} {h : List Entry} {c : ℕ} (j : ℕ) → (nth_sent host h j).ticket.0 ≡ c
     → is_first (is_expired host.dead (clock h)) lower host h j ≡ true → IsGivenUp s host h c (given_up (clock h) (nth_sent host h j)).outcome
-gives-up {host = host} {h} j is first = record { command = nth_sent host h j; late = first-of (is_expired host.dead (clock h)) lower host h j first; ticket_is = is; gives = refl }
+gives-up {host = host} {h} j is first =
+    record { command = nth_sent host h j; late = first-of (is_expired host.dead (clock h)) lower host h j first; ticket_is = is; gives = refl }
 
 none-of : {X : Type 0} (o : Option X) → is_none o ≡ true → o ≡ None
 none-of o e = grind arith
 
-pub stale : (s : Setup) (host : HostSetup) (h : List Entry) (f : List ℕ) → list_all (λ c. is_none (answer_to (host_after s host h) c f)) (commands_of host h) ≡ true → IsStale s host h f
+pub stale : (s : Setup) (host : HostSetup) (h : List Entry) (f : List ℕ)
+    → list_all (λ c. is_none (answer_to (host_after s host h) c f)) (commands_of host h) ≡ true → IsStale s host h f
 stale s host h f e = λ k d lt. none-of _ (AllPass-from_list_all (λ c. is_none (answer_to (host_after s host h) c f)) (commands_of host h) e k d lt)
 
 pub takes-stale : {s : Setup} {host : HostSetup} {h : List Entry} {n : ℕ} {f : List ℕ} → arriving s.life h n ≡ Some f
@@ -227,7 +235,8 @@ pub takes-stale : {s : Setup} {host : HostSetup} {h : List Entry} {n : ℕ} {f :
 takes-stale {s} {host} {h} {f = f} fresh e = record { bytes = f; fresh = fresh; law = stale s host h f e }
 
 -- a host's turn, at whose end nothing is waited for too long, nothing is due and nothing is clear
-pub turns : (s : Setup) (host : HostSetup) (name : ArrayVec ℕ) (got : Option Got) (h mid m : List Entry) → is_called host name ≡ true → GivesUp name (told name host got h) mid
+pub turns : (s : Setup) (host : HostSetup) (name : ArrayVec ℕ) (got : Option Got) (h mid m : List Entry) → is_called host name ≡ true
+    → GivesUp name (told name host got h) mid
     → list_all (λ o. not (is_expired host.dead (clock mid) o)) (sent_of (commands_of host mid)) ≡ true → SendsSome name mid m
     → list_all (λ o. not (is_due (clock m) o)) (sent_of (commands_of host m)) ≡ true
     → list_all (λ c. not (is_clear_at s.life (clock m) (commands_of host m) c)) (commands_of host m) ≡ true → Turn s host got h m

@@ -66,12 +66,14 @@ unfolding full request
 early-write number bytes x = is-not-sent setup host_a second_submitted 2 number bytes refl refl x
 
 -- a tag that is used again while a response to its last command can come
-pub used-tag : (sent : step.Sent) → sent.ticket.0 ≡ 2 → sent.tag ≡ 1 → IsNext (host_after setup host_a beside_submitted) (commands_of host_a beside_submitted) sent → ⊥
+pub used-tag : (sent : step.Sent) → sent.ticket.0 ≡ 2 → sent.tag ≡ 1
+    → IsNext (host_after setup host_a beside_submitted) (commands_of host_a beside_submitted) sent → ⊥
 unfolding full request
 used-tag sent is tag n = go sent.again n
   where
     go : (again : Bool) → IsNextBy again (host_after setup host_a beside_submitted) (commands_of host_a beside_submitted) sent → ⊥
-    go true n = no-such (λ o. nat_eq o.ticket.0 2) (sent_of (commands_of host_a beside_submitted)) n.command refl n.first_due.there (eq-eqb _ _ (ap (λ t. t.0) n.ticket ∙ is))
+    go true n = no-such (λ o. nat_eq o.ticket.0 2) (sent_of (commands_of host_a beside_submitted)) n.command refl n.first_due.there
+        (eq-eqb _ _ (ap (λ t. t.0) n.ticket ∙ is))
     go false n = let f = rw tag at n.free in cc
 
 -- a response with the right tag, from any source
@@ -104,7 +106,8 @@ unfolding full request verdict decision reserve_answer spelled
 not-kept-out reply x = let m = (came early_write refl x).0 in cc
 
 -- an answer to a station outside the mask list
-pub not-masked : (effect : Effect) (reply : List ℕ) → MayCome (setup_with None (host_a ∷ host_b ∷ [])) masked_out (Arrived device 3 (Replied effect 4 reply)) → ⊥
+pub not-masked : (effect : Effect) (reply : List ℕ) → MayCome (setup_with None (host_a ∷ host_b ∷ [])) masked_out (Arrived device 3 (Replied effect 4 reply))
+    → ⊥
 unfolding full request verdict decision mask_answer spelled
 not-masked effect reply x = let m = (came early_write refl x).0 in cc
 

@@ -21,7 +21,8 @@ use Rattle.aoe_history.proofs.worked.CaseLemmas.{nth_sent, or-of, passes, path_f
 use Rattle.aoe_history.proofs.worked.Refused.{is-not-sent}
 
 -- each command with a ticket passes a test
-of-ticket : (test : HostCommand → Bool) (cs : List HostCommand) (c : ℕ) (x : HostCommand) → list_all (λ y. not (nat_eq y.ticket.0 c) || test y) cs ≡ true → Contains cs x
+of-ticket : (test : HostCommand → Bool) (cs : List HostCommand) (c : ℕ) (x : HostCommand) → list_all (λ y. not (nat_eq y.ticket.0 c) || test y) cs ≡ true
+    → Contains cs x
     → x.ticket.0 ≡ c → test x ≡ true
 of-ticket test cs c x e there is = or-of _ _ (passes (λ (y : HostCommand). not (nat_eq y.ticket.0 c) || test y) cs x e there) (eq-eqb x.ticket.0 c is)
 
@@ -36,7 +37,8 @@ port_of (Some f) = port_to f
 -- a command is sent to the port that the path that is next for it goes to
 sent-to : (s : Setup) (host : HostSetup) (h : List Entry) (c number path to : ℕ) (bytes : List ℕ)
     → list_all (λ x. not (nat_eq x.ticket.0 c) || nat_eq (path_for s host h x).0 path) (commands_of host h) ≡ true
-    → ((tag : ℕ) → list_all (λ x. not (nat_eq x.ticket.0 c) || nat_eq (port_of (spelled (host_after s host h) x (record { 0 = path }) tag)) to) (commands_of host h) ≡ true)
+    → ((tag : ℕ) → list_all (λ x. not (nat_eq x.ticket.0 c) || nat_eq (port_of (spelled (host_after s host h) x (record { 0 = path }) tag)) to)
+    (commands_of host h) ≡ true)
     → IsSent s host h c number bytes → port_to bytes ≡ to
 sent-to s host h c number path to bytes next goes x =
     let its = of-ticket (λ y. nat_eq (path_for s host h y).0 path) _ c x.path.command next x.path.there (ap (λ t. t.0) x.path.ticket ∙ x.ticket_is) in

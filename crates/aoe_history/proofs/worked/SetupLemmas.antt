@@ -37,14 +37,16 @@ net-is shelf some six other = record {
   host_addresses = λ host m there e. of-ports IsSix (port 10 ∷ []) m (refl, tt) (rw (← only-one _ host there) at e);
   shelf_addresses = λ s m there e. of-ports IsSix shelf m six (rw (← only-one _ s there) at e);
   host_ports = λ x y m p q e f. sym (only-one _ x p) ∙ only-one _ y q;
-  shelf_ports = λ host s m p q e f. of-ports IsOther shelf m other (rw (← only-one _ s q) at f) (of-ports (λ n. port 10 ≡ n) (port 10 ∷ []) m (refl, tt) (rw (← only-one _ host p) at e));
+  shelf_ports = λ host s m p q e f.
+      of-ports IsOther shelf m other (rw (← only-one _ s q) at f) (of-ports (λ n. port 10 ≡ n) (port 10 ∷ []) m (refl, tt) (rw (← only-one _ host p) at e));
   slot_names = λ s there. rw (← only-one _ s there) refl;
   some_port = λ s there. rw (← only-one _ s there) some;
   majors = λ s there. rw (← only-one _ s there) (omega arith);
   minors = λ s there. rw (← only-one _ s there) (omega arith);
   size = λ s there. rw (← only-one _ s there) (omega arith);
   max = λ s there. rw (← only-one _ s there) (omega arith);
-  attached = λ host d p q. rw (← only-one _ d (rw (← only-one _ host p) at q)) (record { slot = slot_at shelf None; there = refl; remotes = refl; total = refl; max = refl });
+  attached = λ host d p q.
+      rw (← only-one _ d (rw (← only-one _ host p) at q)) (record { slot = slot_at shelf None; there = refl; remotes = refl; total = refl; max = refl });
 }
 
 pub setup-is : IsSetup setup

@@ -11,7 +11,9 @@ returns c = record {
   sent_once_submitted = λ s host h x. (holds-of s host h x).base.bounds;
   sent_by_now = λ s host h x. (holds-of s host h x).base.last;
   done_once_sent = λ s host h x. (holds-of s host h x).base.done;
-  in_order = λ s host h x later earlier sent above lt conflict. let y = some-there (sends_of host h later) sent in (holds-of s host h x).base.order later earlier y.0 y.1 above lt conflict;
-  earlier_gone = λ s host h x later earlier a b sent before lt conflict effect rests. let k = holds-of s host h x in k.gone later earlier a b sent before (k.base.bounds earlier b before).0 lt conflict effect rests;
+  in_order = λ s host h x later earlier sent above lt conflict.
+      let y = some-there (sends_of host h later) sent in (holds-of s host h x).base.order later earlier y.0 y.1 above lt conflict;
+  earlier_gone = λ s host h x later earlier a b sent before lt conflict effect rests.
+      let k = holds-of s host h x in k.gone later earlier a b sent before (k.base.bounds earlier b before).0 lt conflict effect rests;
   tags_differ = λ s host h x. (holds-of s host h x).base.tags;
 }
