@@ -1,5 +1,5 @@
 -- A response that ends a command says what is so.
-use Rattle.std.proofs.Common.{ℕ, ◌+◌, ◌-◌, ◌*◌, ◌≤◌, ◌≡◌, if◌then◌else◌, nat_lt, Bool, true, false, not, ◌&&◌, List, drop, Some, None, refl, sym, subst, ap, ◌∙◌, arith, Contains}
+use Rattle.std.proofs.Common.{ℕ, ◌+◌, ◌-◌, ◌*◌, ◌≤◌, ◌≡◌, nat_lt, Bool, true, false, not, ◌&&◌, List, drop, Some, refl, sym, subst, ap, ◌∙◌, arith, Contains}
 use Rattle.std.specs.Prelude.{slice_get}
 use Rattle.std.proofs.lemmas.Bool.Decides.{nat_tests}
 use Rattle.arrayvec.specs.ArrayVec.{ArrayVec}
@@ -13,7 +13,7 @@ use Rattle.aoe_initiator.specs.declared.op.Op.{Op}
 use Rattle.aoe_initiator.specs.declared.outcome.Outcome.{Outcome}
 use Rattle.aoe_initiator.specs.declared.response.Answer.{Answer}
 use Rattle.aoe_initiator.specs.Host.{Host}
-use Rattle.aoe_initiator.specs.HostLaw.{answer_to, is_answered}
+use Rattle.aoe_initiator.specs.HostLaw.{answer_to}
 use Rattle.aoe_initiator.specs.HostLog.{HostCommand, Sending}
 use Rattle.aoe_initiator.specs.Response.{answer, outcome_of}
 use Rattle.aoe_initiator.proofs.ListLemmas.{Contains-get}
@@ -47,12 +47,11 @@ record IsAnswerTo (host : Host) (c : HostCommand) (h : Header) (args : List ℕ)
   id : h.id ≡ device.about.id
   says : answer c.op h args ≡ Some a
 
-is-answer : (host : Host) (c : HostCommand) (h : Header) (args : List ℕ) (a : Answer) → (if is_answered host c h then answer c.op h args else None) ≡ Some a
-    → IsAnswerTo host c h args a
-is-answer host c h args a e = grind (arith, nat_tests, ids-same)
-
 answers : (host : Host) (c : HostCommand) (f : List ℕ) (a : Answer) → answer_to host c f ≡ Some a → IsAnswerTo host c (fields f) (drop 24 f) a
-answers host c f a e = let x = some-then _ (head f) a e in rw (fields-are f x.0 x.1) (is-answer host c x.0 (drop 24 f) a x.2)
+answers host c f a e =
+    let x = some-then _ (head f) a e in
+    let y : IsAnswerTo host c x.0 (drop 24 f) a = grind (arith, nat_tests, ids-same) in
+    rw (fields-are f x.0 x.1) y
 
 -- the command that has an outcome by a response, and what that says
 pub record Truth (host : HostSetup) (slot : SlotSetup) (h : List Entry) (s c : ℕ) (op : Op) (outcome : Outcome) : Type 0 where

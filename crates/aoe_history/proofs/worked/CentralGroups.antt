@@ -11,12 +11,11 @@ use Rattle.aoe_initiator.specs.HostLog.{sent_of}
 use Rattle.aoe_initiator.specs.Request.{request}
 use Rattle.aoe_initiator.specs.Response.{answer}
 use Rattle.aoe_lists.specs.Settings.{empty_settings}
-use Rattle.aoe_target.specs.declared.heard.Effect.{Effect}
 use Rattle.aoe_target.specs.declared.heard.Effect.TheVariants.{None as NoEffect, Wrote, Synced}
 use Rattle.aoe_target.specs.Reply.{spelled}
 use Rattle.aoe_target.specs.Verdict.{verdict}
 use Rattle.aoe_history.specs.declared.entry.Entry.{Entry}
-use Rattle.aoe_history.specs.declared.entry.Fate.TheVariants.{Cut, Replied}
+use Rattle.aoe_history.specs.declared.entry.Fate.TheVariants.{Replied}
 use Rattle.aoe_history.specs.Cases.{central_acts, central_case, flush_frame, read_frame, write_frame}
 use Rattle.aoe_history.specs.Commands.{commands_of}
 use Rattle.aoe_history.specs.Example.{a, full, host_a, setup, show, span, tell}
@@ -24,9 +23,6 @@ use Rattle.aoe_history.specs.Frames.{clock}
 use Rattle.aoe_history.specs.Groups.{gives_none, sends_none, sends_one, told, Act, Enters, Follows, Got, Group, SendsSome}
 use Rattle.aoe_history.proofs.worked.CaseLemmas.{turns}
 use Rattle.aoe_history.proofs.worked.Histories.{flush-answered, read-answered, write-answered}
-
-not-cut : (e : Effect) (n : ℕ) (bytes : List ℕ) → Replied e n bytes ≡ Cut → ⊥
-not-cut e n bytes p = cc
 
 -- a response to the host that ended a command
 abbrev heard : ℕ → Outcome → Option Got
@@ -53,17 +49,17 @@ pub follows : Follows setup central_acts [] central_case
 unfolding full request verdict decision spelled answer
 follows =
     group None _ (refl, (host_a, refl, refl)) refl (sends_one 1 1 write_frame sends_none) refl refl
-    next group None _ (refl, inl (Replied (Wrote (span 3)) 2 (tell write_frame Good), (λ p. not-cut _ _ _ p), refl)) refl sends_none refl refl
-    next group (heard 1 Written) _ (host_a, refl, (refl, write-answered, refl)) refl sends_none refl refl
+    next group None _ (refl, inl (Replied (Wrote (span 3)) 2 (tell write_frame Good), (λ p. cc), refl)) refl sends_none refl refl
+    next group (heard 1 Written) _ (host_a, refl, (refl, write-answered None, refl)) refl sends_none refl refl
     next group None _ (refl, (host_a, refl, refl)) refl sends_none refl refl
     next group None _ (refl, refl) refl sends_none refl refl
     next group None _ (refl, refl) refl (sends_one 2 3 flush_frame sends_none) refl refl
     next group None _ (refl, refl) refl sends_none refl refl
-    next group None _ (refl, inl (Replied Synced 4 (tell flush_frame Good), (λ p. not-cut _ _ _ p), refl)) refl sends_none refl refl
+    next group None _ (refl, inl (Replied Synced 4 (tell flush_frame Good), (λ p. cc), refl)) refl sends_none refl refl
     next group (heard 2 Flushed) _ (host_a, refl, (refl, flush-answered, refl)) refl sends_none refl refl
     next group None _ (refl, refl) refl sends_none refl refl
     next group None _ (refl, (empty_settings, refl)) refl sends_none refl refl
     next group None _ (refl, (host_a, refl, refl)) refl (sends_one 3 5 (read_frame 3) sends_none) refl refl
-    next group None _ (refl, inl (Replied NoEffect 6 (show (read_frame 3) (full 0x5a)), (λ p. not-cut _ _ _ p), refl)) refl sends_none refl refl
+    next group None _ (refl, inl (Replied NoEffect 6 (show (read_frame 3) (full 0x5a)), (λ p. cc), refl)) refl sends_none refl refl
     next group (heard 3 (ReadOutcome (full 0x5a))) _ (host_a, refl, (refl, read-answered, refl)) refl sends_none refl refl
     next refl

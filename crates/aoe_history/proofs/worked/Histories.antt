@@ -1,5 +1,5 @@
 -- Worked histories keep the laws.
-use Rattle.std.proofs.Common.{inl, inr, [], ◌∷◌, drop, Some, None, refl, arith}
+use Rattle.std.proofs.Common.{ℕ, Option, inl, inr, [], ◌∷◌, drop, Some, None, refl, arith}
 use Rattle.aoe_disk.specs.declared.loss.Loss.{Loss}
 use Rattle.aoe_disk.specs.declared.loss.Loss.TheVariants.{Keep, Old, Torn, Mix}
 use Rattle.aoe_disk.specs.Loss.{torn}
@@ -23,9 +23,9 @@ use Rattle.aoe_history.specs.PathCases.{measured, path_case, read_on, sent_thric
 
 -- THE CENTRAL CASE
 
-pub write-answered : IsResponse setup host_a stored (tell write_frame Good) 1 Written
+pub write-answered : (cache : Option ℕ) → IsResponse (setup_with cache (host_a ∷ [])) host_a stored (tell write_frame Good) 1 Written
 unfolding full request spelled answer
-write-answered = responds 0 answers.Written refl refl refl
+write-answered cache = responds 0 answers.Written refl refl refl
 
 pub flush-answered : IsResponse setup host_a (drop 2 flushed) (tell flush_frame Good) 2 Flushed
 unfolding full request spelled answer
@@ -35,16 +35,16 @@ pub read-answered : IsResponse setup host_a (drop 2 central_case) (show (read_fr
 unfolding full request spelled answer
 read-answered = responds 2 (answers.Data 512) refl refl refl
 
-stored-lawful : IsLawful setup stored
+stored-lawful : (cache : Option ℕ) → IsLawful (setup_with cache (host_a ∷ [])) stored
 unfolding full request verdict decision
-stored-lawful =
+stored-lawful cache =
     comes refl (refl after refl) refl refl refl refl
     after starts 0 1 refl refl refl refl refl refl refl refl refl
     after submits refl refl refl refl
     after tt
 
-acknowledged-lawful : IsLawful setup acknowledged
-acknowledged-lawful = ends refl write-answered upon stored-lawful
+acknowledged-lawful : (cache : Option ℕ) → IsLawful (setup_with cache (host_a ∷ [])) acknowledged
+acknowledged-lawful cache = ends refl (write-answered cache) upon stored-lawful cache
 
 pub central : IsLawful setup central_case
 unfolding full request verdict decision spelled
@@ -62,7 +62,7 @@ central =
     after tt
     after tt
     after submits refl tt refl refl
-    after acknowledged-lawful
+    after acknowledged-lawful None
 
 -- FAILURES, CRASHES AND REPEATS
 
@@ -75,7 +75,7 @@ late =
     after submits refl tt refl refl
     after ends refl (responds 0 answers.Written refl refl refl)
     upon inl refl
-    after stored-lawful
+    after stored-lawful None
 
 pub stale : IsLawful setup stale_response
 unfolding full request verdict decision spelled answer zero_sector torn
@@ -155,7 +155,7 @@ uncached =
     after starts 1 2 refl refl refl refl refl refl refl refl refl
     after submits refl tt refl refl
     after inl refl
-    after acknowledged-lawful
+    after acknowledged-lawful None
 
 pub cached : IsLawful (setup_with (Some 8) (host_a ∷ [])) (read_after_crash zero_sector)
 unfolding full request verdict decision spelled answer zero_sector torn
@@ -165,11 +165,7 @@ cached =
     after starts 1 2 refl refl refl refl refl refl refl refl refl
     after submits refl tt refl refl
     after inl refl
-    after ends refl (responds 0 answers.Written refl refl refl)
-    upon comes refl (refl after refl) refl refl refl refl
-    after starts 0 1 refl refl refl refl refl refl refl refl refl
-    after submits refl refl refl refl
-    after tt
+    after acknowledged-lawful (Some 8)
 
 -- a stop in a flush, whatever it leaves
 before-read : (how : Loss) → IsLawful setup (drop 3 (stopped_flush how))
@@ -183,7 +179,7 @@ before-read how =
     after submits refl tt refl refl
     after tt
     after tt
-    after acknowledged-lawful
+    after acknowledged-lawful None
 
 pub stopped-keep : IsLawful setup (stopped_flush Keep)
 unfolding full request verdict decision spelled answer zero_sector torn spoiled_sector
