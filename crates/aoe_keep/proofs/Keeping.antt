@@ -1,5 +1,5 @@
 -- What a keep shows of what it knows.
-use Rattle.std.proofs.Common.{◌≡◌, ℕ, Bool, true, false, not, Option, Some, None, IfSome, is_some, refl}
+use Rattle.std.proofs.Common.{◌≡◌, ℕ, Bool, not, Option, Some, None, IfSome, is_some, arith}
 use Rattle.std.proofs.lemmas.Option.{IfSome_then}
 use Rattle.aoe_lists.specs.Settings.{Settings}
 use Rattle.aoe_disk.specs.State.{Contents, DiskState, BothTell}
@@ -18,10 +18,8 @@ kept_replaced place slot turn is_closed lists next c es et ec el told =
     IfSome_then c told (λ x r. rw (es, et, ec, el) r.kept)
 
 pub unplaced : (place : Option Place) (b : Bool) → is_some place ≡ not b → b ≡ is_unplaced place
-unplaced None true e = refl
-unplaced None false e = cc
-unplaced (Some p) true e = cc
-unplaced (Some p) false e = refl
+unplaced None b e = grind arith
+unplaced (Some p) b e = grind arith
 
 pub finds_replaced : (place : Option Place) (next : Settings) (c : Option Contents) → IfSome c (IsReplaced place next) → IfSome c (Finds (λ l. l ≡ next))
 finds_replaced place next c told = IfSome_then c told (λ x r. r.finds)

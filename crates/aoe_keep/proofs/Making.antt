@@ -22,8 +22,7 @@ pub makes_first : (x y : DeviceCall) (failed : Bool) (a b : DiskState) → faile
 makes_first x y failed a b e log = rw e (makes_stop (x ∷ []) (y ∷ []) a b (makes_one x true a b log))
 
 or_none : (t : Bool) → (t || false) ≡ t
-or_none true = refl
-or_none false = refl
+or_none t = grind arith
 
 module _ {D : Type 0} (state : D → DiskState) where
   pub clears_failed : {T E : Type 0} (r : Result T E) (e : E) (failed : Bool) (old new : Mounted D) → r ≡ Err e → failed ≡ true → new.is_closed ≡ (old.is_closed || is_ok r)

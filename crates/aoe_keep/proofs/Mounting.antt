@@ -1,5 +1,5 @@
 -- A disk with no loose sector, whose slots were read.
-use Rattle.std.proofs.Common.{◌≡◌, ◌≢◌, ◌⊎◌, ◌<◌, ◌+◌, ◌*◌, ◌==◌, ◌&&◌, cond, ℕ, Bool, true, false, Option, Some, None, IfSome, Result, Ok, Err, MatchResult, List, drop, refl, arith, ◌∙◌, ap, inl, inr, slice_index, nat_eq, nat_lt}
+use Rattle.std.proofs.Common.{◌≡◌, ◌⊎◌, ◌<◌, ◌+◌, ◌*◌, ◌==◌, ◌&&◌, cond, ℕ, Bool, true, false, Option, Some, None, IfSome, Result, Ok, Err, MatchResult, List, drop, refl, arith, ◌∙◌, ap, inl, inr, slice_index, nat_eq, nat_lt}
 use Rattle.std.proofs.lemmas.Option.{cond_some}
 use Rattle.std.specs.List.{starts_with}
 use Rattle.std.proofs.lemmas.Bool.{eqb-true, and_parts, ltb-true}
@@ -35,34 +35,24 @@ chosen false x y z e = inr (refl, e)
 abbrev later : Bool → ℕ × Settings → ℕ × Settings → Option Place × Bool
 later t a b = cond t (Some (record { slot = 0; turn = a.0 }), false) (Some (record { slot = 1; turn = b.0 }), false)
 
-turn_back : (a b : ℕ) → a < 3 → b < 3 → a ≡ next_turn b → b ≢ a
-turn_back a b la lb e = λ f. omega (arith, la, lb, e, f)
-
 module _ (c : Contents) (kept : (s : ℕ) → is_loose c.loose s ≡ false) where
   open_from : (k : ℕ) (b : ℕ × Settings) → slot c.bytes k ≡ Some (Some b) → StaysOpen c k b
-  open_from k b e = elim (chosen (is_open c.bytes k) (Some (decode (body c.bytes k))) None (Some (Some b)) e) [
-    | inl t ↦ let r : decode (body c.bytes k) ≡ Some b = cc in record { gate = t.0; kept = λ s l h. kept s; body = record { spells = r; kept = λ s l h. kept s } }
-    | inr t ↦ absurd cc
-  ]
+  open_from k b e =
+      let opened : is_open c.bytes k ≡ true = grind arith in
+      let spells : decode (body c.bytes k) ≡ Some b = grind arith in
+      record { gate = opened; kept = λ s l h. kept s; body = record { spells = spells; kept = λ s l h. kept s } }
 
   closed_from : (k : ℕ) → slot c.bytes k ≡ None → StaysClosed c k
-  closed_from k e = elim (chosen (is_open c.bytes k) (Some (decode (body c.bytes k))) None None e) [
-    | inl t ↦ absurd cc
-    | inr t ↦ record { gate = t.0; kept = λ s l h. kept s }
-  ]
+  closed_from k e = record { gate = grind arith; kept = λ s l h. kept s }
 
   slot_left : (image : List ℕ) (k : ℕ) → CanLeave c image → slot image k ≡ slot c.bytes k
   slot_left image k left =
-      let g = gate_same image c.bytes k (left_same c image (8 * k) 1 left (λ s l h. kept s)) in
-      let b = body_same image c.bytes k (left_same c image (8 * k + 1) 7 left (λ s l h. kept s)) in
-      λ i. cond (g i) (Some (decode (b i))) None
+      let gate = gate_same image c.bytes k (left_same c image (8 * k) 1 left (λ s l h. kept s)) in
+      let body = body_same image c.bytes k (left_same c image (8 * k + 1) 7 left (λ s l h. kept s)) in
+      rw (gate, body) refl
 
   finds_kept : (lists : Settings) → found c.bytes ≡ Ok lists → Finds (λ l. l ≡ lists) c
-  finds_kept lists e = λ image left.
-      let s0 = slot_left image 0 left in
-      let s1 = slot_left image 1 left in
-      let same : found image ≡ found c.bytes = λ i. choice (s0 i) (s1 i) in
-      (lists, same ∙ e, refl)
+  finds_kept lists e = λ image left. (lists, rw (slot_left image 0 left, slot_left image 1 left) e, refl)
 
   turn_of : (k : ℕ) (b : ℕ × Settings) → StaysOpen c k b → b.0 < 3
   turn_of k b h = turn_small (body c.bytes k) b h.body.spells
@@ -74,7 +64,7 @@ module _ (c : Contents) (kept : (s : ℕ) → is_loose c.loose s ≡ false) wher
       let la = turn_of 0 a ha in let lb = turn_of 1 b hb in
       record {
         steady = (omega arith, la, rw l at ha);
-        spare = (b, record { body = hb.body; turn = (lb, turn_back a.0 b.0 la lb (eqb-true a.0 (next_turn b.0) e)) }, inr hb.gate);
+        spare = (b, record { body = hb.body; turn = (lb, λ f. omega (arith, la, lb, f, eqb-true a.0 (next_turn b.0) e)) }, inr hb.gate);
       }
   both_open a b lists ha hb false e is = elim (chosen {X = Result Settings ℕ} (b.0 == next_turn a.0) (Ok b.1) (Err 1) (Ok lists) is) [
     | inl t ↦
@@ -82,7 +72,7 @@ module _ (c : Contents) (kept : (s : ℕ) → is_loose c.loose s ≡ false) wher
         let la = turn_of 0 a ha in let lb = turn_of 1 b hb in
         record {
           steady = (omega arith, lb, rw l at hb);
-          spare = (a, record { body = ha.body; turn = (la, turn_back b.0 a.0 lb la (eqb-true b.0 (next_turn a.0) t.0)) }, inr ha.gate);
+          spare = (a, record { body = ha.body; turn = (la, λ f. omega (arith, la, lb, f, eqb-true b.0 (next_turn a.0) t.0)) }, inr ha.gate);
         }
     | inr t ↦ absurd cc
   ]

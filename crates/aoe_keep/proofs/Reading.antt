@@ -1,15 +1,15 @@
 -- A body that spells lists is their spelling, and why a body spells none.
-use Rattle.std.proofs.Common.{◌≡◌, ◌↔◌, ◌⊎◌, inl, inr, ◌≤◌, ◌<◌, ◌+◌, ◌-◌, ◌*◌, ◌==◌, ◌&&◌, cond, ℕ, zero, suc, Bool, true, false, Some, None, List, [], ◌∷◌, ◌++◌, length, take, drop, get_or, replicate, slice_index, nat_eq, nat_lt, nat_le, refl, arith, sym, ◌∙◌, ap, length-append, length-drop, take-append-drop}
+use Rattle.std.proofs.Common.{◌≡◌, ◌↔◌, ◌⊎◌, ◌≤◌, ◌<◌, ◌+◌, ◌-◌, ◌*◌, ◌==◌, ◌&&◌, cond, ℕ, zero, suc, Bool, true, false, Some, None, List, [], ◌∷◌, ◌++◌, length, take, drop, get_or, replicate, slice_index, nat_eq, refl, arith, sym, ◌∙◌, ap, length-append, length-drop, take-append-drop}
 use Rattle.std.proofs.lemmas.Option.{cond_some}
 use Rattle.std.specs.Int.{w16, to_be_bytes, from_be_bytes}
 use Rattle.std.specs.List.{All, flat_map, list_all, starts_with}
 use Rattle.std.specs.Simd.{first_chunks}
 use Rattle.std.proofs.Math.Seq.{take-add}
 use Rattle.std.proofs.lemmas.List.{drop_more, length-take-le, length-replicate}
-use Rattle.std.proofs.lemmas.Bool.{eqb-true, leb-true, and_parts, and_left, and_right, and_from, cond-true, cond-false}
+use Rattle.std.proofs.lemmas.Bool.{eqb-true, and_parts, and_left, and_right, and_from, cond-true, cond-false}
 use Rattle.std.proofs.lemmas.Nat.{be_bytes_2}
 use Rattle.std.proofs.lemmas.Slice.Eq.{starts_is}
-use Rattle.std.proofs.lemmas.Bool.Decides.{Decides-eqb}
+use Rattle.std.proofs.lemmas.Bool.Decides.{Decides-eqb, nat_tests}
 use Rattle.aoe_base.specs.Addresses.{all_unique}
 use Rattle.aoe_lists.specs.Reserves.{addresses}
 use Rattle.aoe_lists.specs.Settings.{Settings}
@@ -98,17 +98,8 @@ fields_whole n m r rest fits zeros =
     let tail = rw (length-drop (n + 6 * m + 6 * r) rest) at (only_zeros (drop (n + 6 * m + 6 * r) rest) zeros) in
     whole n m r rest ∙ rw (joined_pieces m (drop n rest), joined_pieces r (drop (n + 6 * m) rest), tail) refl
 
-length-config : (n m r : ℕ) (rest : List ℕ) → n ≤ length rest → length (fields_of n m r rest).config ≡ n
-unfolding fields_of
-length-config n m r rest le = length-take-le n rest le
-
-length-masks : (n m r : ℕ) (rest : List ℕ) → length (fields_of n m r rest).masks ≡ m
-unfolding fields_of
-length-masks n m r rest = length-pieces m (drop n rest)
-
-length-reserves : (n m r : ℕ) (rest : List ℕ) → length (fields_of n m r rest).reserves ≡ r
-unfolding fields_of
-length-reserves n m r rest = length-pieces r (drop (n + 6 * m) rest)
+sizes_total : (turn n m r : ℕ) → sizes_fit turn n m r ≡ true → n + 6 * m + 6 * r ≤ 1792
+sizes_total turn n m r fit = grind (arith, nat_tests)
 
 assembled : (body : List ℕ) (turn high low m r : ℕ) (rest : List ℕ) (s : Settings) (k : ℕ) → length body ≡ 3584 → body ≡ mark ++ (turn ∷ high ∷ low ∷ m ∷ r ∷ rest) → to_be_bytes w16 (length s.config) ≡ high ∷ low ∷ [] → length s.masks ≡ m → length s.reserves ≡ r
     → rest ≡ s.config ++ flat_map (λ a. a.0) s.masks ++ flat_map (λ a. a.0) s.reserves ++ replicate k 0 → body ≡ spelling turn s
@@ -116,12 +107,10 @@ unfolding spelling
 assembled body turn high low m r rest s k size is eb em er fields =
     let all : body ≡ written turn s ++ replicate k 0 = is ∙ (λ i. mark ++ (turn ∷ (sym eb i ++ (sym em i ∷ sym er i ∷ fields i)))) in
     let pad : k ≡ 3584 - length (written turn s) = omega (arith, ap length all, size, length-append (written turn s) (replicate k 0), length-replicate {A = ℕ} k 0) in
-    all ∙ ap (λ (j : ℕ). written turn s ++ replicate j 0) pad
+    rw pad at all
 
 two_bytes : (high low : ℕ) → high < 256 → low < 256 → (i : ℕ) → get_or (high ∷ low ∷ []) i 0 < 256
-two_bytes high low lh ll zero = lh
-two_bytes high low lh ll (suc zero) = ll
-two_bytes high low lh ll (suc (suc i)) = omega arith
+two_bytes high low lh ll i = grind arith
 
 numbers : (body : List ℕ) → length body ≡ 3584 → drop 5 body ≡ get_or body 5 0 ∷ get_or body 6 0 ∷ get_or body 7 0 ∷ get_or body 8 0 ∷ get_or body 9 0 ∷ drop 10 body
 numbers body size =
@@ -130,28 +119,23 @@ numbers body size =
 
 spelling_of : (body : List ℕ) (n m r : ℕ) → length body ≡ 3584 → All (λ b. b < 256) body → n ≡ config_len body → m ≡ get_or body 8 0 → r ≡ get_or body 9 0 → starts_with nat_eq body mark ≡ true → is_valid (get_or body 5 0) n m r (drop 10 body) ≡ true
     → body ≡ spelling (get_or body 5 0) (fields_of n m r (drop 10 body))
-unfolding is_valid
+unfolding is_valid fields_of
 spelling_of body n m r size bytes en em er starts valid =
     let rest = drop 10 body in
     let f = fields_of n m r rest in
     let parts = and_parts (sizes_fit (get_or body 5 0) n m r) (is_sound f (drop (n + 6 * m + 6 * r) rest)) valid in
-    let turn_parts = and_parts (nat_lt (get_or body 5 0) 3) (nat_le n 1024 && (nat_le m 64 && nat_le r 64)) parts.0 in
-    let config_parts = and_parts (nat_le n 1024) (nat_le m 64 && nat_le r 64) turn_parts.1 in
-    let list_parts = and_parts (nat_le m 64) (nat_le r 64) config_parts.1 in
+    let total = sizes_total (get_or body 5 0) n m r parts.0 in
     let zeros = (and_parts (all_unique f.reserves) _ (and_parts (all_unique f.masks) _ parts.1).1).1 in
-    let ln : n ≤ 1024 = leb-true n 1024 config_parts.0 in
-    let lm : m ≤ 64 = leb-true m 64 list_parts.0 in
-    let lr : r ≤ 64 = leb-true r 64 list_parts.1 in
     let long : length rest ≡ 3574 = omega (arith, size, length-drop 10 body) in
     let high : get_or body 6 0 < 256 = bytes 6 0 (omega (arith, size)) in
     let low : get_or body 7 0 < 256 = bytes 7 0 (omega (arith, size)) in
-    let config : length f.config ≡ n = length-config n m r rest (omega (arith, long, ln)) in
+    let config : length f.config ≡ n = length-take-le n rest (omega (arith, long, total)) in
     let written_len : to_be_bytes w16 (length f.config) ≡ get_or body 6 0 ∷ get_or body 7 0 ∷ [] =
     be_bytes_2 (get_or body 6 0 ∷ get_or body 7 0 ∷ []) (length f.config) refl (two_bytes _ _ high low) (config ∙ en ∙ sym (config_read body size)) in
     let begins : body ≡ mark ++ drop 5 body = (starts_is {E = nat_eq} Decides-eqb body mark true (sym starts)).0 refl in
     assembled body (get_or body 5 0) (get_or body 6 0) (get_or body 7 0) (get_or body 8 0) (get_or body 9 0) rest f (length rest - (n + 6 * m + 6 * r)) size
-    (begins ∙ ap (λ (l : List ℕ). mark ++ l) (numbers body size)) written_len (length-masks n m r rest ∙ em) (length-reserves n m r rest ∙ er)
-    (fields_whole n m r rest (omega (arith, long, ln, lm, lr)) zeros)
+    (begins ∙ (λ i. mark ++ numbers body size i)) written_len (length-pieces m (drop n rest) ∙ em) (length-pieces r (drop (n + 6 * m) rest) ∙ er)
+    (fields_whole n m r rest (omega (arith, long, total)) zeros)
 
 pub one_spelling : (body : List ℕ) (turn : ℕ) (lists : Settings) → length body ≡ 3584 → All (λ b. b < 256) body → decode body ≡ Some (turn, lists) → body ≡ spelling turn lists
 unfolding decode
@@ -166,19 +150,10 @@ one_spelling body turn lists size bytes e =
 -- why a body spells no lists
 
 all_true : {X : Type 0} (a b c d e : Bool) (x : X) → cond (a && (b && (c && (d && e)))) (Some x) None ≡ None → (a ≡ false) ⊎ ((b ≡ false) ⊎ ((c ≡ false) ⊎ ((d ≡ false) ⊎ (e ≡ false))))
-all_true false b c d e x is = inl refl
-all_true true false c d e x is = inr (inl refl)
-all_true true true false d e x is = inr (inr (inl refl))
-all_true true true true false e x is = inr (inr (inr (inl refl)))
-all_true true true true true false x is = inr (inr (inr (inr refl)))
-all_true true true true true true x is = absurd cc
+all_true a b c d e x is = grind arith
 
 one_false : {X : Type 0} (a b c d e : Bool) (x : X) → (a ≡ false) ⊎ ((b ≡ false) ⊎ ((c ≡ false) ⊎ ((d ≡ false) ⊎ (e ≡ false)))) → cond (a && (b && (c && (d && e)))) (Some x) None ≡ None
-one_false a b c d e x (inl is) = cond-false _ (Some x) None (and_left a _ is)
-one_false a b c d e x (inr (inl is)) = cond-false _ (Some x) None (and_right a _ (and_left b _ is))
-one_false a b c d e x (inr (inr (inl is))) = cond-false _ (Some x) None (and_right a _ (and_right b _ (and_left c _ is)))
-one_false a b c d e x (inr (inr (inr (inl is)))) = cond-false _ (Some x) None (and_right a _ (and_right b _ (and_right c _ (and_left d e is))))
-one_false a b c d e x (inr (inr (inr (inr is)))) = cond-false _ (Some x) None (and_right a _ (and_right b _ (and_right c _ (and_right d e is))))
+one_false a b c d e x is = grind arith
 
 pub faults : (body : List ℕ) → (decode body ≡ None) ↔ HasFault body
 unfolding decode is_valid

@@ -1,5 +1,5 @@
 -- The six device calls of a replacement, over contents that are told.
-use Rattle.std.proofs.Common.{◌≡◌, ◌≢◌, ◌⊎◌, ◌≤◌, ◌<◌, ◌+◌, ◌-◌, ◌*◌, ℕ, true, false, Option, Some, None, Result, Ok, List, refl, arith, sym, ◌∙◌, ap, subst, inl, inr}
+use Rattle.std.proofs.Common.{◌≡◌, ◌⊎◌, ◌≤◌, ◌<◌, ◌+◌, ◌-◌, ◌*◌, ℕ, true, false, Option, Some, None, Result, Ok, List, refl, arith, sym, ◌∙◌, ap, subst, inl, inr}
 use Rattle.std.proofs.lemmas.Bool.{eq-eqb}
 use Rattle.aoe_lists.specs.Settings.{Settings}
 use Rattle.aoe_disk.specs.State.{Contents, HasShape, is_loose}
@@ -16,16 +16,13 @@ use Rattle.aoe_keep.proofs.Steps.{IsWithin, closed_touch, body_touch, steady_tou
 none_loose : (old new : Contents) → Settles old new → (lo n : ℕ) → NoneLoose new lo n
 none_loose old new settles lo n = λ s l h. settles_kept old new settles s
 
-turn_small : (t : ℕ) → t < 3 → (next_turn t < 3) × (next_turn t ≢ t) × (t ≢ next_turn t)
-turn_small t l = (omega arith, λ e. omega (arith, e), λ e. omega (arith, e))
+turn_after_small : (place : Option Place) → turn_after place < 3
+turn_after_small None = omega arith
+turn_after_small (Some p) = omega arith
 
 other_turn : (place : Option Place) (lists : Settings) (c : Contents) → IsSteady place lists c → IsOtherTurn place (turn_after place)
 other_turn None lists c steady = tt
-other_turn (Some p) lists c steady = let t = turn_small p.turn steady.1 in (t.0, t.1)
-
-turn_after_small : (place : Option Place) (lists : Settings) (c : Contents) → IsSteady place lists c → turn_after place < 3
-turn_after_small None lists c steady = omega arith
-turn_after_small (Some p) lists c steady = let t = turn_small p.turn steady.1 in t.0
+other_turn (Some p) lists c steady = (omega arith, λ e. omega (arith, steady.1, e))
 
 outcome_next : (place : Option Place) (lists next : Settings) → outcome place lists (Some (turn_after place, next)) ≡ next
 outcome_next None lists next = refl
@@ -35,7 +32,7 @@ outcome_next (Some p) lists next = rw (eq-eqb (next_turn p.turn) (next_turn p.tu
 spare_some : (k t : ℕ) (lists : Settings) (c : Contents) → k < 2 → t < 3 → StaysOpen c k (t, lists) → IsSpare (Some (record { slot = 1 - k; turn = next_turn t })) false c
 spare_some k t lists c lk lt holds =
     let back : k ≡ 1 - (1 - k) = omega (arith, lk) in
-    ((t, lists), record { body = rw back at holds.body; turn = (lt, (turn_small t lt).2) }, inr (rw back at holds.gate))
+    ((t, lists), record { body = rw back at holds.body; turn = (lt, λ e. omega (arith, lt, e)) }, inr (rw back at holds.gate))
 
 spare_after : (place : Option Place) (lists : Settings) (c : Contents) → IsSteady place lists c → IsSpare (next_place place) (is_unplaced place) c
 spare_after None lists c steady = (steady.1.gate, inl steady.1)
@@ -148,7 +145,7 @@ module _ (place : Option Place) (lists next : Settings) where
       } in
       let small : spare place < 2 = omega (arith, spare_small place) in
       record {
-        kept = record { steady = (small, turn_after_small place lists d steady, holds); spare = spare_after place lists d steady };
+        kept = record { steady = (small, turn_after_small place, holds); spare = spare_after place lists d steady };
         finds = λ image left. (
           next,
           found_by place lists d image (Some (turn_after place, next)) steady left (open_after d (spare place) (turn_after place, next) image holds left) (other_turn place lists d steady)

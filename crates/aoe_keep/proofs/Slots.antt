@@ -1,6 +1,7 @@
 -- What a crash leaves of the two slots.
 use Rattle.std.proofs.Common.{◌≡◌, ◌≢◌, ◌⊎◌, ◌≤◌, ◌<◌, ◌+◌, ◌-◌, ◌*◌, ◌==◌, cond, ℕ, zero, suc, Bool, true, false, Option, Some, None, Result, Ok, List, length, drop, set, refl, arith, sym, ◌∙◌, ap, inl, inr}
-use Rattle.std.proofs.lemmas.Bool.{cases_eq, cases_lt, eq-eqb, ne_eqb, cases_Bool, both_ways}
+use Rattle.std.proofs.lemmas.Bool.{cases_eq, cases_lt, eq-eqb, cases_Bool, both_ways}
+use Rattle.std.proofs.lemmas.Bool.Decides.{nat_tests}
 use Rattle.std.proofs.lemmas.List.{length-set, drop-set-lt, get_or-set_same, get_or-take, get_or-drop, take-set-le}
 use Rattle.aoe_lists.specs.Settings.{Settings}
 use Rattle.aoe_disk.specs.State.{Contents, CanLeave, HasShape, sector, is_loose}
@@ -63,16 +64,10 @@ outcome None lists (Some b) = b.1
 outcome (Some p) lists (Some b) = cond (b.0 == next_turn p.turn) b.1 lists
 
 first_holds : (t : ℕ) (lists : Settings) (b : ℕ × Settings) → t < 3 → b.0 < 3 → b.0 ≢ t → choice (Some (Some (t, lists))) (Some (Some b)) ≡ Ok (cond (b.0 == next_turn t) b.1 lists)
-first_holds t lists b lt lb ne = elim (rivals b.0 t lb lt ne) [
-  | inl r ↦ rw (ne_eqb t (next_turn b.0) r.1, eq-eqb b.0 (next_turn t) r.0) refl
-  | inr r ↦ rw (eq-eqb t (next_turn b.0) r.0, ne_eqb b.0 (next_turn t) r.1) refl
-]
+first_holds t lists b lt lb ne = grind (arith, nat_tests, rivals b.0 t lb lt ne)
 
 second_holds : (t : ℕ) (lists : Settings) (b : ℕ × Settings) → t < 3 → b.0 < 3 → b.0 ≢ t → choice (Some (Some b)) (Some (Some (t, lists))) ≡ Ok (cond (b.0 == next_turn t) b.1 lists)
-second_holds t lists b lt lb ne = elim (rivals b.0 t lb lt ne) [
-  | inl r ↦ rw (eq-eqb b.0 (next_turn t) r.0) refl
-  | inr r ↦ rw (ne_eqb b.0 (next_turn t) r.1, eq-eqb t (next_turn b.0) r.0) refl
-]
+second_holds t lists b lt lb ne = grind (arith, nat_tests, rivals b.0 t lb lt ne)
 
 -- a slot that isn't bad
 abbrev pub seen : Option (ℕ × Settings) → Option (Option (ℕ × Settings))

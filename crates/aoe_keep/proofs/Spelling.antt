@@ -7,28 +7,24 @@ use Rattle.std.proofs.lemmas.List.{take_at, drop_at, drop-drop, length-replicate
 use Rattle.std.proofs.lemmas.Bool.{lt-ltb, le-leb, and_from, cond-true}
 use Rattle.std.proofs.lemmas.Nat.{from_be_bytes-to_be_bytes_2}
 use Rattle.aoe_base.specs.declared.address.Mac.{Mac}
-use Rattle.aoe_base.specs.Addresses.{all_unique}
 use Rattle.aoe_lists.specs.Reserves.{addresses}
 use Rattle.aoe_lists.specs.Settings.{Settings}
 use Rattle.aoe_keep.specs.Body.{Fits, fields_of, is_valid, decode, spelling, written, head_of}
-
-six_head : (a : Mac) (list : List Mac) → All (λ b. length b.0 ≡ 6) (a ∷ list) → length a.0 ≡ 6
-six_head a list six = six 0 a (omega arith)
 
 six_tail : (a : Mac) (list : List Mac) → All (λ b. length b.0 ≡ 6) (a ∷ list) → All (λ b. length b.0 ≡ 6) list
 six_tail a list six = λ k d l. six (suc k) d (omega (arith, l))
 
 pub length_joined : (list : List Mac) → All (λ a. length a.0 ≡ 6) list → length (flat_map (λ a. a.0) list) ≡ 6 * length list
 length_joined [] six = refl
-length_joined (a ∷ list) six = omega (arith, length-append a.0 (flat_map (λ b. b.0) list), six_head a list six, length_joined list (six_tail a list six))
+length_joined (a ∷ list) six = omega (arith, length-append a.0 (flat_map (λ b. b.0) list), six 0 a (omega arith), length_joined list (six_tail a list six))
 
 addresses_back : (list : List Mac) (rest : List ℕ) → All (λ a. length a.0 ≡ 6) list → addresses (first_chunks 6 (length list) (flat_map (λ a. a.0) list ++ rest)) ≡ list
 addresses_back [] rest six = refl
 addresses_back (a ∷ list) rest six =
     let split : a.0 ++ flat_map (λ b. b.0) list ++ rest ≡ a.0 ++ (flat_map (λ b. b.0) list ++ rest) = append_assoc a.0 (flat_map (λ b. b.0) list) rest in
-    let first : take 6 (a.0 ++ flat_map (λ b. b.0) list ++ rest) ≡ a.0 = ap (take 6) split ∙ take_at a.0 _ 6 (six_head a list six) in
-    let after : drop 6 (a.0 ++ flat_map (λ b. b.0) list ++ rest) ≡ flat_map (λ b. b.0) list ++ rest = ap (drop 6) split ∙ drop_at a.0 _ 6 (six_head a list six) in
-    let others : addresses (first_chunks 6 (length list) (drop 6 (a.0 ++ flat_map (λ b. b.0) list ++ rest))) ≡ list = ap (λ (l : List ℕ). addresses (first_chunks 6 (length list) l)) after ∙ addresses_back list rest (six_tail a list six) in
+    let first : take 6 (a.0 ++ flat_map (λ b. b.0) list ++ rest) ≡ a.0 = rw split (take_at a.0 _ 6 (six 0 a (omega arith))) in
+    let after : drop 6 (a.0 ++ flat_map (λ b. b.0) list ++ rest) ≡ flat_map (λ b. b.0) list ++ rest = rw split (drop_at a.0 _ 6 (six 0 a (omega arith))) in
+    let others : addresses (first_chunks 6 (length list) (drop 6 (a.0 ++ flat_map (λ b. b.0) list ++ rest))) ≡ list = rw after (addresses_back list rest (six_tail a list six)) in
     λ i. (let m : Mac = record { 0 = first i } in m) ∷ others i
 
 zeros : (k : ℕ) → list_all (λ b. b == 0) (replicate k 0) ≡ true
@@ -58,7 +54,7 @@ module _ (turn : ℕ) (s : Settings) (fits : Fits turn s) (pad : ℕ) where
   unfolding is_valid
   valid_back =
       and_from _ _ (and_from _ _ (lt-ltb turn 3 fits.known_turn) (and_from _ _ (le-leb _ 1024 fits.config) (and_from _ _ (le-leb _ 64 fits.masks) (le-leb _ 64 fits.reserves))))
-      (and_from _ _ (ap (λ (x : Settings). all_unique x.masks) fields_back ∙ fits.unique_masks) (and_from _ _ (ap (λ (x : Settings). all_unique x.reserves) fields_back ∙ fits.unique_reserves) (ap (list_all (λ b. b == 0)) end_back ∙ zeros pad)))
+      (rw (fields_back, end_back) (and_from _ _ fits.unique_masks (and_from _ _ fits.unique_reserves (zeros pad))))
 
 pub reads_back : (turn : ℕ) (s : Settings) → Fits turn s → decode (spelling turn s) ≡ Some (turn, s)
 unfolding decode spelling
@@ -82,6 +78,4 @@ length-spelling turn s fits =
 -- what was appended, piece by piece, is the spelling
 pub spelled : (turn : ℕ) (s : Settings) (a b c d e : List ℕ) → a ≡ head_of turn s → b ≡ a ++ s.config → c ≡ b ++ flat_map (λ a. a.0) s.masks → d ≡ c ++ flat_map (λ a. a.0) s.reserves → e ≡ d ++ replicate (3584 - length d) 0 → e ≡ spelling turn s
 unfolding spelling
-spelled turn s a b c d e ea eb ec ed ee =
-    let all : d ≡ written turn s = ed ∙ ap (λ (l : List ℕ). l ++ flat_map (λ a. a.0) s.reserves) (ec ∙ ap (λ (l : List ℕ). l ++ flat_map (λ a. a.0) s.masks) (eb ∙ ap (λ (l : List ℕ). l ++ s.config) ea)) in
-    ee ∙ ap (λ (l : List ℕ). l ++ replicate (3584 - length l) 0) all
+spelled turn s a b c d e ea eb ec ed ee = rw (ee, ed, ec, eb, ea) refl

@@ -6,23 +6,23 @@ use Rattle.aoe_disk.specs.State.{Contents, CanLeave, HasShape, sector, is_loose}
 use Rattle.aoe_disk.specs.Sectors.{Touches, IsOutside, Calms}
 use Rattle.aoe_keep.specs.Body.{decode}
 use Rattle.aoe_keep.specs.Found.{is_open, CanFind, Finds}
-use Rattle.aoe_keep.specs.Stages.{NoneLoose, StaysClosed, StaysBody, spare, IsSteady, IsChoosable, IsKept}
+use Rattle.aoe_keep.specs.Stages.{StaysClosed, StaysBody, spare, IsSteady, IsChoosable, IsKept}
 use Rattle.aoe_keep.specs.declared.place.Place.{Place}
-use Rattle.aoe_keep.proofs.Slots.{Agree, gate_same, body_same, closed_after, body_after, outcome, found_by, spare_small, reopened}
+use Rattle.aoe_keep.proofs.Slots.{gate_same, body_same, closed_after, body_after, outcome, found_by, spare_small, reopened}
 
 -- a range that a call doesn't touch
 module _ (lo n : ℕ) (old new : Contents) (touch : Touches lo n old new) where
-  kept_touch : (m w : ℕ) → ((s : ℕ) → m ≤ s → s < m + w → IsOutside lo n s) → NoneLoose old m w → NoneLoose new m w
-  kept_touch m w out kept = λ s l h. touch.kept s (out s l h) (kept s l h)
-
-  same_touch : (m w : ℕ) → ((s : ℕ) → m ≤ s → s < m + w → IsOutside lo n s) → Agree new.bytes old.bytes m w
-  same_touch m w out = λ s l h. touch.same s (out s l h)
-
   pub closed_touch : (k : ℕ) → ((s : ℕ) → 8 * k ≤ s → s < 8 * k + 1 → IsOutside lo n s) → StaysClosed old k → StaysClosed new k
-  closed_touch k out closed = record { gate = gate_same new.bytes old.bytes k (same_touch (8 * k) 1 out) ∙ closed.gate; kept = kept_touch (8 * k) 1 out closed.kept }
+  closed_touch k out closed = record {
+    gate = gate_same new.bytes old.bytes k (λ s l h. touch.same s (out s l h)) ∙ closed.gate;
+    kept = λ s l h. touch.kept s (out s l h) (closed.kept s l h);
+  }
 
   pub body_touch : (k : ℕ) (b : ℕ × Settings) → ((s : ℕ) → 8 * k + 1 ≤ s → s < 8 * k + 1 + 7 → IsOutside lo n s) → StaysBody old k b → StaysBody new k b
-  body_touch k b out has = record { spells = ap decode (body_same new.bytes old.bytes k (same_touch (8 * k + 1) 7 out)) ∙ has.spells; kept = kept_touch (8 * k + 1) 7 out has.kept }
+  body_touch k b out has = record {
+    spells = ap decode (body_same new.bytes old.bytes k (λ s l h. touch.same s (out s l h))) ∙ has.spells;
+    kept = λ s l h. touch.kept s (out s l h) (has.kept s l h);
+  }
 
 -- the range lies within the spare slot
 pub record IsWithin (place : Option Place) (lo n : ℕ) : Type 0 where
@@ -42,8 +42,8 @@ steady_touch (Some p) lists lo n old new within touch steady =
       steady.0,
       steady.1,
       record {
-        gate = gate_same new.bytes old.bytes p.slot (same_touch lo n old new touch (8 * p.slot) 1 (λ s l h. out s (omega arith) (omega arith))) ∙ steady.2.gate;
-        kept = kept_touch lo n old new touch (8 * p.slot) 1 (λ s l h. out s (omega arith) (omega arith)) steady.2.kept;
+        gate = gate_same new.bytes old.bytes p.slot (λ s l h. touch.same s (out s (omega arith) (omega arith))) ∙ steady.2.gate;
+        kept = λ s l h. touch.kept s (out s (omega arith) (omega arith)) (steady.2.kept s l h);
         body = body_touch lo n old new touch p.slot (p.turn, lists) (λ s l h. out s (omega arith) (omega arith)) steady.2.body;
       },
     )

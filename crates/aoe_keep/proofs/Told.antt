@@ -9,9 +9,8 @@ both_map R Q (Some x) None f h = h
 both_map R Q (Some x) (Some y) f h = f x y h
 
 pub told_then : {A B : Type 0} (P : A → Type 0) (R : A → B → Type 0) (Q : B → Type 0) (a : Option A) (b : Option B) → ((x : A) (y : B) → P x → R x y → Q y) → IfSome a P → BothTell R a b → IfSome b Q
-told_then P R Q None None f p h = tt
+told_then P R Q a None f p h = tt
 told_then P R Q None (Some y) f p h = absurd h
-told_then P R Q (Some x) None f p h = tt
 told_then P R Q (Some x) (Some y) f p h = f x y p h
 
 pub told_both : {A B : Type 0} (P : A → Type 0) (R : A → B → Type 0) (Q : A → B → Type 0) (a : Option A) (b : Option B) → ((x : A) (y : B) → P x → R x y → Q x y) → IfSome a P → BothTell R a b → BothTell Q a b
@@ -36,7 +35,6 @@ told_link P Q (Some x) None e f h = absurd cc
 told_link P Q (Some x) (Some y) e f h = f x y h
 
 pub told_last : {A B : Type 0} (R : A → B → Type 0) (P : B → Type 0) (a : Option A) (b : Option B) → ((x : A) (y : B) → R x y → P y) → BothTell R a b → IfSome b P
-told_last R P None None f h = tt
+told_last R P a None f h = tt
 told_last R P None (Some y) f h = absurd h
-told_last R P (Some x) None f h = tt
 told_last R P (Some x) (Some y) f h = f x y h

@@ -27,6 +27,6 @@ twice (x ∷ list) a rest e = at (same_address x a) refl e (λ h. twice list a r
 
 pub twice_at : (sixes : List (List ℕ)) (i : ℕ) (d : List ℕ) → i < length sixes → holds (addresses (take i sixes)) (record { 0 = get_or sixes i d }) ≡ true → all_unique (addresses sixes) ≡ false
 twice_at sixes i d l e =
-    let split : sixes ≡ take i sixes ++ get_or sixes i d ∷ drop (i + 1) sixes = sym (take-append-drop i sixes) ∙ ap (λ (r : List (List ℕ)). take i sixes ++ r) (drop_more sixes i d l) in
-    let a : Mac = record { 0 = get_or sixes i d } in
-    ap (λ (r : List (List ℕ)). all_unique (addresses r)) split ∙ ap all_unique (map-append _ (take i sixes) (get_or sixes i d ∷ drop (i + 1) sixes)) ∙ twice (addresses (take i sixes)) a (addresses (drop (i + 1) sixes)) e
+    let split : sixes ≡ take i sixes ++ get_or sixes i d ∷ drop (i + 1) sixes = sym (take-append-drop i sixes) ∙ (λ j. take i sixes ++ drop_more sixes i d l j) in
+    let parts = map-append _ (take i sixes) (get_or sixes i d ∷ drop (i + 1) sixes) in
+    (λ j. all_unique (addresses (split j))) ∙ ap all_unique parts ∙ twice (addresses (take i sixes)) _ (addresses (drop (i + 1) sixes)) e

@@ -1,7 +1,4 @@
-use Rattle.std.proofs.Common.{rules, ℕ, List, [], ◌∷◌, ◌*◌, subst}
-use Rattle.aoe_disk.specs.Calls.{Logs}
-use Rattle.aoe_disk.specs.State.{Write}
-use Rattle.aoe_keep.specs.Calls.{gate}
+use Rattle.std.proofs.Common.{rules}
 use Rattle.aoe_keep.proofs.Writes.{writes_gate}
 use Rattle.aoe_keep.proofs.Others.{gate_others}
 use Rattle.aoe_keep.proofs.mounted.write_gate.Goals as goal
@@ -15,7 +12,4 @@ returns-clause-others g c = gate_others _ c.args.slot c.args.opens c.write.resul
 
 pub returns-clause-log : goal.returns-clause-log
 returns-clause-log g c =
-    let a = g.D.Disk.state c.args.disk.now in
-    let b = g.D.Disk.state c.write.new.self in
-    let first = subst (λ (l : List ℕ). Logs (Write (8 * c.from.result) l ∷ []) a b) c.gate_of-gate.ensures.bytes c.write.ensures.log in
-    subst (λ (k : ℕ). Logs (Write (8 * k) (gate c.args.opens) ∷ []) a b) c.from.ensures first
+    rw (c.gate_of-gate.ensures.bytes, c.from.ensures) at c.write.ensures.log
