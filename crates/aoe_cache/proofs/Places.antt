@@ -24,22 +24,21 @@ adjacent_more at (y ∷ ys) x a e = (a.0, adjacent_more (at + 1) ys x a.1 (omega
 
 pub adjacent_step : (at n : ℕ) (hs : List HeldSector) (x : HeldSector) → n < length hs → x ≡ get_or hs n x → AreAdjacent at (take n hs) → x.at ≡ at + n → AreAdjacent at (take (n + 1) hs)
 adjacent_step at n hs x lt is a e =
-    let one : take (n + 1) hs ≡ take n hs ++ x ∷ [] = take_more hs n x lt ∙ ap (λ (y : HeldSector). take n hs ++ y ∷ []) (sym is) in
+    let one : take (n + 1) hs ≡ take n hs ++ x ∷ [] = take_more hs n x lt ∙ (λ i. take n hs ++ sym is i ∷ []) in
     rw one (adjacent_more at (take n hs) x a (omega (arith, e, length-take-le n hs (omega arith))))
 
 -- one more sector is joined
 pub gather_more : (i k : ℕ) (hs : List HeldSector) (x : HeldSector) (out ys : List ℕ) → i < length hs → x ≡ get_or hs i x → ys ≡ x.bytes → length ys ≡ 512 → 512 * i ≤ length out
     → take (512 * i) out ≡ bytes_of (take i hs) → take (512 * (i + 1)) (put_mid (512 * i) k out ys) ≡ bytes_of (take (i + 1) hs)
 gather_more i k hs x out ys lt is piece size fits so =
-    let one : take (i + 1) hs ≡ take i hs ++ x ∷ [] = take_more hs i x lt ∙ ap (λ (y : HeldSector). take i hs ++ y ∷ []) (sym is) in
-    take-put_mid (512 * i) k out ys (512 * (i + 1)) (omega (arith, size)) fits ∙ ap (λ (l : List ℕ). l ++ ys) so ∙ ap (λ (l : List ℕ). bytes_of (take i hs) ++ l) piece
-    ∙ flat_map_more (λ (h : HeldSector). h.bytes) [] (take i hs) x ∙ ap bytes_of (sym one)
+    let one : take (i + 1) hs ≡ take i hs ++ x ∷ [] = take_more hs i x lt ∙ (λ j. take i hs ++ sym is j ∷ []) in
+    take-put_mid (512 * i) k out ys (512 * (i + 1)) (omega (arith, size)) fits ∙ rw (so, piece, one) (flat_map_more (λ (h : HeldSector). h.bytes) [] (take i hs) x)
 
 -- the first places in use are let go of
 pub released : (held count len : ℕ) (xs seen new : List HeldSector) → count ≤ held → held ≤ length xs → len ≡ length xs → seen ≡ xs → new ≡ drop count (take held seen) ++ (take count seen ++ drop held seen)
     → (length new ≡ len) × (take (held - count) new ≡ drop count (take held xs))
 released held count len xs seen new le used size same turned =
-    let moved : new ≡ drop count (take held xs) ++ (take count xs ++ drop held xs) = turned ∙ ap (λ (l : List HeldSector). drop count (take held l) ++ (take count l ++ drop held l)) same in
+    let moved : new ≡ drop count (take held xs) ++ (take count xs ++ drop held xs) = rw same at turned in
     let kept : length (drop count (take held xs)) ≡ held - count = omega (arith, length-drop count (take held xs), length-take-le held xs used) in (
       omega (arith, size, ap length moved, length-append (drop count (take held xs)) (take count xs ++ drop held xs), length-append (take count xs) (drop held xs), kept, length-take-le count xs (omega arith), length-drop held xs),
       ap (take (held - count)) moved ∙ take_at (drop count (take held xs)) (take count xs ++ drop held xs) (held - count) kept,

@@ -1,7 +1,7 @@
 -- Runs of adjacent sectors, joined in one device write.
-use Rattle.std.proofs.Common.{◌≡◌, ◌≢◌, ◌≤◌, ◌<◌, ◌+◌, ◌*◌, ◌++◌, ℕ, zero, suc, Bool, true, List, [], ◌∷◌, Some, None, length, take, drop, replicate, refl, sym, arith, ◌∙◌, ap, inl, inr, append_assoc, length-append, length-drop, take-append-drop}
+use Rattle.std.proofs.Common.{◌≡◌, ◌≢◌, ◌≤◌, ◌<◌, ◌+◌, ◌*◌, ◌++◌, ℕ, zero, suc, Bool, true, List, [], ◌∷◌, Some, None, length, take, drop, replicate, refl, sym, arith, ◌∙◌, inl, inr, append_assoc, length-append, length-drop, take-append-drop}
 use Rattle.std.proofs.lemmas.Bool.{cases_eq}
-use Rattle.std.proofs.lemmas.List.{length-take-le, take_at, drop_at, drop-drop, append-nil, length-replicate, replicate-append-replicate}
+use Rattle.std.proofs.lemmas.List.{length-take-le, take_at, drop_at, drop-drop, append-nil, length-replicate}
 use Rattle.aoe_disk.specs.State.{with_piece, with_marks}
 use Rattle.aoe_cache.specs.declared.place.HeldSector.{HeldSector}
 use Rattle.aoe_cache.specs.Held.{IsAscending, AreBelow, held_for, laid_over, marked}
@@ -44,15 +44,14 @@ module _ {A : Type 0} (xs p : List A) (i : ℕ) (fits : i + length p ≤ length 
   put_append q =
       let front : length (take i xs ++ p) ≡ i + length p = omega (arith, length-append (take i xs) p, length-take-le i xs (omega arith)) in
       let old : List A = take i xs ++ p ++ drop (i + length p) xs in
-      let head : take (i + length p) old ≡ take i xs ++ p = take_at (take i xs ++ p) (drop (i + length p) xs) (i + length p) front in
+      let head : take (i + length p) old ≡ take i xs ++ p = take_at (take i xs ++ p) _ (i + length p) front in
       let sum : i + length p + length q ≡ i + (length p + length q) = omega arith in
-      let tail : drop (i + length p + length q) old ≡ drop (i + (length p + length q)) xs =
-      sym (drop-drop (length q) (i + length p) old) ∙ ap (drop (length q)) (drop_at (take i xs ++ p) (drop (i + length p) xs) (i + length p) front) ∙ drop-drop (length q) (i + length p) xs ∙ ap (λ (m : ℕ). drop m xs) sum in
-      ap (λ (l : List A). l ++ q ++ drop (i + length p + length q) old) head ∙ ap (λ (l : List A). (take i xs ++ p) ++ q ++ l) tail
-      ∙ ap (λ (l : List A). l ++ drop (i + (length p + length q)) xs) (append_assoc (take i xs) p q)
+      let behind : drop (i + length p) old ≡ drop (i + length p) xs = drop_at (take i xs ++ p) _ (i + length p) front in
+      let tail : drop (i + length p + length q) old ≡ drop (i + (length p + length q)) xs = sym (drop-drop (length q) (i + length p) old) ∙ rw (behind, drop-drop (length q) (i + length p) xs, sum) refl in
+      rw (head, tail, append_assoc (take i xs) p q) refl
 
 put_nothing : {A : Type 0} (xs : List A) (i : ℕ) → take i xs ++ [] ++ drop (i + 0) xs ≡ xs
-put_nothing {A} xs i = let e : i + 0 ≡ i = omega arith in ap (λ (l : List A). l ++ drop (i + 0) xs) (append-nil (take i xs)) ∙ ap (λ (m : ℕ). take i xs ++ drop m xs) e ∙ take-append-drop i xs
+put_nothing {A} xs i = let e : i + 0 ≡ i = omega arith in rw (append-nil (take i xs), e) (take-append-drop i xs)
 
 -- the sectors of a run, written at once
 
@@ -62,13 +61,9 @@ laid_run low at bytes (h ∷ hs) order a fits =
     let here : 512 * h.at ≡ 512 * at = omega (arith, a.0) in
     let room : 512 * at + length h.bytes ≤ length bytes = omega (arith, order.1) in
     let more : 512 * (at + 1) ≡ 512 * at + length h.bytes = omega (arith, order.1) in
-    let len : length h.bytes + length (bytes_of hs) ≡ length (h.bytes ++ bytes_of hs) = sym (length-append h.bytes (bytes_of hs)) in
     let size : length (with_piece bytes (512 * at) h.bytes) ≡ length bytes = length-put bytes h.bytes (512 * at) room in
-    ap (λ (m : ℕ). laid_over (with_piece bytes m h.bytes) hs) here
-    ∙ laid_run (h.at + 1) (at + 1) (with_piece bytes (512 * at) h.bytes) hs order.2 a.1 (omega (arith, size))
-    ∙ ap (λ (m : ℕ). with_piece (with_piece bytes (512 * at) h.bytes) m (bytes_of hs)) more
-    ∙ put_append bytes h.bytes (512 * at) room (bytes_of hs)
-    ∙ ap (λ (m : ℕ). take (512 * at) bytes ++ (h.bytes ++ bytes_of hs) ++ drop (512 * at + m) bytes) len
+    let rest = laid_run (h.at + 1) (at + 1) (with_piece bytes (512 * at) h.bytes) hs order.2 a.1 (omega (arith, size)) in
+    rw (here, rest, more, length-append h.bytes (bytes_of hs)) (put_append bytes h.bytes (512 * at) room (bytes_of hs))
 
 pub marked_run : (at : ℕ) (loose : List Bool) (hs : List HeldSector) → AreAdjacent at hs → at + length hs ≤ length loose → marked loose hs ≡ with_marks loose at (length hs)
 marked_run at loose [] a fits = sym (put_nothing loose at)
@@ -78,11 +73,6 @@ marked_run at loose (h ∷ hs) a fits =
     let size : length (with_marks loose at 1) ≡ length loose = length-put loose one at room in
     let n : ℕ = length hs in
     let sum : 1 + n ≡ suc n = omega arith in
-    let ln : length (replicate n true) ≡ n = length-replicate n true in
-    ap (λ (m : ℕ). marked (with_marks loose m 1) hs) a.0
-    ∙ marked_run (at + 1) (with_marks loose at 1) hs a.1 (omega (arith, size))
-    ∙ ap (λ (m : ℕ). take (at + 1) (with_marks loose at 1) ++ replicate n true ++ drop (at + 1 + m) (with_marks loose at 1)) (sym ln)
-    ∙ put_append loose one at room (replicate n true)
-    ∙ ap (λ (m : ℕ). take at loose ++ (one ++ replicate n true) ++ drop (at + (1 + m)) loose) ln
-    ∙ ap (λ (l : List Bool). take at loose ++ l ++ drop (at + (1 + n)) loose) (replicate-append-replicate 1 n true)
-    ∙ ap (λ (m : ℕ). take at loose ++ replicate m true ++ drop (at + m) loose) sum
+    let rest = marked_run (at + 1) (with_marks loose at 1) hs a.1 (omega (arith, size)) in
+    let last = rw (length-replicate n true, sum) at (put_append loose one at room (replicate n true)) in
+    rw (a.0, rest) last

@@ -54,9 +54,9 @@ placed_put e (k ∷ ks) (p ∷ ps) is fits =
     ]
 
 -- the same as the code leaves them
-pub put_stored : (e p : HeldSector) (ks more : List ℕ) (old now : List HeldSector) (index : ℕ) → p ≡ e → now ≡ old → ks ≡ numbers_of (take (length ks) old) → more ≡ insert_key nat_eq ks e.at → index ≡ position_or_len (nat_eq e.at) ks
-    → length more ≤ length now → take (length more) (set now index p) ≡ put_in e (take (length ks) old)
-put_stored e p ks more old now index put same is keys place fits = rw (put, same, place, keys) (placed_put e ks old is (rw (← keys, ← same) fits))
+pub put_stored : (e : HeldSector) {p : HeldSector} {ks more : List ℕ} {old now : List HeldSector} {index : ℕ} → p ≡ e → now ≡ old → ks ≡ numbers_of (take (length ks) old) → more ≡ insert_key nat_eq ks e.at
+    → index ≡ position_or_len (nat_eq e.at) ks → length more ≤ length now → take (length more) (set now index p) ≡ put_in e (take (length ks) old)
+put_stored e {ks = ks} {old = old} put same is keys place fits = rw (put, same, place, keys) (placed_put e ks old is (rw (← keys, ← same) fits))
 
 pub length-insert_key : (e : HeldSector) (ks : List ℕ) (hs : List HeldSector) → ks ≡ numbers_of hs → length (insert_key nat_eq ks e.at) ≡ length (put_in e hs)
 length-insert_key e ks hs is = rw (is, ← numbers_put e hs) (length-map (put_in e hs) (λ (h : HeldSector). h.at))
@@ -128,7 +128,7 @@ some_from (Some p) e = (p, refl)
 -- a buffer whose table has its numbers
 
 module _ (b : Buffer) (is : IsIndexed b) where
-  once_placed : IsDistinct nat_eq (numbers_of (placed b))
+  pub once_placed : IsDistinct nat_eq (numbers_of (placed b))
   once_placed = rw is.numbers at is.once
 
   used : length (placed b) ≡ length b.numbers.keys

@@ -1,7 +1,7 @@
-use Rattle.std.proofs.Common.{◌-◌, ℕ, List, drop, take, arith, sym, ap, subst, ◌∙◌}
+use Rattle.std.proofs.Common.{ℕ, List, arith, ap, ◌∙◌}
 use Rattle.std.proofs.lemmas.List.{with_items_is}
 use Rattle.aoe_cache.specs.declared.place.HeldSector.{HeldSector}
-use Rattle.aoe_cache.specs.Held.{IsAscending, ordered, placed}
+use Rattle.aoe_cache.specs.Held.{ordered, placed}
 use Rattle.aoe_cache.proofs.Ascending.{ascending_drop}
 use Rattle.aoe_cache.proofs.Ordered.{ordered_same}
 use Rattle.aoe_cache.proofs.Places.{released}
@@ -12,13 +12,12 @@ index_first-requires-clause-order c =
     let held : ℕ = c.len-held.result in
     let items : List HeldSector = c.args.self.now.places.items in
     let done = released held c.args.count c.args.self.now.places.len items c.deref_mut.result.now c.release.new.places (omega (arith, c.len-held.ensures.len, c.requires.count)) (omega (arith, c.len-held.ensures.len, c.requires.has.used)) c.args.self.now.places.ok.0 c.deref_mut.ensures.value c.release.ensures in
-    let left = ap (take (held - c.args.count)) (with_items_is c.args.self.now.places c.release.new.places done.0) ∙ done.1 ∙ ap (λ (n : ℕ). drop c.args.count (take n items)) c.len-held.ensures.len in
-    subst (IsAscending 0) (sym left) (ascending_drop 0 c.args.count (placed c.args.self.now) c.requires.order)
+    rw (with_items_is c.args.self.now.places c.release.new.places done.0, done.1, c.len-held.ensures.len) (ascending_drop 0 c.args.count (placed c.args.self.now) c.requires.order)
 
 pub returns-clause-held : goal.returns-clause-held
 returns-clause-held c =
     let held : ℕ = c.len-held.result in
     let items : List HeldSector = c.args.self.now.places.items in
     let done = released held c.args.count c.args.self.now.places.len items c.deref_mut.result.now c.release.new.places (omega (arith, c.len-held.ensures.len, c.requires.count)) (omega (arith, c.len-held.ensures.len, c.requires.has.used)) c.args.self.now.places.ok.0 c.deref_mut.ensures.value c.release.ensures in
-    let left = ap (take (held - c.args.count)) (with_items_is c.args.self.now.places c.release.new.places done.0) ∙ done.1 ∙ ap (λ (n : ℕ). drop c.args.count (take n items)) c.len-held.ensures.len in
-    ap ordered (c.index_first.ensures.placed ∙ left) ∙ ordered_same (drop c.args.count (placed c.args.self.now)) (ascending_drop 0 c.args.count (placed c.args.self.now) c.requires.order)
+    let left = rw (with_items_is c.args.self.now.places c.release.new.places done.0, done.1, c.len-held.ensures.len) at c.index_first.ensures.placed in
+    ap ordered left ∙ ordered_same _ (ascending_drop 0 c.args.count (placed c.args.self.now) c.requires.order)

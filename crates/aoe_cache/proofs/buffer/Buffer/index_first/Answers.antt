@@ -1,8 +1,7 @@
-use Rattle.std.proofs.Common.{◌≡◌, ◌+◌, ℕ, List, IfOk, length, nat_eq, get_or, take, arith, sym, ap, subst, ◌∙◌}
+use Rattle.std.proofs.Common.{◌≡◌, ◌+◌, ℕ, List, length, nat_eq, get_or, take, arith, refl, ap, ◌∙◌}
 use Rattle.indexmap.specs.IndexSet.{insert_key}
 use Rattle.aoe_cache.specs.declared.place.HeldSector.{HeldSector}
 use Rattle.aoe_cache.specs.Held.{numbers_of}
-use Rattle.aoe_cache.specs.Cache.{AreWhole}
 use Rattle.aoe_cache.proofs.Ordered.{ascending_whole}
 use Rattle.aoe_cache.proofs.Table.{index_more, length-first}
 use Rattle.aoe_cache.proofs.buffer.Buffer.index_first.Goals as goal
@@ -12,10 +11,10 @@ places-preserved c =
     let i : ℕ = c.places.i in
     let places : List HeldSector = c.args.self.now.places.items in
     let p : HeldSector = c.index.result.now in
-    let keys : c.insert.new.self.keys ≡ insert_key nat_eq c.places.self.numbers.keys c.at.result = subst (λ r. IfOk r (λ _. c.insert.new.self.keys ≡ insert_key nat_eq c.places.self.numbers.keys c.at.result)) c.unwrap.ensures c.insert.ensures.keys in
+    let keys : c.insert.new.self.keys ≡ insert_key nat_eq c.places.self.numbers.keys c.at.result = rw c.unwrap.ensures at c.insert.ensures.keys in
     let place : p ≡ get_or places i p = c.index.ensures ∙ ap (λ v. get_or v.items i p) c.places.invariant.places in
     let numbers : c.insert.new.self.keys ≡ numbers_of (take (i + 1) places) =
-    keys ∙ ap (λ (ks : List ℕ). insert_key nat_eq ks c.at.result) c.places.invariant.numbers ∙ ap (insert_key nat_eq (numbers_of (take i places))) c.at.ensures ∙ index_more c.args.held i places p c.requires.order c.places-test.true c.requires.held place in
+    keys ∙ rw (c.places.invariant.numbers, c.at.ensures) (index_more c.args.held i places p c.requires.order c.places-test.true c.requires.held place) in
     record {
       numbers = numbers;
       once = c.insert.ensures.unique;
@@ -31,10 +30,10 @@ returns-clause-indexed c =
     let same : now ≡ places = ap (λ v. v.items) c.places.invariant.places in
     let all : c.places.i ≡ c.args.held = omega (arith, c.places.auto.i-end, c.places-test.false) in
     let len : length keys ≡ c.places.i = length-first keys c.places.i places c.places.invariant.numbers (omega (arith, all, c.requires.held)) in
-    let first : take (length keys) now ≡ take c.args.held places = ap (λ (n : ℕ). take n now) (len ∙ all) ∙ ap (take c.args.held) same in
+    let first : take (length keys) now ≡ take c.args.held places = rw (len, all, same) refl in
     record {
       has = record { used = omega (arith, len, all, c.requires.held, ap length same); room = omega (arith, c.places.invariant.room, ap length same) };
-      numbers = c.places.invariant.numbers ∙ ap (λ (n : ℕ). numbers_of (take n places)) all ∙ ap numbers_of (sym first);
+      numbers = c.places.invariant.numbers ∙ rw (all, first) refl;
       once = c.places.invariant.once;
-      whole = subst AreWhole (sym first) (ascending_whole (take c.args.held places) c.requires.order);
+      whole = rw first (ascending_whole (take c.args.held places) c.requires.order);
     }

@@ -1,6 +1,6 @@
-use Rattle.std.proofs.Common.{◌≡◌, ◌≤◌, ◌+◌, ◌*◌, ◌/◌, ℕ, List, length, take, drop, arith, sym, ap, subst, ◌∙◌}
+use Rattle.std.proofs.Common.{◌≡◌, ◌≤◌, ◌+◌, ◌*◌, ◌/◌, ℕ, List, length, arith, sym, ◌∙◌}
 use Rattle.aoe_cache.specs.declared.place.HeldSector.{HeldSector}
-use Rattle.aoe_cache.specs.Held.{count_below, held_of, laid_over}
+use Rattle.aoe_cache.specs.Held.{held_of}
 use Rattle.aoe_cache.proofs.Laying.{lay_first, lay_last, lay_next, lay_none}
 use Rattle.aoe_cache.proofs.buffer.Buffer.lay_over.Goals as goal
 use Rattle.aoe_cache.proofs.buffer.Buffer.lay_over.Goals.{in-Some, in_default}
@@ -10,9 +10,8 @@ sectors-init c = λ bytes fits so.
     let hs : List HeldSector = held_of c.args.self.now in
     let n : ℕ = length c.args.out.now / 512 in
     let first = lay_first c.args.at n bytes hs (omega (arith, fits, c.requires.whole)) c.requires.buffer.order in
-    let start : c.args.at ≡ c.args.at + 0 = omega arith in
-    let P : ℕ → Type 0 = λ (m : ℕ). take m (drop (512 * c.args.at) bytes) ≡ take m (drop (512 * c.args.at) (laid_over bytes (take (count_below c.args.at hs) hs))) in
-    so ∙ subst P c.requires.whole first ∙ ap (λ (s : ℕ). take (length c.args.out.now) (drop (512 * c.args.at) (laid_over bytes (take (count_below s hs) hs)))) start
+    let start : c.args.at + 0 ≡ c.args.at = omega arith in
+    so ∙ rw start (rw c.requires.whole at first)
 
 pub lay_over-requires-clause-from : goal.lay_over-requires-clause-from
 lay_over-requires-clause-from c = omega (arith, c.in-Some.ensures.number)
@@ -25,15 +24,14 @@ sectors-preserved c = λ bytes fits so.
     let hs : List HeldSector = held_of c.args.self.now in
     let n : ℕ = length c.args.out.now / 512 in
     let fit : 512 * c.args.at + 512 * n ≤ length bytes = omega (arith, fits, c.requires.whole) in
-    let now : c.sectors.out ≡ take (512 * n) (drop (512 * c.args.at) (laid_over bytes (take (count_below (c.args.at + c.sectors.i) hs) hs))) =
-    c.sectors.invariant bytes fits so ∙ ap (λ (m : ℕ). take m (drop (512 * c.args.at) (laid_over bytes (take (count_below (c.args.at + c.sectors.i) hs) hs)))) (sym c.requires.whole) in
-    let done = ap (λ (m : ℕ). take m (drop (512 * c.args.at) (laid_over bytes (take (count_below (c.args.at + (c.sectors.i + 1)) hs) hs)))) c.requires.whole in
+    let now = rw (← c.requires.whole) at (c.sectors.invariant bytes fits so) in
     elim c.match-get.branch [
       | in-Some w ↦
-          let x : HeldSector = w.in-Some.place.now in
-          w.out-is ∙ w.lay_over.ensures ∙ lay_next c.args.at n bytes hs fit c.requires.buffer.order c.sectors.i x c.sectors.out c.sectors-test.true w.in-Some.ensures.number (sym w.in-Some.ensures.held) now ∙ done
+          let next = lay_next c.args.at n bytes hs fit c.requires.buffer.order c.sectors.i w.in-Some.place.now c.sectors.out c.sectors-test.true w.in-Some.ensures.number (sym w.in-Some.ensures.held) now in
+          w.out-is ∙ w.lay_over.ensures ∙ (rw c.requires.whole at next)
       | in_default w ↦
-          w.out-is ∙ now ∙ ap (λ (k : ℕ). take (512 * n) (drop (512 * c.args.at) (laid_over bytes (take k hs)))) (lay_none c.args.at n bytes hs fit c.requires.buffer.order c.sectors.i (sym w.in_default.ensures.held)) ∙ done
+          let none = lay_none c.args.at n bytes hs fit c.requires.buffer.order c.sectors.i (sym w.in_default.ensures.held) in
+          w.out-is ∙ (rw none at (c.sectors.invariant bytes fits so))
     ]
 
 pub returns : goal.returns
@@ -42,7 +40,4 @@ returns c = λ bytes fits so.
     let n : ℕ = length c.args.out.now / 512 in
     let all : c.sectors.i ≡ n = omega (arith, c.sectors-test.false, c.sectors.auto.i-end) in
     let last = lay_last c.args.at n bytes hs (omega (arith, fits, c.requires.whole)) c.requires.buffer.order in
-    c.sectors.invariant bytes fits so
-    ∙ ap (λ (i : ℕ). take (length c.args.out.now) (drop (512 * c.args.at) (laid_over bytes (take (count_below (c.args.at + i) hs) hs)))) all
-    ∙ ap (λ (m : ℕ). take m (drop (512 * c.args.at) (laid_over bytes (take (count_below (c.args.at + n) hs) hs)))) (sym c.requires.whole)
-    ∙ last ∙ ap (λ (m : ℕ). take m (drop (512 * c.args.at) (laid_over bytes hs))) c.requires.whole
+    (rw all at (c.sectors.invariant bytes fits so)) ∙ (rw c.requires.whole at last)

@@ -1,8 +1,8 @@
-use Rattle.std.proofs.Common.{◌≡◌, ◌<◌, ◌+◌, ◌-◌, ◌^◌, ℕ, List, length, take, drop, get_or, arith, sym, ap, subst, ◌∙◌, length-drop}
+use Rattle.std.proofs.Common.{◌≡◌, ◌<◌, ◌+◌, ◌-◌, ◌^◌, List, length, drop, get_or, arith, sym, ap, ◌∙◌, length-drop}
 use Rattle.std.proofs.lemmas.List.{length-take-le}
 use Rattle.aoe_cache.specs.declared.place.HeldSector.{HeldSector}
 use Rattle.aoe_cache.specs.Held.{placed}
-use Rattle.aoe_cache.specs.Down.{AreAdjacent, first_of}
+use Rattle.aoe_cache.specs.Down.{first_of}
 use Rattle.aoe_cache.proofs.Ascending.{below_at}
 use Rattle.aoe_cache.proofs.Places.{used_element, used_from, first_of-drop, adjacent_step}
 use Rattle.aoe_cache.proofs.buffer.Buffer.run_from.Goals as goal
@@ -38,13 +38,13 @@ returns-else-at-first c =
     let len : length held ≡ (length c.args.self.now.numbers.keys) = length-take-le (length c.args.self.now.numbers.keys) c.args.self.now.places.items c.requires.order.has.used in
     let lh : length hs ≡ length held - c.args.from = length-drop c.args.from held in
     let is : x ≡ get_or held c.args.from x = used_element c.args.self.now.places.items (length c.args.self.now.numbers.keys) c.args.from x c.requires.some c.index.ensures in
-    let first : first_of hs ≡ c.at-first.result = first_of-drop held c.args.from x (omega (arith, len, c.requires.some)) ∙ ap (λ (h : HeldSector). h.at) (sym is) ∙ sym c.at-first.ensures in
+    let first : first_of hs ≡ c.at-first.result = first_of-drop held c.args.from x (omega (arith, len, c.requires.some)) ∙ (λ i. (sym is i).at) ∙ sym c.at-first.ensures in
     let other : y ≡ get_or hs c.adjacent.count y = used_from c.args.self.now.places.items (length c.args.self.now.numbers.keys) c.args.from c.adjacent.count y (omega (arith, c.len-held.ensures.len, c.if-from-count.true)) c.index-then-from-count.ensures in
-    let next : first_of (drop c.adjacent.count hs) ≡ c.at.result = first_of-drop hs c.adjacent.count y (omega (arith, len, lh, c.if-from-count.true)) ∙ ap (λ (h : HeldSector). h.at) (sym other) ∙ sym c.at.ensures in
+    let next : first_of (drop c.adjacent.count hs) ≡ c.at.result = first_of-drop hs c.adjacent.count y (omega (arith, len, lh, c.if-from-count.true)) ∙ (λ i. (sym other i).at) ∙ sym c.at.ensures in
     record {
       some = c.adjacent.invariant.some;
       most = c.adjacent.invariant.most;
       there = omega (arith, len, lh, c.adjacent.invariant.there);
-      adjacent = subst (λ (n : ℕ). AreAdjacent n (take c.adjacent.count hs)) (sym first) c.adjacent.invariant.adjacent;
-      longest = λ _ _ e. c.if-at-first.false (sym next ∙ e ∙ ap (λ (n : ℕ). n + c.adjacent.count) first);
+      adjacent = rw first c.adjacent.invariant.adjacent;
+      longest = λ _ _ e. c.if-at-first.false (sym next ∙ e ∙ (λ i. first i + c.adjacent.count));
     }
