@@ -10,7 +10,7 @@ use Rattle.aoe_disk.specs.Sectors.{Calms}
 use Rattle.aoe_disk.proofs.Touching.{settles_calm, settles_kept}
 use Rattle.aoe_keep.specs.Body.{mark, decode, is_valid, config_len}
 use Rattle.aoe_keep.specs.Found.{slot, body, is_open, next_turn, choice, found, Finds}
-use Rattle.aoe_keep.specs.Stages.{StaysClosed, StaysOpen, IsKept, placement}
+use Rattle.aoe_keep.specs.Stages.{StaysClosed, StaysOpen, IsKept, IsSteady, placement}
 use Rattle.aoe_keep.specs.Keep.{ReadsSlots}
 use Rattle.aoe_keep.specs.declared.place.Place.{Place}
 use Rattle.aoe_keep.specs.declared.mount.Present.{Present}
@@ -57,21 +57,22 @@ module _ (c : Contents) (kept : (s : ℕ) → is_loose c.loose s ≡ false) wher
   turn_of : (k : ℕ) (b : ℕ × Settings) → StaysOpen c k b → b.0 < 3
   turn_of k b h = turn_small (body c.bytes k) b h.body.spells
 
+  steady_in : (k : ℕ) (b : ℕ × Settings) (lists : Settings) → k < 2 → b.1 ≡ lists → StaysOpen c k b → IsSteady (Some (record { slot = k; turn = b.0 })) lists c
+  steady_in k b lists lt same h = (lt, turn_of k b h, rw same at h)
+
   both_open : (a b : ℕ × Settings) (lists : Settings) → StaysOpen c 0 a → StaysOpen c 1 b → (t : Bool) → (a.0 == next_turn b.0) ≡ t → cond {A = Result Settings ℕ} t (Ok a.1) (cond {A = Result Settings ℕ} (b.0 == next_turn a.0) (Ok b.1) (Err 1)) ≡ Ok lists
       → IsKept (later t a b).0 (later t a b).1 lists c
   both_open a b lists ha hb true e is =
-      let l : a.1 ≡ lists = cc in
       let la = turn_of 0 a ha in let lb = turn_of 1 b hb in
       record {
-        steady = (omega arith, la, rw l at ha);
+        steady = steady_in 0 a lists (omega arith) (cc) ha;
         spare = (b, record { body = hb.body; turn = (lb, λ f. omega (arith, la, lb, f, eqb-true a.0 (next_turn b.0) e)) }, inr hb.gate);
       }
   both_open a b lists ha hb false e is = elim (chosen {X = Result Settings ℕ} (b.0 == next_turn a.0) (Ok b.1) (Err 1) (Ok lists) is) [
     | inl t ↦
-        let l : b.1 ≡ lists = cc in
         let la = turn_of 0 a ha in let lb = turn_of 1 b hb in
         record {
-          steady = (omega arith, lb, rw l at hb);
+          steady = steady_in 1 b lists (omega arith) (cc) hb;
           spare = (a, record { body = ha.body; turn = (la, λ f. omega (arith, la, lb, f, eqb-true b.0 (next_turn a.0) t.0)) }, inr ha.gate);
         }
     | inr t ↦ absurd cc
@@ -83,12 +84,12 @@ module _ (c : Contents) (kept : (s : ℕ) → is_loose c.loose s ≡ false) wher
       record { steady = (l, s1); spare = (s0.gate, inl s0) }
   kept_from None (Some None) lists e f is = absurd cc
   kept_from None (Some (Some b)) lists e f is =
-      let s0 = closed_from 0 e in let h = open_from 1 b f in let l : b.1 ≡ lists = cc in
-      record { steady = (omega arith, turn_of 1 b h, rw l at h); spare = (s0.gate, inl s0) }
+      let s0 = closed_from 0 e in
+      record { steady = steady_in 1 b lists (omega arith) (cc) (open_from 1 b f); spare = (s0.gate, inl s0) }
   kept_from (Some None) p lists e f is = absurd cc
   kept_from (Some (Some a)) None lists e f is =
-      let s1 = closed_from 1 f in let h = open_from 0 a e in let l : a.1 ≡ lists = cc in
-      record { steady = (omega arith, turn_of 0 a h, rw l at h); spare = (s1.gate, inl s1) }
+      let s1 = closed_from 1 f in
+      record { steady = steady_in 0 a lists (omega arith) (cc) (open_from 0 a e); spare = (s1.gate, inl s1) }
   kept_from (Some (Some a)) (Some None) lists e f is = absurd cc
   kept_from (Some (Some a)) (Some (Some b)) lists e f is = both_open a b lists (open_from 0 a e) (open_from 1 b f) (a.0 == next_turn b.0) refl is
 

@@ -1,11 +1,12 @@
 -- The sectors of a disk that a keep leaves alone.
-use Rattle.std.proofs.Common.{◌≤◌, ◌+◌, ◌*◌, ◌∙◌, ℕ, Bool, Result, List, length, arith, ap, inl, inr}
-use Rattle.aoe_disk.specs.State.{Contents, DiskState, BothTell, sector}
+use Rattle.std.proofs.Common.{◌≤◌, ◌+◌, ◌*◌, ◌∙◌, ℕ, Bool, Result, List, arith, inl, inr}
+use Rattle.aoe_disk.specs.State.{Contents, DiskState, BothTell}
 use Rattle.aoe_disk.specs.Calls.{Syncs}
-use Rattle.aoe_disk.specs.Sectors.{IsOutside, Touches, Calms}
+use Rattle.aoe_disk.specs.Sectors.{IsOutside, Touches}
 use Rattle.aoe_keep.specs.Stages.{WritesGate, WritesBody}
 use Rattle.aoe_keep.specs.Keep.{KeepsOthers}
 use Rattle.aoe_keep.proofs.Told.{both_map, both_then}
+use Rattle.aoe_keep.proofs.Steps.{calm_touches}
 use Rattle.aoe_keep.proofs.Calls.{syncs_calm}
 
 further : (lo n s : ℕ) → lo + n ≤ 16 → IsOutside 0 16 s → IsOutside lo n s
@@ -18,14 +19,6 @@ touch_own lo n a b fits touch = record {
   marks = touch.marks;
   same = λ s out. touch.same s (further lo n s fits out);
   kept = λ s out e. touch.kept s (further lo n s fits out) e;
-}
-
-calm_own : (a b : Contents) → Calms a b → Touches 0 16 a b
-calm_own a b calm = record {
-  size = ap length calm.bytes;
-  marks = calm.marks;
-  same = λ s out. ap (λ (l : List ℕ). sector l s) calm.bytes;
-  kept = λ s out e. calm.kept s e;
 }
 
 own_then : (a b c : Contents) → Touches 0 16 a b → Touches 0 16 b c → Touches 0 16 a c
@@ -43,7 +36,7 @@ pub body_others : {T E : Type 0} (k : ℕ) (piece : List ℕ) (result : Result T
 body_others k piece result old new small told = record { contents = both_map (WritesBody k piece result) (Touches 0 16) old.contents new.contents (λ x y w. touch_own (8 * k + 1) 7 x y (omega (arith, small)) w.touches) told }
 
 pub sync_others : {T E : Type 0} (result : Result T E) (old new : DiskState) → BothTell (Syncs result) old.contents new.contents → KeepsOthers old new
-sync_others result old new told = record { contents = both_map (Syncs result) (Touches 0 16) old.contents new.contents (λ x y w. calm_own x y (syncs_calm result x y w)) told }
+sync_others result old new told = record { contents = both_map (Syncs result) (Touches 0 16) old.contents new.contents (λ x y w. calm_touches 0 16 x y (syncs_calm result x y w)) told }
 
 pub others_then : (a b c : DiskState) → KeepsOthers a b → KeepsOthers b c → KeepsOthers a c
 others_then a b c one two = record { contents = both_then (Touches 0 16) (Touches 0 16) (Touches 0 16) a.contents b.contents c.contents own_then one.contents two.contents }

@@ -1,5 +1,5 @@
 -- The six device calls of a replacement, over contents that are told.
-use Rattle.std.proofs.Common.{◌≡◌, ◌⊎◌, ◌≤◌, ◌<◌, ◌+◌, ◌-◌, ◌*◌, ℕ, true, false, Option, Some, None, Result, Ok, List, refl, arith, sym, ◌∙◌, ap, subst, inl, inr}
+use Rattle.std.proofs.Common.{◌≡◌, ◌⊎◌, ◌≤◌, ◌<◌, ◌+◌, ◌-◌, ◌*◌, ℕ, true, false, Option, Some, None, Result, Ok, refl, arith, ◌∙◌, ap, inl, inr}
 use Rattle.std.proofs.lemmas.Bool.{eq-eqb}
 use Rattle.aoe_lists.specs.Settings.{Settings}
 use Rattle.aoe_disk.specs.State.{Contents, HasShape, is_loose}
@@ -7,7 +7,7 @@ use Rattle.aoe_disk.specs.Calls.{Settles}
 use Rattle.aoe_disk.specs.Sectors.{Touches, Calms}
 use Rattle.aoe_disk.proofs.Touching.{settles_calm, settles_kept}
 use Rattle.aoe_keep.specs.Body.{decode}
-use Rattle.aoe_keep.specs.Found.{body, is_open, next_turn, CanFind, Finds, IsOffered}
+use Rattle.aoe_keep.specs.Found.{body, is_open, next_turn, Finds, IsOffered}
 use Rattle.aoe_keep.specs.Stages.{NoneLoose, StaysBody, StaysOpen, spare, turn_after, is_unplaced, next_place, IsSteady, IsOtherTurn, IsChoosable, IsSpare, IsKept, IsCleared, IsStaged, IsOpened, IsInterrupted, IsReplaced}
 use Rattle.aoe_keep.specs.declared.place.Place.{Place}
 use Rattle.aoe_keep.proofs.Slots.{outcome, spare_small, found_by, open_after}
@@ -62,7 +62,7 @@ module _ (place : Option Place) (lists next : Settings) where
 
     finds : Finds (IsOffered lists next c) d
     finds = weaker _ _ d
-        (λ l o. elim o [ inl e ↦ inl e | inr e ↦ inr (inr (subst (CanFind c) (sym e) (could place lists c kept.steady sectors kept.spare.0 shape room kept.spare.1 kept.spare.2))) ])
+        (λ l o. elim o [ inl e ↦ inl e | inr e ↦ inr (inr (rw e (could place lists c kept.steady sectors kept.spare.0 shape room kept.spare.1 kept.spare.2))) ])
         (finds_ready place lists d steady kept.spare.0 ready)
 
     pub close_failed : is_loose d.loose (8 * spare place) ≡ true → IsInterrupted place false lists next c d
@@ -103,7 +103,7 @@ module _ (place : Option Place) (lists next : Settings) where
   pub stage_done : (c d : Contents) → IsCleared place lists c → decode (body c.bytes (spare place)) ≡ Some (turn_after place, next) → Settles c d → IsStaged place lists next d
   stage_done c d cleared spells settles = record {
     cleared = cleared_calm c d cleared (settles_calm c d settles);
-    body = record { spells = ap (λ (l : List ℕ). decode (body l (spare place))) settles.bytes ∙ spells; kept = none_loose c d settles (8 * spare place + 1) 7 };
+    body = record { spells = rw settles.bytes spells; kept = none_loose c d settles (8 * spare place + 1) 7 };
   }
 
   -- calls 5 and 6

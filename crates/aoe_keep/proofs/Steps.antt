@@ -48,7 +48,10 @@ steady_touch (Some p) lists lo n old new within touch steady =
       },
     )
 
--- a sync, failed or not
+-- a sync, failed or not, touches no range
+pub calm_touches : (lo n : ℕ) (old new : Contents) → Calms old new → Touches lo n old new
+calm_touches lo n old new calm = record { size = ap length calm.bytes; marks = calm.marks; same = λ s out. rw calm.bytes refl; kept = λ s out e. calm.kept s e }
+
 module _ (old new : Contents) (calm : Calms old new) where
   pub gate_calm : (k : ℕ) (t : Bool) → is_open old.bytes k ≡ t → is_open new.bytes k ≡ t
   gate_calm k t e = rw calm.bytes e
@@ -60,22 +63,13 @@ module _ (old new : Contents) (calm : Calms old new) where
   body_calm k b has = record { spells = rw calm.bytes has.spells; kept = λ s l h. calm.kept s (has.kept s l h) }
 
   pub left_calm : (image : List ℕ) → CanLeave new image → CanLeave old image
-  left_calm image left = record { size = left.size ∙ ap length calm.bytes; kept = λ s e. left.kept s (calm.kept s e) ∙ ap (λ (l : List ℕ). sector l s) calm.bytes }
+  left_calm image left = record { size = left.size ∙ ap length calm.bytes; kept = λ s e. left.kept s (calm.kept s e) ∙ (λ i. sector (calm.bytes i) s) }
 
   pub finds_calm : (P : Settings → Type 0) → Finds P old → Finds P new
   finds_calm P finds = λ image left. finds image (left_calm image left)
 
   pub steady_calm : (place : Option Place) (lists : Settings) → IsSteady place lists old → IsSteady place lists new
-  steady_calm None lists steady = (steady.0, closed_calm 1 steady.1)
-  steady_calm (Some p) lists steady = (
-    steady.0,
-    steady.1,
-    record {
-      gate = gate_calm p.slot true steady.2.gate;
-      kept = λ s l h. calm.kept s (steady.2.kept s l h);
-      body = body_calm p.slot (p.turn, lists) steady.2.body;
-    },
-  )
+  steady_calm place lists steady = steady_touch place lists (8 * spare place) 0 old new (record { low = omega arith; high = omega arith }) (calm_touches _ 0 old new calm) steady
 
   -- what is known of a closed gate stays known
   pub kept_calm : (place : Option Place) (lists : Settings) → IsKept place true lists old → IsKept place true lists new
