@@ -1,6 +1,6 @@
 -- A write sector by sector, and how many sectors are held then.
-use Rattle.std.proofs.Common.{◌≡◌, ◌≤◌, ◌+◌, ◌-◌, ◌*◌, ℕ, List, Some, None, length, take, drop, sym, arith, ◌∙◌, ap, inl, inr, length-drop}
-use Rattle.std.proofs.lemmas.Bool.{cases_lt, cases_eq}
+use Rattle.std.proofs.Common.{◌≡◌, ◌≢◌, ◌≤◌, ◌+◌, ◌-◌, ◌*◌, ℕ, List, Some, None, length, take, drop, sym, arith, ◌∙◌, ap, inl, inr, length-drop}
+use Rattle.std.proofs.lemmas.Bool.{cases_eq}
 use Rattle.std.proofs.lemmas.List.{length-take-le}
 use Rattle.aoe_disk.specs.State.{sector}
 use Rattle.aoe_cache.specs.declared.place.HeldSector.{HeldSector}
@@ -26,19 +26,17 @@ module _ (at : ℕ) (piece : List ℕ) (hs : List HeldSector) where
     some_order : IsAscending 0 (with_written at i piece hs)
     some_order = ascending_written at i piece hs enough order
 
+    held_other : (s : ℕ) → at + i ≢ s → held_for (with_written at i piece hs) s ≡ held_for (with_written at (i + 1) piece hs) s
+    held_other s other =
+        let below = held_written_below at i piece hs enough order s in
+        let above = held_written_above at i piece hs enough order s in
+        let inside = held_written_inside at i piece hs enough order (s - at) in
+        grind (arith, below, above, inside, held_written_below at (i + 1) piece hs whole order s, held_written_above at (i + 1) piece hs whole order s, held_written_inside at (i + 1) piece hs whole order (s - at))
+
     held_more : (s : ℕ) → held_for (with_written (at + i) 1 (sector piece i) (with_written at i piece hs)) s ≡ held_for (with_written at (i + 1) piece hs) s
     held_more s = elim (cases_eq (at + i) s) [
       | inl same ↦ rw (← same) (written_same (at + i) _ _ some_order piece_sector ∙ sym (held_written_inside at (i + 1) piece hs whole order i (omega arith)))
-      | inr other ↦ written_other (at + i) _ _ some_order piece_sector s other ∙ elim (cases_lt s at) [
-        | inl below ↦ held_written_below at i piece hs enough order s below ∙ sym (held_written_below at (i + 1) piece hs whole order s below)
-        | inr from ↦ elim (cases_lt s (at + i)) [
-          | inl inside ↦
-              let there : s ≡ at + (s - at) = omega (arith, from) in
-              let k : ℕ = s - at in
-              rw there (held_written_inside at i piece hs enough order k (omega (arith, inside, from)) ∙ sym (held_written_inside at (i + 1) piece hs whole order k (omega (arith, inside, from))))
-          | inr above ↦ held_written_above at i piece hs enough order s above ∙ sym (held_written_above at (i + 1) piece hs whole order s (omega (arith, above, other)))
-        ]
-      ]
+      | inr other ↦ written_other (at + i) _ _ some_order piece_sector s other ∙ held_other s other
     ]
 
     pub written_more : with_written (at + i) 1 (sector piece i) (with_written at i piece hs) ≡ with_written at (i + 1) piece hs
