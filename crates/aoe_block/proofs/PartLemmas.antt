@@ -51,7 +51,7 @@ module _ (f : Part → Part) (test : Stage → Bool) (apart : (p : Part) → tes
   map_none max at count [] bytes out = refl
   map_none max at count (stage ∷ stages) bytes out =
       rw (
-        apart (record { at = at; count = min max count; bytes = take (512 * max) bytes; stage = stage }) (out 0 (omega arith)),
+        apart (nth max at count bytes 0 stage) (out 0 (omega arith)),
         map_none max (at + max) (count - max) stages (drop (512 * max) bytes) (λ j le. out (suc j) (omega arith)),
       ) refl
 
@@ -65,7 +65,7 @@ module _ (f : Part → Part) (test : Stage → Bool) (apart : (p : Part) → tes
       rw (here, map_none max (at + max) (count - max) stages (drop (512 * max) bytes) (λ j le. others (suc j) (omega arith) (λ e. omega arith))) refl
   map_stage new max at count (stage ∷ stages) bytes (suc k) lt others here =
       rw (
-        apart (record { at = at; count = min max count; bytes = take (512 * max) bytes; stage = stage }) (others 0 (omega arith) (λ e. omega arith)),
+        apart (nth max at count bytes 0 stage) (others 0 (omega arith) (λ e. omega arith)),
         map_stage new max (at + max) (count - max) stages (drop (512 * max) bytes) k (omega arith) (λ j le differ. others (suc j) (omega arith) (λ e. differ (omega arith))) here,
       ) refl
 
@@ -94,58 +94,48 @@ module _ (f : Part → Part) (test : Stage → Bool) (apart : (p : Part) → tes
       let wide : 512 * max + 512 * max * k ≤ length bytes = omega arith in
       let rest : length (drop (512 * max) bytes) ≡ 512 * (count - max) = omega (arith, length-drop (512 * max) bytes) in
       rw (
-        apart (record { at = at; count = min max count; bytes = take (512 * max) bytes; stage = stage }) (others 0 (omega arith) (λ same. omega arith)),
+        apart (nth max at count bytes 0 stage) (others 0 (omega arith) (λ same. omega arith)),
         map_piece max (at + max) (count - max) stages (drop (512 * max) bytes) k (omega arith) behind rest (λ j le differ. others (suc j) (omega arith) (λ same. differ (omega arith))) len here,
         e,
         take-put_behind (512 * max) (512 * max * k) bytes piece wide,
         drop-put_behind (512 * max) (512 * max * k) bytes piece wide,
       ) refl
 
-pub joined-parts_of : (max at count : ℕ) (stages : List Stage) (bytes : List ℕ) → length bytes ≡ 512 * count → count ≤ length stages * max → joined (parts_of max at count stages bytes) ≡ bytes
-joined-parts_of max at count [] bytes size enough = sym (nil_from_length bytes (omega arith))
-joined-parts_of max at count (stage ∷ stages) bytes size enough =
-    let rest : length (drop (512 * max) bytes) ≡ 512 * (count - max) = omega (arith, length-drop (512 * max) bytes) in
-    rw (joined-parts_of max (at + max) (count - max) stages (drop (512 * max) bytes) rest (omega arith)) (take-append-drop (512 * max) bytes)
+abbrev IsWhole : Part → Type 0
+IsWhole p = length p.bytes ≡ 512 * p.count
 
-pub adjacent-parts_of : (max at count : ℕ) (stages : List Stage) (bytes : List ℕ) → length stages * max < count + max → AreAdjacent at (parts_of max at count stages bytes)
-adjacent-parts_of max at count [] bytes needed = tt
-adjacent-parts_of max at count (stage ∷ []) bytes needed = (refl, tt)
-adjacent-parts_of max at count (stage ∷ other ∷ stages) bytes needed =
+-- together they have the bytes, each as many as it has sectors
+pub laid-parts_of : (max at count : ℕ) (stages : List Stage) (bytes : List ℕ) → length bytes ≡ 512 * count → count ≤ length stages * max
+    → (joined (parts_of max at count stages bytes) ≡ bytes) × All IsWhole (parts_of max at count stages bytes)
+laid-parts_of max at count [] bytes size enough = (sym (nil_from_length bytes (omega arith)), All-nil IsWhole)
+laid-parts_of max at count (stage ∷ stages) bytes size enough =
+    let len : length (drop (512 * max) bytes) ≡ 512 * (count - max) = omega (arith, length-drop (512 * max) bytes) in
+    let here : IsWhole (nth max at count bytes 0 stage) = omega (arith, length-take (512 * max) bytes) in
+    let rest = laid-parts_of max (at + max) (count - max) stages (drop (512 * max) bytes) len (omega arith) in
+    (rw rest.0 (take-append-drop (512 * max) bytes), All-cons IsWhole _ _ here rest.1)
+
+-- each begins where the one before it ends, and only the last may be short
+shape-parts_of : (max at count : ℕ) (stages : List Stage) (bytes : List ℕ) → 0 < max → length stages * max < count + max → count ≤ length stages * max
+    → AreAdjacent at (parts_of max at count stages bytes) × AreFull max (parts_of max at count stages bytes)
+shape-parts_of max at count [] bytes some needed enough = (tt, tt)
+shape-parts_of max at count (stage ∷ []) bytes some needed enough = ((refl, tt), (omega arith, omega arith))
+shape-parts_of max at count (stage ∷ other ∷ stages) bytes some needed enough =
     let e : min max count ≡ max = omega arith in
-    (refl, rw e (adjacent-parts_of max (at + max) (count - max) (other ∷ stages) (drop (512 * max) bytes) (omega arith)))
+    let rest = shape-parts_of max (at + max) (count - max) (other ∷ stages) (drop (512 * max) bytes) some (omega arith) (omega arith) in
+    ((refl, rw e rest.0), (e, rest.1))
 
-pub full-parts_of : (max at count : ℕ) (stages : List Stage) (bytes : List ℕ) → 0 < max → length stages * max < count + max → count ≤ length stages * max → AreFull max (parts_of max at count stages bytes)
-full-parts_of max at count [] bytes some needed enough = tt
-full-parts_of max at count (stage ∷ []) bytes some needed enough = (omega arith, omega arith)
-full-parts_of max at count (stage ∷ other ∷ stages) bytes some needed enough =
-    (omega arith, full-parts_of max (at + max) (count - max) (other ∷ stages) (drop (512 * max) bytes) some (omega arith) (omega arith))
-
-pub whole-parts_of : (max at count : ℕ) (stages : List Stage) (bytes : List ℕ) → length bytes ≡ 512 * count → All (λ p. length p.bytes ≡ 512 * p.count) (parts_of max at count stages bytes)
-whole-parts_of max at count [] bytes size = All-nil (λ p. length p.bytes ≡ 512 * p.count)
-whole-parts_of max at count (stage ∷ stages) bytes size =
-    All-cons (λ p. length p.bytes ≡ 512 * p.count) (record { at = at; count = min max count; bytes = take (512 * max) bytes; stage = stage })
-    (parts_of max (at + max) (count - max) stages (drop (512 * max) bytes)) (omega (arith, length-take (512 * max) bytes))
-    (whole-parts_of max (at + max) (count - max) stages (drop (512 * max) bytes) (omega (arith, length-drop (512 * max) bytes)))
-
-pub pending-parts_of : (max at count n : ℕ) (bytes : List ℕ) → All (λ p. p.stage ≡ Pending) (parts_of max at count (replicate n Pending) bytes)
+pending-parts_of : (max at count n : ℕ) (bytes : List ℕ) → All (λ p. p.stage ≡ Pending) (parts_of max at count (replicate n Pending) bytes)
 pending-parts_of max at count zero bytes = All-nil (λ p. p.stage ≡ Pending)
-pending-parts_of max at count (suc n) bytes =
-    All-cons (λ p. p.stage ≡ Pending) (record { at = at; count = min max count; bytes = take (512 * max) bytes; stage = Pending })
-    (parts_of max (at + max) (count - max) (replicate n Pending) (drop (512 * max) bytes)) refl
-    (pending-parts_of max (at + max) (count - max) n (drop (512 * max) bytes))
+pending-parts_of max at count (suc n) bytes = All-cons (λ p. p.stage ≡ Pending) _ _ refl (pending-parts_of max (at + max) (count - max) n (drop (512 * max) bytes))
 
 pub cut-parts_of : (max at count n : ℕ) (bytes : List ℕ) → 0 < max → length bytes ≡ 512 * count → count ≤ n * max → n * max < count + max → IsCut at max bytes (parts_of max at count (replicate n Pending) bytes)
 cut-parts_of max at count n bytes some size enough needed =
     let len : length (replicate n Pending) ≡ n = length-replicate n Pending in
     let upper : count ≤ length (replicate n Pending) * max = rw len enough in
     let lower : length (replicate n Pending) * max < count + max = rw len needed in
-    record {
-      adjacent = adjacent-parts_of max at count (replicate n Pending) bytes lower;
-      full = full-parts_of max at count (replicate n Pending) bytes some lower upper;
-      whole = whole-parts_of max at count (replicate n Pending) bytes size;
-      together = joined-parts_of max at count (replicate n Pending) bytes size upper;
-      pending = pending-parts_of max at count n bytes;
-    }
+    let shape = shape-parts_of max at count (replicate n Pending) bytes some lower upper in
+    let laid = laid-parts_of max at count (replicate n Pending) bytes size upper in
+    record { adjacent = shape.0; full = shape.1; whole = laid.1; together = laid.0; pending = pending-parts_of max at count n bytes }
 
 -- the k-th part from its number
 pub nth_is : (max at count : ℕ) (bytes : List ℕ) (k : ℕ) (stage : Stage) → k * max < count

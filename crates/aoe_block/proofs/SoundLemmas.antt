@@ -1,6 +1,6 @@
 -- What the steps of a block keep, and the parts after them.
 use Rattle.std.proofs.Common.{◌≡◌, ◌≢◌, ◌≤◌, ◌<◌, ◌+◌, ◌-◌, ◌*◌, ◌^◌, ◌==◌, ℕ, Bool, true, false, not, zero, suc, List, [], ◌∷◌, Some, None, length, map, drop, set, min, replicate, arith, refl, sym, ap, ◌∙◌, inl, inr}
-use Rattle.std.proofs.lemmas.List.{length-set, length-replicate}
+use Rattle.std.proofs.lemmas.List.{get_or-set_other, length-set, length-replicate}
 use Rattle.std.proofs.lemmas.Bool.{and_parts, cases_Bool, cases_eq, eqb-true, false_from_ne_true}
 use Rattle.std.specs.Option.{IsSome}
 use Rattle.aoe_base.specs.declared.counted.Ticket.{Ticket}
@@ -15,7 +15,7 @@ use Rattle.aoe_block.specs.Parts.{Part}
 use Rattle.aoe_block.specs.Stages.{is_ended, is_handed, is_pending, is_under_way, stage_at}
 use Rattle.aoe_block.proofs.PartLemmas.{are_ended-parts_of, find_none, find_nth, hand-parts_of, map_none, map_piece, map_stage, nth, nth_is}
 use Rattle.aoe_block.proofs.PlaceLemmas.{length-put}
-use Rattle.aoe_block.proofs.StageLemmas.{all_pending, count_left-end, count_left-pending, count_left-set, none_left, stage_at-set, under_way, within-pending}
+use Rattle.aoe_block.proofs.StageLemmas.{all_pending, count_left-end, count_left-pending, count_left-set, none_left, set_keeps, stage_at-set, under_way, within-pending}
 
 pub sound_new : (total max at count : ℕ) (bytes : List ℕ) (n : ℕ) → 0 < max → max ≤ 17 → at + count ≤ total → total < 2 ^ 64 → count ≤ 32768 → length bytes ≡ 512 * count → count ≤ n * max → n * max < count + max
     → AreParts total max at count bytes (replicate n Pending) 0 0 n
@@ -96,6 +96,20 @@ module _ {total max at count : ℕ} {bytes : List ℕ} {stages : List Stage} {fi
   pub place : (k : ℕ) → k < length stages → k * max < count
   place k lt = let h : (k + 1) * max ≤ length stages * max = grind arith in omega (arith, s.parted.needed)
 
+  -- tickets still differ where a stage is set that has none of another part
+  set_distinct : (k : ℕ) (stage : Stage) → k < length stages → ((t j : ℕ) → is_handed t stage ≡ true → is_handed t (stage_at stages j) ≡ true → ⊥)
+      → (i j t : ℕ) → is_handed t (stage_at (set stages k stage) i) ≡ true → is_handed t (stage_at (set stages k stage) j) ≡ true → i ≡ j
+  set_distinct k stage lt apart i j t at_i at_j = elim (stage_at-set stages k i stage lt) [
+    | inl (e, new) ↦ elim (stage_at-set stages k j stage lt) [
+      | inl (f, also) ↦ e ∙ sym f
+      | inr (differ, old) ↦ absurd (apart t j (rw new at at_i) (rw old at at_j))
+    ]
+    | inr (differ, old) ↦ elim (stage_at-set stages k j stage lt) [
+      | inl (f, new) ↦ absurd (apart t i (rw new at at_j) (rw old at at_i))
+      | inr (also, still) ↦ s.distinct i j t (rw old at at_i) (rw still at at_j)
+    ]
+  ]
+
   -- the next part is handed with a new ticket
   pub handed_parts : (ticket : Ticket) → next < length stages → hand ticket (parts_of max at count stages bytes) ≡ parts_of max at count (set stages next (Handed ticket)) bytes
   handed_parts ticket lt = hand-parts_of ticket max at count stages bytes next lt s.given (ap is_pending (s.waiting next (omega arith)))
@@ -108,31 +122,16 @@ module _ {total max at count : ℕ} {bytes : List ℕ} {stages : List Stage} {fi
         parted = rw len s.parted;
         ordered = let o = s.ordered in omega arith;
         within = omega arith;
-        past = λ j before. elim (stage_at-set stages next j (Handed ticket) lt) [
-          | inl (e, new) ↦ absurd (let o = s.ordered in omega arith)
-          | inr (differ, old) ↦ ap is_under_way old ∙ s.past j before
-        ];
-        given = λ j before. elim (stage_at-set stages next j (Handed ticket) lt) [
-          | inl (e, new) ↦ ap is_pending new
-          | inr (differ, old) ↦ ap is_pending old ∙ s.given j (omega arith)
-        ];
-        waiting = λ j le. elim (stage_at-set stages next j (Handed ticket) lt) [
-          | inl (e, new) ↦ absurd (omega arith)
-          | inr (differ, old) ↦ old ∙ s.waiting j (omega arith)
-        ];
-        distinct = λ j k t at_j at_k. elim (stage_at-set stages next j (Handed ticket) lt) [
-          | inl (e, new) ↦ elim (stage_at-set stages next k (Handed ticket) lt) [
-            | inl (f, also) ↦ e ∙ sym f
-            | inr (differ, old) ↦ absurd (other t k (sym (ap (is_handed t) new) ∙ at_j) (sym (ap (is_handed t) old) ∙ at_k))
-          ]
-          | inr (differ, old) ↦ elim (stage_at-set stages next k (Handed ticket) lt) [
-            | inl (f, also) ↦ absurd (other t j (sym (ap (is_handed t) also) ∙ at_k) (sym (ap (is_handed t) old) ∙ at_j))
-            | inr (apart, still) ↦ s.distinct j k t (sym (ap (is_handed t) old) ∙ at_j) (sym (ap (is_handed t) still) ∙ at_k)
-          ]
-        ];
+        past = λ j before. ap is_under_way (others_stay j (λ e. let o = s.ordered in omega arith)) ∙ s.past j before;
+        given = λ j before. set_keeps (λ x. is_pending x ≡ false) stages next j (Handed ticket) lt refl (λ differ. s.given j (omega arith));
+        waiting = λ j le. others_stay j (λ e. omega arith) ∙ s.waiting j (omega arith);
+        distinct = set_distinct next (Handed ticket) lt other;
         counted = s.counted ∙ sym (count_left-set stages next (Handed ticket) lt (ap is_ended is) refl);
       }
     where
+      others_stay : (j : ℕ) → j ≢ next → stage_at (set stages next (Handed ticket)) j ≡ stage_at stages j
+      others_stay j differ = get_or-set_other stages next j (Handed ticket) Pending differ
+
       other : (t k : ℕ) → is_handed t (Handed ticket) ≡ true → is_handed t (stage_at stages k) ≡ true → ⊥
       other t k is was =
           let e : ticket.0 ≡ t = eqb-true ticket.0 t is in
@@ -162,25 +161,13 @@ module _ {total max at count : ℕ} {bytes : List ℕ} {stages : List Stage} {fi
           parted = rw (len, size) s.parted;
           ordered = s.ordered;
           within = rw len s.within;
-          past = λ j before. elim (stage_at-set stages k j stage h) [
-            | inl (e, new) ↦ ap is_under_way new ∙ past
-            | inr (differ, old) ↦ ap is_under_way old ∙ s.past j before
-          ];
-          given = λ j before. elim (stage_at-set stages k j stage h) [
-            | inl (e, new) ↦ ap is_pending new ∙ given
-            | inr (differ, old) ↦ ap is_pending old ∙ s.given j before
-          ];
+          past = λ j before. set_keeps (λ x. is_under_way x ≡ false) stages k j stage h past (λ differ. s.past j before);
+          given = λ j before. set_keeps (λ x. is_pending x ≡ false) stages k j stage h given (λ differ. s.given j before);
           waiting = λ j le. elim (stage_at-set stages k j stage h) [
             | inl (e, new) ↦ absurd (let p = ap is_pending (s.waiting j le) in let q = (under_way done.ticket.0 (stage_at stages k) is).1 in let r = rw e at p in cc)
             | inr (differ, old) ↦ old ∙ s.waiting j le
           ];
-          distinct = λ i j t at_i at_j. elim (stage_at-set stages k i stage h) [
-            | inl (e, new) ↦ absurd (let it = sym (ap (is_handed t) new) ∙ at_i in let never = none t in cc)
-            | inr (differ, old) ↦ elim (stage_at-set stages k j stage h) [
-              | inl (e, new) ↦ absurd (let it = sym (ap (is_handed t) new) ∙ at_j in let never = none t in cc)
-              | inr (apart, still) ↦ s.distinct i j t (sym (ap (is_handed t) old) ∙ at_i) (sym (ap (is_handed t) still) ∙ at_j)
-            ]
-          ];
+          distinct = set_distinct k stage h (λ t j it was. let never = none t in cc);
           counted = counted;
         }
 

@@ -52,11 +52,8 @@ args_by (Err e) = Err e
 
 said-by : (q : Question) (limit : ℕ) (rs : List Response) → args_by (answered q limit rs) ≡ said q limit rs
 said-by q limit [] = refl
-said-by q limit (r ∷ rs) = by (refusal_of q.subject r.reply.answer r.args)
-  where
-    by : (o : Option Refusal) → args_by (unless_refusing o r) ≡ unless_refused o (args_of r)
-    by None = refl
-    by (Some refusal) = refl
+said-by q limit (r ∷ rs) =
+    elim (refusal_of q.subject r.reply.answer r.args) as (λ o. args_by (unless_refusing o r) ≡ unless_refused o (args_of r)) [ None ↦ refl | Some refusal ↦ refl ]
 
 pub asks-one : {q : Question} {request : List ℕ} {limit : ℕ} {before after : LinkState} (result : Result Response ToolRefusal) → Asks result q request limit before after
     → AsksOne (args_by result) q request limit before.turns after.turns before.given after.given before.taken after.taken

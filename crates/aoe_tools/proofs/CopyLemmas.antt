@@ -1,8 +1,7 @@
 -- The tools that copy sectors, step by step.
-use Rattle.std.proofs.Common.{ℕ, ◌≡◌, ◌+◌, ◌*◌, ◌≤◌, ◌<◌, Bool, true, false, List, [], ◌∷◌, length, Option, refl, ap, arith, inl, inr, length-append}
+use Rattle.std.proofs.Common.{ℕ, ◌≡◌, ◌+◌, ◌*◌, ◌≤◌, ◌<◌, Bool, List, [], ◌∷◌, length, Option, refl, ap, arith, inl, inr, length-append}
 use Rattle.std.specs.Prelude.{Result, Ok, Err, All}
 use Rattle.std.specs.List.{count_by}
-use Rattle.std.proofs.lemmas.Bool.{cases_lt}
 use Rattle.std.proofs.lemmas.List.Elements.{All-head, All-tail}
 use Rattle.aoe_base.specs.declared.address.Mac.{Mac}
 use Rattle.aoe_base.specs.declared.address.TargetId.{TargetId}
@@ -22,7 +21,7 @@ use Rattle.aoe_tools.specs.declared.lookup.Device.{Device}
 use Rattle.aoe_tools.specs.declared.question.Ask.{Ask}
 use Rattle.aoe_tools.specs.TransferAsks.{Finds, LinkState}
 use Rattle.aoe_tools.specs.TransferCourse.{count_if, left_in}
-use Rattle.aoe_tools.specs.TransferCopies.{Copies, IsFresh, MayRun, NotBegun, Range}
+use Rattle.aoe_tools.specs.TransferCopies.{Copies, CopiesAt, IsFresh, MayRun, Range}
 use Rattle.aoe_tools.specs.TransferRun.{host_of, IsFit, Runs}
 
 -- a part has a sector at least
@@ -47,8 +46,7 @@ fit-fresh {range} {c} {d} port id some short fresh tickets = record { attached =
         omega (arith, count_by-le-length waits c.block.parts, few, ap (λ (l : List ℕ). length l) fresh.cut.together, short)
 
     one : (b : Bool) → count_if b ≤ 1
-    one true = omega arith
-    one false = omega arith
+    one b = grind arith
 
     by : (q : Phase) → 0 + left_in q c ≤ 65536
     by phase.Parts = omega (arith, most, one c.flushes)
@@ -56,46 +54,25 @@ fit-fresh {range} {c} {d} port id some short fresh tickets = record { attached =
 
 -- the sectors are within the device, where the range wasn't refused
 pub is-within : (a b : ℕ) → ((a ≤ b → ⊥) → ⊥) → a ≤ b
-is-within a b not_not = elim (cases_lt b a) [
-  | inl above ↦ absurd (not_not (λ below. omega (arith, above, below)))
-  | inr within ↦ within
-]
+is-within a b not_not = grind arith
 
-module _ {ask : Ask} {id : TargetId} {range : Range} {least : ℕ} (first : ℕ) {before mid : LinkState} {answers later : Option (List ℕ)} (answered_is : Answers first least answers later) where
-  pub copies-unfound : {e : ToolRefusal} → Finds (Err e) ask id first before mid → Copies (Err e) ask id range least before mid answers later
-  copies-unfound {e} finds = record {
+-- a device was asked for, and then this was copied or not
+module _ {ask : Ask} {id : TargetId} {range : Range} {least : ℕ} (first : ℕ) {before mid after : LinkState} {answers later answers' : Option (List ℕ)}
+    {found : Result Device ToolRefusal} {result : Result Course ToolRefusal} (answered_is : Answers first least answers later) (finds : Finds found ask id first before mid) where
+  pub copies : CopiesAt found result ask id range mid after later answers' → Copies result ask id range least before after answers answers'
+  copies at = record {
     first = first;
     later = later;
     answered = answered_is;
-    found = Err e;
+    found = found;
     mid = mid;
     finds = finds;
-    copies = (refl, record { link = refl; clock = refl });
+    copies = at;
   }
 
-  module _ {d : Device} (finds : Finds (Ok d) ask id first before mid) where
-    pub copies-refused : {e : ToolRefusal} → NotBegun e range d → Copies (Err e) ask id range least before mid answers later
-    copies-refused {e} why = record {
-      first = first;
-      later = later;
-      answered = answered_is;
-      found = Ok d;
-      mid = mid;
-      finds = finds;
-      copies = inl (e, refl, why, record { link = refl; clock = refl });
-    }
-
-    pub copies-ran : {result : Result Course ToolRefusal} {start : Course} {after : LinkState} {answers' : Option (List ℕ)} → IsFresh range d start
-        → MayRun result ask id d start mid after later answers' → Copies result ask id range least before after answers answers'
-    copies-ran {start = start} fresh runs = record {
-      first = first;
-      later = later;
-      answered = answered_is;
-      found = Ok d;
-      mid = mid;
-      finds = finds;
-      copies = elim runs [ inl x ↦ inl (tool.NoMemory, x.0, inr refl, x.1) | inr x ↦ inr (start, fresh, x) ];
-    }
+pub ran-at : {ask : Ask} {id : TargetId} {range : Range} {mid after : LinkState} {later answers' : Option (List ℕ)} {d : Device} {result : Result Course ToolRefusal} {start : Course} → IsFresh range d start
+    → MayRun result ask id d start mid after later answers' → CopiesAt (Ok d) result ask id range mid after later answers'
+ran-at {start = start} fresh runs = elim runs [ inl x ↦ inl (tool.NoMemory, x.0, inr refl, x.1) | inr x ↦ inr (start, fresh, x) ]
 
 -- a run that ended so, from the host that was made
 module _ {ask : Ask} {id : TargetId} {d : Device} {host : Host} {start first last : Course} {before after : LinkState} {answers answers' : Option (List ℕ)}

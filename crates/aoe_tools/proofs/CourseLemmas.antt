@@ -69,18 +69,17 @@ left-handed ticket c op e = at c.phase refl e
     at phase.Flush is next = refl
     at (phase.Flushing flush) is next = absurd cc
 
-pub up-to-more : (last more : ℕ) (parts : List Part) → last ≤ more → AreUpTo last parts → AreUpTo more parts
+up-to-more : (last more : ℕ) (parts : List Part) → last ≤ more → AreUpTo last parts → AreUpTo more parts
 up-to-more last more [] below up = tt
 up-to-more last more (p ∷ parts) below up = ((λ ticket handed. omega (arith, below, up.0 ticket handed)), up-to-more last more parts below up.1)
 
 -- the tickets of a course stay in order
 pub up-to-handed : (last : ℕ) (ticket : Ticket) (c : Course) → ((last : ℕ) (ticket : Ticket) (parts : List Part) → AreUpTo last parts → last < ticket.0 → AreUpTo ticket.0 (hand ticket parts))
     → AreUpTo last c.block.parts → last < ticket.0 → AreUpTo ticket.0 (handed ticket c).block.parts
-up-to-handed last ticket c law up below = at c.phase
-  where
-    at : (p : Phase) → AreUpTo ticket.0 (hand_in p ticket c).block.parts
-    at phase.Parts = law last ticket c.block.parts up below
-    at _ = up-to-more last ticket.0 c.block.parts (omega (arith, below)) up
+up-to-handed last ticket c law up below = elim c.phase as (λ p. AreUpTo ticket.0 (hand_in p ticket c).block.parts) [
+  | phase.Parts ↦ law last ticket c.block.parts up below
+  | _ ↦ up-to-more last ticket.0 c.block.parts (omega (arith, below)) up
+]
 
 -- an outcome changes no part that wasn't submitted
 stays-pending : (write : Bool) (d : Done) (p : Part) → waits (part_after write d p) ≡ waits p
@@ -118,13 +117,9 @@ left-dones turns c dones = dones-keep (λ x. left x ≤ left c) (λ d x below. o
 
 pub up-to-dones : (last turns : ℕ) (c : Course) (dones : List Done) → ((last : ℕ) (block : Transfer) (done : Done) → AreUpTo last block.parts → AreUpTo last (settle block done).parts)
     → AreUpTo last c.block.parts → AreUpTo last (after_dones turns c dones).block.parts
-up-to-dones last turns c dones law up = dones-keep P keep turns c dones up
-  where
-    P : Course → Type 0
-    P x = AreUpTo last x.block.parts
-
-    keep : (d : Done) (x : Course) → P x → P (after_done d x)
-    keep d x p = by-done P d x (λ is. law last x.block d p) (λ is whole flushes. law last x.block d p) p
+up-to-dones last turns c dones law up =
+    let P : Course → Type 0 = λ x. AreUpTo last x.block.parts in
+    dones-keep P (λ d x p. by-done P d x (λ is. law last x.block d p) (λ is whole flushes. law last x.block d p) p) turns c dones up
 
 -- commands that were submitted are no longer left
 pub left-submitted : (c : Course) (submits : List Submission) → AreNext c submits → left (submitted c submits) + length submits ≡ left c

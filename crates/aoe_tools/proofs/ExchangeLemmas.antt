@@ -1,12 +1,12 @@
 -- The second part of a turn, of its three steps.
-use Rattle.std.proofs.Common.{ℕ, ◌≡◌, Bool, true, false, List, [], ◌++◌, Option, Some, None, sym, ap, ◌∙◌, inl, inr}
+use Rattle.std.proofs.Common.{ℕ, ◌≡◌, Bool, true, false, List, [], ◌++◌, map, drop, Option, Some, None, refl, sym, ap, ◌∙◌}
 use Rattle.aoe_initiator.proofs.MatchLemmas.{same-then}
-use Rattle.std.specs.Prelude.{Ok, Err}
+use Rattle.std.specs.Prelude.{◌⊎◌, Result, Ok}
 use Rattle.aoe_base.specs.declared.failure.Failed.{Failed}
 use Rattle.aoe_initiator.specs.declared.outcome.Done.{Done}
 use Rattle.aoe_initiator.specs.Host.{Host, IsSame, Matches}
 use Rattle.aoe_initiator.specs.HostLog.{Event}
-use Rattle.aoe_io.specs.Link.{Turn}
+use Rattle.aoe_io.specs.Link.{Added, Turn}
 use Rattle.aoe_tools.proofs.ListenLemmas.{Frames}
 use Rattle.aoe_tools.proofs.SubmitLemmas.{as-many}
 use Rattle.aoe_tools.specs.declared.course.Course.{Course}
@@ -16,6 +16,14 @@ use Rattle.aoe_tools.specs.TransferSteps.{is_heard, Broken, Exchanged, HearsOne,
 
 fit-held : {host host' : Host} {c : Course} → IsHeld host host' → IsFit host c → IsFit host' c
 fit-held {host} {host'} held fit = record { attached = as-many host host' held.same ∙ fit.attached; few = rw held.last fit.few; tickets = rw held.last fit.tickets }
+
+heard-some : (heard : Option Heard) → is_heard heard ≡ true → (h : Heard) × (heard ≡ Some h)
+heard-some None e = absurd cc
+heard-some (Some h) e = (h, refl)
+
+heard-none : (heard : Option Heard) → is_heard heard ≡ false → heard ≡ None
+heard-none None e = refl
+heard-none (Some h) e = absurd cc
 
 module _ {host h1 : Host} {c c1 : Course} (s : SubmitsSome host h1 c c1) (filled : IsFilled c1) {base : Host} {log : List Event}
     (same : IsSame base host) (m : Matches log host) where
@@ -58,37 +66,21 @@ module _ {host h1 : Host} {c c1 : Course} (s : SubmitsSome host h1 c c1) (filled
         )
 
     pub exchanged-answer : finished ≡ true → (h : Heard) × Exchanged base log c c3 h3 (Some h) start turned' given given' taken taken1
-    exchanged-answer is = at exchanged.0 (sym is ∙ exchanged.1) exchanged.2
-      where
-        at : (heard : Option Heard) → true ≡ is_heard heard → Exchanged base log c c3 h3 heard start turned' given given' taken taken1
-            → (h : Heard) × Exchanged base log c c3 h3 (Some h) start turned' given given' taken taken1
-        at None e x = absurd cc
-        at (Some h) e x = (h, x)
+    exchanged-answer is =
+        let some = heard-some exchanged.0 (sym exchanged.1 ∙ is) in
+        (some.0, rw some.1 at exchanged.2)
 
     pub exchanged-quiet : finished ≡ false → Exchanged base log c c3 h3 None start turned' given given' taken taken1
-    exchanged-quiet is = at exchanged.0 (sym is ∙ exchanged.1) exchanged.2
-      where
-        at : (heard : Option Heard) → false ≡ is_heard heard → Exchanged base log c c3 h3 heard start turned' given given' taken taken1
-            → Exchanged base log c c3 h3 None start turned' given given' taken taken1
-        at None e x = x
-        at (Some h) e x = absurd cc
+    exchanged-quiet is = rw (heard-none exchanged.0 (sym exchanged.1 ∙ is)) at exchanged.2
 
-  pub broken-send : {h2 : Host} {taken taken1 : Option Frames} {failed : Failed} → SendsSome (Err failed) h1 h2 taken taken1 → Broken base log c taken taken1
-  broken-send f = record {
+  -- the link failed
+  pub broken : {h2 : Host} {taken taken1 : Option Frames} {result : Result Unit Failed} (f : SendsSome result h1 h2 taken taken1)
+      → Added taken taken1 (map (λ o. o.frame) f.sent) ⊎ Added taken taken1 (drop 1 (map (λ o. o.frame) f.sent)) → Broken base log c taken taken1
+  broken f took = record {
     submits = s.submits;
     are = s.are;
     filled = filled1;
     sent = f.sent;
-    took = inr f.took;
-    sends = (f.sends base log1 same1 (s.matches log m)).0;
-  }
-
-  pub broken-hear : {h2 : Host} {taken taken1 : Option Frames} → SendsSome (Ok record {}) h1 h2 taken taken1 → Broken base log c taken taken1
-  broken-hear f = record {
-    submits = s.submits;
-    are = s.are;
-    filled = filled1;
-    sent = f.sent;
-    took = inl f.took;
+    took = took;
     sends = (f.sends base log1 same1 (s.matches log m)).0;
   }

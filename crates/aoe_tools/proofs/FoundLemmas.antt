@@ -25,9 +25,7 @@ unless_there (Some s) = s.ports.items
 same-is : (a b : TargetId) → same_id a b ≡ true → a ≡ b
 same-is a b same =
     let parts = and_parts (nat_eq a.major b.major) (nat_eq a.minor b.minor) same in
-    let major : a.major ≡ b.major = eqb-true a.major b.major parts.0 in
-    let minor : a.minor ≡ b.minor = eqb-true a.minor b.minor parts.1 in
-    rw (major, minor) refl
+    rw (eqb-true a.major b.major parts.0, eqb-true a.minor b.minor parts.1)
 
 inserted : (entries : List Entry) (d : Seen) → AreNamed entries → devices (insert_entry same_id entries d.id d) ≡ placed (devices entries) d
 inserted [] d named = refl

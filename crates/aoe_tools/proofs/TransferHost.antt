@@ -2,7 +2,7 @@
 use Rattle.std.proofs.Common.{ℕ, ◌≡◌, ◌≤◌, ◌<◌, ◌+◌, ◌*◌, ◌-◌, ◌^◌, ◌&&◌, cond, not, Bool, true, false, nat_eq, nat_le, List, [], ◌∷◌, length, map, Option, Some, None, refl, sym, ap, ◌∙◌, arith, inl, inr}
 use Rattle.aoe_initiator.proofs.MatchLemmas.{stage-unsent, sent-from}
 use Rattle.std.specs.Prelude.{option_map, All, Contains}
-use Rattle.std.specs.List.{count_by, list_any}
+use Rattle.std.specs.List.{cons_option, count_by, list_any}
 use Rattle.std.proofs.Math.Nat.{mul-le-mul_left}
 use Rattle.std.proofs.lemmas.List.Sums.{count_by-le-length}
 use Rattle.std.proofs.lemmas.Bool.{and_parts, cases_Bool, leb-true, and_right, eq-eqb}
@@ -74,11 +74,10 @@ not-due now wait done some = elim (cases_Bool (nat_le wait (now - now))) [
 ]
 
 sent-inactive : (now tag timeout : ℕ) (path : PathNo) (c : HostCommand) → 0 < timeout → active_by now c.done (Some (one_more tag (record { 0 = now }) path timeout c.sends)) ≡ false
-sent-inactive now tag timeout path c some = at c.sends
-  where
-    at : (o : Option Sending) → active_by now c.done (Some (one_more tag (record { 0 = now }) path timeout o)) ≡ false
-    at None = not-due now (wait_of timeout 1) c.done (some-wait timeout 1 some)
-    at (Some s) = not-due now (wait_of timeout (s.count + 1)) c.done (some-wait timeout (s.count + 1) some)
+sent-inactive now tag timeout path c some = elim c.sends as (λ o. active_by now c.done (Some (one_more tag (record { 0 = now }) path timeout o)) ≡ false) [
+  | None ↦ not-due now (wait_of timeout 1) c.done (some-wait timeout 1 some)
+  | Some s ↦ not-due now (wait_of timeout (s.count + 1)) c.done (some-wait timeout (s.count + 1) some)
+]
 
 module _ (log : List Event) (ticket : Ticket) (tag : ℕ) (path : PathNo) where
   abbrev sends : HostCommand → HostCommand
@@ -115,18 +114,13 @@ next-active host log sent m next = at sent.again next
         let from = sent-from (commands log) r.command r.first_due.there in
         let c = from.0 in
         let is : as_sent c ≡ Some r.command = ap (option_map (outstanding c)) from.1.sends ∙ ap Some (sym from.1.is) in
-        let due : is_due (clock log) r.command ≡ true = ap (λ (n : ℕ). is_due n r.command) (sym m.time) ∙ r.first_due.passes in
         let own : c.ticket ≡ sent.ticket = ap (λ (o : Outstanding). o.ticket) (sym from.1.is) ∙ r.ticket in
-        active-sent log sent.ticket sent.tag sent.path c from.1.there own (sym (due-active (clock log) c r.command is) ∙ due)
+        active-sent log sent.ticket sent.tag sent.path c from.1.there own (sym (due-active (clock log) c r.command is) ∙ rw m.time at r.first_due.passes)
     at false s =
         let c = s.command in
         let none : c.sends ≡ None =
         stage-unsent c.sends c.done (and_parts (unsent (stage c.sends c.done)) (not (list_any (λ earlier. keeps_back host.life host.clock earlier (as_entered c)) (entered_at c.device.0 (commands log)))) s.clear).0 in
         active-sent log sent.ticket sent.tag sent.path c s.there s.ticket (ap (active_by (clock log) c.done) none)
-
-abbrev with : Option Outstanding → List Outstanding → List Outstanding
-with None l = l
-with (Some x) l = x ∷ l
 
 -- where nothing is active nothing may be sent
 pub none-active : (host : Host) (log : List Event) → Matches log host → active log ≡ 0 → IsQuiet host (commands log)
@@ -145,7 +139,7 @@ none-active host log m none = record {
         P : Outstanding → Type 0
         P o = is_due host.clock o ≡ false
 
-        by : (x : Option Outstanding) → as_sent c ≡ x → All P (sent_of cs) → All P (with x (sent_of cs))
+        by : (x : Option Outstanding) → as_sent c ≡ x → All P (sent_of cs) → All P (cons_option x (sent_of cs))
         by None is rest = rest
         by (Some x) is rest = All-cons P x (sent_of cs) (due-active host.clock c x is ∙ All-head (λ y. is_active host.clock y ≡ false) c cs all) rest
 
@@ -154,11 +148,7 @@ none-active host log m none = record {
       where
         by : (o : Option Sending) → c.sends ≡ o → is_clear_at host.life host.clock (commands log) c ≡ false
         by None e = absurd (let active = rw e at is in cc)
-        by (Some s) e = rw e (sent-not c.done)
-          where
-            sent-not : (d : Bool) → (unsent (stage (Some s) d) && not (list_any (λ earlier. keeps_back host.life host.clock earlier (record (as_entered c) { stage = stage (Some s) d })) (entered_at c.device.0 (commands log)))) ≡ false
-            sent-not true = refl
-            sent-not false = refl
+        by (Some s) e = elim (cases_Bool c.done) [ inl done ↦ rw (e, done) | inr open_yet ↦ rw (e, open_yet) ]
 
 -- as many commands as tickets at most
 pub few-commands : (n last : ℕ) (cs : List HostCommand) → n ≤ last → Ascends n cs → All (λ c. c.ticket.0 ≤ last) cs → n + length cs ≤ last

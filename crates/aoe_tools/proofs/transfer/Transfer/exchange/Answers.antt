@@ -1,17 +1,17 @@
-use Rattle.std.proofs.Common.{◌∙◌}
-use Rattle.aoe_tools.proofs.ExchangeLemmas.{broken-hear, broken-send, exchanged-answer, exchanged-quiet}
+use Rattle.std.proofs.Common.{inl, inr, ◌∙◌}
+use Rattle.aoe_tools.proofs.ExchangeLemmas.{broken, exchanged-answer, exchanged-quiet}
 use Rattle.aoe_tools.proofs.transfer.Transfer.exchange.Goals as goal
 
 pub returns-in-Err-send_all-clause-exchanges : goal.returns-in-Err-send_all-clause-exchanges
 returns-in-Err-send_all-clause-exchanges g c = λ base log same m. (
-  broken-send c.submit_all.ensures.some c.in-Ok.ensures.filled same m c.in-Err-send_all.ensures.some,
+  broken c.submit_all.ensures.some c.in-Ok.ensures.filled same m c.in-Err-send_all.ensures.some (inr c.in-Err-send_all.ensures.some.took),
   record { turns = c.send_all.ensures.turns; given_is = c.send_all.ensures.given },
 )
 
 pub returns-in-Err-hear-clause-exchanges : goal.returns-in-Err-hear-clause-exchanges
 returns-in-Err-hear-clause-exchanges g c = λ base log same m.
     let u = c.in-Err-hear.ensures.err in (
-      rw c.hear.ensures.taken (broken-hear c.submit_all.ensures.some c.in-Ok.ensures.filled same m c.in-Ok-send_all.ensures.some),
+      rw c.hear.ensures.taken (broken c.submit_all.ensures.some c.in-Ok.ensures.filled same m c.in-Ok-send_all.ensures.some (inl c.in-Ok-send_all.ensures.some.took)),
       record { turns = u.turns ∙ c.send_all.ensures.turns; given_is = u.given_is ∙ c.send_all.ensures.given },
     )
 
