@@ -141,10 +141,6 @@ pub record So (turns quiet : ℕ) (base host : Host) (start c : Course) (from tu
   pub told : Told answers answers' (nows_of rounds)
   pub quiet_is : quiet ≡ quiet_turns rounds
 
-told-nothing : (a : Option (List ℕ)) → Told a a []
-told-nothing None = tt
-told-nothing (Some l) = refl
-
 pub begun : {turns : ℕ} {host : Host} {c : Course} {from : ℕ} {given : Option (List Turn)} {taken : Option Frames} {answers : Option (List ℕ)} → IsFit host c → Matches [] host → host.waiting ≡ []
     → So turns 0 host host c c from from given given taken taken answers answers
 begun {host = host} {from = from} {given} {taken} {answers} fit m waiting = record {
@@ -153,7 +149,7 @@ begun {host = host} {from = from} {given} {taken} {answers} fit m waiting = reco
   fit = fit;
   turned = turned-nothing from given;
   took = added-nothing taken;
-  told = told-nothing answers;
+  told = elim answers as (λ o. Told o o []) [ None ↦ tt | Some l ↦ refl ];
   quiet_is = refl;
 }
 
