@@ -1,5 +1,5 @@
 -- The orders of the commands, after each change of a slot.
-use Rattle.std.proofs.Common.{ℕ, ◌≡◌, ◌≢◌, Bool, true, false, List, Option, Some, ◌⊎◌, inl, inr, sym, ap, subst, ◌∙◌}
+use Rattle.std.proofs.Common.{ℕ, ◌≡◌, ◌≢◌, Bool, true, false, List, Option, Some, ◌⊎◌, inl, inr, sym, ap, ◌∙◌}
 use Rattle.std.specs.Prelude.{Contains}
 use Rattle.std.proofs.lemmas.Bool.{cases_eq}
 use Rattle.slab.specs.Slab.{get, Slab, Updates}
@@ -14,7 +14,7 @@ pub record IsOrderBut (slab : Slab Outstanding) (k : ℕ) (test : Outstanding �
   pub all : (slot : ℕ) (c : Outstanding) → slot ≢ k → get slab slot ≡ Some c → test c ≡ true → Contains entries (entry slot c)
 
 pub same-command : (slab : Slab Outstanding) (k : ℕ) (c d : Outstanding) → get slab k ≡ Some c → get slab k ≡ Some d → c ≡ d
-same-command slab k c d one two = let both : Some c ≡ Some d = sym one ∙ two in cc
+same-command slab k c d one two = cc
 
 pub left-out : (slab : Slab Outstanding) (k : ℕ) (test : Outstanding → Bool) (entry : ℕ → Outstanding → Entry) (c : Outstanding) (old new : List Entry)
     → ((j : ℕ) (d : Outstanding) → (entry j d).slot ≡ j) → get slab k ≡ Some c
@@ -65,8 +65,7 @@ put-in slab k test entry c old new slots there passes in_new kept only o = recor
   ];
   all = λ j d at d_passes. elim (cases_eq j k) [
     | inl same ↦
-        let P : ℕ → Type 0 = λ n. get slab n ≡ Some d in
-        let one : c ≡ d = same-command slab k c d there (subst P same at) in
+        let one : c ≡ d = same-command slab k c d there (rw same at at) in
         rw (← (ap (entry k) one ∙ ap (λ n. entry n d) (sym same))) in_new
     | inr other ↦ kept (entry j d) (o.all j d other at d_passes)
   ];
@@ -77,7 +76,7 @@ pub stays-out : (slab : Slab Outstanding) (k : ℕ) (test : Outstanding → Bool
 stays-out slab k test entry entries fails o = record {
   only = o.only;
   all = λ j d at passes. elim (cases_eq j k) [
-    | inl same ↦ let P : ℕ → Type 0 = λ n. get slab n ≡ Some d in let out = fails d (subst P same at) in absurd cc
+    | inl same ↦ let out = fails d (rw same at at) in absurd cc
     | inr other ↦ o.all j d other at passes
   ];
 }
@@ -101,8 +100,7 @@ same-order old new k test entry c d entries there updates tests entries_are o = 
       ];
   all = λ j f at passes. elim (cases_eq j k) [
     | inl same ↦
-        let P : ℕ → Type 0 = λ n. get new n ≡ Some f in
-        let one : d ≡ f = same-command new k d f updates.changed (subst P same at) in
+        let one : d ≡ f = same-command new k d f updates.changed (rw same at at) in
         rw (← (sym (entries_are j) ∙ ap (entry j) one)) (o.all j c (rw same there) (sym tests ∙ ap test one ∙ passes))
     | inr other ↦ o.all j f (sym (updates.others j other) ∙ at) passes
   ];

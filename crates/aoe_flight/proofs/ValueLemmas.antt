@@ -2,7 +2,7 @@
 use Rattle.std.proofs.Common.{ℕ, zero, suc, ◌≡◌, ◌+◌, ◌<◌, ◌≤◌, cond, not, Bool, true, false, List, [], ◌∷◌, length, length-set, map, get_or, set, ◌||◌, Option, Some, None, inl, inr, refl, sym, ap, subst, ◌∙◌, arith}
 use Rattle.std.specs.Prelude.{is_some, Contains, All, IfNone, IfSome, option_map}
 use Rattle.std.specs.List.{find, list_any}
-use Rattle.std.proofs.lemmas.Bool.{cases_eq, cases_lt}
+use Rattle.std.proofs.lemmas.Bool.{cases_Bool, cases_eq, cases_lt, or_right}
 use Rattle.std.proofs.lemmas.List.Elements.{All-cons, All-nil}
 use Rattle.slab.specs.Slab.{get, values, with_value, Slab}
 use Rattle.slab.proofs.SlabLemmas.{Contains-cons, Updates-with_value}
@@ -15,16 +15,16 @@ use Rattle.aoe_flight.proofs.SlotLemmas.{held, live-shorter}
 pub find-at : (p : Outstanding → Bool) (slots : List (Option Outstanding)) (k : ℕ) (c : Outstanding) → get_or slots k None ≡ Some c → p c ≡ true
     → ((j : ℕ) (d : Outstanding) → j < k → get_or slots j None ≡ Some d → p d ≡ false) → find p (held slots) ≡ Some c
 find-at p [] k c is passes first = absurd cc
-find-at p (o ∷ slots) zero c is passes first = ap (find p) (cons-some c o slots is) ∙ rw passes refl
-find-at p (None ∷ slots) (suc k) c is passes first = find-at p slots k c is passes (λ j d below at. first (suc j) d (omega (arith, below)) at)
+find-at p (o ∷ slots) zero c is passes first = rw (is, passes)
+find-at p (None ∷ slots) (suc k) c is passes first = find-at p slots k c is passes (λ j d below at. first (suc j) d (omega arith) at)
 find-at p (Some d ∷ slots) (suc k) c is passes first =
-    let out : p d ≡ false = first 0 d (omega arith) refl in
-    rw out (find-at p slots k c is passes (λ j e below at. first (suc j) e (omega (arith, below)) at))
+    rw (first 0 d (omega arith) refl) (find-at p slots k c is passes (λ j e below at. first (suc j) e (omega arith) at))
 
-pub find-none : (p : Outstanding → Bool) (slots : List (Option Outstanding)) → ((k : ℕ) (c : Outstanding) → get_or slots k None ≡ Some c → p c ≡ false) → find p (held slots) ≡ None
+pub find-none : (p : Outstanding → Bool) (slots : List (Option Outstanding)) → ((k : ℕ) (c : Outstanding) → get_or slots k None ≡ Some c → p c ≡ false)
+    → find p (held slots) ≡ None
 find-none p [] out = refl
 find-none p (None ∷ slots) out = find-none p slots (λ k c at. out (suc k) c at)
-find-none p (Some d ∷ slots) out = let here : p d ≡ false = out 0 d refl in rw here (find-none p slots (λ k c at. out (suc k) c at))
+find-none p (Some d ∷ slots) out = rw (out 0 d refl) (find-none p slots (λ k c at. out (suc k) c at))
 
 pub all-held : (P : Outstanding → Type 0) (slots : List (Option Outstanding)) → ((k : ℕ) (c : Outstanding) → get_or slots k None ≡ Some c → P c) → All P (held slots)
 all-held P [] each = All-nil P
@@ -33,46 +33,41 @@ all-held P (Some d ∷ slots) each = All-cons P d (held slots) (each 0 d refl) (
 
 pub held-at : (slots : List (Option Outstanding)) (k : ℕ) (c : Outstanding) → get_or slots k None ≡ Some c → Contains (held slots) c
 held-at [] k c is = absurd cc
-held-at (o ∷ slots) zero c is = let P : List Outstanding → Type 0 = λ l. Contains l c in subst P (sym (cons-some c o slots is)) (0, omega arith, refl)
+held-at (o ∷ slots) zero c is = rw is (0, omega arith, refl)
 held-at (None ∷ slots) (suc k) c is = held-at slots k c is
 held-at (Some d ∷ slots) (suc k) c is = Contains-cons d c (held slots) (held-at slots k c is)
 
-pub any-held : (p : Outstanding → Bool) (slots : List (Option Outstanding)) (k : ℕ) (c : Outstanding) → get_or slots k None ≡ Some c → p c ≡ true → list_any p (held slots) ≡ true
+pub any-held : (p : Outstanding → Bool) (slots : List (Option Outstanding)) (k : ℕ) (c : Outstanding) → get_or slots k None ≡ Some c → p c ≡ true
+    → list_any p (held slots) ≡ true
 any-held p [] k c is passes = absurd cc
-any-held p (o ∷ slots) zero c is passes = ap (list_any p) (cons-some c o slots is) ∙ rw passes refl
+any-held p (o ∷ slots) zero c is passes = rw (is, passes)
 any-held p (None ∷ slots) (suc k) c is passes = any-held p slots k c is passes
-any-held p (Some d ∷ slots) (suc k) c is passes = at (p d) (any-held p slots k c is passes)
-  where
-    at : (b : Bool) → list_any p (held slots) ≡ true → (b || list_any p (held slots)) ≡ true
-    at true rest = refl
-    at false rest = rest
+any-held p (Some d ∷ slots) (suc k) c is passes = or_right (p d) _ (any-held p slots k c is passes)
 
-pub none-held : (p : Outstanding → Bool) (slots : List (Option Outstanding)) → ((k : ℕ) (c : Outstanding) → get_or slots k None ≡ Some c → p c ≡ false) → list_any p (held slots) ≡ false
+pub none-held : (p : Outstanding → Bool) (slots : List (Option Outstanding)) → ((k : ℕ) (c : Outstanding) → get_or slots k None ≡ Some c → p c ≡ false)
+    → list_any p (held slots) ≡ false
 none-held p [] out = refl
 none-held p (None ∷ slots) out = none-held p slots (λ k c at. out (suc k) c at)
-none-held p (Some d ∷ slots) out = let here : p d ≡ false = out 0 d refl in rw here (none-held p slots (λ k c at. out (suc k) c at))
+none-held p (Some d ∷ slots) out = rw (out 0 d refl) (none-held p slots (λ k c at. out (suc k) c at))
 
 some-none : (f : Outstanding → Outstanding) (o : Option Outstanding) → None ≡ option_map f o → o ≡ None
 some-none f None is = refl
 some-none f (Some c) is = absurd cc
 
-pub mapped-held : (f : Outstanding → Outstanding) (xs ys : List (Option Outstanding)) → ((k : ℕ) → get_or ys k None ≡ option_map f (get_or xs k None)) → held ys ≡ map f (held xs)
+mapped-held : (f : Outstanding → Outstanding) (xs ys : List (Option Outstanding))
+    → ((k : ℕ) → get_or ys k None ≡ option_map f (get_or xs k None)) → held ys ≡ map f (held xs)
 mapped-held f [] ys each = no-values ys each
 mapped-held f (o ∷ xs) [] each = ap (map f) (sym (no-values (o ∷ xs) (λ k. some-none f (get_or (o ∷ xs) k None) (each k))))
 mapped-held f (None ∷ xs) (n ∷ ys) each = cons-none n ys (each 0) ∙ mapped-held f xs ys (λ k. each (suc k))
 mapped-held f (Some c ∷ xs) (n ∷ ys) each = cons-some (f c) n ys (each 0) ∙ ap (λ (l : List Outstanding). f c ∷ l) (mapped-held f xs ys (λ k. each (suc k)))
 
 -- one that rested out isn't missed
-pub dropped-live : (rest now : ℕ) (slots : List (Option Outstanding)) (k : ℕ) (c : Outstanding) → get_or slots k None ≡ Some c → is_over rest now c ≡ true → live rest now (held (set slots k None)) ≡ live rest now (held slots)
+pub dropped-live : (rest now : ℕ) (slots : List (Option Outstanding)) (k : ℕ) (c : Outstanding) → get_or slots k None ≡ Some c → is_over rest now c ≡ true
+    → live rest now (held (set slots k None)) ≡ live rest now (held slots)
 dropped-live rest now [] k c is out = absurd cc
-dropped-live rest now (o ∷ slots) zero c is out = sym (ap (live rest now) (cons-some c o slots is) ∙ rw out refl)
+dropped-live rest now (o ∷ slots) zero c is out = rw (is, out)
 dropped-live rest now (None ∷ slots) (suc k) c is out = dropped-live rest now slots k c is out
-dropped-live rest now (Some d ∷ slots) (suc k) c is out = at (not (is_over rest now d)) (dropped-live rest now slots k c is out)
-  where
-    at : (b : Bool) → live rest now (held (set slots k None)) ≡ live rest now (held slots)
-        → cond b (d ∷ live rest now (held (set slots k None))) (live rest now (held (set slots k None))) ≡ cond b (d ∷ live rest now (held slots)) (live rest now (held slots))
-    at true same = ap (λ (l : List Outstanding). d ∷ l) same
-    at false same = same
+dropped-live rest now (Some d ∷ slots) (suc k) c is out = rw (dropped-live rest now slots k c is out)
 
 -- the commands in the slots below one have their change
 pub record Changed (f : Outstanding → Outstanding) (old new : Slab Outstanding) (from : ℕ) : Type 0 where
@@ -81,21 +76,20 @@ pub record Changed (f : Outstanding → Outstanding) (old new : Slab Outstanding
   pub capacity : new.capacity ≡ old.capacity
   pub long : length new.slots ≡ length old.slots
 
-unmoved : (f : Outstanding → Outstanding) (p : Outstanding → Bool) (o : Option Outstanding) → ((d : Outstanding) → p d ≡ false → f d ≡ d) → ((d : Outstanding) → o ≡ Some d → p d ≡ false) → o ≡ option_map f o
+unmoved : (f : Outstanding → Outstanding) (p : Outstanding → Bool) (o : Option Outstanding) → ((d : Outstanding) → p d ≡ false → f d ≡ d)
+    → ((d : Outstanding) → o ≡ Some d → p d ≡ false) → o ≡ option_map f o
 unmoved f p None stays out = refl
-unmoved f p (Some d) stays out = ap (λ (e : Outstanding). Some e) (sym (stays d (out d refl)))
+unmoved f p (Some d) stays out = rw (stays d (out d refl))
 
-pub changed-more : (f : Outstanding → Outstanding) (p : Outstanding → Bool) (old now next : Slab Outstanding) (from slot : ℕ) (c d : Outstanding) → ((e : Outstanding) → p e ≡ false → f e ≡ e) → f c ≡ d
+pub changed-more : {f : Outstanding → Outstanding} {p : Outstanding → Bool} {old now : Slab Outstanding} {from slot : ℕ} {c : Outstanding} (next : Slab Outstanding) (d : Outstanding)
+    → ((e : Outstanding) → p e ≡ false → f e ≡ e) → f c ≡ d
     → Changed f old now from → IsFirstSlot p now from slot c → next ≡ with_value now slot d → Changed f old next (slot + 1)
-changed-more f p old now next from slot c d stays is changed first next_is =
-    let P : Slab Outstanding → Type 0 = λ s. Changed f old s (slot + 1) in
-    let held_there : get now slot ≡ Some c = first.there in
-    let updates = Updates-with_value now slot d (rw held_there refl) in
-    subst P (sym next_is) (record {
+changed-more {f} {p} {old} {now} {from} {slot} {c} next d stays is changed first next_is =
+    let there : get now slot ≡ Some c = first.there in
+    let updates = Updates-with_value now slot d (rw there refl) in
+    rw next_is (record {
       below = λ k less. elim (cases_eq k slot) [
-        | inl same ↦
-            let before : get old slot ≡ Some c = sym (changed.above slot first.behind) ∙ first.there in
-            rw same (updates.changed ∙ ap (λ (e : Outstanding). Some e) (sym is) ∙ sym (ap (option_map f) before))
+        | inl same ↦ rw (same, updates.changed, ← changed.above slot first.behind, there, is)
         | inr other ↦ updates.others k other ∙ elim (cases_lt k from) [
           | inl under ↦ changed.below k under
           | inr over ↦
@@ -117,34 +111,32 @@ changed-all f p old now from stays changed none =
     ])
 
 -- nothing passes, so nothing is the best
-pub best-nothing : (test : Outstanding → Bool) (before : Outstanding → Outstanding → Bool) (commands : List Outstanding) → All (λ c. test c ≡ false) commands → best test before None commands ≡ None
+pub best-nothing : (test : Outstanding → Bool) (before : Outstanding → Outstanding → Bool) (commands : List Outstanding) → All (λ c. test c ≡ false) commands
+    → best test before None commands ≡ None
 best-nothing test before [] none = refl
-best-nothing test before (c ∷ commands) none =
-    let here : test c ≡ false = none 0 c (omega arith) in
-    rw here (best-nothing test before commands (λ k d below. none (suc k) d (omega (arith, below))))
+best-nothing test before (c ∷ commands) none = rw (none 0 c (omega arith)) (best-nothing test before commands (λ k d below. none (suc k) d (omega arith)))
 
-pub live-less : (rest now : ℕ) (slots : List (Option Outstanding)) (k : ℕ) (c : Outstanding) → get_or slots k None ≡ Some c → is_over rest now c ≡ true → length (live rest now (held slots)) < length (held slots)
+live-less : (rest now : ℕ) (slots : List (Option Outstanding)) (k : ℕ) (c : Outstanding) → get_or slots k None ≡ Some c → is_over rest now c ≡ true
+    → length (live rest now (held slots)) < length (held slots)
 live-less rest now [] k c is out = absurd cc
-live-less rest now (o ∷ slots) zero c is out =
-    rw (cons-some c o slots is) (rw out (omega (arith, live-shorter rest now (held slots))))
+live-less rest now (o ∷ slots) zero c is out = rw (is, out) (omega (arith, live-shorter rest now (held slots)))
 live-less rest now (None ∷ slots) (suc k) c is out = live-less rest now slots k c is out
-live-less rest now (Some d ∷ slots) (suc k) c is out = at (not (is_over rest now d)) (live-less rest now slots k c is out)
-  where
-    at : (b : Bool) → length (live rest now (held slots)) < length (held slots) → length (cond b (d ∷ live rest now (held slots)) (live rest now (held slots))) < suc (length (held slots))
-    at true less = omega (arith, less)
-    at false less = omega (arith, less)
+live-less rest now (Some d ∷ slots) (suc k) c is out =
+    let less = live-less rest now slots k c is out in
+    elim (cases_Bool (is_over rest now d)) [ inl over ↦ rw over (omega arith) | inr stays ↦ rw stays (omega arith) ]
 
 pub live-all : (rest now : ℕ) (commands : List Outstanding) → All (λ c. is_over rest now c ≡ false) commands → live rest now commands ≡ commands
 live-all rest now [] none = refl
 live-all rest now (c ∷ commands) none =
-    let here : is_over rest now c ≡ false = none 0 c (omega arith) in
-    rw here (ap (λ (l : List Outstanding). c ∷ l) (live-all rest now commands (λ k d below. none (suc k) d (omega (arith, below)))))
+    rw (none 0 c (omega arith), live-all rest now commands (λ k d below. none (suc k) d (omega arith)))
 
-pub any-over : (rest now : ℕ) (slab : Slab Outstanding) (r : Option (ℕ × Outstanding)) (b : Bool) → b ≡ is_some r → IfSome r (λ found. (get slab found.0 ≡ Some found.1) × (is_over rest now found.1 ≡ true))
+pub any-over : (rest now : ℕ) (slab : Slab Outstanding) (r : Option (ℕ × Outstanding)) (b : Bool) → b ≡ is_some r
+    → IfSome r (λ found. (get slab found.0 ≡ Some found.1) × (is_over rest now found.1 ≡ true))
     → b ≡ true → length (live rest now (values slab)) < length (values slab)
-any-over rest now slab None b is some yes_some = let clash : false ≡ true = sym is ∙ yes_some in absurd cc
+any-over rest now slab None b is some yes_some = absurd cc
 any-over rest now slab (Some found) b is some yes_some = live-less rest now slab.slots found.0 found.1 some.0 some.1
 
-pub none-over : (rest now : ℕ) (slab : Slab Outstanding) (r : Option (ℕ × Outstanding)) (b : Bool) → b ≡ is_some r → IfNone r (All (λ c. is_over rest now c ≡ false) (values slab)) → b ≡ false → live rest now (values slab) ≡ values slab
+pub none-over : (rest now : ℕ) (slab : Slab Outstanding) (r : Option (ℕ × Outstanding)) (b : Bool) → b ≡ is_some r
+    → IfNone r (All (λ c. is_over rest now c ≡ false) (values slab)) → b ≡ false → live rest now (values slab) ≡ values slab
 none-over rest now slab None b is none out = live-all rest now (values slab) none
-none-over rest now slab (Some found) b is none out = let clash : true ≡ false = sym is ∙ out in absurd cc
+none-over rest now slab (Some found) b is none out = absurd cc

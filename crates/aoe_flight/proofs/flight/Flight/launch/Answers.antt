@@ -11,19 +11,17 @@ use Rattle.aoe_flight.proofs.RecallLemmas.{free-recalled, recalls-launch}
 use Rattle.aoe_flight.proofs.flight.Flight.launch.Goals as goal
 
 pub invariant_of-self : goal.invariant_of-self
-invariant_of-self c =
-    let later = time-of (values c.self.inside.commands) c.self.view_is c.args.now.0 c.requires in (
-      sound-live c.self.inside.rest.0 c.args.now.0 c.forget.ensures.values c.forget.ensures.capacity c.self.invariant.0,
-      past-live c.self.inside.latest.0 c.self.inside.rest.0 c.args.now.0 (values c.self.inside.commands) _ c.forget.ensures.values later c.self.invariant.1,
-    )
+invariant_of-self c = (
+  sound-live c.self.inside.rest.0 c.args.now.0 c.forget.ensures.values c.forget.ensures.capacity c.self.invariant.0,
+  past-live c.self.inside.latest.0 c.self.inside.rest.0 c.args.now.0 (values c.self.inside.commands) _ c.forget.ensures.values
+      (time-of (values c.self.inside.commands) c.self.view_is c.args.now.0 c.requires) c.self.invariant.1,
+)
 
 pub returns-then-len-self-clause-full : goal.returns-then-len-self-clause-full
 returns-then-len-self-clause-full c =
-    let live = live-view (values c.self.inside.commands) c.self.view_is c.args.now.0 c.requires in
-    let kept = live ∙ sym c.forget.ensures.values in
     let room = ap (λ (t : FlightTable). t.room) c.self.view_is in
-    let count : c.len.result ≡ length (values c.forget.new.self) = c.len.ensures in
-    rw kept (omega (arith, room, count, c.if-len-self.true))
+    rw (live-view (values c.self.inside.commands) c.self.view_is c.args.now.0 c.requires ∙ sym c.forget.ensures.values)
+    (omega (arith, room, c.len.ensures, c.if-len-self.true))
 
 pub returns-then-len-self-clause-unchanged : goal.returns-then-len-self-clause-unchanged
 returns-then-len-self-clause-unchanged c = forget-value (values c.self.inside.commands) c.self.view_is c.args.now.0 _ c.requires c.forget.ensures.values
@@ -41,57 +39,50 @@ next_tag-tag-requires c =
 pub insert-requires-clause-room : goal.insert-requires-clause-room
 insert-requires-clause-room c =
     let sound = sound-live c.self.inside.rest.0 c.args.now.0 c.forget.ensures.values c.forget.ensures.capacity c.self.invariant.0 in
-    let count : c.len.result ≡ length (values c.forget.new.self) = c.len.ensures in
-    omega (arith, count, c.if-len-self.false, sound.reserved)
+    omega (arith, c.len.ensures, c.if-len-self.false, sound.reserved)
 
 pub invariant_of-self-2 : goal.invariant_of-self-2
 invariant_of-self-2 c =
-    let count : c.len.result ≡ length (values c.forget.new.self) = c.len.ensures in
+    let kept = values c.forget.new.self in
     let sound = sound-live c.self.inside.rest.0 c.args.now.0 c.forget.ensures.values c.forget.ensures.capacity c.self.invariant.0 in
-    let free = ap (λ (d : Outstanding). is_taken (values c.forget.new.self) d.flying.tag) c.launched-command.ensures ∙ c.next_tag-tag.ensures.free in
-    let after = sound-new c.launched-command.result (values c.insert.new.self) c.insert.ensures.values free c.insert.ensures.capacity (omega (arith, count, c.if-len-self.false)) sound in
     let later = time-of (values c.self.inside.commands) c.self.view_is c.args.now.0 c.requires in
-    let past = past-live c.self.inside.latest.0 c.self.inside.rest.0 c.args.now.0 (values c.self.inside.commands) (values c.forget.new.self) c.forget.ensures.values later c.self.invariant.1 in
-    let last : c.launched-command.result.flying.last.0 ≡ c.args.now.0 = ap (λ (d : Outstanding). d.flying.last.0) c.launched-command.ensures in
-    (after, past-launched c.args.now.0 c.launched-command.result (values c.forget.new.self) (values c.insert.new.self) (omega (arith, last)) c.insert.ensures.values past)
+    let past = past-live c.self.inside.latest.0 c.self.inside.rest.0 c.args.now.0 (values c.self.inside.commands) kept c.forget.ensures.values later c.self.invariant.1 in
+    let last : c.launched-command.result.flying.last.0 ≡ c.args.now.0 = rw c.launched-command.ensures refl in (
+      sound-new c.launched-command.result (values c.insert.new.self) c.insert.ensures.values (rw c.launched-command.ensures c.next_tag-tag.ensures.free)
+          c.insert.ensures.capacity (omega (arith, c.len.ensures, c.if-len-self.false)) sound,
+      past-launched c.args.now.0 c.launched-command.result kept (values c.insert.new.self) (omega (arith, last)) c.insert.ensures.values past,
+    )
 
 pub returns-clause-room : goal.returns-clause-room
 returns-clause-room c =
-    let live = live-view (values c.self.inside.commands) c.self.view_is c.args.now.0 c.requires in
-    let kept = live ∙ sym c.forget.ensures.values in
     let room = ap (λ (t : FlightTable). t.room) c.self.view_is in
-    let count : c.len.result ≡ length (values c.forget.new.self) = c.len.ensures in
-    rw kept (omega (arith, room, count, c.if-len-self.false))
+    rw (live-view (values c.self.inside.commands) c.self.view_is c.args.now.0 c.requires ∙ sym c.forget.ensures.values)
+    (omega (arith, room, c.len.ensures, c.if-len-self.false))
 
 pub returns-clause-tag : goal.returns-clause-tag
 returns-clause-tag c =
-    let live = live-view (values c.self.inside.commands) c.self.view_is c.args.now.0 c.requires in
-    let kept = live ∙ sym c.forget.ensures.values in
-    let room = ap (λ (t : FlightTable). t.room) c.self.view_is in
     let last = ap (λ (t : FlightTable). t.last_tag) c.self.view_is in
-    rw (kept, ← last) c.next_tag-tag.ensures
+    rw (live-view (values c.self.inside.commands) c.self.view_is c.args.now.0 c.requires ∙ sym c.forget.ensures.values, ← last) c.next_tag-tag.ensures
 
 pub returns-clause-command : goal.returns-clause-command
 returns-clause-command c =
-    let old = live-view (values c.self.inside.commands) c.self.view_is c.args.now.0 c.requires in
     let new = launched c.args.ticket c.next_tag-tag.result c.args.now c.args.path c.args.wait in
-    let all : IsPermutation (new ∷ live c.self.inside.rest.0 c.args.now.0 (values c.self.inside.commands)) (values c.insert.new.self) = rw (← c.forget.ensures.values) (rw (← c.launched-command.ensures) c.insert.ensures.values) in
+    let all = rw c.forget.ensures.values at (rw c.launched-command.ensures at c.insert.ensures.values) in
     let alive = live-new c.self.inside.rest.0 c.args.now.0 new (values c.self.inside.commands) (values c.insert.new.self) refl all in
-    rw (old, alive) all
+    rw (live-view (values c.self.inside.commands) c.self.view_is c.args.now.0 c.requires, alive) all
 
 pub returns-clause-flies : goal.returns-clause-flies
 returns-clause-flies c =
     let new = launched c.args.ticket c.next_tag-tag.result c.args.now c.args.path c.args.wait in
-    let all : IsPermutation (new ∷ live c.self.inside.rest.0 c.args.now.0 (values c.self.inside.commands)) (values c.insert.new.self) = rw (← c.forget.ensures.values) (rw (← c.launched-command.ensures) c.insert.ensures.values) in
+    let all = rw c.forget.ensures.values at (rw c.launched-command.ensures at c.insert.ensures.values) in
     let alive = live-new c.self.inside.rest.0 c.args.now.0 new (values c.self.inside.commands) (values c.insert.new.self) refl all in
-    rw alive (flies-new c.args.ticket.0 new (live c.self.inside.rest.0 c.args.now.0 (values c.self.inside.commands)) (values c.insert.new.self) all (eq-eqb c.args.ticket.0 c.args.ticket.0 refl))
+    rw alive (flies-new c.args.ticket.0 new _ (values c.insert.new.self) all (eq-eqb c.args.ticket.0 c.args.ticket.0 refl))
 
 pub returns-clause-distinct : goal.returns-clause-distinct
 returns-clause-distinct c =
-    let count : c.len.result ≡ length (values c.forget.new.self) = c.len.ensures in
     let sound = sound-live c.self.inside.rest.0 c.args.now.0 c.forget.ensures.values c.forget.ensures.capacity c.self.invariant.0 in
-    let free = ap (λ (d : Outstanding). is_taken (values c.forget.new.self) d.flying.tag) c.launched-command.ensures ∙ c.next_tag-tag.ensures.free in
-    let after = sound-new c.launched-command.result (values c.insert.new.self) c.insert.ensures.values free c.insert.ensures.capacity (omega (arith, count, c.if-len-self.false)) sound in
+    let after = sound-new c.launched-command.result (values c.insert.new.self) c.insert.ensures.values (rw c.launched-command.ensures c.next_tag-tag.ensures.free)
+    c.insert.ensures.capacity (omega (arith, c.len.ensures, c.if-len-self.false)) sound in
     λ tag. count-live c.self.inside.rest.0 c.args.now.0 (values c.insert.new.self) tag (after.distinct tag)
 
 pub returns-clause-same : goal.returns-clause-same
@@ -99,9 +90,7 @@ returns-clause-same c = search rules
 
 pub returns-clause-recalls : goal.returns-clause-recalls
 returns-clause-recalls c = λ sent recalls.
-    let new = launched c.args.ticket c.next_tag-tag.result c.args.now c.args.path c.args.wait in
-    let same = returns-clause-same c in
-    recalls-launch c.args.self.now _ sent new c.args.now.0 c.next_tag-tag.result refl same (returns-clause-command c) recalls c.requires
+    recalls-launch c.args.self.now _ sent _ c.args.now.0 c.next_tag-tag.result refl (returns-clause-same c) (returns-clause-command c) recalls c.requires
 
 pub returns-clause-free : goal.returns-clause-free
 returns-clause-free c = λ sent recalls. free-recalled c.args.self.now sent c.args.now.0 c.next_tag-tag.result recalls c.requires (returns-clause-tag c).free

@@ -10,28 +10,25 @@ insert-requires-2 c =
     let i = c.self.invariant in
     let at = rw (← c.self.view_is) at c.requires.there in
     let out = c.remove-2.ensures in
-    let gone = removed _ _ (by_ticket c.args.slot c.args.command) c.by_ticket.result c.by_ticket.ensures out.shorter out.length out.kept out.only in
+    let gone = removed c.self.inside.tickets c.remove-2.new.self (by_ticket c.args.slot c.args.command) _ c.by_ticket.ensures out.shorter out.length out.kept out.only out.room in
     let less = gone.fewer (i.has_tickets.all c.args.slot c.args.command at (flies-true c.args.command c.requires.flies)) in
     omega (arith, less, i.tickets_room.fits, i.fits, i.resting_room)
 
 pub invariant_of-self : goal.invariant_of-self
 invariant_of-self c =
-    let slab = c.self.inside.slots in
-    let k = c.args.slot in
-    let command = c.args.command in
     let at = rw (← c.self.view_is) at c.requires.there in
+    let old = c.self.inside in
     let tag_out = c.remove.ensures in
     let ticket_out = c.remove-2.ensures in
     let due_out = c.remove-3.ensures in
     let first_out = c.remove-4.ensures in
     let tag_in = c.insert.ensures in
     let last_in = c.insert-2.ensures in
-    indexed-finished slab (with_value slab k (after_finish command)) k command (after_finish command) c.self.inside.tags c.remove.new.self c.insert.new.self c.self.inside.tickets c.remove-2.new.self
-    c.self.inside.dues c.remove-3.new.self c.self.inside.firsts c.remove-4.new.self c.self.inside.rests c.insert-2.new.self at c.requires.flies refl refl
-    (removed _ _ (by_tag k command) c.by_tag.result c.by_tag.ensures tag_out.shorter tag_out.length tag_out.kept tag_out.only)
-    (inserted _ _ (by_tag k (after_finish command)) c.by_tag-2.result c.by_tag-2.ensures tag_in.length tag_in.there tag_in.kept tag_in.only) (tag_in.room ∙ tag_out.room)
-    (removed _ _ (by_ticket k command) c.by_ticket.result c.by_ticket.ensures ticket_out.shorter ticket_out.length ticket_out.kept ticket_out.only) ticket_out.room
-    (removed _ _ (by_due k command) c.by_due.result c.by_due.ensures due_out.shorter due_out.length due_out.kept due_out.only) due_out.room
-    (removed _ _ (by_first k command) c.by_first.result c.by_first.ensures first_out.shorter first_out.length first_out.kept first_out.only) first_out.room
-    (inserted _ _ (by_last k (after_finish command)) c.by_last.result c.by_last.ensures last_in.length last_in.there last_in.kept last_in.only) last_in.room
+    indexed-finished c.args.slot c.args.command at c.requires.flies
+    (removed old.tags c.remove.new.self _ _ c.by_tag.ensures tag_out.shorter tag_out.length tag_out.kept tag_out.only tag_out.room)
+    (inserted c.remove.new.self c.insert.new.self _ _ c.by_tag-2.ensures tag_in.length tag_in.there tag_in.kept tag_in.only tag_in.room)
+    (removed old.tickets c.remove-2.new.self _ _ c.by_ticket.ensures ticket_out.shorter ticket_out.length ticket_out.kept ticket_out.only ticket_out.room)
+    (removed old.dues c.remove-3.new.self _ _ c.by_due.ensures due_out.shorter due_out.length due_out.kept due_out.only due_out.room)
+    (removed old.firsts c.remove-4.new.self _ _ c.by_first.ensures first_out.shorter first_out.length first_out.kept first_out.only first_out.room)
+    (inserted old.rests c.insert-2.new.self _ _ c.by_last.ensures last_in.length last_in.there last_in.kept last_in.only last_in.room)
     c.self.invariant

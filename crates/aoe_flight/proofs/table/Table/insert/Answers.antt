@@ -32,19 +32,18 @@ insert-requires-4 c = fits c.self.inside.slots c.args.self.now _ c.self.inside.f
 
 pub invariant_of-self : goal.invariant_of-self
 invariant_of-self c =
-    let k = c.insert_reserved-slot.result in
-    let command = c.args.command in
+    let old = c.self.inside in
+    let slots = c.insert_reserved-slot.ensures in
     let tag = c.insert.ensures in
     let ticket = c.insert-2.ensures in
     let due = c.insert-3.ensures in
     let first = c.insert-4.ensures in
-    indexed-inserted c.self.inside.slots c.insert_reserved-slot.new.self k command c.self.inside.tags c.insert.new.self c.self.inside.tickets c.insert-2.new.self c.self.inside.dues c.insert-3.new.self
-    c.self.inside.firsts c.insert-4.new.self c.self.inside.rests c.insert_reserved-slot.ensures.was_vacant c.requires.flies c.insert_reserved-slot.ensures.updates c.insert_reserved-slot.ensures.len
-    c.insert_reserved-slot.ensures.capacity (more c.self.inside.slots c.args.self.now c.self.view_is c.requires.room)
-    (inserted _ _ (by_tag k command) c.by_tag.result c.by_tag.ensures tag.length tag.there tag.kept tag.only) tag.room
-    (inserted _ _ (by_ticket k command) c.by_ticket.result c.by_ticket.ensures ticket.length ticket.there ticket.kept ticket.only) ticket.room
-    (inserted _ _ (by_due k command) c.by_due.result c.by_due.ensures due.length due.there due.kept due.only) due.room
-    (inserted _ _ (by_first k command) c.by_first.result c.by_first.ensures first.length first.there first.kept first.only) first.room
+    indexed-inserted c.insert_reserved-slot.result c.args.command slots.was_vacant c.requires.flies slots.updates slots.len slots.capacity
+    (more old.slots c.args.self.now c.self.view_is c.requires.room)
+    (inserted old.tags c.insert.new.self _ _ c.by_tag.ensures tag.length tag.there tag.kept tag.only tag.room)
+    (inserted old.tickets c.insert-2.new.self _ _ c.by_ticket.ensures ticket.length ticket.there ticket.kept ticket.only ticket.room)
+    (inserted old.dues c.insert-3.new.self _ _ c.by_due.ensures due.length due.there due.kept due.only due.room)
+    (inserted old.firsts c.insert-4.new.self _ _ c.by_first.ensures first.length first.there first.kept first.only first.room)
     c.self.invariant
 
 pub returns-clause-values : goal.returns-clause-values

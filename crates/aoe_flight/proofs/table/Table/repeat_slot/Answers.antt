@@ -9,20 +9,16 @@ insert-requires c =
     let i = c.self.invariant in
     let at = rw (← c.self.view_is) at c.requires.there in
     let out = c.remove.ensures in
-    let gone = removed _ _ (by_due c.args.slot c.args.command) c.by_due.result c.by_due.ensures out.shorter out.length out.kept out.only in
+    let gone = removed c.self.inside.dues c.remove.new.self (by_due c.args.slot c.args.command) _ c.by_due.ensures out.shorter out.length out.kept out.only out.room in
     let less = gone.fewer (i.has_dues.all c.args.slot c.args.command at (flies-true c.args.command c.requires.flies)) in
     omega (arith, less, out.room, i.dues_room.fits, i.dues_room.room, i.fits)
 
 pub invariant_of-self : goal.invariant_of-self
 invariant_of-self c =
-    let slab = c.self.inside.slots in
-    let k = c.args.slot in
-    let command = c.args.command in
     let at = rw (← c.self.view_is) at c.requires.there in
     let out = c.remove.ensures in
     let come = c.insert.ensures in
-    indexed-repeated slab (with_value slab k c.repeated-repeated.result) k command c.repeated-repeated.result c.args.now c.args.path c.args.wait c.self.inside.tags c.self.inside.tickets c.self.inside.dues c.remove.new.self c.insert.new.self
-    c.self.inside.firsts c.self.inside.rests at c.requires.flies c.repeated-repeated.ensures refl
-    (removed _ _ (by_due k command) c.by_due.result c.by_due.ensures out.shorter out.length out.kept out.only)
-    (inserted _ _ (by_due k c.repeated-repeated.result) c.by_due-2.result c.by_due-2.ensures come.length come.there come.kept come.only) (come.room ∙ out.room)
+    indexed-repeated c.args.slot c.args.command c.repeated-repeated.result c.args.now c.args.path c.args.wait at c.requires.flies c.repeated-repeated.ensures
+    (removed c.self.inside.dues c.remove.new.self _ _ c.by_due.ensures out.shorter out.length out.kept out.only out.room)
+    (inserted c.remove.new.self c.insert.new.self _ _ c.by_due-2.ensures come.length come.there come.kept come.only come.room)
     c.self.invariant
