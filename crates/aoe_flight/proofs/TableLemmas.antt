@@ -59,9 +59,13 @@ first-slot slab entries ticket from slot c o there behind first at =
       first = λ k d from_k below at_k. no-slot slab entries ticket k d o (first k from_k below) at_k;
     }
 
-pub slot-held : (slab : Slab Outstanding) (test : Outstanding → Bool) (entry : ℕ → Outstanding → Entry) (entries : List Entry) (e : Entry)
+pub slot-held : {slab : Slab Outstanding} {test : Outstanding → Bool} {entry : ℕ → Outstanding → Entry} {entries : List Entry} (e : Entry)
     → IsOrderOf slab test entry entries → Contains entries e → get slab e.slot ≢ None
-slot-held slab test entry entries e o there none = let held = o.only e there in let both : Some held.command ≡ None = sym held.there ∙ none in absurd cc
+slot-held e o there none = let held = o.only e there in let both : Some held.command ≡ None = sym held.there ∙ none in absurd cc
+
+pub head-held : {slab : Slab Outstanding} {test : Outstanding → Bool} {entry : ℕ → Outstanding → Entry} {entries : List Entry} (e : Entry)
+    → IsOrderOf slab test entry entries → slice_get entries 0 ≡ Some e → get slab e.slot ≢ None
+head-held {entries = entries} e o head = slot-held e o (head-there entries e head)
 
 -- the flying command with a ticket, by its slot
 pub ticket-found : (slab : Slab Outstanding) (ticket slot : ℕ) (c : Outstanding) → IsFirstSlot (flies_as ticket) slab 0 slot c → Some c ≡ find (flies_as ticket) (values slab)
@@ -117,14 +121,14 @@ taken-is slab entries tag true o some none = let found = some refl in taken-foun
 taken-is slab entries tag false o some none = taken-none slab entries tag o (none refl)
 
 -- where none passes, for want of an entry
-pub none-pass : (slab : Slab Outstanding) (test passes : Outstanding → Bool) (entry : ℕ → Outstanding → Entry) (entries : List Entry)
+pub none-pass : {slab : Slab Outstanding} {test : Outstanding → Bool} {entry : ℕ → Outstanding → Entry} {entries : List Entry} (passes : Outstanding → Bool)
     → ((c : Outstanding) → passes c ≡ true → test c ≡ true) → IsOrderOf slab test entry entries → slice_get entries 0 ≡ None
     → All (λ c. passes c ≡ false) (values slab)
-none-pass slab test passes entry entries wider o none = all-held (λ c. passes c ≡ false) slab.slots (λ k c at.
+none-pass {slab} {test} {entry} {entries} passes wider o none = all-held (λ c. passes c ≡ false) slab.slots (λ k c at.
     false_from_ne_true _ (λ is. none-there entries (entry k c) none (o.all k c at (wider c is))))
 
--- the command of the first entry, and all others
-pub head-of : (slab : Slab Outstanding) (test : Outstanding → Bool) (entry : ℕ → Outstanding → Entry) (entries : List Entry) (e : Entry) (c : Outstanding)
+-- the command of the first entry
+head-of : (slab : Slab Outstanding) (test : Outstanding → Bool) (entry : ℕ → Outstanding → Entry) (entries : List Entry) (e : Entry) (c : Outstanding)
     → IsOrderOf slab test entry entries → slice_get entries 0 ≡ Some e → get slab e.slot ≡ Some c → (e ≡ entry e.slot c) × (test c ≡ true)
 head-of slab test entry entries e c o head at =
     let held = o.only e (head-there entries e head) in
@@ -132,13 +136,15 @@ head-of slab test entry entries e c o head at =
     (held.is ∙ ap (entry e.slot) one, ap test (sym one) ∙ held.passes)
 
 -- where the first of an order doesn't pass, none passes
-pub none-past : (slab : Slab Outstanding) (test passes : Outstanding → Bool) (entry : ℕ → Outstanding → Entry) (entries : List Entry) (e : Entry)
-    → ((c : Outstanding) → passes c ≡ true → test c ≡ true) → IsOrderOf slab test entry entries → IsInOrder entries → slice_get entries 0 ≡ Some e
-    → ((k : ℕ) (d : Outstanding) → get slab k ≡ Some d → test d ≡ true → e.at ≤ (entry k d).at → passes d ≡ false) → All (λ c. passes c ≡ false) (values slab)
-none-past slab test passes entry entries e wider o order head out = all-held (λ c. passes c ≡ false) slab.slots (λ k d at.
+pub none-past : {slab : Slab Outstanding} {test : Outstanding → Bool} {entry : ℕ → Outstanding → Entry} {entries : List Entry} (passes : Outstanding → Bool) (e : Entry) (c : Outstanding)
+    → ((d : Outstanding) → passes d ≡ true → test d ≡ true) → IsOrderOf slab test entry entries → IsInOrder entries
+    → slice_get entries 0 ≡ Some e → get slab e.slot ≡ Some c
+    → ((k : ℕ) (d : Outstanding) → get slab k ≡ Some d → test c ≡ true → (entry e.slot c).at ≤ (entry k d).at → passes d ≡ false) → All (λ c. passes c ≡ false) (values slab)
+none-past {slab} {test} {entry} {entries} passes e c wider o order head at out = all-held (λ c. passes c ≡ false) slab.slots (λ k d at_d.
     false_from_ne_true _ (λ is.
-    let tests = wider d is in
-    let none = out k d at tests (at-least e (entry k d) (head-least entries e (entry k d) order head (o.all k d at tests))) in
+    let first = head-of slab test entry entries e c o head at in
+    let least = at-least e (entry k d) (head-least entries e (entry k d) order head (o.all k d at_d (wider d is))) in
+    let none = out k d at_d first.1 (omega (arith, ap (λ (f : Entry). f.at) first.0)) in
     true≢false (sym is ∙ none)))
 
 pub over-rests : (rest now : ℕ) (c : Outstanding) → is_over rest now c ≡ true → rests c ≡ true
@@ -165,10 +171,10 @@ before-precedes : (k j : ℕ) (o c : Outstanding) → before (by_due k o) (by_du
 before-precedes k j o c out = grind arith
 
 -- the first that is due, by the order of the times at which they are
-pub first-due : (slab : Slab Outstanding) (entries : List Entry) (now : ℕ) (e : Entry) (c : Outstanding) → IsOrderOf slab flies by_due entries
+pub first-due : {slab : Slab Outstanding} {entries : List Entry} (now : ℕ) (e : Entry) (c : Outstanding) → IsOrderOf slab flies by_due entries
     → IsInOrder entries → slice_get entries 0 ≡ Some e → get slab e.slot ≡ Some c
     → is_due now c ≡ true → (d : Outstanding) × (d.ticket ≡ c.ticket) × IsFirst (is_due now) precedes (values slab) d
-first-due slab entries now e c o order head at due =
+first-due {slab} {entries} now e c o order head at due =
     let is = (head-of slab flies by_due entries e c o head at).0 in (
       c,
       refl,

@@ -9,21 +9,16 @@ use Rattle.aoe_flight.proofs.table.Table.flying_slot.Goals as goal
 
 pub returns-in_err-slot-clause-none : goal.returns-in_err-slot-clause-none
 returns-in_err-slot-clause-none c =
-    let slab = c.self.inside.slots in
-    let entries = c.self.inside.tickets.entries in
     if-none c.from_residual.result _ (λ k d from at.
-    let Q : Slab Outstanding → Type 0 = λ s. get s k ≡ Some d in
-    no-slot slab entries c.args.ticket.0 k d c.self.invariant.has_tickets (rw (← c.from.ensures) (c.in_err-slot.ensures.none k from)) (subst Q (sym c.self.view_is) at))
+    no-slot c.self.inside.slots c.self.inside.tickets.entries c.args.ticket.0 k d c.self.invariant.has_tickets
+    (rw (← c.from.ensures) (c.in_err-slot.ensures.none k from)) (rw (← c.self.view_is) at at))
 
 pub returns-in_err-command-clause-none : goal.returns-in_err-command-clause-none
 returns-in_err-command-clause-none c =
-    let never = slot-held c.self.inside.slots flies by_ticket c.self.inside.tickets.entries (entry_at c.from.result c.in_ok-slot.slot) c.self.invariant.has_tickets c.in_ok-slot.ensures.there in
-    absurd (never (sym c.in_err-command.ensures))
+    absurd (slot-held (entry_at c.from.result c.in_ok-slot.slot) c.self.invariant.has_tickets c.in_ok-slot.ensures.there (sym c.in_err-command.ensures))
 
 pub returns-clause-some : goal.returns-clause-some
 returns-clause-some c =
-    let slab = c.self.inside.slots in
-    let entries = c.self.inside.tickets.entries in
-    let R : Slab Outstanding → Type 0 = λ s. IsFirstSlot (flies_as c.args.ticket.0) s c.args.from c.in_ok-slot.slot c.in_ok-command.command.now in
-    subst R c.self.view_is (first-slot slab entries c.args.ticket.0 c.args.from c.in_ok-slot.slot c.in_ok-command.command.now c.self.invariant.has_tickets (rw (← c.from.ensures) c.in_ok-slot.ensures.there) c.in_ok-slot.ensures.from
+    rw (← c.self.view_is) (first-slot c.self.inside.slots c.self.inside.tickets.entries c.args.ticket.0 c.args.from c.in_ok-slot.slot c.in_ok-command.command.now
+    c.self.invariant.has_tickets (rw (← c.from.ensures) c.in_ok-slot.ensures.there) c.in_ok-slot.ensures.from
     (rw (← c.from.ensures) c.in_ok-slot.ensures.first) (sym c.in_ok-command.ensures))
