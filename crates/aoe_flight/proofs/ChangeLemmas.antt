@@ -132,8 +132,10 @@ indexed-repeated {slab} k c r now path wait at flying r_is due_out due_in i =
     }
 
 pub indexed-inserted : {slab next : Slab Outstanding} {tags tags_new tickets tickets_new dues dues_new firsts firsts_new resting : OrderTable} (k : ℕ) (c : Outstanding)
-    → get slab k ≡ None → c.finished ≡ false → Updates slab next k (Some c) → slab_len next ≡ slab_len slab + 1 → next.capacity ≡ slab.capacity → slab_len slab < slab.capacity
-    → Inserted tags (by_tag k c) tags_new → Inserted tickets (by_ticket k c) tickets_new → Inserted dues (by_due k c) dues_new → Inserted firsts (by_first k c) firsts_new
+    → get slab k ≡ None → c.finished ≡ false → Updates slab next k (Some c) → slab_len next ≡ slab_len slab + 1 → next.capacity ≡ slab.capacity
+    → slab_len slab < slab.capacity
+    → Inserted tags (by_tag k c) tags_new → Inserted tickets (by_ticket k c) tickets_new → Inserted dues (by_due k c) dues_new
+    → Inserted firsts (by_first k c) firsts_new
     → IsIndexed slab tags tickets dues firsts resting → IsIndexed next tags_new tickets_new dues_new firsts_new resting
 indexed-inserted {slab} k c vacant flying updates long capacity more tag_in ticket_in due_in first_in i =
     let none : (test : Outstanding → Bool) (d : Outstanding) → get slab k ≡ Some d → test d ≡ false = λ test d at. absurd cc in
@@ -174,7 +176,8 @@ indexed-dropped {slab} k c at done updates long capacity tag_out rest_out i =
       resting_room = rest_out.room ∙ i.resting_room ∙ sym capacity;
     }
 
-pub removed : (old new : OrderTable) (e f : Entry) → f ≡ e → length new.entries ≤ length old.entries → (Contains old.entries f → length new.entries + 1 ≤ length old.entries)
+pub removed : (old new : OrderTable) (e f : Entry) → f ≡ e → length new.entries ≤ length old.entries
+    → (Contains old.entries f → length new.entries + 1 ≤ length old.entries)
     → ((g : Entry) → g ≢ f → Contains old.entries g → Contains new.entries g) → ((g : Entry) → Contains new.entries g → Contains old.entries g × (g ≢ f))
     → new.room ≡ old.room → Removed old e new
 removed old new e f is shorter fewer kept only room = rw (← is) (record { shorter = shorter; fewer = fewer; kept = kept; only = only; room = room })

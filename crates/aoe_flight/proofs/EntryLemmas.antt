@@ -33,19 +33,18 @@ at-least a b out = grind (arith, nat_tests)
 pub neither-same : (a b : Entry) → before a b ≡ false → before b a ≡ false → a ≡ b
 neither-same a b one two = grind (arith, nat_tests)
 
-pub partitioned : (y : Entry) (xs : List Entry) → IsInOrder xs → IsPartitionedBy (λ e. before e y) xs
-partitioned y [] order i j d le below passes = absurd (omega arith)
-partitioned y (x ∷ xs) order zero zero d le below passes = passes
-partitioned y (x ∷ xs) order zero (suc j) d le below passes = before-then x (get_or xs j d) y (order.0 j d (omega arith)) passes
-partitioned y (x ∷ xs) order (suc i) zero d le below passes = absurd (omega arith)
-partitioned y (x ∷ xs) order (suc i) (suc j) d le below passes = partitioned y xs order.1 i j d (omega arith) (omega arith) passes
-
 -- none stands twice
 ordered-apart : (xs : List Entry) (i k : ℕ) (d : Entry) → IsInOrder xs → i < k → k < length xs → before (get_or xs i d) (get_or xs k d) ≡ true
 ordered-apart [] i k d order more inside = absurd (omega arith)
 ordered-apart (x ∷ xs) i zero d order more inside = absurd (omega arith)
 ordered-apart (x ∷ xs) zero (suc k) d order more inside = order.0 k d (omega arith)
 ordered-apart (x ∷ xs) (suc i) (suc k) d order more inside = ordered-apart xs i k d order.1 (omega arith) (omega arith)
+
+pub partitioned : (y : Entry) (xs : List Entry) → IsInOrder xs → IsPartitionedBy (λ e. before e y) xs
+partitioned y xs order i j d le below passes = elim (cases_lt i j) [
+  | inl ahead ↦ before-then (get_or xs i d) (get_or xs j d) y (ordered-apart xs i j d order ahead below) passes
+  | inr behind ↦ let same : i ≡ j = omega arith in rw same passes
+]
 
 pub ordered-insert : (y : Entry) (xs : List Entry) (i : ℕ) → IsInOrder xs → i ≤ length xs
     → ((k : ℕ) (d : Entry) → 0 ≤ k → k < i → before (get_or xs k d) y ≡ true)

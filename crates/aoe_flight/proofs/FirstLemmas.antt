@@ -28,11 +28,13 @@ pub record Best (test : Outstanding → Bool) (before : Outstanding → Outstand
   pub first : (b : Outstanding) → so_far ≡ Some b → before b c ≡ false
   pub least : All (λ d. test d ≡ true → before d c ≡ false) commands
 
-better-than : (before : Outstanding → Outstanding → Bool) (d b : Outstanding) (so_far : Option Outstanding) (t : Bool) → is_better before d so_far ≡ t → so_far ≡ Some b
+better-than : (before : Outstanding → Outstanding → Bool) (d b : Outstanding) (so_far : Option Outstanding) (t : Bool) → is_better before d so_far ≡ t
+    → so_far ≡ Some b
     → before d b ≡ t
 better-than before d b so_far t is at = rw at at is
 
-pub best-is : (test : Outstanding → Bool) (before : Outstanding → Outstanding → Bool) → IsOrder before → (commands : List Outstanding) (so_far : Option Outstanding) (c : Outstanding)
+pub best-is : (test : Outstanding → Bool) (before : Outstanding → Outstanding → Bool) → IsOrder before
+    → (commands : List Outstanding) (so_far : Option Outstanding) (c : Outstanding)
     → best test before so_far commands ≡ Some c → Best test before so_far commands c
 best-is test before order [] so_far c is = record {
   from = inl is;
@@ -63,7 +65,8 @@ best-is test before order (d ∷ commands) so_far c is = elim (cases_Bool (test 
       }
 ]
   where
-    worse : (so : Option Outstanding) → Best test before so_far commands c → (test d && is_better before d so_far) ≡ false → test d ≡ true → so_far ≡ so → before d c ≡ false
+    worse : (so : Option Outstanding) → Best test before so_far commands c → (test d && is_better before d so_far) ≡ false → test d ≡ true
+        → so_far ≡ so → before d c ≡ false
     worse None rest left passes at = let here = rw (at, passes) at left in absurd cc
     worse (Some b) rest left passes at = let here = rw (at, passes) at left in order.neither d b c here (rest.first b at)
 
@@ -83,37 +86,30 @@ best-none test before (d ∷ commands) so_far is = elim (cases_Bool (test d && i
 ]
 
 -- among those that fly or rest
-pub first-live : (test : Outstanding → Bool) (before : Outstanding → Outstanding → Bool) (rest latest : ℕ) → IsOrder before → ((c : Outstanding) → test c ≡ true → c.finished ≡ false) → (commands : List Outstanding)
-    → (result : Option Ticket) → result ≡ option_map (λ c. c.ticket) (best test before None commands)
-    → IfSome result (λ ticket. (c : Outstanding) × (c.ticket ≡ ticket) × IsFirst test before (live rest latest commands) c)
-first-live test before rest latest order flying commands None is = tt
-first-live test before rest latest order flying commands (Some ticket) is = at (best test before None commands) refl is
-  where
-    at : (o : Option Outstanding) → best test before None commands ≡ o → Some ticket ≡ option_map (λ c. c.ticket) o
-        → (c : Outstanding) × (c.ticket ≡ ticket) × IsFirst test before (live rest latest commands) c
-    at None found named = absurd cc
-    at (Some c) found named =
-        let b = best-is test before order commands None c found in
-        let same : ticket ≡ c.ticket = cc in
-        let there : Contains commands c × (test c ≡ true) = elim b.from [ inl none ↦ absurd cc | inr one ↦ one ] in (
-          c,
-          sym same,
-          record {
-            there = Contains-live rest latest commands c (flying c there.1) there.0;
-            passes = there.1;
-            least = All-filter (λ (d : Outstanding). not (is_over rest latest d)) (λ d. test d ≡ true → before d c ≡ false) commands b.least;
-          },
-        )
+module _ (test : Outstanding → Bool) (before : Outstanding → Outstanding → Bool) (rest latest : ℕ) (commands : List Outstanding) where
+  pub first-live : IsOrder before → ((c : Outstanding) → test c ≡ true → c.finished ≡ false) → (result : Option Ticket) (o : Option Outstanding)
+      → best test before None commands ≡ o → result ≡ option_map (λ c. c.ticket) o
+      → IfSome result (λ ticket. (c : Outstanding) × (c.ticket ≡ ticket) × IsFirst test before (live rest latest commands) c)
+  first-live order flying None o found is = tt
+  first-live order flying (Some ticket) None found is = absurd cc
+  first-live order flying (Some ticket) (Some c) found is =
+      let b = best-is test before order commands None c found in
+      let there : Contains commands c × (test c ≡ true) = elim b.from [ inl none ↦ absurd cc | inr one ↦ one ] in (
+        c,
+        cc,
+        record {
+          there = Contains-live rest latest commands c (flying c there.1) there.0;
+          passes = there.1;
+          least = All-filter (λ d. not (is_over rest latest d)) (λ d. test d ≡ true → before d c ≡ false) commands b.least;
+        },
+      )
 
-pub none-live : (test : Outstanding → Bool) (before : Outstanding → Outstanding → Bool) (rest latest : ℕ) (commands : List Outstanding)
-    → (result : Option Ticket) → result ≡ option_map (λ c. c.ticket) (best test before None commands)
-    → IfNone result (All (λ c. test c ≡ false) (live rest latest commands))
-none-live test before rest latest commands (Some ticket) is = tt
-none-live test before rest latest commands None is = at (best test before None commands) refl is
-  where
-    at : (o : Option Outstanding) → best test before None commands ≡ o → None ≡ option_map (λ c. c.ticket) o → All (λ c. test c ≡ false) (live rest latest commands)
-    at (Some c) found named = absurd cc
-    at None found named = All-filter (λ (d : Outstanding). not (is_over rest latest d)) (λ c. test c ≡ false) commands (best-none test before commands None found).1
+  pub none-live : (result : Option Ticket) (o : Option Outstanding) → best test before None commands ≡ o → result ≡ option_map (λ c. c.ticket) o
+      → IfNone result (All (λ c. test c ≡ false) (live rest latest commands))
+  none-live (Some ticket) o found is = tt
+  none-live None (Some c) found is = absurd cc
+  none-live None None found is =
+      All-filter (λ d. not (is_over rest latest d)) (λ c. test c ≡ false) commands (best-none test before commands None found).1
 
 pub expired-flies : (dead now : ℕ) (c : Outstanding) → is_expired dead now c ≡ true → c.finished ≡ false
 expired-flies dead now c expired = grind arith

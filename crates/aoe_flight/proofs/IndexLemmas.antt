@@ -83,7 +83,8 @@ stays-out slab k test entry entries fails o = record {
 
 -- a change that the order doesn't see
 pub same-order : (old new : Slab Outstanding) (k : ℕ) (test : Outstanding → Bool) (entry : ℕ → Outstanding → Entry) (c d : Outstanding) (entries : List Entry)
-    → get old k ≡ Some c → Updates old new k (Some d) → test d ≡ test c → ((j : ℕ) → entry j d ≡ entry j c) → IsOrderOf old test entry entries → IsOrderOf new test entry entries
+    → get old k ≡ Some c → Updates old new k (Some d) → test d ≡ test c → ((j : ℕ) → entry j d ≡ entry j c) → IsOrderOf old test entry entries
+    → IsOrderOf new test entry entries
 same-order old new k test entry c d entries there updates tests entries_are o = record {
   only = λ e at.
       let held = o.only e at in

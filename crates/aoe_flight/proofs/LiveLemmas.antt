@@ -56,7 +56,8 @@ find-live test rest latest flying (c ∷ commands) = elim (cases_Bool (is_over r
   | inr stays ↦ rw (stays, find-live test rest latest flying commands) refl
 ]
 
-pub Contains-live : (rest latest : ℕ) (commands : List Outstanding) (c : Outstanding) → c.finished ≡ false → Contains commands c → Contains (live rest latest commands) c
+pub Contains-live : (rest latest : ℕ) (commands : List Outstanding) (c : Outstanding) → c.finished ≡ false → Contains commands c
+    → Contains (live rest latest commands) c
 Contains-live rest latest [] c flying there = absurd (omega (arith, there.1))
 Contains-live rest latest (d ∷ commands) c flying there = elim (Contains-cons_cases d c commands there) [
   | inl same ↦ let stays : is_over rest latest d ≡ false = rw (same, flying) in rw stays (0, omega arith, same)

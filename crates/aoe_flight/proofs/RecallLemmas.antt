@@ -74,7 +74,8 @@ same-at table sent now recalls later =
     rw (← live-live table.rest table.latest now sent later)
     (same-filter (λ c. not (is_over table.rest now c)) table.commands (live table.rest table.latest sent) recalls)
 
-pub recalls-at : (table new : FlightTable) (sent : List Outstanding) (now : ℕ) → new ≡ at_time table now → Recalls table sent → table.latest ≤ now → Recalls new sent
+pub recalls-at : (table new : FlightTable) (sent : List Outstanding) (now : ℕ) → new ≡ at_time table now → Recalls table sent → table.latest ≤ now
+    → Recalls new sent
 recalls-at table new sent now is recalls later = rw is (same-at table sent now recalls later)
 
 pub recalls-change : (table new : FlightTable) (sent : List Outstanding) (ticket : ℕ) (change : Outstanding → Outstanding) (now : ℕ)
@@ -122,7 +123,8 @@ none-recalled test table flying None none = λ sent recalls.
     all-live test table.rest table.latest flying sent (all-same test table.commands (live table.rest table.latest sent) recalls none)
 
 -- as many fly or rest
-pub length-recalled : (table : FlightTable) (sent : List Outstanding) (now : ℕ) → Recalls table sent → table.latest ≤ now → length (live_at table now) ≡ length (live table.rest now sent)
+pub length-recalled : (table : FlightTable) (sent : List Outstanding) (now : ℕ) → Recalls table sent → table.latest ≤ now
+    → length (live_at table now) ≡ length (live table.rest now sent)
 length-recalled table sent now recalls later =
     sym (count-all (live_at table now)) ∙ same-at table sent now recalls later (λ c. true) ∙ count-all (live table.rest now sent)
 
@@ -151,17 +153,15 @@ find-none test (x ∷ xs) is = elim (cases_Bool (test x)) [
 ]
 
 -- the command that a test of flying commands finds
-found-recalled : (test : Outstanding → Bool) (table : FlightTable) (c : Outstanding) → find test table.commands ≡ Some c → (sent : List Outstanding) → Recalls table sent → Contains sent c × (test c ≡ true)
+found-recalled : (test : Outstanding → Bool) (table : FlightTable) (c : Outstanding) → find test table.commands ≡ Some c → (sent : List Outstanding)
+    → Recalls table sent → Contains sent c × (test c ≡ true)
 found-recalled test table c is sent recalls =
     let found = find-there test c table.commands is in
     (Contains-live_all table.rest table.latest sent c (Contains-same table.commands (live table.rest table.latest sent) c recalls found.0), found.1)
 
-not-found-recalled : (test : Outstanding → Bool) (table : FlightTable) → ((c : Outstanding) → c.finished ≡ true → test c ≡ false) → find test table.commands ≡ None → (sent : List Outstanding) → Recalls table sent → All (λ c. test c ≡ false) sent
-not-found-recalled test table flying is sent recalls =
-    all-live test table.rest table.latest flying sent (all-same test table.commands (live table.rest table.latest sent) recalls (find-none test table.commands is))
-
 -- what is known of a flying command, by the command that was sent
-pub flying-recalled : (test : Outstanding → Bool) (table : FlightTable) (o : Option Outstanding) (f : Flying) → find test table.commands ≡ o → option_map (λ c. c.flying) o ≡ Some f
+pub flying-recalled : (test : Outstanding → Bool) (table : FlightTable) (o : Option Outstanding) (f : Flying) → find test table.commands ≡ o
+    → option_map (λ c. c.flying) o ≡ Some f
     → (sent : List Outstanding) → Recalls table sent → (c : Outstanding) × Contains sent c × (test c ≡ true) × (c.flying ≡ f)
 flying-recalled test table None f is mapped sent recalls = absurd cc
 flying-recalled test table (Some c) f is mapped sent recalls =
@@ -169,7 +169,8 @@ flying-recalled test table (Some c) f is mapped sent recalls =
     (c, found.0, found.1, cc)
 
 -- the flying command with a tag, if there is one
-pub match-recalled : (test : Outstanding → Bool) (table : FlightTable) (o : Option Outstanding) (result : Option Ticket) → find test table.commands ≡ o → result ≡ option_map (λ c. c.ticket) o
+pub match-recalled : (test : Outstanding → Bool) (table : FlightTable) (o : Option Outstanding) (result : Option Ticket)
+    → find test table.commands ≡ o → result ≡ option_map (λ c. c.ticket) o
     → IfSome result (λ ticket. (sent : List Outstanding) → Recalls table sent → (c : Outstanding) × (c.ticket ≡ ticket) × Contains sent c × (test c ≡ true))
 match-recalled test table o None is mapped = tt
 match-recalled test table None (Some ticket) is mapped = absurd cc
@@ -177,13 +178,17 @@ match-recalled test table (Some c) (Some ticket) is mapped = λ sent recalls.
     let found = found-recalled test table c is sent recalls in
     (c, cc, found.0, found.1)
 
-pub no-match-recalled : (test : Outstanding → Bool) (table : FlightTable) → ((c : Outstanding) → c.finished ≡ true → test c ≡ false) → (o : Option Outstanding) (result : Option Ticket) → find test table.commands ≡ o
+pub no-match-recalled : (test : Outstanding → Bool) (table : FlightTable) → ((c : Outstanding) → c.finished ≡ true → test c ≡ false)
+    → (o : Option Outstanding) (result : Option Ticket) → find test table.commands ≡ o
     → result ≡ option_map (λ c. c.ticket) o → IfNone result ((sent : List Outstanding) → Recalls table sent → All (λ c. test c ≡ false) sent)
 no-match-recalled test table flying o (Some ticket) is mapped = tt
-no-match-recalled test table flying None None is mapped = not-found-recalled test table flying is
+no-match-recalled test table flying None None is mapped = λ sent recalls.
+    all-live test table.rest table.latest flying sent
+    (all-same test table.commands (live table.rest table.latest sent) recalls (find-none test table.commands is))
 no-match-recalled test table flying (Some c) None is mapped = absurd cc
 
-once : (test : Outstanding → Bool) (xs : List Outstanding) (a b : Outstanding) → count_by test xs ≤ 1 → Contains xs a → test a ≡ true → Contains xs b → test b ≡ true → a ≡ b
+once : (test : Outstanding → Bool) (xs : List Outstanding) (a b : Outstanding) → count_by test xs ≤ 1 → Contains xs a → test a ≡ true → Contains xs b
+    → test b ≡ true → a ≡ b
 once test [] a b few in_a is_a in_b is_b = absurd (omega (arith, in_a.1))
 once test (x ∷ xs) a b few in_a is_a in_b is_b = elim (Contains-cons_cases x a xs in_a) [
   | inl here_a ↦ elim (Contains-cons_cases x b xs in_b) [

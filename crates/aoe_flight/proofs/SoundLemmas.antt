@@ -59,7 +59,8 @@ sound-changed {commands = commands} ticket change keeps is same sound = record {
   distinct = λ tag. rw (is, count-changed ticket change commands tag keeps) (sound.distinct tag);
 }
 
-count-new : (commands : List Outstanding) (c : Outstanding) (tag : ℕ) → is_taken commands c.flying.tag ≡ false → tag_count commands tag ≤ 1 → tag_count (c ∷ commands) tag ≤ 1
+count-new : (commands : List Outstanding) (c : Outstanding) (tag : ℕ) → is_taken commands c.flying.tag ≡ false → tag_count commands tag ≤ 1
+    → tag_count (c ∷ commands) tag ≤ 1
 count-new commands c tag free once = elim (cases_Bool (nat_eq c.flying.tag tag)) [
   | inl is ↦
       let none = all-none (has_tag c.flying.tag) commands (any-none (has_tag c.flying.tag) commands free) in
@@ -69,7 +70,8 @@ count-new commands c tag free once = elim (cases_Bool (nat_eq c.flying.tag tag))
 ]
 
 pub sound-new : {room capacity new_capacity : ℕ} {commands : List Outstanding} (c : Outstanding) (after : List Outstanding) → IsPermutation (c ∷ commands) after
-    → is_taken commands c.flying.tag ≡ false → new_capacity ≡ capacity → length commands < room → FitsRoom room capacity commands → FitsRoom room new_capacity after
+    → is_taken commands c.flying.tag ≡ false → new_capacity ≡ capacity → length commands < room → FitsRoom room capacity commands
+    → FitsRoom room new_capacity after
 sound-new {commands = commands} c after is free same more sound = record {
   fits = omega (arith, length_permutation (c ∷ commands) after is);
   reserved = rw same sound.reserved;
@@ -117,7 +119,8 @@ module _ {room rest dead latest last_tag : ℕ} (commands : List Outstanding) {t
   forget-value now after later after_is =
       rw (← is, after_is, live-live rest latest now commands (time-of now later), live-live rest now now commands (omega arith)) refl
 
-  pub change-value : (now ticket : ℕ) (change : Outstanding → Outstanding) (after : List Outstanding) → table.latest ≤ now → after ≡ map (change_of ticket change) commands
+  pub change-value : (now ticket : ℕ) (change : Outstanding → Outstanding) (after : List Outstanding) → table.latest ≤ now
+      → after ≡ map (change_of ticket change) commands
       → table_of room rest dead now last_tag after ≡ record table { latest = now; commands = live table.rest now (map (change_of ticket change) table.commands) }
   change-value now ticket change after later after_is = rw (← is, after_is, live-changed rest latest now ticket change commands (time-of now later)) refl
 

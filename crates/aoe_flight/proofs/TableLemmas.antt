@@ -68,7 +68,8 @@ pub head-held : {slab : Slab Outstanding} {test : Outstanding → Bool} {entry :
 head-held {entries = entries} e o head = slot-held e o (head-there entries e head)
 
 -- the flying command with a ticket, by its slot
-pub ticket-found : (slab : Slab Outstanding) (ticket slot : ℕ) (c : Outstanding) → IsFirstSlot (flies_as ticket) slab 0 slot c → Some c ≡ find (flies_as ticket) (values slab)
+pub ticket-found : (slab : Slab Outstanding) (ticket slot : ℕ) (c : Outstanding) → IsFirstSlot (flies_as ticket) slab 0 slot c
+    → Some c ≡ find (flies_as ticket) (values slab)
 ticket-found slab ticket slot c first =
     sym (find-at (flies_as ticket) slab.slots slot c first.there first.passes (λ j d below at. first.first j d (omega arith) below at))
 
@@ -139,7 +140,8 @@ head-of slab test entry entries e c o head at =
 pub none-past : {slab : Slab Outstanding} {test : Outstanding → Bool} {entry : ℕ → Outstanding → Entry} {entries : List Entry} (passes : Outstanding → Bool) (e : Entry) (c : Outstanding)
     → ((d : Outstanding) → passes d ≡ true → test d ≡ true) → IsOrderOf slab test entry entries → IsInOrder entries
     → slice_get entries 0 ≡ Some e → get slab e.slot ≡ Some c
-    → ((k : ℕ) (d : Outstanding) → get slab k ≡ Some d → test c ≡ true → (entry e.slot c).at ≤ (entry k d).at → passes d ≡ false) → All (λ c. passes c ≡ false) (values slab)
+    → ((k : ℕ) (d : Outstanding) → get slab k ≡ Some d → test c ≡ true → (entry e.slot c).at ≤ (entry k d).at → passes d ≡ false)
+    → All (λ c. passes c ≡ false) (values slab)
 none-past {slab} {test} {entry} {entries} passes e c wider o order head at out = all-held (λ c. passes c ≡ false) slab.slots (λ k d at_d.
     false_from_ne_true _ (λ is.
     let first = head-of slab test entry entries e c o head at in

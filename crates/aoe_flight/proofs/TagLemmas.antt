@@ -60,7 +60,8 @@ pub record Passes (commands : List Outstanding) (last steps tag : ℕ) : Type 0 
 pub passes-few : (commands : List Outstanding) (last steps tag : ℕ) → Passes commands last steps tag → steps ≤ length commands
 passes-few commands last steps tag p = omega (arith, p.counted, count_by-le-length (passed last steps) commands)
 
-pub passes-more : (commands : List Outstanding) (last steps tag next : ℕ) → Passes commands last steps tag → last ≤ 4294967295 → length commands < 4294967295 → is_taken commands tag ≡ true → next ≡ tag_after last (steps + 1)
+pub passes-more : (commands : List Outstanding) (last steps tag next : ℕ) → Passes commands last steps tag → last ≤ 4294967295
+    → length commands < 4294967295 → is_taken commands tag ≡ true → next ≡ tag_after last (steps + 1)
     → Passes commands last (steps + 1) next × (steps + 1 ≤ length commands)
 passes-more commands last steps tag next p most few taken is =
     let here : is_taken commands (tag_after last steps) ≡ true = rw (← p.place) taken in

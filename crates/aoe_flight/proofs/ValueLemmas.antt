@@ -9,7 +9,7 @@ use Rattle.slab.proofs.SlabLemmas.{Contains-cons, Updates-with_value}
 use Rattle.aoe_flight.specs.declared.outstanding.Outstanding.{Outstanding}
 use Rattle.aoe_flight.specs.Outstanding.{best, is_over, live}
 use Rattle.aoe_flight.specs.Table.{IsFirstSlot}
-use Rattle.aoe_flight.proofs.InsertLemmas.{cons-none, cons-some, no-values}
+use Rattle.aoe_flight.proofs.InsertLemmas.{no-values}
 use Rattle.aoe_flight.proofs.SlotLemmas.{held, live-shorter}
 
 pub find-at : (p : Outstanding → Bool) (slots : List (Option Outstanding)) (k : ℕ) (c : Outstanding) → get_or slots k None ≡ Some c → p c ≡ true
@@ -26,7 +26,8 @@ find-none p [] out = refl
 find-none p (None ∷ slots) out = find-none p slots (λ k c at. out (suc k) c at)
 find-none p (Some d ∷ slots) out = rw (out 0 d refl) (find-none p slots (λ k c at. out (suc k) c at))
 
-pub all-held : (P : Outstanding → Type 0) (slots : List (Option Outstanding)) → ((k : ℕ) (c : Outstanding) → get_or slots k None ≡ Some c → P c) → All P (held slots)
+pub all-held : (P : Outstanding → Type 0) (slots : List (Option Outstanding)) → ((k : ℕ) (c : Outstanding) → get_or slots k None ≡ Some c → P c)
+    → All P (held slots)
 all-held P [] each = All-nil P
 all-held P (None ∷ slots) each = all-held P slots (λ k c at. each (suc k) c at)
 all-held P (Some d ∷ slots) each = All-cons P d (held slots) (each 0 d refl) (all-held P slots (λ k c at. each (suc k) c at))
@@ -58,8 +59,8 @@ mapped-held : (f : Outstanding → Outstanding) (xs ys : List (Option Outstandin
     → ((k : ℕ) → get_or ys k None ≡ option_map f (get_or xs k None)) → held ys ≡ map f (held xs)
 mapped-held f [] ys each = no-values ys each
 mapped-held f (o ∷ xs) [] each = ap (map f) (sym (no-values (o ∷ xs) (λ k. some-none f (get_or (o ∷ xs) k None) (each k))))
-mapped-held f (None ∷ xs) (n ∷ ys) each = cons-none n ys (each 0) ∙ mapped-held f xs ys (λ k. each (suc k))
-mapped-held f (Some c ∷ xs) (n ∷ ys) each = cons-some (f c) n ys (each 0) ∙ ap (λ (l : List Outstanding). f c ∷ l) (mapped-held f xs ys (λ k. each (suc k)))
+mapped-held f (None ∷ xs) (n ∷ ys) each = let first : n ≡ None = each 0 in rw first (mapped-held f xs ys (λ k. each (suc k)))
+mapped-held f (Some c ∷ xs) (n ∷ ys) each = let first : n ≡ Some (f c) = each 0 in rw (first, mapped-held f xs ys (λ k. each (suc k)))
 
 -- one that rested out isn't missed
 pub dropped-live : (rest now : ℕ) (slots : List (Option Outstanding)) (k : ℕ) (c : Outstanding) → get_or slots k None ≡ Some c → is_over rest now c ≡ true

@@ -24,17 +24,13 @@ invariant_of-self c =
 
 pub returns-then-not-is_at-clause-kept : goal.returns-then-not-is_at-clause-kept
 returns-then-not-is_at-clause-kept c = λ e there.
-    let xs = c.self.inside.entries.items in
-    let same = ap (λ (o : OrderTable). o.entries) c.self.view_is in
-    let items : c.insert.new.self.items ≡ insert xs c.place-place.result c.args.entry = done-ok c.insert.result _ _ _ c.insert.ensures.items c.insert.ensures.full (search rules) in
-    rw (items, same) (inserted-kept c.args.self.now.entries c.place-place.result c.args.entry e there)
+    rw (done-ok c.insert.result _ _ _ c.insert.ensures.items c.insert.ensures.full (search rules))
+    (inserted-kept c.self.inside.entries.items c.place-place.result c.args.entry e (rw (← c.self.view_is) at there))
 
 pub returns-then-not-is_at-clause-only : goal.returns-then-not-is_at-clause-only
 returns-then-not-is_at-clause-only c = λ e there.
-    let xs = c.self.inside.entries.items in
-    let same = ap (λ (o : OrderTable). o.entries) c.self.view_is in
-    let items : c.insert.new.self.items ≡ insert xs c.place-place.result c.args.entry = done-ok c.insert.result _ _ _ c.insert.ensures.items c.insert.ensures.full (search rules) in
-    inserted-only c.args.self.now.entries c.place-place.result c.args.entry e (rw (← same) (rw (← items) there))
+    let items = done-ok c.insert.result _ _ _ c.insert.ensures.items c.insert.ensures.full (search rules) in
+    rw (← c.self.view_is) (inserted-only c.self.inside.entries.items c.place-place.result c.args.entry e (rw items at there))
 
 pub returns-else-not-is_at-clause-there : goal.returns-else-not-is_at-clause-there
 returns-else-not-is_at-clause-there c = get-contains c.args.self.now.entries c.place-place.result c.args.entry (c.is_at.ensures.here c.if-not-is_at.false)

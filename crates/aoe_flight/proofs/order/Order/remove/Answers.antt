@@ -8,9 +8,8 @@ use Rattle.aoe_flight.proofs.order.Order.remove.Goals as goal
 pub invariant_of-self : goal.invariant_of-self
 invariant_of-self c =
     let xs = c.self.inside.entries.items in
-    let same = ap (λ (o : OrderTable). o.entries) c.self.view_is in
-    let here : slice_get xs c.place-place.result ≡ Some c.args.entry = rw same (c.is_at.ensures.here c.if-is_at.true) in
-    let items : c.remove.new.self.items ≡ remove xs c.place-place.result = taken-out c.remove.result _ xs c.place-place.result c.args.entry c.remove.ensures.items here (search rules) in
+    let here = rw (← c.self.view_is) at (c.is_at.ensures.here c.if-is_at.true) in
+    let items = taken-out c.remove.result _ xs c.place-place.result c.args.entry c.remove.ensures.items here (search rules) in
     record {
       order = rw items (ordered-remove xs c.place-place.result c.self.invariant.order);
       fits = rw items (omega (arith, length-remove xs c.place-place.result c.args.entry here, c.self.invariant.fits));
@@ -20,26 +19,25 @@ invariant_of-self c =
 pub returns-then-is_at-clause-kept : goal.returns-then-is_at-clause-kept
 returns-then-is_at-clause-kept c = λ e other there.
     let xs = c.self.inside.entries.items in
-    let same = ap (λ (o : OrderTable). o.entries) c.self.view_is in
-    let here = c.is_at.ensures.here c.if-is_at.true in
-    let inside : slice_get xs c.place-place.result ≡ Some c.args.entry = rw same here in
-    let items : c.remove.new.self.items ≡ remove xs c.place-place.result = taken-out c.remove.result _ xs c.place-place.result c.args.entry c.remove.ensures.items inside (search rules) in
-    rw (items, same) (removed-kept c.args.self.now.entries c.place-place.result c.args.entry e here other there)
+    let here = rw (← c.self.view_is) at (c.is_at.ensures.here c.if-is_at.true) in
+    let items = taken-out c.remove.result _ xs c.place-place.result c.args.entry c.remove.ensures.items here (search rules) in
+    rw items (removed-kept xs c.place-place.result c.args.entry e here other (rw (← c.self.view_is) at there))
 
 pub returns-then-is_at-clause-only : goal.returns-then-is_at-clause-only
 returns-then-is_at-clause-only c = λ e there.
     let xs = c.self.inside.entries.items in
-    let same = ap (λ (o : OrderTable). o.entries) c.self.view_is in
-    let here = c.is_at.ensures.here c.if-is_at.true in
-    let inside : slice_get xs c.place-place.result ≡ Some c.args.entry = rw same here in
-    let items : c.remove.new.self.items ≡ remove xs c.place-place.result = taken-out c.remove.result _ xs c.place-place.result c.args.entry c.remove.ensures.items inside (search rules) in
-    removed-only c.args.self.now.entries c.place-place.result c.args.entry e c.place-place.ensures.order here (rw (← same) (rw (← items) there))
+    let here = rw (← c.self.view_is) at (c.is_at.ensures.here c.if-is_at.true) in
+    let items = taken-out c.remove.result _ xs c.place-place.result c.args.entry c.remove.ensures.items here (search rules) in
+    rw (← c.self.view_is) (removed-only xs c.place-place.result c.args.entry e c.self.invariant.order here (rw items at there))
 
 pub returns-else-is_at-clause-length : goal.returns-else-is_at-clause-length
 returns-else-is_at-clause-length c = λ there.
-    let never = found-there c.args.self.now.entries c.place-place.result c.args.entry c.place-place.ensures.order c.place-place.ensures.low (c.is_at.ensures.out c.if-is_at.false) c.args.entry there in
-    absurd (never refl)
+    absurd (found-there c.args.self.now.entries c.place-place.result c.args.entry c.place-place.ensures.order c.place-place.ensures.low
+    (c.is_at.ensures.out c.if-is_at.false) c.args.entry there refl)
 
 pub returns-else-is_at-clause-only : goal.returns-else-is_at-clause-only
-returns-else-is_at-clause-only c = λ e there.
-    (there, found-there c.args.self.now.entries c.place-place.result c.args.entry c.place-place.ensures.order c.place-place.ensures.low (c.is_at.ensures.out c.if-is_at.false) e there)
+returns-else-is_at-clause-only c = λ e there. (
+  there,
+  found-there c.args.self.now.entries c.place-place.result c.args.entry c.place-place.ensures.order c.place-place.ensures.low
+      (c.is_at.ensures.out c.if-is_at.false) e there,
+)

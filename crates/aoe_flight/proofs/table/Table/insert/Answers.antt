@@ -12,7 +12,8 @@ use Rattle.aoe_flight.proofs.table.Table.insert.Goals as goal
 more : (slab table : Slab Outstanding) → slab ≡ table → length (values table) < table.capacity → slab_len slab < slab.capacity
 more slab table is room = rw (is, length-held table.slots) room
 
-fits : (slab table : Slab Outstanding) (resting : ℕ) (order : OrderTable) → slab ≡ table → length (values table) < table.capacity → HasRoom slab resting order → length order.entries < order.room
+fits : (slab table : Slab Outstanding) (resting : ℕ) (order : OrderTable) → slab ≡ table → length (values table) < table.capacity
+    → HasRoom slab resting order → length order.entries < order.room
 fits slab table resting order is room has = omega (arith, more slab table is room, has.fits, has.room)
 
 pub insert_reserved-slot-requires : goal.insert_reserved-slot-requires
