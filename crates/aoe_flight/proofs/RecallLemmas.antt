@@ -1,5 +1,5 @@
 -- What a table says of all commands that were sent, of which it has those that fly or rest.
-use Rattle.std.proofs.Common.{get_or, ℕ, ◌≡◌, ◌<◌, ◌≤◌, ◌&&◌, cond, not, Bool, true, false, List, [], ◌∷◌, length, map, Option, Some, None, inl, inr, refl, sym, ap, subst, ◌∙◌, arith, nat_eq}
+use Rattle.std.proofs.Common.{get_or, ℕ, ◌≡◌, ◌≤◌, ◌&&◌, cond, not, Bool, true, false, List, [], ◌∷◌, length, map, Option, Some, None, inl, inr, refl, sym, ap, ◌∙◌, arith, nat_eq}
 use Rattle.std.specs.Bool.{beq}
 use Rattle.std.proofs.lemmas.List.Folds.{list_any_at, list_any_none}
 use Rattle.std.proofs.lemmas.Option.{IfSome_then}

@@ -1,5 +1,5 @@
 -- What stays true of the commands that are kept, and what the table shows after each change.
-use Rattle.std.proofs.Common.{ℕ, ◌≡◌, ◌+◌, ◌<◌, ◌≤◌, ◌||◌, cond, not, Bool, true, false, List, [], ◌∷◌, length, get_or, suc, map, Some, inl, inr, refl, sym, ap, ◌∙◌, arith, rules, zero-add, nat_eq}
+use Rattle.std.proofs.Common.{ℕ, ◌≡◌, ◌<◌, ◌≤◌, cond, not, Bool, true, false, List, [], ◌∷◌, length, get_or, suc, map, inl, inr, refl, sym, ap, ◌∙◌, arith, rules, nat_eq}
 use Rattle.std.specs.List.{count_by, filter, find, list_any}
 use Rattle.std.specs.List.Sorted.{IsPermutation}
 use Rattle.std.specs.Prelude.{◌↔◌, IsSome}
@@ -8,7 +8,6 @@ use Rattle.aoe_base.proofs.CountLemmas.{all-none, count-alike, count-cons, count
 use Rattle.std.proofs.lemmas.List.{length-map}
 use Rattle.std.proofs.lemmas.List.Elements.{All-cons, filter_passes}
 use Rattle.std.proofs.lemmas.List.Sorted.{All-permutation, length_permutation, list_any-IsPermutation, sum_by-IsPermutation}
-use Rattle.std.proofs.lemmas.List.Sums.{sum_by-cons}
 use Rattle.aoe_flight.specs.declared.outstanding.Outstanding.{Outstanding}
 use Rattle.aoe_flight.specs.FlightTable.{at_time, FlightTable, FitsRoom}
 use Rattle.aoe_flight.specs.Outstanding.{change_of, flies_as, has_tag, is_over, is_taken, live, tag_count}

@@ -49,12 +49,14 @@ none-past life latest commands k d up within stays j e below past =
     ]))
 
 -- nor has a past one the ticket of one that is above all
-pub none-past-above : (life latest : ℕ) (commands : List Command) (c : Command) → All (λ e. e.ticket.0 < c.ticket.0) commands → IsNonePast life latest commands c
+pub none-past-above : (life latest : ℕ) (commands : List Command) (c : Command) → All (λ e. e.ticket.0 < c.ticket.0) commands
+    → IsNonePast life latest commands c
 none-past-above life latest commands c above = λ k d below past. ne_eqb _ _ (λ same. absurd (omega (arith, above k d below)))
 
 -- the commands that stay lie within the extent, and keep their keys
 covers-kept : (extent : Extent) (old new : BTreeSet Key) (life latest : ℕ) (commands : List Command) → is_ascending commands ≡ true
-    → ((c : Command) → IsNonePast life latest commands c → HasKey old c → HasKey new c) → Covers extent old commands → Covers extent new (live life latest commands)
+    → ((c : Command) → IsNonePast life latest commands c → HasKey old c → HasKey new c) → Covers extent old commands
+    → Covers extent new (live life latest commands)
 covers-kept extent old new life latest commands up keeps covers =
     let stays : Command → Bool = λ c. not (is_past life latest c) in
     let each : All (λ c. stays c ≡ true → IsWithin extent new c) commands = λ k d below stayed.

@@ -100,6 +100,7 @@ walked-more next all rest left done k last is parts before one =
     (k ∷ done, rw (parts, last) (append_assoc left (k ∷ []) done), free-or next (omega arith) one before)
 
 pub narrowed : (life : ℕ) (test : Command → Bool) (commands : List Command) (c : Command) (other : Command → Bool) (keeper : Keeper)
-    → All (λ e. other e ≡ true → conflict e c ≡ true → test e ≡ true) commands → IsKeeperOf life test commands c keeper → IsKeeperOf life other commands c keeper
+    → All (λ e. other e ≡ true → conflict e c ≡ true → test e ≡ true) commands → IsKeeperOf life test commands c keeper
+    → IsKeeperOf life other commands c keeper
 narrowed life test commands c other (Blocker ticket) each is = is
 narrowed life test commands c other (Clear from) each is = free-narrow other each is

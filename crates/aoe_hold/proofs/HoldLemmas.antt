@@ -115,7 +115,8 @@ held-gone {unsent} {commands} {timed} {ready} {blocked} less ticket now timed_ne
 
 pub index-ended : {life latest unsent ticket i : ℕ} {commands : List Command} {ended new : Command} {timed ready blocked timed_new blocked_new : QueueTable}
     → StandsAt ticket commands i ended → new ≡ ends ticket ended
-    → Released life latest (after_stage ticket stage_finished commands) new timed blocked timed_new blocked_new → All (λ w. waited_for new w ≡ false) blocked_new.waiters
+    → Released life latest (after_stage ticket stage_finished commands) new timed blocked timed_new blocked_new
+    → All (λ w. waited_for new w ≡ false) blocked_new.waiters
     → IsIndex life latest unsent commands timed ready → AreHeld unsent commands timed ready blocked
     → IsIndex life latest unsent (after_stage ticket stage_finished commands) timed_new ready
     × AreHeld unsent (after_stage ticket stage_finished commands) timed_new ready blocked_new
@@ -173,7 +174,8 @@ tickets-filter ticket (w ∷ waiters) = elim (cases_Bool (nat_eq (ticket_of w) t
 ]
 
 -- at most two steps beside those that moved a command
-pub steps-few : (before after first : ℕ) (old ready : List Waiter) (clear : List ℕ) → map ticket_of ready ≡ clear → first + length old ≡ before + 1 + length ready
+pub steps-few : (before after first : ℕ) (old ready : List Waiter) (clear : List ℕ) → map ticket_of ready ≡ clear
+    → first + length old ≡ before + 1 + length ready
     → after ≡ first + 1 → after ≤ before + 2 + (length clear - length (map ticket_of old))
 steps-few before after first old ready clear is moved last =
     omega (arith, length-map old ticket_of, length-map ready ticket_of, ap (λ (l : List ℕ). length l) is)

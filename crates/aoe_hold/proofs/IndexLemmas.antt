@@ -127,7 +127,8 @@ sent-waits ticket now commands timed ready same test =
     blocked : (c : Command) → is_blocked (after_stage ticket (stage_sent now) commands) c ≡ is_blocked commands c
     blocked c = any-kept (blocks c) (with_stage ticket (stage_sent now)) commands (λ k d below. blocks-sent ticket now c _)
 
-    one : (c : Command) → (waits (after_stage ticket (stage_sent now) commands) (with_stage ticket (stage_sent now) c) && test (with_stage ticket (stage_sent now) c))
+    one : (c : Command)
+        → (waits (after_stage ticket (stage_sent now) commands) (with_stage ticket (stage_sent now) c) && test (with_stage ticket (stage_sent now) c))
         ≡ (waits commands c && (not (nat_eq c.ticket.0 ticket) && test c))
     one c = elim (cases_Bool (nat_eq c.ticket.0 ticket)) [
       | inl same ↦ rw (same, sent-unsent now c.stage) (grind arith)

@@ -47,7 +47,8 @@ moved-more {now} {timed0} {ready0} {timed} {ready} timed1 ready1 w m timed_is le
     }
 
 -- what a queue shows of its fields
-pub fewer-shown : (room : ℕ) (waiters : List Waiter) (table : QueueTable) → (let shown : QueueTable = record { room = room; waiters = waiters } in shown) ≡ table
+pub fewer-shown : (room : ℕ) (waiters : List Waiter) (table : QueueTable)
+    → (let shown : QueueTable = record { room = room; waiters = waiters } in shown) ≡ table
     → length table.waiters < table.room → length waiters < room
 fewer-shown room waiters table is fewer = rw (← is) at fewer
 

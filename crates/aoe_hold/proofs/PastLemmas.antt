@@ -13,7 +13,8 @@ use Rattle.aoe_hold.proofs.PlaceLemmas.{filter-same}
 pub live-all : (life from now : ℕ) (commands : List Command) → NonePastBefore life from commands → now < from → commands ≡ live life now commands
 live-all life from now commands none before = filter-same (λ c. not (is_past life now c)) commands (λ k d below. rw (none now before k d below))
 
-pub past-entered : (life from : ℕ) (kept : List Command) (c : Command) → c.stage ≡ Unsent → NonePastBefore life from kept → NonePastBefore life from (kept ++ c ∷ [])
+pub past-entered : (life from : ℕ) (kept : List Command) (c : Command) → c.stage ≡ Unsent → NonePastBefore life from kept
+    → NonePastBefore life from (kept ++ c ∷ [])
 past-entered life from kept c fresh none now before = All-push (λ d. is_past life now d ≡ false) kept c (none now before) (rw fresh)
 
 sent-past : (life t ticket : ℕ) (now : Millis) (c : Command) → is_past life t c ≡ false → is_past life t (with_stage ticket (stage_sent now) c) ≡ false
@@ -36,5 +37,6 @@ pub past-more : (life from more next i : ℕ) (commands : List Command) (d : Com
 past-more life from more next i commands d is below late none now before =
     All-more (λ c. is_past life now c ≡ false) commands i d below (none now (omega arith)) (late now (omega arith))
 
-pub past-whole : (life from i : ℕ) (commands : List Command) → length commands ≤ i → NonePastBefore life from (take i commands) → NonePastBefore life from commands
+pub past-whole : (life from i : ℕ) (commands : List Command) → length commands ≤ i → NonePastBefore life from (take i commands)
+    → NonePastBefore life from commands
 past-whole life from i commands least none now before = rw (take_all i commands least) at (none now before)

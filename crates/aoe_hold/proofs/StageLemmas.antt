@@ -27,7 +27,8 @@ abbrev IsFirst : ℕ → List Command → ℕ → Command → Type 0
 IsFirst ticket commands i d = (i < length commands) × (nat_eq (get_or commands i d).ticket.0 ticket ≡ true)
     × ((k : ℕ) → k < i → nat_eq (get_or commands k d).ticket.0 ticket ≡ false)
 
-first-behind : (ticket : ℕ) (c : Command) (commands : List Command) (i : ℕ) (d : Command) → IsFirst ticket (c ∷ commands) (suc i) d → IsFirst ticket commands i d
+first-behind : (ticket : ℕ) (c : Command) (commands : List Command) (i : ℕ) (d : Command) → IsFirst ticket (c ∷ commands) (suc i) d
+    → IsFirst ticket commands i d
 first-behind ticket c commands i d first = (omega arith, first.1, λ k below. first.2 (suc k) (omega arith))
 
 stage-there : (ticket : ℕ) (change : Stage → Stage) (commands : List Command) (i : ℕ) (d : Command) → is_ascending commands ≡ true

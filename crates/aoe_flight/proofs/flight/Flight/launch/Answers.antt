@@ -1,10 +1,8 @@
-use Rattle.std.proofs.Common.{◌≡◌, ◌∷◌, ap, length, refl, sym, ◌∙◌, arith, rules}
-use Rattle.std.specs.List.Sorted.{IsPermutation}
+use Rattle.std.proofs.Common.{◌≡◌, ap, refl, sym, ◌∙◌, arith, rules}
 use Rattle.std.proofs.lemmas.Bool.{eq-eqb}
 use Rattle.slab.specs.Slab.{values}
-use Rattle.aoe_flight.specs.declared.outstanding.Outstanding.{Outstanding}
 use Rattle.aoe_flight.specs.FlightTable.{FlightTable}
-use Rattle.aoe_flight.specs.Outstanding.{is_taken, launched, live}
+use Rattle.aoe_flight.specs.Outstanding.{launched}
 use Rattle.aoe_flight.proofs.PastLemmas.{past-launched, past-live}
 use Rattle.aoe_flight.proofs.SoundLemmas.{count-live, flies-new, forget-value, live-new, live-view, sound-live, sound-new, time-of}
 use Rattle.aoe_flight.proofs.RecallLemmas.{free-recalled, recalls-launch}

@@ -1,7 +1,4 @@
-use Rattle.std.proofs.Common.{◌≡◌, Some, rules, arith, ap, refl}
-use Rattle.std.specs.List.{remove}
-use Rattle.std.specs.Prelude.{slice_get}
-use Rattle.aoe_flight.specs.Order.{OrderTable}
+use Rattle.std.proofs.Common.{rules, arith, refl}
 use Rattle.aoe_flight.proofs.EntryLemmas.{found-there, length-remove, ordered-remove, removed-kept, removed-only, taken-out}
 use Rattle.aoe_flight.proofs.order.Order.remove.Goals as goal
 

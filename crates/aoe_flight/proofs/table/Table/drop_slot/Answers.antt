@@ -1,4 +1,3 @@
-use Rattle.aoe_flight.specs.Table.{by_last, by_tag}
 use Rattle.aoe_flight.proofs.ChangeLemmas.{indexed-dropped, removed}
 use Rattle.aoe_flight.proofs.table.Table.drop_slot.Goals as goal
 

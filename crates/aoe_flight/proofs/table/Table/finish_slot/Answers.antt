@@ -1,7 +1,5 @@
-use Rattle.std.proofs.Common.{arith, refl, ◌∙◌}
-use Rattle.slab.specs.Slab.{with_value}
-use Rattle.aoe_flight.specs.Outstanding.{after_finish}
-use Rattle.aoe_flight.specs.Table.{by_due, by_first, by_last, by_tag, by_ticket}
+use Rattle.std.proofs.Common.{arith}
+use Rattle.aoe_flight.specs.Table.{by_ticket}
 use Rattle.aoe_flight.proofs.ChangeLemmas.{flies-true, indexed-finished, inserted, removed}
 use Rattle.aoe_flight.proofs.table.Table.finish_slot.Goals as goal
 

@@ -1,7 +1,5 @@
-use Rattle.std.proofs.Common.{◌≤◌, ap, sym, ◌∙◌, arith}
-use Rattle.aoe_flight.specs.declared.order.Entry.{Entry}
+use Rattle.std.proofs.Common.{◌≤◌, sym, ◌∙◌}
 use Rattle.aoe_flight.specs.Outstanding.{is_due}
-use Rattle.aoe_flight.specs.Table.{by_due, flies}
 use Rattle.aoe_flight.proofs.TableLemmas.{all-at, due-flying, due-past, first-due, head-held, if-none, none-pass, none-past}
 use Rattle.aoe_flight.proofs.table.Table.first_due.Goals as goal
 

@@ -1,8 +1,6 @@
-use Rattle.std.proofs.Common.{◌≡◌, None, ap, arith, rules, sym, ◌∙◌}
+use Rattle.std.proofs.Common.{◌≡◌, None, rules, sym, ◌∙◌}
 use Rattle.slab.specs.Slab.{values}
-use Rattle.aoe_flight.specs.declared.order.Entry.{Entry}
 use Rattle.aoe_flight.specs.Outstanding.{is_expired, lower}
-use Rattle.aoe_flight.specs.Table.{by_first, flies}
 use Rattle.aoe_flight.proofs.TableLemmas.{expired-flying, expired-past, head-held, none-pass, none-past}
 use Rattle.aoe_flight.proofs.ValueLemmas.{best-nothing}
 use Rattle.aoe_flight.proofs.table.Table.first_expired.Goals as goal

@@ -1,9 +1,5 @@
-use Rattle.std.proofs.Common.{◌≡◌, Some, subst, sym}
-use Rattle.slab.specs.Slab.{get, Slab}
-use Rattle.aoe_flight.specs.declared.outstanding.Outstanding.{Outstanding}
+use Rattle.std.proofs.Common.{sym}
 use Rattle.aoe_flight.specs.Order.{entry_at}
-use Rattle.aoe_flight.specs.Outstanding.{flies_as}
-use Rattle.aoe_flight.specs.Table.{by_ticket, flies, IsFirstSlot}
 use Rattle.aoe_flight.proofs.TableLemmas.{first-slot, if-none, no-slot, slot-held}
 use Rattle.aoe_flight.proofs.table.Table.flying_slot.Goals as goal
 

@@ -2,7 +2,7 @@ use Rattle.std.proofs.Common.{ℕ, ◌≡◌, ◌<◌, length, arith}
 use Rattle.slab.specs.Slab.{slab_len, values, Slab}
 use Rattle.aoe_flight.specs.declared.outstanding.Outstanding.{Outstanding}
 use Rattle.aoe_flight.specs.Order.{OrderTable}
-use Rattle.aoe_flight.specs.Table.{by_due, by_first, by_tag, by_ticket, HasRoom}
+use Rattle.aoe_flight.specs.Table.{HasRoom}
 use Rattle.aoe_flight.proofs.ChangeLemmas.{indexed-inserted, inserted}
 use Rattle.aoe_flight.proofs.InsertLemmas.{inserted as values-inserted}
 use Rattle.aoe_flight.proofs.SlotLemmas.{length-held}

@@ -1,7 +1,5 @@
-use Rattle.std.proofs.Common.{ap, arith, sym, ◌∙◌}
-use Rattle.aoe_flight.specs.declared.order.Entry.{Entry}
+use Rattle.std.proofs.Common.{sym, ◌∙◌}
 use Rattle.aoe_flight.specs.Outstanding.{is_over}
-use Rattle.aoe_flight.specs.Table.{by_last, rests}
 use Rattle.aoe_flight.proofs.TableLemmas.{head-held, if-none, none-pass, none-past, over-past, over-rests}
 use Rattle.aoe_flight.proofs.table.Table.over_slot.Goals as goal
 

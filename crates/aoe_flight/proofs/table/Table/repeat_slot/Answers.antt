@@ -1,5 +1,4 @@
-use Rattle.std.proofs.Common.{arith, refl, ◌∙◌}
-use Rattle.slab.specs.Slab.{with_value}
+use Rattle.std.proofs.Common.{arith}
 use Rattle.aoe_flight.specs.Table.{by_due}
 use Rattle.aoe_flight.proofs.ChangeLemmas.{flies-true, indexed-repeated, inserted, removed}
 use Rattle.aoe_flight.proofs.table.Table.repeat_slot.Goals as goal
