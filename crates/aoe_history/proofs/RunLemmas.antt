@@ -3,16 +3,10 @@ use Rattle.std.proofs.Common.{◌≤◌, IfSome, All, length, ℕ, ◌≡◌, in
 use Rattle.std.specs.Option.{option_map}
 use Rattle.std.proofs.lemmas.List.Elements.{All-head, All-tail}
 use Rattle.std.proofs.lemmas.Option.{cond_some}
-use Rattle.aoe_net.specs.Network.{deliverable, numbered, IsFull, Network, SentFrame}
-use Rattle.aoe_history.specs.declared.entry.Entry.{Entry}
-use Rattle.aoe_history.specs.Frames.{network}
-use Rattle.aoe_history.specs.Run.{Carries, IsShort}
+use Rattle.aoe_net.specs.Network.{deliverable, numbered, Network, SentFrame}
+use Rattle.aoe_history.specs.Run.{IsShort}
 use Rattle.aoe_history.proofs.LogicLemmas.{some-then}
 use Rattle.aoe_history.proofs.hosts.EntryLemmas.{numbered-cases}
-
--- the network is as full as the history says
-pub full-said : (life now : ℕ) (h : List Entry) (net : Network) (f : List ℕ) → Carries life now h net → IsFull net f → IsFull (network life h) f
-full-said life now h net f c full = rw (← c.sent) full
 
 -- FRAMES THAT AREN'T TOO LONG
 

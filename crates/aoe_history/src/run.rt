@@ -1,5 +1,5 @@
 //! The clock, the network and the history of a run.
-ghost use Rattle.std.specs.Prelude.{◌≡◌, ◌+◌, ◌<◌, ◌≤◌, ◌^◌, List, [], ◌∷◌, length, option_map, true, IfOk, IfSome, IsOkUnless, OnErr, OnOk, Err};
+ghost use Rattle.std.specs.Prelude.{◌≡◌, ◌+◌, ◌<◌, ◌≤◌, ◌^◌, List, [], ◌∷◌, length, option_map, true, IfErr, IfOk, IfSome, IsOkUnless, OnErr, OnOk, Err};
 ghost use Rattle.aoe_net.specs.Network.{total_bytes, IsFull};
 ghost use Rattle.aoe_history.specs.declared.entry.Entry.{Entry};
 ghost use Rattle.aoe_history.specs.declared.entry.Entry.TheVariants.{Sent, Injected, Arrived, Crashed, Ticked};
@@ -135,22 +135,32 @@ impl Run {
         Ok(())
     }
 
-    /// Records an entry, and brings the frame that it sends into the network.
-    fn bring(&mut self, entry: Entry, frame: FrameBytes) -> Result<(), NetRefusal>
+    /// Refuses a frame that the network has no room for. It asks for no memory, and comes first.
+    fn check_room(&self, frame: &[u8]) -> Result<(), NetRefusal>
+        ensures room { OnOk result (¬ IsFull (network_of self.now) frame.now) }
+        ensures full { IfErr result (λ refusal. (refusal ≡ NetRefusal.Full) × IsFull (network_of self.now) frame.now) }
+    {
+        if self.net.is_full(frame) {
+            return Err(NetRefusal::Full);
+        }
+        Ok(())
+    }
+
+    /// Records an entry, and brings the frame that it sends into the network, which has room for it.
+    fn bring(&mut self, entry: Entry, frame: FrameBytes) -> Result<(), NoMemory>
         requires len { length frame ≤ 9018 }
+        requires room { ¬ IsFull (network_of self.old) frame }
         requires frames { frames (entry ∷ self.old.entries) ≡ record { bytes = frame; birth = clock self.old.entries } ∷ frames self.old.entries }
         requires clock { clock (entry ∷ self.old.entries) ≡ clock self.old.entries }
         ensures ok { OnOk result (self.new ≡ with_entry self.old entry) }
-        ensures room { OnOk result (¬ IsFull (network_of self.old) frame) }
-        ensures full { result ≡ Err NetRefusal.Full → IsFull (network_of self.old) frame }
         ensures err { OnErr result (self.new ≡ self.old) }
     {
         self.history.push(entry)?;
-        match self.net.send_shared(self.clock, frame) {
+        match self.net.keep(self.clock, frame) {
             Ok(_) => Ok(()),
-            Err(refusal) => {
+            Err(NoMemory) => {
                 take_back(&mut self.history);
-                Err(refusal)
+                Err(NoMemory)
             }
         }
     }
@@ -168,8 +178,10 @@ impl Run {
         ensures ok { OnOk result (self.new ≡ with_entry self.old (Sent host.now ticket.0 (next_number self.old.entries) frame.now)) }
         ensures room { OnOk result (¬ IsFull (network_of self.old) frame.now) }
         ensures full { result ≡ Err NetRefusal.Full → IsFull (network_of self.old) frame.now }
+        ensures memory { result ≡ Err NetRefusal.NoMemory → ¬ IsFull (network_of self.old) frame.now }
         ensures err { OnErr result (self.new ≡ self.old) }
     {
+        self.check_room(frame)?;
         let Ok(host) = host.clone() else {
             return Err(NetRefusal::NoMemory);
         };
@@ -180,7 +192,7 @@ impl Run {
             frame: self.next_number(),
             bytes,
         };
-        self.bring(entry, same)
+        Ok(self.bring(entry, same)?)
     }
 
     /// A frame of no station comes into the network.
@@ -189,14 +201,16 @@ impl Run {
         ensures ok { OnOk result (self.new ≡ with_entry self.old (Injected (next_number self.old.entries) frame.now)) }
         ensures room { OnOk result (¬ IsFull (network_of self.old) frame.now) }
         ensures full { result ≡ Err NetRefusal.Full → IsFull (network_of self.old) frame.now }
+        ensures memory { result ≡ Err NetRefusal.NoMemory → ¬ IsFull (network_of self.old) frame.now }
         ensures err { OnErr result (self.new ≡ self.old) }
     {
+        self.check_room(frame)?;
         let (bytes, same) = twice(self.alloc, frame)?;
         let entry = Entry::Injected {
             frame: self.next_number(),
             bytes,
         };
-        self.bring(entry, same)
+        Ok(self.bring(entry, same)?)
     }
 
     /// A frame came to a target, and this is its reply.
@@ -211,8 +225,10 @@ impl Run {
         ensures ok { OnOk result (self.new ≡ with_entry self.old (Arrived dev number.0 (Replied effect (next_number self.old.entries) reply.now))) }
         ensures room { OnOk result (¬ IsFull (network_of self.old) reply.now) }
         ensures full { result ≡ Err NetRefusal.Full → IsFull (network_of self.old) reply.now }
+        ensures memory { result ≡ Err NetRefusal.NoMemory → ¬ IsFull (network_of self.old) reply.now }
         ensures err { OnErr result (self.new ≡ self.old) }
     {
+        self.check_room(reply)?;
         let (bytes, same) = twice(self.alloc, reply)?;
         let fate = Fate::Replied {
             effect,
@@ -224,6 +240,6 @@ impl Run {
             frame: u64::from(number.0),
             fate,
         };
-        self.bring(entry, same)
+        Ok(self.bring(entry, same)?)
     }
 }

@@ -2,7 +2,8 @@
 //! in any order, until the frame's lifetime is over.
 //!
 //! 1. [`Net::new`] with that lifetime.
-//! 2. [`Net::send`] or [`Net::send_shared`] with each frame, which gets the next number.
+//! 2. [`Net::send`] with each frame, which gets the next number; or [`Net::is_full`], and where it
+//!    isn't, [`Net::keep`] with bytes that somebody else has too.
 //! 3. [`Net::fetch`] gives the frame of a number as long as it can be handed over.
 //!
 //! It is full at 200,000 frames or 536,870,912 bytes, which expired frames count among: their

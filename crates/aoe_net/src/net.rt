@@ -61,7 +61,8 @@ impl Net {
         }
     }
 
-    fn is_full(&self, frame: &[u8]) -> bool
+    /// Whether there is no room for a frame.
+    pub fn is_full(&self, frame: &[u8]) -> bool
         ensures { IsTrue result ↔ IsFull self.now frame.now }
     {
         self.count() >= MAX_FRAMES || self.total_bytes() + frame.len() as u64 > MAX_BYTES
@@ -87,23 +88,8 @@ impl Net {
         Ok(self.keep(now, bytes)?)
     }
 
-    /// Sends a frame whose bytes somebody else has too.
-    pub fn send_shared(&mut self, now: Millis, frame: FrameBytes) -> Result<FrameNo, NetRefusal>
-        requires len { length frame ≤ 9018 }
-        requires time { self.old.latest ≤ now.0 }
-        ensures sent { OnOk result (self.new ≡ with_frame self.old now.0 frame) }
-        ensures number { IfOk result (λ number. number.0 ≡ length self.new.sent) }
-        ensures full { (result ≡ Err NetRefusal.Full) ↔ IsFull self.old frame }
-        ensures refused { OnErr result (self.new ≡ self.old) }
-    {
-        if self.is_full(frame.bytes()) {
-            return Err(NetRefusal::Full);
-        }
-        Ok(self.keep(now, frame)?)
-    }
-
-    /// Keeps a frame that there is room for.
-    fn keep(&mut self, now: Millis, frame: FrameBytes) -> Result<FrameNo, NoMemory>
+    /// Sends a frame that there is room for, and whose bytes somebody else may have too.
+    pub fn keep(&mut self, now: Millis, frame: FrameBytes) -> Result<FrameNo, NoMemory>
         requires room { ¬ IsFull self.old frame }
         ensures sent { OnOk result (self.new ≡ with_frame self.old now.0 frame) }
         ensures number { IfOk result (λ number. number.0 ≡ length self.new.sent) }
