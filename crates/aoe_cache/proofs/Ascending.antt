@@ -69,6 +69,12 @@ pub ascending_append : (low mid : ℕ) (xs ys : List HeldSector) → low ≤ mid
 ascending_append low mid [] ys le a b c = ascending_from _ mid _ le c
 ascending_append low mid (x ∷ xs) ys le a b c = (a.0, a.1, ascending_append (x.at + 1) mid xs ys (omega (arith, b.0)) a.2 b.1 c)
 
+-- the first k, and behind them some that come after what follows the first k
+pub ascending_parts : (low k : ℕ) (hs ys : List HeldSector) → IsAscending low hs → ((from : ℕ) → IsAscending from (drop k hs) → IsAscending from ys) → IsAscending low (take k hs ++ ys)
+ascending_parts low zero hs ys order more = more low order
+ascending_parts low (suc k) [] ys order more = more low order
+ascending_parts low (suc k) (h ∷ hs) ys order more = (order.0, order.1, ascending_parts (h.at + 1) k hs ys order.2 more)
+
 pub below_drop : (high k : ℕ) (hs : List HeldSector) → AreBelow high hs → AreBelow high (drop k hs)
 below_drop high zero hs b = b
 below_drop high (suc k) [] b = tt
@@ -137,9 +143,13 @@ pub held_high : (high s : ℕ) (hs : List HeldSector) → AreBelow high hs → h
 held_high high s [] b le = refl
 held_high high s (h ∷ hs) b le = grind (arith, nat_tests, b.0, held_high high s hs b.1)
 
-held_past : (s : ℕ) (xs ys : List HeldSector) → held_for xs s ≡ None → held_for (xs ++ ys) s ≡ held_for ys s
+pub held_past : (s : ℕ) (xs ys : List HeldSector) → held_for xs s ≡ None → held_for (xs ++ ys) s ≡ held_for ys s
 held_past s [] ys e = refl
 held_past s (x ∷ xs) ys e = grind (arith, nat_tests, held_past s xs ys)
+
+pub held_front : (s : ℕ) (b : List ℕ) (xs ys : List HeldSector) → held_for xs s ≡ Some b → held_for (xs ++ ys) s ≡ Some b
+held_front s b [] ys e = cc
+held_front s b (x ∷ xs) ys e = grind (arith, nat_tests, held_front s b xs ys)
 
 held_first : (s : ℕ) (xs ys : List HeldSector) → held_for ys s ≡ None → held_for (xs ++ ys) s ≡ held_for xs s
 held_first s [] ys e = e

@@ -1,17 +1,17 @@
 -- What calls of a cached store do to its disk.
-use Rattle.std.proofs.Common.{◌+◌, ◌/◌, ℕ, false, List, Result, is_err, length, refl, inl, inr}
+use Rattle.std.proofs.Common.{◌+◌, ◌/◌, ℕ, true, false, List, Result, is_err, length, refl, inl, inr}
 use Rattle.std.proofs.lemmas.Bool.{cases_lt}
 use Rattle.aoe_disk.specs.State.{DiskState, IsDisk}
 use Rattle.aoe_disk.specs.Calls.{IsRange, IsRun}
 use Rattle.aoe_disk.proofs.Runs.{run_none, run_then}
 use Rattle.aoe_store.specs.Under.{FreesUnder, ReadsUnder, SpendsUnder}
 use Rattle.aoe_cache.specs.Held.{with_written}
-use Rattle.aoe_cache.specs.Down.{Empties, StopsShort}
+use Rattle.aoe_cache.specs.Down.{Empties, WritesPart}
 use Rattle.aoe_cache.specs.Cache.{Cache, CacheReads, CacheSyncs, CacheWrites, state_of}
 use Rattle.aoe_cache.specs.Free.{under_of}
 use Rattle.aoe_cache.specs.declared.place.HeldSector.{HeldSector}
 use Rattle.aoe_cache.proofs.Ascending.{AreHeld}
-use Rattle.aoe_cache.proofs.Down.{AsSeen, runs_seen, stops_seen}
+use Rattle.aoe_cache.proofs.Down.{AsSeen, down_seen}
 use Rattle.aoe_cache.proofs.Freeing.{frees_all, spends_free}
 
 -- THE DEVICE CALLS
@@ -20,12 +20,12 @@ module _ {D T E : Type 0} (state : D → DiskState) (result : Result T E) (old n
   abbrev Made : Type 0
   Made = (m : ℕ) × IsRun m (is_err result) (state old.disk) (state new.disk)
 
-  stops_made : StopsShort result old.held new.held (state old.disk) (state new.disk) → Made
-  stops_made stops = let stays = stops_seen result old.held new.held (state old.disk) (state new.disk) disk held stops in (stays.calls, rw stops.failed stays.run)
+  part_made : WritesPart result old.held new.held (state old.disk) (state new.disk) → Made
+  part_made part = let stays = down_seen true old.held new.held (state old.disk) (state new.disk) disk held part.down in (stays.calls, rw part.failed stays.run)
 
   module _ (rest : List HeldSector) (between : DiskState) (down : Empties old.held rest (state old.disk) between) where
     emptied : AsSeen false old.held rest (state old.disk) between
-    emptied = runs_seen down.calls old.held rest (state old.disk) between disk held down.runs
+    emptied = down_seen false old.held rest (state old.disk) between disk held down.down
 
     then_one : IsRun 1 (is_err result) between (state new.disk) → Made
     then_one call = (emptied.calls + 1, run_then emptied.calls 1 (is_err result) (state old.disk) between (state new.disk) emptied.run call)
@@ -33,7 +33,7 @@ module _ {D T E : Type 0} (state : D → DiskState) (result : Result T E) (old n
   writes_made : (at : ℕ) (piece : List ℕ) → CacheWrites state at piece result old new → Made
   writes_made at piece writes = elim (cases_lt old.room (length (with_written at (length piece / 512) piece old.held))) [
     | inl over ↦ elim (writes.beyond over) [
-      | inl stops ↦ stops_made stops
+      | inl part ↦ part_made part
       | inr after ↦ elim (cases_lt old.room (length piece / 512)) [
         | inl long ↦ then_one _ after.between after.down (after.puts.disk long).1.call
         | inr short ↦ let puts = after.puts.buffer short in let e = emptied _ after.between after.down in (e.calls, rw (puts.1, puts.0) e.run)
@@ -44,7 +44,7 @@ module _ {D T E : Type 0} (state : D → DiskState) (result : Result T E) (old n
 
   syncs_made : CacheSyncs state result old new → Made
   syncs_made syncs = elim syncs.down [
-    | inl stops ↦ stops_made stops
+    | inl part ↦ part_made part
     | inr after ↦ then_one _ after.between after.down after.sync.call
   ]
 

@@ -73,7 +73,7 @@ module _ {D T E : Type 0} (state : D → DiskState) (old new : Cache D) (disk : 
   pub frees_all : (result : Result T E) → CacheSyncs state result old new → is_err result ≡ false → IfSome (state_of state old).contents (λ c. (base state new ≡ Some c.bytes) × (free state new ≡ Some new.room))
   frees_all (Err e) syncs ok = cc
   frees_all (Ok v) syncs ok = elim syncs.down [
-    | inl stops ↦ let wrong : false ≡ true = stops.failed in cc
+    | inl part ↦ let wrong : false ≡ true = part.failed in cc
     | inr after ↦
         let there = syncs_seen state (Ok v) old new disk held syncs in
         let empty = rw after.down.empty at there.contents in

@@ -6,6 +6,7 @@ pub mod Ordered
 pub mod Table
 pub mod Steps
 pub mod Runs
+pub mod Going
 pub mod Down
 pub mod Seen
 pub mod Freeing

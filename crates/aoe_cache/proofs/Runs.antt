@@ -6,7 +6,7 @@ use Rattle.aoe_disk.specs.State.{with_piece, with_marks}
 use Rattle.aoe_cache.specs.declared.place.HeldSector.{HeldSector}
 use Rattle.aoe_cache.specs.Held.{IsAscending, AreBelow, held_for, laid_over, marked}
 use Rattle.aoe_cache.specs.Down.{AreAdjacent, IsJoined, bytes_of, first_of}
-use Rattle.aoe_cache.proofs.Ascending.{below_drop, below_take, held_same, held_other}
+use Rattle.aoe_cache.proofs.Ascending.{below_take, held_same, held_other}
 
 -- the size of a run, and its range
 
@@ -20,10 +20,10 @@ adjacent_fits at high (h ∷ []) some a b = omega (arith, a.0, b.0)
 adjacent_fits at high (h ∷ (g ∷ hs)) some a b = omega (arith, adjacent_fits (at + 1) high (g ∷ hs) (omega arith) a.1 b.1)
 
 -- a joined run ends within the disk
-pub run_within : (n from high : ℕ) (hs : List HeldSector) → IsJoined n (drop from hs) → AreBelow high hs → first_of (drop from hs) + n ≤ high
+pub run_within : (n from high : ℕ) (hs : List HeldSector) → IsJoined n (drop from hs) → AreBelow high (drop from hs) → first_of (drop from hs) + n ≤ high
 run_within n from high hs joined below =
     let len : length (take n (drop from hs)) ≡ n = length-take-le n (drop from hs) joined.there in
-    omega (arith, len, adjacent_fits (first_of (drop from hs)) high (take n (drop from hs)) (omega (arith, len, joined.some)) joined.adjacent (below_take high n (drop from hs) (below_drop high from hs below)))
+    omega (arith, len, adjacent_fits (first_of (drop from hs)) high (take n (drop from hs)) (omega (arith, len, joined.some)) joined.adjacent (below_take high n (drop from hs) below))
 
 -- a sector of a run is held
 pub adjacent_held : (at n s : ℕ) (hs : List HeldSector) → AreAdjacent at (take n hs) → n ≤ length hs → at ≤ s → s < at + n → held_for hs s ≢ None

@@ -1,5 +1,5 @@
 -- Buffered sectors over the sectors of a disk, one by one.
-use Rattle.std.proofs.Common.{◌≡◌, ◌≤◌, ◌<◌, ◌+◌, ◌-◌, ◌*◌, ◌⊎◌, ◌||◌, ℕ, Bool, false, List, [], ◌∷◌, Option, Some, None, is_some, unwrap_or, length, refl, sym, arith, ◌∙◌, inl, inr}
+use Rattle.std.proofs.Common.{◌≡◌, ◌≤◌, ◌<◌, ◌+◌, ◌-◌, ◌*◌, ◌⊎◌, ◌||◌, ◌++◌, ℕ, Bool, false, List, [], ◌∷◌, Option, Some, None, is_some, unwrap_or, length, refl, sym, arith, ◌∙◌, ap, inl, inr}
 use Rattle.std.proofs.lemmas.Bool.{cases_lt}
 use Rattle.std.proofs.lemmas.Bool.Decides.{nat_tests}
 use Rattle.std.proofs.lemmas.List.{ext_get_or}
@@ -9,7 +9,7 @@ use Rattle.aoe_disk.proofs.Pieces.{length-with_piece, with_piece_outside, length
 use Rattle.aoe_disk.proofs.Touching.{image_same, sector_outside, sector-with_piece, sector-with_sector, sector-with_sector_other}
 use Rattle.aoe_cache.specs.declared.place.HeldSector.{HeldSector}
 use Rattle.aoe_cache.specs.Held.{IsAscending, AreBelow, held_for, with_written, laid_over, marked}
-use Rattle.aoe_cache.proofs.Ascending.{AreHeld, ascending_written, below_written, held_low, held_written_below, held_written_above, held_written_inside}
+use Rattle.aoe_cache.proofs.Ascending.{AreHeld, ascending_written, below_written, held_front, held_low, held_past, held_written_below, held_written_above, held_written_inside}
 
 -- sizes
 
@@ -73,6 +73,23 @@ module _ {sectors : ℕ} {hs : List HeldSector} (held : AreHeld sectors hs) wher
       let size = length-marked sectors x hs held.below lx in
       ext_get_or false (marked x hs) (marked y hs) (size ∙ sym (length-marked sectors y hs held.below ly))
       (λ s lt. marked_at s sectors x hs held.below lx ∙ or_same (held_for hs s) _ _ (same s (omega (arith, lt, size))) ∙ sym (marked_at s sectors y hs held.below ly))
+
+-- the same sectors before others that come to one thing, over two disks
+module _ (xs : List HeldSector) {ys zs : List HeldSector} {sectors : ℕ} (one : AreHeld sectors (xs ++ ys)) (other : AreHeld sectors (xs ++ zs)) (first : AreHeld sectors ys) (second : AreHeld sectors zs) where
+  pub laid_front : (x y : List ℕ) → length x ≡ 512 * sectors → length y ≡ 512 * sectors → laid_over x ys ≡ laid_over y zs → laid_over x (xs ++ ys) ≡ laid_over y (xs ++ zs)
+  laid_front x y lx ly same =
+      image_same sectors _ _ (length-laid_over one x lx) (length-laid_over other y ly) (λ s lt. laid_here one x lx s ∙ elim (cases_held (held_for xs s)) [
+        | inl none ↦ rw (held_past s xs ys none, held_past s xs zs none) (sym (laid_here first x lx s) ∙ ap (λ bytes. sector bytes s) same ∙ laid_here second y ly s)
+        | inr p ↦ rw (held_front s p.0 xs ys p.1, held_front s p.0 xs zs p.1) refl
+      ] ∙ sym (laid_here other y ly s))
+
+  pub marked_front : (x y : List Bool) → length x ≡ sectors → length y ≡ sectors → marked x ys ≡ marked y zs → marked x (xs ++ ys) ≡ marked y (xs ++ zs)
+  marked_front x y lx ly same =
+      let size = length-marked sectors x _ one.below lx in
+      ext_get_or false _ _ (size ∙ sym (length-marked sectors y _ other.below ly)) (λ s lt. marked_at s sectors x _ one.below lx ∙ elim (cases_held (held_for xs s)) [
+        | inl none ↦ rw (held_past s xs ys none, held_past s xs zs none) (sym (marked_at s sectors x ys first.below lx) ∙ ap (λ loose. is_loose loose s) same ∙ marked_at s sectors y zs second.below ly)
+        | inr p ↦ rw (held_front s p.0 xs ys p.1, held_front s p.0 xs zs p.1) refl
+      ] ∙ sym (marked_at s sectors y _ other.below ly))
 
 -- a write to the buffer is one to what is seen of the disk
 module _ (at n : ℕ) {sectors : ℕ} (piece : List ℕ) {hs : List HeldSector} (whole : length piece ≡ 512 * n) (fits : at + n ≤ sectors) (held : AreHeld sectors hs) where

@@ -8,11 +8,11 @@ use Rattle.aoe_store.specs.Store.{MaySpoil, Stores, StoresTo}
 use Rattle.aoe_store.proofs.Spoiling.{spoils_may_spoil}
 use Rattle.aoe_cache.specs.declared.place.HeldSector.{HeldSector}
 use Rattle.aoe_cache.specs.Held.{laid_over, with_written}
-use Rattle.aoe_cache.specs.Down.{Empties, StopsShort}
+use Rattle.aoe_cache.specs.Down.{Empties, WritesPart}
 use Rattle.aoe_cache.specs.Cache.{Cache, CacheSyncs, CacheWrites, SyncsAfter, seen, seen_contents, seen_schedule, state_of}
 use Rattle.aoe_cache.proofs.Ascending.{AreHeld}
 use Rattle.aoe_cache.proofs.Sectors.{held_written, laid_written, length-laid_over, length-marked, marked_written}
-use Rattle.aoe_cache.proofs.Down.{AsSeen, runs_seen, stops_seen}
+use Rattle.aoe_cache.proofs.Down.{AsSeen, down_seen}
 
 -- what holds of two that both tell holds of what is shown of them
 told_map : {A B : Type 0} (P : A → Type 0) (R : A → A → Type 0) (S : B → B → Type 0) (f g : A → B) (old new : Option A) → ((x y : A) → P x → R x y → S (f x) (g y)) → IfSome old P → BothTell R old new
@@ -114,7 +114,7 @@ module _ (at : ℕ) (piece : List ℕ) {sectors : ℕ} (range : IsRange at (leng
       let may : MaySpoil at (length piece) x y = spoils_may_spoil at (length piece) x y sectors shape range told in
       record { bytes = may.bytes; loose = may.loose; kept = may.kept; settled = refl; exact = λ some. cc }
 
--- nowhere, where the buffer couldn't be written down
+-- nowhere, where the buffer couldn't be written down whole
 same_stored : {T E : Type 0} (at : ℕ) (piece : List ℕ) (result : Result T E) (hs : List HeldSector) (c : Option Contents) → is_err result ≡ true
     → BothTell (Stores at piece result) (option_map (seen_contents hs) c) (option_map (seen_contents hs) c)
 same_stored at piece (Ok v) hs c err = cc
@@ -146,19 +146,19 @@ module _ {T E : Type 0} (at : ℕ) (piece : List ℕ) (result : Result T E) (hs 
     log = refl;
   })
 
-  -- the buffer couldn't be written down
-  stop_stored : StopsShort result hs gs old new → StoresTo at piece result (seen hs old) (seen gs new)
-  stop_stored stops =
-      let stays = stops_seen result hs gs old new disk held stops in
+  -- the buffer couldn't be written down whole
+  part_stored : WritesPart result hs gs old new → StoresTo at piece result (seen hs old) (seen gs new)
+  part_stored part =
+      let stays = down_seen true hs gs old new disk held part.down in
       record {
-        call = rw stops.failed (seen_run stays.run held stays.left);
-        contents = rw stays.same (same_stored at piece result hs old.contents stops.failed);
+        call = rw part.failed (seen_run stays.run held stays.left);
+        contents = rw stays.same (same_stored at piece result hs old.contents part.failed);
         log = refl;
       }
 
   module _ (between : DiskState) (down : Empties hs [] old between) where
     emptied : AsSeen false hs [] old between
-    emptied = runs_seen down.calls hs [] old between disk held down.runs
+    emptied = down_seen false hs [] old between disk held (rw down.empty at down.down)
 
     shape_between : IfSome between.contents (HasShape old.sectors)
     shape_between = rw emptied.run.sectors at emptied.run.after.shape
@@ -184,7 +184,7 @@ pub writes_seen : {D T E : Type 0} (state : D → DiskState) (at : ℕ) (piece :
     → CacheWrites state at piece result old new → StoresTo at piece result (state_of state old) (state_of state new)
 writes_seen state at piece result old new range disk held writes = elim (cases_lt old.room (length (with_written at (length piece / 512) piece old.held))) [
   | inl over ↦ elim (writes.beyond over) [
-    | inl stops ↦ stop_stored at piece result _ _ _ _ range disk held stops
+    | inl part ↦ part_stored at piece result _ _ _ _ range disk held part
     | inr after ↦ elim (cases_lt old.room (length piece / 512)) [
       | inl long ↦ let puts = after.puts.disk long in disk_stored at piece result _ _ _ _ range disk held after.between after.down puts.0 puts.1
       | inr short ↦ let puts = after.puts.buffer short in buffer_stored at piece result _ _ _ _ range disk held after.between after.down puts.0 puts.1 puts.2
@@ -206,18 +206,18 @@ same_synced (Err e) hs (Some x) err = record { bytes = refl; marks = refl; fewer
 
 -- a sync of a cached store is one of a store
 module _ {D T E : Type 0} (state : D → DiskState) (result : Result T E) (old new : Cache D) (disk : IsDisk (state old.disk)) (held : AreHeld (state old.disk).sectors old.held) where
-  stop_synced : StopsShort result old.held new.held (state old.disk) (state new.disk) → SyncsTo result (state_of state old) (state_of state new)
-  stop_synced stops =
-      let stays = stops_seen result old.held new.held (state old.disk) (state new.disk) disk held stops in
+  part_synced : WritesPart result old.held new.held (state old.disk) (state new.disk) → SyncsTo result (state_of state old) (state_of state new)
+  part_synced part =
+      let stays = down_seen true old.held new.held (state old.disk) (state new.disk) disk held part.down in
       record {
-        call = rw stops.failed (seen_run stays.run held stays.left);
-        contents = rw stays.same (same_synced result old.held (state old.disk).contents stops.failed);
+        call = rw part.failed (seen_run stays.run held stays.left);
+        contents = rw stays.same (same_synced result old.held (state old.disk).contents part.failed);
         log = refl;
       }
 
   after_synced : SyncsAfter result old.held new.held (state old.disk) (state new.disk) → SyncsTo result (state_of state old) (state_of state new)
   after_synced after =
-      let stays = runs_seen after.down.calls old.held new.held (state old.disk) after.between disk held after.down.runs in
+      let stays = down_seen false old.held new.held (state old.disk) after.between disk held after.down.down in
       let run = run_then stays.calls 1 (is_err result) (state old.disk) after.between (state new.disk) stays.run after.sync.call in
       let same = rw after.down.empty at stays.same in
       rw after.down.empty (record {
@@ -228,6 +228,6 @@ module _ {D T E : Type 0} (state : D → DiskState) (result : Result T E) (old n
 
   pub syncs_seen : CacheSyncs state result old new → SyncsTo result (state_of state old) (state_of state new)
   syncs_seen syncs = elim syncs.down [
-    | inl stops ↦ stop_synced stops
+    | inl part ↦ part_synced part
     | inr after ↦ after_synced after
   ]

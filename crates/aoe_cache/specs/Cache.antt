@@ -1,5 +1,5 @@
 -- A cached store, and what its calls do to its disk.
-use Rattle.std.specs.Prelude.{◌≡◌, ◌≤◌, ◌<◌, ◌+◌, ◌⊎◌, ◌/◌, ℕ, nat_eq, min, false, None, List, [], length, Result, is_err, option_map}
+use Rattle.std.specs.Prelude.{◌≡◌, ◌≤◌, ◌<◌, ◌+◌, ◌⊎◌, ◌/◌, ℕ, nat_eq, min, false, None, List, [], length, drop, Result, is_err, option_map}
 use Rattle.std.specs.List.{All}
 use Rattle.indexmap.specs.IndexSet.{IsUnique, spare}
 use Rattle.aoe_disk.specs.State.{Contents, Schedule, DiskState, IsDisk}
@@ -10,7 +10,7 @@ use Rattle.aoe_cache.specs.declared.place.HeldSector.{HeldSector}
 use Rattle.aoe_cache.specs.declared.buffer.Buffer.{Buffer}
 use Rattle.aoe_cache.specs.declared.write_behind.WriteBehind.{WriteBehind}
 use Rattle.aoe_cache.specs.Held.{IsAscending, AreBelow, held_of, laid_over, marked, numbers_of, placed, with_written}
-use Rattle.aoe_cache.specs.Down.{Empties, StopsShort}
+use Rattle.aoe_cache.specs.Down.{Empties, WritesPart}
 
 -- its disk, the sectors that were written and aren't there yet, and how many of them it holds at most
 pub record Cache (D : Type 0) : Type 0 where
@@ -63,14 +63,14 @@ pub record WritesAfter {D T E : Type 0} (state : D → DiskState) (at n : ℕ) (
   pub down : Empties old.held [] (state old.disk) between
   pub puts : PutsAfter at n piece result old.room new.held between (state new.disk)
 
--- a write of a piece
+-- a write of a piece: where the buffer has no room for it and couldn't be written down whole, nothing of the piece is stored
 pub record CacheWrites {D T E : Type 0} (state : D → DiskState) (at : ℕ) (piece : List ℕ) (result : Result T E) (old new : Cache D) : Type 0 where
   pub room : new.room ≡ old.room
   pub within : length (with_written at (length piece / 512) piece old.held) ≤ old.room → PutsHeld at (length piece / 512) piece result old new
   pub beyond : old.room < length (with_written at (length piece / 512) piece old.held)
-      → StopsShort result old.held new.held (state old.disk) (state new.disk) ⊎ WritesAfter state at (length piece / 512) piece result old new
+      → WritesPart result old.held new.held (state old.disk) (state new.disk) ⊎ WritesAfter state at (length piece / 512) piece result old new
 
--- a sync: the buffer is written down, and then the disk is synced
+-- a sync: the buffer is written down, and then the disk is synced, where all of it was written
 pub record SyncsAfter {T E : Type 0} (result : Result T E) (held rest : List HeldSector) (old new : DiskState) : Type 0 where
   pub between : DiskState
   pub down : Empties held rest old between
@@ -78,7 +78,7 @@ pub record SyncsAfter {T E : Type 0} (result : Result T E) (held rest : List Hel
 
 pub record CacheSyncs {D T E : Type 0} (state : D → DiskState) (result : Result T E) (old new : Cache D) : Type 0 where
   pub room : new.room ≡ old.room
-  pub down : StopsShort result old.held new.held (state old.disk) (state new.disk) ⊎ SyncsAfter result old.held new.held (state old.disk) (state new.disk)
+  pub down : WritesPart result old.held new.held (state old.disk) (state new.disk) ⊎ SyncsAfter result old.held new.held (state old.disk) (state new.disk)
 
 -- arming reaches the disk alone
 pub record CacheArms {D : Type 0} (state : D → DiskState) (arm : Arm) (old new : Cache D) : Type 0 where
@@ -108,11 +108,11 @@ pub record IsBuffer (sectors : ℕ) (b : Buffer) : Type 0 where
   pub order : IsAscending 0 (held_of b)
   pub below : AreBelow sectors (held_of b)
 
--- the same while it is written down: its places are in order, whatever its table says
-pub record IsInOrder (sectors : ℕ) (b : Buffer) : Type 0 where
+-- the same while it is written down: its places from one on are in order, whatever its table says
+pub record IsInOrder (sectors from : ℕ) (b : Buffer) : Type 0 where
   pub has : HasRoom b
-  pub order : IsAscending 0 (placed b)
-  pub below : AreBelow sectors (placed b)
+  pub order : IsAscending 0 (drop from (placed b))
+  pub below : AreBelow sectors (drop from (placed b))
 
 -- what a cached store keeps
 pub record IsWriteBehind {D : Type 0} (state : D → DiskState) (b : WriteBehind D) : Type 0 where

@@ -1,6 +1,6 @@
--- Writing the buffer down: runs of adjacent sectors in order, each one device write.
-use Rattle.std.specs.Prelude.{◌≡◌, ◌≢◌, ◌≤◌, ◌<◌, ◌+◌, ℕ, zero, suc, List, [], ◌∷◌, length, take, drop, Result, Ok, Err, is_err, true}
-use Rattle.std.specs.List.{flat_map}
+-- Writing the buffer down: runs of adjacent sectors in order, each one device write. One that fails holds back none after it.
+use Rattle.std.specs.Prelude.{◌≡◌, ◌≢◌, ◌≤◌, ◌<◌, ◌+◌, ◌++◌, ℕ, Bool, List, [], ◌∷◌, length, take, drop, Result, Ok, Err, is_err, true, false, if◌then◌else◌}
+use Rattle.std.specs.List.{flat_map, list_any}
 use Rattle.aoe_disk.specs.State.{DiskState}
 use Rattle.aoe_disk.specs.Calls.{WritesTo}
 use Rattle.aoe_cache.specs.declared.place.HeldSector.{HeldSector}
@@ -31,31 +31,48 @@ pub record WritesRun {T E : Type 0} (n : ℕ) (result : Result T E) (hs : List H
   pub joined : IsJoined n hs
   pub write : WritesTo (first_of hs) (bytes_of (take n hs)) result old new
 
--- that a device write was Ok
-abbrev pub was_ok : Result (Unit {0}) (Unit {0})
-was_ok = Ok tt
+-- a run: how many sectors it joins, and whether its device write failed
+pub record Run : Type 0 where
+  pub count : ℕ
+  pub failed : Bool
 
--- device writes, all of them Ok, of which each takes the first run of what is left
-abbrev pub WritesRuns : ℕ → List HeldSector → List HeldSector → DiskState → DiskState → Type 0
-WritesRuns zero held rest old new = (rest ≡ held) × (new ≡ old)
-WritesRuns (suc calls) held rest old new =
-    (n : ℕ) × (next : DiskState) × WritesRun n was_ok held old next × WritesRuns calls (drop n held) rest next new
+abbrev pub ended : Bool → Result (Unit {0}) (Unit {0})
+ended true = Err tt
+ended false = Ok tt
+
+-- device writes in the order of the sectors, each of the first run of what comes after the one before it, failed or not
+abbrev pub WritesRuns : List Run → List HeldSector → DiskState → DiskState → Type 0
+WritesRuns [] held old new = new ≡ old
+WritesRuns (r ∷ runs) held old new =
+    (next : DiskState) × WritesRun r.count (ended r.failed) held old next × WritesRuns runs (drop r.count held) next new
+
+-- the sectors after these runs
+abbrev pub after : List Run → List HeldSector → List HeldSector
+after [] held = held
+after (r ∷ runs) held = after runs (drop r.count held)
+
+-- the sectors of those runs that failed
+abbrev pub unwritten : List Run → List HeldSector → List HeldSector
+unwritten [] held = []
+unwritten (r ∷ runs) held = (if r.failed then take r.count held else []) ++ unwritten runs (drop r.count held)
+
+abbrev pub any_failed : List Run → Bool
+any_failed runs = list_any (λ (r : Run). r.failed) runs
+
+-- each sector was in one device write, and those whose write failed are left: some, or none
+pub record WritesDown (some : Bool) (held left : List HeldSector) (old new : DiskState) : Type 0 where
+  pub runs : List Run
+  pub writes : WritesRuns runs held old new
+  pub all : after runs held ≡ []
+  pub stays : left ≡ unwritten runs held
+  pub failed : any_failed runs ≡ some
 
 -- writing down ended well: everything was written, and nothing is left in the buffer
-pub record Empties (held rest : List HeldSector) (old new : DiskState) : Type 0 where
-  pub empty : rest ≡ []
-  pub calls : ℕ
-  pub runs : WritesRuns calls held rest old new
+pub record Empties (held left : List HeldSector) (old new : DiskState) : Type 0 where
+  pub empty : left ≡ []
+  pub down : WritesDown false held left old new
 
--- a device write failed: its run and all behind it are left in the buffer, and nothing was written after it
-pub record StopsShort {T E : Type 0} (result : Result T E) (held rest : List HeldSector) (old new : DiskState) : Type 0 where
+-- writing down failed in part, and so does the call; the disk isn't called after it
+pub record WritesPart {T E : Type 0} (result : Result T E) (held left : List HeldSector) (old new : DiskState) : Type 0 where
   pub failed : is_err result ≡ true
-  pub calls : ℕ
-  pub between : DiskState
-  pub runs : WritesRuns calls held rest old between
-  pub n : ℕ
-  pub last : WritesRun n result rest between new
-
-abbrev pub WritesDown : {T E : Type 0} → Result T E → List HeldSector → List HeldSector → DiskState → DiskState → Type 0
-WritesDown (Ok _) held rest old new = Empties held rest old new
-WritesDown {T = T} {E = E} (Err e) held rest old new = StopsShort {T = T} {E = E} (Err e) held rest old new
+  pub down : WritesDown true held left old new

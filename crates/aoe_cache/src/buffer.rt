@@ -18,7 +18,7 @@ pub const MOST_JOINED: usize = 64;
 ///
 /// A table gives the place of a sector by its number. The places come in the order in which their
 /// sectors were first put, until `sort` puts them in the order of the sectors for a writing down:
-/// between it and `forget` the table knows nothing of them.
+/// between it and `keep_first` the table knows nothing of them.
 #[derive(Drop)]
 pub(crate) struct Buffer {
     // Those that hold a sector, and behind them those that hold none.
@@ -178,7 +178,7 @@ impl Buffer {
 
     /// How many sectors from place `from` on are joined in one device write.
     pub(crate) fn run_from(&self, from: usize) -> usize
-        requires order { IsInOrder (2 ^ 40) self.now }
+        requires order { IsInOrder (2 ^ 40) from self.now }
         requires some { from < length self.now.numbers.keys }
         ensures { IsJoined result (drop from (placed self.now)) }
     {
@@ -217,33 +217,37 @@ impl Buffer {
         }
     }
 
-    // Makes the table anew, of the sectors at the first `held` places, which are in order.
-    fn index_first(&mut self, held: usize)
+    /// Moves the `count` sectors from place `from` on down to place `to`, and what stood there up.
+    pub(crate) fn move_down(&mut self, from: usize, count: usize, to: usize)
+        requires used { length self.old.numbers.keys ≤ length self.old.places.items }
+        requires some { from + count ≤ length self.old.numbers.keys }
+        requires down { to ≤ from }
+        ensures numbers { self.new.numbers ≡ self.old.numbers }
+        ensures places { length self.new.places.items ≡ length self.old.places.items }
+        ensures moved { take (to + count) (placed self.new)
+            ≡ take to (placed self.old) ++ take count (drop from (placed self.old)) }
+        ensures rest { drop (from + count) (placed self.new)
+            ≡ drop (from + count) (placed self.old) }
+    {
+        'sectors: for i in 0..count {
+            self.places.swap(to + i, from + i);
+        }
+    }
+
+    /// Keeps the sectors of the first `held` places alone, which are in order, and makes the table
+    /// anew of them.
+    pub(crate) fn keep_first(&mut self, held: usize)
         requires held { held ≤ length self.old.places.items }
         requires order { IsAscending 0 (take held self.old.places.items) }
         requires room { length self.old.places.items ≤ length self.old.numbers.keys + spare self.old.numbers }
         ensures indexed { IsIndexed self.new }
-        ensures placed { placed self.new ≡ take held self.old.places.items }
+        ensures held { held_of self.new ≡ take held self.old.places.items }
         ensures places { self.new.places ≡ self.old.places }
     {
         self.numbers.truncate(0);
         'places: for i in 0..held {
             let _ = self.numbers.insert(self.places[i].at()).unwrap();
         }
-    }
-
-    /// Lets go of the first `count` sectors after `sort`, and makes the table anew of the rest.
-    pub(crate) fn forget(&mut self, count: usize)
-        requires has { HasRoom self.old }
-        requires order { IsAscending 0 (placed self.old) }
-        requires count { count ≤ length self.old.numbers.keys }
-        ensures indexed { IsIndexed self.new }
-        ensures held { held_of self.new ≡ drop count (placed self.old) }
-        ensures places { length self.new.places.items ≡ length self.old.places.items }
-    {
-        let held = self.numbers.len();
-        release(&mut self.places, held, count);
-        self.index_first(held - count);
     }
 
     /// Lets go of all its sectors.
@@ -253,7 +257,7 @@ impl Buffer {
         ensures held { held_of self.new ≡ [] }
         ensures places { length self.new.places.items ≡ length self.old.places.items }
     {
-        self.index_first(0);
+        self.keep_first(0);
     }
 }
 
@@ -266,13 +270,4 @@ fn sort_first(places: &mut [Place], held: usize)
     ensures length { length places.new ≡ length places.old }
 {
     places[..held].sort_unstable_by_key(|place| place.at());
-}
-
-// The first `count` of the places that hold a sector go behind the others that do.
-fn release(places: &mut [Place], held: usize, count: usize)
-    requires held { held ≤ length places.old }
-    requires count { count ≤ held }
-    ensures { places.new ≡ drop count (take held places.old) ++ (take count places.old ++ drop held places.old) }
-{
-    places[..held].rotate_left(count);
 }

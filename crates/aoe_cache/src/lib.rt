@@ -19,9 +19,10 @@
 //! [`Cached::crash`] is such a loss over a disk in memory: it gives the store mounted again on what is
 //! left, with nothing in its buffer and with all its room.
 //!
-//! A device write that fails ends the call that made it: its sectors stay in the buffer, and so do
-//! those behind them, while those written before have left it. They are still read, and the next call
-//! that writes down tries them again.
+//! A device write that fails doesn't hold back those after it: its sectors stay in the buffer, and
+//! all others are written and leave it. The call that made it fails, and the next call that writes
+//! down tries what stays again. A sync doesn't sync the disk in that case, and a write that wanted
+//! the room puts nothing. What stays is still read.
 //!
 //! It writes nothing by itself: no timer and no share of the room that is full does. It doesn't sync
 //! when it is closed or let go of. It doesn't read ahead, and keeps nothing that was only read.

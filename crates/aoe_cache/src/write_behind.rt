@@ -1,10 +1,10 @@
 //! Sectors that are written behind: they stand in a buffer, and go down to the disk later.
-ghost use Rattle.std.specs.Prelude.{◌≡◌, ◌≤◌, ◌<◌, ◌⊎◌, ◌/◌, [], length, take, drop, IfOk, IfErr};
+ghost use Rattle.std.specs.Prelude.{◌≡◌, ◌≤◌, ◌<◌, ◌⊎◌, ◌/◌, [], length, take, drop, nat_lt, is_err, IfOk, IfErr};
 ghost use Rattle.aoe_disk.specs.State.{IsDisk};
 ghost use Rattle.aoe_disk.specs.Calls.{IsRange, Reads, WritesTo};
 ghost use Rattle.aoe_cache.specs.Held.{held_of, placed, with_written};
-ghost use Rattle.aoe_cache.specs.Down.{IsJoined, StopsShort, WritesDown, bytes_of, first_of};
-ghost use Rattle.aoe_cache.specs.Cache.{CacheReads, CacheSyncs, CacheWrites, IsBuffer, IsInOrder, IsWriteBehind, WritesAfter, cache_of, state_of};
+ghost use Rattle.aoe_cache.specs.Down.{IsJoined, WritesDown, WritesPart, bytes_of, first_of};
+ghost use Rattle.aoe_cache.specs.Cache.{CacheReads, CacheSyncs, CacheWrites, HasRoom, IsBuffer, IsInOrder, IsWriteBehind, WritesAfter, cache_of, state_of};
 
 use crate::buffer::{Buffer, MOST_JOINED};
 use aoe_base::{Failed, NoMemory, SECTOR_LEN};
@@ -22,7 +22,7 @@ fn write_run<D: Disk>(
     count: usize,
     scratch: &mut [u8],
 ) -> Result<(), Failed>
-    requires buffer { IsInOrder (D.state disk.old).sectors buffer.now }
+    requires buffer { IsInOrder (D.state disk.old).sectors from buffer.now }
     requires joined { IsJoined count (drop from (placed buffer.now)) }
     requires scratch { length scratch.old ≡ 32768 }
     requires disk { IsDisk (D.state disk.old) }
@@ -38,31 +38,35 @@ fn write_run<D: Disk>(
     disk.write(at, &scratch[..length])
 }
 
-// Writes the buffer down from the lowest sector on, and says how many of its sectors were written.
-fn write_runs<D: Disk>(
-    disk: &mut D,
-    buffer: &Buffer,
-    scratch: &mut [u8],
-) -> (usize, Result<(), Failed>)
-    requires buffer { IsInOrder (D.state disk.old).sectors buffer.now }
+// Writes the buffer down from the lowest sector on. The sectors of those runs whose write failed go
+// to the first places, and it says how many they are.
+fn write_runs<D: Disk>(disk: &mut D, buffer: &mut Buffer, scratch: &mut [u8]) -> usize
+    requires buffer { IsInOrder (D.state disk.old).sectors 0 buffer.old }
     requires scratch { length scratch.old ≡ 32768 }
     requires disk { IsDisk (D.state disk.old) }
-    ensures count { result.0 ≤ length (placed buffer.now) }
-    ensures down { WritesDown result.1 (placed buffer.now) (drop result.0 (placed buffer.now))
+    ensures disk { IsDisk (D.state disk.new) }
+    ensures sectors { (D.state disk.new).sectors ≡ (D.state disk.old).sectors }
+    ensures has { HasRoom buffer.new }
+    ensures places { length buffer.new.places.items ≡ length buffer.old.places.items }
+    ensures left { result ≤ length (placed buffer.new) }
+    ensures down { WritesDown (nat_lt 0 result)
+        (placed buffer.old) (take result (placed buffer.new))
         (D.state disk.old) (D.state disk.new) }
 {
     let mut done = 0;
+    let mut left = 0;
     'runs: while done < buffer.len() {
         let count = buffer.run_from(done);
-        if let Err(Failed) = write_run(disk, buffer, done, count, scratch) {
-            return (done, Err(Failed));
+        if write_run(disk, buffer, done, count, scratch).is_err() {
+            buffer.move_down(done, count, left);
+            left += count;
         }
         done += count;
     }
-    (done, Ok(()))
+    left
 }
 
-// Writes the buffer down. What was written leaves it, and the rest stays where a write failed.
+// Writes the buffer down. What was written leaves it, and what couldn't be stays.
 fn write_down<D: Disk>(disk: &mut D, buffer: &mut Buffer, scratch: &mut [u8]) -> Result<(), Failed>
     requires buffer { IsBuffer (D.state disk.old).sectors buffer.old }
     requires scratch { length scratch.old ≡ 32768 }
@@ -71,13 +75,13 @@ fn write_down<D: Disk>(disk: &mut D, buffer: &mut Buffer, scratch: &mut [u8]) ->
     ensures sectors { (D.state disk.new).sectors ≡ (D.state disk.old).sectors }
     ensures buffer { IsBuffer (D.state disk.new).sectors buffer.new }
     ensures places { length buffer.new.places.items ≡ length buffer.old.places.items }
-    ensures down { WritesDown result (held_of buffer.old) (held_of buffer.new)
+    ensures down { WritesDown (is_err result) (held_of buffer.old) (held_of buffer.new)
         (D.state disk.old) (D.state disk.new) }
 {
     buffer.sort();
-    let (written, result) = write_runs(disk, buffer, scratch);
-    buffer.forget(written);
-    result
+    let left = write_runs(disk, buffer, scratch);
+    buffer.keep_first(left);
+    if left == 0 { Ok(()) } else { Err(Failed) }
 }
 
 /// A disk and the sectors that are to be written to it.
@@ -137,7 +141,7 @@ impl<D: Disk> WriteBehind<D> {
         requires range { IsRange at (length piece.now) (D.state self.old.disk).sectors }
         ensures behind { IsWriteBehind D.state self.new }
         ensures room { self.new.room ≡ self.old.room }
-        ensures writes { StopsShort result (held_of self.old.buffer) (held_of self.new.buffer)
+        ensures writes { WritesPart result (held_of self.old.buffer) (held_of self.new.buffer)
             (D.state self.old.disk) (D.state self.new.disk)
             ⊎ WritesAfter D.state at (length piece.now / 512) piece.now result (cache_of self.old) (cache_of self.new) }
     {
@@ -150,7 +154,8 @@ impl<D: Disk> WriteBehind<D> {
     }
 
     /// Puts the piece to the buffer, which is written down first where it hasn't the room. A piece
-    /// that is longer than its whole room goes to the disk.
+    /// that is longer than its whole room goes to the disk. Where some of the buffer couldn't be
+    /// written, the piece goes nowhere.
     pub(crate) fn write(&mut self, at: u64, piece: &[u8]) -> Result<(), Failed>
         requires behind { IsWriteBehind D.state self.old }
         requires range { IsRange at (length piece.now) (D.state self.old.disk).sectors }
@@ -165,7 +170,7 @@ impl<D: Disk> WriteBehind<D> {
         Ok(())
     }
 
-    /// Writes the buffer down and syncs the disk.
+    /// Writes the buffer down, and syncs the disk if all of it was written.
     pub(crate) fn sync(&mut self) -> Result<(), Failed>
         requires { IsWriteBehind D.state self.old }
         ensures behind { IsWriteBehind D.state self.new }

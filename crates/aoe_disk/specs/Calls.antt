@@ -33,7 +33,7 @@ pub record MovesOn (m : ℕ) (failed : Bool) (before after : ℕ) (old new : Sch
   pub stays_out : old.out ≡ true → new.out ≡ true
   pub due : BothTell (MovesDue m failed (is_none old.armed)) old.due new.due
 
--- m device calls, none of which failed; or m at most, of which the last failed and no other
+-- m device calls, none of which failed; or m at most, of which one or more failed
 pub record IsRun (m : ℕ) (failed : Bool) (old new : DiskState) : Type 0 where
   pub before : IsDisk old
   pub after : IsDisk new

@@ -1,12 +1,12 @@
 -- A store over a file holds back no more than its room.
-use Rattle.std.proofs.Common.{◌≡◌, ◌≤◌, ◌/◌, ℕ, zero, suc, List, [], length, drop, refl, ap, ◌∙◌, arith, inl, inr}
-use Rattle.std.proofs.lemmas.Bool.{cases_lt}
-use Rattle.std.proofs.lemmas.List.{length-drop}
+use Rattle.std.proofs.Common.{◌≡◌, ◌≤◌, ◌/◌, ℕ, zero, suc, List, [], ◌∷◌, length, take, drop, refl, ap, ◌∙◌, arith, inl, inr}
+use Rattle.std.proofs.lemmas.Bool.{cases_Bool, cases_lt}
+use Rattle.std.proofs.lemmas.List.{length-append, length-drop, length-take}
 use Rattle.std.specs.Prelude.{Result}
 use Rattle.aoe_disk.specs.State.{DiskState}
 use Rattle.aoe_cache.specs.Any.{StaysWith, any_disk, any_state}
 use Rattle.aoe_cache.specs.Cache.{Cache, CacheSyncs, CacheWrites, PutsAfter}
-use Rattle.aoe_cache.specs.Down.{StopsShort, WritesRuns}
+use Rattle.aoe_cache.specs.Down.{Run, WritesPart, unwritten}
 use Rattle.aoe_cache.specs.Held.{with_written}
 use Rattle.aoe_cache.specs.declared.any.AnyStore.{AnyStore}
 use Rattle.aoe_cache.specs.declared.any.AnyStore.TheVariants.{Direct, Cached}
@@ -33,12 +33,18 @@ pub shown-faults : (most : ℕ) (held : List HeldSector) (disk : DiskState) → 
 shown-faults zero held disk = refl
 shown-faults (suc most) held disk = refl
 
-runs-fewer : (calls : ℕ) (held rest : List HeldSector) (old new : DiskState) → WritesRuns calls held rest old new → length rest ≤ length held
-runs-fewer zero held rest old new runs = omega (arith, ap length runs.0)
-runs-fewer (suc calls) held rest old new (n, next, run, more) = omega (arith, runs-fewer calls (drop n held) rest next new more, length-drop n held)
+unwritten-fewer : (runs : List Run) (held : List HeldSector) → length (unwritten runs held) ≤ length held
+unwritten-fewer [] held = omega arith
+unwritten-fewer (r ∷ runs) held =
+    let rest = unwritten-fewer runs (drop r.count held) in
+    let less = length-drop r.count held in
+    elim (cases_Bool r.failed) [
+      | inl failed ↦ rw failed (omega (arith, rest, less, length-append (take r.count held) (unwritten runs (drop r.count held)), length-take r.count held))
+      | inr written ↦ rw written (omega (arith, rest, less))
+    ]
 
-stops-fewer : {T E : Type 0} (result : Result T E) (held rest : List HeldSector) (old new : DiskState) → StopsShort result held rest old new → length rest ≤ length held
-stops-fewer result held rest old new stops = runs-fewer stops.calls held rest old stops.between stops.runs
+part-fewer : {T E : Type 0} (result : Result T E) (held left : List HeldSector) (old new : DiskState) → WritesPart result held left old new → length left ≤ length held
+part-fewer result held left old new part = omega (arith, ap length part.down.stays, unwritten-fewer part.down.runs held)
 
 puts-few : {T E : Type 0} (at n : ℕ) (piece : List ℕ) (result : Result T E) (most : ℕ) (held : List HeldSector) (between new : DiskState) → PutsAfter at n piece result most held between new → length held ≤ most
 puts-few at n piece result most held between new puts =
@@ -71,7 +77,7 @@ module _ {D T E : Type 0} (state : D → DiskState) (most : ℕ) (result : Resul
         room = w.room;
         few = λ few. elim (cases_lt a.room (length (with_written at (length piece / 512) piece a.held))) [
           | inl more ↦ elim (w.beyond more) [
-            | inl stops ↦ omega (arith, few, stops-fewer result a.held b.held (state a.disk) (state b.disk) stops)
+            | inl part ↦ omega (arith, few, part-fewer result a.held b.held (state a.disk) (state b.disk) part)
             | inr after ↦ puts-few at (length piece / 512) piece result a.room b.held after.between (state b.disk) after.puts
           ]
           | inr within ↦ let within_room : length (with_written at (length piece / 512) piece a.held) ≤ a.room = omega (arith, within) in omega (arith, within_room, ap length (w.within within_room).held)
@@ -85,7 +91,7 @@ module _ {D T E : Type 0} (state : D → DiskState) (most : ℕ) (result : Resul
       keeps a b s = record {
         room = s.room;
         few = λ few. elim s.down [
-          | inl stops ↦ omega (arith, few, stops-fewer result a.held b.held (state a.disk) (state b.disk) stops)
+          | inl part ↦ omega (arith, few, part-fewer result a.held b.held (state a.disk) (state b.disk) part)
           | inr after ↦ omega (arith, ap length after.down.empty)
         ];
       }

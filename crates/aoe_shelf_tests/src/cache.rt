@@ -147,7 +147,7 @@ fn keeps_what_could_not_be_written(rt: HostRuntime) -> Result<(), Fail> {
         Step::Put(0, 1, 8),
         Step::Put(3, 1, 8),
         Step::Put(2, 1, 8),
-        // The second of three runs fails: the first has left the buffer, and the disk isn't synced.
+        // The second of three runs fails: the others leave the buffer, and the disk isn't synced.
         Step::FailsAt(2),
         Step::FailsToSync,
         Step::Has(2, [8, 8, 0, 8]),
@@ -155,16 +155,42 @@ fn keeps_what_could_not_be_written(rt: HostRuntime) -> Result<(), Fail> {
         Step::Has(2, [8, 7, 0, 8]),
         Step::IsOut(false),
         // A write that the buffer has no room for fails with the call that makes room, and puts nothing.
-        Step::FailsAt(2),
-        Step::Refuses(8, 2, 9),
-        Step::Has(7, [0, 0, 0, 0]),
+        Step::Put(9, 2, 6),
+        Step::FailsAt(1),
+        Step::Refuses(12, 1, 9),
+        Step::Has(9, [6, 6, 0, 0]),
         Step::Has(2, [8, 7, 0, 8]),
         Step::Syncs,
     ];
+    // Three writes for the first sync, two for the write that is refused, and one write and a sync
+    // for the last sync, beside four reads.
+    let contents = [Step::Has(2, [8, 7, 0, 8]), Step::Has(9, [6, 6, 0, 0])];
+    assert!(rt; ends(rt.alloc(), 4, &steps, 11, &contents)?);
+    Ok(())
+}
+
+#[test]
+fn a_bad_sector_holds_no_other_back(rt: HostRuntime) -> Result<(), Fail> {
+    // The lowest of three runs can't be written, nor when it is tried again.
+    let steps = [
+        Step::Put(0, 1, 8),
+        Step::Put(2, 2, 8),
+        Step::Put(6, 1, 8),
+        Step::FailsAt(1),
+        Step::FailsToSync,
+        Step::FailsAt(1),
+        Step::FailsToSync,
+    ];
+    // The disk has the others after the first sync, and was never synced. A failed write left 0xee.
+    let contents = [Step::Has(0, [0xee, 0, 8, 8]), Step::Has(5, [0, 8, 0, 0])];
+    assert!(rt; ends(rt.alloc(), 4, &steps[..5], 3, &contents)?);
+    assert!(rt; ends(rt.alloc(), 4, &steps, 4, &contents)?);
+    // Once it can be, a sync writes it alone.
     let mut store = cached(rt.alloc(), 4)?;
-    assert!(rt; all_go(&mut store, &steps));
+    assert!(rt; all_go(&mut store, &steps) && all_go(&mut store, &[Step::Syncs]));
     let disk = store.close();
-    assert!(rt; all_go(&mut Direct::new(disk), &[Step::Has(2, [8, 7, 0, 8])]));
+    assert!(rt; disk.calls() == 6);
+    assert!(rt; all_go(&mut Direct::new(disk), &[Step::Has(0, [8, 0, 8, 8])]));
     Ok(())
 }
 

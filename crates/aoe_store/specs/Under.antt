@@ -16,7 +16,7 @@ pub record Under : Type 0 where
 abbrev pub bytes_under : Under → Option (List ℕ)
 bytes_under u = option_map (λ (c : Contents). c.bytes) u.disk.contents
 
--- a call of the store makes any number of device calls, and fails where the last of them does
+-- a call of the store makes any number of device calls, and fails where one of them does
 pub record CallsUnder (failed : Bool) (old new : Under) : Type 0 where
   pub room : new.room ≡ old.room
   pub made : ℕ

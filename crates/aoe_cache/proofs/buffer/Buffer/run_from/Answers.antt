@@ -1,5 +1,5 @@
 use Rattle.std.proofs.Common.{◌≡◌, ◌<◌, ◌+◌, ◌-◌, ◌^◌, List, length, drop, get_or, arith, sym, ap, ◌∙◌, length-drop}
-use Rattle.std.proofs.lemmas.List.{length-take-le}
+use Rattle.std.proofs.lemmas.List.{get_or-drop, length-take-le}
 use Rattle.aoe_cache.specs.declared.place.HeldSector.{HeldSector}
 use Rattle.aoe_cache.specs.Held.{placed}
 use Rattle.aoe_cache.specs.Down.{first_of}
@@ -13,8 +13,10 @@ overflow_add-first c =
     let x : HeldSector = c.index.result.now in
     let len = length-take-le (length c.args.self.now.numbers.keys) c.args.self.now.places.items c.requires.order.has.used in
     let is : x ≡ get_or hs c.args.from x = used_element c.args.self.now.places.items (length c.args.self.now.numbers.keys) c.args.from x c.requires.some c.index.ensures in
-    let below : (get_or hs c.args.from x).at < 2 ^ 40 = below_at (2 ^ 40) hs c.args.from x c.requires.order.below (omega (arith, len, c.requires.some)) in
-    omega (arith, below, ap (λ (h : HeldSector). h.at) is, c.at-first.ensures, c.adjacent.invariant.most)
+    let below : (get_or (drop c.args.from hs) 0 x).at < 2 ^ 40 = below_at (2 ^ 40) (drop c.args.from hs) 0 x c.requires.order.below (omega (arith, len, length-drop c.args.from hs, c.requires.some)) in
+    let here : c.args.from + 0 ≡ c.args.from = omega arith in
+    let first : (get_or (drop c.args.from hs) 0 x) ≡ x = get_or-drop c.args.from hs 0 x ∙ rw here (sym is) in
+    omega (arith, below, ap (λ (h : HeldSector). h.at) first, c.at-first.ensures, c.adjacent.invariant.most)
 
 pub adjacent-preserved : goal.adjacent-preserved
 adjacent-preserved c =

@@ -1,7 +1,7 @@
 use Rattle.std.proofs.Common.{◌≡◌, ◌≤◌, ◌+◌, length, nat_eq, take}
 use Rattle.indexmap.specs.IndexSet.{IsUnique, spare}
 use Rattle.aoe_cache.specs.Held.{numbers_of}
-use Rattle.aoe_cache.proofs.buffer.Buffer.index_first.Given as goal
+use Rattle.aoe_cache.proofs.buffer.Buffer.keep_first.Given as goal
 
 abbrev pub invariant-places : goal.invariant-places
 invariant-places l = record {

@@ -1,10 +1,10 @@
 use Rattle.std.proofs.Common.{◌≡◌, ◌+◌, ℕ, List, length, nat_eq, get_or, take, arith, refl, ap, ◌∙◌}
 use Rattle.indexmap.specs.IndexSet.{insert_key}
 use Rattle.aoe_cache.specs.declared.place.HeldSector.{HeldSector}
-use Rattle.aoe_cache.specs.Held.{numbers_of}
-use Rattle.aoe_cache.proofs.Ordered.{ascending_whole}
+use Rattle.aoe_cache.specs.Held.{numbers_of, ordered, placed}
+use Rattle.aoe_cache.proofs.Ordered.{ascending_whole, ordered_same}
 use Rattle.aoe_cache.proofs.Table.{index_more, length-first}
-use Rattle.aoe_cache.proofs.buffer.Buffer.index_first.Goals as goal
+use Rattle.aoe_cache.proofs.buffer.Buffer.keep_first.Goals as goal
 
 pub places-preserved : goal.places-preserved
 places-preserved c =
@@ -37,3 +37,11 @@ returns-clause-indexed c =
       once = c.places.invariant.once;
       whole = rw first (ascending_whole (take c.args.held places) c.requires.order);
     }
+
+pub returns-clause-held : goal.returns-clause-held
+returns-clause-held c =
+    let places : List HeldSector = c.args.self.now.places.items in
+    let all : c.places.i ≡ c.args.held = omega (arith, c.places.auto.i-end, c.places-test.false) in
+    let len = length-first c.places.self.numbers.keys c.places.i places c.places.invariant.numbers (omega (arith, all, c.requires.held)) in
+    let first : placed c.places.self ≡ take c.args.held places = rw (len, all) (ap (λ v. take c.args.held v.items) c.places.invariant.places) in
+    ap ordered first ∙ ordered_same _ c.requires.order
