@@ -1,5 +1,5 @@
 mod CallLemmas
-mod LawLemmas
+pub mod LawLemmas
 mod PartLemmas
 mod PlaceLemmas
 mod SoundLemmas

@@ -1,14 +1,14 @@
 -- The course of a transfer, outcome by outcome and command by command.
-use Rattle.std.proofs.Common.{ℕ, ◌≡◌, ◌≤◌, ◌<◌, ◌+◌, Bool, true, false, List, [], ◌∷◌, length, map, Option, Some, None, refl, sym, ◌∙◌, arith, ◌-◌, inl, inr}
+use Rattle.std.proofs.Common.{ℕ, ◌≡◌, ◌≤◌, ◌<◌, ◌+◌, Bool, true, false, List, [], ◌∷◌, length, map, Option, Some, None, refl, sym, ap, ◌∙◌, arith, ◌-◌, inl, inr}
 use Rattle.std.proofs.lemmas.Bool.{cases_Bool, cond_both}
 use Rattle.std.specs.Prelude.{option_map}
-use Rattle.std.specs.List.{count_by}
+use Rattle.std.specs.List.{count_by, filter}
 use Rattle.aoe_base.specs.declared.counted.Ticket.{Ticket}
 use Rattle.aoe_block.specs.Calls.{after_done as part_after, hand, is_success, next_part, op_of, settle, took, AreUpTo}
 use Rattle.aoe_block.specs.Parts.{Part, Transfer}
 use Rattle.aoe_block.specs.Stages.{is_handed, is_pending}
 use Rattle.aoe_block.specs.declared.stage.Stage.{Stage}
-use Rattle.aoe_block.specs.declared.stage.Stage.TheVariants.{Handed}
+use Rattle.aoe_block.specs.declared.stage.Stage.TheVariants.{Handed, Pending}
 use Rattle.aoe_block.specs.declared.took.Took.{Took}
 use Rattle.aoe_block.specs.declared.took.Took.TheVariants as took_as
 use Rattle.aoe_base.proofs.CountLemmas.{count-cons, count-no, count-yes}
@@ -44,8 +44,16 @@ module _ (P : Course → Type 0) where
       let rest = dones-keep keep turns (after_done d c) ds here in
       elim (ending turns c d) as (λ e. P (unless_ended e (after_dones turns (after_done d c) ds) (after_done d c))) [ None ↦ rest | Some end ↦ here ]
 
-abbrev waits : Part → Bool
+abbrev pub waits : Part → Bool
 waits p = is_pending p.stage
+
+-- the next part waits no longer, and the others do
+pub filter-handed : (ticket : Ticket) (parts : List Part) (p : Part) → next_part parts ≡ Some p → filter waits parts ≡ p ∷ filter waits (hand ticket parts)
+filter-handed ticket [] p e = absurd cc
+filter-handed ticket (q ∷ parts) p e = elim (cases_Bool (waits q)) [
+  | inl is ↦ let found : q ≡ p = let first = rw is at e in cc in rw is (ap (λ x. x ∷ filter waits parts) found)
+  | inr other ↦ rw other (rw other (filter-handed ticket parts p (rw other at e)))
+]
 
 count-handed : (ticket : Ticket) (parts : List Part) (p : Part) → next_part parts ≡ Some p → count_by waits (hand ticket parts) + 1 ≡ count_by waits parts
 count-handed ticket [] p e = absurd cc
@@ -95,6 +103,18 @@ stays-pending write d p = elim (cases_Bool (is_handed d.ticket.0 p.stage)) [
     pending-not (Handed own) e = refl
     pending-not _ e = absurd cc
 
+-- so as many wait, and these
+pub filter-settled : (write : Bool) (d : Done) (parts : List Part) → filter waits (map (part_after write d) parts) ≡ filter waits parts
+filter-settled write d [] = refl
+filter-settled write d (p ∷ parts) = elim (cases_Bool (waits p)) [
+  | inl is ↦ rw (same p.stage is) (rw is (ap (λ x. p ∷ x) (filter-settled write d parts)))
+  | inr other ↦ rw (stays-pending write d p, other) (filter-settled write d parts)
+]
+  where
+    same : (s : Stage) → is_pending s ≡ true → is_handed d.ticket.0 s ≡ false
+    same Pending e = refl
+    same _ e = absurd cc
+
 count-settled : (write : Bool) (d : Done) (parts : List Part) → count_by waits (map (part_after write d) parts) ≡ count_by waits parts
 count-settled write d [] = refl
 count-settled write d (p ∷ parts) =
@@ -122,6 +142,6 @@ up-to-dones last turns c dones law up =
     dones-keep P (λ d x p. by-done P d x (λ is. law last x.block d p) (λ is whole flushes. law last x.block d p) p) turns c dones up
 
 -- commands that were submitted are no longer left
-pub left-submitted : (c : Course) (submits : List Submission) → AreNext c submits → left (submitted c submits) + length submits ≡ left c
-left-submitted c [] are = omega arith
-left-submitted c (s ∷ earlier) are = omega (arith, left-submitted c earlier are.0, left-handed s.ticket (submitted c earlier) s.op are.1)
+pub left-submitted : (given : ℕ) (c : Course) (submits : List Submission) → AreNext given c submits → left (submitted c submits) + length submits ≡ left c
+left-submitted given c [] are = omega arith
+left-submitted given c (s ∷ earlier) are = omega (arith, left-submitted given c earlier are.0, left-handed s.ticket (submitted c earlier) s.op are.1)

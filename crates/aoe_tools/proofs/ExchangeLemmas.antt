@@ -38,7 +38,7 @@ module _ {host h1 : Host} {c c1 : Course} (s : SubmitsSome host h1 c c1) (filled
 
   module _ {h2 h3 : Host} {c3 : Course} {finished : Bool} {start turned' : ℕ} {given given' : Option (List Turn)} {taken taken1 : Option Frames}
       (f : SendsSome (Ok record {}) h1 h2 taken taken1) (h : HearsOne finished h2 h3 start turned' given given') (course : c3 ≡ c1) (empty : host.waiting ≡ []) where
-    exchanged : (heard : Option Heard) × (finished ≡ is_heard heard) × Exchanged base log c c3 h3 heard start turned' given given' taken taken1
+    exchanged : (heard : Option Heard) × (finished ≡ is_heard heard) × Exchanged base log host.last_ticket c c3 h3 heard start turned' given given' taken taken1
     exchanged =
         let law = f.sends base log1 same1 (s.matches log m) in
         let same2 = same-then base h1 h2 same1 f.held.same in
@@ -49,6 +49,7 @@ module _ {host h1 : Host} {c c1 : Course} (s : SubmitsSome host h1 c c1) (filled
           record {
             submits = s.submits;
             are = s.are;
+            last = h.held.last ∙ f.held.last ∙ s.last;
             filled = filled1;
             course = course ∙ s.course;
             sent = f.sent;
@@ -65,17 +66,17 @@ module _ {host h1 : Host} {c c1 : Course} (s : SubmitsSome host h1 c c1) (filled
           },
         )
 
-    pub exchanged-answer : finished ≡ true → (h : Heard) × Exchanged base log c c3 h3 (Some h) start turned' given given' taken taken1
+    pub exchanged-answer : finished ≡ true → (h : Heard) × Exchanged base log host.last_ticket c c3 h3 (Some h) start turned' given given' taken taken1
     exchanged-answer is =
         let some = heard-some exchanged.0 (sym exchanged.1 ∙ is) in
         (some.0, rw some.1 at exchanged.2)
 
-    pub exchanged-quiet : finished ≡ false → Exchanged base log c c3 h3 None start turned' given given' taken taken1
+    pub exchanged-quiet : finished ≡ false → Exchanged base log host.last_ticket c c3 h3 None start turned' given given' taken taken1
     exchanged-quiet is = rw (heard-none exchanged.0 (sym exchanged.1 ∙ is)) at exchanged.2
 
   -- the link failed
   pub broken : {h2 : Host} {taken taken1 : Option Frames} {result : Result Unit Failed} (f : SendsSome result h1 h2 taken taken1)
-      → Added taken taken1 (map (λ o. o.frame) f.sent) ⊎ Added taken taken1 (drop 1 (map (λ o. o.frame) f.sent)) → Broken base log c taken taken1
+      → Added taken taken1 (map (λ o. o.frame) f.sent) ⊎ Added taken taken1 (drop 1 (map (λ o. o.frame) f.sent)) → Broken base log host.last_ticket c taken taken1
   broken f took = record {
     submits = s.submits;
     are = s.are;

@@ -28,7 +28,7 @@ use Rattle.aoe_tools.specs.declared.end.ToolRefusal.{ToolRefusal}
 use Rattle.aoe_tools.specs.declared.end.ToolRefusal.TheVariants as tool
 use Rattle.aoe_tools.specs.declared.transfer.Passed.TheVariants as passed
 use Rattle.aoe_tools.specs.TransferCourse.{after_dones, left, Submission}
-use Rattle.aoe_tools.specs.TransferRun.{after_frames, after_heard, after_submits, after_tick, course_of, dones, frames_of, log_of, nows_of, quiet_by, quiet_turns, told, Heard, Hears, IsFit, IsRound, Outgoing, Round, Running, RunEnds, Runs, Told}
+use Rattle.aoe_tools.specs.TransferRun.{after_frames, after_heard, after_submits, after_tick, course_of, dones, frames_of, log_of, nows_of, quiet_by, quiet_turns, submissions, told, Heard, Hears, IsFit, IsRound, Outgoing, Round, Running, RunEnds, Runs, Told}
 use Rattle.aoe_tools.specs.TransferSteps.{IsUnused, TakesRound, Turns}
 
 -- the commands without an outcome
@@ -97,7 +97,7 @@ to_do host c = length host.pending + left c
 less-to-do : {base : Host} {turns : ℕ} {start : Course} {rounds : List Round} {r : Round} {host host' : Host} {c c' : Course} → Running base turns start rounds host c
     → Running base turns start (r ∷ rounds) host' c' → to_do host' c' + count_heard r.heard ≤ to_do host c
 less-to-do {base} {turns} {start} {rounds} {r} run more =
-    let round : IsRound base turns (course_of turns start rounds) (told rounds) (log_of rounds) r = more.rounds_are.2 in
+    let round : IsRound base turns (course_of turns start rounds) (told rounds) (log_of rounds) (length (submissions rounds)) r = more.rounds_are.2 in
     let log1 = after_tick r.now r.gave_up (log_of rounds) in
     let log2 = after_submits r.submits log1 in
     let log3 = after_frames r.sent log2 in
@@ -110,7 +110,7 @@ less-to-do {base} {turns} {start} {rounds} {r} run more =
       open-frames r.sent log2,
       open-submits r.submits log1,
       open-ended r.gave_up (Advances (record { 0 = r.now }) ∷ log_of rounds),
-      left-submitted c1 r.submits round.submits,
+      left-submitted (length (submissions rounds)) c1 r.submits round.submits,
       left-dones turns (course_of turns start rounds) (dones (told rounds) r.gave_up),
       ap left run.course,
       ap left more.course,
@@ -142,10 +142,10 @@ pub record So (turns quiet : ℕ) (base host : Host) (start c : Course) (from tu
   pub quiet_is : quiet ≡ quiet_turns rounds
 
 pub begun : {turns : ℕ} {host : Host} {c : Course} {from : ℕ} {given : Option (List Turn)} {taken : Option Frames} {answers : Option (List ℕ)} → IsFit host c → Matches [] host → host.waiting ≡ []
-    → So turns 0 host host c c from from given given taken taken answers answers
-begun {host = host} {from = from} {given} {taken} {answers} fit m waiting = record {
+    → host.last_ticket ≡ 0 → So turns 0 host host c c from from given given taken taken answers answers
+begun {host = host} {from = from} {given} {taken} {answers} fit m waiting none = record {
   rounds = [];
-  running = record { rounds_are = tt; same = same-self host; matches = m; waiting = waiting; course = refl };
+  running = record { rounds_are = tt; same = same-self host; matches = m; waiting = waiting; course = refl; tickets = none };
   fit = fit;
   turned = turned-nothing from given;
   took = added-nothing taken;

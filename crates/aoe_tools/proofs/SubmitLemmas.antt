@@ -32,6 +32,8 @@ submits-one {host} {host'} {c} {op = op} {ticket} fit next is after matches same
     record {
       is = record { ticket = ticket; op = op };
       next = next;
+      ticket = omega (arith, is);
+      last = same.2;
       course = after;
       matches = matches;
       same = same.0;
@@ -48,7 +50,8 @@ submits-more {start} {host} {host'} s few one =
     let is = s.course in
     record {
       submits = one.is ∷ s.submits;
-      are = (s.are, rw is at one.next, rw is at few);
+      are = (s.are, rw is at one.next, rw is at few, omega (arith, one.ticket, s.last));
+      last = omega (arith, one.last, one.ticket, s.last);
       course = rw is at one.course;
       matches = λ log m. one.matches (after_submits s.submits log) (s.matches log m);
       same = same-then start host host' s.same one.same;

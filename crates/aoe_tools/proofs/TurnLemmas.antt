@@ -1,5 +1,5 @@
 -- A turn of a transfer, of its two parts.
-use Rattle.std.proofs.Common.{ℕ, ◌≡◌, ◌<◌, max, Bool, true, false, List, [], ◌∷◌, ◌++◌, reverse, Option, Some, None, refl, sym, ◌∙◌, arith}
+use Rattle.std.proofs.Common.{ℕ, ◌≡◌, ◌<◌, max, Bool, true, false, List, [], ◌∷◌, ◌++◌, length, length-append, reverse, Option, Some, None, refl, sym, ◌∙◌, arith}
 use Rattle.std.proofs.lemmas.Option.{same_Some}
 use Rattle.aoe_initiator.proofs.MatchLemmas.{same-then}
 use Rattle.std.specs.Prelude.{Result, Ok, Err, All}
@@ -23,7 +23,7 @@ use Rattle.aoe_tools.specs.declared.end.ToolRefusal.TheVariants as tool
 use Rattle.aoe_tools.specs.declared.transfer.Passed.{Passed}
 use Rattle.aoe_tools.specs.declared.transfer.Passed.TheVariants as passed
 use Rattle.aoe_tools.specs.TransferCourse.{after_done, after_dones, end_by, ending, ending_by, failure, is_over_in, or_later, End}
-use Rattle.aoe_tools.specs.TransferRun.{after_tick, dones, log_of, quiet_turns, told, Breaks, EndsBy, GivesUp, Heard, IsFit, IsRound, Round, Running}
+use Rattle.aoe_tools.specs.TransferRun.{after_tick, dones, log_of, quiet_turns, submissions, told, Breaks, EndsBy, GivesUp, Heard, IsFit, IsRound, Round, Running}
 use Rattle.aoe_tools.specs.TransferSteps.{Broken, Exchanged, Exchanges, TakesRound, Turns}
 
 -- only the waiting outcomes of a host changed
@@ -73,6 +73,10 @@ module _ {host advanced h1 : Host} {now : ℕ} (a : Advanced host advanced now) 
     matches-tick : Matches (after_tick now gave_up log) h1
     matches-tick = matches1 (after_tick now gave_up log) (a.gives_up.2 log run.matches).2
 
+    -- as many tickets were given as commands were submitted
+    given : h1.last_ticket ≡ length (submissions rounds)
+    given = let last : h1.last_ticket ≡ host.last_ticket = rw is a.last in last ∙ run.tickets
+
     pub outcomes : advanced.waiting ≡ dones (told rounds) gave_up
     outcomes = rw run.waiting at a.gives_up.1
 
@@ -92,7 +96,7 @@ module _ {host advanced h1 : Host} {now : ℕ} (a : Advanced host advanced now) 
       now-course = rw outcomes at after
 
       -- the link failed
-      breaks-turn : {taken taken' : Option Frames} → Broken base (after_tick now gave_up log) c1 taken taken' → Breaks base turns c (told rounds) log now taken taken'
+      breaks-turn : {taken taken' : Option Frames} → Broken base (after_tick now gave_up log) h1.last_ticket c1 taken taken' → Breaks base turns c (told rounds) log (length (submissions rounds)) now taken taken'
       breaks-turn broken =
           let b = rw now-course at broken in
           record {
@@ -100,7 +104,7 @@ module _ {host advanced h1 : Host} {now : ℕ} (a : Advanced host advanced now) 
             gives_up = gives-up;
             goes_on = goes-on;
             submitted_are = b.submits;
-            submits = b.are;
+            submits = rw given at b.are;
             filled = b.filled;
             sent = b.sent;
             sends = b.sends;
@@ -109,15 +113,15 @@ module _ {host advanced h1 : Host} {now : ℕ} (a : Advanced host advanced now) 
 
       -- the whole turn was taken
       takes-turn : {c' : Course} {h' : Host} {heard : Option Heard} {from turned' : ℕ} {given given' : Option (List Turn)} {taken taken' : Option Frames} → quiet_turns rounds < turns
-          → Exchanged base (after_tick now gave_up log) c1 c' h' heard from turned' given given' taken taken'
+          → Exchanged base (after_tick now gave_up log) h1.last_ticket c1 c' h' heard from turned' given given' taken taken'
           → TakesRound base turns start rounds now heard h' c' from turned' given given' taken taken'
       takes-turn {heard = heard} below exchanged =
           let x = rw now-course at exchanged in
           let r : Round = record { now = now; gave_up = gave_up; submits = x.submits; sent = x.sent; brought = x.brought; heard = heard } in
-          let round : IsRound base turns c (told rounds) log r = record {
+          let round : IsRound base turns c (told rounds) log (length (submissions rounds)) r = record {
             gives_up = gives-up;
             goes_on = goes-on;
-            submits = x.are;
+            submits = rw given at x.are;
             filled = x.filled;
             sends = x.sends;
             silent = x.silent;
@@ -133,6 +137,7 @@ module _ {host advanced h1 : Host} {now : ℕ} (a : Advanced host advanced now) 
               matches = x.matches;
               waiting = x.waiting;
               course = rw (← run.course) x.course;
+              tickets = omega (arith, x.last, given, length-append x.submits (submissions rounds));
             };
             fit = x.fit;
             took = x.took;
@@ -141,11 +146,11 @@ module _ {host advanced h1 : Host} {now : ℕ} (a : Advanced host advanced now) 
 
       -- what the second part of the turn came to, the turn came to
       pub by-exchange : (result : Result Passed ToolRefusal) (c' : Course) (h' : Host) (from turned' : ℕ) (given given' : Option (List Turn)) (taken taken' : Option Frames) → quiet_turns rounds < turns
-          → ((base : Host) (log : List Event) → IsSame base h1 → Matches log h1 → Exchanges result base log c1 c' h' from turned' given given' taken taken')
+          → ((base : Host) (log : List Event) → IsSame base h1 → Matches log h1 → Exchanges result base log h1.last_ticket c1 c' h' from turned' given given' taken taken')
           → Turns result base turns start rounds now h' c c' from turned' given given' taken taken'
       by-exchange result c' h' from turned' given given' taken taken' below ex = by result (ex base (after_tick now gave_up log) same1 matches-tick)
         where
-          by : (result : Result Passed ToolRefusal) → Exchanges result base (after_tick now gave_up log) c1 c' h' from turned' given given' taken taken'
+          by : (result : Result Passed ToolRefusal) → Exchanges result base (after_tick now gave_up log) h1.last_ticket c1 c' h' from turned' given given' taken taken'
               → Turns result base turns start rounds now h' c c' from turned' given given' taken taken'
           by (Ok passed.Answered) x = (x.0, takes-turn below x.1)
           by (Ok passed.Quiet) x = takes-turn below x

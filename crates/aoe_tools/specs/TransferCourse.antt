@@ -1,5 +1,5 @@
 -- What a transfer asks for next, and by which outcome it ends.
-use Rattle.std.specs.Prelude.{ℕ, ◌≡◌, ◌+◌, ◌-◌, ◌<◌, ◌≤◌, ◌⊎◌, Bool, true, false, not, ◌&&◌, nat_eq, List, [], ◌∷◌, Option, Some, None, Result, Ok, Err, option_map, if◌then◌else◌}
+use Rattle.std.specs.Prelude.{ℕ, suc, ◌≡◌, ◌+◌, ◌-◌, ◌<◌, ◌≤◌, ◌⊎◌, Bool, true, false, not, ◌&&◌, nat_eq, List, [], ◌∷◌, length, Option, Some, None, Result, Ok, Err, option_map, if◌then◌else◌}
 use Rattle.std.specs.List.{count_by}
 use Rattle.aoe_base.specs.declared.counted.Ticket.{Ticket}
 use Rattle.aoe_block.specs.Calls.{hand, next_part, op_of, settle, took}
@@ -126,10 +126,14 @@ abbrev pub submitted : Course → List Submission → Course
 submitted c [] = c
 submitted c (s ∷ earlier) = handed s.ticket (submitted c earlier)
 
--- each is what was to be asked for next, when fewer than 64 were under way
-abbrev pub AreNext : Course → List Submission → Type 0
-AreNext c [] = Unit {0}
-AreNext c (s ∷ earlier) = AreNext c earlier × (next_op (submitted c earlier) ≡ Some s.op) × ((submitted c earlier).under_way < 64)
+-- Each is what was to be asked for next, when fewer than 64 were under way. So many tickets were given before, and each has the next one.
+abbrev pub AreNext : ℕ → Course → List Submission → Type 0
+AreNext given c [] = Unit {0}
+AreNext given c (s ∷ earlier) =
+    AreNext given c earlier
+    × (next_op (submitted c earlier) ≡ Some s.op)
+    × ((submitted c earlier).under_way < 64)
+    × (s.ticket.0 ≡ suc (given + length earlier))
 
 -- nothing more may be submitted
 abbrev pub IsFilled : Course → Type 0

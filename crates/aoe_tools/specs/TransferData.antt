@@ -1,21 +1,30 @@
--- What a transfer has read or written, and by which responses.
-use Rattle.std.specs.Prelude.{ℕ, ◌≡◌, ◌*◌, ◌/◌, Bool, true, false, List, [], ◌∷◌, ◌++◌, length, All, Contains}
-use Rattle.aoe_base.specs.declared.counted.Ticket.{Ticket}
+-- What a transfer asks for, and what it has read or written when it is done, by which responses.
+use Rattle.std.specs.Prelude.{ℕ, ◌≡◌, ◌+◌, ◌*◌, ◌/◌, Bool, true, false, List, [], ◌∷◌, ◌++◌, length, map, reverse, All, Contains}
 use Rattle.aoe_block.specs.Calls.{op_of}
-use Rattle.aoe_block.specs.Parts.{joined, AreAdjacent, Part}
+use Rattle.aoe_block.specs.Parts.{joined, AreAdjacent, AreFull, Part}
+use Rattle.aoe_initiator.specs.declared.op.Op.{Op}
 use Rattle.aoe_initiator.specs.declared.op.Op.TheVariants as op
 use Rattle.aoe_initiator.specs.declared.outcome.Done.{Done}
 use Rattle.aoe_initiator.specs.declared.outcome.Outcome.{Outcome}
 use Rattle.aoe_initiator.specs.declared.outcome.Outcome.TheVariants as outcome
 use Rattle.aoe_tools.specs.TransferCourse.{Submission}
-use Rattle.aoe_tools.specs.TransferRun.{told_by, Round}
+use Rattle.aoe_tools.specs.TransferRun.{submissions, told_by, Round}
 
--- the commands that were submitted in these turns
-abbrev pub submissions : List Round → List Submission
-submissions [] = []
-submissions (r ∷ rounds) = r.submits ++ submissions rounds
+-- the operations of a transfer in order: one for each part, and behind those that write one flush
+abbrev pub all_operations : Bool → List Part → List Op
+all_operations true parts = map (op_of true) parts ++ op.Flush ∷ []
+all_operations false parts = map (op_of false) parts
 
--- the outcomes that came in them: what responses said, and commands that were given up
+-- the commands with these operations, whose tickets go from a number on
+abbrev pub numbered : ℕ → List Op → List Submission
+numbered n [] = []
+numbered n (o ∷ ops) = record { ticket = record { 0 = n }; op = o } ∷ numbered (n + 1) ops
+
+-- these are the first of all commands
+abbrev pub IsFront : List Submission → List Submission → Type 0
+IsFront first all = (rest : List Submission) × (all ≡ first ++ rest)
+
+-- the outcomes that came in these turns: what responses said, and commands that were given up
 abbrev pub outcomes : List Round → List Done
 outcomes [] = []
 outcomes (r ∷ rounds) = told_by r.heard ++ (r.gave_up ++ outcomes rounds)
@@ -25,47 +34,47 @@ abbrev pub success_of : Bool → Part → Outcome
 success_of true p = outcome.Written
 success_of false p = outcome.Read p.bytes
 
--- a command for the part was submitted, and its outcome is a success
-pub record IsCopied (writes : Bool) (submits : List Submission) (came : List Done) (p : Part) : Type 0 where
-  pub ticket : Ticket
-  pub asked : Contains submits (record { ticket = ticket; op = op_of writes p })
-  pub acknowledged : Contains came (record { ticket = ticket; outcome = success_of writes p })
+-- what the responses say to the operations of a transfer that is all done
+abbrev pub successes : Bool → List Part → List Outcome
+successes true parts = map (success_of true) parts ++ outcome.Flushed ∷ []
+successes false parts = map (success_of false) parts
 
--- the parts are those of so many sectors from a sector on, in order, and each was read or written
-pub record AreCopied (writes : Bool) (at count : ℕ) (submits : List Submission) (came : List Done) (parts : List Part) : Type 0 where
+-- of the commands whose tickets go from a number on, each has its outcome, and in this order
+abbrev pub HaveCome : List Done → ℕ → List Outcome → Type 0
+HaveCome came n [] = Unit {0}
+HaveCome came n (o ∷ os) = Contains came (record { ticket = record { 0 = n }; outcome = o }) × HaveCome came (n + 1) os
+
+-- the parts of so many sectors from a sector on: each has as many sectors as a command may have, but for the last
+pub record ArePartsOf (at max count : ℕ) (parts : List Part) : Type 0 where
   pub adjacent : AreAdjacent at parts
+  pub full : AreFull max parts
   pub whole : All (λ p. length p.bytes ≡ 512 * p.count) parts
   pub size : length (joined parts) ≡ 512 * count
-  pub each : All (IsCopied writes submits came) parts
 
--- the outcomes that came, with those of a last turn that broke off
-abbrev pub came_in : List Round → List Done → List Done
-came_in rounds gave_up = gave_up ++ outcomes rounds
-
--- the last command of one of these turns is a flush, and each part was written before: its write was submitted, and acknowledged
-pub record FollowsWrites (parts : List Part) (rounds : List Round) (flush : Ticket) : Type 0 where
+-- a flush behind so many writes was submitted in one of these turns, and before that turn each write had been acknowledged
+pub record FollowsWrites (parts : List Part) (rounds : List Round) : Type 0 where
   pub later : List Round
   pub turn : Round
   pub earlier : List Round
   pub order : rounds ≡ later ++ turn ∷ earlier
-  pub before : List Submission
-  pub asked : turn.submits ≡ record { ticket = flush; op = op.Flush } ∷ before
-  pub written : All (IsCopied true (before ++ submissions earlier) (came_in earlier turn.gave_up)) parts
+  pub flushes : Contains turn.submits (record { ticket = record { 0 = length parts + 1 }; op = op.Flush })
+  pub written : HaveCome (outcomes earlier) 1 (map (success_of true) parts)
 
--- these bytes are those of so many sectors in order, each from a response to a read of it
-pub record HasRead (at count : ℕ) (rounds : List Round) (bytes : List ℕ) : Type 0 where
+-- these bytes are those of so many sectors in order: each part was asked for once, with a ticket of its own, and its bytes are those
+-- of the response to that command
+pub record HasRead (at max count : ℕ) (rounds : List Round) (bytes : List ℕ) : Type 0 where
   pub parts : List Part
-  pub gave_up : List Done
-  pub copied : AreCopied false at count (submissions rounds) (came_in rounds gave_up) parts
+  pub parts_are : ArePartsOf at max count parts
   pub together : joined parts ≡ bytes
+  pub asked : reverse (submissions rounds) ≡ numbered 1 (all_operations false parts)
+  pub came : HaveCome (outcomes rounds) 1 (successes false parts)
 
--- these bytes were written from a sector on: each sector was acknowledged by a response to its write, and then a flush, which was
--- asked for once all of them were
-pub record HasWritten (at : ℕ) (bytes : List ℕ) (rounds : List Round) : Type 0 where
+-- these bytes were written from a sector on: each part was asked for once, with a ticket of its own, and then a flush; a response
+-- acknowledged each of them, and the flush was submitted once the writes were acknowledged
+pub record HasWritten (at max : ℕ) (bytes : List ℕ) (rounds : List Round) : Type 0 where
   pub parts : List Part
-  pub gave_up : List Done
-  pub copied : AreCopied true at (length bytes / 512) (submissions rounds) (came_in rounds gave_up) parts
+  pub parts_are : ArePartsOf at max (length bytes / 512) parts
   pub together : joined parts ≡ bytes
-  pub flush : Ticket
-  pub follows : FollowsWrites parts rounds flush
-  pub acknowledged : Contains (came_in rounds gave_up) (record { ticket = flush; outcome = outcome.Flushed })
+  pub asked : reverse (submissions rounds) ≡ numbered 1 (all_operations true parts)
+  pub came : HaveCome (outcomes rounds) 1 (successes true parts)
+  pub follows : FollowsWrites parts rounds

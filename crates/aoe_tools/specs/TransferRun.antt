@@ -66,6 +66,11 @@ abbrev pub log_of : List Round → List Event
 log_of [] = []
 log_of (r ∷ rounds) = after_round r (log_of rounds)
 
+-- the commands that were submitted in these turns, the latest of which stands first
+abbrev pub submissions : List Round → List Submission
+submissions [] = []
+submissions (r ∷ rounds) = r.submits ++ submissions rounds
+
 -- the outcome that waits since the last turn
 abbrev pub told_by : Option Heard → List Done
 told_by None = []
@@ -152,11 +157,11 @@ Hears base log quiet (Some h) = ⊥
 Hears base log ended None = Unit {0}
 Hears base log ended (Some h) = ⊥
 
--- a whole turn, by the course, the waiting outcome and the log before it
-pub record IsRound (base : Host) (turns : ℕ) (c : Course) (waiting : List Done) (log : List Event) (r : Round) : Type 0 where
+-- a whole turn, by the course, the waiting outcome, the log and the number of tickets given before it
+pub record IsRound (base : Host) (turns : ℕ) (c : Course) (waiting : List Done) (log : List Event) (given : ℕ) (r : Round) : Type 0 where
   pub gives_up : GivesUp base log r.now r.gave_up
   pub goes_on : end_by turns c (dones waiting r.gave_up) ≡ None
-  pub submits : AreNext (after_dones turns c (dones waiting r.gave_up)) r.submits
+  pub submits : AreNext given (after_dones turns c (dones waiting r.gave_up)) r.submits
   pub filled : IsFilled (submitted (after_dones turns c (dones waiting r.gave_up)) r.submits)
   pub sends : AreSent base (after_submits r.submits (after_tick r.now r.gave_up log)) r.sent
   pub silent : IsSilent base (after_frames r.sent (after_submits r.submits (after_tick r.now r.gave_up log)))
@@ -166,7 +171,9 @@ pub record IsRound (base : Host) (turns : ℕ) (c : Course) (waiting : List Done
 abbrev pub AreRounds : Host → ℕ → Course → List Round → Type 0
 AreRounds base turns c [] = Unit {0}
 AreRounds base turns c (r ∷ rounds) =
-    AreRounds base turns c rounds × (quiet_turns rounds < turns) × IsRound base turns (course_of turns c rounds) (told rounds) (log_of rounds) r
+    AreRounds base turns c rounds
+    × (quiet_turns rounds < turns)
+    × IsRound base turns (course_of turns c rounds) (told rounds) (log_of rounds) (length (submissions rounds)) r
 
 -- the last turn, which an outcome ends
 pub record EndsBy (end : End) (base : Host) (turns : ℕ) (c : Course) (waiting : List Done) (log : List Event) (now : ℕ) : Type 0 where
@@ -175,12 +182,12 @@ pub record EndsBy (end : End) (base : Host) (turns : ℕ) (c : Course) (waiting 
   pub by : end_by turns c (dones waiting gave_up) ≡ Some end
 
 -- the last turn, in which the link failed: it took the frames, but perhaps the last
-pub record Breaks (base : Host) (turns : ℕ) (c : Course) (waiting : List Done) (log : List Event) (now : ℕ) (before after : Option (List (List ℕ))) : Type 0 where
+pub record Breaks (base : Host) (turns : ℕ) (c : Course) (waiting : List Done) (log : List Event) (given now : ℕ) (before after : Option (List (List ℕ))) : Type 0 where
   pub gave_up : List Done
   pub gives_up : GivesUp base log now gave_up
   pub goes_on : end_by turns c (dones waiting gave_up) ≡ None
   pub submitted_are : List Submission
-  pub submits : AreNext (after_dones turns c (dones waiting gave_up)) submitted_are
+  pub submits : AreNext given (after_dones turns c (dones waiting gave_up)) submitted_are
   pub filled : IsFilled (submitted (after_dones turns c (dones waiting gave_up)) submitted_are)
   pub sent : List Outgoing
   pub sends : AreSent base (after_submits submitted_are (after_tick now gave_up log)) sent
@@ -197,6 +204,7 @@ pub record Running (base : Host) (turns : ℕ) (start : Course) (rounds : List R
   pub matches : Matches (log_of rounds) host
   pub waiting : host.waiting ≡ told rounds
   pub course : c ≡ course_of turns start rounds
+  pub tickets : host.last_ticket ≡ length (submissions rounds)
 
 -- the host and the course fit one another: there is a device, all tickets are given in order, and few
 pub record IsFit (host : Host) (c : Course) : Type 0 where
@@ -219,7 +227,9 @@ RunEnds (Ok done) base turns start c rounds nows mid after =
     (now : ℕ) × (e : EndsBy (Ok record {}) base turns (course_of turns start rounds) (told rounds) (log_of rounds) now)
     × (c ≡ after_dones turns (course_of turns start rounds) (dones (told rounds) e.gave_up)) × (nows ≡ now ∷ nows_of rounds) × (after ≡ mid)
 RunEnds (Err tool.LinkFault) base turns start c rounds nows mid after =
-    (now : ℕ) × Breaks base turns (course_of turns start rounds) (told rounds) (log_of rounds) now mid after × (nows ≡ now ∷ nows_of rounds)
+    (now : ℕ)
+    × Breaks base turns (course_of turns start rounds) (told rounds) (log_of rounds) (length (submissions rounds)) now mid after
+    × (nows ≡ now ∷ nows_of rounds)
 RunEnds (Err tool.NoMemory) base turns start c rounds nows mid after = (now : ℕ) × (nows ≡ now ∷ nows_of rounds) × (after ≡ mid)
 RunEnds (Err refusal) base turns start c rounds nows mid after =
     ((refusal ≡ tool.Unanswered turns) × (quiet_turns rounds ≡ turns) × (nows ≡ nows_of rounds) × (after ≡ mid))

@@ -1,5 +1,5 @@
 -- What the steps of a turn do, one by one.
-use Rattle.std.specs.Prelude.{ℕ, ◌≡◌, ◌⊎◌, Bool, true, false, List, [], ◌∷◌, ◌++◌, map, drop, Option, Some, None, Result, Ok, Err}
+use Rattle.std.specs.Prelude.{ℕ, suc, ◌≡◌, ◌+◌, ◌⊎◌, Bool, true, false, List, [], ◌∷◌, ◌++◌, length, map, drop, Option, Some, None, Result, Ok, Err}
 use Rattle.aoe_base.specs.declared.failure.Failed.{Failed}
 use Rattle.aoe_initiator.specs.Host.{Host, IsSame, Matches}
 use Rattle.aoe_initiator.specs.HostLog.{Event}
@@ -11,7 +11,7 @@ use Rattle.aoe_tools.specs.declared.end.ToolRefusal.TheVariants as tool
 use Rattle.aoe_tools.specs.declared.transfer.Passed.{Passed}
 use Rattle.aoe_tools.specs.declared.transfer.Passed.TheVariants as passed
 use Rattle.aoe_tools.specs.TransferCourse.{after_dones, handed, next_op, submitted, AreNext, End, IsFilled, Submission}
-use Rattle.aoe_tools.specs.TransferRun.{after_frames, after_heard, after_submits, dones, log_of, told, told_by, AreSent, Breaks, EndsBy, Heard, Hears, IsFit, IsSilent, Outgoing, Round, Running}
+use Rattle.aoe_tools.specs.TransferRun.{after_frames, after_heard, after_submits, dones, log_of, submissions, told, told_by, AreSent, Breaks, EndsBy, Heard, Hears, IsFit, IsSilent, Outgoing, Round, Running}
 
 -- unless an outcome was a failure
 abbrev pub UnlessFailed : Option End → Type 0 → Type 0
@@ -23,6 +23,8 @@ UnlessFailed (Some (Err refusal)) Fact = Unit {0}
 pub record SubmitsOne (host host' : Host) (c c' : Course) : Type 0 where
   pub is : Submission
   pub next : next_op c ≡ Some is.op
+  pub ticket : is.ticket.0 ≡ suc host.last_ticket
+  pub last : host'.last_ticket ≡ is.ticket.0
   pub course : c' ≡ handed is.ticket c
   pub matches : (log : List Event) → Matches log host → Matches (Submits is.ticket (record { 0 = 0 }) is.op ∷ log) host'
   pub same : IsSame host host'
@@ -32,7 +34,8 @@ pub record SubmitsOne (host host' : Host) (c c' : Course) : Type 0 where
 -- some were
 pub record SubmitsSome (host host' : Host) (c c' : Course) : Type 0 where
   pub submits : List Submission
-  pub are : AreNext c submits
+  pub are : AreNext host.last_ticket c submits
+  pub last : host'.last_ticket ≡ host.last_ticket + length submits
   pub course : c' ≡ submitted c submits
   pub matches : (log : List Event) → Matches log host → Matches (after_submits submits log) host'
   pub same : IsSame host host'
@@ -72,10 +75,11 @@ pub record HearsOne (finished : Bool) (host host' : Host) (start turned' : ℕ) 
       × (host'.waiting ≡ host.waiting ++ told_by heard) × (finished ≡ is_heard heard)
   pub held : IsHeld host host'
 
--- the second part of a turn, by the course and the log before it
-pub record Exchanged (base : Host) (log : List Event) (c c' : Course) (host' : Host) (heard : Option Heard) (start turned' : ℕ) (given given' : Option (List Turn)) (taken taken' : Option (List (List ℕ))) : Type 0 where
+-- the second part of a turn, by the course, the log and the number of tickets given before it
+pub record Exchanged (base : Host) (log : List Event) (tickets : ℕ) (c c' : Course) (host' : Host) (heard : Option Heard) (start turned' : ℕ) (given given' : Option (List Turn)) (taken taken' : Option (List (List ℕ))) : Type 0 where
   pub submits : List Submission
-  pub are : AreNext c submits
+  pub are : AreNext tickets c submits
+  pub last : host'.last_ticket ≡ tickets + length submits
   pub filled : IsFilled (submitted c submits)
   pub course : c' ≡ submitted c submits
   pub sent : List Outgoing
@@ -91,9 +95,9 @@ pub record Exchanged (base : Host) (log : List Event) (c c' : Course) (host' : H
   pub fit : IsFit host' c'
 
 -- the second part of a turn in which the link failed
-pub record Broken (base : Host) (log : List Event) (c : Course) (taken taken' : Option (List (List ℕ))) : Type 0 where
+pub record Broken (base : Host) (log : List Event) (tickets : ℕ) (c : Course) (taken taken' : Option (List (List ℕ))) : Type 0 where
   pub submits : List Submission
-  pub are : AreNext c submits
+  pub are : AreNext tickets c submits
   pub filled : IsFilled (submitted c submits)
   pub sent : List Outgoing
   pub took : Added taken taken' (map (λ o. o.frame) sent) ⊎ Added taken taken' (drop 1 (map (λ o. o.frame) sent))
@@ -104,13 +108,15 @@ pub record IsUnused (start turned' : ℕ) (given given' : Option (List Turn)) : 
   pub turns : turned' ≡ start
   pub given_is : given' ≡ given
 
-abbrev pub Exchanges : Result Passed ToolRefusal → Host → List Event → Course → Course → Host → ℕ → ℕ → Option (List Turn) → Option (List Turn) → Option (List (List ℕ)) → Option (List (List ℕ)) → Type 0
-Exchanges (Ok passed.Answered) base log c c' host' start turned' given given' taken taken' =
-    (h : Heard) × Exchanged base log c c' host' (Some h) start turned' given given' taken taken'
-Exchanges (Ok passed.Quiet) base log c c' host' start turned' given given' taken taken' = Exchanged base log c c' host' None start turned' given given' taken taken'
-Exchanges (Err tool.LinkFault) base log c c' host' start turned' given given' taken taken' = Broken base log c taken taken' × IsUnused start turned' given given'
-Exchanges (Err tool.NoMemory) base log c c' host' start turned' given given' taken taken' = (taken' ≡ taken) × IsUnused start turned' given given'
-Exchanges result base log c c' host' start turned' given given' taken taken' = ⊥
+abbrev pub Exchanges : Result Passed ToolRefusal → Host → List Event → ℕ → Course → Course → Host → ℕ → ℕ → Option (List Turn) → Option (List Turn) → Option (List (List ℕ)) → Option (List (List ℕ)) → Type 0
+Exchanges (Ok passed.Answered) base log tickets c c' host' start turned' given given' taken taken' =
+    (h : Heard) × Exchanged base log tickets c c' host' (Some h) start turned' given given' taken taken'
+Exchanges (Ok passed.Quiet) base log tickets c c' host' start turned' given given' taken taken' =
+    Exchanged base log tickets c c' host' None start turned' given given' taken taken'
+Exchanges (Err tool.LinkFault) base log tickets c c' host' start turned' given given' taken taken' =
+    Broken base log tickets c taken taken' × IsUnused start turned' given given'
+Exchanges (Err tool.NoMemory) base log tickets c c' host' start turned' given given' taken taken' = (taken' ≡ taken) × IsUnused start turned' given given'
+Exchanges result base log tickets c c' host' start turned' given given' taken taken' = ⊥
 
 -- a whole turn was taken
 pub record TakesRound (base : Host) (turns : ℕ) (start : Course) (rounds : List Round) (now : ℕ) (heard : Option Heard) (host' : Host) (c' : Course) (from turned' : ℕ) (given given' : Option (List Turn)) (taken taken' : Option (List (List ℕ))) : Type 0 where
@@ -131,7 +137,7 @@ Turns (Ok passed.Quiet) base turns start rounds now host' c c' from turned' give
 Turns (Ok passed.Over) base turns start rounds now host' c c' from turned' given given' taken taken' =
     (e : EndsBy (Ok record {}) base turns c (told rounds) (log_of rounds) now) × (c' ≡ after_dones turns c (dones (told rounds) e.gave_up)) × (taken' ≡ taken) × IsUnused from turned' given given'
 Turns (Err tool.LinkFault) base turns start rounds now host' c c' from turned' given given' taken taken' =
-    Breaks base turns c (told rounds) (log_of rounds) now taken taken' × IsUnused from turned' given given'
+    Breaks base turns c (told rounds) (log_of rounds) (length (submissions rounds)) now taken taken' × IsUnused from turned' given given'
 Turns (Err tool.NoMemory) base turns start rounds now host' c c' from turned' given given' taken taken' = (taken' ≡ taken) × IsUnused from turned' given given'
 Turns (Err refusal) base turns start rounds now host' c c' from turned' given given' taken taken' =
     EndsBy (Err refusal) base turns c (told rounds) (log_of rounds) now × (taken' ≡ taken) × IsUnused from turned' given given'

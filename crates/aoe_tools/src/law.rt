@@ -1,19 +1,31 @@
-//! What follows from a transfer that is all done.
-ghost use Rattle.std.specs.Prelude.{◌≡◌, ℕ, List, Ok, Option, length};
+//! What follows from the turns of a transfer.
+ghost use Rattle.std.specs.Prelude.{◌≡◌, ℕ, List, Ok, Option, Result, length, reverse};
 ghost use Rattle.aoe_base.specs.declared.address.TargetId.{TargetId};
 ghost use Rattle.aoe_block.specs.Parts.{joined};
 ghost use Rattle.aoe_tools.specs.declared.course.Course.{Course};
+ghost use Rattle.aoe_tools.specs.declared.end.ToolRefusal.{ToolRefusal};
 ghost use Rattle.aoe_tools.specs.declared.lookup.Device.{Device};
 ghost use Rattle.aoe_tools.specs.declared.question.Ask.{Ask};
 ghost use Rattle.aoe_tools.specs.TransferAsks.{LinkState};
-ghost use Rattle.aoe_tools.specs.TransferCopies.{read_of, write_of, IsFresh, RunsAll};
-ghost use Rattle.aoe_tools.specs.TransferData.{HasRead, HasWritten};
+ghost use Rattle.aoe_tools.specs.TransferCopies.{read_of, write_of, IsFresh, Range, RunsAll};
+ghost use Rattle.aoe_tools.specs.TransferData.{all_operations, numbered, HasRead, HasWritten, IsFront};
+ghost use Rattle.aoe_tools.specs.TransferRun.{submissions};
 
-/// A law: where a read is all done, its bytes are those of the sectors in order, each from a
-/// response to a read of it; where a write is, each sector was acknowledged, and a flush.
+/// A law: however a transfer ends, the commands that it submitted are the first of those that it
+/// has, one for each part and for a write the flush behind them, in their order and with the
+/// tickets 1, 2, 3 and so on.
+pub fn submitted_law()
+    ensures { (ask : Ask) (id : TargetId) (d : Device) (range : Range) (start : Course) (result : Result Course ToolRefusal) (before after : LinkState) (answers answers' : Option (List ℕ))
+        → IsFresh range d start → (x : RunsAll result ask id d start before after answers answers')
+        → IsFront (reverse (submissions x.runs.rounds)) (numbered 1 (all_operations range.writes start.block.parts)) }
+{}
+
+/// A law: where a read is all done, each part was asked for once, and the bytes are those of the
+/// responses, in order; where a write is, each part was acknowledged, and then the flush, which was
+/// submitted once all parts were.
 pub fn copied_law()
     ensures read { (ask : Ask) (id : TargetId) (d : Device) (at count : ℕ) (start c : Course) (before after : LinkState) (answers answers' : Option (List ℕ))
-        → IsFresh (read_of at count) d start → (x : RunsAll (Ok c) ask id d start before after answers answers') → HasRead at count x.runs.rounds (joined c.block.parts) }
+        → IsFresh (read_of at count) d start → (x : RunsAll (Ok c) ask id d start before after answers answers') → HasRead at d.max count x.runs.rounds (joined c.block.parts) }
     ensures write { (ask : Ask) (id : TargetId) (d : Device) (at : ℕ) (bytes : List ℕ) (start c : Course) (before after : LinkState) (answers answers' : Option (List ℕ))
-        → IsFresh (write_of at bytes) d start → (x : RunsAll (Ok c) ask id d start before after answers answers') → HasWritten at bytes x.runs.rounds }
+        → IsFresh (write_of at bytes) d start → (x : RunsAll (Ok c) ask id d start before after answers answers') → HasWritten at d.max bytes x.runs.rounds }
 {}

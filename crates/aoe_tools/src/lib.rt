@@ -41,7 +41,7 @@ pub use copy::{get, put};
 pub use end::{CopyRefusal, Refusal, ToolRefusal};
 pub use finding::discover;
 pub use found::{Found, Seen, State};
-pub use law::copied_law;
+pub use law::{copied_law, submitted_law};
 pub use lists::{cfg, mask, reserve};
 pub use question::Ask;
 pub use text::{print_config, print_found, print_masks, print_reserves, print_stat};

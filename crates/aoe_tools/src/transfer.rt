@@ -187,7 +187,7 @@ impl Transfer {
         requires fit { IsFit self.old.host self.old.course }
         requires waiting { self.old.host.waiting ≡ [] }
         ensures exchanges { (base : Host) (log : List Event) → IsSame base self.old.host → Matches log self.old.host
-            → Exchanges result base log self.old.course self.new.course self.new.host (L.turns link.old) (L.turns link.new) (L.given link.old) (L.given link.new) (L.taken link.old) (L.taken link.new) }
+            → Exchanges result base log self.old.host.last_ticket self.old.course self.new.course self.new.host (L.turns link.old) (L.turns link.new) (L.given link.old) (L.given link.new) (L.taken link.old) (L.taken link.new) }
         ensures count { L.faults link.old ≤ L.faults link.new }
         ensures link { Blamed (result ≡ Err ToolRefusal.LinkFault) (L.faults link.old) (L.faults link.new) }
     {
@@ -239,6 +239,7 @@ impl Transfer {
         requires fit { IsFit self.old.host self.old.course }
         requires fresh { Matches [] self.old.host }
         requires waiting { self.old.host.waiting ≡ [] }
+        requires new { self.old.host.last_ticket ≡ 0 }
         ensures run { Runs result self.old.host turns self.old.course self.new.course (L.turns link.old) (L.turns link.new) (L.given link.old) (L.given link.new) (L.taken link.old) (L.taken link.new) (C.answers clock.old) (C.answers clock.new) }
         ensures count { L.faults link.old ≤ L.faults link.new }
         ensures link { Blamed (result ≡ Err ToolRefusal.LinkFault) (L.faults link.old) (L.faults link.new) }

@@ -4,7 +4,7 @@ use Rattle.aoe_tools.proofs.transfer.Transfer.run.Goals as goal
 
 pub turns-init : goal.turns-init
 turns-init g c = record {
-  so = begun c.requires.fit c.requires.fresh c.requires.waiting;
+  so = begun c.requires.fit c.requires.fresh c.requires.waiting c.requires.new;
   within = omega arith;
   faults = refl;
 }
