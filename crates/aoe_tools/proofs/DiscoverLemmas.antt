@@ -126,5 +126,9 @@ module _ {q : Question} {request : List ℕ} {now : ℕ} {found : List Seen} {st
         at (t ∷ later) turned passed waits = record {
           turns = (t ∷ later) ++ s.turns;
           turned = turned-then start mid last given given' given'' s.turns (t ∷ later) s.turned turned;
-          ends = (omega (arith, passed, s.passed, waits.2, length-append (t ∷ later) s.turns), took-turns taken'' (t ∷ later) waits.3);
+          ends = (
+            omega (arith, passed, s.passed, waits.2, length-append (t ∷ later) s.turns),
+            rw waits.0 refl,
+            took-turns taken'' (t ∷ later) waits.3,
+          );
         }

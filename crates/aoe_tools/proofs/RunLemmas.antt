@@ -209,5 +209,5 @@ module _ {turns quiet : ℕ} {base host : Host} {start c : Course} {from turned'
         at : (r : ToolRefusal) → Turns (Err r) base turns start s.rounds now host' (course_of turns start s.rounds) c' turned' turned'' given' given'' taken' taken''
             → Runs (Err r) base turns start c' from turned'' given given'' taken taken'' answers later
         at tool.LinkFault x = ran x.1 (now, x.0, refl)
-        at tool.NoMemory x = ran x.1 (now, refl, x.0)
-        at _ x = ran x.2 (inr (now, x.0, refl, x.1))
+        at tool.NoMemory x = ran x.2 (now, x.0, refl, x.1)
+        at _ x = ran x.2 (inr (now, x.0, refl, x.1, below-turns))

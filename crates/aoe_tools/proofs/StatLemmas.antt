@@ -44,7 +44,7 @@ module _ {first : ℕ} {port : Mac} {limit start mid : ℕ} {given given' : Opti
     turned = d.turned;
     ends = (d.ends.0, took-front (finding_request first port) (length d.turns) taken taken' d.ends.1);
   }
-  finds-none tool.NoMemory d = record { finding = d.turns; visits = []; turned = d.turned; ends = (refl, d.ends.0, d.ends.1) }
+  finds-none tool.NoMemory d = record { finding = d.turns; visits = []; turned = d.turned; ends = (refl, d.ends.0, d.ends.1, d.ends.2) }
   finds-none (tool.Unanswered turns) d =
       let none = found-none limit (tool.Unanswered turns) (found_in (responses (finding_question first port) d.turns)) d.ends.1 in
       record { finding = d.turns; visits = []; turned = d.turned; ends = ((d.ends.0, sym none, tt), rw none at d.ends.1, d.ends.2) }

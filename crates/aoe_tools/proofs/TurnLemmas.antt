@@ -155,7 +155,7 @@ module _ {host advanced h1 : Host} {now : ℕ} (a : Advanced host advanced now) 
           by (Ok passed.Answered) x = (x.0, takes-turn below x.1)
           by (Ok passed.Quiet) x = takes-turn below x
           by (Err tool.LinkFault) x = (breaks-turn x.0, x.1)
-          by (Err tool.NoMemory) x = x
+          by (Err tool.NoMemory) x = (record { gave_up = gave_up; gives_up = gives-up; goes_on = goes-on }, x.0, x.1)
           by _ x = absurd x
 
 -- the refusals that an outcome can be

@@ -1,5 +1,5 @@
 -- What tools ask, which responses count, and what they send (AoEr11, "Common AoE header", "Tag", "Query Config Information").
-use Rattle.std.specs.Prelude.{ℕ, zero, suc, ◌+◌, ◌%◌, ◌^◌, ◌≤◌, Bool, true, false, ◌&&◌, ◌==◌, nat_eq, List, [], ◌∷◌, ◌++◌, length, drop, Option, Some, None, IfSome, if◌then◌else◌, option_and_then}
+use Rattle.std.specs.Prelude.{ℕ, zero, suc, ◌+◌, ◌%◌, ◌^◌, ◌≤◌, Bool, true, false, ◌&&◌, ◌==◌, nat_eq, List, [], ◌∷◌, ◌++◌, length, drop, Option, Some, None, IfSome, IsSome, if◌then◌else◌, option_and_then}
 use Rattle.std.specs.Option.{option_map}
 use Rattle.aoe_base.specs.declared.address.TargetId.{TargetId}
 use Rattle.aoe_base.specs.Addresses.{same_address}
@@ -78,6 +78,11 @@ with_response (Some r) responses = r ∷ responses
 abbrev pub responses : Question → List Turn → List Response
 responses q [] = []
 responses q (t ∷ turns) = with_response (brought q t) (responses q turns)
+
+-- the latest of these turns brought a response that counts
+abbrev pub IsAnswered : Question → List Turn → Type 0
+IsAnswered q [] = ⊥
+IsAnswered q (t ∷ turns) = IsSome (brought q t)
 
 -- what is sent before turn n + 1: the request, before the turns 1, 11, 21 and so on
 abbrev pub asked_at : List ℕ → ℕ → List (List ℕ)

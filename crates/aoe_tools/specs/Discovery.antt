@@ -5,7 +5,7 @@ use Rattle.aoe_base.specs.declared.address.Mac.{Mac}
 use Rattle.aoe_initiator.specs.Request.{request}
 use Rattle.aoe_initiator.specs.declared.op.Op.TheVariants as op
 use Rattle.aoe_io.specs.Link.{Added, Turn, Turned}
-use Rattle.aoe_tools.specs.Asking.{Response, TookSome, asked, everyone, responses, tag_of}
+use Rattle.aoe_tools.specs.Asking.{Response, IsAnswered, TookSome, asked, everyone, responses, tag_of}
 use Rattle.aoe_tools.specs.Found.{found_in}
 use Rattle.aoe_tools.specs.declared.end.ToolRefusal.{ToolRefusal}
 use Rattle.aoe_tools.specs.declared.end.ToolRefusal.TheVariants as tool
@@ -29,11 +29,11 @@ unless_none limit (s ∷ list) = Ok (s ∷ list)
 abbrev pub discovered : ℕ → List Response → Result (List Seen) ToolRefusal
 discovered limit responses = unless_none limit (found_in responses)
 
--- How it ends: after all of its turns, whatever they brought, or before, where the link failed or there was no memory. The link took
--- what was asked.
+-- How it ends: after all of its turns, whatever they brought, or before, where the link failed, or where a device answered and there was
+-- no memory for it. The link took what was asked.
 abbrev pub Ends : Result (List Seen) ToolRefusal → Question → List ℕ → ℕ → List Turn → Option (List (List ℕ)) → Option (List (List ℕ)) → Type 0
 Ends (Err tool.LinkFault) q request limit turns before after = (length turns < limit) × TookSome request 0 (length turns) before after
-Ends (Err tool.NoMemory) q request limit turns before after = (length turns ≤ limit) × Added before after (asked request (length turns))
+Ends (Err tool.NoMemory) q request limit turns before after = (length turns ≤ limit) × IsAnswered q turns × Added before after (asked request (length turns))
 Ends result q request limit turns before after = (length turns ≡ limit) × (result ≡ discovered limit (responses q turns)) × Added before after (asked request (length turns))
 
 -- A run of it over a link, with its turns, latest first.

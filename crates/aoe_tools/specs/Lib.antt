@@ -9,6 +9,7 @@ pub mod Runs
 pub mod Stat
 pub mod Text
 pub mod TransferAsks
+pub mod TransferCases
 pub mod TransferCopies
 pub mod TransferCourse
 pub mod TransferData

@@ -2,7 +2,7 @@
 use Rattle.std.specs.Prelude.{ℕ, ◌≡◌, ◌≤◌, ◌<◌, List, [], ◌∷◌, ◌++◌, length, Option, Result, Err}
 use Rattle.aoe_base.specs.declared.address.Mac.{Mac}
 use Rattle.aoe_io.specs.Link.{Added, Turn, Turned}
-use Rattle.aoe_tools.specs.Asking.{asked, asked_at, responses}
+use Rattle.aoe_tools.specs.Asking.{IsAnswered, asked, asked_at, responses}
 use Rattle.aoe_tools.specs.Discovery.{finding_question, finding_request, unless_none}
 use Rattle.aoe_tools.specs.Found.{found_in}
 use Rattle.aoe_tools.specs.Visits.{AreOver, IsBroken, TookFront, Visit, devices, learned, visit_asked, visit_asks, visit_turns}
@@ -38,12 +38,13 @@ IsPart first port limit finding [] = length finding < limit
 IsPart first port limit finding (v ∷ earlier) = (length finding ≡ limit) × IsBroken first port limit (found_by first port finding) (v ∷ earlier)
 
 -- How it ends: where the link didn't fail and there was memory it is over, says this, and the link took what it sent. Where the link
--- failed it isn't over, and the link took a front of that. There may be no memory only while the devices are found.
+-- failed it isn't over, and the link took a front of that. There may be no memory only while the devices are found, for one that has
+-- just answered.
 abbrev pub Ends : Result (List Seen) ToolRefusal → ℕ → Mac → ℕ → List Turn → List Visit → Option (List (List ℕ)) → Option (List (List ℕ)) → Type 0
 Ends (Err tool.LinkFault) first port limit finding visits before after =
     IsPart first port limit finding visits × TookFront (sends_next first port finding visits) (sent first port finding visits) before after
 Ends (Err tool.NoMemory) first port limit finding visits before after =
-    (visits ≡ []) × (length finding ≤ limit) × Added before after (sent first port finding visits)
+    (visits ≡ []) × (length finding ≤ limit) × IsAnswered (finding_question first port) finding × Added before after (sent first port finding visits)
 Ends result first port limit finding visits before after =
     IsWhole first port limit finding visits × (result ≡ says first port limit visits) × Added before after (sent first port finding visits)
 

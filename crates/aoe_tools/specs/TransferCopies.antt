@@ -78,9 +78,10 @@ abbrev pub MayRun : Result Course ToolRefusal → Ask → TargetId → Device �
 MayRun result ask id d start before after answers answers' =
     ((result ≡ Err tool.NoMemory) × IsIdle before after answers answers') ⊎ RunsAll result ask id d start before after answers answers'
 
--- why no transfer is begun: the device doesn't have all of the sectors, or there is no memory
+-- why no transfer is begun: the device doesn't have all of the sectors, or it has, and there is no memory
 abbrev pub NotBegun : ToolRefusal → Range → Device → Type 0
-NotBegun e range d = ((range.at + range.count ≤ d.total → ⊥) × (e ≡ tool.Refused refusal.Range)) ⊎ (e ≡ tool.NoMemory)
+NotBegun e range d =
+    ((range.at + range.count ≤ d.total → ⊥) × (e ≡ tool.Refused refusal.Range)) ⊎ ((range.at + range.count ≤ d.total) × (e ≡ tool.NoMemory))
 
 -- once a device is found, what is to be copied is, where it has all of the sectors
 abbrev pub CopiesAt : Result Device ToolRefusal → Result Course ToolRefusal → Ask → TargetId → Range → LinkState → LinkState → Option (List ℕ) → Option (List ℕ) → Type 0

@@ -181,6 +181,12 @@ pub record EndsBy (end : End) (base : Host) (turns : ℕ) (c : Course) (waiting 
   pub gives_up : GivesUp base log now gave_up
   pub by : end_by turns c (dones waiting gave_up) ≡ Some end
 
+-- the last turn, in which there was no memory for a command: no outcome had ended the transfer
+pub record IsCutShort (base : Host) (turns : ℕ) (c : Course) (waiting : List Done) (log : List Event) (now : ℕ) : Type 0 where
+  pub gave_up : List Done
+  pub gives_up : GivesUp base log now gave_up
+  pub goes_on : end_by turns c (dones waiting gave_up) ≡ None
+
 -- the last turn, in which the link failed: it took the frames, but perhaps the last
 pub record Breaks (base : Host) (turns : ℕ) (c : Course) (waiting : List Done) (log : List Event) (given now : ℕ) (before after : Option (List (List ℕ))) : Type 0 where
   pub gave_up : List Done
@@ -230,10 +236,15 @@ RunEnds (Err tool.LinkFault) base turns start c rounds nows mid after =
     (now : ℕ)
     × Breaks base turns (course_of turns start rounds) (told rounds) (log_of rounds) (length (submissions rounds)) now mid after
     × (nows ≡ now ∷ nows_of rounds)
-RunEnds (Err tool.NoMemory) base turns start c rounds nows mid after = (now : ℕ) × (nows ≡ now ∷ nows_of rounds) × (after ≡ mid)
+RunEnds (Err tool.NoMemory) base turns start c rounds nows mid after =
+    (now : ℕ) × IsCutShort base turns (course_of turns start rounds) (told rounds) (log_of rounds) now × (nows ≡ now ∷ nows_of rounds) × (after ≡ mid)
 RunEnds (Err refusal) base turns start c rounds nows mid after =
     ((refusal ≡ tool.Unanswered turns) × (quiet_turns rounds ≡ turns) × (nows ≡ nows_of rounds) × (after ≡ mid))
-    ⊎ ((now : ℕ) × EndsBy (Err refusal) base turns (course_of turns start rounds) (told rounds) (log_of rounds) now × (nows ≡ now ∷ nows_of rounds) × (after ≡ mid))
+    ⊎ ((now : ℕ)
+    × EndsBy (Err refusal) base turns (course_of turns start rounds) (told rounds) (log_of rounds) now
+    × (nows ≡ now ∷ nows_of rounds)
+    × (after ≡ mid)
+    × (quiet_turns rounds < turns))
 
 -- The turns of a transfer over a link and a clock, from a host that did nothing yet: before each the transfer hadn't ended, and after
 -- them it has. `mid` is what the link took in the whole turns.

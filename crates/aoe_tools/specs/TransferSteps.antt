@@ -11,7 +11,7 @@ use Rattle.aoe_tools.specs.declared.end.ToolRefusal.TheVariants as tool
 use Rattle.aoe_tools.specs.declared.transfer.Passed.{Passed}
 use Rattle.aoe_tools.specs.declared.transfer.Passed.TheVariants as passed
 use Rattle.aoe_tools.specs.TransferCourse.{after_dones, handed, next_op, submitted, AreNext, End, IsFilled, Submission}
-use Rattle.aoe_tools.specs.TransferRun.{after_frames, after_heard, after_submits, dones, log_of, submissions, told, told_by, AreSent, Breaks, EndsBy, Heard, Hears, IsFit, IsSilent, Outgoing, Round, Running}
+use Rattle.aoe_tools.specs.TransferRun.{after_frames, after_heard, after_submits, dones, log_of, submissions, told, told_by, AreSent, Breaks, EndsBy, Heard, Hears, IsCutShort, IsFit, IsSilent, Outgoing, Round, Running}
 
 -- unless an outcome was a failure
 abbrev pub UnlessFailed : Option End → Type 0 → Type 0
@@ -138,6 +138,7 @@ Turns (Ok passed.Over) base turns start rounds now host' c c' from turned' given
     (e : EndsBy (Ok record {}) base turns c (told rounds) (log_of rounds) now) × (c' ≡ after_dones turns c (dones (told rounds) e.gave_up)) × (taken' ≡ taken) × IsUnused from turned' given given'
 Turns (Err tool.LinkFault) base turns start rounds now host' c c' from turned' given given' taken taken' =
     Breaks base turns c (told rounds) (log_of rounds) (length (submissions rounds)) now taken taken' × IsUnused from turned' given given'
-Turns (Err tool.NoMemory) base turns start rounds now host' c c' from turned' given given' taken taken' = (taken' ≡ taken) × IsUnused from turned' given given'
+Turns (Err tool.NoMemory) base turns start rounds now host' c c' from turned' given given' taken taken' =
+    IsCutShort base turns c (told rounds) (log_of rounds) now × (taken' ≡ taken) × IsUnused from turned' given given'
 Turns (Err refusal) base turns start rounds now host' c c' from turned' given given' taken taken' =
     EndsBy (Err refusal) base turns c (told rounds) (log_of rounds) now × (taken' ≡ taken) × IsUnused from turned' given given'

@@ -22,6 +22,7 @@
 #![tactic(auto)]
 
 mod asking;
+mod cases;
 mod copy;
 mod course;
 mod end;
@@ -37,6 +38,7 @@ mod text;
 mod transfer;
 mod visiting;
 
+pub use cases::wrong_copies;
 pub use copy::{get, put};
 pub use end::{CopyRefusal, Refusal, ToolRefusal};
 pub use finding::discover;
