@@ -1,11 +1,16 @@
 -- Membership in lists that are mapped and filtered, and elements at a place.
-use Rattle.std.proofs.Common.{ℕ, zero, suc, ◌≡◌, ◌<◌, ◌≤◌, ◌⊎◌, cond, Bool, true, false, List, [], ◌∷◌, length, map, get_or, Some, None, inl, inr, refl, sym, ap, ◌∙◌, arith, nat_lt}
-use Rattle.std.specs.Prelude.{position, slice_get, All, Contains}
+use Rattle.std.proofs.Common.{ℕ, zero, suc, ◌≡◌, ◌<◌, ◌≤◌, ◌⊎◌, cond, Bool, true, false, List, [], ◌∷◌, length, map, get_or, Option, Some, None, inl, inr, refl, sym, ap, ◌∙◌, arith, nat_lt}
+use Rattle.std.specs.Prelude.{position, slice_get, All, Contains, IfNone}
 use Rattle.std.specs.List.{filter, position_or_len, remove}
 use Rattle.std.proofs.lemmas.Bool.{cases_Bool, cases_lt, lt-ltb, ltb-true}
 use Rattle.std.proofs.lemmas.List.Quantifiers.{position-Some}
 use Rattle.std.proofs.lemmas.List.Sums.{fails_before_first}
 use Rattle.std.proofs.lemmas.Option.{get_or_from_slice_get}
+
+-- what holds anyway holds where there is nothing
+pub holds-anyway : {X Q : Type 0} (o : Option X) → Q → IfNone o Q
+holds-anyway None q = q
+holds-anyway (Some x) q = tt
 
 pub Contains-cons : {X : Type 0} (head x : X) (rest : List X) → Contains rest x → Contains (head ∷ rest) x
 Contains-cons head x rest p = (suc p.0, omega (arith, p.1), p.2)

@@ -17,7 +17,7 @@ use Rattle.aoe_initiator.specs.Host.{HasPaths, Host, Matches}
 use Rattle.aoe_initiator.specs.HostLaw.{IsFrameOf, IsNext, IsOnNextPath, IsQuiet, IsRepeat}
 use Rattle.aoe_initiator.specs.HostLog.{commands, outstanding, path_log, sent_of, wait_of, Event, HostCommand, Sending}
 use Rattle.aoe_initiator.specs.HostLog.Event.{Sends}
-use Rattle.aoe_initiator.specs.Steps.{place, InTime, Repeats}
+use Rattle.aoe_initiator.specs.Steps.{place, GivesTag, InTime, Repeats}
 use Rattle.aoe_initiator.proofs.LogLemmas.{only, sent-repeated, wait-capped}
 use Rattle.aoe_initiator.proofs.MatchLemmas.{flying-command, matches-sent, one-command, sent-from, IsFlying, IsPending}
 use Rattle.aoe_initiator.proofs.PathLemmas.{has-paths, path_before, route-next, route-spelled, route-timeout, timeouts_on}
@@ -159,3 +159,11 @@ idle-quiet None host idle quiet = λ log m. quiet log m (idle (sent_of (commands
 pub stays-unchanged : {T : Type 0} (o : Option T) (old new : Host) → IfNone o (new ≡ old) → IfNone o ((log : List Event) → Matches log old → Matches log new)
 stays-unchanged (Some x) old new same = tt
 stays-unchanged None old new same = λ log m. rw same m
+
+-- a repeat gives no tag
+pub repeat-tag : {old new : Host} {t : Ticket} {sent : Sent} {frame : List ℕ} → Repeats old t sent frame new → GivesTag sent.again old.flight old.clock sent.tag new.flight
+repeat-tag repeats = rw repeats.is (ap (λ (h : Host). h.flight.last_tag) repeats.after)
+
+pub same-tag : (o : Option Sent) (old new : Host) → IfNone o (new ≡ old) → IfNone o (new.flight.last_tag ≡ old.flight.last_tag)
+same-tag None old new is = ap (λ (h : Host). h.flight.last_tag) is
+same-tag (Some sent) old new is = tt

@@ -3,8 +3,8 @@ use Rattle.std.specs.Prelude.{ℕ, ◌≡◌, ◌+◌, ◌≤◌, Bool, true, fa
 use Rattle.std.specs.List.{find}
 use Rattle.aoe_base.specs.declared.counted.Ticket.{Ticket}
 use Rattle.aoe_flight.specs.declared.outstanding.Flying.{Flying}
-use Rattle.aoe_flight.specs.FlightTable.{after_change, live_at, Recalls}
-use Rattle.aoe_flight.specs.Outstanding.{after_repeat, flies_as, launched}
+use Rattle.aoe_flight.specs.FlightTable.{after_change, live_at, FlightTable, Recalls}
+use Rattle.aoe_flight.specs.Outstanding.{after_repeat, flies_as, launched, IsNextTag}
 use Rattle.aoe_flight.specs.declared.outstanding.Outstanding.{Outstanding}
 use Rattle.aoe_initiator.specs.declared.device.Device.{Device}
 use Rattle.aoe_initiator.specs.declared.device.Route.{Route}
@@ -23,6 +23,11 @@ is_full host = nat_le host.flight.room (length (live_at host.flight host.clock))
 pub record InTime (host : Host) : Type 0 where
   pub flight : host.flight.latest ≤ host.clock
   pub devices : All (λ d. d.holds.latest ≤ host.clock) host.devices
+
+-- what a frame that was sent did to the tags: a repeat gave none, and a first send the next one that no flying or resting command has
+abbrev pub GivesTag : Bool → FlightTable → ℕ → ℕ → FlightTable → Type 0
+GivesTag true old now tag new = new.last_tag ≡ old.last_tag
+GivesTag false old now tag new = (new.last_tag ≡ tag) × IsNextTag (live_at old now) old.last_tag tag
 
 -- the place of the pending command with a ticket
 abbrev pub place : Ticket → List Pending → Option ℕ

@@ -21,7 +21,7 @@ ghost use Rattle.aoe_initiator.specs.HostLog.Event.{Advances, Ends, Sends, Submi
 ghost use Rattle.aoe_initiator.specs.Op.{data_len, CanSubmit};
 ghost use Rattle.aoe_initiator.specs.Request.{CanSpell};
 ghost use Rattle.aoe_initiator.specs.Response.{outcome_of, CanFill};
-ghost use Rattle.aoe_initiator.specs.Steps.{is_full, place, InTime, Launches, Repeats};
+ghost use Rattle.aoe_initiator.specs.Steps.{is_full, place, GivesTag, InTime, Launches, Repeats};
 
 use crate::counted::first_due;
 use crate::device::{Arrival, Attached, Device, next_clear, note_finished, note_sent};
@@ -274,6 +274,7 @@ impl Initiator {
         ensures ticket { IfOk result (λ ticket. ticket.0 ≡ self.old.last_ticket + 1) }
         ensures matches { IfOk result (λ ticket. (log : List Event) → Matches log self.old → Matches (Submits ticket device op ∷ log) self.new) }
         ensures same { IfOk result (λ ticket. IsSame self.old self.new × (self.new.clock ≡ self.old.clock) × (self.new.last_ticket ≡ ticket.0) × (self.new.waiting ≡ self.old.waiting)) }
+        ensures no_tag { OnOk result (self.new.flight.last_tag ≡ self.old.flight.last_tag) }
         ensures unchanged { OnErr result (self.new ≡ self.old) }
     {
         if let Some(refusal) = self.refusal(device, &op) {
@@ -310,6 +311,7 @@ impl Initiator {
             × Matches (ended dones (Advances now ∷ log)) self.new) }
         ensures same { IsSame self.old self.new }
         ensures last { self.new.last_ticket ≡ self.old.last_ticket }
+        ensures no_tag { self.new.flight.last_tag ≡ self.old.flight.last_tag }
     {
         self.clock = Millis(self.clock.0.max(now.0));
         'expired: while let Some(ticket) = self.flight.expired(self.clock) {
@@ -398,6 +400,8 @@ impl Initiator {
         ensures free { IfSome result (λ sent. (sent_before : List Outstanding) → Recalls self.old.flight sent_before
             → is_taken (live self.old.flight.rest self.old.clock sent_before) sent.tag ≡ false) }
         ensures none { IfNone result (is_full self.old ≡ true) }
+        ensures tag { IfSome result (λ sent. GivesTag sent.again self.old.flight self.old.clock sent.tag self.new.flight) }
+        ensures no_tag { IfNone result (self.new.flight.last_tag ≡ self.old.flight.last_tag) }
         ensures in_time { InTime self.old }
     {
         let now = self.clock;
@@ -426,6 +430,8 @@ impl Initiator {
             → All (λ o. is_due self.old.clock o ≡ false) (sent_of (commands log)) → IsQuiet self.old (commands log)) }
         ensures stays { IfNone result ((log : List Event) → Matches log self.old → Matches log self.new) }
         ensures same { IsSame self.old self.new × (self.new.clock ≡ self.old.clock) × (self.new.last_ticket ≡ self.old.last_ticket) × (self.new.waiting ≡ self.old.waiting) }
+        ensures tag { IfSome result (λ sent. GivesTag sent.again self.old.flight self.old.clock sent.tag self.new.flight) }
+        ensures no_tag { IfNone result (self.new.flight.last_tag ≡ self.old.flight.last_tag) }
     {
         let (ticket, at) = self.clear()?;
         self.launch(ticket, at, out)
@@ -441,6 +447,8 @@ impl Initiator {
         ensures quiet { IfNone result ((log : List Event) → Matches log self.old → IsQuiet self.old (commands log)) }
         ensures stays { IfNone result ((log : List Event) → Matches log self.old → Matches log self.new) }
         ensures same { IsSame self.old self.new × (self.new.clock ≡ self.old.clock) × (self.new.last_ticket ≡ self.old.last_ticket) × (self.new.waiting ≡ self.old.waiting) }
+        ensures tag { IfSome result (λ sent. GivesTag sent.again self.old.flight self.old.clock sent.tag self.new.flight) }
+        ensures no_tag { IfNone result (self.new.flight.last_tag ≡ self.old.flight.last_tag) }
     {
         match first_due(&self.flight, self.clock) {
             Some(ticket) => self.repeat(ticket, out),
@@ -546,6 +554,7 @@ impl Initiator {
     pub fn receive(&mut self, frame: &[u8]) -> Taken
         ensures taken { (log : List Event) → Matches log self.old → Takes self.old frame.now log result self.new }
         ensures same { IsSame self.old self.new × (self.new.clock ≡ self.old.clock) × (self.new.last_ticket ≡ self.old.last_ticket) }
+        ensures no_tag { self.new.flight.last_tag ≡ self.old.flight.last_tag }
     {
         match self.answered(frame) {
             Some(heard) => Taken::Finished(self.finish(heard, &frame[HEADER_LEN..])),

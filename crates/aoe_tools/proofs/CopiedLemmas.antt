@@ -7,7 +7,7 @@ use Rattle.std.proofs.lemmas.Bool.{and_parts, cases_Bool, eqb-true}
 use Rattle.std.proofs.lemmas.List.{append-nil, append_assoc, get_or-reverse, length-append, length-map, length-replicate, length-reverse, reverse-append}
 use Rattle.std.proofs.lemmas.List.Elements.{All-head, All-tail, Contains-append_left, Contains-append_right, Contains-append_cases}
 use Rattle.aoe_block.proofs.LawLemmas.{op-hand, op-settle}
-use Rattle.aoe_block.specs.Calls.{after_done as part_after, are_ended, is_success, next_part, op_of, part_of, settle, took, took_as as took_by}
+use Rattle.aoe_block.specs.Calls.{are_ended, is_success, next_part, op_of, part_of, settle, took, took_as as took_by}
 use Rattle.aoe_block.specs.Parts.{joined, AreAdjacent, AreFull, Part, Transfer}
 use Rattle.aoe_block.specs.Stages.{is_ended, is_pending}
 use Rattle.aoe_block.specs.declared.stage.Stage.{Stage}

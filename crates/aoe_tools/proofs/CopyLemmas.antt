@@ -48,7 +48,7 @@ fit-fresh {range} {c} {d} port id some short fresh tickets = record { attached =
     one : (b : Bool) → count_if b ≤ 1
     one b = grind arith
 
-    by : (q : Phase) → 0 + left_in q c ≤ 65536
+    by : (q : Phase) → 0 + left_in q c ≤ 32769
     by phase.Parts = omega (arith, most, one c.flushes)
     by _ = omega arith
 

@@ -13,7 +13,6 @@ use Rattle.aoe_initiator.specs.declared.outcome.Done.{Done}
 use Rattle.aoe_initiator.specs.declared.outcome.Outcome.{Outcome}
 use Rattle.aoe_initiator.specs.declared.outcome.Outcome.TheVariants as outcome
 use Rattle.aoe_tools.specs.TransferData.{success_of, HaveCome}
-use Rattle.aoe_initiator.proofs.ListLemmas.{Contains-cons}
 
 -- more outcomes came
 pub record Grown (D D' : List Done) : Type 0 where

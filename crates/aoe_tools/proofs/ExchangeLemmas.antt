@@ -5,13 +5,14 @@ use Rattle.std.specs.Prelude.{◌⊎◌, Result, Ok}
 use Rattle.aoe_base.specs.declared.failure.Failed.{Failed}
 use Rattle.aoe_initiator.specs.declared.outcome.Done.{Done}
 use Rattle.aoe_initiator.specs.Host.{Host, IsSame, Matches}
-use Rattle.aoe_initiator.specs.HostLog.{Event}
+use Rattle.aoe_initiator.specs.HostLog.{commands, Event}
 use Rattle.aoe_io.specs.Link.{Added, Turn}
 use Rattle.aoe_tools.proofs.ListenLemmas.{Frames}
 use Rattle.aoe_tools.proofs.SubmitLemmas.{as-many}
+use Rattle.aoe_tools.proofs.TagLemmas.{tags-heard, tags-submits}
 use Rattle.aoe_tools.specs.declared.course.Course.{Course}
 use Rattle.aoe_tools.specs.TransferCourse.{submitted, IsFilled}
-use Rattle.aoe_tools.specs.TransferRun.{after_frames, after_submits, told_by, Heard, IsFit}
+use Rattle.aoe_tools.specs.TransferRun.{after_frames, after_submits, told_by, HasTags, Heard, IsFit}
 use Rattle.aoe_tools.specs.TransferSteps.{is_heard, Broken, Exchanged, HearsOne, IsHeld, SendsSome, SubmitsSome}
 
 fit-held : {host host' : Host} {c : Course} → IsHeld host host' → IsFit host c → IsFit host' c
@@ -26,12 +27,15 @@ heard-none None e = refl
 heard-none (Some h) e = absurd cc
 
 module _ {host h1 : Host} {c c1 : Course} (s : SubmitsSome host h1 c c1) (filled : IsFilled c1) {base : Host} {log : List Event}
-    (same : IsSame base host) (m : Matches log host) where
+    (same : IsSame base host) (m : Matches log host) (tags : HasTags host.flight.last_tag (commands log)) where
   abbrev log1 : List Event
   log1 = after_submits s.submits log
 
   same1 : IsSame base h1
   same1 = same-then base host h1 same s.same
+
+  tags1 : HasTags h1.flight.last_tag (commands log1)
+  tags1 = rw s.tag (tags-submits s.submits log tags)
 
   filled1 : IsFilled (submitted c s.submits)
   filled1 = rw s.course at filled
@@ -40,7 +44,7 @@ module _ {host h1 : Host} {c c1 : Course} (s : SubmitsSome host h1 c c1) (filled
       (f : SendsSome (Ok record {}) h1 h2 taken taken1) (h : HearsOne finished h2 h3 start turned' given given') (course : c3 ≡ c1) (empty : host.waiting ≡ []) where
     exchanged : (heard : Option Heard) × (finished ≡ is_heard heard) × Exchanged base log host.last_ticket c c3 h3 heard start turned' given given' taken taken1
     exchanged =
-        let law = f.sends base log1 same1 (s.matches log m) in
+        let law = f.sends base log1 same1 (s.matches log m) tags1 in
         let same2 = same-then base h1 h2 same1 f.held.same in
         let brings = h.hears base (after_frames f.sent log1) same2 law.1 in
         let none : h2.waiting ≡ [] = f.waiting ∙ s.waiting ∙ empty in (
@@ -55,11 +59,12 @@ module _ {host h1 : Host} {c c1 : Course} (s : SubmitsSome host h1 c c1) (filled
             sent = f.sent;
             took = f.took;
             sends = law.0;
-            silent = law.2;
+            silent = law.3;
             brought = h.brought;
             turned = h.turned;
             hears = brings.1;
             matches = brings.2;
+            tags = rw h.tag (tags-heard brings.0 (after_frames f.sent log1) law.2);
             waiting = brings.3 ∙ ap (λ (l : List Done). l ++ told_by brings.0) none;
             same = same-then base h2 h3 same2 h.held.same;
             fit = rw course (fit-held h.held (fit-held f.held s.fit));
@@ -83,5 +88,5 @@ module _ {host h1 : Host} {c c1 : Course} (s : SubmitsSome host h1 c c1) (filled
     filled = filled1;
     sent = f.sent;
     took = took;
-    sends = (f.sends base log1 same1 (s.matches log m)).0;
+    sends = (f.sends base log1 same1 (s.matches log m) tags1).0;
   }

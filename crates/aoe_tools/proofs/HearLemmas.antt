@@ -11,7 +11,7 @@ use Rattle.aoe_io.specs.Link.{Turn, Turned, came}
 use Rattle.aoe_tools.specs.TransferSteps.{HearsOne}
 
 module _ {host host' : Host} {start turned' : ℕ} {given given' : Option (List Turn)} (frame : List ℕ) (turned : Turned start turned' given given' (came frame ∷ []))
-    (held : IsSame host host' × (host'.clock ≡ host.clock) × (host'.last_ticket ≡ host.last_ticket)) where
+    (held : IsSame host host' × (host'.clock ≡ host.clock) × (host'.last_ticket ≡ host.last_ticket)) (no_tag : host'.flight.last_tag ≡ host.flight.last_tag) where
   pub hears-answer : {ticket : Ticket} → ((log : List Event) → Matches log host → Takes host frame log (Finished ticket) host') → HearsOne true host host' start turned' given given'
   hears-answer {ticket} takes = record {
     brought = came frame;
@@ -35,6 +35,7 @@ module _ {host host' : Host} {start turned' : ℕ} {given given' : Option (List 
           refl,
         );
     held = record { same = held.0; last = held.2 };
+    tag = no_tag;
   }
 
   pub hears-stale : ((log : List Event) → Matches log host → Takes host frame log Stale host') → HearsOne false host host' start turned' given given'
@@ -50,4 +51,5 @@ module _ {host host' : Host} {start turned' : ℕ} {given given' : Option (List 
           refl,
         );
     held = record { same = held.0; last = held.2 };
+    tag = no_tag;
   }

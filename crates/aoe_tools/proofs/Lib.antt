@@ -15,6 +15,7 @@ mod RunLemmas
 mod SendingLemmas
 mod StatLemmas
 mod SubmitLemmas
+mod TagLemmas
 mod TransferHost
 mod TurnLemmas
 mod VisitLemmas

@@ -1,6 +1,6 @@
 -- The turns of a transfer, one after another, and how many there can be.
-use Rattle.std.proofs.Common.{ℕ, ◌≡◌, ◌+◌, ◌-◌, ◌*◌, ◌≤◌, ◌<◌, cond, drop, not, Bool, true, nat_eq, List, [], ◌∷◌, ◌++◌, length, map, Option, Some, None, refl, ap, ◌∙◌, arith, inl, inr}
-use Rattle.std.proofs.lemmas.List.Sums.{count_by-le-length, length-filter}
+use Rattle.std.proofs.Common.{ℕ, ◌≡◌, ◌+◌, ◌-◌, ◌*◌, ◌≤◌, ◌<◌, cond, drop, not, Bool, true, nat_eq, List, [], ◌∷◌, length, map, Option, Some, None, refl, ap, ◌∙◌, arith, inl, inr}
+use Rattle.std.proofs.lemmas.List.Sums.{length-filter}
 use Rattle.std.specs.Prelude.{Result, Ok, Err, IfSome}
 use Rattle.std.specs.List.{count_by}
 use Rattle.std.proofs.Math.Nat.{mul-le-mul_left}
@@ -8,7 +8,7 @@ use Rattle.std.proofs.lemmas.Bool.{and_parts, cases_Bool, eq-eqb}
 use Rattle.std.proofs.lemmas.Option.{option_and_then_some}
 use Rattle.std.proofs.lemmas.List.{length-map}
 use Rattle.aoe_base.specs.declared.counted.Ticket.{Ticket}
-use Rattle.aoe_base.proofs.CountLemmas.{count-alike, count-cons, count-map}
+use Rattle.aoe_base.proofs.CountLemmas.{count-alike, count-map}
 use Rattle.aoe_frame.specs.Header.{head}
 use Rattle.aoe_initiator.specs.declared.response.Answer.{Answer}
 use Rattle.aoe_initiator.specs.declared.outcome.Done.{Done}
@@ -22,7 +22,8 @@ use Rattle.aoe_io.specs.Link.{Added, Turn, Turned, came}
 use Rattle.aoe_paths.specs.PathLog.{timeout_on}
 use Rattle.aoe_tools.proofs.CourseLemmas.{left-dones, left-submitted}
 use Rattle.aoe_tools.proofs.ListenLemmas.{Frames, added-nothing}
-use Rattle.aoe_tools.proofs.TransferHost.{count-fewer, count-one-fewer, same-self}
+use Rattle.aoe_tools.proofs.TagLemmas.{tags-none}
+use Rattle.aoe_tools.proofs.TransferHost.{count-end, count-fewer, count-one-fewer, same-self}
 use Rattle.aoe_tools.specs.declared.course.Course.{Course}
 use Rattle.aoe_tools.specs.declared.end.ToolRefusal.{ToolRefusal}
 use Rattle.aoe_tools.specs.declared.end.ToolRefusal.TheVariants as tool
@@ -53,14 +54,10 @@ open-ended [] log = omega arith
 open-ended (d ∷ dones) log =
     omega (arith, open-ended dones log, count-fewer unended (at_ticket d.ticket after_end) (ended-fewer d.ticket) (commands (ended dones log)))
 
-count-end : (cs : List HostCommand) (c : HostCommand) → count_by unended (cs ++ c ∷ []) ≤ count_by unended cs + 1
-count-end [] c = omega (arith, count_by-le-length unended (c ∷ []))
-count-end (x ∷ cs) c = omega (arith, count-cons unended x (cs ++ c ∷ []), count-cons unended x cs, count-end cs c)
-
 open-submits : (submits : List Submission) (log : List Event) → open_in (after_submits submits log) ≤ open_in log + length submits
 open-submits [] log = omega arith
 open-submits (s ∷ earlier) log =
-    omega (arith, open-submits earlier log, count-end (commands (after_submits earlier log)) (submitted_as s.ticket (record { 0 = 0 }) s.op))
+    omega (arith, open-submits earlier log, count-end unended (commands (after_submits earlier log)) (submitted_as s.ticket (record { 0 = 0 }) s.op))
 
 open-frames : (sent : List Outgoing) (log : List Event) → open_in (after_frames sent log) ≡ open_in log
 open-frames [] log = refl
@@ -142,10 +139,10 @@ pub record So (turns quiet : ℕ) (base host : Host) (start c : Course) (from tu
   pub quiet_is : quiet ≡ quiet_turns rounds
 
 pub begun : {turns : ℕ} {host : Host} {c : Course} {from : ℕ} {given : Option (List Turn)} {taken : Option Frames} {answers : Option (List ℕ)} → IsFit host c → Matches [] host → host.waiting ≡ []
-    → host.last_ticket ≡ 0 → So turns 0 host host c c from from given given taken taken answers answers
-begun {host = host} {from = from} {given} {taken} {answers} fit m waiting none = record {
+    → host.last_ticket ≡ 0 → host.flight.last_tag ≡ 0 → So turns 0 host host c c from from given given taken taken answers answers
+begun {host = host} {from = from} {given} {taken} {answers} fit m waiting none untagged = record {
   rounds = [];
-  running = record { rounds_are = tt; same = same-self host; matches = m; waiting = waiting; course = refl; tickets = none };
+  running = record { rounds_are = tt; same = same-self host; matches = m; waiting = waiting; course = refl; tickets = none; tags = rw untagged tags-none };
   fit = fit;
   turned = turned-nothing from given;
   took = added-nothing taken;

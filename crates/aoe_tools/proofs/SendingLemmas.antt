@@ -12,14 +12,17 @@ use Rattle.aoe_io.proofs.LinkLemmas.{Added-then}
 use Rattle.aoe_io.specs.Link.{Added}
 use Rattle.aoe_tools.proofs.ListenLemmas.{Frames}
 use Rattle.aoe_tools.proofs.TransferHost.{active, few-active, next-active, none-active}
-use Rattle.aoe_tools.specs.TransferRun.{after_frames, AreSent, IsSilent, MaySend, Outgoing}
+use Rattle.aoe_initiator.specs.Steps.{GivesTag}
+use Rattle.aoe_tools.proofs.TagLemmas.{tags-sent}
+use Rattle.aoe_tools.specs.TransferRun.{after_frames, AreSent, HasTags, IsSilent, MaySend, Outgoing}
 use Rattle.aoe_tools.specs.TransferSteps.{IsHeld, SendsSome}
 
 -- so many frames were sent, and the link took them
 pub record Sending (n : ℕ) (host host' : Host) (before after : Option Frames) : Type 0 where
   pub sent : List Outgoing
   pub took : Added before after (map (λ o. o.frame) sent)
-  pub sends : (base : Host) (log : List Event) → IsSame base host → Matches log host → AreSent base log sent × Matches (after_frames sent log) host' × (active (after_frames sent log) + n ≤ active log)
+  pub sends : (base : Host) (log : List Event) → IsSame base host → Matches log host → HasTags host.flight.last_tag (commands log) → AreSent base log sent × Matches (after_frames sent log) host'
+      × HasTags host'.flight.last_tag (commands (after_frames sent log)) × (active (after_frames sent log) + n ≤ active log)
   pub held : IsHeld host host'
   pub waiting : host'.waiting ≡ host.waiting
 
@@ -29,6 +32,7 @@ pub record Pulls (host host' : Host) (sent : Sent) (frame : List ℕ) : Type 0 w
   pub frame_is : (log : List Event) → Matches log host → IsFrameOf host (commands log) sent frame
   pub path : (log : List Event) → Matches log host → IsOnNextPath host log sent
   pub sends : (log : List Event) → Matches log host → Matches (Sends sent.ticket sent.tag sent.path ∷ log) host'
+  pub tag : GivesTag sent.again host.flight host.clock sent.tag host'.flight
   pub held : IsHeld host host'
   pub waiting : host'.waiting ≡ host.waiting
 
@@ -42,16 +46,17 @@ module _ (host host' : Host) (frame : List ℕ) where
       → IfSome o (λ sent. (log : List Event) → Matches log host → IsFrameOf host (commands log) sent frame)
       → IfSome o (λ sent. (log : List Event) → Matches log host → IsOnNextPath host log sent)
       → IfSome o (λ sent. (log : List Event) → Matches log host → Matches (Sends sent.ticket sent.tag sent.path ∷ log) host')
+      → IfSome o (λ sent. GivesTag sent.again host.flight host.clock sent.tag host'.flight)
       → IsHeld host host' → host'.waiting ≡ host.waiting → (sent : Sent) × Pulls host host' sent frame
-  pulls None e next frame_is path sends held waiting = absurd cc
-  pulls (Some sent) e next frame_is path sends held waiting =
-      (sent, record { next = next; frame_is = frame_is; path = path; sends = sends; held = held; waiting = waiting })
+  pulls None e next frame_is path sends tag held waiting = absurd cc
+  pulls (Some sent) e next frame_is path sends tag held waiting =
+      (sent, record { next = next; frame_is = frame_is; path = path; sends = sends; tag = tag; held = held; waiting = waiting })
 
 -- nothing more may be sent by a host that is quiet
 silent : {base start host : Host} {log : List Event} → IsSame base start → IsHeld start host → Matches log host → IsQuiet host (commands log) → IsSilent base log
 silent {base} {start} {host} same held m quiet = record { host = host; at = record { same = same-then base start host same held.same; time = m.time }; quiet = quiet }
 
-module _ {n : ℕ} {start host : Host} {before mid : Option Frames} (s : Sending n start host before mid) where
+module _ {n : ℕ} {start host : Host} {before mid : Option Frames} (few : start.last_ticket ≤ 32769) (s : Sending n start host before mid) where
   next-held : {host' : Host} → IsHeld host host' → IsHeld start host'
   next-held {host'} held = record { same = same-then start host host' s.held.same held.same; last = held.last ∙ s.held.last }
 
@@ -59,19 +64,22 @@ module _ {n : ℕ} {start host : Host} {before mid : Option Frames} (s : Sending
     abbrev out : Outgoing
     out = record { sent = sent; frame = frame }
 
-    next-law : (base : Host) (log : List Event) → IsSame base start → Matches log start
-        → AreSent base log (out ∷ s.sent) × Matches (after_frames (out ∷ s.sent) log) host' × (active (after_frames (out ∷ s.sent) log) + (n + 1) ≤ active log)
-    next-law base log same m =
-        let so_far = s.sends base log same m in
+    next-law : (base : Host) (log : List Event) → IsSame base start → Matches log start → HasTags start.flight.last_tag (commands log)
+        → AreSent base log (out ∷ s.sent) × Matches (after_frames (out ∷ s.sent) log) host' × HasTags host'.flight.last_tag (commands (after_frames (out ∷ s.sent) log)) × (active (after_frames (out ∷ s.sent) log) + (n + 1) ≤ active log)
+    next-law base log same m tags =
+        let so_far = s.sends base log same m tags in
         let log' = after_frames s.sent log in
+        let tag = tags-sent host log' so_far.1 so_far.2 host' sent (rw s.held.last few) (p.next log' so_far.1) p.tag in
         let may : MaySend base log' out = record {
           host = host;
           at = record { same = same-then base start host same s.held.same; time = so_far.1.time };
           next = p.next log' so_far.1;
           frame = p.frame_is log' so_far.1;
           path = p.path log' so_far.1;
+          some = tag.0;
+          few = tag.1;
         } in
-        ((so_far.0, may), p.sends log' so_far.1, omega (arith, so_far.2, next-active host log' sent so_far.1 (p.next log' so_far.1)))
+        ((so_far.0, may), p.sends log' so_far.1, tag.2, omega (arith, so_far.3, next-active host log' sent so_far.1 (p.next log' so_far.1)))
 
     -- the link takes it
     pub sends-more : (after : Option Frames) → Added mid after (frame ∷ []) → Sending (n + 1) start host' before after
@@ -88,35 +96,35 @@ module _ {n : ℕ} {start host : Host} {before mid : Option Frames} (s : Sending
     sends-last is = record {
       sent = out ∷ s.sent;
       took = is ∙ s.took;
-      sends = λ base log same m. let law = next-law base log same m in (law.0, law.1, tt);
+      sends = λ base log same m tags. let law = next-law base log same m tags in (law.0, law.1, law.2, tt);
       held = next-held p.held;
       waiting = p.waiting ∙ s.waiting;
     }
 
   -- no frame is left
   pub sends-all : {host' : Host} → ((log : List Event) → Matches log host → IsQuiet host (commands log)) → ((log : List Event) → Matches log host → Matches log host') → IsHeld host host'
-      → host'.waiting ≡ host.waiting → SendsSome (Ok record {}) start host' before mid
-  sends-all quiet stays held waiting = record {
+      → host'.waiting ≡ host.waiting → host'.flight.last_tag ≡ host.flight.last_tag → SendsSome (Ok record {}) start host' before mid
+  sends-all quiet stays held waiting no_tag = record {
     sent = s.sent;
     took = s.took;
-    sends = λ base log same m.
-        let so_far = s.sends base log same m in
+    sends = λ base log same m tags.
+        let so_far = s.sends base log same m tags in
         let log' = after_frames s.sent log in
-        (so_far.0, stays log' so_far.1, silent same s.held so_far.1 (quiet log' so_far.1));
+        (so_far.0, stays log' so_far.1, rw no_tag so_far.2, silent same s.held so_far.1 (quiet log' so_far.1));
     held = next-held held;
     waiting = waiting ∙ s.waiting;
   }
 
 -- so many frames were sent that no command is left to be sent
-pub sends-full : {start host : Host} {before after : Option Frames} → start.last_ticket ≤ 65536 → Sending 65536 start host before after → SendsSome (Ok record {}) start host before after
+pub sends-full : {start host : Host} {before after : Option Frames} → start.last_ticket ≤ 32769 → Sending 65536 start host before after → SendsSome (Ok record {}) start host before after
 sends-full {start} {host} few s = record {
   sent = s.sent;
   took = s.took;
-  sends = λ base log same m.
-      let so_far = s.sends base log same m in
+  sends = λ base log same m tags.
+      let so_far = s.sends base log same m tags in
       let log' = after_frames s.sent log in
-      let none : active log' ≡ 0 = omega (arith, so_far.2, few-active start log m, few) in
-      (so_far.0, so_far.1, silent same s.held so_far.1 (none-active host log' so_far.1 none));
+      let none : active log' ≡ 0 = omega (arith, so_far.3, few-active start log m, few) in
+      (so_far.0, so_far.1, so_far.2, silent same s.held so_far.1 (none-active host log' so_far.1 none));
   held = s.held;
   waiting = s.waiting;
 }

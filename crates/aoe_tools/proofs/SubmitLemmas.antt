@@ -25,15 +25,17 @@ as-many host host' same =
 pub submits-one : {host host' : Host} {c c' : Course} {op : Op} {ticket : Ticket} → IsFit host c → next_op c ≡ Some op → ticket.0 ≡ host.last_ticket + 1 → c' ≡ handed ticket c
     → ((log : List Event) → Matches log host → Matches (Submits ticket (record { 0 = 0 }) op ∷ log) host')
     → IsSame host host' × (host'.clock ≡ host.clock) × (host'.last_ticket ≡ ticket.0) × (host'.waiting ≡ host.waiting)
+    → host'.flight.last_tag ≡ host.flight.last_tag
     → ((last : ℕ) (ticket : Ticket) (parts : List Part) → AreUpTo last parts → last < ticket.0 → AreUpTo ticket.0 (hand ticket parts))
     → SubmitsOne host host' c c'
-submits-one {host} {host'} {c} {op = op} {ticket} fit next is after matches same law =
+submits-one {host} {host'} {c} {op = op} {ticket} fit next is after matches same tag law =
     let later : host.last_ticket < ticket.0 = omega (arith, is) in
     record {
       is = record { ticket = ticket; op = op };
       next = next;
       ticket = omega (arith, is);
       last = same.2;
+      tag = tag;
       course = after;
       matches = matches;
       same = same.0;
@@ -52,6 +54,7 @@ submits-more {start} {host} {host'} s few one =
       submits = one.is ∷ s.submits;
       are = (s.are, rw is at one.next, rw is at few, omega (arith, one.ticket, s.last));
       last = omega (arith, one.last, one.ticket, s.last);
+      tag = one.tag ∙ s.tag;
       course = rw is at one.course;
       matches = λ log m. one.matches (after_submits s.submits log) (s.matches log m);
       same = same-then start host host' s.same one.same;

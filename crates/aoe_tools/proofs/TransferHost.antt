@@ -1,5 +1,5 @@
 -- The host of a transfer: what never changes of it, and how many of its commands can still be sent or answered.
-use Rattle.std.proofs.Common.{ℕ, ◌≡◌, ◌≤◌, ◌<◌, ◌+◌, ◌*◌, ◌-◌, ◌^◌, ◌&&◌, cond, not, Bool, true, false, nat_eq, nat_le, List, [], ◌∷◌, length, map, Option, Some, None, refl, sym, ap, ◌∙◌, arith, inl, inr}
+use Rattle.std.proofs.Common.{ℕ, ◌≡◌, ◌≤◌, ◌<◌, ◌+◌, ◌*◌, ◌-◌, ◌^◌, ◌&&◌, cond, not, Bool, true, false, nat_eq, nat_le, List, [], ◌∷◌, ◌++◌, length, map, Option, Some, None, refl, sym, ap, ◌∙◌, arith, inl, inr}
 use Rattle.aoe_initiator.proofs.MatchLemmas.{stage-unsent, sent-from}
 use Rattle.std.specs.Prelude.{option_map, All, Contains}
 use Rattle.std.specs.List.{cons_option, count_by, list_any}
@@ -44,6 +44,11 @@ count-one-fewer p f fewer (x ∷ xs) c there passes fails = elim (Contains-cons_
   | inr behind ↦
       omega (arith, count-cons p (f x) (map f xs), count-cons p x xs, fewer-one (p (f x)) (p x) (fewer x), count-one-fewer p f fewer xs c behind passes fails)
 ]
+
+-- one more at the end
+pub count-end : {A : Type 0} (p : A → Bool) (xs : List A) (x : A) → count_by p (xs ++ x ∷ []) ≤ count_by p xs + 1
+count-end p [] x = omega (arith, count_by-le-length p (x ∷ []))
+count-end p (y ∷ xs) x = omega (arith, count-cons p y (xs ++ x ∷ []), count-cons p y xs, count-end p xs x)
 
 -- a command that wasn't sent, or that is due
 abbrev pub active_by : ℕ → Bool → Option Sending → Bool

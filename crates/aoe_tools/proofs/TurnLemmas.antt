@@ -15,6 +15,7 @@ use Rattle.aoe_io.specs.Link.{Turn}
 use Rattle.aoe_tools.proofs.CourseLemmas.{left-dones, up-to-dones}
 use Rattle.aoe_tools.proofs.ListenLemmas.{Frames}
 use Rattle.aoe_tools.proofs.SubmitLemmas.{as-many}
+use Rattle.aoe_tools.proofs.TagLemmas.{tags-gave-up}
 use Rattle.aoe_tools.specs.declared.course.Course.{Course}
 use Rattle.aoe_initiator.specs.declared.outcome.Outcome.{Outcome}
 use Rattle.aoe_initiator.specs.declared.outcome.Outcome.TheVariants as outcome
@@ -23,7 +24,7 @@ use Rattle.aoe_tools.specs.declared.end.ToolRefusal.TheVariants as tool
 use Rattle.aoe_tools.specs.declared.transfer.Passed.{Passed}
 use Rattle.aoe_tools.specs.declared.transfer.Passed.TheVariants as passed
 use Rattle.aoe_tools.specs.TransferCourse.{after_done, after_dones, end_by, ending, ending_by, failure, is_over_in, or_later, End}
-use Rattle.aoe_tools.specs.TransferRun.{after_tick, dones, log_of, quiet_turns, submissions, told, Breaks, EndsBy, GivesUp, Heard, IsFit, IsRound, Round, Running}
+use Rattle.aoe_tools.specs.TransferRun.{after_tick, dones, log_of, quiet_turns, submissions, told, Breaks, EndsBy, GivesUp, HasTags, Heard, IsFit, IsRound, Round, Running}
 use Rattle.aoe_tools.specs.TransferSteps.{Broken, Exchanged, Exchanges, TakesRound, Turns}
 
 -- only the waiting outcomes of a host changed
@@ -38,6 +39,7 @@ pub record Advanced (host advanced : Host) (now : ℕ) : Type 0 where
   pub clock_is : advanced.clock ≡ max host.clock now
   pub same : IsSame host advanced
   pub last : advanced.last_ticket ≡ host.last_ticket
+  pub tag : advanced.flight.last_tag ≡ host.flight.last_tag
 
 module _ {host advanced h1 : Host} {now : ℕ} (a : Advanced host advanced now) (is : h1 ≡ record advanced { waiting = h1.waiting }) where
   -- the host and the course still fit
@@ -72,6 +74,11 @@ module _ {host advanced h1 : Host} {now : ℕ} (a : Advanced host advanced now) 
 
     matches-tick : Matches (after_tick now gave_up log) h1
     matches-tick = matches1 (after_tick now gave_up log) (a.gives_up.2 log run.matches).2
+
+    tags-tick : HasTags h1.flight.last_tag (commands (after_tick now gave_up log))
+    tags-tick =
+        let same : h1.flight.last_tag ≡ host.flight.last_tag = rw is a.tag in
+        rw same (tags-gave-up gave_up (Advances (record { 0 = now }) ∷ log) run.tags)
 
     -- as many tickets were given as commands were submitted
     given : h1.last_ticket ≡ length (submissions rounds)
@@ -137,6 +144,7 @@ module _ {host advanced h1 : Host} {now : ℕ} (a : Advanced host advanced now) 
               matches = x.matches;
               waiting = x.waiting;
               course = rw (← run.course) x.course;
+              tags = x.tags;
               tickets = omega (arith, x.last, given, length-append x.submits (submissions rounds));
             };
             fit = x.fit;
@@ -146,9 +154,9 @@ module _ {host advanced h1 : Host} {now : ℕ} (a : Advanced host advanced now) 
 
       -- what the second part of the turn came to, the turn came to
       pub by-exchange : (result : Result Passed ToolRefusal) (c' : Course) (h' : Host) (from turned' : ℕ) (given given' : Option (List Turn)) (taken taken' : Option Frames) → quiet_turns rounds < turns
-          → ((base : Host) (log : List Event) → IsSame base h1 → Matches log h1 → Exchanges result base log h1.last_ticket c1 c' h' from turned' given given' taken taken')
+          → ((base : Host) (log : List Event) → IsSame base h1 → Matches log h1 → HasTags h1.flight.last_tag (commands log) → Exchanges result base log h1.last_ticket c1 c' h' from turned' given given' taken taken')
           → Turns result base turns start rounds now h' c c' from turned' given given' taken taken'
-      by-exchange result c' h' from turned' given given' taken taken' below ex = by result (ex base (after_tick now gave_up log) same1 matches-tick)
+      by-exchange result c' h' from turned' given given' taken taken' below ex = by result (ex base (after_tick now gave_up log) same1 matches-tick tags-tick)
         where
           by : (result : Result Passed ToolRefusal) → Exchanges result base (after_tick now gave_up log) h1.last_ticket c1 c' h' from turned' given given' taken taken'
               → Turns result base turns start rounds now h' c c' from turned' given given' taken taken'

@@ -1,5 +1,5 @@
 -- Worked turns of a transfer, which aren't what they pretend to be.
-use Rattle.std.specs.Prelude.{ℕ, List, [], ◌∷◌, None}
+use Rattle.std.specs.Prelude.{ℕ, [], ◌∷◌, None}
 use Rattle.aoe_initiator.specs.declared.op.Op.{Op}
 use Rattle.aoe_initiator.specs.declared.op.Op.TheVariants as op
 use Rattle.aoe_io.specs.Link.{quiet}

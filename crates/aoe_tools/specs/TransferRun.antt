@@ -1,5 +1,6 @@
 -- The turns of a transfer. What its host does in them keeps the host law.
-use Rattle.std.specs.Prelude.{ℕ, ◌≡◌, ◌+◌, ◌<◌, ◌≤◌, ◌⊎◌, false, List, [], ◌∷◌, ◌++◌, length, map, reverse, drop, Option, Some, None, Ok, Err, All, Contains, IfSome}
+use Rattle.std.specs.Prelude.{ℕ, ◌≡◌, ◌+◌, ◌<◌, ◌≤◌, ◌⊎◌, Bool, false, List, [], ◌∷◌, ◌++◌, length, map, reverse, drop, Option, Some, None, Ok, Err, All, Contains, IfSome, is_none}
+use Rattle.std.specs.List.{count_by}
 use Rattle.aoe_base.specs.declared.counted.PathNo.{PathNo}
 use Rattle.aoe_base.specs.declared.counted.Ticket.{Ticket}
 use Rattle.aoe_block.specs.Calls.{AreUpTo}
@@ -113,13 +114,15 @@ pub record GivesUp (base : Host) (log : List Event) (now : ℕ) (gave_up : List 
   pub in_turn : GaveUpInTurn base.dead (clock (Advances (record { 0 = now }) ∷ log)) (Advances (record { 0 = now }) ∷ log) gave_up
   pub all : All (λ o. is_expired base.dead (clock (Advances (record { 0 = now }) ∷ log)) o ≡ false) (sent_of (commands (after_tick now gave_up log)))
 
--- a frame is what may be sent next
+-- a frame is what may be sent next, with a tag from 1 to 32,769: a transfer has no more commands
 pub record MaySend (base : Host) (log : List Event) (o : Outgoing) : Type 0 where
   pub host : Host
   pub at : IsAt base log host
   pub next : IsNext host (commands log) o.sent
   pub frame : IsFrameOf host (commands log) o.sent o.frame
   pub path : IsOnNextPath host log o.sent
+  pub some : 0 < o.sent.tag
+  pub few : o.sent.tag ≤ 32769
 
 abbrev pub AreSent : Host → List Event → List Outgoing → Type 0
 AreSent base log [] = Unit {0}
@@ -203,6 +206,18 @@ pub record Breaks (base : Host) (turns : ℕ) (c : Course) (waiting : List Done)
 abbrev pub Told : Option (List ℕ) → Option (List ℕ) → List ℕ → Type 0
 Told before after answers = IfSome after (λ all. Added before after answers)
 
+abbrev pub is_unsent : HostCommand → Bool
+is_unsent c = is_none c.sends
+
+-- where a command was sent, its tag is from 1 to the last one
+abbrev pub HasTag : ℕ → HostCommand → Type 0
+HasTag last c = IfSome c.sends (λ s. (0 < s.tag) × (s.tag ≤ last))
+
+-- the tags that were given, of which this is the last: there are no more of them than of commands that were sent
+pub record HasTags (last : ℕ) (cs : List HostCommand) : Type 0 where
+  pub few : last + count_by is_unsent cs ≤ length cs
+  pub within : All (HasTag last) cs
+
 -- a host that has taken these turns, and a course that goes on
 pub record Running (base : Host) (turns : ℕ) (start : Course) (rounds : List Round) (host : Host) (c : Course) : Type 0 where
   pub rounds_are : AreRounds base turns start rounds
@@ -211,11 +226,12 @@ pub record Running (base : Host) (turns : ℕ) (start : Course) (rounds : List R
   pub waiting : host.waiting ≡ told rounds
   pub course : c ≡ course_of turns start rounds
   pub tickets : host.last_ticket ≡ length (submissions rounds)
+  pub tags : HasTags host.flight.last_tag (commands (log_of rounds))
 
 -- the host and the course fit one another: there is a device, all tickets are given in order, and few
 pub record IsFit (host : Host) (c : Course) : Type 0 where
   pub attached : length host.devices ≡ 1
-  pub few : host.last_ticket + left c ≤ 65536
+  pub few : host.last_ticket + left c ≤ 32769
   pub tickets : AreUpTo host.last_ticket c.block.parts
 
 -- a host with this one port that is attached to a device at one port, and did nothing yet: a frame can arrive for two seconds, and a

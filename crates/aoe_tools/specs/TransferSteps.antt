@@ -2,7 +2,7 @@
 use Rattle.std.specs.Prelude.{ℕ, suc, ◌≡◌, ◌+◌, ◌⊎◌, Bool, true, false, List, [], ◌∷◌, ◌++◌, length, map, drop, Option, Some, None, Result, Ok, Err}
 use Rattle.aoe_base.specs.declared.failure.Failed.{Failed}
 use Rattle.aoe_initiator.specs.Host.{Host, IsSame, Matches}
-use Rattle.aoe_initiator.specs.HostLog.{Event}
+use Rattle.aoe_initiator.specs.HostLog.{commands, Event}
 use Rattle.aoe_initiator.specs.HostLog.Event.{Submits}
 use Rattle.aoe_io.specs.Link.{Added, Turn, Turned}
 use Rattle.aoe_tools.specs.declared.course.Course.{Course}
@@ -11,7 +11,7 @@ use Rattle.aoe_tools.specs.declared.end.ToolRefusal.TheVariants as tool
 use Rattle.aoe_tools.specs.declared.transfer.Passed.{Passed}
 use Rattle.aoe_tools.specs.declared.transfer.Passed.TheVariants as passed
 use Rattle.aoe_tools.specs.TransferCourse.{after_dones, handed, next_op, submitted, AreNext, End, IsFilled, Submission}
-use Rattle.aoe_tools.specs.TransferRun.{after_frames, after_heard, after_submits, dones, log_of, submissions, told, told_by, AreSent, Breaks, EndsBy, Heard, Hears, IsCutShort, IsFit, IsSilent, Outgoing, Round, Running}
+use Rattle.aoe_tools.specs.TransferRun.{after_frames, after_heard, after_submits, dones, log_of, submissions, told, told_by, AreSent, Breaks, EndsBy, HasTags, Heard, Hears, IsCutShort, IsFit, IsSilent, Outgoing, Round, Running}
 
 -- unless an outcome was a failure
 abbrev pub UnlessFailed : Option End → Type 0 → Type 0
@@ -25,6 +25,7 @@ pub record SubmitsOne (host host' : Host) (c c' : Course) : Type 0 where
   pub next : next_op c ≡ Some is.op
   pub ticket : is.ticket.0 ≡ suc host.last_ticket
   pub last : host'.last_ticket ≡ is.ticket.0
+  pub tag : host'.flight.last_tag ≡ host.flight.last_tag
   pub course : c' ≡ handed is.ticket c
   pub matches : (log : List Event) → Matches log host → Matches (Submits is.ticket (record { 0 = 0 }) is.op ∷ log) host'
   pub same : IsSame host host'
@@ -36,6 +37,7 @@ pub record SubmitsSome (host host' : Host) (c c' : Course) : Type 0 where
   pub submits : List Submission
   pub are : AreNext host.last_ticket c submits
   pub last : host'.last_ticket ≡ host.last_ticket + length submits
+  pub tag : host'.flight.last_tag ≡ host.flight.last_tag
   pub course : c' ≡ submitted c submits
   pub matches : (log : List Event) → Matches log host → Matches (after_submits submits log) host'
   pub same : IsSame host host'
@@ -59,7 +61,8 @@ pub record IsHeld (host host' : Host) : Type 0 where
 pub record SendsSome (result : Result Unit Failed) (host host' : Host) (before after : Option (List (List ℕ))) : Type 0 where
   pub sent : List Outgoing
   pub took : TookBut result before after sent
-  pub sends : (base : Host) (log : List Event) → IsSame base host → Matches log host → AreSent base log sent × Matches (after_frames sent log) host' × SilentIf result base (after_frames sent log)
+  pub sends : (base : Host) (log : List Event) → IsSame base host → Matches log host → HasTags host.flight.last_tag (commands log) → AreSent base log sent × Matches (after_frames sent log) host'
+      × HasTags host'.flight.last_tag (commands (after_frames sent log)) × SilentIf result base (after_frames sent log)
   pub held : IsHeld host host'
   pub waiting : host'.waiting ≡ host.waiting
 
@@ -74,6 +77,7 @@ pub record HearsOne (finished : Bool) (host host' : Host) (start turned' : ℕ) 
   pub hears : (base : Host) (log : List Event) → IsSame base host → Matches log host → (heard : Option Heard) × Hears base log brought heard × Matches (after_heard heard log) host'
       × (host'.waiting ≡ host.waiting ++ told_by heard) × (finished ≡ is_heard heard)
   pub held : IsHeld host host'
+  pub tag : host'.flight.last_tag ≡ host.flight.last_tag
 
 -- the second part of a turn, by the course, the log and the number of tickets given before it
 pub record Exchanged (base : Host) (log : List Event) (tickets : ℕ) (c c' : Course) (host' : Host) (heard : Option Heard) (start turned' : ℕ) (given given' : Option (List Turn)) (taken taken' : Option (List (List ℕ))) : Type 0 where
@@ -90,6 +94,7 @@ pub record Exchanged (base : Host) (log : List Event) (tickets : ℕ) (c c' : Co
   pub turned : Turned start turned' given given' (brought ∷ [])
   pub hears : Hears base (after_frames sent (after_submits submits log)) brought heard
   pub matches : Matches (after_heard heard (after_frames sent (after_submits submits log))) host'
+  pub tags : HasTags host'.flight.last_tag (commands (after_heard heard (after_frames sent (after_submits submits log))))
   pub waiting : host'.waiting ≡ told_by heard
   pub same : IsSame base host'
   pub fit : IsFit host' c'

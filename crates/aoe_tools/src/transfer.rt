@@ -2,10 +2,10 @@
 ghost use Rattle.std.specs.Prelude.{◌≡◌, ◌≢◌, ◌<◌, ◌≤◌, ◌^◌, ◌∷◌, List, [], Ok, Err, IfOk, IfNone, OnErr, OnOk, false, true, is_err};
 ghost use Rattle.aoe_base.specs.Faults.{Blamed};
 ghost use Rattle.aoe_initiator.specs.Host.{new_device, new_host, with_device, Host, IsSame, Matches};
-ghost use Rattle.aoe_initiator.specs.HostLog.{Event};
+ghost use Rattle.aoe_initiator.specs.HostLog.{commands, Event};
 ghost use Rattle.aoe_tools.specs.declared.course.Course.{Course};
 ghost use Rattle.aoe_tools.specs.TransferCourse.{after_dones, end_by, next_op, IsFilled};
-ghost use Rattle.aoe_tools.specs.TransferRun.{host_of, quiet_turns, IsFit, Round, Running, Runs};
+ghost use Rattle.aoe_tools.specs.TransferRun.{host_of, quiet_turns, HasTags, IsFit, Round, Running, Runs};
 ghost use Rattle.aoe_tools.specs.TransferSteps.{Exchanges, HearsOne, IsUnused, SendsSome, SubmitsOne, SubmitsSome, Turns, UnlessFailed};
 
 use crate::course::{Course, MAX_OPEN};
@@ -142,7 +142,7 @@ impl Transfer {
 
     /// Sends frames as long as one may be sent.
     fn send_all<L: Link>(&mut self, link: &mut L, frame: &mut Frame) -> Result<(), Failed>
-        requires { self.old.host.last_ticket ≤ 65536 }
+        requires { self.old.host.last_ticket ≤ 32769 }
         ensures some { SendsSome result self.old.host self.new.host (L.taken link.old) (L.taken link.new) }
         ensures course { self.new.course ≡ self.old.course }
         ensures given { L.given link.new ≡ L.given link.old }
@@ -186,7 +186,7 @@ impl Transfer {
     fn exchange<L: Link>(&mut self, link: &mut L, frame: &mut Frame) -> Result<Passed, ToolRefusal>
         requires fit { IsFit self.old.host self.old.course }
         requires waiting { self.old.host.waiting ≡ [] }
-        ensures exchanges { (base : Host) (log : List Event) → IsSame base self.old.host → Matches log self.old.host
+        ensures exchanges { (base : Host) (log : List Event) → IsSame base self.old.host → Matches log self.old.host → HasTags self.old.host.flight.last_tag (commands log)
             → Exchanges result base log self.old.host.last_ticket self.old.course self.new.course self.new.host (L.turns link.old) (L.turns link.new) (L.given link.old) (L.given link.new) (L.taken link.old) (L.taken link.new) }
         ensures count { L.faults link.old ≤ L.faults link.new }
         ensures link { Blamed (result ≡ Err ToolRefusal.LinkFault) (L.faults link.old) (L.faults link.new) }
@@ -240,6 +240,7 @@ impl Transfer {
         requires fresh { Matches [] self.old.host }
         requires waiting { self.old.host.waiting ≡ [] }
         requires new { self.old.host.last_ticket ≡ 0 }
+        requires untagged { self.old.host.flight.last_tag ≡ 0 }
         ensures run { Runs result self.old.host turns self.old.course self.new.course (L.turns link.old) (L.turns link.new) (L.given link.old) (L.given link.new) (L.taken link.old) (L.taken link.new) (C.answers clock.old) (C.answers clock.new) }
         ensures count { L.faults link.old ≤ L.faults link.new }
         ensures link { Blamed (result ≡ Err ToolRefusal.LinkFault) (L.faults link.old) (L.faults link.new) }

@@ -1,4 +1,4 @@
-use Rattle.std.proofs.Common.{ℕ, ◌≡◌, ◌*◌, false, List, [], ◌∷◌, length, arith}
+use Rattle.std.proofs.Common.{◌≡◌, ◌*◌, false, List, [], ◌∷◌, length, arith}
 use Rattle.aoe_block.specs.Parts.{joined, Part}
 use Rattle.aoe_tools.specs.TransferData.{successes, HaveCome}
 use Rattle.aoe_tools.proofs.cases.wrong_copies.Goals as goal

@@ -39,6 +39,7 @@ expired-preserved c =
       clock = step.clock ∙ c.expired.invariant.clock;
       same = same-then c.args.self.now c.expired.self c.give_up.new.self c.expired.invariant.same step.same;
       last = step.last ∙ c.expired.invariant.last;
+      tag = ap (λ (h : Host). h.flight.last_tag) closes.after ∙ c.expired.invariant.tag;
       gives_up = gave-up-more c.args.self.now c.expired.self c.give_up.new.self c.args.now c.in-Some.ticket c.in-Some-place_of.at c.expired.invariant.same.dead c.expired.invariant.gives_up (rw (← c.self-in-expired.view_is) found) c.give_up.ensures
           (rw (← c.self-in-expired.view_is) c.in-Some.ensures.first_sent);
     }
@@ -66,6 +67,7 @@ expired-init c =
       clock = now_is;
       same = rw (← c.self.view_is) (record { ports = refl; life = refl; room = refl; dead = refl; devices = refl });
       last = rw (← c.self.view_is) refl;
+      tag = rw (← c.self.view_is) refl;
       gives_up = (
         [],
         rw (← c.self.view_is) (sym (append-nil c.self.inside.done.items)),

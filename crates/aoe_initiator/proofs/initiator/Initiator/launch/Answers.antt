@@ -5,7 +5,7 @@ use Rattle.aoe_initiator.specs.declared.device.Device.{Device}
 use Rattle.aoe_initiator.specs.declared.pending.Pending.{Pending}
 use Rattle.aoe_initiator.specs.Devices.{IsRoute}
 use Rattle.aoe_initiator.specs.Host.{Host}
-use Rattle.aoe_initiator.proofs.ListLemmas.{get-there}
+use Rattle.aoe_initiator.proofs.ListLemmas.{get-there, holds-anyway}
 use Rattle.aoe_initiator.proofs.SoundLemmas.{sound-sent}
 use Rattle.aoe_initiator.proofs.StepLemmas.{launches-from}
 use Rattle.aoe_initiator.proofs.initiator.Initiator.launch.Goals as goal
@@ -34,3 +34,9 @@ returns-clause-sent c =
     rw (← c.self.view_is)
     (launches-from _ c.args.ticket c.args.at c.in_ok-tag.tag p d.0 c.note_sent-route.result c.write_request.new.out.items c.wait_after-wait.result c.launch.new.self c.note_sent-route.new.devices.items inside c.index-command.ensures
     d.1 routed c.write_request.ensures.bytes c.note_sent-route.ensures.value c.in_ok-tag.ensures.same c.in_ok-tag.ensures.room c.wait_after-wait.ensures c.in_ok-tag.ensures.recalls)
+
+pub returns-clause-tag : goal.returns-clause-tag
+returns-clause-tag c = rw (← c.self.view_is) (ap (λ (t : FlightTable). t.last_tag) c.in_ok-tag.ensures.same, c.in_ok-tag.ensures.tag)
+
+pub returns-in_err-tag-clause-no_tag : goal.returns-in_err-tag-clause-no_tag
+returns-in_err-tag-clause-no_tag c = holds-anyway c.from_residual.result (rw (← c.self.view_is) (ap (λ (t : FlightTable). t.last_tag) c.in_err-tag.ensures.unchanged))

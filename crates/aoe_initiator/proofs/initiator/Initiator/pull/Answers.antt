@@ -1,3 +1,4 @@
+use Rattle.aoe_initiator.proofs.RepeatLemmas.{repeat-tag, same-tag}
 use Rattle.std.proofs.lemmas.Option.{IfSome_then}
 use Rattle.aoe_initiator.specs.HostLog.{commands}
 use Rattle.aoe_initiator.proofs.ClearLemmas.{due-flies}
@@ -43,3 +44,9 @@ returns-in-None-clause-next c =
 pub returns-in-None-clause-quiet : goal.returns-in-None-clause-quiet
 returns-in-None-clause-quiet c =
     idle-quiet c.start.result c.args.self.now (rw (← c.self.view_is) c.in-None.ensures.none_sent) c.start.ensures.quiet
+
+pub returns-in-Some-clause-tag : goal.returns-in-Some-clause-tag
+returns-in-Some-clause-tag c = IfSome_then c.repeat.result c.repeat.ensures.sent (λ sent repeats. repeat-tag repeats)
+
+pub returns-in-Some-clause-no_tag : goal.returns-in-Some-clause-no_tag
+returns-in-Some-clause-no_tag c = same-tag c.repeat.result c.args.self.now _ c.repeat.ensures.unchanged

@@ -1,4 +1,5 @@
-use Rattle.std.proofs.Common.{refl}
+use Rattle.aoe_initiator.specs.Host.{Host}
+use Rattle.std.proofs.Common.{ap, refl}
 use Rattle.std.proofs.lemmas.List.{take_rest}
 use Rattle.aoe_initiator.proofs.TakeLemmas.{left-closed, takes-finished}
 use Rattle.aoe_initiator.proofs.initiator.Initiator.receive.Goals as goal
@@ -21,3 +22,6 @@ returns-in-Some-clause-same c =
 
 pub returns-in-None-clause-taken : goal.returns-in-None-clause-taken
 returns-in-None-clause-taken c = λ log m. (c.in-None.ensures.none log m, refl)
+
+pub returns-in-Some-clause-no_tag : goal.returns-in-Some-clause-no_tag
+returns-in-Some-clause-no_tag c = ap (λ (h : Host). h.flight.last_tag) c.finish.ensures.closes.2.after

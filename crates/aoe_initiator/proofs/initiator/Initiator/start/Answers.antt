@@ -1,5 +1,10 @@
+use Rattle.aoe_initiator.specs.Steps.{GivesTag}
+use Rattle.aoe_initiator.specs.Host.{Host}
+use Rattle.std.specs.Prelude.{IfNone, IfSome}
+use Rattle.std.proofs.Common.{◌≡◌, ap, subst}
 use Rattle.std.proofs.lemmas.Option.{IfSome_then}
 use Rattle.aoe_initiator.proofs.ClearLemmas.{quiet-exit}
+use Rattle.aoe_initiator.proofs.ListLemmas.{holds-anyway}
 use Rattle.aoe_initiator.proofs.StartLemmas.{left-cleared, left-launched, left-then, start-frame, start-next-all, start-path, start-quiet, start-sends, IsCleared}
 use Rattle.aoe_initiator.proofs.initiator.Initiator.start.Goals as goal
 
@@ -41,3 +46,16 @@ returns-clause-same c =
     let second = left-launched c.args.self.now c.clear.new.self _ c.in_ok-ticket.ticket c.in_ok-ticket.at _ c.launch.result (cleared c) c.launch.ensures.sent c.launch.ensures.none in
     let left = left-then first second in
     (left.same, left.clock, left.last, left.waiting)
+
+pub returns-in_err-ticket-clause-no_tag : goal.returns-in_err-ticket-clause-no_tag
+returns-in_err-ticket-clause-no_tag c = holds-anyway c.from_residual.result (ap (λ (h : Host). h.flight.last_tag) c.clear.ensures.same)
+
+pub returns-clause-tag : goal.returns-clause-tag
+returns-clause-tag c =
+    let P : Host → Type 0 = λ h. IfSome c.launch.result (λ sent. GivesTag sent.again h.flight h.clock sent.tag c.launch.new.self.flight) in
+    subst P c.clear.ensures.same c.launch.ensures.tag
+
+pub returns-clause-no_tag : goal.returns-clause-no_tag
+returns-clause-no_tag c =
+    let P : Host → Type 0 = λ h. IfNone c.launch.result (c.launch.new.self.flight.last_tag ≡ h.flight.last_tag) in
+    subst P c.clear.ensures.same c.launch.ensures.no_tag

@@ -64,3 +64,6 @@ returns-clause-same c =
       refl,
       c.make_room.ensures.done,
     )
+
+pub returns-clause-no_tag : goal.returns-clause-no_tag
+returns-clause-no_tag c = rw (← c.self.view_is) refl

@@ -4,7 +4,7 @@ use Rattle.aoe_tools.proofs.transfer.Transfer.run.Goals as goal
 
 pub turns-init : goal.turns-init
 turns-init g c = record {
-  so = begun c.requires.fit c.requires.fresh c.requires.waiting c.requires.new;
+  so = begun c.requires.fit c.requires.fresh c.requires.waiting c.requires.new c.requires.untagged;
   within = omega arith;
   faults = refl;
 }
