@@ -113,3 +113,10 @@ module _ (test : Outstanding → Bool) (before : Outstanding → Outstanding →
 
 pub expired-flies : (dead now : ℕ) (c : Outstanding) → is_expired dead now c ≡ true → c.finished ≡ false
 expired-flies dead now c expired = grind arith
+
+-- where one passes, there is a best
+pub best-some : (P : Type 0) (test : Outstanding → Bool) (before : Outstanding → Outstanding → Bool) (commands : List Outstanding) (c : Outstanding)
+    (result : Option Outstanding) → Contains commands c → test c ≡ true → result ≡ best test before None commands → IfNone result P
+best-some P test before commands c (Some found) there passes is = tt
+best-some P test before commands c None there passes is =
+    let none : test c ≡ false = rw there.2 at ((best-none test before commands None (sym is)).1 there.0 c there.1) in absurd cc

@@ -1,6 +1,6 @@
 -- What the orders of the commands say of them.
 use Rattle.std.proofs.Common.{ℕ, ◌≡◌, ◌≢◌, ◌<◌, ◌≤◌, not, Bool, true, false, List, [], ◌∷◌, Option, Some, None, inl, inr, refl, sym, ap, ◌∙◌, arith, nat_eq, if◌then◌else◌}
-use Rattle.std.specs.Prelude.{slice_get, All, Contains, IfNone}
+use Rattle.std.specs.Prelude.{slice_get, slice_index_or, All, Contains, IfNone}
 use Rattle.std.specs.List.{find}
 use Rattle.std.proofs.lemmas.Bool.{eq-eqb, false_from_ne_true, ne_eqb, true≢false}
 use Rattle.std.proofs.lemmas.Bool.Decides.{nat_tests}
@@ -9,8 +9,8 @@ use Rattle.slab.specs.Slab.{get, values, Slab}
 use Rattle.aoe_flight.specs.declared.order.Entry.{Entry}
 use Rattle.aoe_flight.specs.declared.outstanding.Outstanding.{Outstanding}
 use Rattle.aoe_flight.specs.Order.{before, entry_at, IsInOrder}
-use Rattle.aoe_flight.specs.Outstanding.{deadline, flies_as, flies_with, is_due, is_expired, is_over, is_taken, precedes, IsFirst}
-use Rattle.aoe_flight.specs.Table.{by_due, by_tag, by_ticket, each, flies, rests, IsFirstSlot, IsOrderOf}
+use Rattle.aoe_flight.specs.Outstanding.{flies_as, flies_with, is_due, is_expired, is_older, is_over, is_taken, precedes, IsFirst}
+use Rattle.aoe_flight.specs.Table.{by_due, by_first, by_tag, by_ticket, each, flies, rests, IsFirstSlot, IsOrderOf}
 use Rattle.aoe_flight.proofs.IndexLemmas.{same-command}
 use Rattle.aoe_flight.proofs.EntryLemmas.{at-least, before-back, before-self}
 use Rattle.aoe_flight.proofs.ValueLemmas.{all-held, any-held, find-at, find-none, held-at, none-held}
@@ -156,7 +156,7 @@ pub over-past : (rest now : ℕ) (c d : Outstanding) → c.finished ≡ true →
     → is_over rest now d ≡ false
 over-past rest now c d finished out later = grind (arith, nat_tests)
 
-pub expired-past : (dead now : ℕ) (c d : Outstanding) → flies c ≡ true → is_expired dead now c ≡ false → c.flying.first.0 ≤ d.flying.first.0
+expired-past : (dead now : ℕ) (c d : Outstanding) → flies c ≡ true → is_expired dead now c ≡ false → is_older d c ≡ false
     → is_expired dead now d ≡ false
 expired-past dead now c d flying out later = grind (arith, nat_tests)
 
@@ -166,30 +166,53 @@ expired-flying dead now c is = grind arith
 pub due-flying : (now : ℕ) (c : Outstanding) → is_due now c ≡ true → flies c ≡ true
 due-flying now c is = grind arith
 
-pub due-past : (now : ℕ) (c d : Outstanding) → flies c ≡ true → d.flying.last.0 ≤ now → is_due now c ≡ false → deadline c ≤ deadline d → is_due now d ≡ false
+due-past : (now : ℕ) (c d : Outstanding) → flies c ≡ true → d.flying.last.0 ≤ now → is_due now c ≡ false → precedes d c ≡ false → is_due now d ≡ false
 due-past now c d flying past out later = grind (arith, nat_tests)
 
-before-precedes : (k j : ℕ) (o c : Outstanding) → before (by_due k o) (by_due j c) ≡ false → precedes o c ≡ false
+pub before-precedes : (k j : ℕ) (o c : Outstanding) → before (by_due k o) (by_due j c) ≡ false → precedes o c ≡ false
 before-precedes k j o c out = grind arith
 
--- the first that is due, by the order of the times at which they are
-pub first-due : {slab : Slab Outstanding} {entries : List Entry} (now : ℕ) (e : Entry) (c : Outstanding) → IsOrderOf slab flies by_due entries
-    → IsInOrder entries → slice_get entries 0 ≡ Some e → get slab e.slot ≡ Some c
-    → is_due now c ≡ true → (d : Outstanding) × (d.ticket ≡ c.ticket) × IsFirst (is_due now) precedes (values slab) d
-first-due {slab} {entries} now e c o order head at due =
-    let is = (head-of slab flies by_due entries e c o head at).0 in (
-      c,
-      refl,
-      record {
-        there = held-at slab.slots e.slot c at;
-        passes = due;
-        least = all-held (λ other. is_due now other ≡ true → precedes other c ≡ false) slab.slots (λ k d at_k d_due.
-            before-precedes k e.slot d c (rw is at (head-least entries e (by_due k d) order head (o.all k d at_k (due-flying now d d_due)))));
-      },
-    )
+pub before-older : (k j : ℕ) (o c : Outstanding) → before (by_first k o) (by_first j c) ≡ false → is_older o c ≡ false
+before-older k j o c out = grind arith
 
-pub all-at : (P : Outstanding → Type 0) (slab : Slab Outstanding) (k : ℕ) (d : Outstanding) → All P (values slab) → get slab k ≡ Some d → P d
-all-at P slab k d all at = let there = held-at slab.slots k d at in rw (← there.2) (all there.0 d there.1)
+-- the command of the first entry is the first of those that pass
+pub first-held : {slab : Slab Outstanding} {test : Outstanding → Bool} {entry : ℕ → Outstanding → Entry} {entries : List Entry}
+    (ahead : Outstanding → Outstanding → Bool) (e : Entry) (c : Outstanding)
+    → ((k j : ℕ) (o d : Outstanding) → before (entry k o) (entry j d) ≡ false → ahead o d ≡ false) → IsOrderOf slab test entry entries
+    → IsInOrder entries → slice_get entries 0 ≡ Some e → get slab e.slot ≡ Some c → IsFirst test ahead (values slab) c
+first-held {slab} {test} {entry} {entries} ahead e c goes_on o order head at =
+    let is = head-of slab test entry entries e c o head at in
+    record {
+      there = held-at slab.slots e.slot c at;
+      passes = is.1;
+      least = all-held (λ other. test other ≡ true → ahead other c ≡ false) slab.slots (λ k d at_k passes.
+          goes_on k e.slot d c (rw (is.0) at (head-least entries e (entry k d) order head (o.all k d at_k passes))));
+    }
+
+-- where a narrower test goes on
+pub all-passing : {test : Outstanding → Bool} (commands : List Outstanding) (narrow : Outstanding → Bool)
+    → ((c : Outstanding) → narrow c ≡ true → test c ≡ true) → All (λ c. test c ≡ false) commands → All (λ c. narrow c ≡ false) commands
+all-passing commands narrow wider none = λ k d below. false_from_ne_true _ (λ is. true≢false (sym (wider (slice_index_or commands k d) is) ∙ none k d below))
+
+pub first-passing : {test : Outstanding → Bool} {ahead : Outstanding → Outstanding → Bool} {commands : List Outstanding} {c : Outstanding}
+    (narrow : Outstanding → Bool) → ((d : Outstanding) → narrow d ≡ true → test d ≡ true) → narrow c ≡ true → IsFirst test ahead commands c
+    → IsFirst narrow ahead commands c
+first-passing {commands = commands} narrow wider passes first = record {
+  there = first.there;
+  passes = passes;
+  least = λ k d below is. first.least k d below (wider (slice_index_or commands k d) is);
+}
+
+-- where the one that is due first isn't due, none is
+pub due-all : {commands : List Outstanding} (now : ℕ) (c : Outstanding) → is_due now c ≡ false → All (λ d. d.flying.last.0 ≤ now) commands
+    → IsFirst flies precedes commands c → All (λ d. is_due now d ≡ false) commands
+due-all {commands} now c out past first = λ k d below. let e = slice_index_or commands k d in false_from_ne_true _ (λ is.
+    true≢false (sym is ∙ due-past now c e first.passes (past k d below) out (first.least k d below (due-flying now e is))))
+
+pub expired-all : {commands : List Outstanding} (dead now : ℕ) (c : Outstanding) → is_expired dead now c ≡ false
+    → IsFirst flies is_older commands c → All (λ d. is_expired dead now d ≡ false) commands
+expired-all {commands} dead now c out first = λ k d below. let e = slice_index_or commands k d in false_from_ne_true _ (λ is.
+    true≢false (sym is ∙ expired-past dead now c e first.passes out (first.least k d below (expired-flying dead now e is))))
 
 pub if-none : {T : Type 0} (result : Option T) (P : Type 0) → P → IfNone result P
 if-none None P holds = holds

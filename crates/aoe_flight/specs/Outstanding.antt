@@ -39,6 +39,10 @@ deadline c = c.flying.last.0 + c.wait.0
 abbrev pub precedes : Outstanding → Outstanding → Bool
 precedes a b = nat_lt (deadline a) (deadline b) || (nat_eq (deadline a) (deadline b) && nat_lt a.ticket.0 b.ticket.0)
 
+-- a command was sent for the first time before another
+abbrev pub is_older : Outstanding → Outstanding → Bool
+is_older a b = nat_lt a.flying.first.0 b.flying.first.0
+
 -- a command that was sent for the first time
 abbrev pub launched : Ticket → ℕ → Millis → PathNo → Millis → Outstanding
 launched ticket tag now path wait = record {

@@ -6,16 +6,14 @@ ghost use Rattle.aoe_flight.specs.declared.outstanding.Outstanding.{Outstanding}
 ghost use Rattle.aoe_flight.specs.FlightTable.{after_change, at_time, live_at, no_commands, Recalls};
 ghost use Rattle.aoe_flight.specs.Outstanding.{after_finish, after_repeat, change_of, flies_as, flies_with, is_due, is_expired, is_taken, launched, live, lower, precedes, tag_count, IsFirst, IsNextTag};
 
-use crate::outstanding::{Flying, Outstanding};
+use crate::counted::{find_tag, find_ticket, is_any_over};
+use crate::outstanding::Flying;
+use crate::search::{first_due, first_expired};
 use crate::table::Table;
 use aoe_base::{Millis, NoMemory, PathNo, Steps, Ticket};
 use std::alloc::Global;
 use std::marker::Model;
 use std::sync::ledger::Ledger;
-
-/// The most commands that a host can have room for: a limit of this program, since `Flight::new`
-/// makes all the room.
-pub const MAX_ROOM: u32 = 16_384;
 
 /// The commands of a host that fly or rest.
 ///
@@ -66,7 +64,8 @@ impl Model for Flight {
 
 impl Flight {
     /// No command was sent. A frame can arrive as long as `life` after it was sent, so a finished
-    /// command rests for twice as long. A command is given up after `dead`.
+    /// command rests for twice as long. A command is given up after `dead`. The limit of the room is
+    /// this program's own, since all of it is made here.
     pub fn new(alloc: Global, room: u32, life: Millis, dead: Millis) -> Result<Flight, NoMemory>
         requires some_room { 0 < room }
         requires room { room ≤ 16384 }
@@ -112,10 +111,8 @@ impl Flight {
         if self.commands.len() >= self.room as usize {
             return None;
         }
-        let tag = self.commands.next_tag(self.last_tag);
+        let tag = self.commands.launch(ticket, self.last_tag, now, path, wait);
         self.last_tag = tag;
-        let command = Outstanding::launched(ticket, tag, now, path, wait);
-        self.commands.insert(command);
         Some(tag)
     }
 
@@ -127,7 +124,7 @@ impl Flight {
             → IsTrue result ↔ (self.now.room ≤ length (live self.now.rest now.0 sent)) }
     {
         let room = self.room as usize;
-        self.commands.len() >= room && !self.commands.is_any_over(self.rest, now)
+        self.commands.len() >= room && !is_any_over(&self.commands, self.rest, now)
     }
 
     /// What is known of a flying command.
@@ -137,7 +134,7 @@ impl Flight {
         ensures sent { (sent : List Outstanding) → Recalls self.now sent
             → (c : Outstanding) × Contains sent c × (flies_as ticket.0 c ≡ true) × (c.flying ≡ result) }
     {
-        self.commands.find_ticket(ticket).unwrap().flying
+        find_ticket(&self.commands, ticket).unwrap().flying
     }
 
     /// The command to be sent again: of the flying ones that waited for their response long
@@ -155,7 +152,7 @@ impl Flight {
             → All (λ c. is_due now.0 c ≡ false) sent) }
         ensures bound { steps.new ≤ steps.old + 1 }
     {
-        self.commands.first_due(now, steps)
+        first_due(&self.commands, now, steps)
     }
 
     /// Takes note that a flying command was sent again.
@@ -179,7 +176,7 @@ impl Flight {
         ensures none_sent { IfNone result ((sent : List Outstanding) → Recalls self.now sent
             → All (λ c. flies_with tag c ≡ false) sent) }
     {
-        self.commands.find_tag(tag).map(|command| command.ticket)
+        find_tag(&self.commands, tag).map(|command| command.ticket)
     }
 
     /// Takes note that a flying command has its outcome: it rests from now on.
@@ -192,7 +189,7 @@ impl Flight {
     }
 
     /// The flying command with the lowest ticket that has to be given up.
-    pub fn expired(&self, now: Millis) -> Option<Ticket>
+    pub fn expired<L: Ledger>(&self, now: Millis, steps: &mut Steps<L>) -> Option<Ticket>
         ensures first { IfSome result (λ ticket.
             (c : Outstanding) × (c.ticket ≡ ticket)
             × IsFirst (is_expired self.now.dead now.0) lower self.now.commands c) }
@@ -203,10 +200,10 @@ impl Flight {
             × IsFirst (is_expired self.now.dead now.0) lower sent c) }
         ensures none_sent { IfNone result ((sent : List Outstanding) → Recalls self.now sent
             → All (λ c. is_expired self.now.dead now.0 c ≡ false) sent) }
+        ensures one { IfNone result (steps.new ≤ steps.old + 1) }
+        ensures bound { steps.new ≤ steps.old + 1 + self.now.room }
     {
-        self.commands
-            .first_expired(self.dead, now)
-            .map(|command| command.ticket)
+        first_expired(&self.commands, self.dead, now, steps).map(|command| command.ticket)
     }
 
     /// Drops the commands that rested out.

@@ -9,10 +9,12 @@
 //! It doesn't know what the commands ask, nor to which device they go: a command is its ticket.
 #![tactic(auto)]
 
+mod counted;
 mod flight;
 mod order;
 mod outstanding;
+mod search;
 mod table;
 
-pub use flight::{Flight, MAX_ROOM};
+pub use flight::Flight;
 pub use outstanding::{Flying, Outstanding};

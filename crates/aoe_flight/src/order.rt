@@ -4,11 +4,10 @@ ghost use Rattle.std.specs.List.{AllWithin};
 ghost use Rattle.aoe_flight.specs.declared.order.Entry.{Entry};
 ghost use Rattle.aoe_flight.specs.Order.{before, entry_at, no_entries, IsInOrder};
 
-use aoe_base::{NoMemory, Steps};
+use aoe_base::NoMemory;
 use std::alloc::Global;
 use std::collections::VecDeque;
 use std::marker::Model;
-use std::sync::ledger::Ledger;
 
 /// A command in an order, which stands in a slot.
 #[derive(Clone, Copy)]
@@ -68,16 +67,6 @@ impl Order {
         ensures order { IsInOrder self.now.entries }
     {
         self.entries.front().copied()
-    }
-
-    /// Looks at the first entry: one step.
-    pub fn look<L: Ledger>(&self, steps: &mut Steps<L>) -> Option<Entry>
-        ensures value { result ≡ slice_get self.now.entries 0 }
-        ensures order { IsInOrder self.now.entries }
-        ensures step { steps.new ≡ steps.old + 1 }
-    {
-        steps.tick();
-        self.first()
     }
 
     /// How many entries stand before another.

@@ -1,12 +1,15 @@
 //! The commands that were sent, each in a slot, and the orders by which they are found.
+//!
+//! Each call that lets a command be seen takes a counter of steps, and counts one for each that it
+//! gives. The others change the table.
 ghost use Rattle.std.specs.Prelude.{◌≡◌, ◌+◌, ◌-◌, ◌^◌, ◌<◌, ◌≤◌, ◌∷◌, ℕ, [], false, true, length, map, None, Some, All, IfNone, IfOk, IfSome, slice_set};
 ghost use Rattle.std.specs.List.{find};
 ghost use Rattle.std.specs.List.Sorted.{IsPermutation};
 ghost use Rattle.slab.specs.Slab.{get, slab_len, values, with_value};
 ghost use Rattle.aoe_flight.specs.declared.outstanding.Outstanding.{Outstanding};
 ghost use Rattle.aoe_flight.specs.Order.{no_entries};
-ghost use Rattle.aoe_flight.specs.Outstanding.{after_finish, after_repeat, best, change_of, flies_as, flies_with, is_better, is_due, is_expired, is_over, is_taken, live, lower, precedes, tag_after, IsFirst, IsNextTag};
-ghost use Rattle.aoe_flight.specs.Table.{IsFirstSlot};
+ghost use Rattle.aoe_flight.specs.Outstanding.{after_finish, after_repeat, change_of, flies_as, flies_with, is_older, is_over, is_taken, launched, live, precedes, tag_after, IsFirst, IsNextTag};
+ghost use Rattle.aoe_flight.specs.Table.{flies, IsFirstSlot};
 
 use crate::order::Order;
 use crate::outstanding::Outstanding;
@@ -91,22 +94,63 @@ impl Table {
         Some((slot, *command))
     }
 
-    /// The flying command with a ticket.
-    pub fn find_ticket(&self, ticket: Ticket) -> Option<Outstanding>
-        ensures { result ≡ find (flies_as ticket.0) (values self.now) }
+    /// Looks at the flying command with a ticket: one step.
+    pub fn look_ticket<L: Ledger>(
+        &self,
+        ticket: Ticket,
+        steps: &mut Steps<L>,
+    ) -> Option<Outstanding>
+        ensures value { result ≡ find (flies_as ticket.0) (values self.now) }
+        ensures step { steps.new ≡ steps.old + 1 }
     {
+        steps.tick();
         match self.flying_slot(ticket, 0) {
             Some((_, command)) => Some(command),
             None => None,
         }
     }
 
-    /// The flying command with a tag.
-    pub fn find_tag(&self, tag: u32) -> Option<Outstanding>
-        ensures { result ≡ find (flies_with tag) (values self.now) }
+    /// Looks at the flying command with a tag: one step.
+    pub fn look_tag<L: Ledger>(&self, tag: u32, steps: &mut Steps<L>) -> Option<Outstanding>
+        ensures value { result ≡ find (flies_with tag) (values self.now) }
+        ensures step { steps.new ≡ steps.old + 1 }
     {
+        steps.tick();
         let slot = self.tags.find(u128::from(tag), 0)?;
         self.slots.get(slot).copied()
+    }
+
+    /// Looks at the flying command that is due first: one step.
+    pub fn look_due<L: Ledger>(&self, steps: &mut Steps<L>) -> Option<&Outstanding>
+        ensures first { IfSome result (λ c. IsFirst flies precedes (values self.now) c.now) }
+        ensures none { IfNone result (All (λ c. flies c ≡ false) (values self.now)) }
+        ensures step { steps.new ≡ steps.old + 1 }
+    {
+        steps.tick();
+        let first = self.dues.first()?;
+        let command = self.slots.get(first.slot)?;
+        Some(command)
+    }
+
+    /// Looks at the command that flies for longest: one step.
+    pub fn look_oldest<L: Ledger>(&self, steps: &mut Steps<L>) -> Option<&Outstanding>
+        ensures first { IfSome result (λ c. IsFirst flies is_older (values self.now) c.now) }
+        ensures none { IfNone result (All (λ c. flies c ≡ false) (values self.now)) }
+        ensures step { steps.new ≡ steps.old + 1 }
+    {
+        steps.tick();
+        let first = self.firsts.first()?;
+        let command = self.slots.get(first.slot)?;
+        Some(command)
+    }
+
+    /// Gives all commands to look at: a step for each.
+    pub fn look_all<L: Ledger>(&self, steps: &mut Steps<L>) -> &Slab<Outstanding>
+        ensures value { result.now ≡ self.now }
+        ensures steps { steps.new ≡ steps.old + length (values self.now) }
+    {
+        count(self.len(), steps);
+        &self.slots
     }
 
     /// Whether a flying or resting command has the tag.
@@ -130,41 +174,14 @@ impl Table {
         }
     }
 
-    /// Whether a command rested out.
-    pub fn is_any_over(&self, rest: Millis, now: Millis) -> bool
+    /// Looks whether a command rested out: one step.
+    pub fn is_any_over<L: Ledger>(&self, rest: Millis, now: Millis, steps: &mut Steps<L>) -> bool
         ensures some { result ≡ true → length (live rest.0 now.0 (values self.now)) < length (values self.now) }
         ensures none { result ≡ false → live rest.0 now.0 (values self.now) ≡ values self.now }
-    {
-        self.over_slot(rest, now).is_some()
-    }
-
-    /// The expired command with the lowest ticket. Where the command that flies for longest isn't
-    /// expired, none is.
-    pub fn first_expired(&self, dead: Millis, now: Millis) -> Option<Outstanding>
-        ensures { result ≡ best (is_expired dead.0 now.0) lower None (values self.now) }
-    {
-        let first = self.firsts.first()?;
-        let command = self.slots.get(first.slot)?;
-        if !command.is_expired(dead, now) {
-            return None;
-        }
-        lowest_expired(&self.slots, dead, now)
-    }
-
-    /// The command that is due first, where it is due: one step.
-    pub fn first_due<L: Ledger>(&self, now: Millis, steps: &mut Steps<L>) -> Option<Ticket>
-        requires { All (λ c. c.flying.last.0 ≤ now.0) (values self.now) }
-        ensures first { IfSome result (λ ticket. (c : Outstanding) × (c.ticket ≡ ticket) × IsFirst (is_due now.0) precedes (values self.now) c) }
-        ensures none { IfNone result (All (λ c. is_due now.0 c ≡ false) (values self.now)) }
         ensures step { steps.new ≡ steps.old + 1 }
     {
-        let first = self.dues.look(steps)?;
-        let command = self.slots.get(first.slot)?;
-        if command.is_due(now) {
-            Some(command.ticket)
-        } else {
-            None
-        }
+        steps.tick();
+        self.over_slot(rest, now).is_some()
     }
 
     /// Takes the command out of a slot in which it rested out.
@@ -264,7 +281,7 @@ impl Table {
     }
 
     /// The first tag after `last` that no flying or resting command has.
-    pub fn next_tag(&self, last: u32) -> u32
+    fn next_tag(&self, last: u32) -> u32
         requires { length (values self.now) < 2 ^ 32 - 1 }
         ensures { IsNextTag (values self.now) last result }
     {
@@ -278,7 +295,7 @@ impl Table {
     }
 
     /// Adds a flying command, for which there is room.
-    pub fn insert(&mut self, command: Outstanding)
+    fn insert(&mut self, command: Outstanding)
         requires flies { command.finished ≡ false }
         requires room { length (values self.old) < self.old.capacity }
         ensures values { IsPermutation (command ∷ values self.old) (values self.new) }
@@ -289,6 +306,28 @@ impl Table {
         self.tickets.insert(command.by_ticket(slot));
         self.dues.insert(command.by_due(slot));
         self.firsts.insert(command.by_first(slot));
+    }
+
+    /// Adds a flying command, for which there is room, at its first send. Gives its tag, the first
+    /// after `last` that is free.
+    pub fn launch(
+        &mut self,
+        ticket: Ticket,
+        last: u32,
+        now: Millis,
+        path: PathNo,
+        wait: Millis,
+    ) -> u32
+        requires room { length (values self.old) < self.old.capacity }
+        requires tags { length (values self.old) < 2 ^ 32 - 1 }
+        ensures tag { IsNextTag (values self.old) last result }
+        ensures values { IsPermutation (launched ticket result now path wait ∷ values self.old) (values self.new) }
+        ensures capacity { self.new.capacity ≡ self.old.capacity }
+    {
+        let tag = self.next_tag(last);
+        let command = Outstanding::launched(ticket, tag, now, path, wait);
+        self.insert(command);
+        tag
     }
 }
 
@@ -303,25 +342,12 @@ fn flying_orders(alloc: Global, room: usize) -> Result<(Order, Order, Order), No
     Ok((tickets, dues, firsts))
 }
 
-/// The expired command with the lowest ticket.
-fn lowest_expired(commands: &Slab<Outstanding>, dead: Millis, now: Millis) -> Option<Outstanding>
-    ensures { result ≡ best (is_expired dead.0 now.0) lower None (values commands.now) }
+/// Counts a step for each of so many commands.
+fn count<L: Ledger>(commands: usize, steps: &mut Steps<L>)
+    ensures { steps.new ≡ steps.old + commands }
 {
-    let mut first: Option<Outstanding> = None;
-    'commands: for (_, command) in commands.iter() {
-        if command.is_expired(dead, now) && is_lower(first, *command) {
-            first = Some(*command);
-        }
-    }
-    first
-}
-
-fn is_lower(first: Option<Outstanding>, command: Outstanding) -> bool
-    ensures { result ≡ is_better lower command first }
-{
-    match first {
-        Some(first) => command.ticket < first.ticket,
-        None => true,
+    'commands: for _ in 0..commands {
+        steps.tick();
     }
 }
 

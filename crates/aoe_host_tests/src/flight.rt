@@ -56,9 +56,18 @@ fn repeat(flight: &mut Flight, ticket: u64, now: u64, wait: u64)
     flight.repeat(Ticket(ticket), Millis(now), PathNo(0), Millis(wait));
 }
 
+fn expired_counted<L: Ledger>(flight: &Flight, now: Millis, blank: Blank) -> Option<Ticket>
+    requires name { blank.name ≡ L.name }
+    requires parts { blank.parts ≡ L.parts }
+    requires some { 0 < blank.parts }
+{
+    let mut steps = Steps::<L>::new(blank);
+    flight.expired(now, &mut steps)
+}
+
 /// Which command is given up at a time.
 fn expired(flight: &Flight, now: u64) -> Option<Ticket> {
-    flight.expired(Millis(now))
+    expired_counted::<Brand>(flight, Millis(now), Blank::new(1))
 }
 
 #[test]

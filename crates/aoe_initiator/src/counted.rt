@@ -3,7 +3,7 @@
 ghost use Rattle.std.specs.Prelude.{◌≡◌, ◌<◌, ◌≤◌, List, [], false, All, Contains, IfNone, IfSome};
 ghost use Rattle.aoe_flight.specs.declared.outstanding.Outstanding.{Outstanding};
 ghost use Rattle.aoe_flight.specs.FlightTable.{Recalls};
-ghost use Rattle.aoe_flight.specs.Outstanding.{is_due, precedes, IsFirst};
+ghost use Rattle.aoe_flight.specs.Outstanding.{is_due, is_expired, lower, precedes, IsFirst};
 ghost use Rattle.aoe_hold.specs.declared.command.Command.{Command};
 ghost use Rattle.aoe_hold.specs.Commands.{clear_tickets};
 ghost use Rattle.aoe_hold.specs.HoldTable.{at_time, Recalls as RecallsEntered};
@@ -45,6 +45,39 @@ pub(crate) fn first_due(flight: &Flight, now: Millis) -> Option<Ticket>
         → All (λ c. is_due now.0 c ≡ false) sent) }
 {
     counted_due::<Brand>(flight, now, Blank::new(1))
+}
+
+fn counted_expired<L: Ledger>(flight: &Flight, now: Millis, blank: Blank) -> Option<Ticket>
+    requires name { blank.name ≡ L.name }
+    requires parts { blank.parts ≡ L.parts }
+    requires some { 0 < blank.parts }
+    ensures first { IfSome result (λ ticket.
+        (c : Outstanding) × (c.ticket ≡ ticket)
+        × IsFirst (is_expired flight.now.dead now.0) lower flight.now.commands c) }
+    ensures first_sent { IfSome result (λ ticket.
+        (sent : List Outstanding) → Recalls flight.now sent
+        → (c : Outstanding) × (c.ticket ≡ ticket)
+        × IsFirst (is_expired flight.now.dead now.0) lower sent c) }
+    ensures none_sent { IfNone result ((sent : List Outstanding) → Recalls flight.now sent
+        → All (λ c. is_expired flight.now.dead now.0 c ≡ false) sent) }
+{
+    let mut steps = Steps::<L>::new(blank);
+    flight.expired(now, &mut steps)
+}
+
+/// The command to be given up, if there is one.
+pub(crate) fn first_expired(flight: &Flight, now: Millis) -> Option<Ticket>
+    ensures first { IfSome result (λ ticket.
+        (c : Outstanding) × (c.ticket ≡ ticket)
+        × IsFirst (is_expired flight.now.dead now.0) lower flight.now.commands c) }
+    ensures first_sent { IfSome result (λ ticket.
+        (sent : List Outstanding) → Recalls flight.now sent
+        → (c : Outstanding) × (c.ticket ≡ ticket)
+        × IsFirst (is_expired flight.now.dead now.0) lower sent c) }
+    ensures none_sent { IfNone result ((sent : List Outstanding) → Recalls flight.now sent
+        → All (λ c. is_expired flight.now.dead now.0 c ≡ false) sent) }
+{
+    counted_expired::<Brand>(flight, now, Blank::new(1))
 }
 
 fn counted_clear<L: Ledger>(holds: &mut Holds, now: Millis, blank: Blank) -> Option<Ticket>

@@ -23,7 +23,7 @@ ghost use Rattle.aoe_initiator.specs.Request.{CanSpell};
 ghost use Rattle.aoe_initiator.specs.Response.{outcome_of, CanFill};
 ghost use Rattle.aoe_initiator.specs.Steps.{is_full, place, GivesTag, InTime, Launches, Repeats};
 
-use crate::counted::first_due;
+use crate::counted::{first_due, first_expired};
 use crate::device::{Arrival, Attached, Device, next_clear, note_finished, note_sent};
 use crate::op::{Op, op_refusal};
 use crate::outcome::{Done, Outcome};
@@ -314,7 +314,7 @@ impl Initiator {
         ensures no_tag { self.new.flight.last_tag ≡ self.old.flight.last_tag }
     {
         self.clock = Millis(self.clock.0.max(now.0));
-        'expired: while let Some(ticket) = self.flight.expired(self.clock) {
+        'expired: while let Some(ticket) = first_expired(&self.flight, self.clock) {
             let Some(at) = place_of(&self.pending, ticket) else {
                 break;
             };

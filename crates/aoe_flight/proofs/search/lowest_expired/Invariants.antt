@@ -2,7 +2,7 @@ use Rattle.std.proofs.Common.{◌≡◌, None}
 use Rattle.slab.specs.Slab.{values}
 use Rattle.aoe_flight.specs.Outstanding.{best, is_expired, lower}
 use Rattle.aoe_flight.proofs.SlotLemmas.{left}
-use Rattle.aoe_flight.proofs.table.lowest_expired.Given as goal
+use Rattle.aoe_flight.proofs.search.lowest_expired.Given as goal
 
 -- what the entries that are left give is what all give
 abbrev pub invariant-commands : goal.invariant-commands

@@ -1,7 +1,7 @@
 use Rattle.std.proofs.Common.{ap, ◌∙◌, None, sym}
 use Rattle.aoe_flight.specs.Outstanding.{best, is_expired, lower}
 use Rattle.aoe_flight.proofs.SlotLemmas.{entries-held, left}
-use Rattle.aoe_flight.proofs.table.lowest_expired.Goals as goal
+use Rattle.aoe_flight.proofs.search.lowest_expired.Goals as goal
 
 pub commands-init : goal.commands-init
 commands-init c =
