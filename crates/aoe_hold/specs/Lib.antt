@@ -3,3 +3,4 @@ pub mod HoldTable
 pub mod Queue
 pub mod Order
 pub mod Extents
+pub mod Held

@@ -2,23 +2,23 @@
 ghost use Rattle.std.specs.Prelude.{◌≡◌, ◌+◌, ◌-◌, ◌^◌, ◌<◌, ◌≤◌, ◌&&◌, ℕ, nat_eq, nat_le, not, cond, false, true, List, [], ◌∷◌, ◌++◌, length, All, Contains, IfNone, IfSome, OnErr, OnOk};
 ghost use Rattle.std.specs.List.{count_by, filter, list_any};
 ghost use Rattle.std.specs.Option.{ForSome};
-ghost use Rattle.std.specs.Vec.{vec_capacity, vec_len};
 ghost use Rattle.aoe_hold.specs.Commands.{after_stage, clear_tickets, finished, live, stage_finished, stage_sent, unsent_count};
 ghost use Rattle.std.specs.BTreeSet.{contains};
 ghost use Rattle.aoe_hold.specs.declared.keys.Key.{Key as KeyValue};
-ghost use Rattle.aoe_hold.specs.Extents.{key_cmp, Covers, HasKey, IsNonePast};
-ghost use Rattle.aoe_hold.specs.HoldTable.{after_finish, after_send, at_time, is_ascending, new_command, no_commands, with_command, ArePast, NonePastBefore, Recalls};
+ghost use Rattle.aoe_hold.specs.Extents.{key_cmp, Covers, HasKey};
+ghost use Rattle.aoe_hold.specs.HoldTable.{after_finish, after_send, at_time, is_ascending, new_command, no_commands, with_command, ArePast, Recalls};
 ghost use Rattle.aoe_hold.specs.Queue.{blocks, has_ticket, AreOutside, is_blocked, lingers, waited_for, IsKeeper, Moved, Queued, Released};
 
 use crate::command::{Command, Kind, Stage};
 use crate::extent::Extent;
-use crate::keys::{Key, add_key, drop_past, keeper_by_span, place_of};
+use crate::held::HeldCommands;
+use crate::keys::{Key, keeper_by_span, place_of};
 use crate::queue::{Keeper, Queue, Waiter};
 use aoe_base::{Millis, NoMemory, Span, Steps, Ticket};
 use std::alloc::Global;
 use std::collections::BTreeSet;
-use std::marker::Model;
-use std::sync::ledger::Ledger;
+use std::marker::{Brand, Model};
+use std::sync::ledger::{Blank, Ledger};
 
 /// The latest of the earlier commands in conflict that are unfinished. It stands from `first` on,
 /// ahead of `until`.
@@ -68,8 +68,7 @@ fn clear_from(
 
 /// Makes room for one more command, adds its key, and makes room for so many in the queues.
 fn make_room(
-    commands: &mut Vec<Command>,
-    keys: &mut BTreeSet<Key>,
+    commands: &mut HeldCommands,
     command: &Command,
     timed: &mut Queue,
     ready: &mut Queue,
@@ -80,9 +79,9 @@ fn make_room(
     requires ready { length ready.old.waiters ≤ room }
     requires blocked { length blocked.old.waiters ≤ room }
     ensures commands { commands.new.items ≡ commands.old.items }
-    ensures place { OnOk result (vec_len commands.new < vec_capacity commands.new) }
-    ensures key { OnOk result (HasKey keys.new command.now) }
-    ensures keys { (key : KeyValue) → contains key_cmp keys.old key ≡ true → contains key_cmp keys.new key ≡ true }
+    ensures place { OnOk result (length commands.new.items < commands.new.capacity) }
+    ensures key { OnOk result (HasKey commands.new.keys command.now) }
+    ensures keys { (key : KeyValue) → contains key_cmp commands.old.keys key ≡ true → contains key_cmp commands.new.keys key ≡ true }
     ensures timed { timed.new.waiters ≡ timed.old.waiters }
     ensures ready { ready.new.waiters ≡ ready.old.waiters }
     ensures blocked { blocked.new.waiters ≡ blocked.old.waiters }
@@ -93,11 +92,10 @@ fn make_room(
     ensures ready_room { OnOk result (room ≤ ready.new.room) }
     ensures blocked_room { OnOk result (room ≤ blocked.new.room) }
 {
-    commands.reserve(1)?;
     timed.reserve(room)?;
     ready.reserve(room)?;
     blocked.reserve(room)?;
-    add_key(keys, command)
+    commands.reserve(command)
 }
 
 /// What keeps a command back that was never sent, by those that were entered before it. The first
@@ -157,7 +155,7 @@ fn queue(timed: &mut Queue, blocked: &mut Queue, command: Command, keeper: Keepe
 }
 
 /// Queues the commands anew that waited for one that is finished now.
-fn release(
+fn release<L: Ledger>(
     commands: &[Command],
     gone: usize,
     timed: &mut Queue,
@@ -165,6 +163,7 @@ fn release(
     ended: &Command,
     life: Millis,
     latest: Millis,
+    steps: &mut Steps<L>,
 )
     requires ascending { is_ascending commands.now ≡ true }
     requires past { ArePast life.0 latest.0 gone commands.now }
@@ -177,7 +176,7 @@ fn release(
     if !ended.is_finished() {
         return;
     }
-    'waiting: while let Some(waiter) = blocked.pop_from(u128::from(ended.ticket.0)) {
+    'waiting: while let Some(waiter) = blocked.pop_from(u128::from(ended.ticket.0), steps) {
         let keeper = keeper_by_walk(commands, gone, &waiter.command, life, latest);
         queue(timed, blocked, waiter.command, keeper);
     }
@@ -195,20 +194,6 @@ fn count_gone(commands: &[Command], known: usize, life: Millis, latest: Millis) 
     gone
 }
 
-/// Takes the first of the commands out, where its time is past.
-fn pop_past<L: Ledger>(timed: &mut Queue, now: Millis, steps: &mut Steps<L>) -> Option<Waiter>
-    ensures some { IfSome result (λ w. (w.from ≤ now.0) × (timed.old.waiters ≡ w ∷ timed.new.waiters)) }
-    ensures none { IfNone result (timed.new.waiters ≡ timed.old.waiters) }
-    ensures late { IfNone result (All (λ w. now.0 < w.from) timed.old.waiters) }
-    ensures room { timed.new.room ≡ timed.old.room }
-    ensures step { steps.new ≡ steps.old + 1 }
-{
-    match timed.look(steps) {
-        Some(first) if first.from <= u128::from(now.0) => timed.pop(),
-        Some(_) | None => None,
-    }
-}
-
 /// Moves the commands whose time is past to those that may be sent.
 fn make_ready<L: Ledger>(timed: &mut Queue, ready: &mut Queue, now: Millis, steps: &mut Steps<L>)
     requires { length timed.old.waiters + length ready.old.waiters ≤ ready.old.room }
@@ -216,13 +201,20 @@ fn make_ready<L: Ledger>(timed: &mut Queue, ready: &mut Queue, now: Millis, step
     ensures late { All (λ w. now.0 < w.from) timed.new.waiters }
     ensures steps { steps.new + length ready.old.waiters ≡ steps.old + 1 + length ready.new.waiters }
 {
-    'past: while let Some(waiter) = pop_past(timed, now, steps) {
+    'past: while let Some(waiter) = timed.pop_past(now, steps) {
         ready.insert(Waiter { from: 0, ..waiter });
     }
 }
 
 /// Takes a command out of the queues, where it may stand in one of them.
-fn leave(timed: &mut Queue, ready: &mut Queue, blocked: &mut Queue, ticket: Ticket, may_stand: bool)
+fn leave<L: Ledger>(
+    timed: &mut Queue,
+    ready: &mut Queue,
+    blocked: &mut Queue,
+    ticket: Ticket,
+    may_stand: bool,
+    steps: &mut Steps<L>,
+)
     requires once { count_by (has_ticket ticket.0) timed.old.waiters + count_by (has_ticket ticket.0) ready.old.waiters
         + count_by (has_ticket ticket.0) blocked.old.waiters ≤ cond may_stand 1 0 }
     ensures timed { timed.new.waiters ≡ filter (λ w. not (nat_eq w.command.ticket.0 ticket.0)) timed.old.waiters }
@@ -232,46 +224,11 @@ fn leave(timed: &mut Queue, ready: &mut Queue, blocked: &mut Queue, ticket: Tick
     ensures ready_room { ready.new.room ≡ ready.old.room }
     ensures blocked_room { blocked.new.room ≡ blocked.old.room }
 {
-    if may_stand && ready.pop_ticket(ticket).is_none() {
-        timed.remove(ticket);
-        ready.remove(ticket);
-        blocked.remove(ticket);
+    if may_stand && ready.pop_ticket(ticket, steps).is_none() {
+        timed.remove(ticket, steps);
+        ready.remove(ticket, steps);
+        blocked.remove(ticket, steps);
     }
-}
-
-/// The time before which none of the commands is past.
-fn first_past(commands: &[Command], life: Millis) -> u128
-    ensures { NonePastBefore life.0 result commands.now }
-{
-    let mut from = u128::MAX;
-    'looked: for command in commands {
-        from = from.min(command.past_from(life));
-    }
-    from
-}
-
-/// Drops the commands that no later answer can go by: before `past_from` there is none. Returns
-/// the time before which none of the others is past.
-fn forget(
-    commands: &mut Vec<Command>,
-    keys: &mut BTreeSet<Key>,
-    life: Millis,
-    now: Millis,
-    past_from: u128,
-) -> u128
-    requires { NonePastBefore life.0 past_from commands.old.items }
-    ensures keys { (c : Command) → IsNonePast life.0 now.0 commands.old.items c → HasKey keys.old c → HasKey keys.new c }
-    ensures live { commands.new.items ≡ live life.0 now.0 commands.old.items }
-    ensures none { NonePastBefore life.0 result commands.new.items }
-    ensures fewer { vec_len commands.new ≤ vec_len commands.old }
-    ensures capacity { vec_capacity commands.new ≡ vec_capacity commands.old }
-{
-    if u128::from(now.0) < past_from {
-        return past_from;
-    }
-    drop_past(keys, commands, life, now);
-    commands.retain(|command| !command.is_past(life, now));
-    first_past(commands, life)
 }
 
 /// The commands of one host at one device, with their order.
@@ -295,14 +252,10 @@ pub struct Holds {
     /// Before this time none of the commands is past.
     past_from: u128,
 
-    /// In the order of their tickets.
-    commands: Vec<Command>,
+    commands: HeldCommands,
 
     /// What they are at most.
     extent: Extent,
-
-    /// By what they are found.
-    keys: BTreeSet<Key>,
 
     /// How many of the first commands are known to be past.
     gone: usize,
@@ -341,7 +294,7 @@ impl Model for Holds {
         × NonePastBefore holds.life.0 holds.past_from holds.commands.items
         × AreHeld holds.unsent holds.commands.items holds.timed holds.ready holds.blocked
         × ArePast holds.life.0 holds.latest.0 holds.gone holds.commands.items
-        × Covers holds.extent holds.keys holds.commands.items };
+        × Covers holds.extent holds.commands.keys holds.commands.items };
 }
 
 impl Holds {
@@ -355,9 +308,8 @@ impl Holds {
             greatest: None,
             unsent: 0,
             past_from: u128::MAX,
-            commands: Vec::new(alloc),
+            commands: HeldCommands::new(alloc),
             extent: Extent::new(),
-            keys: BTreeSet::new(alloc),
             gone: 0,
             timed: Queue::new(alloc),
             ready: Queue::new(alloc),
@@ -365,11 +317,18 @@ impl Holds {
         }
     }
 
-    /// Enters a command. Its ticket is above all that were entered. The commands that are past are
-    /// dropped.
-    pub fn enter(&mut self, ticket: Ticket, kind: Kind, span: Span) -> Result<(), NoMemory>
+    fn enter_counted<L: Ledger>(
+        &mut self,
+        ticket: Ticket,
+        kind: Kind,
+        span: Span,
+        blank: Blank,
+    ) -> Result<(), NoMemory>
         requires above { ForSome self.old.greatest (λ greatest. greatest < ticket.0) }
         requires room { unsent_count self.old.commands < 2 ^ 32 - 1 }
+        requires name { blank.name ≡ L.name }
+        requires parts { blank.parts ≡ L.parts }
+        requires some { 0 < blank.parts }
         ensures ok { OnOk result (self.new ≡ with_command self.old (new_command ticket kind span)) }
         ensures recalls { OnOk result ((entered : List Command) → Recalls self.old entered
             → Recalls self.new (entered ++ new_command ticket kind span ∷ [])) }
@@ -383,36 +342,46 @@ impl Holds {
         };
         make_room(
             &mut self.commands,
-            &mut self.keys,
             &command,
             &mut self.timed,
             &mut self.ready,
             &mut self.blocked,
             self.unsent + 1,
         )?;
-        self.past_from = forget(
-            &mut self.commands,
-            &mut self.keys,
-            self.life,
-            self.latest,
-            self.past_from,
-        );
+        let mut steps = Steps::<L>::new(blank);
+        self.past_from = self
+            .commands
+            .forget(self.life, self.latest, self.past_from, &mut steps);
         self.gone = 0;
-        let extent = self.extent.kept(&self.commands);
+        let commands = self.commands.look_all(&mut steps);
+        let extent = self.extent.kept(commands);
         let keeper = keeper_of(
-            &self.commands,
-            &self.keys,
+            commands,
+            self.commands.look_keys(&mut steps),
             extent,
             &command,
             self.life,
             self.latest,
         );
         queue(&mut self.timed, &mut self.blocked, command, keeper);
-        self.commands.push_reserved(command);
+        self.commands.push(command);
         self.extent = extent.widened(&command);
         self.greatest = Some(ticket);
         self.unsent += 1;
         Ok(())
+    }
+
+    /// Enters a command. Its ticket is above all that were entered. The commands that are past are
+    /// dropped.
+    pub fn enter(&mut self, ticket: Ticket, kind: Kind, span: Span) -> Result<(), NoMemory>
+        requires above { ForSome self.old.greatest (λ greatest. greatest < ticket.0) }
+        requires room { unsent_count self.old.commands < 2 ^ 32 - 1 }
+        ensures ok { OnOk result (self.new ≡ with_command self.old (new_command ticket kind span)) }
+        ensures recalls { OnOk result ((entered : List Command) → Recalls self.old entered
+            → Recalls self.new (entered ++ new_command ticket kind span ∷ [])) }
+        ensures err { OnErr result (self.new ≡ self.old) }
+    {
+        self.enter_counted::<Brand>(ticket, kind, span, Blank::new(1))
     }
 
     /// The command that may be sent next for the first time.
@@ -438,6 +407,35 @@ impl Holds {
         first.map(|waiter| waiter.command.ticket)
     }
 
+    fn sent_counted<L: Ledger>(&mut self, ticket: Ticket, now: Millis, blank: Blank)
+        requires time { self.old.latest ≤ now.0 }
+        requires name { blank.name ≡ L.name }
+        requires parts { blank.parts ≡ L.parts }
+        requires some { 0 < blank.parts }
+        ensures value { self.new ≡ after_send self.old ticket.0 now }
+        ensures recalls { (entered : List Command) → Recalls self.old entered
+            → Recalls self.new (after_stage ticket.0 (stage_sent now) entered) }
+    {
+        let mut steps = Steps::<L>::new(blank);
+        self.latest = now;
+        let commands = self.commands.look_all(&mut steps);
+        if let Some(at) = place_of(commands, ticket) {
+            let command = &commands[at];
+            let first = command.is_unsent();
+            let stage = command.stage.sent(now);
+            self.unsent -= u32::from(first);
+            self.commands.set_stage(at, stage);
+            leave(
+                &mut self.timed,
+                &mut self.ready,
+                &mut self.blocked,
+                ticket,
+                first,
+                &mut steps,
+            );
+        }
+    }
+
     /// Takes note that a frame of a command was sent, for the first time or again. A finished
     /// command isn't sent any more.
     pub fn sent(&mut self, ticket: Ticket, now: Millis)
@@ -446,18 +444,35 @@ impl Holds {
         ensures recalls { (entered : List Command) → Recalls self.old entered
             → Recalls self.new (after_stage ticket.0 (stage_sent now) entered) }
     {
-        self.latest = now;
-        if let Some(at) = place_of(&self.commands, ticket) {
-            let command = &mut self.commands[at];
-            let first = command.is_unsent();
-            self.unsent -= u32::from(first);
-            command.stage = command.stage.sent(now);
-            leave(
+        self.sent_counted::<Brand>(ticket, now, Blank::new(1));
+    }
+
+    fn finished_counted<L: Ledger>(&mut self, ticket: Ticket, blank: Blank)
+        requires name { blank.name ≡ L.name }
+        requires parts { blank.parts ≡ L.parts }
+        requires some { 0 < blank.parts }
+        ensures value { self.new ≡ after_finish self.old ticket.0 }
+        ensures recalls { (entered : List Command) → Recalls self.old entered
+            → Recalls self.new (after_stage ticket.0 stage_finished entered) }
+    {
+        let mut steps = Steps::<L>::new(blank);
+        let commands = self.commands.look_all(&mut steps);
+        if let Some(at) = place_of(commands, ticket) {
+            let mut ended = commands[at];
+            ended.stage = ended.stage.finished();
+            self.commands.set_stage(at, ended.stage);
+            self.past_from = self.past_from.min(ended.past_from(self.life));
+            let commands = self.commands.look_all(&mut steps);
+            self.gone = count_gone(commands, self.gone, self.life, self.latest);
+            release(
+                commands,
+                self.gone,
                 &mut self.timed,
-                &mut self.ready,
                 &mut self.blocked,
-                ticket,
-                first,
+                &ended,
+                self.life,
+                self.latest,
+                &mut steps,
             );
         }
     }
@@ -468,22 +483,7 @@ impl Holds {
         ensures recalls { (entered : List Command) → Recalls self.old entered
             → Recalls self.new (after_stage ticket.0 stage_finished entered) }
     {
-        if let Some(at) = place_of(&self.commands, ticket) {
-            let command = &mut self.commands[at];
-            command.stage = command.stage.finished();
-            let ended = *command;
-            self.past_from = self.past_from.min(ended.past_from(self.life));
-            self.gone = count_gone(&self.commands, self.gone, self.life, self.latest);
-            release(
-                &self.commands,
-                self.gone,
-                &mut self.timed,
-                &mut self.blocked,
-                &ended,
-                self.life,
-                self.latest,
-            );
-        }
+        self.finished_counted::<Brand>(ticket, Blank::new(1));
     }
 
     /// How many commands were entered and never sent.

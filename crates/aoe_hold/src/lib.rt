@@ -12,7 +12,9 @@
 #![tactic(auto)]
 
 mod command;
+mod count;
 mod extent;
+mod held;
 mod holds;
 mod keys;
 mod law;

@@ -1,4 +1,7 @@
 //! Commands that wait, in the order of what they wait for.
+//!
+//! Each call that lets one be seen takes a counter of steps, and counts one for each. The others
+//! change the queue.
 ghost use Rattle.std.specs.Prelude.{◌≡◌, ◌+◌, ◌<◌, ◌≤◌, ◌∷◌, ◌++◌, length, not, nat_eq, false, true, All, IfNone, IfSome, OnOk, option_copied, slice_get};
 ghost use Rattle.std.specs.List.{filter};
 ghost use Rattle.std.specs.List.Sorted.{IsPermutation};
@@ -7,7 +10,8 @@ ghost use Rattle.aoe_hold.specs.Order.{comes_before};
 ghost use Rattle.aoe_hold.specs.Queue.{no_waiters, ticket_of, time_of, IsInOrder};
 
 use crate::command::Command;
-use aoe_base::{NoMemory, Steps, Ticket};
+use crate::count::count;
+use aoe_base::{Millis, NoMemory, Steps, Ticket};
 use std::alloc::Global;
 use std::collections::VecDeque;
 use std::marker::Model;
@@ -99,7 +103,7 @@ impl Queue {
     }
 
     /// Takes the first command out.
-    pub fn pop(&mut self) -> Option<Waiter>
+    fn pop(&mut self) -> Option<Waiter>
         ensures waiters { self.old.waiters ≡ option_to_list result ++ self.new.waiters }
         ensures none { IfNone result (length self.old.waiters ≡ 0) }
         ensures room { self.new.room ≡ self.old.room }
@@ -107,25 +111,43 @@ impl Queue {
         self.waiters.pop_front()
     }
 
-    /// Takes the first command out, where it has this ticket.
-    pub fn pop_ticket(&mut self, ticket: Ticket) -> Option<Waiter>
+    /// Takes the first command out, where its time is past: one step.
+    pub fn pop_past<L: Ledger>(&mut self, now: Millis, steps: &mut Steps<L>) -> Option<Waiter>
+        ensures some { IfSome result (λ w. (w.from ≤ now.0) × (self.old.waiters ≡ w ∷ self.new.waiters)) }
+        ensures none { IfNone result (self.new.waiters ≡ self.old.waiters) }
+        ensures late { IfNone result (All (λ w. now.0 < w.from) self.old.waiters) }
+        ensures room { self.new.room ≡ self.old.room }
+        ensures step { steps.new ≡ steps.old + 1 }
+    {
+        match self.look(steps) {
+            Some(first) if first.from <= u128::from(now.0) => self.pop(),
+            Some(_) | None => None,
+        }
+    }
+
+    /// Takes the first command out, where it has this ticket: one step.
+    pub fn pop_ticket<L: Ledger>(&mut self, ticket: Ticket, steps: &mut Steps<L>) -> Option<Waiter>
         ensures some { IfSome result (λ w. (nat_eq w.command.ticket.0 ticket.0 ≡ true) × (self.old.waiters ≡ w ∷ self.new.waiters)) }
         ensures none { IfNone result (self.new.waiters ≡ self.old.waiters) }
         ensures room { self.new.room ≡ self.old.room }
+        ensures step { steps.new ≡ steps.old + 1 }
     {
+        steps.tick();
         if self.waiters.front()?.command.ticket != ticket {
             return None;
         }
         self.waiters.pop_front()
     }
 
-    /// Takes a command out that waits for this.
-    pub fn pop_from(&mut self, from: u128) -> Option<Waiter>
+    /// Takes a command out that waits for this: one step.
+    pub fn pop_from<L: Ledger>(&mut self, from: u128, steps: &mut Steps<L>) -> Option<Waiter>
         ensures some { IfSome result (λ w. (w.from ≡ from) × IsPermutation self.old.waiters (w ∷ self.new.waiters)) }
         ensures none { IfNone result (self.new.waiters ≡ self.old.waiters) }
         ensures out { IfNone result (All (λ w. nat_eq w.from from ≡ false) self.old.waiters) }
         ensures room { self.new.room ≡ self.old.room }
+        ensures step { steps.new ≡ steps.old + 1 }
     {
+        steps.tick();
         let place = self.waiters.partition_point(|other| other.from < from);
         if self.waiters.get(place)?.from != from {
             return None;
@@ -145,11 +167,13 @@ impl Queue {
         let _ = self.waiters.insert(place, waiter);
     }
 
-    /// Takes a command out.
-    pub fn remove(&mut self, ticket: Ticket)
+    /// Takes a command out: a step for each that waits.
+    pub fn remove<L: Ledger>(&mut self, ticket: Ticket, steps: &mut Steps<L>)
         ensures waiters { self.new.waiters ≡ filter (λ w. not (nat_eq w.command.ticket.0 ticket.0)) self.old.waiters }
         ensures room { self.new.room ≡ self.old.room }
+        ensures steps { steps.new ≡ steps.old + length self.old.waiters }
     {
+        count(self.waiters.len(), steps);
         self.waiters
             .retain(|waiter| waiter.command.ticket != ticket);
     }

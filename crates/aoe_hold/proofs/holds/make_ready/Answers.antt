@@ -11,7 +11,7 @@ past-preserved g c =
     let moved : Waiter = record c.in-Some.waiter { from = 0 } in
     let longer = length_permutation (moved ∷ c.past.ready.waiters) c.insert.new.self.waiters c.insert.ensures.waiters in
     let shorter = ap (λ (l : List Waiter). length l) popped.1 in (
-      moved-more c.pop_past.new.timed c.insert.new.self c.in-Some.waiter c.past.invariant.0 popped.1 popped.0 c.insert.ensures.waiters
+      moved-more c.pop_past.new.self c.insert.new.self c.in-Some.waiter c.past.invariant.0 popped.1 popped.0 c.insert.ensures.waiters
           c.in-Some.ensures.room c.insert.ensures.room,
       omega (arith, longer, shorter, c.past.invariant.1),
       omega (arith, longer, c.past.invariant.2, c.in-Some.ensures.step),

@@ -6,7 +6,7 @@ use Rattle.aoe_hold.proofs.QueueLemmas.{if-none, none-from, on-some, ordered-rem
 use Rattle.aoe_hold.proofs.queue.Queue.pop_from.Goals as goal
 
 pub invariant_of-self : goal.invariant_of-self
-invariant_of-self c =
+invariant_of-self g c =
     let waiters = c.self.inside.waiters.items in
     let place = c.partition_point-place.result in
     let at = c.in_ok-get.ensures.item.3 in
@@ -18,7 +18,7 @@ invariant_of-self c =
     }
 
 pub returns-clause-some : goal.returns-clause-some
-returns-clause-some c =
+returns-clause-some g c =
     let waiters = c.self.inside.waiters.items in
     let place = c.partition_point-place.result in
     let at = c.in_ok-get.ensures.item.3 in
@@ -28,7 +28,7 @@ returns-clause-some c =
     rw (← c.self.view_is) (rw taken (c.if-branch-from.false, rw items (IsPermutation-remove waiters place w at.0 (at.1 w))))
 
 pub returns-in_err-get-clause-out : goal.returns-in_err-get-clause-out
-returns-in_err-get-clause-out c =
+returns-in_err-get-clause-out g c =
     let waiters = c.self.inside.waiters.items in
     let place = c.partition_point-place.result in
     let point = IsPartitionPoint-from_clause (λ (w : Waiter). nat_lt w.from c.args.from) waiters place c.partition_point-place.ensures.partitioned
@@ -38,7 +38,7 @@ returns-in_err-get-clause-out c =
     (λ d within. absurd (omega arith))))
 
 pub returns-then-branch-from-clause-out : goal.returns-then-branch-from-clause-out
-returns-then-branch-from-clause-out c =
+returns-then-branch-from-clause-out g c =
     let waiters = c.self.inside.waiters.items in
     let place = c.partition_point-place.result in
     let at = c.in_ok-get.ensures.item.3 in

@@ -1,6 +1,6 @@
 use Rattle.std.proofs.Common.{take}
 use Rattle.aoe_hold.specs.HoldTable.{NonePastBefore}
-use Rattle.aoe_hold.proofs.holds.first_past.Given as goal
+use Rattle.aoe_hold.proofs.held.first_past.Given as goal
 
 -- of the commands so far none is past before that time
 abbrev pub invariant-looked : goal.invariant-looked

@@ -11,24 +11,24 @@ use Rattle.aoe_hold.proofs.OrderLemmas.{all-below, ascending-filter, enter-ascen
 use Rattle.aoe_hold.proofs.OutsideLemmas.{gone-none}
 use Rattle.aoe_hold.proofs.PastLemmas.{past-entered}
 use Rattle.aoe_hold.proofs.TableLemmas.{above-view, count-enter, enter-recalls, room-view}
-use Rattle.aoe_hold.proofs.holds.Holds.enter.Goals as goal
+use Rattle.aoe_hold.proofs.holds.Holds.enter_counted.Goals as goal
 
 pub overflow_add-self : goal.overflow_add-self
-overflow_add-self c =
+overflow_add-self g c =
     let room : unsent_count c.self.inside.commands.items < 2 ^ 32 - 1 = room-view c.args.self.now _ (2 ^ 32 - 1) c.self.view_is c.requires.room in
     omega (arith, c.self.invariant.0.2, room)
 
 pub make_room-requires-clause-timed : goal.make_room-requires-clause-timed
-make_room-requires-clause-timed c = omega (arith, held-few c.self.invariant.0.2 c.self.invariant.3)
+make_room-requires-clause-timed g c = omega (arith, held-few c.self.invariant.0.2 c.self.invariant.3)
 
 pub make_room-requires-clause-ready : goal.make_room-requires-clause-ready
-make_room-requires-clause-ready c = omega (arith, held-few c.self.invariant.0.2 c.self.invariant.3)
+make_room-requires-clause-ready g c = omega (arith, held-few c.self.invariant.0.2 c.self.invariant.3)
 
 pub make_room-requires-clause-blocked : goal.make_room-requires-clause-blocked
-make_room-requires-clause-blocked c = omega (arith, held-few c.self.invariant.0.2 c.self.invariant.3)
+make_room-requires-clause-blocked g c = omega (arith, held-few c.self.invariant.0.2 c.self.invariant.3)
 
 pub invariant_of-self : goal.invariant_of-self
-invariant_of-self c =
+invariant_of-self g c =
     let made = c.make_room.ensures in
     rw made.commands (
       c.self.invariant.0,
@@ -36,39 +36,39 @@ invariant_of-self c =
       c.self.invariant.2,
       held-reserved _ _ _ made.timed made.ready made.blocked made.blocked_more c.self.invariant.3,
       c.self.invariant.4,
-      covers-more c.self.inside.extent c.self.inside.keys _ _ (λ d. made.keys (key_of d)) c.self.invariant.5,
+      covers-more c.self.inside.extent c.self.inside.commands.keys _ _ (λ d. made.keys (key_of d)) c.self.invariant.5,
     )
 
 pub queue-requires-clause-timed : goal.queue-requires-clause-timed
-queue-requires-clause-timed c =
+queue-requires-clause-timed g c =
     let same = ap (λ (l : List Waiter). length l) c.make_room.ensures.timed in
     omega (arith, held-few c.self.invariant.0.2 c.self.invariant.3, same, c.in_ok-make_room.ensures.timed_room)
 
 pub queue-requires-clause-blocked : goal.queue-requires-clause-blocked
-queue-requires-clause-blocked c =
+queue-requires-clause-blocked g c =
     let same = ap (λ (l : List Waiter). length l) c.make_room.ensures.blocked in
     omega (arith, held-few c.self.invariant.0.2 c.self.invariant.3, same, c.in_ok-make_room.ensures.blocked_room)
 
 pub invariant_of-self-2 : goal.invariant_of-self-2
-invariant_of-self-2 c =
+invariant_of-self-2 g c =
     let made = c.make_room.ensures in
     let held = c.self.inside.commands.items in
     let life = c.self.inside.life.0 in
     let latest = c.self.inside.latest.0 in
     let kept = live life latest held in
     let new = new_command c.args.ticket c.args.kind c.args.span in
-    let dropped : c.forget-self-inside.new.commands.items ≡ kept = c.forget-self-inside.ensures.live ∙ ap (live life latest) made.commands in
-    let seen : c.deref-2.result.now ≡ kept = c.deref-2.ensures.value ∙ dropped in
-    let items : c.push_reserved.new.self.items ≡ kept ++ new ∷ [] = c.push_reserved.ensures.items ∙ ap (λ l. l ++ new ∷ []) dropped in
+    let dropped : c.forget-self-inside.new.self.items ≡ kept = c.forget-self-inside.ensures.live ∙ ap (live life latest) made.commands in
+    let seen : c.look_all-commands.result.now ≡ kept = c.look_all-commands.ensures.value ∙ dropped in
+    let items : c.push.new.self.items ≡ kept ++ new ∷ [] = c.push.ensures.items ∙ ap (λ l. l ++ new ∷ []) dropped in
     let above = above-view c.args.self.now _ c.args.ticket.0 c.self.view_is c.requires.above in
     let up = ascending-filter (λ (d : Command). not (is_past life latest d)) held c.self.invariant.0.0 in
     let most = up_to-filter (λ (d : Command). not (is_past life latest d)) _ held c.self.invariant.0.1 in
     let index = index-reserved c.make_room.new.timed c.make_room.new.ready made.timed made.ready made.timed_more made.ready_more c.self.invariant.1 in
     let queues = held-reserved c.make_room.new.timed c.make_room.new.ready c.make_room.new.blocked made.timed made.ready made.blocked made.blocked_more c.self.invariant.3 in
-    let queued = rw seen at (c.queue.ensures life latest c.deref-2.result.now c.keeper_of-keeper.ensures) in
+    let queued = rw seen at (c.queue.ensures life latest c.look_all-commands.result.now c.keeper_of-keeper.ensures) in
     let keeps = rw made.commands at c.forget-self-inside.ensures.keys in
-    let widens = rw (c.deref.ensures.value ∙ dropped) at c.kept-extent.ensures in
-    let covers = covers-left c.self.inside.extent c.kept-extent.result c.self.inside.keys _ _ life latest held c.self.invariant.0.0 (λ d. made.keys (key_of d)) keeps widens c.self.invariant.5 in
+    let widens = rw (c.look_all-commands.ensures.value ∙ dropped) at c.kept-extent.ensures in
+    let covers = covers-left c.self.inside.extent c.kept-extent.result c.self.inside.commands.keys _ _ life latest held c.self.invariant.0.0 (λ d. made.keys (key_of d)) keeps widens c.self.invariant.5 in
     let keyed = keeps new (none-past-above life latest held new (all-below _ new.ticket.0 held above c.self.invariant.0.1)) c.in_ok-make_room.ensures.key in
     rw items (
       (
@@ -80,29 +80,29 @@ invariant_of-self-2 c =
       past-entered life c.forget-self-inside.result kept new refl (rw dropped at c.forget-self-inside.ensures.none),
       held-entered queued refl c.in_ok-make_room.ensures.blocked_room queues,
       gone-none life latest (kept ++ new ∷ []),
-      rw c.widened-self-inside.ensures (covers-entered c.kept-extent.result c.forget-self-inside.new.keys kept new keyed covers),
+      rw (c.widened-self-inside.ensures, c.push.ensures.keys) (covers-entered c.kept-extent.result c.forget-self-inside.new.self.keys kept new keyed covers),
     )
 
 pub returns-clause-recalls : goal.returns-clause-recalls
-returns-clause-recalls c =
+returns-clause-recalls g c =
     let life = c.self.inside.life.0 in
     let latest = c.self.inside.latest.0 in
     let new = new_command c.args.ticket c.args.kind c.args.span in
     let kept = c.forget-self-inside.ensures.live ∙ ap (live life latest) c.make_room.ensures.commands in
-    rw (c.push_reserved.ensures.items ∙ ap (λ l. l ++ new ∷ []) kept) (enter-recalls c.self.view_is new)
+    rw (c.push.ensures.items ∙ ap (λ l. l ++ new ∷ []) kept) (enter-recalls c.self.view_is new)
 
 pub keeper_of-keeper-requires-clause-ascending : goal.keeper_of-keeper-requires-clause-ascending
-keeper_of-keeper-requires-clause-ascending c =
+keeper_of-keeper-requires-clause-ascending g c =
     let life = c.self.inside.life.0 in
     let latest = c.self.inside.latest.0 in
-    rw (c.deref-2.ensures.value ∙ c.forget-self-inside.ensures.live ∙ ap (live life latest) c.make_room.ensures.commands)
+    rw (c.look_all-commands.ensures.value ∙ c.forget-self-inside.ensures.live ∙ ap (live life latest) c.make_room.ensures.commands)
     (ascending-filter (λ (d : Command). not (is_past life latest d)) c.self.inside.commands.items c.self.invariant.0.0)
 
 pub keeper_of-keeper-requires-clause-covers : goal.keeper_of-keeper-requires-clause-covers
-keeper_of-keeper-requires-clause-covers c =
+keeper_of-keeper-requires-clause-covers g c =
     let made = c.make_room.ensures in
     let dropped = c.forget-self-inside.ensures.live ∙ ap (live c.self.inside.life.0 c.self.inside.latest.0) made.commands in
     let keeps = rw made.commands at c.forget-self-inside.ensures.keys in
-    let widens = rw (c.deref.ensures.value ∙ dropped) at c.kept-extent.ensures in
-    rw (c.deref-2.ensures.value ∙ dropped)
+    let widens = rw (c.look_all-commands.ensures.value ∙ dropped) at c.kept-extent.ensures in
+    rw (c.look_all-commands.ensures.value ∙ dropped, c.look_keys.ensures.value)
     (covers-left _ _ _ _ _ c.self.inside.life.0 c.self.inside.latest.0 c.self.inside.commands.items c.self.invariant.0.0 (λ d. made.keys (key_of d)) keeps widens c.self.invariant.5)

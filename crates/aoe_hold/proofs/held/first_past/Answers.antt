@@ -1,7 +1,7 @@
 use Rattle.std.proofs.Common.{arith, rules}
 use Rattle.aoe_hold.proofs.MoveLemmas.{none_command}
 use Rattle.aoe_hold.proofs.PastLemmas.{past-more, past-whole}
-use Rattle.aoe_hold.proofs.holds.first_past.Goals as goal
+use Rattle.aoe_hold.proofs.held.first_past.Goals as goal
 
 pub looked-preserved : goal.looked-preserved
 looked-preserved c =
