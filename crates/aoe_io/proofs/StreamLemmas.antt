@@ -9,7 +9,8 @@ use Rattle.aoe_io.specs.Stream.{framed, stream, IsFrame, IsBroken}
 same-length : (m n : ℕ) → m < 65536 → n < 65536 → m / 256 % 256 ≡ n / 256 % 256 → m % 256 ≡ n % 256 → m ≡ n
 same-length m n m_small n_small high low = omega arith
 
-same-front : (f g xs ys : List ℕ) → length f ≡ length g → f ++ xs ≡ g ++ ys → (f ≡ g) × (xs ≡ ys)
+-- two lists whose fronts have one length are the same front by front, and behind it
+pub same-front : (f g xs ys : List ℕ) → length f ≡ length g → f ++ xs ≡ g ++ ys → (f ≡ g) × (xs ≡ ys)
 same-front f g xs ys same e = (
   sym (take_at f xs (length f) refl) ∙ ap (take (length f)) e ∙ take_at g ys (length f) (sym same),
   sym (drop_at f xs (length f) refl) ∙ ap (drop (length f)) e ∙ drop_at g ys (length f) (sym same),

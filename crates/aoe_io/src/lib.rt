@@ -7,7 +7,8 @@
 //! a test says. [`JoinedLink`] is one of two links in memory that give each other's frames.
 //!
 //! On a stream each frame is preceded by its length: [`next_frame`] takes one and [`give_frame`]
-//! gives one. [`give_all`] writes bytes to their end, and [`read_up_to`] reads a source to its end.
+//! gives one. [`give_all`] writes bytes to their end, [`fill_from`] and [`fill_frame`] read as many
+//! as asked for, and [`read_up_to`] reads a source to its end.
 //!
 //! Nothing here is buffered, and no call is made again after a failure.
 #![tactic(auto)]
@@ -29,6 +30,6 @@ pub use mem_link::MemLink;
 pub use memory::{MemSink, MemSource};
 pub use outside::{Sink, Source};
 pub use stream::{
-    Next, StreamRefusal, frame_begins_no_broken_stream, give_all, give_frame, next_frame,
-    stream_begins_with_one_frame,
+    Next, StreamRefusal, fill_frame, fill_from, frame_begins_no_broken_stream, give_all,
+    give_frame, next_frame, stream_begins_with_one_frame,
 };

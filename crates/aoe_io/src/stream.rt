@@ -61,7 +61,7 @@ fn fill_on<S: Source>(source: &mut S, out: &mut [u8]) -> Result<usize, Failed>
 /// Fills `out` from the source, and says how many bytes of it: fewer than all only where the input
 /// ends. The first call stands in front of the loop for further pieces, since it mostly gives all.
 #[inline(always)]
-fn fill<S: Source>(source: &mut S, out: &mut [u8]) -> Result<usize, Failed>
+pub fn fill_from<S: Source>(source: &mut S, out: &mut [u8]) -> Result<usize, Failed>
     requires { 0 < length out.old }
     ensures within { IfOk result (λ n. n ≤ length out.old) }
     ensures gave { IfOk result (λ n. Gave (S.left source.old) (S.left source.new) (take n out.new)) }
@@ -98,7 +98,7 @@ fn read_length<S: Source>(source: &mut S, offset: u64) -> Result<Option<usize>, 
     ensures count { S.faults source.old ≤ S.faults source.new }
 {
     let mut prefix = [0u8; 2];
-    match fill(source, &mut prefix) {
+    match fill_from(source, &mut prefix) {
         Ok(0) => return Ok(None),
         Ok(1) => return Err(StreamRefusal::Stream { offset }),
         Ok(_) => {}
@@ -112,8 +112,9 @@ fn read_length<S: Source>(source: &mut S, offset: u64) -> Result<Option<usize>, 
     Ok(Some(length))
 }
 
-/// Makes `out` the next `count` bytes of the source: false where the input ends before.
-fn fill_frame<S: Source>(source: &mut S, count: usize, out: &mut Frame) -> Result<bool, Failed>
+/// Makes `out` the next `count` bytes of the source: false where the input ends before, and then `out`
+/// may hold any bytes, as after a failure.
+pub fn fill_frame<S: Source>(source: &mut S, count: usize, out: &mut Frame) -> Result<bool, Failed>
     requires some { 0 < count }
     requires room { count ≤ 9018 }
     ensures length { result ≡ Ok true → length out.new.items ≡ count }
@@ -126,7 +127,7 @@ fn fill_frame<S: Source>(source: &mut S, count: usize, out: &mut Frame) -> Resul
     ensures one_fault { S.faults source.new ≤ S.faults source.old + 1 }
 {
     stretch(out, count);
-    match fill(source, out.as_mut_slice()) {
+    match fill_from(source, out.as_mut_slice()) {
         Ok(n) => Ok(n == count),
         Err(Failed) => Err(Failed),
     }

@@ -1,6 +1,6 @@
 use Rattle.std.proofs.Common.{◌≤◌, length, arith}
 use Rattle.aoe_io.proofs.BytesLemmas.{Gave-further, GaveSome-then}
-use Rattle.aoe_io.proofs.stream.fill.Goals as goal
+use Rattle.aoe_io.proofs.stream.fill_from.Goals as goal
 
 pub returns-in-Ok-fill_on-clause-gave : goal.returns-in-Ok-fill_on-clause-gave
 returns-in-Ok-fill_on-clause-gave g c =

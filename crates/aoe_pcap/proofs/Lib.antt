@@ -1,0 +1,4 @@
+mod CutLemmas
+mod HeadLemmas
+mod NumberLemmas
+pub mod RecordLemmas
