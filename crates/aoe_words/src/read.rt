@@ -1,6 +1,7 @@
 //! What arguments spell.
-ghost use Rattle.std.specs.Prelude.{◌≡◌, ◌≤◌, length, map, option_map, string_bytes, IfOk, IfSome, IsSome};
+ghost use Rattle.std.specs.Prelude.{◌≡◌, ◌≢◌, ◌≤◌, length, false, map, option_map, string_bytes, IfOk, IfSome, IsSome, None, Ok, OnErr, OnOk};
 ghost use Rattle.std.specs.List.{list_all};
+ghost use Rattle.clap.specs.Values.{kind_of};
 ghost use Rattle.clap.specs.Words.{found_of, rows_of};
 ghost use Rattle.aoe_words.specs.Words.{CanRun, CanServe, Fits, IsInRange, answer_of, asked_of, command, command_of, file_count, file_names, files_of, is_word, link_count, links_of, list_tool_of, live_of, parsed, port_words, serve_of, serve_with, soak_of, spelled, tool_of, two_ends};
 ghost use Rattle.aoe_words.specs.Values.{link};
@@ -15,7 +16,7 @@ use crate::word::is_word;
 use crate::{Answer, Command, Live, PortWords, Serve, Soak, Tool};
 use aoe_base::{Blob, LAST_MAJOR, LAST_MINOR, NoMemory, TargetId};
 use clap::ArgMatches;
-use clap::error::ErrorKind;
+use clap::error::{Error, ErrorKind};
 use std::alloc::Global;
 
 /// How many files `answer` works on.
@@ -85,13 +86,25 @@ fn are_words(words: &[String]) -> bool
     words.iter().all(|word| is_word(word.as_bytes()))
 }
 
+/// Refuses where clap was out of memory. Whatever else it refuses is the words.
+fn check_memory(error: &Error) -> Result<(), NoMemory>
+    ensures memory { OnErr result (kind_of error.now ≡ ErrorKind.OutOfMemory) }
+    ensures words { OnOk result (kind_of error.now ≢ ErrorKind.OutOfMemory) }
+{
+    if error.kind() == ErrorKind::OutOfMemory {
+        return Err(NoMemory);
+    }
+    Ok(())
+}
+
 /// The name of the command that is asked for and what clap finds for it, where every word can stand
 /// there and clap finds no fault.
 fn parsed<'a>(
     alloc: Global,
     words: &'a [String],
 ) -> Result<Option<(&'a str, ArgMatches<'a>)>, NoMemory>
-    ensures { IfOk result (λ r. option_map (λ p. (p.0.now, rows_of (found_of p.1))) r ≡ parsed (map string_bytes words.entry.now)) }
+    ensures value { IfOk result (λ r. option_map (λ p. (p.0.now, rows_of (found_of p.1))) r ≡ parsed (map string_bytes words.entry.now)) }
+    ensures words { list_all is_word (map string_bytes words.entry.now) ≡ false → result ≡ Ok None }
 {
     if !are_words(words) {
         return Ok(None);
@@ -99,11 +112,8 @@ fn parsed<'a>(
     match matches(alloc, words) {
         Ok(mut found) => Ok(found.remove_subcommand()),
         Err(error) => {
-            if error.kind() == ErrorKind::OutOfMemory {
-                Err(NoMemory)
-            } else {
-                Ok(None)
-            }
+            check_memory(&error)?;
+            Ok(None)
         }
     }
 }
@@ -259,6 +269,7 @@ fn command_of(name: &str, found: &ArgMatches) -> Option<Command>
 fn spelled<'a>(alloc: Global, words: &'a [String]) -> Result<Option<Found<'a>>, NoMemory>
     ensures value { IfOk result (λ r. option_map (λ s. (s.command, rows_of (found_of s.matches))) r ≡ spelled (map string_bytes words.entry.now)) }
     ensures fits { IfOk result (λ r. IfSome r (λ s. Fits (rows_of (found_of s.matches)) s.command)) }
+    ensures words { list_all is_word (map string_bytes words.entry.now) ≡ false → result ≡ Ok None }
 {
     let Some((name, matches)) = parsed(alloc, words)? else {
         return Ok(None);
@@ -270,11 +281,13 @@ fn spelled<'a>(alloc: Global, words: &'a [String]) -> Result<Option<Found<'a>>, 
 }
 
 /// The command that the arguments behind the program's name spell, or `None` where they spell none.
+/// Memory is asked for once each argument can stand on a command line.
 pub fn read_words(alloc: Global, words: &[String]) -> Result<Option<Command>, NoMemory>
     ensures command { IfOk result (λ r. r ≡ command (map string_bytes words.now)) }
     ensures range { IfOk result (λ r. IfSome r IsInRange) }
     ensures files { IfOk result (λ r. IfSome r (λ c. length (file_names (map string_bytes words.now)) ≡ file_count c)) }
     ensures links { IfOk result (λ r. IfSome r (λ c. length (port_words (map string_bytes words.now)) ≡ link_count c)) }
+    ensures words { list_all is_word (map string_bytes words.now) ≡ false → result ≡ Ok None }
 {
     match spelled(alloc, words)? {
         Some(found) => Ok(Some(found.command)),
