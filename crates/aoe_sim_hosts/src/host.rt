@@ -64,6 +64,7 @@ fn entry_of(
     ensures plain { IfOk result (λ entry. is_plain entry ≡ true) }
     ensures taken { IfOk result (λ entry. IfOk answer (λ ticket. entry ≡ Submitted host ticket.0 dev copy)) }
     ensures refused { IfOk result (λ entry. IfErr answer (λ e. (entry ≡ Refused host e.0) × (e.0 ≢ SubmitRefusal.NoMemory))) }
+    ensures memory { OnErr result (IfErr answer (λ e. e.0 ≡ SubmitRefusal.NoMemory) × IfOk answer (λ _. ⊥)) }
 {
     match answer {
         Ok(ticket) => Ok(Entry::Submitted {
