@@ -1,13 +1,14 @@
 -- What the refusal of a text says of its length.
-use Rattle.std.proofs.Common.{◌≡◌, ◌<◌, ◌≤◌, ℕ, zero, suc, Bool, true, false, List, length, Option, Some, None, nat_lt, refl, sym}
+use Rattle.std.proofs.Common.{◌≡◌, ◌<◌, ◌≤◌, ℕ, zero, suc, Bool, true, false, List, length, Option, Some, None, Err, nat_lt, refl, sym}
 use Rattle.std.specs.Prelude.{if◌then◌else◌, option_and_then}
 use Rattle.std.specs.Option.{option_or}
 use Rattle.std.proofs.lemmas.Bool.{ltb-false, ltb-true}
 use Rattle.aoe_script.specs.declared.line.Line.{Line}
 use Rattle.aoe_script.specs.declared.refusal.Why.{Why}
 use Rattle.aoe_script.specs.declared.refusal.ScriptRefusal.{ScriptRefusal}
-use Rattle.aoe_script.specs.declared.refusal.ScriptRefusal.TheVariants.{TooLong}
-use Rattle.aoe_script.specs.Lines.{ScriptLines, first_refusal, line_refusal, refusal, refusal_at, refused_for, said_by}
+use Rattle.aoe_script.specs.declared.refusal.ScriptRefusal.TheVariants.{NoMemory, BadLine, TooMany, TooLong}
+use Rattle.aoe_script.specs.Lines.{FailsFor, ScriptLines, first_refusal, line_refusal, refusal, refusal_at, refused_for, said_by}
+use Rattle.aoe_world.specs.Replay.{refused_as, IsRefusedAs}
 
 never_long_line : (number : ℕ) (w : Option Why) (over : Bool) → refused_for number w over ≡ Some TooLong → ⊥
 never_long_line number None true e = cc
@@ -43,6 +44,13 @@ short_text {cause} text e other = go (nat_lt 16777216 (length text)) refl e
         → length text ≤ 16777216
     go true is e = absurd (other (sym e))
     go false is e = ltb-false 16777216 (length text) is
+
+-- why a text is refused that has a cause, or for which there was no memory
+pub refused_text : (text : List ℕ) (r : ScriptRefusal) → FailsFor {T = ScriptLines} (refusal text) (Err r) → IsRefusedAs (refused_as r) text
+refused_text text NoMemory cause = tt
+refused_text text (BadLine line why) cause = (short_text text cause (λ f. cc), cause)
+refused_text text TooMany cause = (short_text text cause (λ f. cc), cause)
+refused_text text TooLong cause = long_text text cause
 
 pub short_none : (text : List ℕ) → refusal text ≡ None → length text ≤ 16777216
 short_none text e = short_text text e (λ f. cc)

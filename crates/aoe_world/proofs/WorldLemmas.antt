@@ -13,7 +13,7 @@ use Rattle.aoe_history.specs.Lawful.{IsLawful}
 use Rattle.aoe_history.specs.Setup.{Setup}
 use Rattle.aoe_sim_setup.specs.Layout.{majors_of, setup_of, stations_of, Placed}
 use Rattle.aoe_sim_setup.specs.Stations.{CanCome}
-use Rattle.aoe_history.specs.Run.{IsWithin}
+use Rattle.aoe_history.specs.Run.{IsWithin, Recorded}
 use Rattle.aoe_script.specs.Lines.{ScriptLines}
 use Rattle.aoe_script.specs.Rules.{is_event}
 use Rattle.aoe_script.specs.declared.event.Event.{Event}
@@ -27,13 +27,13 @@ use Rattle.aoe_world.proofs.ScheduleLemmas.{among, handings-are}
 use Rattle.aoe_world.specs.declared.place.Place.{Place}
 use Rattle.aoe_net.specs.declared.refusal.NetRefusal.{NetRefusal}
 use Rattle.aoe_net.specs.declared.refusal.NetRefusal.TheVariants.{Full}
+use Rattle.aoe_net.specs.declared.refusal.NetRefusal.TheVariants as net
 use Rattle.aoe_world.specs.declared.refusal.WorldRefusal.{WorldRefusal}
-use Rattle.aoe_world.specs.declared.refusal.WorldRefusal.TheVariants.{NetFull, NoMemory}
 use Rattle.aoe_world.specs.declared.sim.Sim.{Sim}
 use Rattle.aoe_world.specs.Schedule.{acts_of, hand_each, handings, Comes, ComesSome, Moves, MovesBy, MovesSome}
 use Rattle.aoe_world.specs.Plan.{Knows}
 use Rattle.aoe_world.specs.Sim.{IsLeft, IsReady}
-use Rattle.aoe_world.specs.World.{IsCounted, IsGoing, IsRefusedAt, IsStaged, IsWorld}
+use Rattle.aoe_world.specs.World.{refused_with, IsCounted, IsGoing, IsRefusedAt, IsStaged, IsWorld}
 
 -- ACTS THAT ARE ASIDE
 
@@ -155,10 +155,14 @@ where-none None y = y
 where-none (Some refusal) y = tt
 
 -- why a beginning is refused
-pub refused-at : {s : Setup} {begins : List Entry → Type 0} {refusal : NetRefusal} {h : List Entry} (answer : WorldRefusal) → IsLeft s begins refusal h
-    → IsCounted s h answer → ((frames bytes : ℕ) → answer ≡ NetFull frames bytes → refusal ≡ Full) → IsRefusedAt s begins h answer
-refused-at NoMemory left counted full = tt
-refused-at (NetFull frames bytes) left counted full = (counted, left.full (full frames bytes refl))
+pub refused-at : {s : Setup} {begins : List Entry → Type 0} (run : Recorded) (refusal : NetRefusal) (answer : WorldRefusal) → answer ≡ refused_with run refusal
+    → IsLeft s begins refusal run.entries → IsRefusedAt s begins run.entries answer
+refused-at run net.NoMemory answer is left = rw is tt
+refused-at run Full answer is left = rw is ((refl, refl), left.full refl)
+
+pub counted-at : (s : Setup) (run : Recorded) (refusal : NetRefusal) → IsCounted s run.entries (refused_with run refusal)
+counted-at s run net.NoMemory = tt
+counted-at s run Full = (refl, refl)
 
 -- before any event
 pub new-world : {script : ScriptLines} {places : List Place} {sim : Sim} {cursor : ℕ} → IsStaged script places sim cursor

@@ -11,7 +11,8 @@ use Rattle.aoe_sim_setup.specs.Layout.{setup_of}
 use Rattle.aoe_history.specs.Run.{IsWithin, MeetsFull}
 use Rattle.aoe_script.specs.declared.event.Event.{Event}
 use Rattle.aoe_script.specs.declared.refusal.ScriptRefusal.{ScriptRefusal}
-use Rattle.aoe_script.specs.declared.refusal.ScriptRefusal.TheVariants.{BadLine, TooMany}
+use Rattle.aoe_script.specs.declared.refusal.ScriptRefusal.TheVariants.{BadLine, TooMany, TooLong}
+use Rattle.aoe_script.specs.declared.refusal.ScriptRefusal.TheVariants as script
 use Rattle.aoe_script.specs.declared.setup.Setup.{Setup as Line}
 use Rattle.aoe_script.specs.Lines.{ScriptLines, refusal, script_of}
 use Rattle.aoe_transcript.specs.Counts.{run_text, summary_of}
@@ -170,6 +171,13 @@ Unread SinkFault left left' = ⊥
 -- what was read of a source: all of it where that isn't more than a script has
 abbrev pub IsRead : Option (List ℕ) → Option (List ℕ) → List ℕ → Type 0
 IsRead left left' text = IsReadUpTo 16777216 left left' text
+
+-- how a replay ends whose text is refused
+abbrev pub refused_as : ScriptRefusal → ReplayEnd
+refused_as script.NoMemory = NoMemory
+refused_as (BadLine line why) = Script line why
+refused_as TooMany = Limit Events
+refused_as TooLong = Limit ScriptBytes
 
 -- why a text spells no script
 abbrev pub IsRefusedAs : ReplayEnd → List ℕ → Type 0

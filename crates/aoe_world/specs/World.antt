@@ -1,6 +1,7 @@
 -- A world: a script's setup lines, and what came of the events so far.
 use Rattle.std.specs.Prelude.{ℕ, suc, ◌≡◌, ◌*◌, ◌≤◌, List, length, All, Option, None, IfSome, Result, Ok, Err}
 use Rattle.aoe_net.specs.declared.refusal.NetRefusal.{NetRefusal}
+use Rattle.aoe_net.specs.declared.refusal.NetRefusal.TheVariants as net
 use Rattle.aoe_net.specs.Network.{total_bytes}
 use Rattle.aoe_history.specs.declared.entry.Entry.{Entry}
 use Rattle.aoe_history.specs.Commands.{tickets}
@@ -8,7 +9,7 @@ use Rattle.aoe_history.specs.Frames.{clock, frames, network}
 use Rattle.aoe_history.specs.Lawful.{IsLawful}
 use Rattle.aoe_history.specs.Setup.{HostSetup, IsSetup, Setup}
 use Rattle.aoe_sim_setup.specs.Layout.{majors_of, setup_of, stations_of}
-use Rattle.aoe_history.specs.Run.{IsWithin, MeetsFull}
+use Rattle.aoe_history.specs.Run.{network_of, IsWithin, MeetsFull, Recorded}
 use Rattle.aoe_script.specs.declared.event.Event.{Event}
 use Rattle.aoe_script.specs.declared.setup.Setup.{Setup as Line}
 use Rattle.aoe_script.specs.Lines.{IsScript, ScriptLines}
@@ -33,6 +34,11 @@ pub record Stepped : Type 0 where
 abbrev pub IsCounted : Setup → List Entry → WorldRefusal → Type 0
 IsCounted s h NoMemory = Unit {0}
 IsCounted s h (NetFull count bytes) = (count ≡ length (frames h)) × (bytes ≡ total_bytes (network s.life h))
+
+-- why a world goes no further whose run was refused a frame, or memory
+abbrev pub refused_with : Recorded → NetRefusal → WorldRefusal
+refused_with run net.NoMemory = NoMemory
+refused_with run net.Full = NetFull (length (frames run.entries)) (total_bytes (network_of run))
 
 -- what has begun is refused for a frame that it calls for next, and for which the network has no room; or there was no memory
 abbrev pub IsRefusedAt : Setup → (List Entry → Type 0) → List Entry → WorldRefusal → Type 0

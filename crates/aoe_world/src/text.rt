@@ -2,7 +2,7 @@
 ghost use Rattle.std.specs.Prelude.{◌≡◌, ◌≢◌, ◌≤◌, ◌+◌, None, Err, IfErr, IfOk, OnOk};
 ghost use Rattle.aoe_base.specs.Faults.{Rose};
 ghost use Rattle.aoe_script.specs.Lines.{refusal, script_of};
-ghost use Rattle.aoe_world.specs.Replay.{IsRead, IsRefusedAs, Unread};
+ghost use Rattle.aoe_world.specs.Replay.{refused_as, IsRead, IsRefusedAs, Unread};
 
 use crate::end::{ReplayEnd, ReplayLimit};
 use aoe_io::{InputRefusal, Source, read_up_to};
@@ -26,6 +26,18 @@ pub fn read_text<S: Source>(alloc: Global, source: &mut S) -> Result<Vec<u8>, Re
     }
 }
 
+/// How a replay ends whose text is refused.
+fn refused_as(refusal: ScriptRefusal) -> ReplayEnd
+    ensures { result ≡ refused_as refusal }
+{
+    match refusal {
+        ScriptRefusal::NoMemory => ReplayEnd::NoMemory,
+        ScriptRefusal::BadLine { line, why } => ReplayEnd::Script { line, why },
+        ScriptRefusal::TooMany => ReplayEnd::Limit(ReplayLimit::Events),
+        ScriptRefusal::TooLong => ReplayEnd::Limit(ReplayLimit::ScriptBytes),
+    }
+}
+
 /// The script that a text spells, or how the replay ends.
 pub fn script_in(alloc: Global, text: &[u8]) -> Result<Script, ReplayEnd>
     ensures script { IfOk result (λ script. script ≡ script_of text.now) }
@@ -34,9 +46,6 @@ pub fn script_in(alloc: Global, text: &[u8]) -> Result<Script, ReplayEnd>
 {
     match read_script(alloc, text) {
         Ok(script) => Ok(script),
-        Err(ScriptRefusal::NoMemory) => Err(ReplayEnd::NoMemory),
-        Err(ScriptRefusal::BadLine { line, why }) => Err(ReplayEnd::Script { line, why }),
-        Err(ScriptRefusal::TooMany) => Err(ReplayEnd::Limit(ReplayLimit::Events)),
-        Err(ScriptRefusal::TooLong) => Err(ReplayEnd::Limit(ReplayLimit::ScriptBytes)),
+        Err(refusal) => Err(refused_as(refusal)),
     }
 }

@@ -12,7 +12,7 @@ ghost use Rattle.aoe_script.specs.Rules.{event_why, is_event};
 ghost use Rattle.aoe_transcript.specs.Print.{CanPrint};
 ghost use Rattle.aoe_world.specs.Schedule.{Comes, ComesSome};
 ghost use Rattle.aoe_world.specs.Plan.{Goes, Knows};
-ghost use Rattle.aoe_world.specs.World.{IsCounted, IsRefusedAt, Runs};
+ghost use Rattle.aoe_world.specs.World.{refused_with, IsCounted, IsRefusedAt, Runs};
 
 use crate::build::Builder;
 use crate::place::Place;
@@ -30,8 +30,7 @@ use std::marker::Model;
 
 /// Why a world goes no further, where its run does.
 fn refusal_of(run: &Run, refusal: NetRefusal) -> WorldRefusal
-    ensures counted { (s : Setup) → IsCounted s run.now.entries result }
-    ensures full { (frames bytes : ℕ) → result ≡ WorldRefusal.NetFull frames bytes → refusal ≡ NetRefusal.Full }
+    ensures { result ≡ refused_with run.now refusal }
 {
     match refusal {
         NetRefusal::NoMemory => WorldRefusal::NoMemory,

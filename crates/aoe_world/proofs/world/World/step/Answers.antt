@@ -1,6 +1,6 @@
 use Rattle.std.proofs.Common.{refl}
 use Rattle.aoe_sim_setup.specs.Layout.{setup_of}
-use Rattle.aoe_world.proofs.WorldLemmas.{knows-of, refused-at, stepped, stopped, where-none}
+use Rattle.aoe_world.proofs.WorldLemmas.{counted-at, knows-of, refused-at, stepped, stopped, where-none}
 use Rattle.aoe_world.proofs.world.World.step.Goals as goal
 
 pub run-ran-requires-clause-goes : goal.run-ran-requires-clause-goes
@@ -32,7 +32,7 @@ invariant_of-self-in-Err c =
     let can = c.events_law.ensures.comes script c.args.event.now going.staged.good good in
     let left = c.in-Err.ensures script.setups knows can going.staged.within in
     stopped c.self.invariant c.args.event.now (c.events_law.ensures.ranges script c.args.event.now good) can
-    c.refusal_of-refusal.result left.begun left.lawful c.history.ensures.room (c.refusal_of-refusal.ensures.counted (setup_of script.setups))
+    c.refusal_of-refusal.result left.begun left.lawful c.history.ensures.room (rw c.refusal_of-refusal.ensures (counted-at (setup_of script.setups) c.run-ran.new.sim.run c.in-Err.refusal))
 
 pub returns-in-Ok-clause-comes : goal.returns-in-Ok-clause-comes
 returns-in-Ok-clause-comes c =
@@ -57,8 +57,7 @@ returns-in-Err-clause-why c =
     let knows = knows-of c.as_slice.ensures.value going (rw (← c.self.view_is) at c.requires.few) in
     let can = c.events_law.ensures.comes script c.args.event.now going.staged.good (rw (← c.self.view_is) at c.requires.good) in
     let left = c.in-Err.ensures script.setups knows can going.staged.within in
-    rw (← c.self.view_is) (where-none _ (refused-at c.refusal_of-refusal.result left (c.refusal_of-refusal.ensures.counted (setup_of script.setups))
-    c.refusal_of-refusal.ensures.full))
+    rw (← c.self.view_is) (where-none _ (refused-at c.run-ran.new.sim.run c.in-Err.refusal c.refusal_of-refusal.result c.refusal_of-refusal.ensures left))
 
 pub returns-in-Err-clause-stays : goal.returns-in-Err-clause-stays
 returns-in-Err-clause-stays c = (refl, (invariant_of-self-in-Err c).refusal)
