@@ -64,7 +64,7 @@ module _ (place : Option Place) (lists next : Settings) where
   abbrev HasBody : List ℕ → Contents → Type 0
   HasBody piece c = IsCleared place lists c × (body c.bytes (spare place) ≡ piece)
 
-  pub staged_ok : {T E S F : Type 0} (k : ℕ) (piece : List ℕ) (wrote : Result S F) (r : S) (result : Result T E) (a b c : Option Contents) → wrote ≡ Ok r → k ≡ spare place → decode piece ≡ Some (turn_after place, next)
+  pub staged_ok : {T E S F : Type 0} (k : ℕ) (piece : List ℕ) (wrote : Result S F) (r : S) (result : Result T E) (a b c : Option Contents) → wrote ≡ Ok r → k ≡ spare place → decode piece ≡ Some (record { turn = turn_after place; lists = next })
       → IfSome a (IsCleared place lists) → BothTell (WritesBody k piece wrote) a b → BothTell (Syncs result) b c → OnOk result (IfSome c (IsStaged place lists next))
   staged_ok k piece wrote r (Err e) a b c ok is reads cleared writes syncs = tt
   staged_ok {T} {E} {S} {F} k piece wrote r (Ok v) a b c ok is reads cleared writes syncs =

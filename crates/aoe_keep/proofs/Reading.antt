@@ -1,19 +1,21 @@
 -- A body that spells lists is their spelling, and why a body spells none.
-use Rattle.std.proofs.Common.{◌≡◌, ◌↔◌, ◌⊎◌, ◌≤◌, ◌<◌, ◌+◌, ◌-◌, ◌*◌, ◌==◌, ◌&&◌, cond, ℕ, zero, suc, Bool, true, false, Some, None, List, [], ◌∷◌, ◌++◌, length, take, drop, get_or, replicate, slice_index, nat_eq, refl, arith, sym, ◌∙◌, ap, length-append, length-drop, take-append-drop}
+use Rattle.std.proofs.Common.{◌≡◌, ◌↔◌, ◌⊎◌, ◌≤◌, ◌<◌, ◌+◌, ◌-◌, ◌*◌, ◌==◌, ◌&&◌, cond, ℕ, zero, suc, Bool, true, false, Some, None, List, [], ◌∷◌, ◌++◌, length, take, drop, get_or, replicate, slice_index, nat_eq, nat_le, nat_lt, refl, arith, sym, ◌∙◌, ap, length-append, length-drop, take-append-drop}
 use Rattle.std.proofs.lemmas.Option.{cond_some}
 use Rattle.std.specs.Int.{w16, to_be_bytes, from_be_bytes}
 use Rattle.std.specs.List.{All, flat_map, list_all, starts_with}
 use Rattle.std.specs.Simd.{first_chunks}
 use Rattle.std.proofs.Math.Seq.{take-add}
 use Rattle.std.proofs.lemmas.List.{drop_more, length-take-le, length-replicate}
-use Rattle.std.proofs.lemmas.Bool.{eqb-true, and_parts, and_left, and_right, and_from, cond-true, cond-false}
+use Rattle.std.proofs.lemmas.Bool.{eqb-true, leb-true, and_parts, and_left, and_right, and_from, cond-true, cond-false}
 use Rattle.std.proofs.lemmas.Nat.{be_bytes_2}
 use Rattle.std.proofs.lemmas.Slice.Eq.{starts_is}
-use Rattle.std.proofs.lemmas.Bool.Decides.{Decides-eqb, nat_tests}
+use Rattle.std.proofs.lemmas.Bool.Decides.{Decides-eqb}
 use Rattle.aoe_base.specs.Addresses.{all_unique}
 use Rattle.aoe_lists.specs.Reserves.{addresses}
-use Rattle.aoe_lists.specs.Settings.{Settings}
-use Rattle.aoe_keep.specs.Body.{mark, fields_of, is_valid, is_sound, sizes_fit, config_len, decode, spelling, written, HasFault}
+use Rattle.aoe_lists.specs.Settings.{Settings, max_config}
+use Rattle.aoe_keep.specs.declared.body.Format.{Format}
+use Rattle.aoe_keep.specs.declared.body.Written.{Written}
+use Rattle.aoe_keep.specs.Body.{mark, fields_of, is_valid, is_sound, sizes_fit, config_len, decode_by, spelling, written, HasFault, IsFormat}
 
 joined_pieces : (m : ℕ) (xs : List ℕ) → flat_map (λ a. a.0) (addresses (first_chunks 6 m xs)) ≡ take (6 * m) xs
 joined_pieces zero xs = refl
@@ -37,30 +39,30 @@ whole n m r rest = rw (← take-add n (6 * m) rest, ← take-add (n + 6 * m) (6 
 
 -- why the fields after the numbers aren't valid, and that they are
 
-module _ (turn n m r : ℕ) (rest : List ℕ) where
-  pub no_sizes : sizes_fit turn n m r ≡ false → is_valid turn n m r rest ≡ false
+module _ (f : Format) (turn n m r : ℕ) (rest : List ℕ) where
+  pub no_sizes : sizes_fit f turn n m r ≡ false → is_valid f turn n m r rest ≡ false
   unfolding is_valid
   no_sizes e = and_left _ _ e
 
-  pub no_masks : (bytes : List ℕ) → bytes ≡ drop n rest → all_unique (addresses (first_chunks 6 m bytes)) ≡ false → is_valid turn n m r rest ≡ false
+  pub no_masks : (bytes : List ℕ) → bytes ≡ drop n rest → all_unique (addresses (first_chunks 6 m bytes)) ≡ false → is_valid f turn n m r rest ≡ false
   unfolding is_valid fields_of
   no_masks bytes is e = and_right _ _ (and_left _ _ (rw is at e))
 
-  pub no_reserves : (bytes : List ℕ) → bytes ≡ drop (n + 6 * m) rest → all_unique (addresses (first_chunks 6 r bytes)) ≡ false → is_valid turn n m r rest ≡ false
+  pub no_reserves : (bytes : List ℕ) → bytes ≡ drop (n + 6 * m) rest → all_unique (addresses (first_chunks 6 r bytes)) ≡ false → is_valid f turn n m r rest ≡ false
   unfolding is_valid fields_of
   no_reserves bytes is e = and_right _ _ (and_right _ _ (and_left _ _ (rw is at e)))
 
-  pub no_zeros : (bytes : List ℕ) → bytes ≡ drop (n + 6 * m + 6 * r) rest → list_all (λ b. b == 0) bytes ≡ false → is_valid turn n m r rest ≡ false
+  pub no_zeros : (bytes : List ℕ) → bytes ≡ drop (n + 6 * m + 6 * r) rest → list_all (λ b. b == 0) bytes ≡ false → is_valid f turn n m r rest ≡ false
   unfolding is_valid
   no_zeros bytes is e =
-      let f = fields_of n m r rest in
-      and_right (sizes_fit turn n m r) _ (and_right (all_unique f.masks) _ (and_right (all_unique f.reserves) _ (rw is at e)))
+      let s = fields_of n m r rest in
+      and_right (sizes_fit f turn n m r) _ (and_right (all_unique s.masks) _ (and_right (all_unique s.reserves) _ (rw is at e)))
 
   pub all_fields : (s : Settings) → s.config ≡ take n rest → s.masks ≡ addresses (first_chunks 6 m (drop n rest)) → s.reserves ≡ addresses (first_chunks 6 r (drop (n + 6 * m) rest)) → s ≡ fields_of n m r rest
   unfolding fields_of
   all_fields s c ms rs = λ i. record { config = c i; masks = ms i; reserves = rs i }
 
-  pub all_valid : (s : Settings) (bytes : List ℕ) → s ≡ fields_of n m r rest → bytes ≡ drop (n + 6 * m + 6 * r) rest → sizes_fit turn n m r ≡ true → all_unique s.masks ≡ true → all_unique s.reserves ≡ true → list_all (λ b. b == 0) bytes ≡ true → is_valid turn n m r rest ≡ true
+  pub all_valid : (s : Settings) (bytes : List ℕ) → s ≡ fields_of n m r rest → bytes ≡ drop (n + 6 * m + 6 * r) rest → sizes_fit f turn n m r ≡ true → all_unique s.masks ≡ true → all_unique s.reserves ≡ true → list_all (λ b. b == 0) bytes ≡ true → is_valid f turn n m r rest ≡ true
   unfolding is_valid
   all_valid s bytes is end sizes ms rs zeros = and_from _ _ sizes (rw (← is) (and_from _ _ ms (and_from _ _ rs (rw end at zeros))))
 
@@ -71,22 +73,22 @@ config_read body size =
     let two : drop 6 body ≡ get_or body 6 0 ∷ get_or body 7 0 ∷ drop 8 body = one ∙ (λ i. get_or body 6 0 ∷ drop_more body 7 0 (omega (arith, size)) i) in
     ap (from_be_bytes w16) (ap (take 2) (sym two))
 
-pub decode_no_mark : (body : List ℕ) → starts_with nat_eq body mark ≡ false → None ≡ decode body
-unfolding decode
-decode_no_mark body e = sym (cond-false _ _ None (and_left _ _ e))
+pub decode_no_mark : (f : Format) (body : List ℕ) → starts_with nat_eq body (mark f) ≡ false → None ≡ decode_by f body
+unfolding decode_by
+decode_no_mark f body e = sym (cond-false _ _ None (and_left _ _ e))
 
-module _ (body rest : List ℕ) (n m r : ℕ) (en : n ≡ config_len body) (em : m ≡ slice_index body 8) (er : r ≡ slice_index body 9) (is : rest ≡ drop 10 body) where
-  valid_same : (b : Bool) → is_valid (slice_index body 5) n m r rest ≡ b → is_valid (slice_index body 5) (config_len body) (slice_index body 8) (slice_index body 9) (drop 10 body) ≡ b
-  valid_same b e = (λ i. is_valid (slice_index body 5) (sym en i) (sym em i) (sym er i) (sym is i)) ∙ e
+module _ (f : Format) (body rest : List ℕ) (n m r : ℕ) (en : n ≡ config_len body) (em : m ≡ slice_index body 8) (er : r ≡ slice_index body 9) (is : rest ≡ drop 10 body) where
+  valid_same : (b : Bool) → is_valid f (slice_index body 5) n m r rest ≡ b → is_valid f (slice_index body 5) (config_len body) (slice_index body 8) (slice_index body 9) (drop 10 body) ≡ b
+  valid_same b e = (λ i. is_valid f (slice_index body 5) (sym en i) (sym em i) (sym er i) (sym is i)) ∙ e
 
-  pub decode_invalid : is_valid (slice_index body 5) n m r rest ≡ false → None ≡ decode body
-  unfolding decode
+  pub decode_invalid : is_valid f (slice_index body 5) n m r rest ≡ false → None ≡ decode_by f body
+  unfolding decode_by
   decode_invalid e = sym (cond-false _ _ None (and_right _ _ (valid_same false e)))
 
-  pub decode_valid : (x : Settings) → starts_with nat_eq body mark ≡ true → is_valid (slice_index body 5) n m r rest ≡ true → x ≡ fields_of n m r rest → Some (slice_index body 5, x) ≡ decode body
-  unfolding decode
+  pub decode_valid : (x : Settings) → starts_with nat_eq body (mark f) ≡ true → is_valid f (slice_index body 5) n m r rest ≡ true → x ≡ fields_of n m r rest → Some (record { turn = slice_index body 5; lists = x }) ≡ decode_by f body
+  unfolding decode_by
   decode_valid x s e ex =
-      ap (λ (y : Settings). Some (slice_index body 5, y)) (ex ∙ (λ i. fields_of (en i) (em i) (er i) (is i)))
+      ap (λ (y : Settings). let w : Written = record { turn = slice_index body 5; lists = y } in Some w) (ex ∙ (λ i. fields_of (en i) (em i) (er i) (is i)))
       ∙ sym (cond-true _ _ None (and_from _ _ s (valid_same true e)))
 
 -- a body that spells lists is their spelling
@@ -98,15 +100,19 @@ fields_whole n m r rest fits zeros =
     let tail = rw (length-drop (n + 6 * m + 6 * r) rest) at (only_zeros (drop (n + 6 * m + 6 * r) rest) zeros) in
     whole n m r rest ∙ rw (joined_pieces m (drop n rest), joined_pieces r (drop (n + 6 * m) rest), tail) refl
 
-sizes_total : (turn n m r : ℕ) → sizes_fit turn n m r ≡ true → n + 6 * m + 6 * r ≤ 1792
-sizes_total turn n m r fit = grind (arith, nat_tests)
+sizes_total : (f : Format) (turn n m r : ℕ) → IsFormat f → sizes_fit f turn n m r ≡ true → n + 6 * m + 6 * r ≤ 3574
+sizes_total f turn n m r is fit =
+    let parts = and_parts (nat_lt turn 3) _ fit in
+    let sizes = and_parts (nat_le n max_config) _ parts.1 in
+    let lists = and_parts (nat_le m f.most) (nat_le r f.most) sizes.1 in
+    omega (arith, leb-true _ _ sizes.0, leb-true _ _ lists.0, leb-true _ _ lists.1, is.room)
 
-assembled : (body : List ℕ) (turn high low m r : ℕ) (rest : List ℕ) (s : Settings) (k : ℕ) → length body ≡ 3584 → body ≡ mark ++ (turn ∷ high ∷ low ∷ m ∷ r ∷ rest) → to_be_bytes w16 (length s.config) ≡ high ∷ low ∷ [] → length s.masks ≡ m → length s.reserves ≡ r
-    → rest ≡ s.config ++ flat_map (λ a. a.0) s.masks ++ flat_map (λ a. a.0) s.reserves ++ replicate k 0 → body ≡ spelling turn s
+assembled : (f : Format) (body : List ℕ) (turn high low m r : ℕ) (rest : List ℕ) (s : Settings) (k : ℕ) → length body ≡ 3584 → body ≡ mark f ++ (turn ∷ high ∷ low ∷ m ∷ r ∷ rest) → to_be_bytes w16 (length s.config) ≡ high ∷ low ∷ [] → length s.masks ≡ m → length s.reserves ≡ r
+    → rest ≡ s.config ++ flat_map (λ a. a.0) s.masks ++ flat_map (λ a. a.0) s.reserves ++ replicate k 0 → body ≡ spelling f turn s
 unfolding spelling
-assembled body turn high low m r rest s k size is eb em er fields =
-    let all : body ≡ written turn s ++ replicate k 0 = is ∙ (λ i. mark ++ (turn ∷ (sym eb i ++ (sym em i ∷ sym er i ∷ fields i)))) in
-    let pad : k ≡ 3584 - length (written turn s) = omega (arith, ap length all, size, length-append (written turn s) (replicate k 0), length-replicate {A = ℕ} k 0) in
+assembled f body turn high low m r rest s k size is eb em er fields =
+    let all : body ≡ written f turn s ++ replicate k 0 = is ∙ (λ i. mark f ++ (turn ∷ (sym eb i ++ (sym em i ∷ sym er i ∷ fields i)))) in
+    let pad : k ≡ 3584 - length (written f turn s) = omega (arith, ap length all, size, length-append (written f turn s) (replicate k 0), length-replicate {A = ℕ} k 0) in
     rw pad at all
 
 two_bytes : (high low : ℕ) → high < 256 → low < 256 → (i : ℕ) → get_or (high ∷ low ∷ []) i 0 < 256
@@ -117,35 +123,35 @@ numbers body size =
     let at : (k : ℕ) → k < 10 → drop k body ≡ get_or body k 0 ∷ drop (k + 1) body = λ k l. drop_more body k 0 (omega (arith, size, l)) in
     rw (at 5 (omega arith), at 6 (omega arith), at 7 (omega arith), at 8 (omega arith), at 9 (omega arith)) refl
 
-spelling_of : (body : List ℕ) (n m r : ℕ) → length body ≡ 3584 → All (λ b. b < 256) body → n ≡ config_len body → m ≡ get_or body 8 0 → r ≡ get_or body 9 0 → starts_with nat_eq body mark ≡ true → is_valid (get_or body 5 0) n m r (drop 10 body) ≡ true
-    → body ≡ spelling (get_or body 5 0) (fields_of n m r (drop 10 body))
+spelling_of : (f : Format) (body : List ℕ) (n m r : ℕ) → IsFormat f → length body ≡ 3584 → All (λ b. b < 256) body → n ≡ config_len body → m ≡ get_or body 8 0 → r ≡ get_or body 9 0 → starts_with nat_eq body (mark f) ≡ true
+    → is_valid f (get_or body 5 0) n m r (drop 10 body) ≡ true → body ≡ spelling f (get_or body 5 0) (fields_of n m r (drop 10 body))
 unfolding is_valid fields_of
-spelling_of body n m r size bytes en em er starts valid =
+spelling_of f body n m r is size bytes en em er starts valid =
     let rest = drop 10 body in
-    let f = fields_of n m r rest in
-    let parts = and_parts (sizes_fit (get_or body 5 0) n m r) (is_sound f (drop (n + 6 * m + 6 * r) rest)) valid in
-    let total = sizes_total (get_or body 5 0) n m r parts.0 in
-    let zeros = (and_parts (all_unique f.reserves) _ (and_parts (all_unique f.masks) _ parts.1).1).1 in
+    let s = fields_of n m r rest in
+    let parts = and_parts (sizes_fit f (get_or body 5 0) n m r) (is_sound s (drop (n + 6 * m + 6 * r) rest)) valid in
+    let total = sizes_total f (get_or body 5 0) n m r is parts.0 in
+    let zeros = (and_parts (all_unique s.reserves) _ (and_parts (all_unique s.masks) _ parts.1).1).1 in
     let long : length rest ≡ 3574 = omega (arith, size, length-drop 10 body) in
     let high : get_or body 6 0 < 256 = bytes 6 0 (omega (arith, size)) in
     let low : get_or body 7 0 < 256 = bytes 7 0 (omega (arith, size)) in
-    let config : length f.config ≡ n = length-take-le n rest (omega (arith, long, total)) in
-    let written_len : to_be_bytes w16 (length f.config) ≡ get_or body 6 0 ∷ get_or body 7 0 ∷ [] =
-    be_bytes_2 (get_or body 6 0 ∷ get_or body 7 0 ∷ []) (length f.config) refl (two_bytes _ _ high low) (config ∙ en ∙ sym (config_read body size)) in
-    let begins : body ≡ mark ++ drop 5 body = (starts_is {E = nat_eq} Decides-eqb body mark true (sym starts)).0 refl in
-    assembled body (get_or body 5 0) (get_or body 6 0) (get_or body 7 0) (get_or body 8 0) (get_or body 9 0) rest f (length rest - (n + 6 * m + 6 * r)) size
-    (begins ∙ (λ i. mark ++ numbers body size i)) written_len (length-pieces m (drop n rest) ∙ em) (length-pieces r (drop (n + 6 * m) rest) ∙ er)
+    let config : length s.config ≡ n = length-take-le n rest (omega (arith, long, total)) in
+    let written_len : to_be_bytes w16 (length s.config) ≡ get_or body 6 0 ∷ get_or body 7 0 ∷ [] =
+    be_bytes_2 (get_or body 6 0 ∷ get_or body 7 0 ∷ []) (length s.config) refl (two_bytes _ _ high low) (config ∙ en ∙ sym (config_read body size)) in
+    let begins : body ≡ mark f ++ drop 5 body = (starts_is {E = nat_eq} Decides-eqb body (mark f) true (sym starts)).0 refl in
+    assembled f body (get_or body 5 0) (get_or body 6 0) (get_or body 7 0) (get_or body 8 0) (get_or body 9 0) rest s (length rest - (n + 6 * m + 6 * r)) size
+    (begins ∙ (λ i. mark f ++ numbers body size i)) written_len (length-pieces m (drop n rest) ∙ em) (length-pieces r (drop (n + 6 * m) rest) ∙ er)
     (fields_whole n m r rest (omega (arith, long, total)) zeros)
 
-pub one_spelling : (body : List ℕ) (turn : ℕ) (lists : Settings) → length body ≡ 3584 → All (λ b. b < 256) body → decode body ≡ Some (turn, lists) → body ≡ spelling turn lists
-unfolding decode
-one_spelling body turn lists size bytes e =
+pub one_spelling : (f : Format) (body : List ℕ) (b : Written) → IsFormat f → length body ≡ 3584 → All (λ b. b < 256) body → decode_by f body ≡ Some b → body ≡ spelling f b.turn b.lists
+unfolding decode_by
+one_spelling f body b is size bytes e =
     let n = config_len body in
     let m = slice_index body 8 in
     let r = slice_index body 9 in
-    let w = cond_some (starts_with nat_eq body mark && is_valid (slice_index body 5) n m r (drop 10 body)) (slice_index body 5, fields_of n m r (drop 10 body)) (turn, lists) e in
-    let both = and_parts (starts_with nat_eq body mark) (is_valid (slice_index body 5) n m r (drop 10 body)) w.0 in
-    spelling_of body n m r size bytes refl refl refl both.0 both.1 ∙ ap (λ (p : ℕ × Settings). spelling p.0 p.1) w.1
+    let w = cond_some (starts_with nat_eq body (mark f) && is_valid f (slice_index body 5) n m r (drop 10 body)) (record { turn = slice_index body 5; lists = fields_of n m r (drop 10 body) }) b e in
+    let both = and_parts (starts_with nat_eq body (mark f)) (is_valid f (slice_index body 5) n m r (drop 10 body)) w.0 in
+    spelling_of f body n m r is size bytes refl refl refl both.0 both.1 ∙ ap (λ (x : Written). spelling f x.turn x.lists) w.1
 
 -- why a body spells no lists
 
@@ -155,14 +161,15 @@ all_true a b c d e x is = grind arith
 one_false : {X : Type 0} (a b c d e : Bool) (x : X) → (a ≡ false) ⊎ ((b ≡ false) ⊎ ((c ≡ false) ⊎ ((d ≡ false) ⊎ (e ≡ false)))) → cond (a && (b && (c && (d && e)))) (Some x) None ≡ None
 one_false a b c d e x is = grind arith
 
-pub faults : (body : List ℕ) → (decode body ≡ None) ↔ HasFault body
-unfolding decode is_valid
-faults body =
+pub faults : (f : Format) (body : List ℕ) → (decode_by f body ≡ None) ↔ HasFault f body
+unfolding decode_by is_valid
+faults f body =
     let n = config_len body in
     let m = slice_index body 8 in
     let r = slice_index body 9 in
-    let f = fields_of n m r (drop 10 body) in
-    let end = drop (n + 6 * m + 6 * r) (drop 10 body) in (
-      all_true (starts_with nat_eq body mark) (sizes_fit (slice_index body 5) n m r) (all_unique f.masks) (all_unique f.reserves) (list_all (λ b. b == 0) end) (slice_index body 5, f),
-      one_false (starts_with nat_eq body mark) (sizes_fit (slice_index body 5) n m r) (all_unique f.masks) (all_unique f.reserves) (list_all (λ b. b == 0) end) (slice_index body 5, f),
+    let s = fields_of n m r (drop 10 body) in
+    let end = drop (n + 6 * m + 6 * r) (drop 10 body) in
+    let spelt : Written = record { turn = slice_index body 5; lists = s } in (
+      all_true (starts_with nat_eq body (mark f)) (sizes_fit f (slice_index body 5) n m r) (all_unique s.masks) (all_unique s.reserves) (list_all (λ b. b == 0) end) spelt,
+      one_false (starts_with nat_eq body (mark f)) (sizes_fit f (slice_index body 5) n m r) (all_unique s.masks) (all_unique s.reserves) (list_all (λ b. b == 0) end) spelt,
     )

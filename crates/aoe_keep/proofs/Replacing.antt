@@ -6,6 +6,7 @@ use Rattle.aoe_disk.specs.State.{Contents, HasShape, is_loose}
 use Rattle.aoe_disk.specs.Calls.{Settles}
 use Rattle.aoe_disk.specs.Sectors.{Touches, Calms}
 use Rattle.aoe_disk.proofs.Touching.{settles_calm, settles_kept}
+use Rattle.aoe_keep.specs.declared.body.Written.{Written}
 use Rattle.aoe_keep.specs.Body.{decode}
 use Rattle.aoe_keep.specs.Found.{body, is_open, next_turn, Finds, IsOffered}
 use Rattle.aoe_keep.specs.Stages.{NoneLoose, StaysBody, StaysOpen, spare, turn_after, is_unplaced, next_place, IsSteady, IsOtherTurn, IsChoosable, IsSpare, IsKept, IsCleared, IsStaged, IsOpened, IsInterrupted, IsReplaced}
@@ -24,15 +25,15 @@ other_turn : (place : Option Place) (lists : Settings) (c : Contents) → IsStea
 other_turn None lists c steady = tt
 other_turn (Some p) lists c steady = (omega arith, λ e. omega (arith, steady.1, e))
 
-outcome_next : (place : Option Place) (lists next : Settings) → outcome place lists (Some (turn_after place, next)) ≡ next
+outcome_next : (place : Option Place) (lists next : Settings) → outcome place lists (Some (record { turn = turn_after place; lists = next })) ≡ next
 outcome_next None lists next = refl
 outcome_next (Some p) lists next = rw (eq-eqb (next_turn p.turn) (next_turn p.turn) refl) refl
 
 -- the slot that is spare from now on holds the lists before, behind an open gate
-spare_some : (k t : ℕ) (lists : Settings) (c : Contents) → k < 2 → t < 3 → StaysOpen c k (t, lists) → IsSpare (Some (record { slot = 1 - k; turn = next_turn t })) false c
+spare_some : (k t : ℕ) (lists : Settings) (c : Contents) → k < 2 → t < 3 → StaysOpen c k (record { turn = t; lists = lists }) → IsSpare (Some (record { slot = 1 - k; turn = next_turn t })) false c
 spare_some k t lists c lk lt holds =
     let back : k ≡ 1 - (1 - k) = omega (arith, lk) in
-    ((t, lists), record { body = rw back at holds.body; turn = (lt, λ e. omega (arith, lt, e)) }, inr (rw back at holds.gate))
+    (record { turn = t; lists = lists }, record { body = rw back at holds.body; turn = (lt, λ e. omega (arith, lt, e)) }, inr (rw back at holds.gate))
 
 spare_after : (place : Option Place) (lists : Settings) (c : Contents) → IsSteady place lists c → IsSpare (next_place place) (is_unplaced place) c
 spare_after None lists c steady = (steady.1.gate, inl steady.1)
@@ -100,7 +101,7 @@ module _ (place : Option Place) (lists next : Settings) where
   pub cleared_calm : (c d : Contents) → IsCleared place lists c → Calms c d → IsCleared place lists d
   cleared_calm c d cleared calm = record { steady = steady_calm c d calm place lists cleared.steady; closed = closed_calm c d calm (spare place) cleared.closed }
 
-  pub stage_done : (c d : Contents) → IsCleared place lists c → decode (body c.bytes (spare place)) ≡ Some (turn_after place, next) → Settles c d → IsStaged place lists next d
+  pub stage_done : (c d : Contents) → IsCleared place lists c → decode (body c.bytes (spare place)) ≡ Some (record { turn = turn_after place; lists = next }) → Settles c d → IsStaged place lists next d
   stage_done c d cleared spells settles = record {
     cleared = cleared_calm c d cleared (settles_calm c d settles);
     body = record { spells = rw settles.bytes spells; kept = none_loose c d settles (8 * spare place + 1) 7 };
@@ -108,22 +109,25 @@ module _ (place : Option Place) (lists next : Settings) where
 
   -- calls 5 and 6
 
-  half_open : (before d : Contents) → IsSteady place lists d → StaysBody d (spare place) (turn_after place, next) → (is_loose d.loose (8 * spare place) ≡ true) ⊎ (is_open d.bytes (spare place) ≡ true) → IsInterrupted place false lists next before d
+  abbrev next_body : Written
+  next_body = record { turn = turn_after place; lists = next }
+
+  half_open : (before d : Contents) → IsSteady place lists d → StaysBody d (spare place) next_body → (is_loose d.loose (8 * spare place) ≡ true) ⊎ (is_open d.bytes (spare place) ≡ true) → IsInterrupted place false lists next before d
   half_open before d steady has gate =
-      let ready : IsChoosable place d (turn_after place, next) = record { body = has; turn = other_turn place lists d steady } in
+      let ready : IsChoosable place d next_body = record { body = has; turn = other_turn place lists d steady } in
       record {
-        kept = record { steady = steady; spare = ((turn_after place, next), ready, gate) };
+        kept = record { steady = steady; spare = (next_body, ready, gate) };
         finds = weaker _ _ d
             (λ l o. elim o [ inl e ↦ inl e | inr e ↦ inr (inl (e ∙ outcome_next place lists next)) ])
-            (finds_ready place lists d steady (turn_after place, next) ready);
+            (finds_ready place lists d steady next_body ready);
       }
 
   module _ (c d : Contents) (staged : IsStaged place lists next c) (touch : Touches (8 * spare place) 1 c d) where
     steady_staged : IsSteady place lists d
     steady_staged = steady_touch place lists (8 * spare place) 1 c d gate_within touch staged.cleared.steady
 
-    body_staged : StaysBody d (spare place) (turn_after place, next)
-    body_staged = body_touch (8 * spare place) 1 c d touch (spare place) (turn_after place, next) (λ s l h. inr (omega arith)) staged.body
+    body_staged : StaysBody d (spare place) next_body
+    body_staged = body_touch (8 * spare place) 1 c d touch (spare place) next_body (λ s l h. inr (omega arith)) staged.body
 
     pub open_failed : (before : Contents) → is_loose d.loose (8 * spare place) ≡ true → IsInterrupted place false lists next before d
     open_failed before loose = half_open before d steady_staged body_staged (inl loose)
@@ -132,23 +136,23 @@ module _ (place : Option Place) (lists next : Settings) where
     opened gate = record { steady = steady_staged; gate = gate; body = body_staged }
 
   pub last_failed : (before c d : Contents) → IsOpened place lists next c → Calms c d → IsInterrupted place false lists next before d
-  last_failed before c d o calm = half_open before d (steady_calm c d calm place lists o.steady) (body_calm c d calm (spare place) (turn_after place, next) o.body) (inr (gate_calm c d calm (spare place) true o.gate))
+  last_failed before c d o calm = half_open before d (steady_calm c d calm place lists o.steady) (body_calm c d calm (spare place) next_body o.body) (inr (gate_calm c d calm (spare place) true o.gate))
 
   pub replaced : (c d : Contents) → IsOpened place lists next c → Settles c d → IsReplaced place next d
   replaced c d o settles =
       let calm : Calms c d = settles_calm c d settles in
       let steady : IsSteady place lists d = steady_calm c d calm place lists o.steady in
-      let holds : StaysOpen d (spare place) (turn_after place, next) = record {
+      let holds : StaysOpen d (spare place) next_body = record {
         gate = gate_calm c d calm (spare place) true o.gate;
         kept = none_loose c d settles (8 * spare place) 1;
-        body = body_calm c d calm (spare place) (turn_after place, next) o.body;
+        body = body_calm c d calm (spare place) next_body o.body;
       } in
       let small : spare place < 2 = omega (arith, spare_small place) in
       record {
         kept = record { steady = (small, turn_after_small place, holds); spare = spare_after place lists d steady };
         finds = λ image left. (
           next,
-          found_by place lists d image (Some (turn_after place, next)) steady left (open_after d (spare place) (turn_after place, next) image holds left) (other_turn place lists d steady)
+          found_by place lists d image (Some (record { turn = turn_after place; lists = next })) steady left (open_after d (spare place) next_body image holds left) (other_turn place lists d steady)
               ∙ ap (λ (x : Settings). let r : Result Settings ℕ = Ok x in r) (outcome_next place lists next),
           refl,
         );

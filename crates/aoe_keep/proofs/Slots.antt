@@ -6,6 +6,7 @@ use Rattle.std.proofs.lemmas.List.{length-set, drop-set-lt, get_or-set_same, get
 use Rattle.aoe_lists.specs.Settings.{Settings}
 use Rattle.aoe_disk.specs.State.{Contents, CanLeave, HasShape, sector, is_loose}
 use Rattle.aoe_disk.proofs.Touching.{range_same, sector_front, sector_back}
+use Rattle.aoe_keep.specs.declared.body.Written.{Written}
 use Rattle.aoe_keep.specs.Body.{decode}
 use Rattle.aoe_keep.specs.Found.{slot, body, is_open, next_turn, choice, found}
 use Rattle.aoe_keep.specs.Stages.{NoneLoose, StaysClosed, StaysBody, StaysOpen, spare, IsSteady, IsOtherTurn}
@@ -27,7 +28,7 @@ left_same c image lo n left kept = λ s l h. left.kept s (kept s l h)
 pub closed_slot : (image : List ℕ) (k : ℕ) → is_open image k ≡ false → slot image k ≡ None
 closed_slot image k e = rw e refl
 
-pub open_slot : (image : List ℕ) (k : ℕ) (o : Option (ℕ × Settings)) → is_open image k ≡ true → decode (body image k) ≡ o → slot image k ≡ Some o
+pub open_slot : (image : List ℕ) (k : ℕ) (o : Option Written) → is_open image k ≡ true → decode (body image k) ≡ o → slot image k ≡ Some o
 open_slot image k o e r = rw (e, r) refl
 
 module _ (c : Contents) (k : ℕ) where
@@ -37,7 +38,7 @@ module _ (c : Contents) (k : ℕ) where
   pub closed_after : (image : List ℕ) → StaysClosed c k → CanLeave c image → slot image k ≡ None
   closed_after image closed left = closed_slot image k (gate_left image false closed.kept closed.gate left)
 
-  module _ (b : ℕ × Settings) (image : List ℕ) where
+  module _ (b : Written) (image : List ℕ) where
     body_read : StaysBody c k b → CanLeave c image → decode (body image k) ≡ Some b
     body_read has left = ap decode (body_same image c.bytes k (left_same c image (8 * k + 1) 7 left has.kept)) ∙ has.spells
 
@@ -58,38 +59,38 @@ rivals a b la lb ne = elim (cases_eq a (next_turn b)) [
 ]
 
 -- the lists that are found, by what the spare slot holds
-abbrev pub outcome : Option Place → Settings → Option (ℕ × Settings) → Settings
+abbrev pub outcome : Option Place → Settings → Option Written → Settings
 outcome place lists None = lists
-outcome None lists (Some b) = b.1
-outcome (Some p) lists (Some b) = cond (b.0 == next_turn p.turn) b.1 lists
+outcome None lists (Some b) = b.lists
+outcome (Some p) lists (Some b) = cond (b.turn == next_turn p.turn) b.lists lists
 
-first_holds : (t : ℕ) (lists : Settings) (b : ℕ × Settings) → t < 3 → b.0 < 3 → b.0 ≢ t → choice (Some (Some (t, lists))) (Some (Some b)) ≡ Ok (cond (b.0 == next_turn t) b.1 lists)
-first_holds t lists b lt lb ne = grind (arith, nat_tests, rivals b.0 t lb lt ne)
+first_holds : (t : ℕ) (lists : Settings) (b : Written) → t < 3 → b.turn < 3 → b.turn ≢ t → choice (Some (Some (record { turn = t; lists = lists }))) (Some (Some b)) ≡ Ok (cond (b.turn == next_turn t) b.lists lists)
+first_holds t lists b lt lb ne = grind (arith, nat_tests, rivals b.turn t lb lt ne)
 
-second_holds : (t : ℕ) (lists : Settings) (b : ℕ × Settings) → t < 3 → b.0 < 3 → b.0 ≢ t → choice (Some (Some b)) (Some (Some (t, lists))) ≡ Ok (cond (b.0 == next_turn t) b.1 lists)
-second_holds t lists b lt lb ne = grind (arith, nat_tests, rivals b.0 t lb lt ne)
+second_holds : (t : ℕ) (lists : Settings) (b : Written) → t < 3 → b.turn < 3 → b.turn ≢ t → choice (Some (Some b)) (Some (Some (record { turn = t; lists = lists }))) ≡ Ok (cond (b.turn == next_turn t) b.lists lists)
+second_holds t lists b lt lb ne = grind (arith, nat_tests, rivals b.turn t lb lt ne)
 
 -- a slot that isn't bad
-abbrev pub seen : Option (ℕ × Settings) → Option (Option (ℕ × Settings))
+abbrev pub seen : Option Written → Option (Option Written)
 seen None = None
 seen (Some b) = Some (Some b)
 
-abbrev pub IsRival : Option Place → Option (ℕ × Settings) → Type 0
+abbrev pub IsRival : Option Place → Option Written → Type 0
 IsRival place None = Unit {0}
-IsRival place (Some b) = IsOtherTurn place b.0
+IsRival place (Some b) = IsOtherTurn place b.turn
 
-found_of : (image : List ℕ) (a b : Option (Option (ℕ × Settings))) → slot image 0 ≡ a → slot image 1 ≡ b → found image ≡ choice a b
+found_of : (image : List ℕ) (a b : Option (Option Written)) → slot image 0 ≡ a → slot image 1 ≡ b → found image ≡ choice a b
 found_of image a b ea eb = λ i. choice (ea i) (eb i)
 
-found_some : (k t : ℕ) (lists : Settings) (c : Contents) (image : List ℕ) (o : Option (ℕ × Settings)) → k < 2 → t < 3 → StaysOpen c k (t, lists) → CanLeave c image
+found_some : (k t : ℕ) (lists : Settings) (c : Contents) (image : List ℕ) (o : Option Written) → k < 2 → t < 3 → StaysOpen c k (record { turn = t; lists = lists }) → CanLeave c image
     → slot image (1 - k) ≡ seen o → IsRival (Some (record { slot = k; turn = t })) o → found image ≡ Ok (outcome (Some (record { slot = k; turn = t })) lists o)
-found_some zero t lists c image None lk lt holds left e rival = found_of image _ _ (open_after c 0 (t, lists) image holds left) e
-found_some zero t lists c image (Some b) lk lt holds left e rival = found_of image _ _ (open_after c 0 (t, lists) image holds left) e ∙ first_holds t lists b lt rival.0 rival.1
-found_some (suc zero) t lists c image None lk lt holds left e rival = found_of image _ _ e (open_after c 1 (t, lists) image holds left)
-found_some (suc zero) t lists c image (Some b) lk lt holds left e rival = found_of image _ _ e (open_after c 1 (t, lists) image holds left) ∙ second_holds t lists b lt rival.0 rival.1
+found_some zero t lists c image None lk lt holds left e rival = found_of image _ _ (open_after c 0 (record { turn = t; lists = lists }) image holds left) e
+found_some zero t lists c image (Some b) lk lt holds left e rival = found_of image _ _ (open_after c 0 (record { turn = t; lists = lists }) image holds left) e ∙ first_holds t lists b lt rival.0 rival.1
+found_some (suc zero) t lists c image None lk lt holds left e rival = found_of image _ _ e (open_after c 1 (record { turn = t; lists = lists }) image holds left)
+found_some (suc zero) t lists c image (Some b) lk lt holds left e rival = found_of image _ _ e (open_after c 1 (record { turn = t; lists = lists }) image holds left) ∙ second_holds t lists b lt rival.0 rival.1
 found_some (suc (suc k)) t lists c image o lk lt holds left e rival = absurd (omega (arith, lk))
 
-pub found_by : (place : Option Place) (lists : Settings) (c : Contents) (image : List ℕ) (o : Option (ℕ × Settings)) → IsSteady place lists c → CanLeave c image
+pub found_by : (place : Option Place) (lists : Settings) (c : Contents) (image : List ℕ) (o : Option Written) → IsSteady place lists c → CanLeave c image
     → slot image (spare place) ≡ seen o → IsRival place o → found image ≡ Ok (outcome place lists o)
 found_by None lists c image None steady left e rival = found_of image _ _ e (closed_after c 1 image steady.1 left) ∙ ap (λ (x : Settings). let r : Result Settings ℕ = Ok x in r) (sym steady.0)
 found_by None lists c image (Some b) steady left e rival = found_of image _ _ e (closed_after c 1 image steady.1 left)
@@ -100,7 +101,7 @@ spare_small None = omega arith
 spare_small (Some p) = omega arith
 
 -- a crash can leave a gate open that is loose, or that is open
-pub reopened : (c : Contents) (k sectors : ℕ) (b : ℕ × Settings) → HasShape sectors c → 16 ≤ sectors → k ≤ 1 → StaysBody c k b → (is_loose c.loose (8 * k) ≡ true) ⊎ (is_open c.bytes k ≡ true)
+pub reopened : (c : Contents) (k sectors : ℕ) (b : Written) → HasShape sectors c → 16 ≤ sectors → k ≤ 1 → StaysBody c k b → (is_loose c.loose (8 * k) ≡ true) ⊎ (is_open c.bytes k ≡ true)
     → (image : List ℕ) × CanLeave c image × (slot image k ≡ Some (Some b))
 reopened c k sectors b shape room lk has (inr opened) = (c.bytes, record { size = refl; kept = λ s e. refl }, open_slot c.bytes k (Some b) opened has.spells)
 reopened c k sectors b shape room lk has (inl loose) =

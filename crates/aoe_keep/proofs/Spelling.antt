@@ -1,15 +1,17 @@
 -- What is spelled is read again.
-use Rattle.std.proofs.Common.{◌≡◌, ◌+◌, ◌-◌, ◌*◌, ◌==◌, ◌&&◌, cond, ℕ, zero, suc, true, Option, Some, None, List, [], ◌∷◌, ◌++◌, length, take, drop, replicate, refl, arith, sym, ◌∙◌, ap, length-append, append_assoc}
+use Rattle.std.proofs.Common.{◌≡◌, ◌+◌, ◌-◌, ◌*◌, ◌==◌, ◌&&◌, cond, ℕ, zero, suc, true, Option, Some, None, List, [], ◌∷◌, ◌++◌, length, take, drop, replicate, nat_eq, refl, arith, sym, ◌∙◌, ap, length-append, append_assoc}
 use Rattle.std.specs.Int.{w16, to_be_bytes, from_be_bytes}
-use Rattle.std.specs.List.{All, flat_map, list_all}
+use Rattle.std.specs.List.{All, flat_map, list_all, starts_with}
 use Rattle.std.specs.Simd.{first_chunks}
 use Rattle.std.proofs.lemmas.List.{take_at, drop_at, drop-drop, length-replicate}
-use Rattle.std.proofs.lemmas.Bool.{lt-ltb, le-leb, and_from, cond-true}
+use Rattle.std.proofs.lemmas.Bool.{lt-ltb, le-leb, eq-eqb, and_from, cond-true}
 use Rattle.std.proofs.lemmas.Nat.{from_be_bytes-to_be_bytes_2}
 use Rattle.aoe_base.specs.declared.address.Mac.{Mac}
 use Rattle.aoe_lists.specs.Reserves.{addresses}
-use Rattle.aoe_lists.specs.Settings.{Settings}
-use Rattle.aoe_keep.specs.Body.{Fits, fields_of, is_valid, decode, spelling, written, head_of}
+use Rattle.aoe_lists.specs.Settings.{Settings, max_config}
+use Rattle.aoe_keep.specs.declared.body.Format.{Format}
+use Rattle.aoe_keep.specs.declared.body.Written.{Written}
+use Rattle.aoe_keep.specs.Body.{mark, Fits, IsFormat, fields_of, is_valid, decode_by, spelling, written, head_of}
 
 six_tail : (a : Mac) (list : List Mac) → All (λ b. length b.0 ≡ 6) (a ∷ list) → All (λ b. length b.0 ≡ 6) list
 six_tail a list six = λ k d l. six (suc k) d (omega (arith, l))
@@ -31,12 +33,12 @@ zeros : (k : ℕ) → list_all (λ b. b == 0) (replicate k 0) ≡ true
 zeros zero = refl
 zeros (suc k) = zeros k
 
-module _ (turn : ℕ) (s : Settings) (fits : Fits turn s) (pad : ℕ) where
+module _ (f : Format) (turn : ℕ) (s : Settings) (fits : Fits f turn s) (pad : ℕ) where
   part : (c m r z : List ℕ) (n k : ℕ) → length c ≡ n → length m ≡ k → (drop n (c ++ m ++ r ++ z) ≡ m ++ (r ++ z)) × (drop (n + k) (c ++ m ++ r ++ z) ≡ r ++ z) × (take n (c ++ m ++ r ++ z) ≡ c)
   part c m r z n k lc lm =
-      let f : c ++ m ++ r ++ z ≡ c ++ (m ++ (r ++ z)) = append_assoc (c ++ m) r z ∙ append_assoc c m (r ++ z) in
-      let d : drop n (c ++ m ++ r ++ z) ≡ m ++ (r ++ z) = ap (drop n) f ∙ drop_at c _ n lc in
-      (d, sym (drop-drop k n (c ++ m ++ r ++ z)) ∙ ap (drop k) d ∙ drop_at m (r ++ z) k lm, ap (take n) f ∙ take_at c _ n lc)
+      let all : c ++ m ++ r ++ z ≡ c ++ (m ++ (r ++ z)) = append_assoc (c ++ m) r z ∙ append_assoc c m (r ++ z) in
+      let d : drop n (c ++ m ++ r ++ z) ≡ m ++ (r ++ z) = ap (drop n) all ∙ drop_at c _ n lc in
+      (d, sym (drop-drop k n (c ++ m ++ r ++ z)) ∙ ap (drop k) d ∙ drop_at m (r ++ z) k lm, ap (take n) all ∙ take_at c _ n lc)
 
   fields_back : fields_of (length s.config) (length s.masks) (length s.reserves) (s.config ++ flat_map (λ a. a.0) s.masks ++ flat_map (λ a. a.0) s.reserves ++ replicate pad 0) ≡ s
   unfolding fields_of
@@ -50,32 +52,36 @@ module _ (turn : ℕ) (s : Settings) (fits : Fits turn s) (pad : ℕ) where
   end_back = drop_at (s.config ++ flat_map (λ a. a.0) s.masks ++ flat_map (λ a. a.0) s.reserves) (replicate pad 0) _
       (omega (arith, length-append (s.config ++ flat_map (λ a. a.0) s.masks) (flat_map (λ a. a.0) s.reserves), length-append s.config (flat_map (λ a. a.0) s.masks), length_joined s.masks fits.six_masks, length_joined s.reserves fits.six_reserves))
 
-  valid_back : is_valid turn (length s.config) (length s.masks) (length s.reserves) (s.config ++ flat_map (λ a. a.0) s.masks ++ flat_map (λ a. a.0) s.reserves ++ replicate pad 0) ≡ true
+  valid_back : is_valid f turn (length s.config) (length s.masks) (length s.reserves) (s.config ++ flat_map (λ a. a.0) s.masks ++ flat_map (λ a. a.0) s.reserves ++ replicate pad 0) ≡ true
   unfolding is_valid
   valid_back =
-      and_from _ _ (and_from _ _ (lt-ltb turn 3 fits.known_turn) (and_from _ _ (le-leb _ 1024 fits.config) (and_from _ _ (le-leb _ 64 fits.masks) (le-leb _ 64 fits.reserves))))
+      and_from _ _ (and_from _ _ (lt-ltb turn 3 fits.known_turn) (and_from _ _ (le-leb _ max_config fits.config) (and_from _ _ (le-leb _ f.most fits.masks) (le-leb _ f.most fits.reserves))))
       (rw (fields_back, end_back) (and_from _ _ fits.unique_masks (and_from _ _ fits.unique_reserves (zeros pad))))
 
-pub reads_back : (turn : ℕ) (s : Settings) → Fits turn s → decode (spelling turn s) ≡ Some (turn, s)
-unfolding decode spelling
-reads_back turn s fits =
-    let pad = 3584 - length (written turn s) in
+pub reads_back : (f : Format) (turn : ℕ) (s : Settings) → Fits f turn s → decode_by f (spelling f turn s) ≡ Some (record { turn = turn; lists = s })
+unfolding decode_by spelling
+reads_back f turn s fits =
+    let pad = 3584 - length (written f turn s) in
     let rest = s.config ++ flat_map (λ a. a.0) s.masks ++ flat_map (λ a. a.0) s.reserves ++ replicate pad 0 in
     let n : from_be_bytes w16 (to_be_bytes w16 (length s.config)) ≡ length s.config = from_be_bytes-to_be_bytes_2 (length s.config) (omega (arith, fits.config)) in
-    let at : (k : ℕ) → Option (ℕ × Settings) = λ k. cond (true && is_valid turn k (length s.masks) (length s.reserves) rest) (Some (turn, fields_of k (length s.masks) (length s.reserves) rest)) None in
-    let here : decode (spelling turn s) ≡ at (from_be_bytes w16 (to_be_bytes w16 (length s.config))) = refl in
-    here ∙ ap at n ∙ cond-true _ _ None (valid_back turn s fits pad) ∙ ap (λ (x : Settings). Some (turn, x)) (fields_back turn s fits pad)
+    let with : Settings → Option Written = λ x. Some (record { turn = turn; lists = x }) in
+    let at : (k : ℕ) → Option Written =
+    λ k. cond (starts_with nat_eq (spelling f turn s) (mark f) && is_valid f turn k (length s.masks) (length s.reserves) rest) (with (fields_of k (length s.masks) (length s.reserves) rest)) None in
+    let here : decode_by f (spelling f turn s) ≡ at (from_be_bytes w16 (to_be_bytes w16 (length s.config))) = refl in
+    let begins : starts_with nat_eq (spelling f turn s) (mark f) ≡ true = ap (λ t. t && true) (eq-eqb f.number f.number refl) in
+    here ∙ ap at n ∙ cond-true _ _ None (and_from _ _ begins (valid_back f turn s fits pad)) ∙ ap with (fields_back f turn s fits pad)
 
-pub length-written : (turn : ℕ) (s : Settings) → All (λ a. length a.0 ≡ 6) s.masks → All (λ a. length a.0 ≡ 6) s.reserves → length (written turn s) ≡ 10 + length s.config + 6 * length s.masks + 6 * length s.reserves
-length-written turn s sm sr =
-    omega (arith, length-append (head_of turn s ++ s.config ++ flat_map (λ a. a.0) s.masks) (flat_map (λ a. a.0) s.reserves), length-append (head_of turn s ++ s.config) (flat_map (λ a. a.0) s.masks), length-append (head_of turn s) s.config, length_joined s.masks sm, length_joined s.reserves sr)
+pub length-written : (f : Format) (turn : ℕ) (s : Settings) → All (λ a. length a.0 ≡ 6) s.masks → All (λ a. length a.0 ≡ 6) s.reserves → length (written f turn s) ≡ 10 + length s.config + 6 * length s.masks + 6 * length s.reserves
+length-written f turn s sm sr =
+    omega (arith, length-append (head_of f turn s ++ s.config ++ flat_map (λ a. a.0) s.masks) (flat_map (λ a. a.0) s.reserves), length-append (head_of f turn s ++ s.config) (flat_map (λ a. a.0) s.masks), length-append (head_of f turn s) s.config, length_joined s.masks sm, length_joined s.reserves sr)
 
-pub length-spelling : (turn : ℕ) (s : Settings) → Fits turn s → length (spelling turn s) ≡ 3584
+pub length-spelling : (f : Format) (turn : ℕ) (s : Settings) → IsFormat f → Fits f turn s → length (spelling f turn s) ≡ 3584
 unfolding spelling
-length-spelling turn s fits =
-    omega (arith, length-append (written turn s) (replicate (3584 - length (written turn s)) 0), length-replicate {A = ℕ} (3584 - length (written turn s)) 0, length-written turn s fits.six_masks fits.six_reserves, fits.config, fits.masks, fits.reserves)
+length-spelling f turn s is fits =
+    let all = written f turn s in
+    omega (arith, length-append all (replicate (3584 - length all) 0), length-replicate {A = ℕ} (3584 - length all) 0, length-written f turn s fits.six_masks fits.six_reserves, fits.config, fits.masks, fits.reserves, is.room)
 
 -- what was appended, piece by piece, is the spelling
-pub spelled : (turn : ℕ) (s : Settings) (a b c d e : List ℕ) → a ≡ head_of turn s → b ≡ a ++ s.config → c ≡ b ++ flat_map (λ a. a.0) s.masks → d ≡ c ++ flat_map (λ a. a.0) s.reserves → e ≡ d ++ replicate (3584 - length d) 0 → e ≡ spelling turn s
+pub spelled : (f : Format) (turn : ℕ) (s : Settings) (a b c d e : List ℕ) → a ≡ head_of f turn s → b ≡ a ++ s.config → c ≡ b ++ flat_map (λ a. a.0) s.masks → d ≡ c ++ flat_map (λ a. a.0) s.reserves → e ≡ d ++ replicate (3584 - length d) 0 → e ≡ spelling f turn s
 unfolding spelling
-spelled turn s a b c d e ea eb ec ed ee = rw (ee, ed, ec, eb, ea) refl
+spelled f turn s a b c d e ea eb ec ed ee = rw (ee, ed, ec, eb, ea) refl

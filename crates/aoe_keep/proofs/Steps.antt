@@ -4,6 +4,7 @@ use Rattle.std.proofs.lemmas.Bool.{cases_lt}
 use Rattle.aoe_lists.specs.Settings.{Settings}
 use Rattle.aoe_disk.specs.State.{Contents, CanLeave, HasShape, sector, is_loose}
 use Rattle.aoe_disk.specs.Sectors.{Touches, IsOutside, Calms}
+use Rattle.aoe_keep.specs.declared.body.Written.{Written}
 use Rattle.aoe_keep.specs.Body.{decode}
 use Rattle.aoe_keep.specs.Found.{is_open, CanFind, Finds}
 use Rattle.aoe_keep.specs.Stages.{StaysClosed, StaysBody, spare, IsSteady, IsChoosable, IsKept}
@@ -18,7 +19,7 @@ module _ (lo n : ℕ) (old new : Contents) (touch : Touches lo n old new) where
     kept = λ s l h. touch.kept s (out s l h) (closed.kept s l h);
   }
 
-  pub body_touch : (k : ℕ) (b : ℕ × Settings) → ((s : ℕ) → 8 * k + 1 ≤ s → s < 8 * k + 1 + 7 → IsOutside lo n s) → StaysBody old k b → StaysBody new k b
+  pub body_touch : (k : ℕ) (b : Written) → ((s : ℕ) → 8 * k + 1 ≤ s → s < 8 * k + 1 + 7 → IsOutside lo n s) → StaysBody old k b → StaysBody new k b
   body_touch k b out has = record {
     spells = ap decode (body_same new.bytes old.bytes k (λ s l h. touch.same s (out s l h))) ∙ has.spells;
     kept = λ s l h. touch.kept s (out s l h) (has.kept s l h);
@@ -44,7 +45,7 @@ steady_touch (Some p) lists lo n old new within touch steady =
       record {
         gate = gate_same new.bytes old.bytes p.slot (λ s l h. touch.same s (out s (omega arith) (omega arith))) ∙ steady.2.gate;
         kept = λ s l h. touch.kept s (out s (omega arith) (omega arith)) (steady.2.kept s l h);
-        body = body_touch lo n old new touch p.slot (p.turn, lists) (λ s l h. out s (omega arith) (omega arith)) steady.2.body;
+        body = body_touch lo n old new touch p.slot (record { turn = p.turn; lists = lists }) (λ s l h. out s (omega arith) (omega arith)) steady.2.body;
       },
     )
 
@@ -59,7 +60,7 @@ module _ (old new : Contents) (calm : Calms old new) where
   pub closed_calm : (k : ℕ) → StaysClosed old k → StaysClosed new k
   closed_calm k closed = record { gate = gate_calm k false closed.gate; kept = λ s l h. calm.kept s (closed.kept s l h) }
 
-  pub body_calm : (k : ℕ) (b : ℕ × Settings) → StaysBody old k b → StaysBody new k b
+  pub body_calm : (k : ℕ) (b : Written) → StaysBody old k b → StaysBody new k b
   body_calm k b has = record { spells = rw calm.bytes has.spells; kept = λ s l h. calm.kept s (has.kept s l h) }
 
   pub left_calm : (image : List ℕ) → CanLeave new image → CanLeave old image
@@ -95,13 +96,13 @@ module _ (place : Option Place) (lists : Settings) (c : Contents) (steady : IsSt
   pub finds_closed : StaysClosed c (spare place) → Finds (λ l. l ≡ lists) c
   finds_closed closed = λ image left. (lists, found_by place lists c image None steady left (closed_after c (spare place) image closed left) tt, refl)
 
-  pub finds_ready : (b : ℕ × Settings) → IsChoosable place c b → Finds (λ l. (l ≡ lists) ⊎ (l ≡ outcome place lists (Some b))) c
+  pub finds_ready : (b : Written) → IsChoosable place c b → Finds (λ l. (l ≡ lists) ⊎ (l ≡ outcome place lists (Some b))) c
   finds_ready b ready = λ image left. elim (body_after c (spare place) b image ready.body left) [
     | inl closed ↦ (lists, found_by place lists c image None steady left closed tt, inl refl)
     | inr opened ↦ (outcome place lists (Some b), found_by place lists c image (Some b) steady left opened ready.turn, inr refl)
   ]
 
-  pub could : (sectors : ℕ) (b : ℕ × Settings) → HasShape sectors c → 16 ≤ sectors → IsChoosable place c b → (is_loose c.loose (8 * spare place) ≡ true) ⊎ (is_open c.bytes (spare place) ≡ true) → CanFind c (outcome place lists (Some b))
+  pub could : (sectors : ℕ) (b : Written) → HasShape sectors c → 16 ≤ sectors → IsChoosable place c b → (is_loose c.loose (8 * spare place) ≡ true) ⊎ (is_open c.bytes (spare place) ≡ true) → CanFind c (outcome place lists (Some b))
   could sectors b shape room ready gate =
       let again = reopened c (spare place) sectors b shape room (spare_small place) ready.body gate in
       record { image = again.0; left = again.1; is = found_by place lists c again.0 (Some b) steady again.1 again.2 ready.turn }

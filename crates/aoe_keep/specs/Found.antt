@@ -3,6 +3,7 @@ use Rattle.std.specs.Prelude.{◌≡◌, ◌⊎◌, ◌+◌, ◌*◌, ◌%◌, �
 use Rattle.aoe_lists.specs.Settings.{Settings, empty_settings}
 use Rattle.aoe_disk.specs.State.{Contents, DiskState, CanLeave, BothTell, sector}
 use Rattle.aoe_keep.specs.Body.{decode}
+use Rattle.aoe_keep.specs.declared.body.Written.{Written}
 
 abbrev pub next_turn : ℕ → ℕ
 next_turn turn = (turn + 1) % 3
@@ -15,21 +16,21 @@ abbrev pub body : List ℕ → ℕ → List ℕ
 body image k = take 3584 (drop (512 * (8 * k + 1)) image)
 
 -- what a slot holds: nothing where its gate is closed, else what its body spells
-abbrev pub slot : List ℕ → ℕ → Option (Option (ℕ × Settings))
+abbrev pub slot : List ℕ → ℕ → Option (Option Written)
 slot image k = if is_open image k then Some (decode (body image k)) else None
 
 -- the lists of the two slots: those of the open one, of two open ones those whose turn follows the other's, and of none
 -- open ones no lists yet. Or the slot that is bad: open before a body that spells nothing, or the second of two with one turn
-abbrev pub choice : Option (Option (ℕ × Settings)) → Option (Option (ℕ × Settings)) → Result Settings ℕ
+abbrev pub choice : Option (Option Written) → Option (Option Written) → Result Settings ℕ
 choice None None = Ok empty_settings
 choice None (Some None) = Err 1
-choice None (Some (Some b)) = Ok b.1
+choice None (Some (Some b)) = Ok b.lists
 choice (Some None) other = Err 0
-choice (Some (Some a)) None = Ok a.1
+choice (Some (Some a)) None = Ok a.lists
 choice (Some (Some a)) (Some None) = Err 1
 choice (Some (Some a)) (Some (Some b)) =
-    if a.0 == next_turn b.0 then Ok a.1
-    else if b.0 == next_turn a.0 then Ok b.1
+    if a.turn == next_turn b.turn then Ok a.lists
+    else if b.turn == next_turn a.turn then Ok b.lists
     else Err 1
 
 -- the lists that stand in an image, or the slot that is bad

@@ -5,6 +5,7 @@ use Rattle.aoe_disk.specs.State.{Contents, HasShape, is_loose}
 use Rattle.aoe_disk.specs.Sectors.{Touches}
 use Rattle.aoe_keep.specs.Body.{decode}
 use Rattle.aoe_keep.specs.Found.{body, is_open, next_turn, Finds, IsOffered}
+use Rattle.aoe_keep.specs.declared.body.Written.{Written}
 use Rattle.aoe_keep.specs.declared.place.Place.{Place}
 
 -- none of n sectors from lo on is loose
@@ -17,12 +18,12 @@ pub record StaysClosed (c : Contents) (k : ℕ) : Type 0 where
   pub kept : NoneLoose c (8 * k) 1
 
 -- the body spells a turn and lists, and a crash leaves it so
-pub record StaysBody (c : Contents) (k : ℕ) (b : ℕ × Settings) : Type 0 where
+pub record StaysBody (c : Contents) (k : ℕ) (b : Written) : Type 0 where
   pub spells : decode (body c.bytes k) ≡ Some b
   pub kept : NoneLoose c (8 * k + 1) 7
 
 -- the gate is open before such a body, and a crash leaves both so
-pub record StaysOpen (c : Contents) (k : ℕ) (b : ℕ × Settings) : Type 0 where
+pub record StaysOpen (c : Contents) (k : ℕ) (b : Written) : Type 0 where
   pub gate : is_open c.bytes k ≡ true
   pub kept : NoneLoose c (8 * k) 1
   pub body : StaysBody c k b
@@ -40,7 +41,7 @@ turn_after (Some p) = next_turn p.turn
 -- whatever a crash does, the present lists stand; where no slot holds them they are empty, and slot 1 is closed
 abbrev pub IsSteady : Option Place → Settings → Contents → Type 0
 IsSteady None lists c = (lists ≡ empty_settings) × StaysClosed c 1
-IsSteady (Some p) lists c = (p.slot < 2) × (p.turn < 3) × StaysOpen c p.slot (p.turn, lists)
+IsSteady (Some p) lists c = (p.slot < 2) × (p.turn < 3) × StaysOpen c p.slot (record { turn = p.turn; lists = lists })
 
 -- a turn that isn't the present lists' own
 abbrev pub IsOtherTurn : Option Place → ℕ → Type 0
@@ -48,15 +49,15 @@ IsOtherTurn None turn = Unit {0}
 IsOtherTurn (Some p) turn = (turn < 3) × (turn ≢ p.turn)
 
 -- a body in the spare slot that can be chosen or passed over, and is never bad
-pub record IsChoosable (place : Option Place) (c : Contents) (b : ℕ × Settings) : Type 0 where
+pub record IsChoosable (place : Option Place) (c : Contents) (b : Written) : Type 0 where
   pub body : StaysBody c (spare place) b
-  pub turn : IsOtherTurn place b.0
+  pub turn : IsOtherTurn place b.turn
 
 -- the spare slot. Where its gate is known to be closed it is closed now, and a crash leaves it so or opens it before a ready
 -- body. Else it has a ready body, behind a gate that is open or that a crash can open
 abbrev pub IsSpare : Option Place → Bool → Contents → Type 0
-IsSpare place true c = (is_open c.bytes (spare place) ≡ false) × (StaysClosed c (spare place) ⊎ ((b : ℕ × Settings) × IsChoosable place c b))
-IsSpare place false c = (b : ℕ × Settings) × IsChoosable place c b × ((is_loose c.loose (8 * spare place) ≡ true) ⊎ (is_open c.bytes (spare place) ≡ true))
+IsSpare place true c = (is_open c.bytes (spare place) ≡ false) × (StaysClosed c (spare place) ⊎ ((b : Written) × IsChoosable place c b))
+IsSpare place false c = (b : Written) × IsChoosable place c b × ((is_loose c.loose (8 * spare place) ≡ true) ⊎ (is_open c.bytes (spare place) ≡ true))
 
 -- between two replacements
 pub record IsKept (place : Option Place) (is_closed : Bool) (lists : Settings) (c : Contents) : Type 0 where
@@ -71,13 +72,13 @@ pub record IsCleared (place : Option Place) (lists : Settings) (c : Contents) : 
 -- after the fourth call: the next lists stand behind the closed gate
 pub record IsStaged (place : Option Place) (lists next : Settings) (c : Contents) : Type 0 where
   pub cleared : IsCleared place lists c
-  pub body : StaysBody c (spare place) (turn_after place, next)
+  pub body : StaysBody c (spare place) (record { turn = turn_after place; lists = next })
 
 -- after the fifth call: the gate is open
 pub record IsOpened (place : Option Place) (lists next : Settings) (c : Contents) : Type 0 where
   pub steady : IsSteady place lists c
   pub gate : is_open c.bytes (spare place) ≡ true
-  pub body : StaysBody c (spare place) (turn_after place, next)
+  pub body : StaysBody c (spare place) (record { turn = turn_after place; lists = next })
 
 -- after the sixth call the other slot is the spare one: its gate is known to be closed where it held nothing
 abbrev pub is_unplaced : Option Place → Bool
@@ -109,9 +110,9 @@ pub record WritesBody {T E : Type 0} (k : ℕ) (piece : List ℕ) (result : Resu
   pub body : OnOk result (body new.bytes k ≡ piece)
 
 -- where the lists of two slots stand, and whether the gate of the spare slot is closed
-abbrev pub placement : Option (Option (ℕ × Settings)) → Option (Option (ℕ × Settings)) → Option Place × Bool
-placement None (Some (Some b)) = (Some (record { slot = 1; turn = b.0 }), true)
-placement (Some (Some a)) None = (Some (record { slot = 0; turn = a.0 }), true)
+abbrev pub placement : Option (Option Written) → Option (Option Written) → Option Place × Bool
+placement None (Some (Some b)) = (Some (record { slot = 1; turn = b.turn }), true)
+placement (Some (Some a)) None = (Some (record { slot = 0; turn = a.turn }), true)
 placement (Some (Some a)) (Some (Some b)) =
-    if a.0 == next_turn b.0 then (Some (record { slot = 0; turn = a.0 }), false) else (Some (record { slot = 1; turn = b.0 }), false)
+    if a.turn == next_turn b.turn then (Some (record { slot = 0; turn = a.turn }), false) else (Some (record { slot = 1; turn = b.turn }), false)
 placement a b = (None, true)

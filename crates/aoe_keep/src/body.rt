@@ -1,13 +1,13 @@
-//! How lists are spelled in a slot's body, format 1.
+//! How lists are spelled in a slot's body.
 //!
 //! | Byte | Size | Field |
 //! |---|---|---|
 //! | 0 | 4 | `AoEK` |
-//! | 4 | 1 | format, 1 |
+//! | 4 | 1 | number of the format |
 //! | 5 | 1 | turn, 0 to 2 |
 //! | 6 | 2 | length of the config string, at most 1024, the high byte first |
-//! | 8 | 1 | number of masks, at most 64 |
-//! | 9 | 1 | number of reserves, at most 64 |
+//! | 8 | 1 | number of masks, at most as many as the format has |
+//! | 9 | 1 | number of reserves, as many at most |
 //! | 10 | | config string, then masks, then reserves, six bytes to an address |
 //! | | | zeros to byte 3584 |
 ghost use Rattle.std.specs.Prelude.{◌≡◌, ◌≤◌, ◌<◌, ◌+◌, ◌-◌, ◌*◌, ◌++◌, ◌==◌, ◌↔◌, ℕ, List, [], None, Some, true, false, length, replicate, MatchOption};
@@ -15,8 +15,10 @@ ghost use Rattle.std.specs.List.{All, flat_map, list_all};
 ghost use Rattle.std.specs.Simd.{first_chunks};
 ghost use Rattle.aoe_base.specs.Addresses.{all_unique, holds};
 ghost use Rattle.aoe_lists.specs.Reserves.{addresses};
-ghost use Rattle.aoe_lists.specs.Settings.{Settings};
-ghost use Rattle.aoe_keep.specs.Body.{decode, spelling, head_of, fields_of, is_valid, sizes_fit, Fits, HasFault};
+ghost use Rattle.aoe_lists.specs.Settings.{Settings, max_addresses, max_config};
+ghost use Rattle.aoe_keep.specs.declared.body.Format.{Format};
+ghost use Rattle.aoe_keep.specs.declared.body.Written.{Written};
+ghost use Rattle.aoe_keep.specs.Body.{decode, decode_by, format_1, spelling, head_of, fields_of, is_valid, sizes_fit, Fits, HasFault, IsFormat};
 
 use aoe_base::Mac;
 use aoe_lists::{AddressList, Lists, MAX_CONFIG};
@@ -28,17 +30,37 @@ pub(crate) const BODY: usize = 3584;
 /// A body's bytes.
 pub(crate) type Body = ArrayVec<u8, BODY>;
 
-/// What every body of this format begins with: `AoEK`, and the format.
-const MARK: [u8; 5] = [b'A', b'o', b'E', b'K', 1];
+/// What every body begins with.
+const MARK: [u8; 4] = [b'A', b'o', b'E', b'K'];
 
 /// How many bytes stand before the config string.
 const HEAD: usize = 10;
 
-/// The most addresses that a list of this format has.
-const LONGEST: usize = 64;
-
 /// The last turn.
 const LAST_TURN: u8 = 2;
+
+/// A format of bodies.
+#[derive(Clone, Copy)]
+pub(crate) struct Format {
+    /// Its number.
+    number: u8,
+
+    /// The most addresses that a list has.
+    most: usize,
+}
+
+/// The format that keeps have.
+const FORMAT: Format = Format {
+    number: 1,
+    most: 64,
+};
+
+/// What a body spells.
+#[derive(Drop)]
+pub(crate) struct Written {
+    pub(crate) turn: u8,
+    pub(crate) lists: Lists,
+}
 
 /// Appends bytes, for which there is room.
 fn append(body: &mut Body, bytes: &[u8])
@@ -61,15 +83,15 @@ fn append_addresses(body: &mut Body, list: &[Mac])
 }
 
 /// Appends the bytes before the fields.
-fn append_head(body: &mut Body, turn: u8, lists: &Lists)
+fn append_head(body: &mut Body, format: Format, turn: u8, lists: &Lists)
     requires { body.old.items ≡ [] }
-    ensures items { body.new.items ≡ head_of turn lists.now }
-    ensures config { length lists.now.config ≤ 1024 }
-    ensures masks { length lists.now.masks ≤ 64 }
-    ensures reserves { length lists.now.reserves ≤ 64 }
+    ensures items { body.new.items ≡ head_of format turn lists.now }
+    ensures config { length lists.now.config ≤ max_config }
+    ensures masks { length lists.now.masks ≤ max_addresses }
+    ensures reserves { length lists.now.reserves ≤ max_addresses }
 {
     append(body, &MARK);
-    append(body, &[turn]);
+    append(body, &[format.number, turn]);
     append(body, &(lists.config.len() as u16).to_be_bytes());
     append(body, &[lists.masks.len() as u8, lists.reserves.len() as u8]);
 }
@@ -87,12 +109,12 @@ fn append_zeros(body: &mut Body)
 /// The body that spells these lists with a turn.
 pub(crate) fn spell(turn: u8, lists: &Lists) -> Body
     requires { turn < 3 }
-    ensures items { result.items ≡ spelling turn lists.now }
+    ensures items { result.items ≡ spelling format_1 turn lists.now }
     ensures len { length result.items ≡ 3584 }
-    ensures read { decode result.items ≡ Some (turn, lists.now) }
+    ensures read { decode result.items ≡ Some (record { turn = turn; lists = lists.now }) }
 {
     let mut body = Body::new();
-    append_head(&mut body, turn, lists);
+    append_head(&mut body, FORMAT, turn, lists);
     append(&mut body, lists.config.as_slice());
     append_addresses(&mut body, lists.masks.as_slice());
     append_addresses(&mut body, lists.reserves.as_slice());
@@ -119,7 +141,7 @@ fn is_there(list: &AddressList, address: &Mac) -> bool
 /// The first `count` addresses, if none of them stands twice.
 fn read_addresses(bytes: &[u8], count: usize) -> Option<AddressList>
     requires room { 6 * count ≤ length bytes.now }
-    requires count { count ≤ 64 }
+    requires count { count ≤ max_addresses }
     ensures { MatchOption result (all_unique (addresses (first_chunks 6 count bytes.now)) ≡ false)
         (λ list. (list.items ≡ addresses (first_chunks 6 count bytes.now)) × (all_unique list.items ≡ true)) }
 {
@@ -135,13 +157,13 @@ fn read_addresses(bytes: &[u8], count: usize) -> Option<AddressList>
 }
 
 /// Whether the numbers before the fields have values of the format.
-fn are_sizes(turn: u8, config: usize, masks: usize, reserves: usize) -> bool
-    ensures value { result ≡ sizes_fit turn config masks reserves }
-    ensures config { result ≡ true → config ≤ 1024 }
-    ensures masks { result ≡ true → masks ≤ 64 }
-    ensures reserves { result ≡ true → reserves ≤ 64 }
+fn are_sizes(format: Format, turn: u8, config: usize, masks: usize, reserves: usize) -> bool
+    ensures value { result ≡ sizes_fit format turn config masks reserves }
+    ensures config { result ≡ true → config ≤ max_config }
+    ensures masks { result ≡ true → masks ≤ format.most }
+    ensures reserves { result ≡ true → reserves ≤ format.most }
 {
-    turn <= LAST_TURN && config <= MAX_CONFIG && masks <= LONGEST && reserves <= LONGEST
+    turn <= LAST_TURN && config <= MAX_CONFIG && masks <= format.most && reserves <= format.most
 }
 
 /// Whether all bytes are zero.
@@ -152,12 +174,21 @@ fn are_zeros(bytes: &[u8]) -> bool
 }
 
 /// The lists that stand in the bytes after the numbers.
-fn read_fields(turn: u8, config: usize, masks: usize, reserves: usize, rest: &[u8]) -> Option<Lists>
-    requires { length rest.now ≡ 3574 }
-    ensures { MatchOption result (is_valid turn config masks reserves rest.now ≡ false)
-        (λ lists. (is_valid turn config masks reserves rest.now ≡ true) × (lists ≡ fields_of config masks reserves rest.now)) }
+fn read_fields(
+    format: Format,
+    turn: u8,
+    config: usize,
+    masks: usize,
+    reserves: usize,
+    rest: &[u8],
+) -> Option<Lists>
+    requires len { length rest.now ≡ 3574 }
+    requires most { format.most ≤ max_addresses }
+    ensures { MatchOption result (is_valid format turn config masks reserves rest.now ≡ false)
+        (λ lists. (is_valid format turn config masks reserves rest.now ≡ true)
+        × (lists ≡ fields_of config masks reserves rest.now)) }
 {
-    if !are_sizes(turn, config, masks, reserves) {
+    if !are_sizes(format, turn, config, masks, reserves) {
         return None;
     }
     let reserves_at = config + 6 * masks;
@@ -176,37 +207,49 @@ fn read_fields(turn: u8, config: usize, masks: usize, reserves: usize, rest: &[u
     })
 }
 
-/// The turn and the lists that a body spells.
-pub(crate) fn read(body: &[u8]) -> Option<(u8, Lists)>
-    requires { length body.now ≡ 3584 }
-    ensures { result ≡ decode body.now }
+/// The turn and the lists that a body spells by a format.
+fn read_by(format: Format, body: &[u8]) -> Option<Written>
+    requires len { length body.now ≡ 3584 }
+    requires most { format.most ≤ max_addresses }
+    ensures { result ≡ decode_by format body.now }
 {
-    if !body.starts_with(&MARK) {
+    let [a, o, e, k] = MARK;
+    if !body.starts_with(&[a, o, e, k, format.number]) {
         return None;
     }
     let turn = body[5];
     let config = usize::from(u16::from_be_bytes([body[6], body[7]]));
     let masks = usize::from(body[8]);
     let reserves = usize::from(body[9]);
-    let lists = read_fields(turn, config, masks, reserves, &body[HEAD..])?;
-    Some((turn, lists))
+    let lists = read_fields(format, turn, config, masks, reserves, &body[HEAD..])?;
+    Some(Written { turn, lists })
+}
+
+/// The turn and the lists that a body spells.
+pub(crate) fn read(body: &[u8]) -> Option<Written>
+    requires { length body.now ≡ 3584 }
+    ensures { result ≡ decode body.now }
+{
+    read_by(FORMAT, body)
 }
 
 /// A law: a body that spells lists is the one that `replace` writes for them, so no two bodies spell
 /// the same lists and turn.
 pub fn a_body_is_the_one_spelling()
-    ensures { (body : List ℕ) (turn : ℕ) (lists : Settings) → length body ≡ 3584 → All (λ b. b < 256) body
-        → decode body ≡ Some (turn, lists) → body ≡ spelling turn lists }
+    ensures { (f : Format) (body : List ℕ) (b : Written) → IsFormat f → length body ≡ 3584
+        → All (λ b. b < 256) body → decode_by f body ≡ Some b → body ≡ spelling f b.turn b.lists }
 {}
 
 /// A law: what is spelled is read again, and there are as many bytes of it as a body has.
 pub fn spelled_lists_are_read()
-    ensures read { (turn : ℕ) (lists : Settings) → Fits turn lists → decode (spelling turn lists) ≡ Some (turn, lists) }
-    ensures len { (turn : ℕ) (lists : Settings) → Fits turn lists → length (spelling turn lists) ≡ 3584 }
+    ensures read { (f : Format) (b : Written) → Fits f b.turn b.lists
+        → decode_by f (spelling f b.turn b.lists) ≡ Some b }
+    ensures len { (f : Format) (b : Written) → IsFormat f → Fits f b.turn b.lists
+        → length (spelling f b.turn b.lists) ≡ 3584 }
 {}
 
 /// A law: a body spells no lists by these causes, and by no other: it begins otherwise, a number is
 /// beyond the format's values, an address stands twice in a list, or a byte after the fields isn't zero.
 pub fn unreadable_bodies()
-    ensures { (body : List ℕ) → (decode body ≡ None) ↔ HasFault body }
+    ensures { (f : Format) (body : List ℕ) → (decode_by f body ≡ None) ↔ HasFault f body }
 {}

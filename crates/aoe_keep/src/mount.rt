@@ -10,7 +10,7 @@ ghost use Rattle.aoe_keep.specs.Keep.{IsAtRest, Mounts, IsRefused, RunsBetween, 
 ghost use Rattle.aoe_keep.specs.Calls.{MountsBy, ReadsSlot, RefusesBy};
 
 use crate::MountRefusal;
-use crate::body::{BODY, read};
+use crate::body::{BODY, Written, read};
 use crate::mounted::{Mounted, OPEN};
 use crate::place::{Place, turn_following};
 use aoe_base::Failed;
@@ -21,7 +21,7 @@ use aoe_lists::Lists;
 pub const KEEP_SECTORS: u64 = 16;
 
 /// What a slot holds: nothing where its gate is closed, else what its body spells.
-type Slot = Option<Option<(u8, Lists)>>;
+type Slot = Option<Option<Written>>;
 
 /// The present lists, the slot that holds them, and whether the other one is closed.
 #[derive(Drop)]
@@ -31,29 +31,17 @@ pub(crate) struct Present {
     is_closed: bool,
 }
 
-/// The lists of one slot, of which the other is closed.
-fn only(lists: Lists, slot: u8, turn: u8) -> Present
-    ensures lists { result.lists ≡ lists }
-    ensures place { result.place ≡ Some (record { slot = slot; turn = turn }) }
-    ensures closed { result.is_closed ≡ true }
+/// What a slot's body spells, and whether the other slot is closed.
+fn standing(written: Written, slot: u8, is_closed: bool) -> Present
+    ensures lists { result.lists ≡ written.lists }
+    ensures place { result.place ≡ Some (record { slot = slot; turn = written.turn }) }
+    ensures closed { result.is_closed ≡ is_closed }
 {
+    let Written { turn, lists } = written;
     Present {
         lists,
         place: Some(Place { slot, turn }),
-        is_closed: true,
-    }
-}
-
-/// The lists of one of two open slots.
-fn later(lists: Lists, slot: u8, turn: u8) -> Present
-    ensures lists { result.lists ≡ lists }
-    ensures place { result.place ≡ Some (record { slot = slot; turn = turn }) }
-    ensures closed { result.is_closed ≡ false }
-{
-    Present {
-        lists,
-        place: Some(Place { slot, turn }),
-        is_closed: false,
+        is_closed,
     }
 }
 
@@ -69,15 +57,15 @@ fn choose(first: Slot, second: Slot) -> Result<Present, u8>
             place: None,
             is_closed: true,
         }),
-        (None, Some(Some((turn, lists)))) => Ok(only(lists, 1, turn)),
-        (Some(Some((turn, lists))), None) => Ok(only(lists, 0, turn)),
+        (None, Some(Some(second))) => Ok(standing(second, 1, true)),
+        (Some(Some(first)), None) => Ok(standing(first, 0, true)),
         (Some(None), _) => Err(0),
         (_, Some(None)) => Err(1),
-        (Some(Some((turn, lists))), Some(Some((other_turn, other_lists)))) => {
-            if turn == turn_following(other_turn) {
-                Ok(later(lists, 0, turn))
-            } else if other_turn == turn_following(turn) {
-                Ok(later(other_lists, 1, other_turn))
+        (Some(Some(first)), Some(Some(second))) => {
+            if first.turn == turn_following(second.turn) {
+                Ok(standing(first, 0, false))
+            } else if second.turn == turn_following(first.turn) {
+                Ok(standing(second, 1, false))
             } else {
                 Err(1)
             }

@@ -7,6 +7,7 @@ use Rattle.aoe_lists.specs.declared.masks.MaskError.TheVariants.{ListFull}
 use Rattle.aoe_lists.specs.declared.masks.Directive.{Directive}
 use Rattle.aoe_lists.specs.declared.masks.Directive.TheVariants.{Nothing, Add, Delete, Unknown}
 use Rattle.aoe_lists.specs.Masks.{after_directive}
+use Rattle.aoe_lists.specs.Settings.{max_addresses}
 use Rattle.aoe_lists.proofs.AddressLemmas.{all_unique-append, all_unique-without}
 
 -- where a list is left, no address stands twice in it
@@ -16,7 +17,7 @@ AllUnique (Err e) = Unit {0}
 
 after_directive-sound : (masks : List Mac) (d : Directive) → all_unique masks ≡ true → AllUnique (after_directive masks d)
 after_directive-sound masks Nothing once = once
-after_directive-sound masks (Add a) once = at (holds masks a) refl (length masks == 64)
+after_directive-sound masks (Add a) once = at (holds masks a) refl (length masks == max_addresses)
   where
     at : (there : Bool) → holds masks a ≡ there → (full : Bool) → AllUnique (cond there (Ok masks) (cond full (Err ListFull) (Ok (masks ++ a ∷ []))))
     at true e full = once

@@ -8,7 +8,7 @@ use Rattle.aoe_base.specs.declared.refusal.AoeError.TheVariants.{BadArgument, Co
 use Rattle.aoe_lists.specs.declared.config.ConfigCommand.{ConfigCommand}
 use Rattle.aoe_lists.specs.declared.config.ConfigCommand.TheVariants.{Read, Test, TestPrefix, Set, ForceSet}
 use Rattle.aoe_lists.specs.declared.config.Facts.{Facts}
-use Rattle.aoe_lists.specs.Settings.{Settings}
+use Rattle.aoe_lists.specs.Settings.{Settings, max_config}
 use Rattle.aoe_lists.specs.Step.{Step, Silent, reply_of, refusal_of, success_of}
 
 -- the values of CCmd
@@ -38,11 +38,11 @@ abbrev pub has_string : ConfigCommand → Bool
 has_string Read = false
 has_string command = true
 
--- a string of the given length, at most 1024 bytes that are there
+-- a string of the given length, no longer than a config string may be, whose bytes are there
 abbrev pub config_argument : ConfigCommand → ℕ → List ℕ → Option (ConfigCommand × List ℕ)
 config_argument command len rest =
     if not (has_string command) then Some (command, [])
-    else if nat_le len 1024 && nat_le len (length rest) then Some (command, take len rest)
+    else if nat_le len max_config && nat_le len (length rest) then Some (command, take len rest)
     else None
 
 -- the command and the string of a request, or nothing where a field is missing or has a value that isn't taken

@@ -13,7 +13,7 @@ use Rattle.aoe_lists.specs.declared.masks.MaskError.TheVariants.{Unspecified, Ba
 use Rattle.aoe_lists.specs.declared.masks.Directive.{Directive}
 use Rattle.aoe_lists.specs.declared.masks.Directive.TheVariants.{Nothing, Add, Delete, Unknown}
 use Rattle.aoe_lists.specs.Addresses.{without}
-use Rattle.aoe_lists.specs.Settings.{Settings}
+use Rattle.aoe_lists.specs.Settings.{Settings, max_addresses}
 use Rattle.aoe_lists.specs.Step.{Step, reply_of, refusal_of, success_of}
 
 -- the values of MCmd
@@ -41,12 +41,12 @@ directive_of bytes =
     else if slice_index bytes 1 == 2 then Delete (record { 0 = drop 2 bytes })
     else Unknown
 
--- what one directive makes of a list, which has at most 64 addresses
+-- what one directive makes of a list, which has at most so many addresses
 abbrev pub after_directive : List Mac → Directive → Result (List Mac) MaskError
 after_directive masks Nothing = Ok masks
 after_directive masks (Add a) =
     if holds masks a then Ok masks
-    else if length masks == 64 then Err ListFull
+    else if length masks == max_addresses then Err ListFull
     else Ok (masks ++ a ∷ [])
 after_directive masks (Delete a) = Ok (without masks a)
 after_directive masks Unknown = Err BadDirective

@@ -8,7 +8,7 @@ use Rattle.aoe_base.specs.declared.refusal.AoeError.TheVariants.{BadArgument, Ta
 use Rattle.aoe_lists.specs.declared.reserves.ReserveCommand.{ReserveCommand}
 use Rattle.aoe_lists.specs.declared.reserves.ReserveCommand.TheVariants.{Read, Set, ForceSet}
 use Rattle.aoe_lists.specs.Addresses.{first_places}
-use Rattle.aoe_lists.specs.Settings.{Settings, may_use}
+use Rattle.aoe_lists.specs.Settings.{Settings, max_addresses, may_use}
 use Rattle.aoe_lists.specs.Step.{Step, reply_of, refusal_of, success_of}
 
 -- the values of RCmd
@@ -41,7 +41,7 @@ has_addresses command = true
 abbrev pub reserve_given : ReserveCommand → ℕ → List ℕ → Option (ReserveCommand × List Mac)
 reserve_given command count rest =
     if not (has_addresses command) then Some (command, [])
-    else if nat_le count 64 && nat_le (6 * count) (length rest) then Some (command, addresses (first_chunks 6 count rest))
+    else if nat_le count max_addresses && nat_le (6 * count) (length rest) then Some (command, addresses (first_chunks 6 count rest))
     else None
 
 -- the command and the addresses of a request, or nothing where a field is missing or has a value that isn't taken

@@ -5,6 +5,18 @@ use Rattle.std.specs.Cmp.Lexicographic.{pointwise}
 use Rattle.aoe_base.specs.declared.address.Mac.{Mac}
 use Rattle.aoe_base.specs.Addresses.{holds, same_address}
 
+-- the most bytes of a config string (AoEr11, "Query Config Information")
+abbrev pub max_config : ℕ
+max_config = 1024
+
+-- the most addresses of a mask list or a reserve list: AoEr11 gives their number a byte, and a device may take fewer
+abbrev pub max_addresses : ℕ
+max_addresses = 64
+
+-- the most directives or addresses that a host asks for by one request
+abbrev pub max_directives : ℕ
+max_directives = 64
+
 -- the config string, the mask list and the reserve list
 pub record Settings : Type 0 where
   pub config : List ℕ

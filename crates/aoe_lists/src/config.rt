@@ -12,6 +12,7 @@ ghost use Rattle.std.specs.Prelude.{◌≡◌, ◌≢◌, ◌+◌, ◌≤◌, []
 ghost use Rattle.std.specs.Int.{w16, to_be_bytes};
 ghost use Rattle.std.specs.Option.{option_map};
 ghost use Rattle.aoe_lists.specs.Config.{config_answer, config_args, config_code, config_command_of, config_result, config_request};
+ghost use Rattle.aoe_lists.specs.Settings.{max_config};
 ghost use Rattle.aoe_lists.specs.Step.{reply_of, step_with, success_of};
 
 use crate::lists::refill;
@@ -90,7 +91,7 @@ impl ConfigCommand {
 /// its length isn't looked at.
 fn read_request(bytes: &[u8]) -> Option<(ConfigCommand, &[u8])>
     ensures request { option_map (λ r. (r.0, r.1.now)) result ≡ config_request bytes.now }
-    ensures bound { IfSome result (λ r. length r.1.now ≤ 1024) }
+    ensures bound { IfSome result (λ r. length r.1.now ≤ max_config) }
 {
     if bytes.len() < STRING_AT {
         return None;
@@ -131,7 +132,7 @@ fn front(facts: &Facts, command: ConfigCommand, len: u16) -> [u8; 8]
 
 /// Makes `args` those of a reply, with the string that stands after the request.
 fn write_args(facts: &Facts, command: ConfigCommand, string: &[u8], args: &mut Args)
-    requires { length string.now ≤ 1024 }
+    requires { length string.now ≤ max_config }
     ensures { args.new.items ≡ config_args facts.now command string.now }
 {
     args.clear();
@@ -147,7 +148,7 @@ fn reply(
     string: &[u8],
     args: &mut Args,
 ) -> Answer
-    requires { length string.now ≤ 1024 }
+    requires { length string.now ≤ max_config }
     ensures answer { result ≡ Answer.Reply error }
     ensures args { args.new.items ≡ config_args facts.now command string.now }
 {
@@ -164,7 +165,7 @@ fn set(
     next: &mut Lists,
     args: &mut Args,
 ) -> Answer
-    requires { length string.now ≤ 1024 }
+    requires { length string.now ≤ max_config }
     ensures { step_with result args.new.items next.new ≡ success_of lists.now
         (record lists.now { config = string.now }) (config_args facts.now command string.now) }
 {
@@ -172,9 +173,8 @@ fn set(
     if string == lists.config.as_slice() {
         return Answer::Reply(None);
     }
+    next.take(lists);
     refill(&mut next.config, string);
-    refill(&mut next.masks, lists.masks.as_slice());
-    refill(&mut next.reserves, lists.reserves.as_slice());
     Answer::Change
 }
 
@@ -187,7 +187,7 @@ fn act(
     next: &mut Lists,
     args: &mut Args,
 ) -> Answer
-    requires { length string.now ≤ 1024 }
+    requires { length string.now ≤ max_config }
     ensures { step_with result args.new.items next.new ≡ config_result lists.now facts.now command string.now }
 {
     let current = lists.config.as_slice();

@@ -70,6 +70,15 @@ impl Lists {
         }
     }
 
+    /// Makes these lists the others, which takes no memory.
+    pub(crate) fn take(&mut self, other: &Lists)
+        ensures { self.new ≡ other.now }
+    {
+        refill(&mut self.config, other.config.as_slice());
+        refill(&mut self.masks, other.masks.as_slice());
+        refill(&mut self.reserves, other.reserves.as_slice());
+    }
+
     /// A copy, which takes no memory.
     pub fn copy(&self) -> Self
         ensures { result ≡ self.now }

@@ -15,7 +15,6 @@ ghost use Rattle.aoe_lists.specs.Step.{step_with, success_of};
 ghost use Rattle.aoe_base.specs.Addresses.{all_unique};
 
 use crate::args::pieces;
-use crate::lists::refill;
 use crate::{AddressList, Answer, Args, Lists};
 use aoe_base::{AoeError, Mac, append};
 
@@ -207,17 +206,16 @@ fn write_failure(error: MaskError, args: &mut Args)
     append(args, &[0, MaskCommand::Edit.code(), error.code(), 0]);
 }
 
-/// Makes the masks of `next` the list.
-fn set(lists: &Lists, next: &mut Lists, args: &mut Args) -> Answer
-    ensures { step_with result args.new.items next.new ≡ success_of lists.now
-        (record lists.now { masks = next.old.masks }) (mask_args MaskCommand.Edit next.old.masks) }
+/// Makes the masks of `next` the list, whose other parts are there.
+fn set(lists: &Lists, next: &Lists, args: &mut Args) -> Answer
+    requires { next.now ≡ record lists.now { masks = next.now.masks } }
+    ensures { step_with result args.new.items next.now ≡ success_of lists.now
+        (record lists.now { masks = next.now.masks }) (mask_args MaskCommand.Edit next.now.masks) }
 {
     write_args(MaskCommand::Edit, &next.masks, args);
     if next.masks == lists.masks {
         return Answer::Reply(None);
     }
-    refill(&mut next.config, lists.config.as_slice());
-    refill(&mut next.reserves, lists.reserves.as_slice());
     Answer::Change
 }
 
@@ -226,7 +224,7 @@ fn change(lists: &Lists, directives: &[[u8; 8]], next: &mut Lists, args: &mut Ar
     ensures { step_with result args.new.items next.new ≡ mask_edit lists.now
         (after_directives lists.now.masks (map directive_of directives.now)) }
 {
-    refill(&mut next.masks, lists.masks.as_slice());
+    next.take(lists);
     match edit(&mut next.masks, directives) {
         Ok(()) => set(lists, next, args),
         Err(error) => {

@@ -9,11 +9,11 @@ ghost use Rattle.std.specs.Prelude.{◌≡◌, ◌≢◌, ◌≤◌, IfSome, Lis
 ghost use Rattle.std.specs.Option.{option_map};
 ghost use Rattle.aoe_lists.specs.Addresses.{first_places};
 ghost use Rattle.aoe_lists.specs.Reserves.{addresses, reserve_answer, reserve_args, reserve_code, reserve_command_of, reserve_result, reserve_request, reserve_set};
+ghost use Rattle.aoe_lists.specs.Settings.{max_addresses};
 ghost use Rattle.aoe_lists.specs.Step.{step_with, success_of};
 ghost use Rattle.aoe_base.specs.Addresses.{all_unique, holds};
 
 use crate::args::pieces;
-use crate::lists::refill;
 use crate::{AddressList, Answer, Args, Lists, MAX_ADDRESSES, may_use};
 use aoe_base::{AoeError, Mac, append};
 
@@ -62,7 +62,7 @@ impl ReserveCommand {
 /// and its count isn't looked at.
 fn read_request(bytes: &[u8]) -> Option<(ReserveCommand, &[[u8; 6]])>
     ensures request { option_map (λ r. (r.0, addresses r.1.now)) result ≡ reserve_request bytes.now }
-    ensures bound { IfSome result (λ r. length r.1.now ≤ 64) }
+    ensures bound { IfSome result (λ r. length r.1.now ≤ max_addresses) }
 {
     if bytes.len() < ADDRESSES_AT {
         return None;
@@ -81,7 +81,7 @@ fn read_request(bytes: &[u8]) -> Option<(ReserveCommand, &[[u8; 6]])>
 
 /// Makes `list` the given addresses, without the later copies of each.
 fn first_of_each(given: &[[u8; 6]], list: &mut AddressList)
-    requires { length given.now ≤ 64 }
+    requires { length given.now ≤ max_addresses }
     ensures value { list.new.items ≡ first_places (addresses given.now) }
     ensures once { all_unique list.new.items ≡ true }
 {
@@ -113,16 +113,15 @@ fn set(
     next: &mut Lists,
     args: &mut Args,
 ) -> Answer
-    requires { length given.now ≤ 64 }
+    requires { length given.now ≤ max_addresses }
     ensures { step_with result args.new.items next.new ≡ reserve_set lists.now command (addresses given.now) }
 {
+    next.take(lists);
     first_of_each(given, &mut next.reserves);
     write_args(command, &next.reserves, args);
     if next.reserves == lists.reserves {
         return Answer::Reply(None);
     }
-    refill(&mut next.config, lists.config.as_slice());
-    refill(&mut next.masks, lists.masks.as_slice());
     Answer::Change
 }
 
@@ -135,7 +134,7 @@ fn act(
     next: &mut Lists,
     args: &mut Args,
 ) -> Answer
-    requires { length given.now ≤ 64 }
+    requires { length given.now ≤ max_addresses }
     ensures { step_with result args.new.items next.new
         ≡ reserve_result lists.now source command (addresses given.now) }
 {
