@@ -12,7 +12,7 @@ use Rattle.aoe_initiator.specs.declared.op.Op.{Op}
 use Rattle.aoe_initiator.specs.Request.{request}
 use Rattle.aoe_target.specs.Mounted.{station_of}
 use Rattle.aoe_target.specs.Reply.{ata_reply, data_reply}
-use Rattle.aoe_history.specs.Setup.{HostSetup, Setup, SlotSetup}
+use Rattle.aoe_history.specs.Setup.{slot_over, HostSetup, Setup, SlotSetup}
 
 -- the address 02:00:00:00:00:n
 abbrev pub port : ℕ → Mac
@@ -24,7 +24,7 @@ device = record { major = 1; minor = 0 }
 
 -- the slot of a shelf with these ports, and of one with port 1 alone
 abbrev pub slot_at : List Mac → Option ℕ → SlotSetup
-slot_at shelf cache = record { station = station_of device shelf 1500 16; cache = cache }
+slot_at shelf cache = slot_over (station_of device shelf 1500 16) cache
 
 abbrev pub slot_with : Option ℕ → SlotSetup
 slot_with cache = slot_at (port 1 ∷ []) cache

@@ -10,6 +10,7 @@ use Rattle.aoe_base.specs.declared.counted.PathNo.{PathNo}
 use Rattle.aoe_base.specs.Addresses.{holds, same_address}
 use Rattle.aoe_initiator.specs.declared.device.Attached.{Attached}
 use Rattle.aoe_initiator.specs.HostLaw.{same_id}
+use Rattle.aoe_lists.specs.Settings.{empty_settings, Settings}
 use Rattle.aoe_target.specs.declared.station.Station.{Station}
 
 -- a host: its name, its ports, how many commands may fly or rest, after how long one is given up, and the devices
@@ -21,10 +22,16 @@ pub record HostSetup : Type 0 where
   pub dead : ℕ
   pub devices : List Attached
 
--- a slot: its name, its shelf's ports and its size, and for how many sectors its store has a cache, where it has one
+-- a slot: its name, its shelf's ports and its size, for how many sectors its store has a cache, where it has one, and the lists
+-- that its keep has at the beginning
 pub record SlotSetup : Type 0 where
   pub station : Station
   pub cache : Option ℕ
+  pub lists : Settings
+
+-- a slot whose keep is empty at the beginning
+abbrev pub slot_over : Station → Option ℕ → SlotSetup
+slot_over station cache = record { station = station; cache = cache; lists = empty_settings }
 
 -- how long a frame can be handed over after its sending, the hosts in their order, and the slots of all shelves in
 -- theirs; times in milliseconds

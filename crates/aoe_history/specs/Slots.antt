@@ -5,7 +5,7 @@ use Rattle.aoe_disk.specs.declared.loss.Loss.{Loss}
 use Rattle.aoe_disk.specs.Loss.{left_of}
 use Rattle.aoe_ata.specs.declared.decision.AtaAnswer.{AtaAnswer}
 use Rattle.aoe_ata.specs.declared.decision.AtaAnswer.TheVariants.{Put}
-use Rattle.aoe_lists.specs.Settings.{empty_settings, Settings}
+use Rattle.aoe_lists.specs.Settings.{Settings}
 use Rattle.aoe_target.specs.declared.heard.Effect.{Effect}
 use Rattle.aoe_target.specs.declared.heard.Effect.TheVariants as effect
 use Rattle.aoe_target.specs.declared.verdict.Verdict.{Verdict}
@@ -48,11 +48,11 @@ pub record Slot : Type 0 where
 abbrev pub all_settled : Unsettled
 all_settled = record { written = 0; struck = false }
 
--- a new slot: empty lists, and zeros in each sector. What a failed write leaves is known where the store has no cache
+-- a new slot: the lists that its keep has, and zeros in each sector. What a failed write leaves is known where the store has no cache
 abbrev pub new_slot : SlotSetup → Slot
 new_slot slot = record {
   state = record {
-    lists = empty_settings;
+    lists = slot.lists;
     offers = [];
     sectors = Some (record { known = λ s. Some zero_sector; marks = λ s. false; settled = λ s. Some zero_sector; exact = is_none slot.cache });
   };

@@ -7,7 +7,7 @@ use Rattle.aoe_initiator.specs.declared.device.Attached.{Attached}
 use Rattle.aoe_target.specs.Mounted.{station_of}
 use Rattle.aoe_history.specs.Groups.{Station}
 use Rattle.aoe_history.specs.Groups.Station.{Shelf as ShelfStation, Host as HostStation}
-use Rattle.aoe_history.specs.Setup.{HostSetup, Setup, SlotSetup}
+use Rattle.aoe_history.specs.Setup.{slot_over, HostSetup, Setup, SlotSetup}
 use Rattle.aoe_script.specs.declared.setup.Setup.{Setup as Line}
 use Rattle.aoe_script.specs.declared.setup.Setup.TheVariants.{Life, Shelf, Slot, Host, Attach}
 use Rattle.aoe_script.specs.Rules.{is_shelf_named, is_slot, same}
@@ -29,7 +29,7 @@ life_in line = None
 
 -- a slot of the shelf with this number, these ports and this mtu; its store has a cache where its line gives a room
 abbrev pub slot_with : (major : ℕ) → List Mac → (mtu minor sectors : ℕ) → (room : Option ℕ) → SlotSetup
-slot_with major ports mtu minor sectors room = record { station = station_of record { major = major; minor = minor } ports mtu sectors; cache = room }
+slot_with major ports mtu minor sectors room = slot_over (station_of record { major = major; minor = minor } ports mtu sectors) room
 
 -- a slot line, where its shelf has this number, these ports and this mtu
 abbrev pub slot_at : ℕ → List Mac → ℕ → Line → Option SlotSetup

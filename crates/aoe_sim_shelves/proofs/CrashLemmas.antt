@@ -39,9 +39,9 @@ opened_marks {how} {a} {b} l s = rw l.rest (is_loose-replicate (length b.bytes /
 
 -- A STORE WITHOUT A CACHE
 
-module _ {how : Loss} {a b : Memory} (l : Loses how a b) (u : Unsettled) (n : ℕ) (station : Station) where
+module _ {how : Loss} {a b : Memory} (l : Loses how a b) (u : Unsettled) (n : ℕ) (station : Station) (first : Settings) where
   abbrev direct : SlotSetup
-  direct = record { station = station; cache = None }
+  direct = record { station = station; cache = None; lists = first }
 
   left_value : (k : Sectors) → SameWithin n (sectors_of (contents_of a)) k → (s : ℕ) → s < n → Some (sector b.bytes s) ≡ left_known direct u how k s
   left_value k same s low =
@@ -79,9 +79,9 @@ cached_sector : (new old shown : List ℕ) (marked whole : Bool) (known settled 
     → IfSome (if marked then (if whole then settled else None) else known) (λ v. Some new ≡ Some v)
 cached_sector new old shown marked whole known settled solid knows settles = grind arith
 
-module _ {how : Loss} {a b : Cache Memory} (l : LosesCache how a b) (u : Unsettled) (n : ℕ) (station : Station) (room : ℕ) where
+module _ {how : Loss} {a b : Cache Memory} (l : LosesCache how a b) (u : Unsettled) (n : ℕ) (station : Station) (first : Settings) (room : ℕ) where
   abbrev cached : SlotSetup
-  cached = record { station = station; cache = Some room }
+  cached = record { station = station; cache = Some room; lists = first }
 
   module _ (k : Sectors) (agrees : AgreesWithin n (sectors_of (seen_contents a.held (contents_of a.disk))) k)
       (below : is_cached_whole room u ≡ true → IsBelow n room u k (under_of state_of a)) where
@@ -128,16 +128,16 @@ pub record LeavesStore (n : ℕ) (slot : SlotSetup) (how : Loss) (z : Slot) (b :
       (option_map (left_sectors slot z.unsettled how) z.state.sectors)
   pub under : (lists : Settings) → IsUnder n slot.cache (after_crash slot lists how z) (any_under state_of b)
 
-left_store : (how : Loss) (a b : AnyStore Memory) → LosesStore how a b → (n : ℕ) (station : Station) (z : Slot) (cache : Option ℕ)
+left_store : (how : Loss) (a b : AnyStore Memory) → LosesStore how a b → (n : ℕ) (station : Station) (first : Settings) (z : Slot) (cache : Option ℕ)
     → IsUnder n cache z (any_under state_of a) → BothTell (AgreesWithin n) (option_map sectors_of (any_state state_of a).contents) z.state.sectors
-    → LeavesStore n (record { station = station; cache = cache }) how z b
-left_store how (Direct a) (Direct b) l n station z None under agrees =
-    record { sectors = both_left l z.unsettled n station z.state.sectors agrees; under = λ lists. tt }
-left_store how (Cached a) (Cached b) l n station z (Some room) under agrees =
+    → LeavesStore n (record { station = station; cache = cache; lists = first }) how z b
+left_store how (Direct a) (Direct b) l n station first z None under agrees =
+    record { sectors = both_left l z.unsettled n station first z.state.sectors agrees; under = λ lists. tt }
+left_store how (Cached a) (Cached b) l n station first z (Some room) under agrees =
     let same : b.room ≡ room = l.room ∙ under.0 in
-    let left = cached_left l z.unsettled n station room z.state.sectors agrees under.1 same in
+    let left = cached_left l z.unsettled n station first room z.state.sectors agrees under.1 same in
     record { sectors = left.0; under = λ lists. (same, OnTrue_from _ _ (λ whole. left.1)) }
-left_store how _ _ l n station z cache under agrees = absurd (grind arith)
+left_store how _ _ l n station first z cache under agrees = absurd (grind arith)
 
 pub lost_sectors : (how : Loss) (a b : AnyStore Memory) → LosesStore how a b → (any_state state_of b).sectors ≡ (any_state state_of a).sectors
 lost_sectors how a b l = grind arith
@@ -169,7 +169,7 @@ module _ {how : Loss} {a b : Target} (r : Restarts how a b) where
       → IsUnder n slot.cache (after_crash slot b.keep.lists how z) (any_under state_of b.store)
       × HoldsWithin n (device b) (after_crash slot b.keep.lists how z).state
   restarted n slot z under h =
-      let left = left_store how a.store b.store r.store n slot.station z slot.cache under h.sectors in (
+      let left = left_store how a.store b.store r.store n slot.station slot.lists z slot.cache under h.sectors in (
         left.under b.keep.lists,
         record { lists = refl; crash = λ image left. let l = r.mounted.finds image left in (l.0, l.1, inl l.2); sectors = left.sectors },
       )

@@ -26,7 +26,7 @@ use Rattle.aoe_target.specs.Mounted.{station_of}
 use Rattle.aoe_target.specs.Sectors.{sectors_of, Sectors}
 use Rattle.aoe_target.specs.declared.station.Station.{Station}
 use Rattle.aoe_target.proofs.DeviceLemmas.{first_state}
-use Rattle.aoe_history.specs.Setup.{SlotSetup}
+use Rattle.aoe_history.specs.Setup.{slot_over, SlotSetup}
 use Rattle.aoe_history.specs.Slots.{all_settled, new_slot, zero_sector}
 use Rattle.aoe_sim_shelves.specs.Crash.{Loses, LosesStore, Restarts}
 use Rattle.aoe_sim_shelves.specs.Rack.{over, AgreesWithin, IsBelow, IsServing, IsStoreDue, IsTargetOf, IsUnder, MemoryRack, SameWithin, Serves}
@@ -116,11 +116,11 @@ module _ (n : ℕ) (station : Station) (store : Memory) (is : store ≡ fresh (r
   }
 
   over_within : (cache : Option ℕ) → BothTell (AgreesWithin n) (option_map sectors_of (any_state state_of (over cache store)).contents)
-      (new_slot (record { station = station; cache = cache })).state.sectors
+      (new_slot (slot_over station cache)).state.sectors
   over_within None = same_agrees n _ _ zeros_within
   over_within (Some room) = record { known = zeros_within.known; marks = λ s low e. zeros_within.marks s low; same = λ e. absurd cc; exact = refl }
 
-  over_under : (cache : Option ℕ) → IsUnder n cache (new_slot (record { station = station; cache = cache })) (any_under state_of (over cache store))
+  over_under : (cache : Option ℕ) → IsUnder n cache (new_slot (slot_over station cache)) (any_under state_of (over cache store))
   over_under None = tt
   over_under (Some room) =
       let all : room - 0 ≡ room = omega arith in
@@ -143,7 +143,7 @@ pub record IsNew (n m : ℕ) (store disk : Memory) (keep : Kept Memory) : Type 0
 module _ (major : ℕ) (ports : List Mac) (mtu minor : ℕ) (cache : Option ℕ) {n m : ℕ} {store disk : Memory} {keep : Kept Memory}
     (k : IsNew n m store disk keep) where
   abbrev new_setup : SlotSetup
-  new_setup = record { station = station_of (record { major = major; minor = minor }) ports mtu n; cache = cache }
+  new_setup = slot_over (station_of (record { major = major; minor = minor }) ports mtu n) cache
 
   abbrev new_target : Target
   new_target = seated major ports mtu minor (over cache store) keep

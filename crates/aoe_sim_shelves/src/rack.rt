@@ -2,7 +2,7 @@
 ghost use Rattle.std.specs.Prelude.{List, ℕ, ◌≡◌, ◌<◌, ◌≤◌, ◌+◌, ◌^◌, ◌==◌, ◌||◌, ◌++◌, ◌∷◌, [], IfOk, IfSome, IsSomeAnd, None, OnErr, OnOk, false, length, map, slice_get};
 ghost use Rattle.aoe_disk.specs.Arming.{number_of};
 ghost use Rattle.aoe_history.specs.declared.entry.Entry.TheVariants.{Armed};
-ghost use Rattle.aoe_history.specs.Setup.{AreApart, SlotSetup};
+ghost use Rattle.aoe_history.specs.Setup.{AreApart, slot_over, SlotSetup};
 ghost use Rattle.aoe_sim_shelves.specs.Arming.{arm_of, with_stop, ArmsDisk};
 ghost use Rattle.aoe_sim_shelves.specs.Rack.{Serves};
 ghost use Rattle.aoe_history.specs.Run.{with_entry};
@@ -131,10 +131,9 @@ impl MemoryRack {
         requires room { length self.old.shelf.targets < 16 }
         requires cache { IfSome room (λ (n : ℕ). (1 ≤ n) × (n ≤ 65536)) }
         requires repeats { has_minor self.old.shelf.targets minor ≡ false }
-        ensures serves { OnOk result ((slots : List SlotSetup) → Serves slots [] self.old → Serves (slots ++ record {
-          station = station_of record { major = self.old.shelf.major; minor = minor } self.old.shelf.ports self.old.shelf.mtu sectors;
-          cache = room;
-        } ∷ []) [] self.new) }
+        ensures serves { OnOk result ((slots : List SlotSetup) → Serves slots [] self.old → Serves (slots ++ slot_over
+          (station_of record { major = self.old.shelf.major; minor = minor } self.old.shelf.ports self.old.shelf.mtu sectors)
+          room ∷ []) [] self.new) }
         ensures count { OnOk result (length self.new.shelf.targets ≡ length self.old.shelf.targets + 1) }
         ensures minors { OnOk result ((m : ℕ) → has_minor self.new.shelf.targets m ≡ (has_minor self.old.shelf.targets m || minor == m)) }
         ensures added { OnOk result (map (λ t. t.station) self.new.shelf.targets
