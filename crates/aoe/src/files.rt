@@ -6,6 +6,7 @@ ghost use Rattle.aoe_disk.specs.State.{DiskState};
 
 use aoe_base::{Failed, SECTOR_LEN};
 use aoe_disk::Disk;
+use aoe_keep::{KEEP_SECTORS, may_hold_keep};
 use std::fs::{File, OpenFile, OpenOptions, TryLockError};
 use std::io;
 use std::io::{ErrorKind, Seek, SeekFrom};
@@ -14,6 +15,9 @@ use std::rt::Files;
 
 /// The most sectors of a disk.
 const MAX_SECTORS: u64 = 1 << 40;
+
+/// How many bytes the file of a keep has.
+const KEEP_LEN: usize = 8192;
 
 /// Why a file can't be a disk.
 #[derive(Clone, Copy)]
@@ -26,6 +30,19 @@ pub enum FileRefusal {
 
     /// Another program has locked it, or this one has opened it before.
     InUse,
+}
+
+/// Why a file isn't taken for a keep.
+#[derive(Clone, Copy)]
+pub enum KeepDoubt {
+    /// It has another size than a keep's file.
+    Size,
+
+    /// It holds other data.
+    Content,
+
+    /// It can't be read.
+    Unread,
 }
 
 impl From<io::Error> for FileRefusal {
@@ -77,6 +94,27 @@ impl FileDisk {
             faults: 0,
             is_lost: false,
         })
+    }
+
+    /// Why the file isn't taken for a keep, where it isn't. A keep's first change would destroy what
+    /// else it holds. One that is too small is refused when it is mounted.
+    pub fn keep_doubt(&self) -> Option<KeepDoubt> {
+        if self.sectors < KEEP_SECTORS {
+            return None;
+        }
+        let mut image = [0; KEEP_LEN];
+        let (Ok(metadata), Ok(())) = (self.file.metadata(), self.file.read_exact_at(&mut image, 0))
+        else {
+            return Some(KeepDoubt::Unread);
+        };
+        if metadata.is_file() && metadata.len() != KEEP_LEN as u64 {
+            return Some(KeepDoubt::Size);
+        }
+        if may_hold_keep(&image) {
+            None
+        } else {
+            Some(KeepDoubt::Content)
+        }
     }
 
     /// Counts a failed call.

@@ -25,7 +25,7 @@ mod top;
 use aoe_udp::{OpenRefusal, UdpLink};
 use aoe_words::{PortWords, files_of, ports_of};
 use clock::SystemClock;
-use files::{FileDisk, FileRefusal};
+use files::{FileDisk, FileRefusal, KeepDoubt};
 use status::Status;
 use std::fs::File;
 use std::io::{BufReader, ErrorKind};
@@ -78,6 +78,15 @@ fn tell_refused(rt: &HostRuntime, name: &[u8], refusal: FileRefusal) -> u8 {
     }
 }
 
+/// Says why the file with this name and number isn't taken for a keep, and gives the exit status.
+fn tell_doubt(rt: &HostRuntime, name: &[u8], disk: u32, doubt: KeepDoubt) -> u8 {
+    match doubt {
+        KeepDoubt::Size => tell_name(rt, b"not a keep, which has 8192 bytes: ", name, 8),
+        KeepDoubt::Content => tell_name(rt, b"not a keep, but other data: ", name, 8),
+        KeepDoubt::Unread => tell(rt, Status::DiskFault { disk }),
+    }
+}
+
 /// Opens a folder three times, so that no file and no socket gets the number of a standard stream
 /// that is closed: what is read or written there fails, as it does on a closed stream.
 fn hold_streams(rt: &HostRuntime) -> io::Result<(File, File, File)> {
@@ -104,6 +113,21 @@ fn open_all(rt: &HostRuntime, names: &[String]) -> Result<Vec<Option<FileDisk>>,
         }
     }
     Ok(disks)
+}
+
+/// Looks at each second file, which is to be a keep; the exit status where one holds other data, which
+/// is said.
+fn look_at_keeps(rt: &HostRuntime, names: &[String], disks: &[Option<FileDisk>]) -> Result<(), u8> {
+    'files: for (number, (name, disk)) in names.iter().zip(disks.iter()).enumerate() {
+        if let Some(disk) = disk
+            && number % 2 == 1
+            && let Some(doubt) = disk.keep_doubt()
+        {
+            let disk = u32::try_from(number).unwrap_or(u32::MAX);
+            return Err(tell_doubt(rt, name.as_bytes(), disk, doubt));
+        }
+    }
+    Ok(())
 }
 
 /// Opens the links with these ends; the exit status where one can't be opened, which is said.
@@ -174,6 +198,9 @@ fn run_named(rt: &HostRuntime, words: &[String], names: &[String], ends: &[PortW
         Ok(disks) => disks,
         Err(code) => return code,
     };
+    if let Err(code) = look_at_keeps(rt, names, disks.as_slice()) {
+        return code;
+    }
     let mut links = match open_links(rt, ends) {
         Ok(links) => links,
         Err(code) => return code,

@@ -20,9 +20,13 @@ pub record IsFormat (f : Format) : Type 0 where
   pub byte : f.number < 256
   pub room : 10 + 1024 + 12 * f.most ≤ 3584
 
--- `AoEK`, and the format's number
+-- `AoEK`
+abbrev pub name : List ℕ
+name = 65 ∷ 111 ∷ 69 ∷ 75 ∷ []
+
+-- what a body begins with: the name, and the format's number
 abbrev pub mark : Format → List ℕ
-mark f = 65 ∷ 111 ∷ 69 ∷ 75 ∷ f.number ∷ []
+mark f = name ++ f.number ∷ []
 
 -- the numbers before the fields have values of the format
 abbrev pub sizes_fit : Format → ℕ → ℕ → ℕ → ℕ → Bool

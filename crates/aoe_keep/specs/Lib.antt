@@ -3,3 +3,4 @@ pub mod Found
 pub mod Stages
 pub mod Keep
 pub mod Calls
+pub mod Content

@@ -31,7 +31,7 @@ pub(crate) const BODY: usize = 3584;
 pub(crate) type Body = ArrayVec<u8, BODY>;
 
 /// What every body begins with.
-const MARK: [u8; 4] = [b'A', b'o', b'E', b'K'];
+pub(crate) const MARK: [u8; 4] = [b'A', b'o', b'E', b'K'];
 
 /// How many bytes stand before the config string.
 const HEAD: usize = 10;
@@ -167,7 +167,7 @@ fn are_sizes(format: Format, turn: u8, config: usize, masks: usize, reserves: us
 }
 
 /// Whether all bytes are zero.
-fn are_zeros(bytes: &[u8]) -> bool
+pub(crate) fn are_zeros(bytes: &[u8]) -> bool
     ensures { result ≡ list_all (λ b. b == 0) bytes.now }
 {
     bytes.iter().all(|byte| *byte == 0)

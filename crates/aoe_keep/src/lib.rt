@@ -12,10 +12,13 @@
 //! gate, and the next ones are written behind the closed gate of the other slot before that is
 //! opened.
 //!
+//! [`may_hold_keep`] tells zeros and keeps from other data, for a file that a user named.
+//!
 //! A keep uses no other sectors, takes no memory, and doesn't try a failed call again.
 #![tactic(auto)]
 
 mod body;
+mod content;
 mod keep;
 mod mount;
 mod mounted;
@@ -23,6 +26,7 @@ mod place;
 mod refusal;
 
 pub use body::{a_body_is_the_one_spelling, spelled_lists_are_read, unreadable_bodies};
+pub use content::may_hold_keep;
 pub use keep::Keep;
 pub use mount::KEEP_SECTORS;
 pub use refusal::MountRefusal;

@@ -152,18 +152,32 @@ command words = option_map (λ p. p.0) (spelled words)
 abbrev pub files_of : Command → List Row → List Text
 files_of (Answer answer) rows = files rows
 files_of (Serve serve) rows = files rows
-files_of _ rows = []
+files_of Replay rows = []
+files_of (Soak soak) rows = []
+files_of (Live live) rows = []
+files_of (Ask tool) rows = []
+files_of (Get get) rows = []
+files_of (Put put) rows = []
 
 abbrev pub file_names : List Text → List Text
 file_names words = option_map_or (λ p. files_of p.0 p.1) (spelled words) []
 
--- the ends of its links
+-- the ends of its links: of one that it has, and of two
+abbrev pub one_link : List Row → List PortWords
+one_link rows = option_map_or (λ ends. ends ∷ []) (link rows) []
+
+abbrev pub two_links : List Row → List PortWords
+two_links rows = option_map_or (λ ends. ends.0 ∷ ends.1 ∷ []) (two_ends rows) []
+
 abbrev pub links_of : Command → List Row → List PortWords
 links_of (Answer answer) rows = []
+links_of (Serve serve) rows = one_link rows
 links_of Replay rows = []
 links_of (Soak soak) rows = []
-links_of (Live live) rows = option_map_or (λ ends. ends.0 ∷ ends.1 ∷ []) (two_ends rows) []
-links_of _ rows = option_map_or (λ ends. ends ∷ []) (link rows) []
+links_of (Live live) rows = two_links rows
+links_of (Ask tool) rows = one_link rows
+links_of (Get get) rows = one_link rows
+links_of (Put put) rows = one_link rows
 
 abbrev pub port_words : List Text → List PortWords
 port_words words = option_map_or (λ p. links_of p.0 p.1) (spelled words) []
@@ -228,14 +242,22 @@ IsInRange (Put put) = CanPut put
 abbrev pub file_count : Command → ℕ
 file_count (Answer answer) = 2
 file_count (Serve serve) = 2 * serve.slots
-file_count _ = 0
+file_count Replay = 0
+file_count (Soak soak) = 0
+file_count (Live live) = 0
+file_count (Ask tool) = 0
+file_count (Get get) = 0
+file_count (Put put) = 0
 
 abbrev pub link_count : Command → ℕ
 link_count (Answer answer) = 0
+link_count (Serve serve) = 1
 link_count Replay = 0
 link_count (Soak soak) = 0
 link_count (Live live) = 2
-link_count _ = 1
+link_count (Ask tool) = 1
+link_count (Get get) = 1
+link_count (Put put) = 1
 
 -- what holds of a command with what clap found for it: it is possible, and has its files and its links
 pub record Fits (rows : List Row) (c : Command) : Type 0 where
