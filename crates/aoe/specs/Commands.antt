@@ -6,7 +6,7 @@ use Rattle.aoe_serve.specs.declared.over_files.Rack.{Rack}
 use Rattle.aoe_serve.specs.declared.plan.Plan.{Plan}
 use Rattle.aoe_serve.specs.declared.plan.Plan.TheVariants as plan
 use Rattle.aoe_words.specs.declared.command.Command.{Command}
-use Rattle.aoe_words.specs.declared.command.Command.TheVariants.{Ask, Get, Live, Put, Replay}
+use Rattle.aoe_words.specs.declared.command.Command.TheVariants.{Answer, Ask, Get, Live, Put, Replay, Serve}
 use Rattle.aoe_words.specs.declared.command.Answer.{Answer as Answers}
 use Rattle.aoe_words.specs.declared.command.Serve.{Serve as Serves}
 
@@ -17,6 +17,12 @@ answer_plan answer = (record { first = answer.id; ports = record { items = answe
 -- What the slots of `serve` have in common, which are numbered from 0 on, and what is done with them: their frames come and go by a link.
 abbrev pub serve_plan : Serves → Rack × Plan
 serve_plan serve = (record { first = record { major = serve.shelf; minor = 0 }; ports = serve.ports; mtu = serve.mtu; cache = serve.cache }, plan.Serve serve.frames serve.idle)
+
+-- it exports files as slots, a pair of disks each: a file and its keep
+abbrev pub exports : Option Command → Bool
+exports (Some (Answer asked)) = true
+exports (Some (Serve asked)) = true
+exports command = false
 
 -- it asks by the first link
 abbrev pub is_tool : Option Command → Bool

@@ -1,5 +1,5 @@
 //! The call that the program makes.
-ghost use Rattle.std.specs.Prelude.{◌≡◌, ◌≢◌, ◌≤◌, ◌<◌, ◌+◌, ◌↔◌, ◌⊎◌, List, ℕ, false, All, length, map, string_bytes, IfSome, IsSome, None, Some};
+ghost use Rattle.std.specs.Prelude.{◌≡◌, ◌≢◌, ◌≤◌, ◌<◌, ◌+◌, ◌↔◌, ◌⊎◌, List, ℕ, false, true, All, length, map, string_bytes, IfSome, IsSome, None, Some};
 ghost use Rattle.aoe_io.specs.Stream.{stream, IsFrame};
 ghost use Rattle.aoe_lists.specs.Settings.{Settings};
 ghost use Rattle.aoe_serve.specs.Exporting.{AtFirst, CanExport};
@@ -16,7 +16,7 @@ ghost use Rattle.aoe_words.specs.declared.command.Put.{Put as Puts};
 ghost use Rattle.aoe_words.specs.declared.command.Soak.{Soak as Soaks};
 ghost use Rattle.aoe_words.specs.declared.command.Tool.{Tool};
 ghost use Rattle.aoe_base.specs.Faults.{Blamed, Rose};
-ghost use Rattle.aoe.specs.Commands.{is_live, reads_input, uses_clock};
+ghost use Rattle.aoe.specs.Commands.{exports, is_live, reads_input, uses_clock};
 ghost use Rattle.aoe.specs.Live.{AreBlamed, AtBoth, RunsLive, ends};
 ghost use Rattle.aoe.specs.Ending.{file_at, keep_at, refused_slot};
 ghost use Rattle.aoe.specs.Run.{Asked, HasLists, HasReplayed, IsBad, IsGot, IsPut, IsSmall, NothingLoose, OnSlot, Ran, RanFiles, RanScript, RanSoak, Refused};
@@ -210,25 +210,24 @@ pub fn aoe<S: Source, K: Sink, D: Disk + Drop, L: Link, C: Clock>(
         record { left = S.left; held = K.held; turns = L.turns; given = L.given; taken = L.taken } result
         record { source = source.old; sink = sink.old; links = links.old } record { source = source.new; sink = sink.new; links = links.new }
         disks.old disks.new) }
-    ensures settled { (slot : ℕ) → result ≡ Status.Ok → OnSlot (λ _ file' _ _. IfSome (D.state file').contents NothingLoose) slot disks.old disks.new }
+    ensures settled { exports (command (map string_bytes words.now)) ≡ true → (slot : ℕ) → result ≡ Status.Ok → OnSlot (λ _ file' _ _. IfSome (D.state file').contents NothingLoose) slot disks.old disks.new }
     ensures there { All IsSome disks.new }
 
-    // When a fault is told, and when a keep is refused. An object whose fault isn't told had none, and one whose fault is told had one:
-    // the first trouble ends the run.
-    ensures source_fault { result ≡ Status.SourceFault → Rose (S.faults source.old) (S.faults source.new) }
-    ensures sink_fault { result ≡ Status.SinkFault → Rose (K.faults sink.old) (K.faults sink.new) }
-    ensures link_fault { is_live (command (map string_bytes words.now)) ≡ false → (link : ℕ) → result ≡ Status.LinkFault link → (link ≡ 0) × AtFirst (λ a b. Rose (L.faults a) (L.faults b)) links.old links.new }
-    ensures source_no_fault { result ≢ Status.SourceFault → S.faults source.new ≡ S.faults source.old }
-    ensures sink_no_fault { result ≢ Status.SinkFault → K.faults sink.new ≡ K.faults sink.old }
-    ensures link_no_fault { is_live (command (map string_bytes words.now)) ≡ false → result ≢ Status.LinkFault 0 → AtFirst (λ a b. L.faults b ≡ L.faults a) links.old links.new }
-    ensures source_one_fault { S.faults source.new ≤ S.faults source.old + 1 }
-    ensures sink_one_fault { K.faults sink.new ≤ K.faults sink.old + 1 }
-    ensures link_one_fault { is_live (command (map string_bytes words.now)) ≡ false → AtFirst (λ a b. L.faults b ≤ L.faults a + 1) links.old links.new }
+    // When a fault is told: an object whose fault isn't told had none, and one whose fault is told had one, since the first trouble ends
+    // the run. Of a command that exports files as slots, the faults of files and keeps, and when a keep is refused.
+    ensures source { Blamed (result ≡ Status.SourceFault) (S.faults source.old) (S.faults source.new) }
+    ensures sink { Blamed (result ≡ Status.SinkFault) (K.faults sink.old) (K.faults sink.new) }
+    ensures link { is_live (command (map string_bytes words.now)) ≡ false
+        → AtFirst (λ a b. Blamed (result ≡ Status.LinkFault 0) (L.faults a) (L.faults b)) links.old links.new }
+    ensures one_link { is_live (command (map string_bytes words.now)) ≡ false → (link : ℕ) → result ≡ Status.LinkFault link → link ≡ 0 }
     ensures disk_fault { (disk : ℕ) → result ≡ Status.DiskFault disk → disk < length disks.old }
-    ensures file_fault { (slot : ℕ) → result ≡ Status.DiskFault (file_at slot) → OnSlot (λ file file' _ _. Rose (D.state file).faults (D.state file').faults) slot disks.old disks.new }
-    ensures keep_fault { (slot : ℕ) → result ≡ Status.DiskFault (keep_at slot) → OnSlot (λ _ _ keep keep'. Rose (D.state keep).faults (D.state keep').faults) slot disks.old disks.new }
-    ensures keep_small { (slot sectors : ℕ) → OnSlot (λ _ _ keep _. (result ≡ Status.KeepSmall (keep_at slot) sectors) ↔ IsSmall (D.state keep) result slot sectors) slot disks.old disks.new }
-    ensures keep_bad { (slot bad : ℕ) → OnSlot (λ _ _ keep _. IfSome (D.state keep).contents (λ c.
+    ensures file_fault { exports (command (map string_bytes words.now)) ≡ true → (slot : ℕ) → result ≡ Status.DiskFault (file_at slot)
+        → OnSlot (λ file file' _ _. Rose (D.state file).faults (D.state file').faults) slot disks.old disks.new }
+    ensures keep_fault { exports (command (map string_bytes words.now)) ≡ true → (slot : ℕ) → result ≡ Status.DiskFault (keep_at slot)
+        → OnSlot (λ _ _ keep keep'. Rose (D.state keep).faults (D.state keep').faults) slot disks.old disks.new }
+    ensures keep_small { exports (command (map string_bytes words.now)) ≡ true → (slot sectors : ℕ)
+        → OnSlot (λ _ _ keep _. (result ≡ Status.KeepSmall (keep_at slot) sectors) ↔ IsSmall (D.state keep) result slot sectors) slot disks.old disks.new }
+    ensures keep_bad { exports (command (map string_bytes words.now)) ≡ true → (slot bad : ℕ) → OnSlot (λ _ _ keep _. IfSome (D.state keep).contents (λ c.
         (result ≡ Status.KeepBad (keep_at slot) bad) ↔ IsBad (D.state keep) c result slot bad)) slot disks.old disks.new }
     ensures memory { result ≡ Status.NoMemory → (reads_input (command (map string_bytes words.now)) ≡ false → source.new ≡ source.old)
         × (sink.new ≡ sink.old) × (disks.new ≡ disks.old) × (uses_clock (command (map string_bytes words.now)) ≡ false → links.new ≡ links.old) }
@@ -248,7 +247,7 @@ pub fn aoe<S: Source, K: Sink, D: Disk + Drop, L: Link, C: Clock>(
 
     // With no fault keeps that hold lists are mounted, and then a stream of frames is answered to its end, and a link is served;
     // and a script with no bad line is run.
-    ensures mounted { (slot : ℕ) (lists : Settings) → OnSlot (λ _ _ keep keep'. HasLists (D.state keep) lists
+    ensures mounted { exports (command (map string_bytes words.now)) ≡ true → (slot : ℕ) (lists : Settings) → OnSlot (λ _ _ keep keep'. HasLists (D.state keep) lists
         → IsFaultless (D.state keep).faults (D.state keep').faults → refused_slot result ≢ Some slot) slot disks.old disks.new }
     ensures answers { (asked : Answers) (frames : List (List ℕ)) → command (map string_bytes words.now) ≡ Some (Command.Answer asked) → refused_slot result ≡ None → result ≢ Status.NoMemory
         → S.left source.old ≡ Some (stream frames) → All IsFrame frames → length frames < 4294967295

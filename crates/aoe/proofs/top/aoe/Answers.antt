@@ -35,40 +35,32 @@ returns-in-Ok-Some-clause-run g c = ran-of _ _ _ _ _ _ _ _ _ _ c.in-Ok-Some.fiel
 same-live : (o o' : Option Command) (command : Command) → o ≡ Some command → o ≡ o' → is_live o' ≡ false → is_live (Some command) ≡ false
 same-live o o' command is same e = ap is_live (sym is ∙ same) ∙ e
 
-pub returns-in-Ok-Some-clause-link_fault : goal.returns-in-Ok-Some-clause-link_fault
-returns-in-Ok-Some-clause-link_fault g c alone link e =
-    let one = same-live _ _ _ c.in-Ok-Some.field-0-is c.in-Ok-Some.ensures.command alone in
-    let first : link ≡ 0 = c.run_command.ensures.alone one link e in
-    (first, at-first _ _ _ _ (λ a b blamed. blamed.cause (e ∙ ap (λ n. status.LinkFault n) first)) (c.run_command.ensures.first one))
+pub returns-in-Ok-Some-clause-link : goal.returns-in-Ok-Some-clause-link
+returns-in-Ok-Some-clause-link g c alone = c.run_command.ensures.first (same-live _ _ _ c.in-Ok-Some.field-0-is c.in-Ok-Some.ensures.command alone)
 
-pub returns-in-Ok-Some-clause-link_no_fault : goal.returns-in-Ok-Some-clause-link_no_fault
-returns-in-Ok-Some-clause-link_no_fault g c alone untold =
-    at-first _ _ _ _ (λ a b blamed. blamed.no_fault untold) (c.run_command.ensures.first (same-live _ _ _ c.in-Ok-Some.field-0-is c.in-Ok-Some.ensures.command alone))
-
-pub returns-in-Ok-Some-clause-link_one_fault : goal.returns-in-Ok-Some-clause-link_one_fault
-returns-in-Ok-Some-clause-link_one_fault g c alone =
-    at-first _ _ _ _ (λ a b blamed. blamed.one_fault) (c.run_command.ensures.first (same-live _ _ _ c.in-Ok-Some.field-0-is c.in-Ok-Some.ensures.command alone))
+pub returns-in-Ok-Some-clause-one_link : goal.returns-in-Ok-Some-clause-one_link
+returns-in-Ok-Some-clause-one_link g c alone = c.run_command.ensures.alone (same-live _ _ _ c.in-Ok-Some.field-0-is c.in-Ok-Some.ensures.command alone)
 
 pub returns-in-Ok-Some-clause-settled : goal.returns-in-Ok-Some-clause-settled
-returns-in-Ok-Some-clause-settled g c slot e = settled _ _ _ _ _ _ _ _ c.run_command.ensures.run c.run_command.ensures.refused (c.requires.count ∙ counted _ _ _ c.in-Ok-Some.field-0-is c.in-Ok-Some.ensures.files) slot e
+returns-in-Ok-Some-clause-settled g c exported slot e = settled _ _ _ _ _ _ _ _ c.run_command.ensures.run c.run_command.ensures.refused (c.requires.count ∙ counted _ _ _ c.in-Ok-Some.field-0-is c.in-Ok-Some.ensures.files) slot e
 
 pub returns-in-Ok-Some-clause-disk_fault : goal.returns-in-Ok-Some-clause-disk_fault
 returns-in-Ok-Some-clause-disk_fault g c disk e = disk-within _ _ _ _ _ _ _ _ c.run_command.ensures.run c.run_command.ensures.refused (c.requires.count ∙ counted _ _ _ c.in-Ok-Some.field-0-is c.in-Ok-Some.ensures.files) disk e
 
 pub returns-in-Ok-Some-clause-file_fault : goal.returns-in-Ok-Some-clause-file_fault
-returns-in-Ok-Some-clause-file_fault g c slot e = file-fault _ _ _ _ _ _ _ _ c.run_command.ensures.run c.run_command.ensures.refused (c.requires.count ∙ counted _ _ _ c.in-Ok-Some.field-0-is c.in-Ok-Some.ensures.files) slot e
+returns-in-Ok-Some-clause-file_fault g c exported slot e = file-fault _ _ _ _ _ _ _ _ c.run_command.ensures.run c.run_command.ensures.refused (c.requires.count ∙ counted _ _ _ c.in-Ok-Some.field-0-is c.in-Ok-Some.ensures.files) slot e
 
 pub returns-in-Ok-Some-clause-keep_fault : goal.returns-in-Ok-Some-clause-keep_fault
-returns-in-Ok-Some-clause-keep_fault g c slot e = keep-fault _ _ _ _ _ _ _ _ c.run_command.ensures.run c.run_command.ensures.refused (c.requires.count ∙ counted _ _ _ c.in-Ok-Some.field-0-is c.in-Ok-Some.ensures.files) slot e
+returns-in-Ok-Some-clause-keep_fault g c exported slot e = keep-fault _ _ _ _ _ _ _ _ c.run_command.ensures.run c.run_command.ensures.refused (c.requires.count ∙ counted _ _ _ c.in-Ok-Some.field-0-is c.in-Ok-Some.ensures.files) slot e
 
 pub returns-in-Ok-Some-clause-keep_small : goal.returns-in-Ok-Some-clause-keep_small
-returns-in-Ok-Some-clause-keep_small g c slot sectors = keep-small _ _ _ _ _ _ _ _ c.run_command.ensures.run c.run_command.ensures.refused (c.requires.count ∙ counted _ _ _ c.in-Ok-Some.field-0-is c.in-Ok-Some.ensures.files) slot sectors
+returns-in-Ok-Some-clause-keep_small g c exported slot sectors = keep-small _ _ _ _ _ _ _ _ c.run_command.ensures.run c.run_command.ensures.refused (c.requires.count ∙ counted _ _ _ c.in-Ok-Some.field-0-is c.in-Ok-Some.ensures.files) slot sectors
 
 pub returns-in-Ok-Some-clause-keep_bad : goal.returns-in-Ok-Some-clause-keep_bad
-returns-in-Ok-Some-clause-keep_bad g c slot bad = keep-bad _ _ _ _ _ _ _ _ c.run_command.ensures.run c.run_command.ensures.refused (c.requires.count ∙ counted _ _ _ c.in-Ok-Some.field-0-is c.in-Ok-Some.ensures.files) slot bad
+returns-in-Ok-Some-clause-keep_bad g c exported slot bad = keep-bad _ _ _ _ _ _ _ _ c.run_command.ensures.run c.run_command.ensures.refused (c.requires.count ∙ counted _ _ _ c.in-Ok-Some.field-0-is c.in-Ok-Some.ensures.files) slot bad
 
 pub returns-in-Ok-Some-clause-mounted : goal.returns-in-Ok-Some-clause-mounted
-returns-in-Ok-Some-clause-mounted g c slot lists = mounted _ _ _ _ _ _ _ _ c.run_command.ensures.run c.run_command.ensures.refused (c.requires.count ∙ counted _ _ _ c.in-Ok-Some.field-0-is c.in-Ok-Some.ensures.files) slot lists
+returns-in-Ok-Some-clause-mounted g c exported slot lists = mounted _ _ _ _ _ _ _ _ c.run_command.ensures.run c.run_command.ensures.refused (c.requires.count ∙ counted _ _ _ c.in-Ok-Some.field-0-is c.in-Ok-Some.ensures.files) slot lists
 
 pub returns-in-Ok-Some-clause-answers : goal.returns-in-Ok-Some-clause-answers
 returns-in-Ok-Some-clause-answers g c asked fs is unrefused some_memory left_is all few source sink fine =
@@ -89,11 +81,11 @@ no-files names None n count e = count
 no-files names (Some p) n count e = absurd cc
 
 pub returns-in-Ok-None-clause-keep_small : goal.returns-in-Ok-None-clause-keep_small
-returns-in-Ok-None-clause-keep_small g c slot sectors =
+returns-in-Ok-None-clause-keep_small g c exported slot sectors =
     on-none _ slot _ _ (no-files files_of (spelled (map string_bytes c.args.words.now)) _ c.requires.count (sym c.in-Ok-None.ensures.command ∙ c.in-Ok-None.field-0-is))
 
 pub returns-in-Ok-None-clause-keep_bad : goal.returns-in-Ok-None-clause-keep_bad
-returns-in-Ok-None-clause-keep_bad g c slot bad =
+returns-in-Ok-None-clause-keep_bad g c exported slot bad =
     on-none _ slot _ _ (no-files files_of (spelled (map string_bytes c.args.words.now)) _ c.requires.count (sym c.in-Ok-None.ensures.command ∙ c.in-Ok-None.field-0-is))
 
 pub returns-in-Ok-Some-clause-asks : goal.returns-in-Ok-Some-clause-asks
