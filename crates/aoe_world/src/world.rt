@@ -172,6 +172,7 @@ impl World<'_> {
             &mut self.cursor,
             event,
         );
+        // A look that does nothing: it hands the prover what holds of the history, however the event ended.
         let _ = self.sim.run.history();
         match ran {
             Ok(()) => {
