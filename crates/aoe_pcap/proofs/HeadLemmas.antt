@@ -79,14 +79,14 @@ piece-long : (f : List ℕ) (k n : ℕ) → k + n ≤ length f → length (take 
 piece-long f k n long = length-take-le n (drop k f) (omega (arith, length-drop k f))
 
 -- a header of these bytes, where they pass the tests
-pub record Spelt (big : Bool) (f : List ℕ) : Type 0 where
+pub record Spelled (big : Bool) (f : List ℕ) : Type 0 where
   pub head : FileHead
   pub fits : IsHead head
   pub order : head.big ≡ big
   pub bytes : f ≡ head_bytes head
 
 pub known-head : (big : Bool) (f : List ℕ) (m major minor link : ℕ) → length f ≡ 24 → All (λ b. b < 2 ^ 8) f → known m major minor link ≡ true
-    → m ≡ word_of big (take 4 f) → major ≡ half_of big (take 2 (drop 4 f)) → minor ≡ half_of big (take 2 (drop 6 f)) → link ≡ word_of big (take 4 (drop 20 f)) → Spelt big f
+    → m ≡ word_of big (take 4 f) → major ≡ half_of big (take 2 (drop 4 f)) → minor ≡ half_of big (take 2 (drop 6 f)) → link ≡ word_of big (take 4 (drop 20 f)) → Spelled big f
 unfolding head_bytes
 known-head big f m major minor link long small e m_is major_is minor_is link_is =
     let t = tested m major minor link e in

@@ -108,7 +108,7 @@ one-list big (p ∷ ps) (q ∷ qs) all each e =
 
 pub one-capture : (bytes : List ℕ) (h g : FileHead) (ps qs : List Packet) → IsCapture bytes h ps → IsCapture bytes g qs → (h ≡ g) × (ps ≡ qs)
 one-capture bytes h g ps qs one two =
-    let whole = sym one.spelt ∙ two.spelt in
+    let whole = sym one.spelled ∙ two.spelled in
     let parts = same-front (head_bytes h) (head_bytes g) _ _ (length-head h ∙ sym (length-head g)) whole in
     let heads : h ≡ g = one-head h g one.fits two.fits parts.0 in
     let order : g.big ≡ h.big = ap (λ (x : FileHead). x.big) (sym heads) in
@@ -146,5 +146,5 @@ pub written-capture : (fs : List (List ℕ)) → All (λ f. length f ≤ 9018) f
 written-capture fs few = record {
   fits = record { zone = omega arith; accuracy = omega arith; snap_length = omega arith };
   each = All-map IsPacket packet_of fs (all-fit fs few);
-  spelt = ap (λ (t : List ℕ). head_bytes written_head ++ t) (each-written fs);
+  spelled = ap (λ (t : List ℕ). head_bytes written_head ++ t) (each-written fs);
 }

@@ -71,7 +71,7 @@ pub record IsPacket (p : Packet) : Type 0 where
 pub record IsCapture (bytes : List ℕ) (head : FileHead) (packets : List Packet) : Type 0 where
   pub fits : IsHead head
   pub each : All IsPacket packets
-  pub spelt : bytes ≡ head_bytes head ++ flat_map (packet_bytes head.big) packets
+  pub spelled : bytes ≡ head_bytes head ++ flat_map (packet_bytes head.big) packets
 
 -- a packet is a frame, whole or cut short, where no more than the longest frame was captured
 abbrev pub kind : ℕ → ℕ → Record

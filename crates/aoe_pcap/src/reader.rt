@@ -72,7 +72,7 @@ impl Lengths {
 /// The lengths that the header of a record has.
 fn lengths_of(head: &Head, bytes: &[u8]) -> Lengths
     requires { length bytes.now ≡ 16 }
-    ensures spelt { (seconds : ℕ) × (fraction : ℕ) × (seconds < 2 ^ 32) × (fraction < 2 ^ 32)
+    ensures spelled { (seconds : ℕ) × (fraction : ℕ) × (seconds < 2 ^ 32) × (fraction < 2 ^ 32)
         × (bytes.now ≡ record_head head.now.big seconds fraction result.captured result.original) }
     ensures captured { result.captured ≡ claimed head.now.big bytes.now }
 {
