@@ -22,8 +22,14 @@ pieces-preserved c =
       so_far = rw (length_push c.pieces.yielded c.in-Some.piece) (one_more _ _ _ t c.pieces.invariant.so_far c.in-Some-read_address.ensures.spelled);
     }
 
-pub returns-clause-spelled : goal.returns-clause-spelled
-returns-clause-spelled c =
+pub returns-then-has_room-clause-spelled : goal.returns-then-has_room-clause-spelled
+returns-then-has_room-clause-spelled c =
     let road = YieldsList-from_slice_split _ (λ c. c == 44) c.args.text.now (search rules) (search rules) (search rules) (λ x b q k. search rules) in
     let t = YieldsList-end road c.pieces.yielded _ c.pieces.yielded_by _ _ c.in-None.is c.next.ensures.steps in
     all_read _ _ t.1 c.pieces.invariant.so_far
+
+pub returns-else-has_room-clause-memory : goal.returns-else-has_room-clause-memory
+returns-else-has_room-clause-memory c =
+    let road = YieldsList-from_slice_split _ (λ c. c == 44) c.args.text.now (search rules) (search rules) (search rules) (λ x b q k. search rules) in
+    let t = YieldsList-end road c.pieces.yielded _ c.pieces.yielded_by _ _ c.in-None.is c.next.ensures.steps in
+    λ _. all_read _ _ t.1 c.pieces.invariant.so_far
