@@ -1,0 +1,5 @@
+mod LawLemmas
+mod LearningLemmas
+mod PortLemmas
+mod TableLemmas
+mod TakeLemmas

@@ -1,0 +1,35 @@
+use Rattle.std.proofs.Common.{◌≡◌, ◌∙◌, ◌++◌, ◌∷◌, [], List, length, ap, sym, subst, arith}
+use Rattle.std.specs.Prelude.{All}
+use Rattle.std.specs.List.{list_any}
+use Rattle.std.proofs.lemmas.List.{take_all, take_more}
+use Rattle.aoe_vlan.specs.Tables.{AreBlank, Table}
+use Rattle.aoe_vlan.specs.Tag.{IsNumbered, carries}
+use Rattle.aoe_vlan.specs.declared.port.PortKind.{PortKind}
+use Rattle.aoe_vlan.proofs.TableLemmas.{covers-all, covers-more, covers-none}
+use Rattle.aoe_vlan.proofs.switch.Switch.new.Goals as goal
+
+pub ports-init : goal.ports-init
+ports-init c = (c.in_ok-copies.ensures.items, subst (λ (l : List Table). AreBlank l) (sym c.new-tables.ensures.items) (λ vid. tt), covers-none carries c.args.ports.now c.new-tables.result.items)
+
+pub ports-preserved : goal.ports-preserved
+ports-preserved c =
+    let ports = c.args.ports.now in
+    let port = c.port-item.result in (
+      c.in_ok-push.ensures.items ∙ (λ j. c.ports.invariant.0 j ++ (c.copy.ensures ∙ c.port-item.is) j ∷ []) ∙ sym (take_more ports c.ports.port-index port c.ports-test.true),
+      c.in_ok-add_tables.ensures.blank,
+      covers-more carries ports c.ports.port-index port port c.ports.tables.items c.add_tables.new.tables.items c.ports-test.true (sym c.port-item.is) c.in_ok-add_tables.ensures.kept c.in_ok-add_tables.ensures.there c.ports.invariant.2,
+    )
+
+pub invariant_of-result : goal.invariant_of-result
+invariant_of-result c =
+    let all : c.ports.copies.items ≡ c.args.ports.now = c.ports.invariant.0 ∙ take_all c.ports.port-index c.args.ports.now c.ports-test.false in (
+      omega (arith, ap length all, c.requires.few),
+      subst (λ (l : List PortKind). All IsNumbered l) (sym all) c.requires.numbers,
+      λ vid e. covers-all carries c.args.ports.now c.ports.port-index c.ports.tables.items c.ports-test.false c.ports.invariant.2 vid (ap (λ (l : List PortKind). list_any (carries vid) l) (sym all) ∙ e),
+    )
+
+pub returns-clause-ports : goal.returns-clause-ports
+returns-clause-ports c = c.ports.invariant.0 ∙ take_all c.ports.port-index c.args.ports.now c.ports-test.false
+
+pub returns-clause-nothing : goal.returns-clause-nothing
+returns-clause-nothing c = c.ports.invariant.1

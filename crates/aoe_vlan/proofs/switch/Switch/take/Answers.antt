@@ -1,0 +1,47 @@
+use Rattle.std.proofs.Common.{◌<◌, List, ◌∷◌, None, cond, length, sym, ap, subst, ◌∙◌, arith}
+use Rattle.aoe_base.specs.Addresses.{is_individual}
+use Rattle.aoe_vlan.specs.Tag.{destination_of}
+use Rattle.std.specs.Prelude.{IsSome}
+use Rattle.aoe_vlan.specs.Switched.{Passing, going, vlan_at}
+use Rattle.aoe_vlan.specs.Tables.{HasLearnt, Knowing, Table, found_in, stations_of}
+use Rattle.aoe_vlan.proofs.TakeLemmas.{any-there, some-kept, takes-going, takes-some, vlan-there}
+use Rattle.aoe_vlan.proofs.switch.Switch.take.Goals as goal
+
+pub learn-place-requires-clause-table : goal.learn-place-requires-clause-table
+learn-place-requires-clause-table c =
+    let lt : c.args.port < length c.self.inside.ports.items = omega (arith, c.requires, ap (λ (k : Knowing). length k.ports) c.self.view_is) in
+    c.self.invariant.2 c.in-Some.vid (any-there c.self.inside.ports.items c.args.port c.index.result.now c.args.frame.now c.in-Some.vid lt c.index.ensures (sym c.vlan_of.ensures ∙ c.in-Some.is))
+
+pub invariant_of-self : goal.invariant_of-self
+invariant_of-self c =
+    (c.self.invariant.0, c.self.invariant.1, λ w any. subst (λ (l : List Table). IsSome (stations_of w l)) (sym c.learn-place.ensures.tables) (some-kept c.in-Some.vid w _ c.args.port c.self.inside.tables.items (c.self.invariant.2 w any)))
+
+pub returns-clause-vid : goal.returns-clause-vid
+returns-clause-vid c =
+    let lt : c.args.port < length c.self.inside.ports.items = omega (arith, c.requires, ap (λ (k : Knowing). length k.ports) c.self.view_is) in
+    let there = vlan-there c.self.inside.ports.items c.args.port c.index.result.now c.args.frame.now c.in-Some.vid lt c.index.ensures (sym c.vlan_of.ensures ∙ c.in-Some.is) in
+    let i : Passing = record { port = c.args.port; frame = c.args.frame.now } in
+    sym there ∙ ap (λ (k : Knowing). vlan_at k.ports i) c.self.view_is
+
+pub returns-clause-ports : goal.returns-clause-ports
+returns-clause-ports c = λ inputs learnt.
+    let s = c.self.inside in
+    let lt : c.args.port < length s.ports.items = omega (arith, c.requires, ap (λ (k : Knowing). length k.ports) c.self.view_is) in
+    let i : Passing = record { port = c.args.port; frame = c.args.frame.now } in
+    let kind = c.index.result.now in
+    let is = sym c.vlan_of.ensures ∙ c.in-Some.is in
+    let there = vlan-there s.ports.items c.args.port kind c.args.frame.now c.in-Some.vid lt c.index.ensures is in
+    let table = c.self.invariant.2 c.in-Some.vid (any-there s.ports.items c.args.port kind c.args.frame.now c.in-Some.vid lt c.index.ensures is) in
+    let before = subst (λ (k : Knowing). HasLearnt k inputs) (sym c.self.view_is) learnt in
+    let place = ap (λ l. cond (is_individual (destination_of i.frame)) (found_in c.in-Some.vid l (destination_of i.frame)) None) c.learn-place.ensures.tables in
+    c.toward.ensures ∙ takes-going s.ports.items s.tables.items inputs i before c.in-Some.vid there c.learn-place.result table (c.learn-place.ensures.place ∙ place) ∙ ap (λ (k : Knowing). going k.ports inputs i) c.self.view_is
+
+pub returns-clause-learnt : goal.returns-clause-learnt
+returns-clause-learnt c = λ inputs learnt w.
+    let s = c.self.inside in
+    let lt : c.args.port < length s.ports.items = omega (arith, c.requires, ap (λ (k : Knowing). length k.ports) c.self.view_is) in
+    let i : Passing = record { port = c.args.port; frame = c.args.frame.now } in
+    let there = vlan-there s.ports.items c.args.port c.index.result.now c.args.frame.now c.in-Some.vid lt c.index.ensures (sym c.vlan_of.ensures ∙ c.in-Some.is) in
+    let before = subst (λ (k : Knowing). HasLearnt k inputs) (sym c.self.view_is) learnt in
+    let after = takes-some s.ports.items s.tables.items inputs i before c.in-Some.vid there in
+    subst (λ (l : List Table). HasLearnt record { ports = s.ports.items; tables = l } (i ∷ inputs)) (sym c.learn-place.ensures.tables) after w
