@@ -6,9 +6,10 @@ use std::sync::ledger::{Blank, Book, Ledger, Share};
 
 /// A counter of steps without bytes, which contracts see as a number.
 ///
-/// Code counts a step by `tick` wherever it looks at one thing, and a contract bounds how far the
-/// number rises. A counter of its own is made from a blank ledger: a function over any ledger `L`
-/// that is handed a `Steps<L>` and no blank can make no second one.
+/// Code counts a step by `tick` wherever it looks at one thing, and by `add` where it hands out
+/// many to look at; a contract bounds how far the number rises. A counter of its own is made from
+/// a blank ledger: a function over any ledger `L` that is handed a `Steps<L>` and no blank can make
+/// no second one.
 #[derive(Drop)]
 pub struct Steps<L: Ledger> {
     taken: Book<L>,
@@ -42,5 +43,12 @@ impl<L: Ledger> Steps<L> {
         ensures { self.new ≡ self.old + 1 }
     {
         self.taken.add(&mut self.share, 1);
+    }
+
+    /// Counts so many steps at once.
+    pub fn add(&mut self, steps: usize)
+        ensures { self.new ≡ self.old + steps }
+    {
+        self.taken.add(&mut self.share, steps as u64);
     }
 }

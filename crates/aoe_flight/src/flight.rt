@@ -64,8 +64,8 @@ impl Model for Flight {
 
 impl Flight {
     /// No command was sent. A frame can arrive as long as `life` after it was sent, so a finished
-    /// command rests for twice as long. A command is given up after `dead`. The limit of the room is
-    /// this program's own, since all of it is made here.
+    /// command rests for twice as long. A command is given up after `dead`. The limit of the room
+    /// is this program's own, since all of it is made here.
     pub fn new(alloc: Global, room: u32, life: Millis, dead: Millis) -> Result<Flight, NoMemory>
         requires some_room { 0 < room }
         requires room { room ≤ 16384 }

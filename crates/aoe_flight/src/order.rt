@@ -1,5 +1,5 @@
 //! Places of commands in an order: by their times, their tickets or their tags.
-ghost use Rattle.std.specs.Prelude.{◌≡◌, ◌≢◌, ◌+◌, ◌<◌, ◌≤◌, ◌⊎◌, ℕ, false, true, length, option_copied, slice_get, All, Contains, IfNone, IfOk, IfSome};
+ghost use Rattle.std.specs.Prelude.{◌≡◌, ◌≢◌, ◌+◌, ◌<◌, ◌≤◌, ◌⊎◌, ℕ, false, true, length, slice_get, All, Contains, IfNone, IfOk, IfSome};
 ghost use Rattle.std.specs.List.{AllWithin};
 ghost use Rattle.aoe_flight.specs.declared.order.Entry.{Entry};
 ghost use Rattle.aoe_flight.specs.Order.{before, entry_at, no_entries, IsInOrder};

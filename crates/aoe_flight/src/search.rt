@@ -1,5 +1,5 @@
 //! Which command is due or expired, by counted looks at the commands.
-ghost use Rattle.std.specs.Prelude.{◌≡◌, ◌+◌, ◌≤◌, ℕ, false, length, None, All, IfNone, IfSome};
+ghost use Rattle.std.specs.Prelude.{◌≡◌, ◌+◌, ◌≤◌, false, length, None, All, IfNone, IfSome};
 ghost use Rattle.slab.specs.Slab.{values};
 ghost use Rattle.aoe_flight.specs.declared.outstanding.Outstanding.{Outstanding};
 ghost use Rattle.aoe_flight.specs.Outstanding.{best, is_better, is_due, is_expired, lower, precedes, IsFirst};

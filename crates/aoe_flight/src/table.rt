@@ -149,7 +149,7 @@ impl Table {
         ensures value { result.now ≡ self.now }
         ensures steps { steps.new ≡ steps.old + length (values self.now) }
     {
-        count(self.len(), steps);
+        steps.add(self.len());
         &self.slots
     }
 
@@ -340,15 +340,6 @@ fn flying_orders(alloc: Global, room: usize) -> Result<(Order, Order, Order), No
     let dues = Order::new(alloc, room)?;
     let firsts = Order::new(alloc, room)?;
     Ok((tickets, dues, firsts))
-}
-
-/// Counts a step for each of so many commands.
-fn count<L: Ledger>(commands: usize, steps: &mut Steps<L>)
-    ensures { steps.new ≡ steps.old + commands }
-{
-    'commands: for _ in 0..commands {
-        steps.tick();
-    }
 }
 
 /// The tag that comes `steps` steps after the next of `last`.

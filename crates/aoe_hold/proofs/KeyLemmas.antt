@@ -1,6 +1,6 @@
 -- The order of keys, and which of them lie in a range.
-use Rattle.std.proofs.Common.{ℕ, cond, ◌≡◌, ◌+◌, ◌-◌, ◌<◌, ◌≤◌, ◌||◌, Bool, true, false, List, max, inl, inr, refl, sym, ◌∙◌, arith, nat_eq, nat_lt}
-use Rattle.std.specs.Prelude.{Err, Ok, OnOk, Result}
+use Rattle.std.proofs.Common.{ℕ, cond, ◌≡◌, ◌+◌, ◌-◌, ◌<◌, ◌≤◌, ◌||◌, ◌⊎◌, Bool, true, false, List, [], ◌∷◌, ◌++◌, get_or, length, take, max, inl, inr, refl, sym, ◌∙◌, arith, nat_eq, nat_lt}
+use Rattle.std.specs.Prelude.{All, Err, Ok, OnOk, Result}
 use Rattle.std.specs.Result.{is_err}
 use Rattle.std.specs.List.{filter, list_any}
 use Rattle.std.specs.Ordering.{bool_cmp, is_eq, is_le, nat_cmp, ordering_then}
@@ -12,16 +12,19 @@ use Rattle.std.specs.BTreeMap.{is_at}
 use Rattle.std.specs.BTreeMap.Range.{range_contains}
 use Rattle.std.specs.BTreeSet.{contains, BTreeSet}
 use Rattle.std.specs.declared.ops.Bound.TheVariants.{Included, Excluded}
-use Rattle.std.proofs.lemmas.Bool.{and_parts, cases_lt, eq-eqb, eqb-false, false_from_ne_true, ltb-true}
+use Rattle.std.proofs.lemmas.Bool.{and_parts, cases_Bool, cases_lt, eq-eqb, eqb-false, false_from_ne_true, ltb-true, or_left, or_right, true≢false}
+use Rattle.std.proofs.lemmas.List.{take_all}
+use Rattle.std.proofs.lemmas.List.Elements.{All-head, All-more, All-nil, All-tail}
 use Rattle.std.proofs.lemmas.Cmp.{ranked}
 use Rattle.std.proofs.lemmas.Map.Views.{any-filter_same}
 use Rattle.aoe_base.specs.Spans.{overlap}
 use Rattle.aoe_base.specs.declared.sectors.Span.{Span}
 use Rattle.aoe_hold.specs.declared.command.Command.{Command}
 use Rattle.aoe_hold.specs.declared.keys.Key.{Key}
-use Rattle.aoe_hold.specs.Commands.{is_write}
-use Rattle.aoe_hold.specs.Extents.{key_cmp, key_of, HasKey}
-use Rattle.aoe_hold.proofs.ListLemmas.{any-implies}
+use Rattle.aoe_hold.specs.declared.command.Stage.{Stage}
+use Rattle.aoe_hold.specs.Commands.{after_stage, is_past, is_write, live}
+use Rattle.aoe_hold.specs.Extents.{is_key_of, key_cmp, key_of, AreKeysOf, AreLeft, HasKey}
+use Rattle.aoe_hold.proofs.ListLemmas.{any-implies, any-push}
 
 pub beq-same : (a b : Bool) → beq a b ≡ true → a ≡ b
 beq-same a b is = grind arith
@@ -111,3 +114,91 @@ key-met keys near low high e c reach is low_writes high_writes zeroth low_first 
     in-range low high k (low_writes ∙ same.0) (high_writes ∙ same.0) zeroth (omega (arith, near_by.0, same.1)) (omega (arith, near_by.1, same.1)) in
     any-implies own (λ k. nat_eq e.ticket.0 k.ticket.0) (λ k found. eq-eqb _ _ (same-key (key_of e) k found).2) near
     (rw is (any-filter_same own _ true inside keys.keys ∙ has))
+
+-- ---- which keys are left once those of the commands that are past are dropped
+
+pub left-none : (life now : ℕ) (keys : BTreeSet Key) → AreLeft life now [] keys keys
+left-none life now keys = record { there = λ key has. has; gone = λ key has. All-nil (λ c. is_past life now c ≡ true → is_key_of key c ≡ false) }
+
+module _ {life now : ℕ} {old keys : BTreeSet Key} (commands : List Command) (i : ℕ) (d : Command) (left : AreLeft life now (take i commands) old keys) where
+  pub left-dropped : (new : BTreeSet Key) (removed : Key) → i < length commands → removed ≡ key_of (get_or commands i d)
+      → ((key : Key) → contains key_cmp new key ≡ cond (is_at (key_cmp removed) key) false (contains key_cmp keys key))
+      → AreLeft life now (take (i + 1) commands) old new
+  left-dropped new removed below is updates = record {
+    there = λ key has. left.there key (parts key has).1;
+    gone = λ key has.
+        All-more (λ c. is_past life now c ≡ true → is_key_of key c ≡ false) commands i d below (left.gone key (parts key has).1)
+        (λ past. rw is at (parts key has).0);
+  }
+    where
+      only : (a b : Bool) → cond a false b ≡ true → (a ≡ false) × (b ≡ true)
+      only a b is = grind arith
+
+      parts : (key : Key) → contains key_cmp new key ≡ true → (is_at (key_cmp removed) key ≡ false) × (contains key_cmp keys key ≡ true)
+      parts key has = only (is_at (key_cmp removed) key) (contains key_cmp keys key) (sym (updates key) ∙ has)
+
+  pub left-passed : i < length commands → is_past life now (get_or commands i d) ≡ false → AreLeft life now (take (i + 1) commands) old keys
+  left-passed below stays = record {
+    there = left.there;
+    gone = λ key has.
+        All-more (λ c. is_past life now c ≡ true → is_key_of key c ≡ false) commands i d below (left.gone key has)
+        (λ past. absurd (true≢false (sym past ∙ stays)));
+  }
+
+pub left-all : {life now : ℕ} {old keys : BTreeSet Key} (commands : List Command) (i : ℕ) → length commands ≤ i
+    → AreLeft life now (take i commands) old keys → AreLeft life now commands old keys
+left-all commands i least left = rw (take_all i commands least) at left
+
+-- nothing is past, and nothing was dropped
+pub left-same : (life now : ℕ) (commands : List Command) (keys : BTreeSet Key) → All (λ c. is_past life now c ≡ false) commands
+    → AreLeft life now commands keys keys
+left-same life now commands keys out = record {
+  there = λ key has. has;
+  gone = λ key has k d below past. absurd (true≢false (sym past ∙ out k d below));
+}
+
+any-kept : (life now : ℕ) (key : Key) (commands : List Command) → All (λ c. is_past life now c ≡ true → is_key_of key c ≡ false) commands
+    → list_any (is_key_of key) commands ≡ true → list_any (is_key_of key) (live life now commands) ≡ true
+any-kept life now key [] out has = has
+any-kept life now key (c ∷ commands) out has =
+    let behind = any-kept life now key commands (All-tail (λ c. is_past life now c ≡ true → is_key_of key c ≡ false) c commands out) in
+    elim (cases_Bool (is_past life now c)) [
+      | inl past ↦
+          let other : is_key_of key c ≡ false = All-head (λ c. is_past life now c ≡ true → is_key_of key c ≡ false) c commands out past in
+          rw past (behind (rw other at has))
+      | inr stays ↦ rw stays (elim (cases_Bool (is_key_of key c)) [
+        | inl here ↦ rw here refl
+        | inr other ↦ or_right (is_key_of key c) _ (behind (rw other at has))
+      ])
+    ]
+
+-- each key is that of a held command, once one more is entered
+pub keys-entered : {life now : ℕ} {held : List Command} {old made new : BTreeSet Key} (c : Command)
+    → ((key : Key) → contains key_cmp made key ≡ true → (contains key_cmp old key ≡ true) ⊎ (is_key_of key c ≡ true))
+    → AreLeft life now held made new → AreKeysOf old held → AreKeysOf new (live life now held ++ c ∷ [])
+keys-entered {life} {now} {held} c only left keys = record {
+  each = λ key has. rw (any-push (is_key_of key) (live life now held) c) (elim (only key (left.there key has)) [
+    | inl before ↦ or_left _ (is_key_of key c) (any-kept life now key held (left.gone key has) (keys.each key before))
+    | inr own ↦ or_right _ (is_key_of key c) own
+  ]);
+}
+
+pub keys-stage : {keys : BTreeSet Key} (ticket : ℕ) (change : Stage → Stage) (commands : List Command) → AreKeysOf keys commands
+    → AreKeysOf keys (after_stage ticket change commands)
+keys-stage ticket change commands all = record { each = λ key has. same key commands ∙ all.each key has }
+  where
+    same : (key : Key) (xs : List Command) → list_any (is_key_of key) (after_stage ticket change xs) ≡ list_any (is_key_of key) xs
+    same key [] = refl
+    same key (x ∷ xs) = elim (cases_Bool (nat_eq x.ticket.0 ticket)) [ inl one ↦ rw (one, same key xs) refl | inr other ↦ rw (other, same key xs) refl ]
+
+pub keys-fewer : {old new : BTreeSet Key} {commands : List Command} → AreKeysOf old commands
+    → ((key : Key) → contains key_cmp new key ≡ true → contains key_cmp old key ≡ true) → AreKeysOf new commands
+keys-fewer all fewer = record { each = λ key has. all.each key (fewer key has) }
+
+-- a key that was added, or was there
+pub key-only : (old new : BTreeSet Key) (added key : Key) (c : Command) → contains key_cmp new key ≡ cond (is_at (key_cmp added) key) true (contains key_cmp old key)
+    → added ≡ key_of c → contains key_cmp new key ≡ true → (contains key_cmp old key ≡ true) ⊎ (is_key_of key c ≡ true)
+key-only old new added key c is own has = elim (cases_Bool (is_at (key_cmp added) key)) [
+  | inl here ↦ inr (rw own at here)
+  | inr other ↦ let there = sym is ∙ has in inl (rw other at there)
+]

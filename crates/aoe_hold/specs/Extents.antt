@@ -1,8 +1,10 @@
 -- What the held commands are at most, and by what each is found.
-use Rattle.std.specs.Prelude.{ℕ, ◌≡◌, ◌+◌, ◌-◌, ◌≤◌, ◌||◌, Bool, false, true, max, nat_eq, not, List, All}
+use Rattle.std.specs.Prelude.{ℕ, ◌≡◌, ◌+◌, ◌-◌, ◌≤◌, ◌||◌, ◌⊎◌, Bool, false, true, max, nat_eq, not, List, All}
 use Rattle.std.specs.Ordering.{bool_cmp, nat_cmp, ordering_then}
 use Rattle.std.specs.declared.cmp.Ordering.{Ordering}
+use Rattle.std.specs.BTreeMap.{is_at}
 use Rattle.std.specs.BTreeSet.{contains, BTreeSet}
+use Rattle.std.specs.List.{list_any}
 use Rattle.aoe_hold.specs.declared.command.Command.{Command}
 use Rattle.aoe_hold.specs.declared.command.Kind.{Kind}
 use Rattle.aoe_hold.specs.declared.command.Kind.TheVariants.{Read, Write, Other}
@@ -29,6 +31,27 @@ pub record IsWithin (extent : Extent) (keys : BTreeSet Key) (c : Command) : Type
 
 abbrev pub Covers : Extent → BTreeSet Key → List Command → Type 0
 Covers extent keys commands = All (IsWithin extent keys) commands
+
+-- a key is that of a command
+abbrev pub is_key_of : Key → Command → Bool
+is_key_of key c = is_at (key_cmp (key_of c)) key
+
+-- each key of the first set is in the second
+abbrev pub AreAmong : BTreeSet Key → BTreeSet Key → Type 0
+AreAmong few many = (key : Key) → contains key_cmp few key ≡ true → contains key_cmp many key ≡ true
+
+-- each key was there, or is that of a command
+abbrev pub AddsOnly : BTreeSet Key → BTreeSet Key → Command → Type 0
+AddsOnly old new c = (key : Key) → contains key_cmp new key ≡ true → (contains key_cmp old key ≡ true) ⊎ (is_key_of key c ≡ true)
+
+-- each key is that of a held command
+pub record AreKeysOf (keys : BTreeSet Key) (commands : List Command) : Type 0 where
+  pub each : (key : Key) → contains key_cmp keys key ≡ true → list_any (is_key_of key) commands ≡ true
+
+-- each key was there, and is none of a command that is past
+pub record AreLeft (life now : ℕ) (commands : List Command) (old new : BTreeSet Key) : Type 0 where
+  pub there : (key : Key) → contains key_cmp new key ≡ true → contains key_cmp old key ≡ true
+  pub gone : (key : Key) → contains key_cmp new key ≡ true → All (λ c. is_past life now c ≡ true → is_key_of key c ≡ false) commands
 
 -- none of the commands that are past has the ticket of this one
 abbrev pub IsNonePast : ℕ → ℕ → List Command → Command → Type 0

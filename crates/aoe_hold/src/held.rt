@@ -2,16 +2,13 @@
 //!
 //! Each call that lets them be seen takes a counter of steps, and counts one for each command. The
 //! others change them.
-ghost use Rattle.std.specs.Prelude.{◌≡◌, ◌+◌, ◌<◌, ◌≤◌, ℕ, [], ◌∷◌, ◌++◌, length, slice_index_or, slice_set, true, OnOk};
-ghost use Rattle.std.specs.BTreeSet.{contains};
+ghost use Rattle.std.specs.Prelude.{◌≡◌, ◌+◌, ◌<◌, ◌≤◌, [], ◌∷◌, ◌++◌, length, slice_index_or, slice_set, OnErr, OnOk};
 ghost use Rattle.aoe_hold.specs.declared.command.Command.{Command};
-ghost use Rattle.aoe_hold.specs.declared.keys.Key.{Key as KeyValue};
 ghost use Rattle.aoe_hold.specs.Commands.{live};
-ghost use Rattle.aoe_hold.specs.Extents.{key_cmp, HasKey, IsNonePast};
+ghost use Rattle.aoe_hold.specs.Extents.{AddsOnly, AreAmong, AreKeysOf, AreLeft, HasKey, IsNonePast};
 ghost use Rattle.aoe_hold.specs.HoldTable.{NonePastBefore};
 
 use crate::command::{Command, Stage};
-use crate::count::count;
 use crate::keys::{Key, add_key, drop_past};
 use aoe_base::{Millis, NoMemory, Steps};
 use std::alloc::Global;
@@ -50,6 +47,7 @@ impl HeldCommands {
     /// No command.
     pub fn new(alloc: Global) -> HeldCommands
         ensures items { result.items ≡ [] }
+        ensures keys { AreKeysOf result.keys [] }
     {
         HeldCommands {
             items: Vec::new(alloc),
@@ -62,7 +60,7 @@ impl HeldCommands {
         ensures value { result.now ≡ self.now.items }
         ensures steps { steps.new ≡ steps.old + length self.now.items }
     {
-        count(self.items.len(), steps);
+        steps.add(self.items.len());
         &self.items
     }
 
@@ -71,7 +69,7 @@ impl HeldCommands {
         ensures value { result.now ≡ self.now.keys }
         ensures steps { steps.new ≡ steps.old + length self.now.items }
     {
-        count(self.items.len(), steps);
+        steps.add(self.items.len());
         &self.keys
     }
 
@@ -80,7 +78,9 @@ impl HeldCommands {
         ensures items { self.new.items ≡ self.old.items }
         ensures place { OnOk result (length self.new.items < self.new.capacity) }
         ensures key { OnOk result (HasKey self.new.keys command.now) }
-        ensures keys { (key : KeyValue) → contains key_cmp self.old.keys key ≡ true → contains key_cmp self.new.keys key ≡ true }
+        ensures keys { AreAmong self.old.keys self.new.keys }
+        ensures only { OnOk result (AddsOnly self.old.keys self.new.keys command.now) }
+        ensures err { OnErr result (AreAmong self.new.keys self.old.keys) }
     {
         self.items.reserve(1)?;
         add_key(&mut self.keys, command)
@@ -115,6 +115,7 @@ impl HeldCommands {
     ) -> u128
         requires { NonePastBefore life.0 past_from self.old.items }
         ensures keys { (c : Command) → IsNonePast life.0 now.0 self.old.items c → HasKey self.old.keys c → HasKey self.new.keys c }
+        ensures left { AreLeft life.0 now.0 self.old.items self.old.keys self.new.keys }
         ensures live { self.new.items ≡ live life.0 now.0 self.old.items }
         ensures none { NonePastBefore life.0 result self.new.items }
         ensures fewer { length self.new.items ≤ length self.old.items }
@@ -124,7 +125,7 @@ impl HeldCommands {
         if u128::from(now.0) < past_from {
             return past_from;
         }
-        count(self.items.len(), steps);
+        steps.add(self.items.len());
         drop_past(&mut self.keys, &self.items, life, now);
         self.items.retain(|command| !command.is_past(life, now));
         first_past(&self.items, life)

@@ -2,10 +2,8 @@
 ghost use Rattle.std.specs.Prelude.{◌≡◌, ◌+◌, ◌-◌, ◌^◌, ◌<◌, ◌≤◌, ◌&&◌, ℕ, nat_eq, nat_le, not, cond, false, true, List, [], ◌∷◌, ◌++◌, length, All, Contains, IfNone, IfSome, OnErr, OnOk};
 ghost use Rattle.std.specs.List.{count_by, filter, list_any};
 ghost use Rattle.std.specs.Option.{ForSome};
-ghost use Rattle.aoe_hold.specs.Commands.{after_stage, clear_tickets, finished, live, stage_finished, stage_sent, unsent_count};
-ghost use Rattle.std.specs.BTreeSet.{contains};
-ghost use Rattle.aoe_hold.specs.declared.keys.Key.{Key as KeyValue};
-ghost use Rattle.aoe_hold.specs.Extents.{key_cmp, Covers, HasKey};
+ghost use Rattle.aoe_hold.specs.Commands.{after_stage, clear_tickets, finished, stage_finished, stage_sent, unsent_count};
+ghost use Rattle.aoe_hold.specs.Extents.{AddsOnly, AreAmong, Covers, HasKey};
 ghost use Rattle.aoe_hold.specs.HoldTable.{after_finish, after_send, at_time, is_ascending, new_command, no_commands, with_command, ArePast, Recalls};
 ghost use Rattle.aoe_hold.specs.Queue.{blocks, has_ticket, AreOutside, is_blocked, lingers, waited_for, IsKeeper, Moved, Queued, Released};
 
@@ -81,7 +79,9 @@ fn make_room(
     ensures commands { commands.new.items ≡ commands.old.items }
     ensures place { OnOk result (length commands.new.items < commands.new.capacity) }
     ensures key { OnOk result (HasKey commands.new.keys command.now) }
-    ensures keys { (key : KeyValue) → contains key_cmp commands.old.keys key ≡ true → contains key_cmp commands.new.keys key ≡ true }
+    ensures keys { AreAmong commands.old.keys commands.new.keys }
+    ensures only { OnOk result (AddsOnly commands.old.keys commands.new.keys command.now) }
+    ensures err { OnErr result (AreAmong commands.new.keys commands.old.keys) }
     ensures timed { timed.new.waiters ≡ timed.old.waiters }
     ensures ready { ready.new.waiters ≡ ready.old.waiters }
     ensures blocked { blocked.new.waiters ≡ blocked.old.waiters }
@@ -274,7 +274,7 @@ pub struct Holds {
 
 impl Model for Holds {
     ghost use Rattle.std.specs.Prelude.{map, option_map};
-    ghost use Rattle.aoe_hold.specs.Extents.{Covers};
+    ghost use Rattle.aoe_hold.specs.Extents.{AreKeysOf, Covers};
     ghost use Rattle.aoe_hold.specs.HoldTable.{ArePast, HoldTable, StandInOrder, NonePastBefore};
     ghost use Rattle.aoe_hold.specs.Queue.{ticket_of, AreHeld, IsIndex};
 
@@ -294,7 +294,8 @@ impl Model for Holds {
         × NonePastBefore holds.life.0 holds.past_from holds.commands.items
         × AreHeld holds.unsent holds.commands.items holds.timed holds.ready holds.blocked
         × ArePast holds.life.0 holds.latest.0 holds.gone holds.commands.items
-        × Covers holds.extent holds.commands.keys holds.commands.items };
+        × Covers holds.extent holds.commands.keys holds.commands.items
+        × AreKeysOf holds.commands.keys holds.commands.items };
 }
 
 impl Holds {

@@ -1,12 +1,10 @@
 //! Where the held commands lie, so that a new one meets those alone that its span may overlap.
-ghost use Rattle.std.specs.Prelude.{◌≡◌, ℕ, true, nat_eq, position, OnOk};
-ghost use Rattle.std.specs.BTreeSet.{contains};
+ghost use Rattle.std.specs.Prelude.{◌≡◌, ℕ, true, nat_eq, position, OnErr, OnOk};
 ghost use Rattle.std.specs.List.{list_any};
 ghost use Rattle.std.specs.Bool.{beq};
-ghost use Rattle.aoe_hold.specs.declared.keys.Key.{Key as KeyValue};
 ghost use Rattle.aoe_hold.specs.declared.command.Command.{Command as CommandValue};
 ghost use Rattle.aoe_hold.specs.Commands.{is_write};
-ghost use Rattle.aoe_hold.specs.Extents.{goes_by_span, key_cmp, key_of, Covers, HasKey, IsNonePast};
+ghost use Rattle.aoe_hold.specs.Extents.{goes_by_span, key_of, AddsOnly, AreAmong, AreLeft, Covers, HasKey, IsNonePast};
 ghost use Rattle.aoe_hold.specs.HoldTable.{is_ascending};
 ghost use Rattle.aoe_hold.specs.Queue.{IsKeeper, IsKeeperOf};
 
@@ -43,15 +41,18 @@ impl Key {
 /// Adds the key of a command.
 pub fn add_key(keys: &mut BTreeSet<Key>, command: &Command) -> Result<(), NoMemory>
     ensures added { OnOk result (HasKey keys.new command.now) }
-    ensures more { (key : KeyValue) → contains key_cmp keys.old key ≡ true → contains key_cmp keys.new key ≡ true }
+    ensures more { AreAmong keys.old keys.new }
+    ensures only { OnOk result (AddsOnly keys.old keys.new command.now) }
+    ensures err { OnErr result (AreAmong keys.new keys.old) }
 {
     keys.insert(Key::of(command))?;
     Ok(())
 }
 
-/// Drops the keys of the commands that are past.
+/// Drops the keys of the commands that are past, and no others.
 pub fn drop_past(keys: &mut BTreeSet<Key>, commands: &[Command], life: Millis, now: Millis)
-    ensures { (c : CommandValue) → IsNonePast life.0 now.0 commands.now c → HasKey keys.old c → HasKey keys.new c }
+    ensures kept { (c : CommandValue) → IsNonePast life.0 now.0 commands.now c → HasKey keys.old c → HasKey keys.new c }
+    ensures left { AreLeft life.0 now.0 commands.now keys.old keys.new }
 {
     'held: for command in commands {
         if command.is_past(life, now) {

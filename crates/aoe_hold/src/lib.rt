@@ -12,7 +12,6 @@
 #![tactic(auto)]
 
 mod command;
-mod count;
 mod extent;
 mod held;
 mod holds;

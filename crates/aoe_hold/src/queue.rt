@@ -10,7 +10,6 @@ ghost use Rattle.aoe_hold.specs.Order.{comes_before};
 ghost use Rattle.aoe_hold.specs.Queue.{no_waiters, ticket_of, time_of, IsInOrder};
 
 use crate::command::Command;
-use crate::count::count;
 use aoe_base::{Millis, NoMemory, Steps, Ticket};
 use std::alloc::Global;
 use std::collections::VecDeque;
@@ -173,7 +172,7 @@ impl Queue {
         ensures room { self.new.room ≡ self.old.room }
         ensures steps { steps.new ≡ steps.old + length self.old.waiters }
     {
-        count(self.waiters.len(), steps);
+        steps.add(self.waiters.len());
         self.waiters
             .retain(|waiter| waiter.command.ticket != ticket);
     }

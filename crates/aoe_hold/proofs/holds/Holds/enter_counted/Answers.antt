@@ -5,6 +5,7 @@ use Rattle.aoe_hold.specs.declared.queue.Waiter.{Waiter}
 use Rattle.aoe_hold.specs.HoldTable.{new_command}
 use Rattle.aoe_hold.specs.Extents.{key_of}
 use Rattle.aoe_hold.proofs.ExtentLemmas.{covers-entered, covers-left, covers-more, none-past-above}
+use Rattle.aoe_hold.proofs.KeyLemmas.{keys-entered, keys-fewer}
 use Rattle.aoe_hold.proofs.HoldLemmas.{held-entered, held-few, held-reserved, index-entered, index-reserved}
 use Rattle.aoe_hold.proofs.LiveLemmas.{count-live}
 use Rattle.aoe_hold.proofs.OrderLemmas.{all-below, ascending-filter, enter-ascending, enter-up_to, up_to-filter}
@@ -37,6 +38,7 @@ invariant_of-self g c =
       held-reserved _ _ _ made.timed made.ready made.blocked made.blocked_more c.self.invariant.3,
       c.self.invariant.4,
       covers-more c.self.inside.extent c.self.inside.commands.keys _ _ (λ d. made.keys (key_of d)) c.self.invariant.5,
+      keys-fewer c.self.invariant.6 c.in_err-make_room.ensures.err,
     )
 
 pub queue-requires-clause-timed : goal.queue-requires-clause-timed
@@ -81,6 +83,7 @@ invariant_of-self-2 g c =
       held-entered queued refl c.in_ok-make_room.ensures.blocked_room queues,
       gone-none life latest (kept ++ new ∷ []),
       rw (c.widened-self-inside.ensures, c.push.ensures.keys) (covers-entered c.kept-extent.result c.forget-self-inside.new.self.keys kept new keyed covers),
+      rw c.push.ensures.keys (keys-entered new c.in_ok-make_room.ensures.only (rw made.commands at c.forget-self-inside.ensures.left) c.self.invariant.6),
     )
 
 pub returns-clause-recalls : goal.returns-clause-recalls

@@ -5,6 +5,7 @@ use Rattle.aoe_hold.specs.Commands.{stage_finished}
 use Rattle.aoe_hold.proofs.StageLemmas.{count-finished, new-ends, place-ticket, stage-missing, stage-set, stands-read}
 use Rattle.aoe_hold.proofs.OutsideLemmas.{gone-stage}
 use Rattle.aoe_hold.proofs.ExtentLemmas.{covers-stage}
+use Rattle.aoe_hold.proofs.KeyLemmas.{keys-stage}
 use Rattle.aoe_hold.proofs.PastLemmas.{past-ended}
 use Rattle.aoe_hold.proofs.OrderLemmas.{ascending-after_stage, up_to-after_stage}
 use Rattle.aoe_hold.proofs.TableLemmas.{finish-recalls, finish-value}
@@ -35,6 +36,7 @@ invariant_of-self g c =
       rw after both.1,
       rw c.look_all-commands-in-Some.ensures.value at c.count_gone-self-inside.ensures,
       rw (after, c.set_stage.ensures.keys) (covers-stage c.self.inside.extent c.self.inside.commands.keys c.args.ticket.0 stage_finished held c.self.invariant.5),
+      rw (after, c.set_stage.ensures.keys) (keys-stage c.args.ticket.0 stage_finished held c.self.invariant.6),
     )
 
 pub release-requires : goal.release-requires

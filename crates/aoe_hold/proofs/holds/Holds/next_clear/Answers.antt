@@ -23,6 +23,7 @@ invariant_of-self g c =
       held-moved c.make_ready.ensures.moved c.self.invariant.3,
       gone-later c.self.inside.life.0 c.self.inside.latest.0 c.args.now.0 c.self.inside.gone c.self.inside.commands.items later c.self.invariant.4,
       c.self.invariant.5,
+      c.self.invariant.6,
     )
 
 -- the ready queue has the clear commands, and the first of them is told

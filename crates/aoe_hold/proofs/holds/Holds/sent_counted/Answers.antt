@@ -4,6 +4,7 @@ use Rattle.aoe_hold.specs.declared.command.Command.{Command}
 use Rattle.aoe_hold.specs.Commands.{is_unsent, stage_sent}
 use Rattle.aoe_hold.proofs.StageLemmas.{count-sent, stage-missing, stage-set, stands-read}
 use Rattle.aoe_hold.proofs.ExtentLemmas.{covers-stage}
+use Rattle.aoe_hold.proofs.KeyLemmas.{keys-stage}
 use Rattle.aoe_hold.proofs.PastLemmas.{past-sent}
 use Rattle.aoe_hold.proofs.PlaceLemmas.{leaves-missing, leaves-once}
 use Rattle.aoe_hold.proofs.OrderLemmas.{ascending-after_stage, up_to-after_stage}
@@ -43,6 +44,7 @@ invariant_of-self g c =
           c.leave.ensures.blocked_room c.self.invariant.3),
       rw after (gone-stage c.self.inside.life.0 c.self.inside.latest.0 c.args.now.0 c.self.inside.gone ticket sent held (λ last. refl) later c.self.invariant.4),
       rw (after, c.set_stage.ensures.keys) (covers-stage c.self.inside.extent c.self.inside.commands.keys ticket sent held c.self.invariant.5),
+      rw (after, c.set_stage.ensures.keys) (keys-stage ticket sent held c.self.invariant.6),
     )
 
 pub invariant_of-self-in_default : goal.invariant_of-self-in_default
@@ -62,6 +64,7 @@ invariant_of-self-in_default g c =
       rw same at queues,
       gone-later c.self.inside.life.0 c.self.inside.latest.0 c.args.now.0 c.self.inside.gone held later c.self.invariant.4,
       c.self.invariant.5,
+      c.self.invariant.6,
     )
 
 pub leave-requires : goal.leave-requires
