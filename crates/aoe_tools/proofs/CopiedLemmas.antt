@@ -23,6 +23,7 @@ use Rattle.aoe_initiator.specs.Host.{Host}
 use Rattle.aoe_initiator.specs.HostLaw.{GaveUpInTurn}
 use Rattle.aoe_initiator.specs.HostLog.{Event}
 use Rattle.aoe_tools.proofs.CourseLemmas.{by-done, dones-keep, filter-handed, filter-settled, some-part, waits}
+use Rattle.aoe_tools.proofs.OnceLemmas.{once-law}
 use Rattle.aoe_tools.proofs.DataLemmas.{counts, each-so, full-same, laid-so, more-came, same-handed, so-fresh, so-handed, so-more, so-over, so-settled, total, whole-long, AreSo, Grown, IsWhole}
 use Rattle.aoe_tools.specs.declared.course.Course.{Course}
 use Rattle.aoe_tools.specs.declared.course.Phase.{Phase}
@@ -532,6 +533,7 @@ module _ {ask : Ask} {id : TargetId} {d : Device} {start c : Course} {before aft
         together = refl;
         asked = r.asked;
         came = r.came;
+        once = once-law x;
       })
 
   pub write-law : (at : ℕ) (bytes : List ℕ) → IsFresh (write_of at bytes) d start → (x : RunsAll (Ok c) ask id d start before after answers answers') → HasWritten at d.max bytes x.runs.rounds
@@ -544,5 +546,6 @@ module _ {ask : Ask} {id : TargetId} {d : Device} {start c : Course} {before aft
         together = r.kept refl ∙ fresh.cut.together;
         asked = r.asked;
         came = r.came;
+        once = once-law x;
         follows = r.follows refl;
       }

@@ -9,6 +9,7 @@ mod FoundLemmas
 mod HearLemmas
 mod JoinLemmas
 mod ListenLemmas
+mod OnceLemmas
 mod OneLemmas
 mod QuestionLemmas
 mod RunLemmas

@@ -68,7 +68,7 @@ open-frames (o ∷ earlier) log =
     count-map unended f (commands before) ∙ count-alike (λ c. unended (f c)) unended same (commands before) ∙ open-frames earlier log
 
 -- a command that is answered had no outcome
-answered-open : (host : Host) (c : HostCommand) (frame : List ℕ) (says : Answer) → answer_to host c frame ≡ Some says → unended c ≡ true
+pub answered-open : (host : Host) (c : HostCommand) (frame : List ℕ) (says : Answer) → answer_to host c frame ≡ Some says → unended c ≡ true
 answered-open host c frame says e = option_and_then_some (λ h. cond (is_answered host c h) (answer c.op h (drop 24 frame)) None) (head frame) says e (λ h is found.
     elim (cases_Bool (is_answered host c h)) [
       | inl answers ↦ (and_parts _ _ (and_parts _ _ (and_parts _ _ answers).0).1).0

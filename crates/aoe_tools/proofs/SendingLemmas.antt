@@ -116,7 +116,7 @@ module _ {n : ℕ} {start host : Host} {before mid : Option Frames} (few : start
   }
 
 -- so many frames were sent that no command is left to be sent
-pub sends-full : {start host : Host} {before after : Option Frames} → start.last_ticket ≤ 32769 → Sending 65536 start host before after → SendsSome (Ok record {}) start host before after
+pub sends-full : {start host : Host} {before after : Option Frames} → start.last_ticket ≤ 32769 → Sending 32769 start host before after → SendsSome (Ok record {}) start host before after
 sends-full {start} {host} few s = record {
   sent = s.sent;
   took = s.took;

@@ -1,5 +1,5 @@
 -- What a transfer asks for, and what it has read or written when it is done, by which responses.
-use Rattle.std.specs.Prelude.{ℕ, ◌≡◌, ◌+◌, ◌*◌, ◌/◌, Bool, true, false, List, [], ◌∷◌, ◌++◌, length, map, reverse, All, Contains}
+use Rattle.std.specs.Prelude.{ℕ, ◌≡◌, ◌≢◌, ◌+◌, ◌*◌, ◌/◌, Bool, true, false, List, [], ◌∷◌, ◌++◌, length, map, reverse, All, Contains}
 use Rattle.aoe_block.specs.Calls.{op_of}
 use Rattle.aoe_block.specs.Parts.{joined, AreAdjacent, AreFull, Part}
 use Rattle.aoe_initiator.specs.declared.op.Op.{Op}
@@ -28,6 +28,11 @@ IsFront first all = (rest : List Submission) × (all ≡ first ++ rest)
 abbrev pub outcomes : List Round → List Done
 outcomes [] = []
 outcomes (r ∷ rounds) = told_by r.heard ++ (r.gave_up ++ outcomes rounds)
+
+-- no two of these outcomes are of one command
+abbrev pub AreOfDistinct : List Done → Type 0
+AreOfDistinct [] = Unit {0}
+AreOfDistinct (d ∷ came) = All (λ e. e.ticket ≢ d.ticket) came × AreOfDistinct came
 
 -- what a response says to a part that was written, or read with these bytes
 abbrev pub success_of : Bool → Part → Outcome
@@ -61,13 +66,14 @@ pub record FollowsWrites (parts : List Part) (rounds : List Round) : Type 0 wher
   pub written : HaveCome (outcomes earlier) 1 (map (success_of true) parts)
 
 -- these bytes are those of so many sectors in order: each part was asked for once, with a ticket of its own, and its bytes are those
--- of the response to that command
+-- of the response to that command, which is its one outcome
 pub record HasRead (at max count : ℕ) (rounds : List Round) (bytes : List ℕ) : Type 0 where
   pub parts : List Part
   pub parts_are : ArePartsOf at max count parts
   pub together : joined parts ≡ bytes
   pub asked : reverse (submissions rounds) ≡ numbered 1 (all_operations false parts)
   pub came : HaveCome (outcomes rounds) 1 (successes false parts)
+  pub once : AreOfDistinct (outcomes rounds)
 
 -- these bytes were written from a sector on: each part was asked for once, with a ticket of its own, and then a flush; a response
 -- acknowledged each of them, and the flush was submitted once the writes were acknowledged
@@ -77,4 +83,5 @@ pub record HasWritten (at max : ℕ) (bytes : List ℕ) (rounds : List Round) : 
   pub together : joined parts ≡ bytes
   pub asked : reverse (submissions rounds) ≡ numbered 1 (all_operations true parts)
   pub came : HaveCome (outcomes rounds) 1 (successes true parts)
+  pub once : AreOfDistinct (outcomes rounds)
   pub follows : FollowsWrites parts rounds

@@ -8,16 +8,18 @@ ghost use Rattle.aoe_tools.specs.declared.lookup.Device.{Device};
 ghost use Rattle.aoe_tools.specs.declared.question.Ask.{Ask};
 ghost use Rattle.aoe_tools.specs.TransferAsks.{LinkState};
 ghost use Rattle.aoe_tools.specs.TransferCopies.{read_of, write_of, IsFresh, Range, RunsAll};
-ghost use Rattle.aoe_tools.specs.TransferData.{all_operations, numbered, HasRead, HasWritten, IsFront};
+ghost use Rattle.aoe_tools.specs.TransferData.{all_operations, numbered, outcomes, AreOfDistinct, HasRead, HasWritten, IsFront};
 ghost use Rattle.aoe_tools.specs.TransferRun.{submissions};
 
 /// A law: however a transfer ends, the commands that it submitted are the first of those that it
 /// has, one for each part and for a write the flush behind them, in their order and with the
-/// tickets 1, 2, 3 and so on.
+/// tickets 1, 2, 3 and so on; and each of them has one outcome at most.
 pub fn submitted_law()
-    ensures { (ask : Ask) (id : TargetId) (d : Device) (range : Range) (start : Course) (result : Result Course ToolRefusal) (before after : LinkState) (answers answers' : Option (List ℕ))
+    ensures asked { (ask : Ask) (id : TargetId) (d : Device) (range : Range) (start : Course) (result : Result Course ToolRefusal) (before after : LinkState) (answers answers' : Option (List ℕ))
         → IsFresh range d start → (x : RunsAll result ask id d start before after answers answers')
         → IsFront (reverse (submissions x.runs.rounds)) (numbered 1 (all_operations range.writes start.block.parts)) }
+    ensures once { (ask : Ask) (id : TargetId) (d : Device) (start : Course) (result : Result Course ToolRefusal) (before after : LinkState) (answers answers' : Option (List ℕ))
+        → (x : RunsAll result ask id d start before after answers answers') → AreOfDistinct (outcomes x.runs.rounds) }
 {}
 
 /// A law: where a read is all done, each part was asked for once, and the bytes are those of the

@@ -27,8 +27,9 @@ const ROOM: u32 = 16_384;
 /// How long a command flies at most.
 const DEAD: Millis = Millis(180_000);
 
-/// The most commands of a transfer. Each is sent once in a turn at most.
-const MOST_COMMANDS: u32 = 65_536;
+/// The most commands of a transfer: one for each of 32,768 sectors, and a flush. Each is sent once
+/// in a turn at most.
+const MOST_COMMANDS: u32 = 32_769;
 
 /// The one device of the host.
 const DEVICE: DeviceNo = DeviceNo(0);
