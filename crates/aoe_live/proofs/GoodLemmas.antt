@@ -3,6 +3,7 @@ use Rattle.std.proofs.Common.{◌≡◌, ◌∙◌, ◌+◌, ◌<◌, ◌≤◌,
 use Rattle.std.specs.Prelude.{◌==◌, if◌then◌else◌, codes, decimal, IfSome, slice_get, take}
 use Rattle.std.proofs.lemmas.Bool.{lt-ltb}
 use Rattle.std.specs.Fmt.{digits}
+use Rattle.std.specs.List.{flat_map}
 use Rattle.std.proofs.lemmas.Fmt.{length-decimal-le_succ}
 use Rattle.std.proofs.lemmas.Nat.{mod_below}
 use Rattle.std.proofs.lemmas.Bool.Decides.{nat_tests}
@@ -11,7 +12,8 @@ use Rattle.aoe_base.specs.declared.address.Mac.{Mac}
 use Rattle.aoe_script.specs.declared.event.Event.TheVariants.{Read, Write, Flush, Tick, Deliver}
 use Rattle.aoe_script.specs.Classes.{is_name}
 use Rattle.aoe_script.specs.Lines.{IsScript, ScriptLines}
-use Rattle.aoe_script.specs.Print.{script_text}
+use Rattle.aoe_script.specs.declared.setup.Setup.{Setup}
+use Rattle.aoe_script.specs.Print.{line_text, script_text, setup_words}
 use Rattle.aoe_script.specs.Rules.{are_ports, event_why, setup_why}
 use Rattle.aoe_script.specs.Types.{FitsEvent, FitsSetup, IsAddress, IsByte}
 use Rattle.aoe_live.specs.Stations.{command, device, host_a, shelf_s, stations}
@@ -107,11 +109,17 @@ module _ (sectors : ℕ) where
   unfolding digits
   text-is = ap (λ t. codes "life 2000\nshelf s 1 02:00:00:00:00:01 1500\nslot s 0 " ++ t) (end-is (decimal sectors) behind)
 
-pub text-short : (sectors : ℕ) → sectors ≤ 65536 → length (script_text (record { setups = stations sectors; events = [] })) ≤ 16777216
-text-short sectors most =
+abbrev pub setups-text : ℕ → List ℕ
+setups-text sectors = flat_map (λ (setup : Setup). line_text (setup_words setup)) (stations sectors)
+
+pub stations-short : (sectors : ℕ) → sectors ≤ 65536 → length (setups-text sectors) ≤ 70000
+stations-short sectors most =
     let all = ap length (text-is sectors) in
     let digits = length-decimal-le_succ sectors (omega (arith, most)) in
-    omega (arith, all, digits, most, length-append (decimal sectors) (10 ∷ behind sectors))
+    omega (arith, all, digits, most, length-append (decimal sectors) (10 ∷ behind sectors), length-append (setups-text sectors) [])
+
+pub text-short : (sectors : ℕ) → sectors ≤ 65536 → length (script_text (record { setups = stations sectors; events = [] })) ≤ 16777216
+text-short sectors most = omega (arith, stations-short sectors most, length-append (setups-text sectors) [])
 
 pub text-said : (sectors : ℕ)
     → ([] ++ (codes "life 2000\nshelf s 1 02:00:00:00:00:01 1500\nslot s 0" ++ 32 ∷ decimal sectors)) ++ codes "\nhost a 02:00:00:00:00:0a\nattach a s 0\n"

@@ -9,5 +9,6 @@ mod PassLemmas
 mod RecordLemmas
 mod RoundLemmas
 mod StepLemmas
+mod TextLemmas
 mod TickLemmas
 mod TurnLemmas

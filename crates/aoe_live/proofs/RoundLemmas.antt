@@ -1,5 +1,5 @@
 -- The turns of a run, one after another, and how many there can be.
-use Rattle.std.proofs.Common.{ℕ, ◌≡◌, ◌+◌, ◌-◌, ◌*◌, ◌^◌, ◌≤◌, ◌<◌, not, Bool, true, false, List, [], ◌∷◌, ◌++◌, length, length-append, map, Option, Some, None, refl, sym, ap, subst, ◌∙◌, arith, inr, rules}
+use Rattle.std.proofs.Common.{ℕ, ◌≡◌, ◌+◌, ◌-◌, ◌*◌, ◌^◌, ◌≤◌, ◌<◌, not, Bool, true, false, List, [], ◌∷◌, ◌++◌, length, length-append, map, Option, Some, None, refl, sym, ap, subst, ◌∙◌, arith, inl, inr, rules}
 use Rattle.std.specs.Prelude.{◌==◌, nat_lt, Err, IfSome}
 use Rattle.std.proofs.Math.Nat.{mul-le-mul_left}
 use Rattle.std.proofs.lemmas.Bool.{le-ltb}
@@ -182,7 +182,7 @@ module _ {sectors count turns quiet : ℕ} {last : Option ℕ} {h : List Entry} 
       at : (r : LiveRefusal) → TurnEnds sectors count turns (now - last_now g.rounds now) r events h k mid.one new.one mid.two new.two → Lives sectors count turns (Err r) old new
       at (live.Unanswered t) x = (x.0, inr (unfinished x.1))
       at (live.LinkFault link) x = x
-      at live.NoMemory x = tt
+      at live.NoMemory x = inr (inl (unfinished x))
       at _ x = unfinished x
 
 -- HOW MANY TURNS THERE CAN BE

@@ -11,7 +11,7 @@ use Rattle.aoe_live.specs.declared.recorder.Recorder.{Recorder}
 use Rattle.aoe_live.specs.declared.refusal.LiveRefusal.{LiveRefusal}
 use Rattle.aoe_live.specs.declared.refusal.LiveRefusal.TheVariants as live
 use Rattle.aoe_live.specs.Lines.{Carries, LineComes, LinesCome}
-use Rattle.aoe_live.specs.Recorder.{is_limit, is_link, Fails}
+use Rattle.aoe_live.specs.Recorder.{is_unrecorded, is_link, Fails}
 use Rattle.aoe_live.specs.Rounds.{OverLinks, StandsIn, Stopped, Wire}
 use Rattle.aoe_live.specs.Steps.{is_of_line, Among, Does, Links, Recorded, Steps}
 use Rattle.aoe_live.proofs.LineLemmas.{come-none, come-one, come-then}
@@ -107,9 +107,9 @@ link-why (live.Unanswered turns) t = absurd cc
 link-why (live.LinkFault link) t = t
 link-why _ t = refl
 
-link-no-limit : (r : LiveRefusal) → is_link r ≡ true → is_limit r ≡ true → ⊥
-link-no-limit (live.Full frames bytes) t u = absurd cc
-link-no-limit _ t u = absurd cc
+link-records : (r : LiveRefusal) → is_link r ≡ true → is_unrecorded r ≡ true → ⊥
+link-records (live.Full frames bytes) t u = absurd cc
+link-records _ t u = absurd cc
 
 -- which came, while its frames were sent
 module _ (p q r : Recorder) (k l : Links) (e : Event) (tail : List Entry) (is : q.world.entries ≡ tail ++ p.world.entries) (told : q.told ≡ length p.world.entries)
@@ -147,7 +147,7 @@ module _ (p q r : Recorder) (k l : Links) (e : Event) (tail : List Entry) (is : 
   }
   line-comes-on (Err x) one two link = record {
     whole = tt;
-    stops = λ limit. absurd (link-no-limit x link limit);
+    stops = λ limit. absurd (link-records x link limit);
     why = link-why x link;
     sectors = ap (λ (x : Recorder). x.sectors) sent ∙ ap (λ (x : Recorder). x.sectors) begun;
     commands = ap (λ (x : Recorder). x.commands) sent ∙ ap (λ (x : Recorder). x.commands) begun;

@@ -16,7 +16,7 @@ use Rattle.aoe_live.specs.declared.refusal.LiveRefusal.TheVariants as live
 use Rattle.aoe_live.specs.declared.tally.Tally.{Tally}
 use Rattle.aoe_live.specs.Frames.{newest}
 use Rattle.aoe_live.specs.Lines.{asking, delivery, handing, ticks, Carries, LinesCome}
-use Rattle.aoe_live.specs.Recorder.{is_limit}
+use Rattle.aoe_live.specs.Recorder.{is_unrecorded}
 use Rattle.aoe_live.specs.Rounds.{InTurn, IsExchange, OverLinks, Stopped, Taken, TurnEnds, Wire}
 use Rattle.aoe_live.specs.Stations.{command}
 use Rattle.aoe_live.specs.Steps.{is_of_line, Among, Does, Exchanged, Exchanges, InExchange, Links, Recorded, Steps}
@@ -130,10 +130,9 @@ module _ (p q : Recorder) (k k' l : Links) (first : Turn) (asked : OverLinks (fi
 
 -- how a turn ends by such a refusal
 ends-by : (sectors count turns ms : ℕ) (r : LiveRefusal) (before : List Event) (h k : List Entry) (a b a2 b2 : Wire) → is_of_line r ≡ true
-    → (is_limit r ≡ true → Stopped sectors (InTurn sectors count ms h) r before h k a b a2 b2) → TurnEnds sectors count turns ms r before h k a b a2 b2
+    → (is_unrecorded r ≡ true → Stopped sectors (InTurn sectors count ms h) r before h k a b a2 b2) → TurnEnds sectors count turns ms r before h k a b a2 b2
 ends-by sectors count turns ms (live.Unanswered t) before h k a b a2 b2 why stops = absurd cc
 ends-by sectors count turns ms (live.LinkFault link) before h k a b a2 b2 why stops = why
-ends-by sectors count turns ms live.NoMemory before h k a b a2 b2 why stops = tt
 ends-by sectors count turns ms _ before h k a b a2 b2 why stops = stops refl
 
 module _ (sectors sectors' count ms : ℕ) (same : sectors' ≡ sectors) (h m : List Entry) (time : LinesCome sectors (ticks ms) h m) (goes_on : (tally_of m).gave_up ≡ false) where

@@ -145,7 +145,7 @@ InTurn sectors count ms h (one ∷ []) [] m lines next = InFirst sectors ms one 
 InTurn sectors count ms h (one ∷ []) (two ∷ []) m lines next = InSecond sectors ms one two h m lines next ⊎ InAsking sectors count ms one two h m lines next
 InTurn sectors count ms h first second m lines next = ⊥
 
--- a line found no room: where it stands, the lines before it, which came, what passed over the links, and the cause
+-- a line wasn't recorded: where it stands, the lines before it, which came, what passed over the links, and the cause
 pub record Stopped (sectors : ℕ) (Stands : List Turn → List Turn → List Entry → List Event → Event → Type 0) (refusal : LiveRefusal) (before : List Event) (h k : List Entry) (one one' two two' : Wire) : Type 0 where
   pub first : List Turn
   pub second : List Turn
@@ -170,4 +170,4 @@ TurnEnds sectors count turns ms (live.Unanswered t) before h k one one' two two'
 TurnEnds sectors count turns ms (live.Full frames bytes) before h k one one' two two' = Stopped sectors (InTurn sectors count ms h) (live.Full frames bytes) before h k one one' two two'
 TurnEnds sectors count turns ms live.TooMany before h k one one' two two' = Stopped sectors (InTurn sectors count ms h) live.TooMany before h k one one' two two'
 TurnEnds sectors count turns ms (live.LinkFault link) before h k one one' two two' = is_link (live.LinkFault link) ≡ true
-TurnEnds sectors count turns ms live.NoMemory before h k one one' two two' = Unit {0}
+TurnEnds sectors count turns ms live.NoMemory before h k one one' two two' = Stopped sectors (InTurn sectors count ms h) live.NoMemory before h k one one' two two'

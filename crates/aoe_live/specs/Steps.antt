@@ -9,7 +9,7 @@ use Rattle.aoe_live.specs.declared.recorder.Recorder.{Recorder}
 use Rattle.aoe_live.specs.declared.refusal.LiveRefusal.{LiveRefusal}
 use Rattle.aoe_live.specs.declared.refusal.LiveRefusal.TheVariants as live
 use Rattle.aoe_live.specs.Lines.{handing, LinesCome}
-use Rattle.aoe_live.specs.Recorder.{is_limit}
+use Rattle.aoe_live.specs.Recorder.{is_unrecorded}
 use Rattle.aoe_live.specs.Rounds.{wire, IsExchange, OverLinks, StandsIn, Stopped, Wire}
 
 -- the two links, by what each tells
@@ -32,10 +32,10 @@ is_of_line (live.Unanswered turns) = false
 is_of_line (live.LinkFault link) = nat_lt link 2
 is_of_line refusal = true
 
--- a function does its whole work; or a line of it finds no room, which stands so; or there is no memory, or a link failed
+-- a function does its whole work; or a line of it isn't recorded, which stands so; or a link failed
 pub record Does {T : Type 0} (Whole : Type 0) (Stands : List Turn → List Turn → List Entry → List Event → Event → Type 0) (result : Result T LiveRefusal) (old new : Recorder) (before after : Links) : Type 0 where
   pub whole : OnOk result Whole
-  pub stops : IfErr result (λ refusal. is_limit refusal ≡ true → Stopped old.sectors Stands refusal old.script.events old.world.entries new.world.entries before.one after.one before.two after.two)
+  pub stops : IfErr result (λ refusal. is_unrecorded refusal ≡ true → Stopped old.sectors Stands refusal old.script.events old.world.entries new.world.entries before.one after.one before.two after.two)
   pub why : IfErr result (λ refusal. is_of_line refusal ≡ true)
   pub sectors : new.sectors ≡ old.sectors
   pub commands : new.commands ≡ old.commands

@@ -74,7 +74,7 @@ abbrev pub with_lines : {T : Type 0} → Result T LiveRefusal → List Event →
 with_lines (Ok u) events = Ok events
 with_lines (Err refusal) events = Err refusal
 
--- which is what, by the answer of a run
+-- Which is what, by the answer of a run. Memory is wanted before the first turn, by a line, or by the text of a run that finished.
 abbrev pub Lives : (sectors count turns : ℕ) → Result (List Event) LiveRefusal → Outside → Outside → Type 0
 Lives sectors count turns (Ok events) old new = Finished sectors count turns events old new
 Lives sectors count turns (Err (live.Unanswered t)) old new =
@@ -88,4 +88,8 @@ Lives sectors count turns (Err live.TooMany) old new =
     Unfinished sectors count turns
     (λ rounds now events h k mid. Stopped sectors (InTurn sectors count (now - last_now rounds now) h) live.TooMany events h k mid.one new.one mid.two new.two) old new
 Lives sectors count turns (Err (live.LinkFault link)) old new = is_link (live.LinkFault link) ≡ true
-Lives sectors count turns (Err live.NoMemory) old new = Unit {0}
+Lives sectors count turns (Err live.NoMemory) old new =
+    (new ≡ old)
+    ⊎ (Unfinished sectors count turns
+    (λ rounds now events h k mid. Stopped sectors (InTurn sectors count (now - last_now rounds now) h) live.NoMemory events h k mid.one new.one mid.two new.two) old new
+    ⊎ ((events : List Event) × Finished sectors count turns events old new))

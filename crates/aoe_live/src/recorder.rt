@@ -1,12 +1,12 @@
 //! A world whose lines are recorded, and whose frames go out on links.
-ghost use Rattle.std.specs.Prelude.{ℕ, ◌≡◌, ◌≤◌, ◌+◌, ◌-◌, ◌++◌, ◌∷◌, [], drop, length, option_map, true, Err, IfErr, None, OnErr, OnOk, Ok};
+ghost use Rattle.std.specs.Prelude.{ℕ, ◌≡◌, ◌≤◌, ◌+◌, ◌-◌, ◌++◌, ◌∷◌, [], drop, length, option_map, true, Err, IfErr, IfSome, None, OnErr, OnOk, Ok};
 ghost use Rattle.std.specs.Option.{option_to_list};
 ghost use Rattle.aoe_base.specs.Faults.{Rose};
 ghost use Rattle.aoe_io.specs.Link.{Added};
 ghost use Rattle.aoe_script.specs.Rules.{event_why};
 ghost use Rattle.aoe_live.specs.Frames.{frame_by};
 ghost use Rattle.aoe_live.specs.Lines.{is_recorded, Carries, LineComes};
-ghost use Rattle.aoe_live.specs.Recorder.{is_link, refusal_of, Fails, Follows, IsKept};
+ghost use Rattle.aoe_live.specs.Recorder.{is_link, refusal_of, Fails, Follows, IsKept, IsShort};
 ghost use Rattle.aoe_live.specs.Stations.{stations};
 ghost use Rattle.aoe_live.specs.Steps.{links, Blames, Steps};
 ghost use Rattle.aoe_live.specs.Tally.{tally_of};
@@ -70,10 +70,12 @@ impl Recorder<'_> {
         requires follows { Follows self.old.sectors self.old.script self.old.world }
         requires good { event_why (stations self.old.sectors) event ≡ None }
         requires recorded { is_recorded event ≡ true }
+        requires short { IsShort event }
         ensures follows { OnOk result (Follows self.old.sectors self.new.script self.new.world) }
         ensures comes { OnOk result (LineComes self.old.sectors event self.old.world.entries self.new.world.entries) }
         ensures line { OnOk result (self.new.script.events ≡ self.old.script.events ++ event ∷ []) }
         ensures fails { IfErr result (λ refusal. Fails self.old.sectors refusal self.old.script.events event self.old.world.entries self.new.world.entries) }
+        ensures stopped { IfSome self.new.world.refused (λ refusal. result ≡ Err (refusal_of refusal)) }
         ensures no_fault { (link : ℕ) → result ≡ Err (LiveRefusal.LinkFault link) → ⊥ }
         ensures rest { self.new ≡ record self.old { script = self.new.script; world = self.new.world } }
     {
@@ -135,6 +137,7 @@ impl Recorder<'_> {
         requires kept { IsKept self.old }
         requires good { event_why (stations self.old.sectors) event ≡ None }
         requires recorded { is_recorded event ≡ true }
+        requires short { IsShort event }
         ensures kept { OnOk result (IsKept self.new) }
         ensures steps { Steps (event ∷ []) result self.old self.new (links L.turns L.given L.taken one.old two.old) (links L.turns L.given L.taken one.new two.new) }
         ensures faults_one { Blames result 0 (L.faults one.old) (L.faults one.new) }

@@ -1,8 +1,8 @@
 //! A whole run.
-ghost use Rattle.std.specs.Prelude.{◌≡◌, ◌≢◌, ◌≤◌, ◌+◌, [], Err, IfErr, IfOk, List, Ok};
+ghost use Rattle.std.specs.Prelude.{◌≡◌, ◌≢◌, ◌≤◌, ◌+◌, [], Err, IfErr, IfOk, List, None, Ok};
 ghost use Rattle.aoe_base.specs.Faults.{Rose};
 ghost use Rattle.aoe_script.specs.declared.event.Event.{Event};
-ghost use Rattle.aoe_script.specs.Lines.{script_of};
+ghost use Rattle.aoe_script.specs.Lines.{refusal, script_of};
 ghost use Rattle.aoe_script.specs.Print.{script_text};
 ghost use Rattle.aoe_live.specs.Recorder.{IsFresh};
 ghost use Rattle.aoe_live.specs.Rounds.{wire};
@@ -59,6 +59,7 @@ pub fn live<L: Link, C: Clock>(
     requires most { sectors ≤ 65536 }
     ensures script { IfOk result (λ text. (events : List Event) × (text ≡ script_text (record { setups = stations sectors; events = events }))
         × (script_of text ≡ record { setups = stations sectors; events = events })
+        × (refusal text ≡ None)
         × Lives sectors n turns (Ok events)
         (outside (wire (L.turns one.old) (L.given one.old) (L.taken one.old)) (wire (L.turns two.old) (L.given two.old) (L.taken two.old)) (C.answers clock.old))
         (outside (wire (L.turns one.new) (L.given one.new) (L.taken one.new)) (wire (L.turns two.new) (L.given two.new) (L.taken two.new)) (C.answers clock.new))) }

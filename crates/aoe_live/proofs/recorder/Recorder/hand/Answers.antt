@@ -1,4 +1,5 @@
-use Rattle.std.proofs.Common.{rules, ◌≡◌, ◌∙◌, ◌∷◌, [], Some, ap, arith, sym}
+use Rattle.std.proofs.Common.{rules, ◌≡◌, ◌∙◌, ℕ, ◌∷◌, [], Some, ap, arith, length, sym}
+use Rattle.arrayvec.specs.ArrayVec.{ArrayVec}
 use Rattle.aoe_script.specs.declared.event.Event.TheVariants.{Deliver}
 use Rattle.aoe_script.specs.Rules.{event_why}
 use Rattle.aoe_sim_setup.specs.Layout.{setup_of}
@@ -11,6 +12,7 @@ use Rattle.aoe_live.specs.Steps.{links}
 use Rattle.aoe_live.proofs.GoodLemmas.{host-good, shelf-good}
 use Rattle.aoe_live.proofs.NumberLemmas.{newest-one}
 use Rattle.aoe_live.proofs.StepLemmas.{steps-as}
+use Rattle.aoe_live.proofs.TextLemmas.{deliver-short}
 use Rattle.aoe_live.proofs.TurnLemmas.{handing-frame}
 use Rattle.aoe_live.proofs.recorder.Recorder.hand.Goals.{in-Host, in-Shelf}
 use Rattle.aoe_live.proofs.recorder.Recorder.hand.Goals as goal
@@ -31,6 +33,15 @@ line-requires-clause-good g c =
           ap (λ name. event_why (stations sectors) (Deliver c.in-Some.frame name)) (c.named-station.ensures ∙ ap (λ letter. record { items = letter ∷ [] }) w.named-is)
           ∙ host-good sectors c.in-Some.frame one.0 (omega (arith, one.1, most))
     ]
+
+pub line-requires-clause-short : goal.line-requires-clause-short
+line-requires-clause-short g c =
+    let f = c.requires.kept.follows in
+    let h = c.args.self.now.world.entries in
+    let one = newest-one c.args.sender (setup_of (stations c.args.self.now.sectors)) 2000 h c.args.frame.now c.in-Some.frame f.sound.lawful
+    (ap (λ l. newest c.args.sender 2000 l c.args.frame.now) (sym c.history.ensures.history) ∙ sym c.newest.ensures ∙ c.in-Some.is) in
+    let letters : length c.named-station.result.items ≡ 1 = ap (λ (name : ArrayVec ℕ). length name.items) c.named-station.ensures in
+    deliver-short c.in-Some.frame c.named-station.result (omega (arith, one.1, f.sound.room.few)) (omega (arith, letters))
 
 pub returns-clause-steps : goal.returns-clause-steps
 returns-clause-steps g c =

@@ -6,6 +6,7 @@ use Rattle.aoe_live.specs.Lines.{ticks}
 use Rattle.aoe_live.specs.Steps.{links, Among}
 use Rattle.aoe_live.proofs.GoodLemmas.{ticks-good}
 use Rattle.aoe_live.proofs.StepLemmas.{among-moves, does-behind, fails-behind, recorded-as, recorded-then}
+use Rattle.aoe_live.proofs.TextLemmas.{tick-short}
 use Rattle.aoe_live.proofs.TickLemmas.{ticks-at, ticks-some, whole}
 use Rattle.aoe_live.proofs.recorder.Recorder.pass_time.Goals as goal
 
@@ -16,6 +17,14 @@ pub line-requires-2-clause-good : goal.line-requires-2-clause-good
 line-requires-2-clause-good g c =
     let below = mod_below c.args.ms 10000000 (omega arith) in
     ticks-good c.ticks.self.sectors (c.args.ms % 10000000) (omega (arith, c.if-rest-eq0.false)) (omega (arith, below))
+
+pub line-requires-clause-short : goal.line-requires-clause-short
+line-requires-clause-short g c = tick-short 10000000 (omega arith)
+
+pub line-requires-2-clause-short : goal.line-requires-2-clause-short
+line-requires-2-clause-short g c =
+    let below = mod_below c.args.ms 10000000 (omega arith) in
+    tick-short (c.args.ms % 10000000) (omega (arith, below))
 
 pub returns-in-Err-clause-steps : goal.returns-in-Err-clause-steps
 returns-in-Err-clause-steps g c =
