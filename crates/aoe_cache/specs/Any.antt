@@ -1,5 +1,5 @@
 -- Either of two stores over one kind of disk.
-use Rattle.std.specs.Prelude.{Option, None, Some}
+use Rattle.std.specs.Prelude.{ℕ, Option, None, Some, []}
 use Rattle.aoe_disk.specs.State.{DiskState}
 use Rattle.aoe_store.specs.Under.{Under}
 use Rattle.aoe_cache.specs.Cache.{Cache, state_of}
@@ -7,6 +7,12 @@ use Rattle.aoe_cache.specs.Free.{under_of}
 use Rattle.aoe_cache.specs.declared.any.AnyStore.{AnyStore}
 use Rattle.aoe_cache.specs.declared.any.AnyStore.TheVariants.{Direct, Cached}
 
+-- a store over a disk, which holds back up to so many sectors where there is a number, and none yet
+abbrev pub over : {D : Type 0} → Option ℕ → D → AnyStore D
+over None disk = Direct disk
+over (Some room) disk = Cached (record { disk = disk; held = []; room = room })
+
+-- what a store shows of its disk
 abbrev pub any_state : {D : Type 0} → (D → DiskState) → AnyStore D → DiskState
 any_state state (Direct d) = state d
 any_state state (Cached c) = state_of state c

@@ -1,11 +1,12 @@
 //! Either of the two stores.
-ghost use Rattle.std.specs.Prelude.{◌≡◌};
-ghost use Rattle.aoe_cache.specs.Any.{any_disk};
+ghost use Rattle.std.specs.Prelude.{ℕ, ◌≡◌, ◌≤◌, IfErr, IfOk, IfSome};
+ghost use Rattle.aoe_cache.specs.Any.{any_disk, over};
 
 use crate::Cached;
-use aoe_base::Failed;
+use aoe_base::{Failed, NoMemory};
 use aoe_disk::{Arm, Armed, Disk};
 use aoe_store::{ArmedStore, Direct, Store};
+use std::alloc::Global;
 
 /// A store that writes through to its disk, or one that writes to it later.
 #[derive(Drop)]
@@ -15,6 +16,22 @@ pub enum AnyStore<D: Disk> {
 }
 
 impl<D: Disk> AnyStore<D> {
+    /// The disk as a store, which holds back up to `room` sectors where there is a number. All its
+    /// memory is taken here; where there is none the disk is given back.
+    pub fn over(alloc: Global, disk: D, room: Option<u32>) -> Result<AnyStore<D>, (NoMemory, D)>
+        requires { IfSome room (λ (n : ℕ). (1 ≤ n) × (n ≤ 65536)) }
+        ensures store { IfOk result (λ store. store ≡ over room disk) }
+        ensures refused { IfErr result (λ e. e.1 ≡ disk) }
+    {
+        let Some(room) = room else {
+            return Ok(AnyStore::Direct(Direct::new(disk)));
+        };
+        match Cached::mount(alloc, disk, room) {
+            Ok(store) => Ok(AnyStore::Cached(store)),
+            Err(refused) => Err(refused),
+        }
+    }
+
     /// The disk. What a cached store holds back is lost, so sync before.
     pub fn close(self) -> D
         ensures { result ≡ any_disk self }

@@ -28,7 +28,7 @@
 //! when it is closed or let go of. It doesn't read ahead, and keeps nothing that was only read.
 //!
 //! [`AnyStore`] is a [`Direct`](aoe_store::Direct) or a [`Cached`] store, for a program that is told
-//! which when it starts.
+//! which when it starts: [`AnyStore::over`] makes one of a disk and the number to hold back, if any.
 #![tactic(auto)]
 
 mod any;

@@ -12,20 +12,20 @@ use Rattle.aoe_cache.specs.declared.any.AnyStore.{AnyStore}
 use Rattle.aoe_cache.specs.declared.any.AnyStore.TheVariants.{Direct, Cached}
 use Rattle.aoe_cache.specs.declared.place.HeldSector.{HeldSector}
 use Rattle.aoe_cache.proofs.Ascending.{length-with_written}
-use Rattle.aoe_serve.specs.Backing.{HoldsBack, over}
+use Rattle.aoe_serve.specs.Backing.{HoldsBack, over_file}
 use Rattle.aoe_serve.specs.Files.{shown}
 
 -- Over a file.
 
-pub over-disk : {D : Type 0} (most : ℕ) (disk : D) → any_disk (over most disk) ≡ disk
+pub over-disk : {D : Type 0} (most : ℕ) (disk : D) → any_disk (over_file most disk) ≡ disk
 over-disk zero disk = refl
 over-disk (suc most) disk = refl
 
-pub over-state : {D : Type 0} (state : D → DiskState) (most : ℕ) (disk : D) → any_state state (over most disk) ≡ shown most [] (state disk)
+pub over-state : {D : Type 0} (state : D → DiskState) (most : ℕ) (disk : D) → any_state state (over_file most disk) ≡ shown most [] (state disk)
 over-state state zero disk = refl
 over-state state (suc most) disk = refl
 
-pub over-sectors : {D : Type 0} (state : D → DiskState) (most : ℕ) (disk : D) → (any_state state (over most disk)).sectors ≡ (state disk).sectors
+pub over-sectors : {D : Type 0} (state : D → DiskState) (most : ℕ) (disk : D) → (any_state state (over_file most disk)).sectors ≡ (state disk).sectors
 over-sectors state zero disk = refl
 over-sectors state (suc most) disk = refl
 

@@ -8,7 +8,7 @@ use Rattle.aoe_cache.specs.declared.any.AnyStore.{AnyStore}
 use Rattle.aoe_disk.specs.State.{DiskState}
 use Rattle.aoe_keep.specs.Keep.{HasMounted, IsRefused}
 use Rattle.aoe_keep.specs.declared.refusal.MountRefusal.{MountRefusal}
-use Rattle.aoe_serve.specs.Backing.{over}
+use Rattle.aoe_serve.specs.Backing.{over_file}
 use Rattle.aoe_serve.specs.Slots.{slot_of, slots_of}
 use Rattle.aoe_shelf.specs.Shelf.{has_minor, refusal_of}
 use Rattle.aoe_target.specs.Mounted.{Mounted}
@@ -32,13 +32,13 @@ ends_with disks file keep = disks ++ Some file ∷ Some keep ∷ []
 
 module _ {D : Type 0} (state : D → DiskState) (most : ℕ) where
   seated-more : (name : ℕ → ℕ → Station) (minor : ℕ) (disks : List (Option D)) (targets : List (Mounted (AnyStore D) D)) (file keep : D) (t : Mounted (AnyStore D) D) → AreSeated state most name minor disks targets
-      → IsSeatedOn state (name (minor + length targets)) (over most file) keep t → AreSeated state most name minor (ends_with disks file keep) (targets ++ t ∷ [])
+      → IsSeatedOn state (name (minor + length targets)) (over_file most file) keep t → AreSeated state most name minor (ends_with disks file keep) (targets ++ t ∷ [])
   seated-more name minor disks [] file keep t none on = (
     file,
     keep,
     [],
     ap (λ (xs : List (Option D)). ends_with xs file keep) none,
-    subst (λ (n : ℕ). IsSeatedOn state (name n) (over most file) keep t) (let same : minor + 0 ≡ minor = omega arith in same) on,
+    subst (λ (n : ℕ). IsSeatedOn state (name n) (over_file most file) keep t) (let same : minor + 0 ≡ minor = omega arith in same) on,
     refl,
   )
   seated-more name minor disks (u ∷ targets) file keep t (f, k, others, is, s, rest) on = (
@@ -48,7 +48,7 @@ module _ {D : Type 0} (state : D → DiskState) (most : ℕ) where
     ap (λ (xs : List (Option D)). ends_with xs file keep) is,
     s,
     seated-more name (minor + 1) others targets file keep t rest
-        (subst (λ (n : ℕ). IsSeatedOn state (name n) (over most file) keep t) (let same : minor + suc (length targets) ≡ minor + 1 + length targets = omega arith in same) on),
+        (subst (λ (n : ℕ). IsSeatedOn state (name n) (over_file most file) keep t) (let same : minor + suc (length targets) ≡ minor + 1 + length targets = omega arith in same) on),
   )
 
   back-more : (disks : List (Option D)) (targets : List (Mounted (AnyStore D) D)) (file keep : D) (t : Mounted (AnyStore D) D) → AreBack state most disks targets → IsLeft state most file keep t
@@ -127,22 +127,22 @@ module _ {D : Type 0} (state : D → DiskState) (most : ℕ) (all others pair : 
   joined = parts ∙ ap (λ (xs : List (Option D)). others ++ xs) pair_is
 
   -- the disk of a store that was over the file
-  unused-disk : (store : AnyStore D) (file' : D) → store ≡ over most file → file' ≡ any_disk store → file' ≡ file
+  unused-disk : (store : AnyStore D) (file' : D) → store ≡ over_file most file → file' ≡ any_disk store → file' ≡ file
   unused-disk store file' is closed = closed ∙ ap (λ (x : AnyStore D). any_disk x) is ∙ over-disk most file
 
   -- the slot is added behind the others
-  pub seated-then : (name name' : ℕ → ℕ → Station) (minor slot : ℕ) (store : AnyStore D) (middle new : List (Mounted (AnyStore D) D)) → store ≡ over most file → length middle ≡ slot → name' ≡ name
+  pub seated-then : (name name' : ℕ → ℕ → Station) (minor slot : ℕ) (store : AnyStore D) (middle new : List (Mounted (AnyStore D) D)) → store ≡ over_file most file → length middle ≡ slot → name' ≡ name
       → AreSeated state most name minor others middle → IsSeated state (name' (minor + slot)) store keep middle new → AreSeated state most name minor all new
   seated-then name name' minor slot store middle new is at same seated s =
       let P : List (Option D) → Type 0 = λ xs. AreSeated state most name minor xs new in
       let Q : List (Mounted (AnyStore D) D) → Type 0 = λ ts. AreSeated state most name minor (ends_with others file keep) ts in
-      let on : IsSeatedOn state (name' (minor + slot)) (over most file) keep s.target = subst (λ (x : AnyStore D). IsSeatedOn state (name' (minor + slot)) x keep s.target) is s.seated in
-      let here : IsSeatedOn state (name' (minor + length middle)) (over most file) keep s.target = subst (λ (n : ℕ). IsSeatedOn state (name' (minor + n)) (over most file) keep s.target) (sym at) on in
-      let there : IsSeatedOn state (name (minor + length middle)) (over most file) keep s.target = subst (λ (n : ℕ → ℕ → Station). IsSeatedOn state (n (minor + length middle)) (over most file) keep s.target) same here in
+      let on : IsSeatedOn state (name' (minor + slot)) (over_file most file) keep s.target = subst (λ (x : AnyStore D). IsSeatedOn state (name' (minor + slot)) x keep s.target) is s.seated in
+      let here : IsSeatedOn state (name' (minor + length middle)) (over_file most file) keep s.target = subst (λ (n : ℕ). IsSeatedOn state (name' (minor + n)) (over_file most file) keep s.target) (sym at) on in
+      let there : IsSeatedOn state (name (minor + length middle)) (over_file most file) keep s.target = subst (λ (n : ℕ → ℕ → Station). IsSeatedOn state (n (minor + length middle)) (over_file most file) keep s.target) same here in
       subst P (sym joined) (subst Q (sym s.added) (seated-more state most name minor others middle file keep s.target seated there))
 
   -- nothing is run for another cause
-  pub given-then : (e : ExportRefusal) (others' pair' : List (Option D)) (store : AnyStore D) (file' : D) → store ≡ over most file → file' ≡ any_disk store → pair' ≡ Some file' ∷ Some keep ∷ []
+  pub given-then : (e : ExportRefusal) (others' pair' : List (Option D)) (store : AnyStore D) (file' : D) → store ≡ over_file most file → file' ≡ any_disk store → pair' ≡ Some file' ∷ Some keep ∷ []
       → AreGivenBack state e others others' → AreGivenBack state e all (others' ++ pair')
   given-then e others' pair' store file' is closed pair_is' back =
       let here : ends_with others' file keep ≡ others' ++ pair' = ap (λ (f : D). ends_with others' f keep) (sym (unused-disk store file' is closed)) ∙ ap (λ (xs : List (Option D)). others' ++ xs) (sym pair_is') in
@@ -152,7 +152,7 @@ module _ {D : Type 0} (state : D → DiskState) (most : ℕ) (all others pair : 
 
   -- its keep is refused
   pub refused-then : (name : ℕ → ℕ → Station) (minor slot : ℕ) (refusal : MountRefusal) (others' pair' : List (Option D)) (targets : List (Mounted (AnyStore D) D)) (store store' : AnyStore D) (file' keep' : D)
-      → AreSeated state most name minor others targets → AreBack state most others' targets → length targets ≡ slot → store ≡ over most file → store' ≡ store → file' ≡ any_disk store' → pair' ≡ Some file' ∷ Some keep' ∷ []
+      → AreSeated state most name minor others targets → AreBack state most others' targets → length targets ≡ slot → store ≡ over_file most file → store' ≡ store → file' ≡ any_disk store' → pair' ≡ Some file' ∷ Some keep' ∷ []
       → IsRefused state keep refusal keep' → GivesBack state slot refusal all (others' ++ pair')
   refused-then name minor slot refusal others' pair' targets store store' file' keep' seated back at is same closed pair_is' why =
       let R : ℕ → Type 0 = λ n. GivesBack state n refusal all (others' ++ pair') in

@@ -1,12 +1,17 @@
 -- The store of a slot, over its file.
-use Rattle.std.specs.Prelude.{ℕ, zero, suc, ◌≡◌, ◌≤◌, [], length}
+use Rattle.std.specs.Prelude.{ℕ, zero, suc, Option, None, Some, ◌≡◌, ◌≤◌, length}
+use Rattle.aoe_cache.specs.Any.{over}
 use Rattle.aoe_cache.specs.declared.any.AnyStore.{AnyStore}
 use Rattle.aoe_cache.specs.declared.any.AnyStore.TheVariants.{Direct, Cached}
 
--- a store over a disk that holds back up to so many sectors, and none yet
-abbrev pub over : {D : Type 0} → ℕ → D → AnyStore D
-over zero disk = Direct disk
-over (suc most) disk = Cached record { disk = disk; held = []; room = suc most }
+-- where no sector is to be held back, a store writes through
+abbrev pub room_of : ℕ → Option ℕ
+room_of zero = None
+room_of (suc most) = Some (suc most)
+
+-- a store over a file that holds back up to so many sectors, and none yet
+abbrev pub over_file : {D : Type 0} → ℕ → D → AnyStore D
+over_file most file = over (room_of most) file
 
 -- a store holds back up to so many sectors
 abbrev pub HoldsBack : {D : Type 0} → ℕ → AnyStore D → Type 0

@@ -10,7 +10,7 @@ use Rattle.aoe_disk.specs.State.{BothTell, DiskState}
 use Rattle.aoe_keep.specs.Keep.{HasMounted, IsRefused}
 use Rattle.aoe_keep.specs.declared.refusal.MountRefusal.{MountRefusal}
 use Rattle.aoe_lists.specs.Settings.{Settings}
-use Rattle.aoe_serve.specs.Backing.{over}
+use Rattle.aoe_serve.specs.Backing.{over_file}
 use Rattle.aoe_serve.specs.Slots.{Slot}
 use Rattle.aoe_serve.specs.declared.plan.ExportRefusal.{ExportRefusal}
 use Rattle.aoe_serve.specs.declared.plan.ExportRefusal.TheVariants as why
@@ -91,7 +91,7 @@ pub record IsSeated {D : Type 0} (state : D → DiskState) (name : ℕ → Stati
 abbrev pub AreSeated : {D : Type 0} → (D → DiskState) → ℕ → (ℕ → ℕ → Station) → ℕ → List (Option D) → List (Mounted (AnyStore D) D) → Type 0
 AreSeated state most name minor disks [] = disks ≡ []
 AreSeated {D} state most name minor disks (t ∷ targets) = (file : D) × (keep : D) × (others : List (Option D)) × (disks ≡ Some file ∷ Some keep ∷ others)
-    × IsSeatedOn state (name minor) (over most file) keep t × AreSeated state most name (minor + 1) others targets
+    × IsSeatedOn state (name minor) (over_file most file) keep t × AreSeated state most name (minor + 1) others targets
 
 -- these are the disks of a target: its store's and its keep's
 pub record IsLeft {D : Type 0} (state : D → DiskState) (most : ℕ) (file keep : D) (target : Mounted (AnyStore D) D) : Type 0 where

@@ -1,13 +1,13 @@
 //! The store of a slot, over its file.
 ghost use Rattle.std.specs.Prelude.{◌≡◌, ◌≤◌, ℕ, IfErr, IfOk};
 ghost use Rattle.aoe_cache.specs.Any.{any_disk, any_state, any_under};
-ghost use Rattle.aoe_serve.specs.Backing.{over};
+ghost use Rattle.aoe_serve.specs.Backing.{over_file, room_of};
 ghost use Rattle.aoe_serve.specs.Files.{IsUnder};
 
 use aoe_base::Failed;
-use aoe_cache::{AnyStore, Cached};
+use aoe_cache::AnyStore;
 use aoe_disk::Disk;
-use aoe_store::{Direct, Store};
+use aoe_store::Store;
 use std::alloc::Global;
 use std::marker::{Brand, Model, PhantomData};
 
@@ -18,6 +18,16 @@ pub(crate) trait Most {
 
 impl Most for Brand {
     ghost most = { 0 };
+}
+
+// The number of sectors that a store holds back, where it holds back any.
+fn room_of(most: u32) -> Option<u32>
+    ensures { result ≡ room_of most }
+{
+    match most {
+        0 => None,
+        most => Some(most),
+    }
 }
 
 /// A store over a file, which holds back as many sectors as `M` says.
@@ -44,19 +54,16 @@ impl<D: Disk, M: Most> Backing<D, M> {
     pub(crate) fn new(alloc: Global, file: D, most: u32) -> Result<Backing<D, M>, D>
         requires most { most ≡ M.most }
         requires limit { most ≤ 65536 }
-        ensures store { IfOk result (λ store. store ≡ over M.most file) }
+        ensures store { IfOk result (λ store. store ≡ over_file M.most file) }
         ensures refused { IfErr result (λ d. d ≡ file) }
     {
-        let store = if most == 0 {
-            AnyStore::Direct(Direct::new(file))
-        } else {
-            match Cached::mount(alloc, file, most) {
-                Ok(store) => AnyStore::Cached(store),
-                Err((_, file)) => return Err(file),
-            }
-        };
-        let most = PhantomData;
-        Ok(Backing { store, most })
+        match AnyStore::over(alloc, file, room_of(most)) {
+            Ok(store) => Ok(Backing {
+                store,
+                most: PhantomData,
+            }),
+            Err((_, file)) => Err(file),
+        }
     }
 
     /// The file. What the store holds back is lost, so sync before.

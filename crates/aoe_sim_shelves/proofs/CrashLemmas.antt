@@ -29,7 +29,7 @@ use Rattle.aoe_target.proofs.DeviceLemmas.{first_state}
 use Rattle.aoe_history.specs.Setup.{SlotSetup}
 use Rattle.aoe_history.specs.Slots.{after_crash, all_settled, is_cached_whole, left_known, left_sectors, Slot, Unsettled}
 use Rattle.aoe_sim_shelves.specs.Crash.{Loses, LosesCache, LosesStore, Restarts}
-use Rattle.aoe_sim_shelves.specs.Rack.{AgreesWithin, HoldsWithin, IsBelow, IsStoreDue, IsTargetOf, IsUnder, SameWithin}
+use Rattle.aoe_sim_shelves.specs.Rack.{AgreesWithin, HoldsWithin, IsBelow, IsStoreDue, IsTargetOf, HasCache, SameWithin}
 use Rattle.aoe_sim_shelves.proofs.AgreeLemmas.{same_agrees}
 use Rattle.aoe_sim_shelves.proofs.Words.{device, Target}
 
@@ -126,10 +126,10 @@ module _ {how : Loss} {a b : Cache Memory} (l : LosesCache how a b) (u : Unsettl
 pub record LeavesStore (n : ℕ) (slot : SlotSetup) (how : Loss) (z : Slot) (b : AnyStore Memory) : Type 0 where
   pub sectors : BothTell (AgreesWithin n) (option_map sectors_of (any_state state_of b).contents)
       (option_map (left_sectors slot z.unsettled how) z.state.sectors)
-  pub under : (lists : Settings) → IsUnder n slot.cache (after_crash slot lists how z) (any_under state_of b)
+  pub under : (lists : Settings) → HasCache n slot.cache (after_crash slot lists how z) (any_under state_of b)
 
 left_store : (how : Loss) (a b : AnyStore Memory) → LosesStore how a b → (n : ℕ) (station : Station) (first : Settings) (z : Slot) (cache : Option ℕ)
-    → IsUnder n cache z (any_under state_of a) → BothTell (AgreesWithin n) (option_map sectors_of (any_state state_of a).contents) z.state.sectors
+    → HasCache n cache z (any_under state_of a) → BothTell (AgreesWithin n) (option_map sectors_of (any_state state_of a).contents) z.state.sectors
     → LeavesStore n (record { station = station; cache = cache; lists = first }) how z b
 left_store how (Direct a) (Direct b) l n station first z None under agrees =
     record { sectors = both_left l z.unsettled n station first z.state.sectors agrees; under = λ lists. tt }
@@ -165,8 +165,8 @@ module _ {how : Loss} {a b : Target} (r : Restarts how a b) where
   keep_unarmed = mounted_unarmed r.disk b.keep.disk b.keep.lists r.mounted (rw r.keep.rest)
 
   -- what is known of it after the crash, and of the disk under its store
-  pub restarted : (n : ℕ) (slot : SlotSetup) (z : Slot) → IsUnder n slot.cache z (any_under state_of a.store) → HoldsWithin n (device a) z.state
-      → IsUnder n slot.cache (after_crash slot b.keep.lists how z) (any_under state_of b.store)
+  pub restarted : (n : ℕ) (slot : SlotSetup) (z : Slot) → HasCache n slot.cache z (any_under state_of a.store) → HoldsWithin n (device a) z.state
+      → HasCache n slot.cache (after_crash slot b.keep.lists how z) (any_under state_of b.store)
       × HoldsWithin n (device b) (after_crash slot b.keep.lists how z).state
   restarted n slot z under h =
       let left = left_store how a.store b.store r.store n slot.station slot.lists z slot.cache under h.sectors in (

@@ -14,7 +14,7 @@ use Rattle.aoe_history.specs.ShelfLaw.{one_more, IsStrike, IsStruckInTurn, IsStr
 use Rattle.aoe_history.specs.Slots.{is_struck, Slot}
 use Rattle.aoe_script.specs.declared.event.Which.{Which}
 use Rattle.aoe_script.specs.declared.event.Which.TheVariants.{Store}
-use Rattle.aoe_sim_shelves.specs.Rack.{calls_per, stop_in, IsDue, IsStoreDue, IsUnder}
+use Rattle.aoe_sim_shelves.specs.Rack.{calls_per, stop_in, IsDue, IsStoreDue, HasCache}
 
 -- where a call failed, the power was lost in it just where the disk is armed for that
 abbrev pub Strikes : Bool → Option Stretch → Fate → Type 0
@@ -32,7 +32,7 @@ module _ (which : Which) {failed : Bool} {before after : ℕ} {d e : Schedule} (
 
 -- either store: the disk of one with a cache may be called any number of times, and one call at most fails after an arming
 module _ (x : Option Stretch) (fate : Fate) (failed : Bool) (is : is_struck fate ≡ failed) where
-  pub struck-store : (n : ℕ) (z : Slot) (cache : Option ℕ) (s t : AnyStore Memory) → IsUnder n cache z (any_under state_of s) → IsStoreDue x s
+  pub struck-store : (n : ℕ) (z : Slot) (cache : Option ℕ) (s t : AnyStore Memory) → HasCache n cache z (any_under state_of s) → IsStoreDue x s
       → IsRun 1 failed (any_state state_of s) (any_state state_of t) → BothTell (CallsUnder failed) (any_under state_of s) (any_under state_of t)
       → Strikes failed x fate → MatchBool (is_none cache) (IsStruckInTurn Store x fate) (IsStruckOnce x fate)
   struck-store n z cache s t u due run calls strikes = grind (arith, nat_tests, run.schedule, calls)

@@ -7,7 +7,7 @@ use Rattle.std.proofs.lemmas.Bool.Decides.{nat_tests}
 use Rattle.std.proofs.lemmas.Grind.{common_steps}
 use Rattle.std.proofs.lemmas.List.{drop-replicate, length-replicate, map-append, take-replicate}
 use Rattle.std.proofs.lemmas.Option.{slice_get_within}
-use Rattle.aoe_cache.specs.Any.{any_state, any_under}
+use Rattle.aoe_cache.specs.Any.{any_state, any_under, over}
 use Rattle.aoe_cache.specs.Free.{under_of}
 use Rattle.aoe_cache.specs.declared.any.AnyStore.{AnyStore}
 use Rattle.aoe_base.specs.declared.address.Mac.{Mac}
@@ -29,7 +29,7 @@ use Rattle.aoe_target.proofs.DeviceLemmas.{first_state}
 use Rattle.aoe_history.specs.Setup.{slot_over, SlotSetup}
 use Rattle.aoe_history.specs.Slots.{all_settled, new_slot, zero_sector}
 use Rattle.aoe_sim_shelves.specs.Crash.{Loses, LosesStore, Restarts}
-use Rattle.aoe_sim_shelves.specs.Rack.{over, AgreesWithin, IsBelow, IsServing, IsStoreDue, IsTargetOf, IsUnder, MemoryRack, SameWithin, Serves}
+use Rattle.aoe_sim_shelves.specs.Rack.{AgreesWithin, IsBelow, IsServing, IsStoreDue, IsTargetOf, HasCache, MemoryRack, SameWithin, Serves}
 use Rattle.aoe_sim_shelves.proofs.AgreeLemmas.{same_agrees}
 use Rattle.aoe_sim_shelves.proofs.CrashLemmas.{lost_sectors, mounted_unarmed, opened_free}
 use Rattle.aoe_sim_shelves.proofs.FrontLemmas.{front_of, get_last, get_split, last_of, length_last}
@@ -120,7 +120,7 @@ module _ (n : ℕ) (station : Station) (store : Memory) (is : store ≡ fresh (r
   over_within None = same_agrees n _ _ zeros_within
   over_within (Some room) = record { known = zeros_within.known; marks = λ s low e. zeros_within.marks s low; same = λ e. absurd cc; exact = refl }
 
-  over_under : (cache : Option ℕ) → IsUnder n cache (new_slot (slot_over station cache)) (any_under state_of (over cache store))
+  over_under : (cache : Option ℕ) → HasCache n cache (new_slot (slot_over station cache)) (any_under state_of (over cache store))
   over_under None = tt
   over_under (Some room) =
       let all : room - 0 ≡ room = omega arith in

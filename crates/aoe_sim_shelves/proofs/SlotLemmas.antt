@@ -30,7 +30,7 @@ use Rattle.aoe_script.specs.declared.event.Which.{Which}
 use Rattle.aoe_script.specs.declared.event.Which.TheVariants.{Store, Keep}
 use Rattle.aoe_sim_shelves.specs.declared.rack.Stops.{Stops}
 use Rattle.aoe_sim_shelves.specs.Arrival.{noted, stop_at}
-use Rattle.aoe_sim_shelves.specs.Rack.{stop_in, HoldsWithin, IsDue, IsServing, IsStanding, IsStoreDue, IsUnder}
+use Rattle.aoe_sim_shelves.specs.Rack.{stop_in, HoldsWithin, IsDue, IsServing, IsStanding, IsStoreDue, HasCache}
 use Rattle.aoe_sim_shelves.proofs.DueLemmas.{due-store-then, due-then, struck-in-turn, struck-store, Strikes}
 use Rattle.aoe_sim_shelves.proofs.FateLemmas.{called-kept, edited-done, faulty-calls, loss-of, noted-fate, noted-faulty, noted-strike, noted-unkept, one-disk, stop-of, unkept-calls, Runs}
 use Rattle.aoe_sim_shelves.proofs.StepLemmas.{held, known_in, stepped, StepsWithin}
@@ -161,7 +161,7 @@ module _ {slot : SlotSetup} {h : List Entry} {f : List ℕ} {x : Heard} {out : L
       | inr c ↦ rw (c, z.unedited c) k.keep_due
     ]
 
-    under-then : IsUnder slot.station.sectors slot.cache (after_frame slot f fate (slot_after slot h)) (any_under state_of u.store)
+    under-then : HasCache slot.station.sectors slot.cache (after_frame slot f fate (slot_after slot h)) (any_under state_of u.store)
     under-then = elim (cases_Bool (calls Store slot h f)) [
       | inl c ↦
           under-noted slot.station.sectors slot f (slot_after slot h) _ _ c _ k.holds.sectors k.under fresh out x (struck-is c) z.turns z.allowed
@@ -191,7 +191,7 @@ module _ {slot : SlotSetup} {h : List Entry} {f : List ℕ} {x : Heard} {out : L
   -- a call failed in a stop
   module _ (how : Loss) (n : List Entry) (flow : Follows slot h f Cut n) where
     -- what is left of the device, where the power is lost in such a call
-    cut-under : KeepsShelfLaw slot h f Cut → IsUnder slot.station.sectors slot.cache (after_frame slot f Cut (slot_after slot h)) (any_under state_of u.store)
+    cut-under : KeepsShelfLaw slot h f Cut → HasCache slot.station.sectors slot.cache (after_frame slot f Cut (slot_after slot h)) (any_under state_of u.store)
     cut-under allowed = elim (cases_Bool (calls Store slot h f)) [
       | inl c ↦
           under-failed slot.station.sectors slot f (slot_after slot h) _ _ c Cut (is_faulty x) refl (under-calls c) k.under

@@ -29,7 +29,7 @@ use Rattle.aoe_history.specs.declared.entry.Fate.TheVariants.{Replied}
 use Rattle.aoe_history.specs.Setup.{SlotSetup}
 use Rattle.aoe_history.specs.Slots.{after_call, after_frame, fate_at, is_cached_whole, is_struck, Slot, Unsettled}
 use Rattle.aoe_sim_shelves.specs.Arrival.{noted}
-use Rattle.aoe_sim_shelves.specs.Rack.{AgreesWithin, IsBelow, IsUnder}
+use Rattle.aoe_sim_shelves.specs.Rack.{AgreesWithin, IsBelow, HasCache}
 use Rattle.aoe_history.proofs.LogicLemmas.{not-both}
 use Rattle.aoe_sim_shelves.proofs.StepLemmas.{step_sectors}
 
@@ -79,11 +79,11 @@ record Keeps (n : ℕ) (z w : Slot) (d e : Under) : Type 0 where
   pub room : e.room ≡ d.room
   pub known : (room : ℕ) → d.room ≡ room → IsKnown n room z d → IsKnown n room w e
 
-under-then : (n : ℕ) (z w : Slot) (cache : Option ℕ) (x y : Option Under) → BothTell (Keeps n z w) x y → IsUnder n cache z x → IsUnder n cache w y
+under-then : (n : ℕ) (z w : Slot) (cache : Option ℕ) (x y : Option Under) → BothTell (Keeps n z w) x y → HasCache n cache z x → HasCache n cache w y
 under-then n z w cache x y keeps u = grind arith
 
 module _ (n : ℕ) (cache : Option ℕ) (z w : Slot) (x y : Option Under) where
-  pub under-wrote : (count : ℕ) → Writes count z w → BothTell (Spends count) x y → IsUnder n cache z x → IsUnder n cache w y
+  pub under-wrote : (count : ℕ) → Writes count z w → BothTell (Spends count) x y → HasCache n cache z x → HasCache n cache w y
   under-wrote count wrote spends = under-then n z w cache x y (both-then _ _ x y spends (λ d e s. record {
     room = s.room;
     known = λ room is known whole.
@@ -100,7 +100,7 @@ module _ (n : ℕ) (cache : Option ℕ) (z w : Slot) (x y : Option Under) where
   }))
 
   -- a call was struck, and nothing is known of the disk
-  pub under-struck : w.unsettled.struck ≡ true → BothTell (λ (d e : Under). e.room ≡ d.room) x y → IsUnder n cache z x → IsUnder n cache w y
+  pub under-struck : w.unsettled.struck ≡ true → BothTell (λ (d e : Under). e.room ≡ d.room) x y → HasCache n cache z x → HasCache n cache w y
   under-struck struck same = under-then n z w cache x y (both-then _ _ x y same (λ d e room. record {
     room = room;
     known = λ room is known whole. absurd (not-both w.unsettled.struck struck (whole-of room w.unsettled whole).1);
@@ -109,7 +109,7 @@ module _ (n : ℕ) (cache : Option ℕ) (z w : Slot) (x y : Option Under) where
   -- a sync: what was known is settled
   pub under-synced : (shown : Option Contents) → BothTell (λ (k l : Sectors). (s : ℕ) → l.settled s ≡ k.known s) z.state.sectors w.state.sectors
       → BothTell (AgreesWithin n) (option_map sectors_of shown) z.state.sectors → BothTell (FreesUnder false shown) x y
-      → IsUnder n cache z x → IsUnder n cache w y
+      → HasCache n cache z x → HasCache n cache w y
   under-synced shown settled agrees frees = under-then n z w cache x y (both-then _ _ x y frees (λ d e f. record {
     room = f.calls.room;
     known = λ room is known whole. synced room e (f.calls.room ∙ is) shown z.state.sectors w.state.sectors agrees settled (f.done refl);
@@ -163,8 +163,8 @@ module _ (n : ℕ) (slot : SlotSetup) (f : List ℕ) (z : Slot) where
       → SameSettled z.state.sectors (after slot.station f w g z.state).sectors
   idle-sectors w g c a = grind (arith, step_sectors)
 
-  pub under-idle : (fate : Fate) (x : Option Under) → calls_store v ≡ false → Allows slot.station z.state f v (fate_at fate) → IsUnder n slot.cache z x
-      → IsUnder n slot.cache (after_frame slot f fate z) x
+  pub under-idle : (fate : Fate) (x : Option Under) → calls_store v ≡ false → Allows slot.station z.state f v (fate_at fate) → HasCache n slot.cache z x
+      → HasCache n slot.cache (after_frame slot f fate z) x
   under-idle fate x c a = under-wrote n slot.cache z (after_frame slot f fate z) x x 0 (record {
     written = rw c (omega arith);
     struck = rw c;
@@ -173,13 +173,13 @@ module _ (n : ℕ) (slot : SlotSetup) (f : List ℕ) (z : Slot) where
 
   module _ (x y : Option Under) (c : calls_store v ≡ true) where
     -- a call failed, or the power was lost in it
-    pub under-failed : (fate : Fate) (failed : Bool) → is_struck fate ≡ true → BothTell (CallsUnder failed) x y → IsUnder n slot.cache z x
-        → IsUnder n slot.cache (after_frame slot f fate z) y
+    pub under-failed : (fate : Fate) (failed : Bool) → is_struck fate ≡ true → BothTell (CallsUnder failed) x y → HasCache n slot.cache z x
+        → HasCache n slot.cache (after_frame slot f fate z) y
     under-failed fate failed s calls =
         under-struck n slot.cache z (after_frame slot f fate z) x y (rw c (grind arith))
         (both-then _ _ x y calls (λ d e r. r.room))
 
-    module _ (shown : Option Contents) (agrees : BothTell (AgreesWithin n) (option_map sectors_of shown) z.state.sectors) (u : IsUnder n slot.cache z x)
+    module _ (shown : Option Contents) (agrees : BothTell (AgreesWithin n) (option_map sectors_of shown) z.state.sectors) (u : HasCache n slot.cache z x)
         (number : ℕ) (out : List ℕ) where
       -- the slot after a reply
       abbrev left : Verdict → Effect → Slot
@@ -187,7 +187,7 @@ module _ (n : ℕ) (slot : SlotSetup) (f : List ℕ) (z : Slot) where
 
       done-then : (args : AtaArgs) (answer : AtaAnswer) (e : Effect) → calls_for answer ≡ true → is_fault e ≡ false → TurnsUnder answer false shown x y
           → AllowsAta slot.station z.state.sectors (fields f) args answer (target.replied e out)
-          → IsUnder n slot.cache (left (verdict.Ata (record { args = args; answer = answer })) e) y
+          → HasCache n slot.cache (left (verdict.Ata (record { args = args; answer = answer })) e) y
       done-then args (ata.Put span) (effect.Wrote w) called s p a =
           under-wrote n slot.cache z _ x y span.count
           (record { written = rw a.0; struck = refl; settled = grind arith })
@@ -200,13 +200,13 @@ module _ (n : ℕ) (slot : SlotSetup) (f : List ℕ) (z : Slot) where
 
       -- the call was done
       under-done : (w : Verdict) (e : Effect) → calls_store w ≡ true → is_fault e ≡ false → MovesUnder w false shown x y
-          → Allows slot.station z.state f w (target.replied e out) → IsUnder n slot.cache (left w e) y
+          → Allows slot.station z.state f w (target.replied e out) → HasCache n slot.cache (left w e) y
       under-done (verdict.Ata d) e called s p a = done-then d.args d.answer e called s p a
       under-done _ e called s p a = absurd cc
 
       -- what a target did with a frame that made it call its store
       pub under-noted : (w : Heard) → is_struck (noted None w number out) ≡ is_faulty w → MovesUnder v (is_faulty w) shown x y
-          → Allows slot.station z.state f v (fate_of w out) → IsUnder n slot.cache (after_frame slot f (noted None w number out) z) y
+          → Allows slot.station z.state f v (fate_of w out) → HasCache n slot.cache (after_frame slot f (noted None w number out) z) y
       under-noted (heard.Replied e) struck p a = elim (cases_Bool (is_fault e)) [
         | inl fault ↦ under-failed (Replied e number out) (is_fault e) (struck ∙ fault) (moves-calls v (is_fault e) shown x y c p) u
         | inr fault ↦ rw c (under-done v e c fault (rw fault at p) a)

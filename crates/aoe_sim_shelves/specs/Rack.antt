@@ -1,5 +1,5 @@
 -- A shelf in a run: what its disks hold, and how they are armed, is what the history says of them.
-use Rattle.std.specs.Prelude.{ℕ, ◌≡◌, ◌≢◌, ◌+◌, ◌-◌, ◌*◌, ◌<◌, ◌≤◌, ◌⊎◌, Bool, true, false, not, List, [], length, slice_get, Option, Some, None, is_some, IfNone, IfSome}
+use Rattle.std.specs.Prelude.{ℕ, ◌≡◌, ◌≢◌, ◌+◌, ◌-◌, ◌*◌, ◌<◌, ◌≤◌, ◌⊎◌, Bool, true, false, not, List, length, slice_get, Option, Some, None, is_some, IfNone, IfSome}
 use Rattle.std.specs.Bool.{OnTrue}
 use Rattle.std.specs.List.{list_any}
 use Rattle.std.specs.Option.{option_and_then, option_map}
@@ -99,11 +99,6 @@ pub record HoldsWithin (n : ℕ) (d : Device) (k : State) : Type 0 where
 
 -- STORES WITH A CACHE
 
--- a store over a disk, with a cache of so many sectors where it has one, which holds nothing yet
-abbrev pub over : Option ℕ → Memory → AnyStore Memory
-over None disk = Direct disk
-over (Some room) disk = Cached (record { disk = disk; held = []; room = room })
-
 -- the call that the disk is armed for isn't tied to a frame: one call at most fails, and the power is lost in it where that is armed
 pub record IsOnceDue (x : Stretch) (d : Schedule) : Type 0 where
   pub told : is_some d.due ≡ true
@@ -127,11 +122,11 @@ pub record IsBelow (n room : ℕ) (u : Unsettled) (k : Sectors) (d : Under) : Ty
   pub settled : (s : ℕ) → s < n → IfSome (k.settled s) (λ v. option_map (λ bytes. sector bytes s) (bytes_under d) ≡ Some v)
 
 -- a store has a cache of so many sectors, and its disk is as it was settled while a crash leaves that
-abbrev pub IsUnder : ℕ → Option ℕ → Slot → Option Under → Type 0
-IsUnder n None x None = Unit {0}
-IsUnder n None x (Some d) = ⊥
-IsUnder n (Some room) x None = ⊥
-IsUnder n (Some room) x (Some d) =
+abbrev pub HasCache : ℕ → Option ℕ → Slot → Option Under → Type 0
+HasCache n None x None = Unit {0}
+HasCache n None x (Some d) = ⊥
+HasCache n (Some room) x None = ⊥
+HasCache n (Some room) x (Some d) =
     (d.room ≡ room) × OnTrue (is_cached_whole room x.unsettled) (IfSome x.state.sectors (λ k. IsBelow n room x.unsettled k d))
 
 -- A SHELF AND A HISTORY
@@ -139,7 +134,7 @@ IsUnder n (Some room) x (Some d) =
 -- a slot's disks are what the history says of them
 pub record IsServing (slot : SlotSetup) (h : List Entry) (t : Mounted (AnyStore Memory) Memory) (stops : Stops) : Type 0 where
   pub station : t.station ≡ slot.station
-  pub under : IsUnder slot.station.sectors slot.cache (slot_after slot h) (any_under state_of t.store)
+  pub under : HasCache slot.station.sectors slot.cache (slot_after slot h) (any_under state_of t.store)
   pub holds : HoldsWithin slot.station.sectors (device_of (any_state state_of) state_of t) (state_after slot h)
   pub store_due : IsStoreDue (stretch Store slot h) t.store
   pub keep_due : IfSome (state_of t.keep.disk).schedule (IsDue Keep (stretch Keep slot h))
@@ -149,7 +144,7 @@ pub record IsServing (slot : SlotSetup) (h : List Entry) (t : Mounted (AnyStore 
 -- of a slot that a disk failed in a stop this much is left, until the shelf crashes
 pub record IsStanding (slot : SlotSetup) (h : List Entry) (t : Mounted (AnyStore Memory) Memory) : Type 0 where
   pub station : t.station ≡ slot.station
-  pub under : IsUnder slot.station.sectors slot.cache (slot_after slot h) (any_under state_of t.store)
+  pub under : HasCache slot.station.sectors slot.cache (slot_after slot h) (any_under state_of t.store)
   pub holds : HoldsWithin slot.station.sectors (device_of (any_state state_of) state_of t) (state_after slot h)
 
 pub record Stands (slots : List SlotSetup) (h : List Entry) (x : MemoryRack) : Type 0 where

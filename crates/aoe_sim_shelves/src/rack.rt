@@ -10,8 +10,9 @@ ghost use Rattle.aoe_shelf.specs.Shelf.{has_minor};
 ghost use Rattle.aoe_shelf.specs.Slot.{ChangesAt};
 ghost use Rattle.aoe_target.specs.Mounted.{station_of};
 
-use crate::seat::{MemShelf, mount, seat, store_over};
+use crate::seat::{MemShelf, mount, seat};
 use aoe_base::{NoMemory, Ports, TargetId};
+use aoe_cache::AnyStore;
 use aoe_disk::{Arm, Loss, MemDisk};
 use aoe_history::{Entry, Run};
 use aoe_keep::KEEP_SECTORS;
@@ -148,7 +149,9 @@ impl MemoryRack {
         ) else {
             return Err(NoMemory);
         };
-        let store = store_over(alloc, store, room)?;
+        let Ok(store) = AnyStore::over(alloc, store, room) else {
+            return Err(NoMemory);
+        };
         seat(&mut self.shelf, minor, store, mount(keep));
         self.stops.push(Stops::none());
         Ok(())

@@ -1,42 +1,20 @@
 //! Disks in memory become a target of a shelf.
-ghost use Rattle.std.specs.Prelude.{ℕ, ◌≡◌, ◌≤◌, ◌<◌, ◌++◌, ◌∷◌, [], IfOk, IfSome, None, Ok, length};
+ghost use Rattle.std.specs.Prelude.{◌≡◌, ◌≤◌, ◌<◌, ◌++◌, ◌∷◌, [], None, Ok, length};
 ghost use Rattle.aoe_cache.specs.Any.{any_state};
 ghost use Rattle.aoe_disk.specs.Memory.{state_of};
 ghost use Rattle.aoe_keep.specs.Found.{found};
 ghost use Rattle.aoe_keep.specs.Keep.{HasMounted};
 ghost use Rattle.aoe_lists.specs.Settings.{Settings};
-ghost use Rattle.aoe_sim_shelves.specs.Rack.{over};
 ghost use Rattle.aoe_shelf.specs.Shelf.{refusal_of};
 ghost use Rattle.aoe_target.specs.Mounted.{station_of};
 
-use aoe_base::NoMemory;
-use aoe_cache::{AnyStore, Cached};
+use aoe_cache::AnyStore;
 use aoe_disk::MemDisk;
 use aoe_keep::Keep;
 use aoe_shelf::Shelf;
-use aoe_store::Direct;
-use std::alloc::Global;
 
 /// A shelf over disks in memory.
 pub(crate) type MemShelf = Shelf<AnyStore<MemDisk>, MemDisk>;
-
-/// The disk as a store, with a cache for `room` sectors where there is a number.
-pub(crate) fn store_over(
-    alloc: Global,
-    disk: MemDisk,
-    room: Option<u32>,
-) -> Result<AnyStore<MemDisk>, NoMemory>
-    requires { IfSome room (λ (n : ℕ). (1 ≤ n) × (n ≤ 65536)) }
-    ensures { IfOk result (λ store. store ≡ over room disk) }
-{
-    let Some(room) = room else {
-        return Ok(AnyStore::Direct(Direct::new(disk)));
-    };
-    match Cached::mount(alloc, disk, room) {
-        Ok(store) => Ok(AnyStore::Cached(store)),
-        Err((NoMemory, _)) => Err(NoMemory),
-    }
-}
 
 /// The keep of a disk that has room for lists, on which lists stand, and of which no call fails.
 pub(crate) fn mount(disk: MemDisk) -> Keep<MemDisk>

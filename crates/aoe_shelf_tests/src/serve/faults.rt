@@ -3,13 +3,12 @@ ghost use Rattle.std.specs.Prelude.{◌<◌};
 
 use super::loops::{QUERY, SET, answered, first, reply, served, took};
 use aoe_base::{Blob, Mac, Ports, Span, TargetId};
-use aoe_cache::{AnyStore, Cached};
+use aoe_cache::AnyStore;
 use aoe_disk::{Arm, Loss, MemDisk};
 use aoe_frame::Frame;
 use aoe_io::{MemLink, MemSink, MemSource};
 use aoe_keep::Keep;
 use aoe_serve::{AnswerEnd, ServeEnd};
-use aoe_store::Direct;
 use aoe_target::{Effect, Heard, Target};
 use std::alloc::Global;
 use std::test::Fail;
@@ -142,12 +141,10 @@ type MemTarget = Target<AnyStore<MemDisk>, MemDisk>;
 
 /// A store that writes through, or that holds back four sectors.
 fn store_over(alloc: Global, disk: MemDisk, is_cached: bool) -> Result<AnyStore<MemDisk>, Fail> {
-    if !is_cached {
-        return Ok(AnyStore::Direct(Direct::new(disk)));
-    }
-    match Cached::mount(alloc, disk, 4) {
-        Ok(store) => Ok(AnyStore::Cached(store)),
-        Err(_) => Err(Fail::from("no memory")),
+    let room = if is_cached { Some(4) } else { None };
+    match AnyStore::over(alloc, disk, room) {
+        Ok(store) => Ok(store),
+        Err((refused, _)) => Err(refused.into()),
     }
 }
 

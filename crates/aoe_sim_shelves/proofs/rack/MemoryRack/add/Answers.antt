@@ -1,6 +1,7 @@
 use Rattle.std.proofs.Common.{suc, ap, arith}
 use Rattle.aoe_lists.specs.Settings.{empty_settings}
-use Rattle.aoe_sim_shelves.specs.Rack.{over, MemoryRack}
+use Rattle.aoe_cache.specs.Any.{over}
+use Rattle.aoe_sim_shelves.specs.Rack.{MemoryRack}
 use Rattle.aoe_sim_shelves.proofs.FrontLemmas.{length_last, more_minors, more_targets}
 use Rattle.aoe_sim_shelves.proofs.SeatLemmas.{new_serves, new_station, not_refused, seated_target, zeros_found, zeros_sectors, IsNew}
 use Rattle.aoe_sim_shelves.proofs.Words.{Shelf}
@@ -15,7 +16,7 @@ seat-requires-clause-taken c = not_refused _ _ (rw (← c.self.view_is) at c.req
 pub invariant_of-self : goal.invariant_of-self
 invariant_of-self c =
     let shelf = c.self.inside.shelf in
-    let seats = rw c.in_ok-store.ensures at c.seat.ensures in
+    let seats = rw c.in-Ok.ensures.store at c.seat.ensures in
     let one = seated_target shelf.major shelf.ports shelf.mtu c.args.minor (over c.args.room c.in-Ok-Ok.store) c.in-Ok-Ok.keep c.mount.result c.requires.minor
     (omega (arith, zeros_sectors 16 c.in-Ok-Ok.keep c.in-Ok-Ok.ensures')) c.mount.ensures in
     record {
@@ -28,7 +29,7 @@ pub returns-clause-serves : goal.returns-clause-serves
 returns-clause-serves c slots k =
     let shelf = c.self.inside.shelf in
     let x : MemoryRack = record { shelf = shelf; stops = c.self.inside.stops.items } in
-    let seats = rw c.in_ok-store.ensures at c.seat.ensures in
+    let seats = rw c.in-Ok.ensures.store at c.seat.ensures in
     let new : IsNew c.args.sectors 8192 c.in-Ok-Ok.store c.in-Ok-Ok.keep c.mount.result =
     record { zeros = c.in-Ok-Ok.ensures; lists = c.in-Ok-Ok.ensures'; mounted = c.mount.ensures } in
     rw (← c.self.view_is) (new_serves shelf.major shelf.ports shelf.mtu c.args.minor c.args.room new {x = x} (ap (λ (z : Shelf). z.targets) seats)
@@ -37,7 +38,7 @@ returns-clause-serves c slots k =
 pub returns-clause-added : goal.returns-clause-added
 returns-clause-added c =
     let shelf = c.self.inside.shelf in
-    let seats = rw c.in_ok-store.ensures at c.seat.ensures in
+    let seats = rw c.in-Ok.ensures.store at c.seat.ensures in
     let new : IsNew c.args.sectors 8192 c.in-Ok-Ok.store c.in-Ok-Ok.keep c.mount.result =
     record { zeros = c.in-Ok-Ok.ensures; lists = c.in-Ok-Ok.ensures'; mounted = c.mount.ensures } in
     rw (← c.self.view_is, seats) (new_station shelf.major shelf.ports shelf.mtu c.args.minor c.args.room new shelf.targets)
