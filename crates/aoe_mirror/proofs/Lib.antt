@@ -1,0 +1,10 @@
+pub mod Bits
+pub mod Told
+pub mod Whole
+pub mod Quiet
+pub mod Steps
+pub mod Reading
+pub mod Writing
+pub mod Syncing
+pub mod Copying
+pub mod Surviving

@@ -1,0 +1,6 @@
+use Rattle.aoe_mirror.specs.Sides.{pair_of}
+use Rattle.aoe_mirror.proofs.Surviving.{survives}
+use Rattle.aoe_mirror.proofs.mirror.Mirror.lead.Goals as goal
+
+pub returns-clause-crash : goal.returns-clause-crash
+returns-clause-crash g c = rw (← c.self.view_is) (survives (pair_of g.D.Disk.state c.self.inside.sides) c.self.invariant.mirror)

@@ -1,0 +1,4 @@
+pub mod Marks
+pub mod Sides
+pub mod Calls
+pub mod Mirror

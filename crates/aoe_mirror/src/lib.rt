@@ -1,0 +1,33 @@
+//! One slot over two disks, which outlives a failure of either.
+//!
+//! A [`Mirror`] is two disks, its sides 0 and 1, as a [`Store`](aoe_store::Store). One side leads:
+//! the mirror has its sectors. The other follows, with a mark for each sector that may differ from
+//! the lead's, a *stale* one. A third disk, the mark disk, says by its first byte which side leads:
+//! side 1 where that is 0xA7, else side 0. The calls come in this order:
+//!
+//! 1. [`Mirror::mount`] takes the three disks and all the memory that the mirror will ever use.
+//!    Every sector of the side that follows is stale then, since nothing tells what it missed.
+//!    Where the mirror can't be mounted it gives the disks back.
+//! 2. [`Mirror::resync`] copies a run of stale sectors, and is called until none is left.
+//! 3. `read` reads the lead, and the other side where that fails and nothing is stale there.
+//!    `write` and `sync` do both sides. Where the follower fails, what it missed is stale. Where
+//!    the lead fails and nothing is stale, the other side leads from then on, as soon as the mark
+//!    disk says so. A `sync` that is Ok ends with one `resync`.
+//! 4. [`Mirror::close`] gives the disks. Sync before.
+//!
+//! A bit for each sector is held, so a disk of 1 TB takes 244 MB, and one of 2^40 sectors 128 GB,
+//! which an allocator may refuse. A copy of 64 sectors goes through 32 kB that are taken at the
+//! mounting.
+//!
+//! It doesn't keep the stale marks on a disk, so every mounting copies all of the lead. It makes a
+//! failed call no second time, doesn't compare the sides, and doesn't tell a side that is wrong
+//! from one that is right where both answer. No two of the three disks may be one.
+#![tactic(auto)]
+
+mod marks;
+mod mirror;
+mod refusal;
+mod sides;
+
+pub use mirror::Mirror;
+pub use refusal::MirrorRefusal;

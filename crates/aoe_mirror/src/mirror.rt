@@ -1,0 +1,218 @@
+//! A mirror: two disks as one store.
+ghost use Rattle.std.specs.Prelude.{◌≡◌, ◌<◌, ◌⊎◌, None, Some, IfErr, IfOk, IfSome, IsSome, OnErr, false, is_err};
+ghost use Rattle.std.specs.Result.{IsErrAnd};
+ghost use Rattle.aoe_disk.specs.State.{BothTell, IsDisk};
+ghost use Rattle.aoe_disk.specs.Calls.{IsRun};
+ghost use Rattle.aoe_disk.specs.Sectors.{Calms};
+ghost use Rattle.aoe_mirror.specs.Marks.{count_of};
+ghost use Rattle.aoe_mirror.specs.Sides.{Survives};
+ghost use Rattle.aoe_mirror.specs.Calls.{Blames, Copies, MirrorReads, MirrorSyncs, MirrorWrites};
+ghost use Rattle.aoe_mirror.specs.Mirror.{Mounts, ReadsMark, Refuses, first_of, pair, second_of, state_of};
+
+use crate::MirrorRefusal;
+use crate::marks::{MOST_IN_RUN, Marks};
+use crate::sides::{SECOND_LEADS, Sides};
+use aoe_base::{Failed, SECTOR_LEN};
+use aoe_disk::Disk;
+use aoe_store::Store;
+use std::alloc::Global;
+use std::marker::Model;
+
+// Which side the mark disk says leads, after a sync.
+fn read_mark<D: Disk>(disk: &mut D) -> Result<u8, Failed>
+    requires room { 0 < (D.state disk.old).sectors }
+    requires disk { IsDisk (D.state disk.old) }
+    ensures reads { IfOk result (λ side. ReadsMark side (D.state disk.old) (D.state disk.new)) }
+    ensures run { IsRun 2 (is_err result) (D.state disk.old) (D.state disk.new) }
+    ensures calm { BothTell Calms (D.state disk.old).contents (D.state disk.new).contents }
+{
+    if let Err(Failed) = disk.sync() {
+        return Err(Failed);
+    }
+    let mut sector = [0; SECTOR_LEN];
+    if let Err(Failed) = disk.read(0, &mut sector) {
+        return Err(Failed);
+    }
+    Ok(u8::from(sector[0] == SECOND_LEADS))
+}
+
+// The lower of the disk that failed in a sync and the one that failed in the copying after it.
+fn lowest(failed: Option<u8>, copied: Result<(), u8>) -> Option<u8>
+    ensures either { (result ≡ failed) ⊎ IsErrAnd copied (λ disk. result ≡ Some disk) }
+    ensures told { OnErr copied (IsSome result) }
+{
+    match (failed, copied) {
+        (Some(first), Err(second)) if second < first => Some(second),
+        (None, Err(second)) => Some(second),
+        (failed, _) => failed,
+    }
+}
+
+/// Two disks with the same sectors as one store, which outlives a failure of either.
+#[derive(Drop)]
+pub struct Mirror<D: Disk> {
+    sides: Sides<D>,
+
+    // The lowest disk that failed in the latest sync.
+    failed: Option<u8>,
+
+    // Sectors on their way from one side to the other.
+    scratch: Vec<u8>,
+}
+
+impl<D: Disk> Model for Mirror<D> {
+    ghost use Rattle.aoe_mirror.specs.Mirror.{IsMounted, Mirrored};
+
+    ghost Value = { Mirrored D };
+
+    ghost view = { λ m. record { sides = m.sides; failed = m.failed } };
+
+    ghost invariant = { λ m. IsMounted D.state m.sides m.scratch.items };
+}
+
+impl<D: Disk> Mirror<D> {
+    /// The two disks as a mirror. The mark disk is synced and its first sector read: where its
+    /// first byte is 0xA7 side 1 leads, and else side 0. Every sector of the other side is stale.
+    /// All memory is taken here: a bit for each sector and 32 kB.
+    pub fn mount(
+        alloc: Global,
+        one: D,
+        two: D,
+        mark: D,
+    ) -> Result<Mirror<D>, (MirrorRefusal, D, D, D)>
+        ensures mounts { IfOk result (λ mirror. Mounts D.state one two mark mirror.sides) }
+        ensures failed { IfOk result (λ mirror. mirror.failed ≡ None) }
+        ensures refused { IfErr result
+            (λ e. Refuses e.0 (D.state one) (D.state two) (D.state mark) (D.state e.3)) }
+        ensures sides { IfErr result (λ e. (e.1 ≡ one) × (e.2 ≡ two)) }
+    {
+        let first = one.sectors();
+        let second = two.sectors();
+        if first != second {
+            return Err((MirrorRefusal::Unequal { first, second }, one, two, mark));
+        }
+        if mark.sectors() == 0 {
+            return Err((MirrorRefusal::NoMark, one, two, mark));
+        }
+        let mut mark = mark;
+        let side = match read_mark(&mut mark) {
+            Ok(side) => side,
+            Err(Failed) => return Err((MirrorRefusal::Failed, one, two, mark)),
+        };
+        let Ok(stale) = Marks::all(alloc, first as usize) else {
+            return Err((MirrorRefusal::NoMemory, one, two, mark));
+        };
+        let Ok(scratch) = Vec::from_elem(alloc, 0, SECTOR_LEN * MOST_IN_RUN) else {
+            return Err((MirrorRefusal::NoMemory, one, two, mark));
+        };
+        Ok(Mirror {
+            sides: Sides::new(one, two, mark, side, stale),
+            failed: None,
+            scratch,
+        })
+    }
+
+    /// How many sectors of the side that follows may differ from the lead's.
+    pub fn stale(&self) -> u64
+        ensures { result ≡ count_of self.now.sides.stale }
+    {
+        self.sides.stale.count() as u64
+    }
+
+    /// The side that leads, 0 or 1. A read gives its sectors. Whichever side the mark disk names
+    /// after a crash of all three disks, it has the mirror's bytes in each sector that isn't loose.
+    pub fn lead(&self) -> u8
+        ensures lead { result ≡ self.now.sides.side }
+        ensures crash { Survives (pair D.state self.now) }
+    {
+        self.sides.side
+    }
+
+    /// The lowest disk of which a call failed in the latest sync: side 0, side 1, or 2 for the mark
+    /// disk. The copying that ends a sync counts too.
+    pub fn failed(&self) -> Option<u8>
+        ensures { result ≡ self.now.failed }
+    {
+        self.failed
+    }
+
+    /// Copies the first run of stale sectors, of 64 at most, from the lead to the other side, and
+    /// syncs that side. Says how many sectors are stale then. Where nothing is stale no disk is
+    /// called.
+    pub fn resync(&mut self) -> Result<u64, Failed>
+        ensures copies { Copies (is_err result) (pair D.state self.old) (pair D.state self.new) }
+        ensures left { IfOk result (λ left. left ≡ count_of self.new.sides.stale) }
+        ensures failed { self.new.failed ≡ self.old.failed }
+    {
+        match self.sides.resync(&mut self.scratch) {
+            Ok(()) => Ok(self.sides.stale.count() as u64),
+            Err(_) => Err(Failed),
+        }
+    }
+
+    /// The sides 0 and 1, and the mark disk.
+    pub fn close(self) -> (D, D, D)
+        ensures one { result.0 ≡ first_of self.sides }
+        ensures two { result.1 ≡ second_of self.sides }
+        ensures mark { result.2 ≡ self.sides.mark }
+    {
+        self.sides.close()
+    }
+}
+
+impl<D: Disk> Store for Mirror<D> {
+    ghost use Rattle.std.specs.Prelude.{◌≡◌, None, OnErr, IsSome, length};
+    ghost use Rattle.aoe_disk.specs.Calls.{IsRange, Reads, SyncsTo};
+    ghost use Rattle.aoe_store.specs.Store.{StoresTo};
+    ghost use Rattle.aoe_mirror.specs.Calls.{Blames, MirrorReads, MirrorSyncs, MirrorWrites};
+    ghost use Rattle.aoe_mirror.specs.Mirror.{pair, state_of};
+
+    ghost state = { λ m. state_of D.state m };
+
+    ghost under = { λ m. None };
+
+    fn sectors(&self) -> u64 {
+        self.sides.lead.sectors()
+    }
+
+    fn read(&mut self, at: u64, out: &mut [u8]) -> Result<(), Failed>
+        requires { IsRange at (length out.old) (state_of D.state self.old).sectors }
+        ensures reads { Reads at (length out.old) result out.new
+            (state_of D.state self.old) (state_of D.state self.new) }
+        ensures mirror { MirrorReads at (length out.old) result out.new
+            (pair D.state self.old) (pair D.state self.new) }
+        ensures failed { self.new.failed ≡ self.old.failed }
+    {
+        self.sides.read(at, out)
+    }
+
+    fn write(&mut self, at: u64, piece: &[u8]) -> Result<(), Failed>
+        requires { IsRange at (length piece.now) (state_of D.state self.old).sectors }
+        ensures stores { StoresTo at piece.now result
+            (state_of D.state self.old) (state_of D.state self.new) }
+        ensures mirror { MirrorWrites at piece.now result
+            (pair D.state self.old) (pair D.state self.new) }
+        ensures failed { self.new.failed ≡ self.old.failed }
+    {
+        self.sides.write(at, piece)
+    }
+
+    fn sync(&mut self) -> Result<(), Failed>
+        ensures syncs { SyncsTo result (state_of D.state self.old) (state_of D.state self.new) }
+        ensures mirror { MirrorSyncs result (pair D.state self.old) (pair D.state self.new) }
+        ensures blames { Blames self.new.failed (pair D.state self.old) (pair D.state self.new) }
+        ensures told { OnErr result (IsSome self.new.failed) }
+    {
+        match self.sides.sync() {
+            Ok(failed) => {
+                let copied = self.sides.resync(&mut self.scratch);
+                self.failed = lowest(failed, copied);
+                Ok(())
+            }
+            Err(disk) => {
+                self.failed = Some(disk);
+                Err(Failed)
+            }
+        }
+    }
+}
