@@ -6,6 +6,7 @@ use Rattle.aoe_base.specs.declared.address.Mac.{Mac}
 use Rattle.aoe_base.specs.Texts.{macs_text}
 use Rattle.aoe_disk.specs.declared.loss.Loss.{Loss}
 use Rattle.aoe_disk.specs.declared.loss.Loss.TheVariants.{Keep as Kept, Old, Torn, Mix}
+use Rattle.aoe_lists.specs.Settings.{Settings}
 use Rattle.aoe_lists.specs.declared.dir.Dir.{Dir}
 use Rattle.aoe_script.specs.declared.event.Event.{Event}
 use Rattle.aoe_script.specs.declared.event.Event.TheVariants.{Read, Write, Flush, Identify, Config, Masks, Reserve, Tick, Deliver, Pass, Skip, Again, Inject, Fail, Stop, Crash}
@@ -29,6 +30,18 @@ dirs_text dirs = join_with_byte 44 (map dir_text dirs)
 
 abbrev pub bytes_text : List ℕ → Text
 bytes_text bytes = if length bytes == 0 then codes "-" else flat_map pair_text bytes
+
+-- addresses of twelve digits, joined by commas; a hyphen for none
+abbrev pub digits_text : Mac → Text
+digits_text mac = bytes_text mac.0
+
+abbrev pub addresses_text : List Mac → Text
+addresses_text macs = if length macs == 0 then codes "-" else join_with_byte 44 (map digits_text macs)
+
+-- the lists of a device, each behind its name
+abbrev pub lists_words : Settings → List Text
+lists_words lists =
+    codes "config" ∷ bytes_text lists.config ∷ codes "masks" ∷ addresses_text lists.masks ∷ codes "reserves" ∷ addresses_text lists.reserves ∷ []
 
 abbrev pub which_text : Which → Text
 which_text Store = codes "store"

@@ -1,13 +1,13 @@
 //! How words are spelled: each of these adds to a text.
 ghost use Rattle.std.specs.Prelude.{◌≡◌, ◌++◌, ◌∷◌, ◌<◌, decimal, OnOk};
 ghost use Rattle.aoe_base.specs.Names.{device_text};
-ghost use Rattle.aoe_script.specs.Print.{bytes_text, ccmd_text, config_words, dir_text, dirs_text, list_text, masks_words, mode_text, rcmd_text, reserve_words, spaced, which_text};
+ghost use Rattle.aoe_script.specs.Print.{addresses_text, bytes_text, ccmd_text, config_words, dir_text, dirs_text, list_text, lists_words, masks_words, mode_text, rcmd_text, reserve_words, spaced, which_text};
 
 use crate::event::Which;
 use crate::setup::Name;
 use aoe_base::{Blob, Mac, NoMemory, TargetId, put, put_between, put_mac, put_macs, put_pair};
 use aoe_disk::Loss;
-use aoe_lists::{Dir, MAX_DIRS};
+use aoe_lists::{Dir, Lists, MAX_DIRS};
 use arrayvec::ArrayVec;
 use itoa::Buffer;
 
@@ -79,6 +79,32 @@ pub fn put_bytes(out: &mut Vec<u8>, bytes: &[u8]) -> Result<(), NoMemory>
         put_pair(out, *byte)?;
     }
     Ok(())
+}
+
+/// Adds addresses without colons, joined by commas, or a hyphen for none.
+fn put_addresses(out: &mut Vec<u8>, macs: &[Mac]) -> Result<(), NoMemory>
+    ensures { OnOk result (out.new.items ≡ out.old.items ++ addresses_text macs.now) }
+{
+    if macs.is_empty() {
+        return put(out, b"-");
+    }
+    'macs: for (i, mac) in macs.iter().enumerate() {
+        put_between(out, i, b',')?;
+        put_bytes(out, &mac.0)?;
+    }
+    Ok(())
+}
+
+/// Adds the lists of a device, each behind its name.
+pub fn put_lists(out: &mut Vec<u8>, lists: &Lists) -> Result<(), NoMemory>
+    ensures { OnOk result (out.new.items ≡ out.old.items ++ spaced (lists_words lists.now)) }
+{
+    put(out, b" config ")?;
+    put_bytes(out, lists.config.as_slice())?;
+    put(out, b" masks ")?;
+    put_addresses(out, lists.masks.as_slice())?;
+    put(out, b" reserves ")?;
+    put_addresses(out, lists.reserves.as_slice())
 }
 
 /// Adds the name of a device.

@@ -1,9 +1,8 @@
 -- The lines of a transcript: one for each entry of a history, of words that single spaces part.
-use Rattle.std.specs.Prelude.{ℕ, ◌≡◌, ◌≢◌, ◌/◌, ◌==◌, Bool, true, List, [], ◌∷◌, ◌++◌, length, map, reverse, Some, if◌then◌else◌, is_some, codes, decimal, slice_index, ⊤}
+use Rattle.std.specs.Prelude.{ℕ, ◌≡◌, ◌≢◌, ◌/◌, Bool, true, List, [], ◌∷◌, ◌++◌, length, map, reverse, Some, if◌then◌else◌, is_some, codes, decimal, slice_index, ⊤}
 use Rattle.std.specs.List.{flat_map, join_with_byte}
 use Rattle.arrayvec.specs.ArrayVec.{ArrayVec}
 use Rattle.aoe_base.specs.Names.{device_text, pair_text}
-use Rattle.aoe_base.specs.declared.address.Mac.{Mac}
 use Rattle.aoe_base.specs.declared.address.TargetId.{TargetId}
 use Rattle.aoe_history.specs.Asks.{op_of}
 use Rattle.aoe_history.specs.declared.entry.Entry.{Entry}
@@ -16,8 +15,7 @@ use Rattle.aoe_initiator.specs.declared.outcome.Outcome.{Outcome}
 use Rattle.aoe_initiator.specs.declared.outcome.Outcome.TheVariants.{Read as GaveData, Written, Flushed, Told, AtaError, AoeError, GaveUp}
 use Rattle.aoe_initiator.specs.declared.refusal.SubmitRefusal.{SubmitRefusal}
 use Rattle.aoe_initiator.specs.declared.refusal.SubmitRefusal.TheVariants.{NoMemory, OutOfRange, TooLong, Backlog, Empty}
-use Rattle.aoe_lists.specs.Settings.{Settings}
-use Rattle.aoe_script.specs.Print.{bytes_text, event_words, line_text, which_text}
+use Rattle.aoe_script.specs.Print.{bytes_text, event_words, line_text, lists_words, which_text}
 use Rattle.aoe_script.specs.Rules.{is_event}
 use Rattle.aoe_script.specs.Words.{Text}
 use Rattle.aoe_script.specs.declared.event.Event.{Event}
@@ -52,13 +50,6 @@ repeated_text run = pair_text run.byte ++ 42 ∷ decimal run.count
 
 abbrev pub runs_text : List ℕ → Text
 runs_text bytes = join_with_byte 44 (map repeated_text (longest_runs bytes))
-
--- addresses of twelve digits, joined by commas; a hyphen for none
-abbrev pub digits_text : Mac → Text
-digits_text mac = bytes_text mac.0
-
-abbrev pub addresses_text : List Mac → Text
-addresses_text macs = if length macs == 0 then codes "-" else join_with_byte 44 (map digits_text macs)
 
 -- host and ticket, the first word of the event line, and its words behind the host
 abbrev pub submit_words : ℕ → List Text → List Text
@@ -102,11 +93,6 @@ outcome_words (GaveUp first latest) = codes "gave-up" ∷ []
 abbrev pub armed_text : Bool → Text
 armed_text stops = if stops then codes "stop" else codes "fail"
 
--- the lists of a device, each behind its name
-abbrev pub list_words : Settings → List Text
-list_words lists =
-    codes "config" ∷ bytes_text lists.config ∷ codes "masks" ∷ addresses_text lists.masks ∷ codes "reserves" ∷ addresses_text lists.reserves ∷ []
-
 -- ---- lines
 
 abbrev pub entry_words : Entry → List Text
@@ -120,7 +106,7 @@ entry_words (Done host ticket outcome) = codes "done" ∷ host.items ∷ decimal
 entry_words (Ticked ms) = codes "tick" ∷ decimal ms ∷ []
 entry_words (Lost frame) = codes "lost" ∷ decimal frame ∷ []
 entry_words (Armed dev which k mode) = codes "armed" ∷ device_text dev ∷ which_text which ∷ armed_text (is_some mode) ∷ decimal k ∷ []
-entry_words (Crashed dev lists mode) = codes "crashed" ∷ device_text dev ∷ list_words lists
+entry_words (Crashed dev lists mode) = codes "crashed" ∷ device_text dev ∷ lists_words lists
 
 abbrev pub entry_text : Entry → Text
 entry_text entry = line_text (entry_words entry)

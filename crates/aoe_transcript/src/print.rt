@@ -1,16 +1,16 @@
 //! The text of what happened.
 ghost use Rattle.std.specs.Prelude.{◌≡◌, ◌++◌, ◌∷◌, [], codes, decimal, if◌then◌else◌, IfOk, OnOk};
 ghost use Rattle.aoe_base.specs.Names.{device_text};
-ghost use Rattle.aoe_script.specs.Print.{spaced, spelled, which_text};
-ghost use Rattle.aoe_transcript.specs.Print.{addresses_text, armed_text, entry_text, entry_words, fate_words, list_words, outcome_words, refusal_words, CanPrint, HasCause};
+ghost use Rattle.aoe_script.specs.Print.{lists_words, spelled, which_text};
+ghost use Rattle.aoe_transcript.specs.Print.{armed_text, entry_text, entry_words, fate_words, outcome_words, refusal_words, CanPrint, HasCause};
 
 use crate::outcome::{put_fate, put_outcome};
 use crate::submission::{put_refusal, put_submitted};
-use aoe_base::{Blob, Mac, NoMemory, TargetId, put, put_between};
+use aoe_base::{Blob, NoMemory, TargetId, put};
 use aoe_history::{Entry, Fate};
 use aoe_initiator::{Outcome, SubmitRefusal};
 use aoe_lists::Lists;
-use aoe_script::spelling::{put_bytes, put_count, put_device, put_named, put_which};
+use aoe_script::spelling::{put_count, put_device, put_lists, put_named, put_which};
 use aoe_script::{Name, Which};
 use std::alloc::Global;
 
@@ -51,35 +51,9 @@ fn put_armed(
     }
 }
 
-/// Adds addresses without colons, joined by commas, or a hyphen for none.
-fn put_addresses(out: &mut Vec<u8>, macs: &[Mac]) -> Result<(), NoMemory>
-    ensures { OnOk result (out.new.items ≡ out.old.items ++ addresses_text macs.now) }
-{
-    if macs.is_empty() {
-        return put(out, b"-");
-    }
-    'macs: for (i, mac) in macs.iter().enumerate() {
-        put_between(out, i, b',')?;
-        put_bytes(out, &mac.0)?;
-    }
-    Ok(())
-}
-
-/// Adds the lists of a device, each behind its name.
-fn put_lists(out: &mut Vec<u8>, lists: &Lists) -> Result<(), NoMemory>
-    ensures { OnOk result (out.new.items ≡ out.old.items ++ spaced (list_words lists.now)) }
-{
-    put(out, b" config ")?;
-    put_bytes(out, lists.config.as_slice())?;
-    put(out, b" masks ")?;
-    put_addresses(out, lists.masks.as_slice())?;
-    put(out, b" reserves ")?;
-    put_addresses(out, lists.reserves.as_slice())
-}
-
 /// Adds the line of a slot that lost its power, without its end.
 fn put_crashed(out: &mut Vec<u8>, dev: &TargetId, lists: &Lists) -> Result<(), NoMemory>
-    ensures { OnOk result (out.new.items ≡ out.old.items ++ spelled (codes "crashed" ∷ device_text dev.now ∷ list_words lists.now)) }
+    ensures { OnOk result (out.new.items ≡ out.old.items ++ spelled (codes "crashed" ∷ device_text dev.now ∷ lists_words lists.now)) }
 {
     put_of_device(out, b"crashed", dev)?;
     put_lists(out, lists)

@@ -1,6 +1,6 @@
 use Rattle.aoe_base.proofs.JoinLemmas.{joined}
-use Rattle.aoe_transcript.specs.Print.{digits_text}
-use Rattle.aoe_transcript.proofs.print.put_addresses.Goals as goal
+use Rattle.aoe_script.specs.Print.{digits_text}
+use Rattle.aoe_script.proofs.spelling.put_addresses.Goals as goal
 
 pub macs-preserved : goal.macs-preserved
 macs-preserved c =
