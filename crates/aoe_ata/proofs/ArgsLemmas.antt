@@ -71,8 +71,10 @@ one-spelling a b small ten eleven is =
     let long : 12 ≤ length b = r.long in
     let P : AtaArgs → Type 0 = λ x. take 12 b ≡ args_bytes x in
     let six-long : length (take 6 (drop 4 b)) ≡ 6 = length-take-le 6 (drop 4 b) (simp length-drop (omega arith)) in
-    let split : take 12 b ≡ take 4 b ++ take 6 (drop 4 b) ++ take 2 (drop 10 b) = take-add 10 2 b ∙ ap (λ (m : List ℕ). m ++ take 2 (drop 10 b)) (take-add 4 6 b) in
+    let split : take 12 b ≡ take 4 b ++ take 6 (drop 4 b) ++ take 2 (drop 10 b) =
+    take-add 10 2 b ∙ ap (λ (m : List ℕ). m ++ take 2 (drop 10 b)) (take-add 4 6 b) in
     let front : take 4 b ≡ get_or b 0 0 ∷ get_or b 1 0 ∷ get_or b 2 0 ∷ get_or b 3 0 ∷ [] = four-first b (omega arith) in
     let reserved : take 2 (drop 10 b) ≡ 0 ∷ 0 ∷ [] = two-at b 10 (omega arith) ∙ (rw (ten, eleven) refl) in
-    let address : take 6 (to_le_bytes w64 (address_of (take 6 (drop 4 b)))) ≡ take 6 (drop 4 b) = six-back (take 6 (drop 4 b)) six-long (part-small b 6 4 small) in
+    let address : take 6 (to_le_bytes w64 (address_of (take 6 (drop 4 b)))) ≡ take 6 (drop 4 b) =
+    six-back (take 6 (drop 4 b)) six-long (part-small b 6 4 small) in
     subst P r.same (joined (take 12 b) (take 4 b) _ (take 6 (drop 4 b)) _ (take 2 (drop 10 b)) _ split front (sym address) reserved)

@@ -41,7 +41,8 @@ record HasWords (bytes ws : List ℕ) : Type 0 where
   are : bytes ≡ word_bytes ws
 
 -- one more piece on a page
-laid-step : (before after piece ws vs : List ℕ) (n : ℕ) → HasWords before ws → piece ≡ word_bytes vs → after ≡ laid before (2 * n) piece → HasWords after (laid ws n vs)
+laid-step : (before after piece ws vs : List ℕ) (n : ℕ) → HasWords before ws → piece ≡ word_bytes vs → after ≡ laid before (2 * n) piece
+    → HasWords after (laid ws n vs)
 laid-step before after piece ws vs n words piece-is after-is = record {
   are = after-is
       ∙ ap (λ (l : List ℕ). laid l (2 * n) piece) words.are
@@ -166,7 +167,8 @@ last-declare first total first-long =
     let one : List ℕ = laid first 83 (0x7400 ∷ []) in
     let two : List ℕ = laid (laid first 83 (0x7400 ∷ [])) 86 (0x3400 ∷ []) in
     let one-long : length (laid first 83 (0x7400 ∷ [])) ≡ 256 = length-laid first (0x7400 ∷ []) 83 (omega arith) ∙ long in
-    let two-long : length (laid (laid first 83 (0x7400 ∷ [])) 86 (0x3400 ∷ [])) ≡ 256 = length-laid (laid first 83 (0x7400 ∷ [])) (0x3400 ∷ []) 86 (omega arith) ∙ one-long in
+    let two-long : length (laid (laid first 83 (0x7400 ∷ [])) 86 (0x3400 ∷ [])) ≡ 256 =
+    length-laid (laid first 83 (0x7400 ∷ [])) (0x3400 ∷ []) 86 (omega arith) ∙ one-long in
     record {
       supported =
           get-laid_before two (number_words 4 total) 100 83 (omega arith) (omega arith)

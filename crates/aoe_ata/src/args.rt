@@ -109,7 +109,8 @@ pub fn aflags_law()
 
 /// A law: what is written as registers is read as them, whatever follows.
 pub fn args_read_back()
-    ensures { (args : AtaArgs) (rest : List ℕ) → args.lba < 2 ^ 48 → args_of (args_bytes args ++ rest) ≡ Some args }
+    ensures { (args : AtaArgs) (rest : List ℕ) → args.lba < 2 ^ 48
+        → args_of (args_bytes args ++ rest) ≡ Some args }
 {}
 
 /// A law: bytes that are read as registers begin with their one spelling, reserved bytes aside.

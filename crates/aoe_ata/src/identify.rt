@@ -129,5 +129,6 @@ pub fn read_identify(page: &[u8; 512]) -> Option<u64>
 
 /// A law: the page of a number of sectors declares it.
 pub fn page_reads_back()
-    ensures { (total : ℕ) (serial : List ℕ) → total ≤ 2 ^ 40 → length serial ≡ 20 → declared (page total serial) ≡ Some total }
+    ensures { (total : ℕ) (serial : List ℕ) → total ≤ 2 ^ 40 → length serial ≡ 20
+        → declared (page total serial) ≡ Some total }
 {}

@@ -44,7 +44,8 @@ pub place-of : (list : List Mac) (a : Mac) → holds list a ≡ true → (i : �
 place-of [] a is = absurd cc
 place-of (b ∷ list) a is = at (same_address b a) refl is (place-of list a)
   where
-    at : (t : Bool) → same_address b a ≡ t → (t || holds list a) ≡ true → (holds list a ≡ true → (i : ℕ) × (slice_get list i ≡ Some a)) → (i : ℕ) × (slice_get (b ∷ list) i ≡ Some a)
+    at : (t : Bool) → same_address b a ≡ t → (t || holds list a) ≡ true → (holds list a ≡ true → (i : ℕ) × (slice_get list i ≡ Some a))
+        → (i : ℕ) × (slice_get (b ∷ list) i ≡ Some a)
     at true same is_true rest = (0, ap (λ (m : Mac). Some m) (same-address b a same))
     at false other is_true rest = let behind = rest is_true in (suc behind.0, behind.1)
 

@@ -18,7 +18,8 @@ pub count-filter : {X : Type 0} (test p : X → Bool) (xs : List X) → count_by
 count-filter test p [] = refl
 count-filter test p (x ∷ xs) = at (p x) refl (count-filter test p xs)
   where
-    at : (b : Bool) → p x ≡ b → count_by test (filter p xs) ≡ count_by (λ y. p y && test y) xs → count_by test (cond b (x ∷ filter p xs) (filter p xs)) ≡ count_by (λ y. p y && test y) (x ∷ xs)
+    at : (b : Bool) → p x ≡ b → count_by test (filter p xs) ≡ count_by (λ y. p y && test y) xs
+        → count_by test (cond b (x ∷ filter p xs) (filter p xs)) ≡ count_by (λ y. p y && test y) (x ∷ xs)
     at true is same = count-cons test x (filter p xs) ∙ rw same (sym (count-cons (λ y. p y && test y) x xs ∙ rw is refl))
     at false is same = same ∙ sym (count-no (λ y. p y && test y) x xs (rw is refl))
 
@@ -46,7 +47,8 @@ none-all test (x ∷ xs) none = at (test x) refl (none-all test xs)
     at false is rest = All-cons (λ c. test c ≡ false) x xs is (rest (sym (count-no test x xs is) ∙ none))
 
 -- a test that one of two others passes, and never both
-pub count-split : {X : Type 0} (p q r : X → Bool) → ((x : X) → cond (p x) 1 0 ≡ cond (q x) 1 0 + cond (r x) 1 0) → (xs : List X) → count_by p xs ≡ count_by q xs + count_by r xs
+pub count-split : {X : Type 0} (p q r : X → Bool) → ((x : X) → cond (p x) 1 0 ≡ cond (q x) 1 0 + cond (r x) 1 0) → (xs : List X)
+    → count_by p xs ≡ count_by q xs + count_by r xs
 count-split p q r same [] = refl
 count-split p q r same (x ∷ xs) = omega (arith, count-cons p x xs, count-cons q x xs, count-cons r x xs, same x, count-split p q r same xs)
 

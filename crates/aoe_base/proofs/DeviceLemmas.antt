@@ -39,7 +39,8 @@ digits-of : (text : List ℕ) (max value : ℕ) → number_of text max ≡ Some 
 digits-of text max value is = grind arith
 
 id-parts : (x y : Option ℕ) (id : TargetId)
-    → option_and_then {T = ℕ} {U = TargetId} (λ major. option_and_then {T = ℕ} {U = TargetId} (λ minor. Some record { major = major; minor = minor }) y) x ≡ Some id
+    → option_and_then {T = ℕ} {U = TargetId} (λ major. option_and_then {T = ℕ} {U = TargetId} (λ minor. Some record { major = major; minor = minor }) y) x
+    ≡ Some id
     → (x ≡ Some id.major) × (y ≡ Some id.minor)
 id-parts None y id e = absurd cc
 id-parts (Some a) None id e = absurd cc
@@ -75,9 +76,11 @@ pub named : (id : TargetId) (text : List ℕ) → device_of text ≡ Some id →
 unfolding device_of is_point
 named id [] is = absurd cc
 named id (c ∷ rest) is =
-    let tests = taken (parts_of (c ∷ rest)) (c == 101) (nat_lt (position_or_len is_point (c ∷ rest)) (length (c ∷ rest))) (position_or_len is_point (c ∷ rest)) id is in
+    let tests =
+    taken (parts_of (c ∷ rest)) (c == 101) (nat_lt (position_or_len is_point (c ∷ rest)) (length (c ∷ rest))) (position_or_len is_point (c ∷ rest)) id is in
     let letter : c ≡ 101 = eqb-true c 101 tests.0 in
-    let P : ℕ → Type 0 = λ c. (nat_lt (position_or_len is_point (c ∷ rest)) (length (c ∷ rest)) ≡ true) × (parts_of (c ∷ rest) (position_or_len is_point (c ∷ rest)) ≡ Some id) in
+    let P : ℕ → Type 0 =
+    λ c. (nat_lt (position_or_len is_point (c ∷ rest)) (length (c ∷ rest)) ≡ true) × (parts_of (c ∷ rest) (position_or_len is_point (c ∷ rest)) ≡ Some id) in
     let here : P 101 = subst P letter (tests.1, tests.2) in
     let Q : ℕ → Type 0 = λ c. IsNameOf id (c ∷ rest) in
     let inside : position_or_len is_point rest < length rest = grind (arith, here.0) in
@@ -91,7 +94,8 @@ unfolding device_of is_point
 named-back id shelf slot major minor =
     let at : position_or_len is_point (shelf ++ 46 ∷ slot) ≡ length shelf = past-digits shelf slot (digits-of shelf 65534 id.major major) in
     let long = length-append shelf (46 ∷ slot) in
-    let inside : nat_lt (1 + length shelf) (suc (length (shelf ++ 46 ∷ slot))) ≡ true = lt-ltb (1 + length shelf) (suc (length (shelf ++ 46 ∷ slot))) (omega (arith, long)) in
+    let inside : nat_lt (1 + length shelf) (suc (length (shelf ++ 46 ∷ slot))) ≡ true =
+    lt-ltb (1 + length shelf) (suc (length (shelf ++ 46 ∷ slot))) (omega (arith, long)) in
     let front : take (length shelf) (shelf ++ 46 ∷ slot) ≡ shelf = take-append_seam shelf (46 ∷ slot) in
     let one : suc (length shelf) ≡ length shelf + 1 = omega arith in
     let back : drop (suc (length shelf)) (shelf ++ 46 ∷ slot) ≡ slot = rw one (drop-append-add shelf (46 ∷ slot) 1) in

@@ -45,6 +45,7 @@ module _ {T : Type 0} (read : List ℕ → Option T) (texts : List (List ℕ)) (
       go (Some rest) = ap Some (sym (append_assoc xs (x ∷ []) rest))
 
 -- all texts
-pub each_read : {T : Type 0} (read : List ℕ → Option T) (texts : List (List ℕ)) (n : ℕ) (xs : List T) → AreRead read texts n xs → n ≡ length texts → each read texts ≡ Some xs
+pub each_read : {T : Type 0} (read : List ℕ → Option T) (texts : List (List ℕ)) (n : ℕ) (xs : List T) → AreRead read texts n xs → n ≡ length texts
+    → each read texts ≡ Some xs
 each_read read texts n xs h end =
     h.same ∙ ap (λ t. option_map (λ rest. xs ++ rest) (each read t)) (drop_all n texts (omega (arith, end))) ∙ ap Some (append-nil xs)

@@ -30,7 +30,8 @@ joined c f xs i d start out mid new lt is between_is new_is =
     ∙ append_assoc start so_far (between c i ++ f (get_or xs i d))
     ∙ ap (λ t. start ++ t) (sym (join_more c f xs i d lt) ∙ ap (λ k. join_with_byte c (map f (take k xs))) one)
 
-pub flat_more : {X : Type 0} (f : X → List ℕ) (xs : List X) (i : ℕ) (x : X) → slice_get xs i ≡ Some x → flat_map f (take (suc i) xs) ≡ flat_map f (take i xs) ++ f x
+pub flat_more : {X : Type 0} (f : X → List ℕ) (xs : List X) (i : ℕ) (x : X) → slice_get xs i ≡ Some x
+    → flat_map f (take (suc i) xs) ≡ flat_map f (take i xs) ++ f x
 flat_more f [] i x e = absurd cc
 flat_more f (y ∷ ys) zero x e = let same : y ≡ x = cc in append-nil (f y) ∙ ap f same
 flat_more f (y ∷ ys) (suc i) x e = ap (λ t. f y ++ t) (flat_more f ys i x e) ∙ sym (append_assoc (f y) (flat_map f (take i ys)) (f x))

@@ -54,7 +54,8 @@ impl Blob {
     /// Writes other bytes over those from `start` on.
     pub fn overwrite(&mut self, start: usize, bytes: &[u8])
         requires { start + length bytes.now ≤ length self.old }
-        ensures { self.new ≡ take start self.old ++ bytes.now ++ drop (start + length bytes.now) self.old }
+        ensures { self.new ≡ take start self.old ++ bytes.now
+            ++ drop (start + length bytes.now) self.old }
     {
         self.held[start..start + bytes.len()].copy_from_slice(bytes);
     }

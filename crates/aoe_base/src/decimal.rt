@@ -10,7 +10,8 @@ const MOST_DIGITS: usize = 20;
 /// The value of the digits, where all of the bytes are digits.
 fn value_of(text: &[u8]) -> Option<u128>
     requires { length text.now ≤ 20 }
-    ensures { result ≡ (if list_all is_ascii_digit text.now then Some (decimal_value text.now) else None) }
+    ensures { result ≡ (if list_all is_ascii_digit text.now then Some
+        (decimal_value text.now) else None) }
 {
     let mut value = 0u128;
     for digit in text {

@@ -8,7 +8,8 @@ ghost use Rattle.aoe_base.specs.Names.{device_of, mac_of, mac_text, IsNameOf};
 
 /// A law: an address is read from its text.
 pub fn mac_reads_back()
-    ensures { (mac : Mac) → length mac.0 ≡ 6 → All (λ b. b < 2 ^ 8) mac.0 → mac_of (mac_text mac) ≡ Some mac }
+    ensures { (mac : Mac) → length mac.0 ≡ 6 → All (λ b. b < 2 ^ 8) mac.0
+        → mac_of (mac_text mac) ≡ Some mac }
 {}
 
 /// A law: no other text is read as the address.

@@ -50,7 +50,8 @@ pub fn put_between(out: &mut Vec<u8>, i: usize, byte: u8) -> Result<(), NoMemory
 
 /// Adds bytes as pairs of hexadecimal digits, joined by colons.
 pub fn put_pairs(out: &mut Vec<u8>, bytes: &[u8]) -> Result<(), NoMemory>
-    ensures { OnOk result (out.new.items ≡ out.old.items ++ join_with_byte 58 (map pair_text bytes.now)) }
+    ensures { OnOk result (out.new.items ≡ out.old.items
+        ++ join_with_byte 58 (map pair_text bytes.now)) }
 {
     'pairs: for (i, byte) in bytes.iter().enumerate() {
         put_between(out, i, b':')?;

@@ -23,7 +23,8 @@ take_cap n m l e = elim (cases_lt (length l) n) [
   | inr long ↦ let same : m ≡ n = omega arith in ap (λ (i : ℕ). take i l) same
 ]
 
-module _ {total max at count : ℕ} {bytes : List ℕ} {stages : List Stage} {first next left : ℕ} (s : AreParts total max at count bytes stages first next left) (write : Bool) where
+module _ {total max at count : ℕ} {bytes : List ℕ} {stages : List Stage} {first next left : ℕ} (s : AreParts total max at count bytes stages first next left)
+    (write : Bool) where
   module _ (lt : next < length stages) {span : Span} (span_is : span ≡ record { at = at + next * max; count = min max (count - next * max) }) where
     next_is : next_part (parts_of max at count stages bytes)
         ≡ Some (record { at = at + next * max; count = min max (count - next * max); bytes = take (512 * max) (drop (512 * max * next) bytes); stage = Pending })
@@ -62,7 +63,8 @@ module _ {total max at count : ℕ} {bytes : List ℕ} {stages : List Stage} {fi
   pub read_admitted : (about : Attached) → about.total ≡ total → max ≤ about.max → op_refusal about (ReadOp span) ≡ None
   read_admitted about same short = let w = span_within in admits about span.at span.count w.0 (omega arith) (omega arith)
 
-  pub piece_length : {piece seen : List ℕ} (len : ℕ) → seen ≡ bytes → len ≡ 512 * span.count → piece ≡ take len (drop (512 * max * next) seen) → length piece ≡ 512 * span.count
+  pub piece_length : {piece seen : List ℕ} (len : ℕ) → seen ≡ bytes → len ≡ 512 * span.count → piece ≡ take len (drop (512 * max * next) seen)
+      → length piece ≡ 512 * span.count
   piece_length {seen = seen} len same size is =
       let below = place s next lt in
       let e : 512 * max * next ≡ 512 * (next * max) = grind arith in
@@ -71,7 +73,8 @@ module _ {total max at count : ℕ} {bytes : List ℕ} {stages : List Stage} {fi
       let all : length seen ≡ length bytes = ap length same in
       ap length is ∙ length-take len (drop (512 * max * next) seen) ∙ omega (arith, length-drop (512 * max * next) seen)
 
-  pub write_admitted : (piece : List ℕ) → length piece ≡ 512 * span.count → (about : Attached) → about.total ≡ total → max ≤ about.max → op_refusal about (WriteOp span.at piece) ≡ None
+  pub write_admitted : (piece : List ℕ) → length piece ≡ 512 * span.count → (about : Attached) → about.total ≡ total → max ≤ about.max
+      → op_refusal about (WriteOp span.at piece) ≡ None
   write_admitted piece len about same short =
       let w = span_within in
       let n : length piece / 512 ≡ span.count = omega arith in
@@ -83,7 +86,8 @@ pub record TakesPart (total max at count : ℕ) (bytes : List ℕ) (stages : Lis
   pub handed : is_handed done.ticket.0 (stage_at stages k) ≡ true
   pub answer : is_success write (min max (count - k * max)) done.outcome ≡ answered
 
-module _ {total max at count : ℕ} {bytes : List ℕ} {stages : List Stage} {first next left : ℕ} {write : Bool} {done : Done} {k : ℕ} {answered : Bool} (t : TakesPart total max at count bytes stages first next left write done k answered) where
+module _ {total max at count : ℕ} {bytes : List ℕ} {stages : List Stage} {first next left : ℕ} {write : Bool} {done : Done} {k : ℕ} {answered : Bool}
+    (t : TakesPart total max at count bytes stages first next left write done k answered) where
   abbrev block : Transfer
   block = record { write = write; total = total; max = max; parts = parts_of max at count stages bytes }
 

@@ -69,7 +69,8 @@ not_all : (parts : List Part) → has_failed parts ≡ true → list_all (λ p. 
 not_all [] some = absurd (cc)
 not_all (p ∷ parts) some = at p.stage refl (not_all parts)
   where
-    at : (stage : Stage) → p.stage ≡ stage → (has_failed parts ≡ true → list_all (λ p. is_ended p.stage) parts ≡ false) → list_all (λ p. is_ended p.stage) (p ∷ parts) ≡ false
+    at : (stage : Stage) → p.stage ≡ stage → (has_failed parts ≡ true → list_all (λ p. is_ended p.stage) parts ≡ false)
+        → list_all (λ p. is_ended p.stage) (p ∷ parts) ≡ false
     at Ended is rest = rw is (rest (rw is at some))
     at _ is rest = rw is refl
 
@@ -85,7 +86,8 @@ never_whole write done found parts some whole = at found (rw (not_all (map (afte
     ]
 
 -- the part that is told has failed
-failed_found : (write : Bool) (done : Done) (parts : List Part) (p : Part) → part_of done.ticket.0 parts ≡ Some p → is_success write p.count done.outcome ≡ false
+failed_found : (write : Bool) (done : Done) (parts : List Part) (p : Part) → part_of done.ticket.0 parts ≡ Some p
+    → is_success write p.count done.outcome ≡ false
     → has_failed (map (after_done write done) parts) ≡ true
 failed_found write done [] p found out = absurd (cc)
 failed_found write done (q ∷ parts) p found out = elim (cases_Bool (is_handed done.ticket.0 q.stage)) [
@@ -96,7 +98,8 @@ failed_found write done (q ∷ parts) p found out = elim (cases_Bool (is_handed 
   | inr other ↦ or_right (is_failed (after_done write done q).stage) _ (failed_found write done parts p (rw other at found) out)
 ]
 
-pub part_breaks : (write : Bool) (done : Done) (outcome : Outcome) (ended : Bool) (parts : List Part) → took_as write done (part_of done.ticket.0 parts) ended ≡ PartTook outcome
+pub part_breaks : (write : Bool) (done : Done) (outcome : Outcome) (ended : Bool) (parts : List Part)
+    → took_as write done (part_of done.ticket.0 parts) ended ≡ PartTook outcome
     → has_failed (map (after_done write done) parts) ≡ true
 part_breaks write done outcome ended parts told = at (part_of done.ticket.0 parts) refl
   where

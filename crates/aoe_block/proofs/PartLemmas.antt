@@ -128,7 +128,8 @@ pending-parts_of : (max at count n : ℕ) (bytes : List ℕ) → All (λ p. p.st
 pending-parts_of max at count zero bytes = All-nil (λ p. p.stage ≡ Pending)
 pending-parts_of max at count (suc n) bytes = All-cons (λ p. p.stage ≡ Pending) _ _ refl (pending-parts_of max (at + max) (count - max) n (drop (512 * max) bytes))
 
-pub cut-parts_of : (max at count n : ℕ) (bytes : List ℕ) → 0 < max → length bytes ≡ 512 * count → count ≤ n * max → n * max < count + max → IsCut at max bytes (parts_of max at count (replicate n Pending) bytes)
+pub cut-parts_of : (max at count n : ℕ) (bytes : List ℕ) → 0 < max → length bytes ≡ 512 * count → count ≤ n * max → n * max < count + max
+    → IsCut at max bytes (parts_of max at count (replicate n Pending) bytes)
 cut-parts_of max at count n bytes some size enough needed =
     let len : length (replicate n Pending) ≡ n = length-replicate n Pending in
     let upper : count ≤ length (replicate n Pending) * max = rw len enough in
@@ -139,7 +140,8 @@ cut-parts_of max at count n bytes some size enough needed =
 
 -- the k-th part from its number
 pub nth_is : (max at count : ℕ) (bytes : List ℕ) (k : ℕ) (stage : Stage) → k * max < count
-    → nth max at count bytes k stage ≡ record { at = at + k * max; count = min max (count - k * max); bytes = take (512 * max) (drop (512 * max * k) bytes); stage = stage }
+    → nth max at count bytes k stage
+    ≡ record { at = at + k * max; count = min max (count - k * max); bytes = take (512 * max) (drop (512 * max * k) bytes); stage = stage }
 nth_is max at count bytes zero stage lt =
     let a : at ≡ at + 0 * max = omega arith in
     let n : count ≡ count - 0 * max = omega arith in
@@ -150,6 +152,7 @@ nth_is max at count bytes (suc k) stage lt =
     let a : at + max + k * max ≡ at + suc k * max = omega arith in
     let n : count - max - k * max ≡ count - suc k * max = omega arith in
     let s : 512 * max + 512 * max * k ≡ 512 * max * suc k = omega arith in
-    let rest : drop (512 * max * k) (drop (512 * max) bytes) ≡ drop (512 * max * suc k) bytes = drop-drop (512 * max * k) (512 * max) bytes ∙ ap (λ (i : ℕ). drop i bytes) s in
+    let rest : drop (512 * max * k) (drop (512 * max) bytes) ≡ drop (512 * max * suc k) bytes =
+    drop-drop (512 * max * k) (512 * max) bytes ∙ ap (λ (i : ℕ). drop i bytes) s in
     let behind = nth_is max (at + max) (count - max) (drop (512 * max) bytes) k stage (omega arith) in
     rw (behind, a, n, rest) refl

@@ -17,7 +17,8 @@ use Rattle.aoe_block.proofs.PartLemmas.{are_ended-parts_of, find_none, find_nth,
 use Rattle.aoe_block.proofs.PlaceLemmas.{length-put}
 use Rattle.aoe_block.proofs.StageLemmas.{all_pending, count_left-end, count_left-pending, count_left-set, none_left, set_keeps, stage_at-set, under_way, within-pending}
 
-pub sound_new : (total max at count : ℕ) (bytes : List ℕ) (n : ℕ) → 0 < max → max ≤ 17 → at + count ≤ total → total < 2 ^ 64 → count ≤ 32768 → length bytes ≡ 512 * count → count ≤ n * max → n * max < count + max
+pub sound_new : (total max at count : ℕ) (bytes : List ℕ) (n : ℕ) → 0 < max → max ≤ 17 → at + count ≤ total → total < 2 ^ 64 → count ≤ 32768
+    → length bytes ≡ 512 * count → count ≤ n * max → n * max < count + max
     → AreParts total max at count bytes (replicate n Pending) 0 0 n
 sound_new total max at count bytes n some few range device short size enough needed =
     let len : length (replicate n Pending) ≡ n = length-replicate n Pending in
@@ -42,27 +43,32 @@ sound_new total max at count bytes n some few range device short size enough nee
     }
 
 -- no part is under way with the ticket
-pub stranger : (ticket max at count : ℕ) (stages : List Stage) (bytes : List ℕ) → ((k : ℕ) → is_handed ticket (stage_at stages k) ≡ false) → part_of ticket (parts_of max at count stages bytes) ≡ None
+pub stranger : (ticket max at count : ℕ) (stages : List Stage) (bytes : List ℕ) → ((k : ℕ) → is_handed ticket (stage_at stages k) ≡ false)
+    → part_of ticket (parts_of max at count stages bytes) ≡ None
 stranger ticket max at count stages bytes out = find_none (is_handed ticket) max at count stages bytes (λ j lt. out j)
 
-pub stranger_same : (write : Bool) (done : Done) (max at count : ℕ) (stages : List Stage) (bytes : List ℕ) → ((k : ℕ) → is_handed done.ticket.0 (stage_at stages k) ≡ false)
+pub stranger_same : (write : Bool) (done : Done) (max at count : ℕ) (stages : List Stage) (bytes : List ℕ)
+    → ((k : ℕ) → is_handed done.ticket.0 (stage_at stages k) ≡ false)
     → map (after_done write done) (parts_of max at count stages bytes) ≡ parts_of max at count stages bytes
 stranger_same write done max at count stages bytes out =
     map_none (after_done write done) (is_handed done.ticket.0) (λ p out. rw out refl) max at count stages bytes (λ j lt. out j)
 
 -- where no part is found, none is under way with the ticket
-pub none_handed : (ticket max at count : ℕ) (stages : List Stage) (bytes : List ℕ) → part_of ticket (parts_of max at count stages bytes) ≡ None → (k : ℕ) → is_handed ticket (stage_at stages k) ≡ false
+pub none_handed : (ticket max at count : ℕ) (stages : List Stage) (bytes : List ℕ) → part_of ticket (parts_of max at count stages bytes) ≡ None → (k : ℕ)
+    → is_handed ticket (stage_at stages k) ≡ false
 none_handed ticket max at count [] bytes none k = refl
 none_handed ticket max at count (stage ∷ stages) bytes none k = elim (cases_Bool (is_handed ticket stage)) [
   | inl own ↦ absurd (let some = rw own at none in cc)
   | inr other ↦ at_place k other (none_handed ticket max (at + max) (count - max) stages (drop (512 * max) bytes) (rw other at none))
 ]
   where
-    at_place : (k : ℕ) → is_handed ticket stage ≡ false → ((j : ℕ) → is_handed ticket (stage_at stages j) ≡ false) → is_handed ticket (stage_at (stage ∷ stages) k) ≡ false
+    at_place : (k : ℕ) → is_handed ticket stage ≡ false → ((j : ℕ) → is_handed ticket (stage_at stages j) ≡ false)
+        → is_handed ticket (stage_at (stage ∷ stages) k) ≡ false
     at_place zero is rest = is
     at_place (suc j) is rest = rest j
 
-module _ {total max at count : ℕ} {bytes : List ℕ} {stages : List Stage} {first next left : ℕ} (s : AreParts total max at count bytes stages first next left) where
+module _ {total max at count : ℕ} {bytes : List ℕ} {stages : List Stage} {first next left : ℕ}
+    (s : AreParts total max at count bytes stages first next left) where
   pub sound_first : (f : ℕ) → NoneBefore stages f → f ≤ next → AreParts total max at count bytes stages f next left
   sound_first f past ordered = record {
     parted = s.parted;
@@ -111,10 +117,12 @@ module _ {total max at count : ℕ} {bytes : List ℕ} {stages : List Stage} {fi
   ]
 
   -- the next part is handed with a new ticket
-  pub handed_parts : (ticket : Ticket) → next < length stages → hand ticket (parts_of max at count stages bytes) ≡ parts_of max at count (set stages next (Handed ticket)) bytes
+  pub handed_parts : (ticket : Ticket) → next < length stages → hand ticket (parts_of max at count stages bytes)
+      ≡ parts_of max at count (set stages next (Handed ticket)) bytes
   handed_parts ticket lt = hand-parts_of ticket max at count stages bytes next lt s.given (ap is_pending (s.waiting next (omega arith)))
 
-  pub handed_sound : (ticket : Ticket) → next < length stages → ((k : ℕ) → is_handed ticket.0 (stage_at stages k) ≡ false) → AreParts total max at count bytes (set stages next (Handed ticket)) first (next + 1) left
+  pub handed_sound : (ticket : Ticket) → next < length stages → ((k : ℕ) → is_handed ticket.0 (stage_at stages k) ≡ false)
+      → AreParts total max at count bytes (set stages next (Handed ticket)) first (next + 1) left
   handed_sound ticket lt fresh =
       let is : stage_at stages next ≡ Pending = s.waiting next (omega arith) in
       let len : length (set stages next (Handed ticket)) ≡ length stages = length-set stages next (Handed ticket) in
@@ -152,7 +160,8 @@ module _ {total max at count : ℕ} {bytes : List ℕ} {stages : List Stage} {fi
     here_count stage = ap (λ (p : Part). p.count) (nth_is max at count bytes k stage (place k here_within))
 
     -- the k-th part is not under way any more
-    settled : (stage : Stage) (new : List ℕ) (less : ℕ) → length new ≡ length bytes → is_pending stage ≡ false → is_under_way stage ≡ false → ((t : ℕ) → is_handed t stage ≡ false)
+    settled : (stage : Stage) (new : List ℕ) (less : ℕ) → length new ≡ length bytes → is_pending stage ≡ false → is_under_way stage ≡ false
+        → ((t : ℕ) → is_handed t stage ≡ false)
         → less ≡ count_left (set stages k stage) → AreParts total max at count new (set stages k stage) first next less
     settled stage new less size given past none counted =
         let len : length (set stages k stage) ≡ length stages = length-set stages k stage in
@@ -181,7 +190,8 @@ module _ {total max at count : ℕ} {bytes : List ℕ} {stages : List Stage} {fi
     some_left = s.counted ∙ count_left-end stages k here_within was_open
 
     -- the part had another outcome
-    pub failed_parts : is_success write (min max (count - k * max)) done.outcome ≡ false → map (after_done write done) (parts_of max at count stages bytes) ≡ parts_of max at count (set stages k Failed) bytes
+    pub failed_parts : is_success write (min max (count - k * max)) done.outcome ≡ false
+        → map (after_done write done) (parts_of max at count stages bytes) ≡ parts_of max at count (set stages k Failed) bytes
     failed_parts badly =
         let below = place k here_within in
         map_stage (after_done write done) (is_handed done.ticket.0) (λ p out. rw out refl) Failed max at count stages bytes k here_within others
@@ -202,11 +212,13 @@ module _ {total max at count : ℕ} {bytes : List ℕ} {stages : List Stage} {fi
       pub length-laid : length (laid bytes (512 * max * k) done.outcome) ≡ length bytes
       length-laid = at_outcome done.outcome well
         where
-          at_outcome : (outcome : Outcome) → is_success write (min max (count - k * max)) outcome ≡ true → length (laid bytes (512 * max * k) outcome) ≡ length bytes
+          at_outcome : (outcome : Outcome) → is_success write (min max (count - k * max)) outcome ≡ true
+              → length (laid bytes (512 * max * k) outcome) ≡ length bytes
           at_outcome (Read read) ok = length-put bytes read (512 * max * k) (fits read (read_length read ok))
           at_outcome _ ok = refl
 
-      pub ended_sound : (less : ℕ) → less + 1 ≡ left → AreParts total max at count (laid bytes (512 * max * k) done.outcome) (set stages k Ended) first next less
+      pub ended_sound : (less : ℕ) → less + 1 ≡ left → AreParts total max at count (laid bytes (512 * max * k) done.outcome)
+          (set stages k Ended) first next less
       ended_sound less e = settled Ended (laid bytes (512 * max * k) done.outcome) less length-laid refl refl (λ t. refl) (let h = some_left in omega arith)
 
       pub ended_all : (less : ℕ) (new : List ℕ) → less + 1 ≡ left → are_ended (parts_of max at count (set stages k Ended) new) ≡ (less == 0)
@@ -214,11 +226,13 @@ module _ {total max at count : ℕ} {bytes : List ℕ} {stages : List Stage} {fi
           let same : count_left (set stages k Ended) ≡ less = let h = some_left in omega arith in
           are_ended-parts_of max at count (set stages k Ended) new ∙ none_left (set stages k Ended) ∙ ap (λ (n : ℕ). n == 0) same
 
-      pub ended_parts : map (after_done write done) (parts_of max at count stages bytes) ≡ parts_of max at count (set stages k Ended) (laid bytes (512 * max * k) done.outcome)
+      pub ended_parts : map (after_done write done) (parts_of max at count stages bytes)
+          ≡ parts_of max at count (set stages k Ended) (laid bytes (512 * max * k) done.outcome)
       ended_parts = at_outcome done.outcome refl well
         where
           at_outcome : (outcome : Outcome) → done.outcome ≡ outcome → is_success write (min max (count - k * max)) outcome ≡ true
-              → map (after_done write done) (parts_of max at count stages bytes) ≡ parts_of max at count (set stages k Ended) (laid bytes (512 * max * k) outcome)
+              → map (after_done write done) (parts_of max at count stages bytes)
+              ≡ parts_of max at count (set stages k Ended) (laid bytes (512 * max * k) outcome)
           at_outcome (Read read) e ok =
               let below = place k here_within in
               map_piece (after_done write done) (is_handed done.ticket.0) (λ p out. rw out refl) Ended read max at count stages bytes k here_within below s.parted.size others

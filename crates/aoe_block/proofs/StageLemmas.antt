@@ -17,7 +17,8 @@ stage_at-set stages k j stage lt = elim (cases_eq j k) [
 ]
 
 -- what the new stage and the others have in common
-pub set_keeps : (P : Stage → Type 0) (stages : List Stage) (k j : ℕ) (stage : Stage) → k < length stages → P stage → (j ≢ k → P (stage_at stages j)) → P (stage_at (set stages k stage) j)
+pub set_keeps : (P : Stage → Type 0) (stages : List Stage) (k j : ℕ) (stage : Stage) → k < length stages → P stage → (j ≢ k → P (stage_at stages j))
+    → P (stage_at (set stages k stage) j)
 set_keeps P stages k j stage lt here there = elim (stage_at-set stages k j stage lt) [ inl (e, new) ↦ rw new here | inr (differ, old) ↦ rw old (there differ) ]
 
 pub within-pending : (stages : List Stage) (k : ℕ) → is_pending (stage_at stages k) ≡ false → k < length stages
@@ -25,16 +26,19 @@ within-pending [] k other = cc
 within-pending (stage ∷ stages) zero other = omega arith
 within-pending (stage ∷ stages) (suc k) other = let lt = within-pending stages k other in omega arith
 
-pub under_way : (ticket : ℕ) (stage : Stage) → is_handed ticket stage ≡ true → (is_under_way stage ≡ true) × (is_pending stage ≡ false) × (is_ended stage ≡ false)
+pub under_way : (ticket : ℕ) (stage : Stage) → is_handed ticket stage ≡ true
+    → (is_under_way stage ≡ true) × (is_pending stage ≡ false) × (is_ended stage ≡ false)
 under_way ticket (Handed own) is = (refl, refl, refl)
 under_way ticket _ is = absurd (cc)
 
-pub count_left-set : (stages : List Stage) (k : ℕ) (stage : Stage) → k < length stages → is_ended (stage_at stages k) ≡ false → is_ended stage ≡ false → count_left (set stages k stage) ≡ count_left stages
+pub count_left-set : (stages : List Stage) (k : ℕ) (stage : Stage) → k < length stages → is_ended (stage_at stages k) ≡ false → is_ended stage ≡ false
+    → count_left (set stages k stage) ≡ count_left stages
 count_left-set [] k stage lt was is = absurd (omega arith)
 count_left-set (old ∷ stages) zero stage lt was is = rw (was, is) refl
 count_left-set (old ∷ stages) (suc k) stage lt was is = ap (λ (n : ℕ). cond (is_ended old) 0 1 + n) (count_left-set stages k stage (omega arith) was is)
 
-pub count_left-end : (stages : List Stage) (k : ℕ) → k < length stages → is_ended (stage_at stages k) ≡ false → count_left stages ≡ count_left (set stages k Ended) + 1
+pub count_left-end : (stages : List Stage) (k : ℕ) → k < length stages → is_ended (stage_at stages k) ≡ false
+    → count_left stages ≡ count_left (set stages k Ended) + 1
 count_left-end [] k lt was = absurd (omega arith)
 count_left-end (old ∷ stages) zero lt was = rw was (omega arith)
 count_left-end (old ∷ stages) (suc k) lt was = let h = count_left-end stages k (omega arith) was in omega arith

@@ -113,7 +113,8 @@ impl Block {
         ensures device { IfOk result (λ block. (block.total ≡ total) × (block.max ≡ max)) }
         ensures cut { IfOk result (λ block. IsCut at max bytes block.parts) }
         ensures fresh { IfOk result (λ block. (ticket : ℕ) → part_of ticket block.parts ≡ None) }
-        ensures range { (result ≡ Err BlockRefusal.OutOfRange) ↔ ¬ (at + length bytes / 512 ≤ total) }
+        ensures range { (result ≡ Err BlockRefusal.OutOfRange)
+            ↔ ¬ (at + length bytes / 512 ≤ total) }
     {
         let count = (bytes.bytes().len() / SECTOR_LEN) as u32;
         if !is_within(total, at, count) {
@@ -165,7 +166,8 @@ impl Block {
     /// The operation of the next part that wasn't handed; `None` where all were. It stays the next
     /// one until it is `handed`.
     pub fn pending(&self) -> Result<Option<Op>, NoMemory>
-        ensures value { IfOk result (λ op. op ≡ option_map (op_of self.now.write) (next_part self.now.parts)) }
+        ensures value { IfOk result (λ op. op ≡ option_map (op_of self.now.write)
+            (next_part self.now.parts)) }
 
         ensures some { IfOk result (λ op. IsSome op → IsSome (next_part self.now.parts)) }
 
@@ -197,7 +199,8 @@ impl Block {
         requires pending { IsSome (next_part self.old.parts) }
         requires fresh { part_of ticket.0 self.old.parts ≡ None }
         ensures handed { self.new ≡ record self.old { parts = hand ticket self.old.parts } }
-        ensures fresh { (later : ℕ) → ticket.0 < later → part_of later self.old.parts ≡ None → part_of later self.new.parts ≡ None }
+        ensures fresh { (later : ℕ) → ticket.0 < later → part_of later self.old.parts ≡ None
+            → part_of later self.new.parts ≡ None }
     {
         mark(&mut self.stages, self.next, Stage::Handed(ticket));
         self.next += 1;

@@ -9,27 +9,38 @@ ghost use Rattle.aoe_block.specs.declared.took.Took.TheVariants.{Part as PartToo
 
 /// A law: the operations of a block's parts stay what they were when it was made.
 pub fn operations_law()
-    ensures handed { (block : Transfer) (ticket : Ticket) → operations (record block { parts = hand ticket block.parts }) ≡ operations block }
-    ensures taken { (block : Transfer) (done : Done) → operations (settle block done) ≡ operations block }
+    ensures handed { (block : Transfer) (ticket : Ticket)
+        → operations (record block { parts = hand ticket block.parts }) ≡ operations block }
+    ensures taken { (block : Transfer) (done : Done)
+        → operations (settle block done) ≡ operations block }
 {}
 
 /// A law: a block of which a part failed never becomes whole.
 pub fn broken_law()
-    ensures part { (block : Transfer) (done : Done) (outcome : Outcome) → took block done ≡ PartTook outcome → is_broken (settle block done) ≡ true }
-    ensures handed { (block : Transfer) (ticket : Ticket) → is_broken block ≡ true → is_broken (record block { parts = hand ticket block.parts }) ≡ true }
-    ensures taken { (block : Transfer) (done : Done) → is_broken block ≡ true → is_broken (settle block done) ≡ true }
-    ensures never { (block : Transfer) (done : Done) → is_broken block ≡ true → took block done ≡ Whole → ⊥ }
+    ensures part { (block : Transfer) (done : Done) (outcome : Outcome)
+        → took block done ≡ PartTook outcome → is_broken (settle block done) ≡ true }
+    ensures handed { (block : Transfer) (ticket : Ticket) → is_broken block ≡ true
+        → is_broken (record block { parts = hand ticket block.parts }) ≡ true }
+    ensures taken { (block : Transfer) (done : Done) → is_broken block ≡ true
+        → is_broken (settle block done) ≡ true }
+    ensures never { (block : Transfer) (done : Done) → is_broken block ≡ true
+        → took block done ≡ Whole → ⊥ }
 {}
 
 /// A law: of the outcomes that a part's command can have, a part ends well by `Read` and `Written`.
 pub fn outcome_law()
-    ensures { (write : Bool) (count : ℕ) (outcome : Outcome) → CanEnd write count outcome → is_success write count outcome ≡ is_read_or_written outcome }
+    ensures { (write : Bool) (count : ℕ) (outcome : Outcome) → CanEnd write count outcome
+        → is_success write count outcome ≡ is_read_or_written outcome }
 {}
 
 /// A law: a ticket past all that were handed is that of no part.
 pub fn ticket_law()
-    ensures made { (at max : ℕ) (bytes : List ℕ) (parts : List Part) → IsCut at max bytes parts → AreUpTo 0 parts }
-    ensures fresh { (last : ℕ) (ticket : Ticket) (parts : List Part) → AreUpTo last parts → last < ticket.0 → part_of ticket.0 parts ≡ None }
-    ensures handed { (last : ℕ) (ticket : Ticket) (parts : List Part) → AreUpTo last parts → last < ticket.0 → AreUpTo ticket.0 (hand ticket parts) }
-    ensures taken { (last : ℕ) (block : Transfer) (done : Done) → AreUpTo last block.parts → AreUpTo last (settle block done).parts }
+    ensures made { (at max : ℕ) (bytes : List ℕ) (parts : List Part) → IsCut at max bytes parts
+        → AreUpTo 0 parts }
+    ensures fresh { (last : ℕ) (ticket : Ticket) (parts : List Part) → AreUpTo last parts
+        → last < ticket.0 → part_of ticket.0 parts ≡ None }
+    ensures handed { (last : ℕ) (ticket : Ticket) (parts : List Part) → AreUpTo last parts
+        → last < ticket.0 → AreUpTo ticket.0 (hand ticket parts) }
+    ensures taken { (last : ℕ) (block : Transfer) (done : Done) → AreUpTo last block.parts
+        → AreUpTo last (settle block done).parts }
 {}

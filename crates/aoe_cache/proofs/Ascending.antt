@@ -65,12 +65,14 @@ ascending_take low zero hs order = tt
 ascending_take low (suc k) [] order = tt
 ascending_take low (suc k) (h ∷ hs) order = (order.0, order.1, ascending_take (h.at + 1) k hs order.2)
 
-pub ascending_append : (low mid : ℕ) (xs ys : List HeldSector) → low ≤ mid → IsAscending low xs → AreBelow mid xs → IsAscending mid ys → IsAscending low (xs ++ ys)
+pub ascending_append : (low mid : ℕ) (xs ys : List HeldSector) → low ≤ mid → IsAscending low xs → AreBelow mid xs → IsAscending mid ys
+    → IsAscending low (xs ++ ys)
 ascending_append low mid [] ys le a b c = ascending_from _ mid _ le c
 ascending_append low mid (x ∷ xs) ys le a b c = (a.0, a.1, ascending_append (x.at + 1) mid xs ys (omega (arith, b.0)) a.2 b.1 c)
 
 -- the first k, and behind them some that come after what follows the first k
-pub ascending_parts : (low k : ℕ) (hs ys : List HeldSector) → IsAscending low hs → ((from : ℕ) → IsAscending from (drop k hs) → IsAscending from ys) → IsAscending low (take k hs ++ ys)
+pub ascending_parts : (low k : ℕ) (hs ys : List HeldSector) → IsAscending low hs → ((from : ℕ) → IsAscending from (drop k hs) → IsAscending from ys)
+    → IsAscending low (take k hs ++ ys)
 ascending_parts low zero hs ys order more = more low order
 ascending_parts low (suc k) [] ys order more = more low order
 ascending_parts low (suc k) (h ∷ hs) ys order more = (order.0, order.1, ascending_parts (h.at + 1) k hs ys order.2 more)
@@ -223,7 +225,8 @@ module _ (s : ℕ) (b : List ℕ) where
   stands_at low [] order some = absurd (cc)
   stands_at low (h ∷ hs) order some = grind (arith, nat_tests, stands_at (h.at + 1) hs order.2, held_low (h.at + 1) s hs order.2)
 
-pub stands_there : (s low : ℕ) (x : HeldSector) (hs : List HeldSector) → x.at ≡ s → IsAscending low hs → held_for hs s ≡ Some x.bytes → x ≡ get_or hs (count_below s hs) x
+pub stands_there : (s low : ℕ) (x : HeldSector) (hs : List HeldSector) → x.at ≡ s → IsAscending low hs → held_for hs s ≡ Some x.bytes
+    → x ≡ get_or hs (count_below s hs) x
 stands_there s low x [] is order some = absurd (cc)
 stands_there s low x (h ∷ hs) is order some = grind (arith, nat_tests, sector_is x h, stands_there s (h.at + 1) x hs is order.2, held_low (h.at + 1) s hs order.2)
 

@@ -16,7 +16,8 @@ use Rattle.aoe_cache.proofs.Freeing.{frees_all, spends_free}
 
 -- THE DEVICE CALLS
 
-module _ {D T E : Type 0} (state : D → DiskState) (result : Result T E) (old new : Cache D) (disk : IsDisk (state old.disk)) (held : AreHeld (state old.disk).sectors old.held) where
+module _ {D T E : Type 0} (state : D → DiskState) (result : Result T E) (old new : Cache D) (disk : IsDisk (state old.disk))
+    (held : AreHeld (state old.disk).sectors old.held) where
   abbrev Made : Type 0
   Made = (m : ℕ) × IsRun m (is_err result) (state old.disk) (state new.disk)
 
@@ -50,7 +51,8 @@ module _ {D T E : Type 0} (state : D → DiskState) (result : Result T E) (old n
 
   -- WHAT IS TOLD OF IT
 
-  pub spends_under : (at : ℕ) (piece : List ℕ) → IsRange at (length piece) (state old.disk).sectors → CacheWrites state at piece result old new → SpendsUnder (length piece / 512) (is_err result) (under_of state old) (under_of state new)
+  pub spends_under : (at : ℕ) (piece : List ℕ) → IsRange at (length piece) (state old.disk).sectors → CacheWrites state at piece result old new
+      → SpendsUnder (length piece / 512) (is_err result) (under_of state old) (under_of state new)
   spends_under at piece range writes =
       let m = writes_made at piece writes in
       record {
@@ -68,7 +70,8 @@ module _ {D T E : Type 0} (state : D → DiskState) (result : Result T E) (old n
         done = frees_all state old new disk held result syncs;
       }
 
-pub reads_under : {D T E : Type 0} (state : D → DiskState) (at n : ℕ) (result : Result T E) (old new : Cache D) → CacheReads state at n result old new → ReadsUnder (is_err result) (under_of state old) (under_of state new)
+pub reads_under : {D T E : Type 0} (state : D → DiskState) (at n : ℕ) (result : Result T E) (old new : Cache D) → CacheReads state at n result old new
+    → ReadsUnder (is_err result) (under_of state old) (under_of state new)
 reads_under state at n result old new reads = record {
   calls = record { room = reads.room; made = 1; run = reads.device.call };
   same = reads.device.same;

@@ -174,11 +174,14 @@ module _ {n sectors : ℕ} {hs : List HeldSector} {c : Contents} (shape : HasSha
   run_written : {c' : Contents} → Puts (first_of hs) (bytes_of (take n hs)) c c' → seen_contents (drop n hs) c' ≡ seen_contents hs c
   run_written {c'} puts =
       let room : 512 * first_of hs + 512 * length (take n hs) ≤ length c.bytes = omega (arith, run_length, run_fits, shape.bytes) in
-      let bytes : c'.bytes ≡ laid_over c.bytes (take n hs) = puts.bytes ∙ sym (laid_run 0 _ c.bytes _ (ascending_take 0 n hs held.order) joined.adjacent room) in
+      let bytes : c'.bytes ≡ laid_over c.bytes (take n hs) =
+      puts.bytes ∙ sym (laid_run 0 _ c.bytes _ (ascending_take 0 n hs held.order) joined.adjacent room) in
       let count : length (bytes_of (take n hs)) / 512 ≡ length (take n hs) = run_count ∙ sym run_length in
-      let loose : c'.loose ≡ marked c.loose (take n hs) = puts.loose ∙ rw count (sym (marked_run _ c.loose _ joined.adjacent (omega (arith, run_length, run_fits, shape.marks)))) in
+      let loose : c'.loose ≡ marked c.loose (take n hs) =
+      puts.loose ∙ rw count (sym (marked_run _ c.loose _ joined.adjacent (omega (arith, run_length, run_fits, shape.marks)))) in
       let all : take n hs ++ drop n hs ≡ hs = take-append-drop n hs in
-      let laid : laid_over c'.bytes (drop n hs) ≡ laid_over c.bytes hs = rw bytes (sym (laid_append c.bytes (take n hs) (drop n hs)) ∙ ap (laid_over c.bytes) all) in
+      let laid : laid_over c'.bytes (drop n hs) ≡ laid_over c.bytes hs =
+      rw bytes (sym (laid_append c.bytes (take n hs) (drop n hs)) ∙ ap (laid_over c.bytes) all) in
       let marks : marked c'.loose (drop n hs) ≡ marked c.loose hs = rw loose (sym (marked_append c.loose (take n hs) (drop n hs)) ∙ ap (marked c.loose) all) in
       λ i. record { bytes = laid i; loose = marks i; settled = None }
 
@@ -200,11 +203,13 @@ module _ {n sectors : ℕ} {hs : List HeldSector} {c : Contents} (shape : HasSha
       let fits : first_of hs + n ≤ length c.loose = omega (arith, run_fits, shape.marks) in
       let marks : length c'.loose ≡ sectors = rw loose (length-with_marks c.loose (first_of hs) n fits ∙ shape.marks) in
       let bytes_same = laid_over_same held c'.bytes c.bytes (same.size ∙ shape.bytes) shape.bytes (λ s lt none. sector_outside c.bytes c'.bytes _ n s same (outside_run s none)) in
-      let loose_same = marked_over_same held c'.loose c.loose marks shape.marks (λ s lt none. rw loose (is_loose-with_marks_outside c.loose _ n fits s (outside_run s none))) in
+      let loose_same =
+      marked_over_same held c'.loose c.loose marks shape.marks (λ s lt none. rw loose (is_loose-with_marks_outside c.loose _ n fits s (outside_run s none))) in
       λ i. record { bytes = bytes_same i; loose = loose_same i; settled = None }
 
 -- the same of a disk that may tell nothing
-told_same : {A B : Type 0} (P : A → Type 0) (R : A → A → Type 0) (f g : A → B) (old new : Option A) → ((x y : A) → P x → R x y → g y ≡ f x) → IfSome old P → BothTell R old new → option_map g new ≡ option_map f old
+told_same : {A B : Type 0} (P : A → Type 0) (R : A → A → Type 0) (f g : A → B) (old new : Option A) → ((x y : A) → P x → R x y → g y ≡ f x) → IfSome old P
+    → BothTell R old new → option_map g new ≡ option_map f old
 told_same P R f g None None same p told = refl
 told_same P R f g None (Some y) same p told = absurd told
 told_same P R f g (Some x) None same p told = absurd told
@@ -236,7 +241,8 @@ front_seen xs {ys} {zs} one other first second (Some x) (Some y) sx sy same =
 -- a run and then others, where those leave what the store shows as it was
 run_then_seen : (r : Run) (runs : List Run) (held : List HeldSector) (old next new : DiskState) → IsDisk old → AreHeld old.sectors held
     → WritesRun r.count (ended r.failed) held old next → IfSome next.contents (HasShape old.sectors) → IfSome new.contents (HasShape old.sectors)
-    → option_map (seen_contents (unwritten runs (drop r.count held) ++ after runs (drop r.count held))) new.contents ≡ option_map (seen_contents (drop r.count held)) next.contents
+    → option_map (seen_contents (unwritten runs (drop r.count held) ++ after runs (drop r.count held))) new.contents
+    ≡ option_map (seen_contents (drop r.count held)) next.contents
     → option_map (seen_contents (unwritten (r ∷ runs) held ++ after (r ∷ runs) held)) new.contents ≡ option_map (seen_contents held) old.contents
 run_then_seen r runs held old next new disk h run shape last same =
     let n : ℕ = r.count in
@@ -246,7 +252,8 @@ run_then_seen r runs held old next new disk h run shape last same =
     elim (cases_Bool r.failed) [
       | inl failed ↦
           let spoiled : WritesRun n (ended true) held old next = rw failed at run in
-          let kept : option_map (seen_contents held) next.contents ≡ option_map (seen_contents held) old.contents = told_same _ _ _ _ old.contents next.contents (λ x y s t. run_spoiled s h run.joined t) disk.shape spoiled.write.contents in
+          let kept : option_map (seen_contents held) next.contents ≡ option_map (seen_contents held) old.contents =
+          told_same _ _ _ _ old.contents next.contents (λ x y s t. run_spoiled s h run.joined t) disk.shape spoiled.write.contents in
           let whole : first ++ rest ≡ held = take-append-drop n held in
           let joined : (first ++ unwritten runs rest) ++ after runs rest ≡ first ++ later = append_assoc first (unwritten runs rest) (after runs rest) in
           let all : AreHeld old.sectors (first ++ later) = rw (failed, joined) at (unwritten_held (r ∷ runs) h) in
@@ -310,7 +317,8 @@ empties {held} {left} {old} {new} down = record { empty = none_left held left ol
 
 -- what the buffer keeps, and that there is a place for each sector
 
-pub buffer_after : {f : Bool} {held : List HeldSector} {old new : DiskState} (b : Buffer) → IsIndexed b → AsSeen f held (held_of b) old new → IsBuffer new.sectors b
+pub buffer_after : {f : Bool} {held : List HeldSector} {old new : DiskState} (b : Buffer) → IsIndexed b → AsSeen f held (held_of b) old new
+    → IsBuffer new.sectors b
 buffer_after b indexed stays = record { indexed = indexed; order = stays.left.order; below = rw stays.run.sectors stays.left.below }
 
 pub held_in : {sectors : ℕ} {b : Buffer} → IsBuffer sectors b → AreHeld sectors (held_of b)
@@ -323,7 +331,8 @@ module _ {at sectors : ℕ} (piece : List ℕ) {b : Buffer} (range : IsRange at 
   pub put_buffer : (new : Buffer) → IsIndexed new → held_of new ≡ with_written at (length piece / 512) piece (held_of b) → IsBuffer sectors new
   put_buffer new indexed held = record { indexed = indexed; order = rw held put_held.order; below = rw held put_held.below }
 
-  pub put_room : (room : ℕ) → length b.places.items ≡ min room sectors → length (with_written at (length piece / 512) piece (held_of b)) ≤ room → length (with_written at (length piece / 512) piece (held_of b)) ≤ length b.places.items
+  pub put_room : (room : ℕ) → length b.places.items ≡ min room sectors → length (with_written at (length piece / 512) piece (held_of b)) ≤ room
+      → length (with_written at (length piece / 512) piece (held_of b)) ≤ length b.places.items
   put_room room places fits = omega (arith, places, fits, ascending_short 0 sectors _ put_held.order put_held.below)
 
 pub scratch_kept : (v : Vec ℕ Global) (ws : List ℕ) → length v.items ≡ 32768 → length ws ≡ v.len → length (with_items v ws).items ≡ 32768

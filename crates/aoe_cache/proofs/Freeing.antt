@@ -15,7 +15,8 @@ use Rattle.aoe_cache.proofs.Seen.{syncs_seen}
 
 -- a sector that isn't loose in the store isn't held
 
-pub keeps_settled : {sectors : ℕ} {hs : List HeldSector} (held : AreHeld sectors hs) (c : Option Contents) → IfSome c (HasShape sectors) → BothTell KeepsSettled (option_map (seen_contents hs) c) c
+pub keeps_settled : {sectors : ℕ} {hs : List HeldSector} (held : AreHeld sectors hs) (c : Option Contents) → IfSome c (HasShape sectors)
+    → BothTell KeepsSettled (option_map (seen_contents hs) c) c
 keeps_settled held None shape = tt
 keeps_settled {sectors} {hs} held (Some c) shape = record {
   kept = λ s settled.
@@ -37,7 +38,8 @@ free_as x y k (Some c) e = elim (cases_Bool (is_settled c)) [
 ]
 
 -- a write of fewer sectors than are free
-pub spends_free : {D T E : Type 0} (state : D → DiskState) (at : ℕ) (piece : List ℕ) (result : Result T E) (old new : Cache D) → IsRange at (length piece) (state old.disk).sectors → CacheWrites state at piece result old new
+pub spends_free : {D T E : Type 0} (state : D → DiskState) (at : ℕ) (piece : List ℕ) (result : Result T E) (old new : Cache D)
+    → IsRange at (length piece) (state old.disk).sectors → CacheWrites state at piece result old new
     → (k : ℕ) → free state old ≡ Some k → length piece / 512 ≤ k → Spends state (length piece / 512) k old new
 spends_free state at piece result old new range writes k is le =
     let n : ℕ = length piece / 512 in
@@ -70,7 +72,8 @@ frees_from room (Some x) (Some y) told =
     (ap Some told.bytes, rw settled refl)
 
 module _ {D T E : Type 0} (state : D → DiskState) (old new : Cache D) (disk : IsDisk (state old.disk)) (held : AreHeld (state old.disk).sectors old.held) where
-  pub frees_all : (result : Result T E) → CacheSyncs state result old new → is_err result ≡ false → IfSome (state_of state old).contents (λ c. (base state new ≡ Some c.bytes) × (free state new ≡ Some new.room))
+  pub frees_all : (result : Result T E) → CacheSyncs state result old new → is_err result ≡ false
+      → IfSome (state_of state old).contents (λ c. (base state new ≡ Some c.bytes) × (free state new ≡ Some new.room))
   frees_all (Err e) syncs ok = cc
   frees_all (Ok v) syncs ok = elim syncs.down [
     | inl part ↦ let wrong : false ≡ true = part.failed in cc

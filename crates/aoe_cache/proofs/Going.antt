@@ -20,7 +20,8 @@ due_on m n true true (Some k) b c t u =
     let v : MovesDueCall n true true 1 c = subst (λ w. MovesDue n true true w c) t.1 u in
     (omega (arith, t.0), v.1)
 
-dues_on : (m n : ℕ) (failed i j : Bool) (a b c : Option (Option ℕ)) → j ≡ i → BothTell (MovesDue m true i) a b → BothTell (MovesDue n failed j) b c → BothTell (MovesDue (m + n) true i) a c
+dues_on : (m n : ℕ) (failed i j : Bool) (a b c : Option (Option ℕ)) → j ≡ i → BothTell (MovesDue m true i) a b → BothTell (MovesDue n failed j) b c
+    → BothTell (MovesDue (m + n) true i) a c
 dues_on m n f i j None None None e t u = tt
 dues_on m n f i j None None (Some z) e t u = u
 dues_on m n f i j None (Some y) c e t u = absurd t
@@ -45,7 +46,8 @@ stop_still x None k e = refl
 stop_still None (Some y) k e = cc
 stop_still (Some x) (Some y) k e = cc
 
-move_on : (m n : ℕ) (failed : Bool) (p q r : ℕ) (a b c : Schedule) → p ≤ q → q ≤ r → MovesOn m true p q a b → MovesOn n failed q r b c → MovesOn (m + n) true p r a c
+move_on : (m n : ℕ) (failed : Bool) (p q r : ℕ) (a b c : Schedule) → p ≤ q → q ≤ r → MovesOn m true p q a b → MovesOn n failed q r b c
+    → MovesOn (m + n) true p r a c
 move_on m n f p q r a b c l h t u = record {
   kind = u.kind ∙ t.kind;
   fewer = λ e. omega (arith, t.fewer e, u.fewer (number_still a.armed b.armed t.kind e));
@@ -62,7 +64,8 @@ move_on m n f p q r a b c l h t u = record {
   due = dues_on m n f (is_none a.armed) (is_none b.armed) a.due b.due c.due (is_none_same a.armed b.armed t.kind) t.due u.due;
 }
 
-moves_on : (m n : ℕ) (failed : Bool) (p q r : ℕ) (a b c : Option Schedule) → p ≤ q → q ≤ r → BothTell (MovesOn m true p q) a b → BothTell (MovesOn n failed q r) b c → BothTell (MovesOn (m + n) true p r) a c
+moves_on : (m n : ℕ) (failed : Bool) (p q r : ℕ) (a b c : Option Schedule) → p ≤ q → q ≤ r → BothTell (MovesOn m true p q) a b
+    → BothTell (MovesOn n failed q r) b c → BothTell (MovesOn (m + n) true p r) a c
 moves_on m n f p q r None None None l h t u = tt
 moves_on m n f p q r None None (Some z) l h t u = u
 moves_on m n f p q r None (Some y) c l h t u = absurd t

@@ -26,14 +26,16 @@ laid_longer bytes (h ∷ hs) = omega (arith, piece_longer bytes h.bytes (512 * h
 
 -- sectors below a range, and sectors above it
 
-laid_below : (low at : ℕ) (bytes : List ℕ) (hs : List HeldSector) → IsAscending low hs → AreBelow at hs → 512 * at ≤ length bytes → drop (512 * at) (laid_over bytes hs) ≡ drop (512 * at) bytes
+laid_below : (low at : ℕ) (bytes : List ℕ) (hs : List HeldSector) → IsAscending low hs → AreBelow at hs → 512 * at ≤ length bytes
+    → drop (512 * at) (laid_over bytes hs) ≡ drop (512 * at) bytes
 laid_below low at bytes [] order b fits = refl
 laid_below low at bytes (h ∷ hs) order b fits =
     let rest : 512 * h.at + (512 * at - 512 * h.at) ≡ 512 * at = omega (arith, b.0) in
     let past = drop_past-with_piece bytes (512 * h.at) h.bytes (omega (arith, b.0, order.1)) (512 * at - 512 * h.at) (omega (arith, b.0, order.1)) in
     laid_below (h.at + 1) at (with_piece bytes (512 * h.at) h.bytes) hs order.2 b.1 (omega (arith, piece_longer bytes h.bytes (512 * h.at))) ∙ (rw rest at past)
 
-laid_above : (low m : ℕ) (bytes : List ℕ) (hs : List HeldSector) → IsAscending low hs → m ≤ 512 * low → m ≤ length bytes → take m (laid_over bytes hs) ≡ take m bytes
+laid_above : (low m : ℕ) (bytes : List ℕ) (hs : List HeldSector) → IsAscending low hs → m ≤ 512 * low → m ≤ length bytes
+    → take m (laid_over bytes hs) ≡ take m bytes
 laid_above low m bytes [] order le fits = refl
 laid_above low m bytes (h ∷ hs) order le fits =
     laid_above (h.at + 1) m (with_piece bytes (512 * h.at) h.bytes) hs order.2 (omega (arith, order.0)) (omega (arith, piece_longer bytes h.bytes (512 * h.at)))
@@ -46,7 +48,8 @@ take_past n [] ys le = let e : n - 0 ≡ n = omega arith in rw e refl
 take_past zero (x ∷ xs) ys le = absurd (omega arith)
 take_past (suc n) (x ∷ xs) ys le = let e : suc n - suc (length xs) ≡ n - length xs = omega arith in rw e (λ i. x ∷ take_past n xs ys (omega arith) i)
 
-piece_within : (b p : List ℕ) (a n i : ℕ) → a ≤ i → i + length p ≤ a + n → a + n ≤ length b → take n (drop a (with_piece b i p)) ≡ with_piece (take n (drop a b)) (i - a) p
+piece_within : (b p : List ℕ) (a n i : ℕ) → a ≤ i → i + length p ≤ a + n → a + n ≤ length b
+    → take n (drop a (with_piece b i p)) ≡ with_piece (take n (drop a b)) (i - a) p
 piece_within b p a n i from to fits =
     let k : ℕ = i - a + length p in
     let F : List ℕ = take (i - a) (drop a b) in
@@ -88,7 +91,8 @@ module _ (at n : ℕ) (bytes : List ℕ) (hs : List HeldSector) (fits : 512 * at
       let there : k < length hs = stands_at (at + i) h.bytes 0 hs order some in
       let is : h ≡ get_or hs k h = stands_there (at + i) 0 h hs number order some in
       let whole : length h.bytes ≡ 512 = rw (← is) at (whole_at 0 hs k h order there) in
-      let next : count_below (at + (i + 1)) hs ≡ k + 1 = let far : at + (i + 1) ≡ at + i + 1 = omega arith in rw far (count_held (at + i) h.bytes 0 hs order some) in
+      let next : count_below (at + (i + 1)) hs ≡ k + 1 =
+      let far : at + (i + 1) ≡ at + i + 1 = omega arith in rw far (count_held (at + i) h.bytes 0 hs order some) in
       rw next (lay_more k h out there is (omega (arith, number)) (omega (arith, number, lt)) whole so)
 
   pub lay_none : (i : ℕ) → held_for hs (at + i) ≡ None → count_below (at + i) hs ≡ count_below (at + (i + 1)) hs
@@ -98,7 +102,8 @@ module _ (at n : ℕ) (bytes : List ℕ) (hs : List HeldSector) (fits : 512 * at
   lay_last =
       let k : ℕ = count_below (at + n) hs in
       let some : List ℕ = laid_over bytes (take k hs) in
-      let split : laid_over bytes hs ≡ laid_over some (drop k hs) = (λ j. laid_over bytes (sym (take-append-drop k hs) j)) ∙ laid_append bytes (take k hs) (drop k hs) in
+      let split : laid_over bytes hs ≡ laid_over some (drop k hs) =
+      (λ j. laid_over bytes (sym (take-append-drop k hs) j)) ∙ laid_append bytes (take k hs) (drop k hs) in
       let same : take (512 * at + 512 * n) (laid_over some (drop k hs)) ≡ take (512 * at + 512 * n) some =
       laid_above (at + n) _ some _ (ascending_count 0 (at + n) hs order) (omega arith) (omega (arith, laid_longer bytes (take k hs))) in
       sym (drop-take (512 * at) (512 * n) some) ∙ ap (drop (512 * at)) (sym same) ∙ drop-take (512 * at) (512 * n) _ ∙ (λ j. take (512 * n) (drop (512 * at) (sym split j)))

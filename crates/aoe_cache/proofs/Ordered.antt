@@ -15,7 +15,8 @@ use Rattle.aoe_cache.proofs.Sectors.{cases_held}
 
 -- ascending sectors are what stands for each number
 
-heads_at : (low : ℕ) (x y : HeldSector) (xs ys : List HeldSector) → IsAscending low (y ∷ ys) → ((s : ℕ) → held_for (x ∷ xs) s ≡ held_for (y ∷ ys) s) → y.at ≤ x.at
+heads_at : (low : ℕ) (x y : HeldSector) (xs ys : List HeldSector) → IsAscending low (y ∷ ys) → ((s : ℕ) → held_for (x ∷ xs) s ≡ held_for (y ∷ ys) s)
+    → y.at ≤ x.at
 heads_at low x y xs ys b same = grind (arith, nat_tests, same x.at, held_low (y.at + 1) x.at ys b.2)
 
 pub ascending_same : (low : ℕ) (xs ys : List HeldSector) → IsAscending low xs → IsAscending low ys → ((s : ℕ) → held_for xs s ≡ held_for ys s) → xs ≡ ys
@@ -25,7 +26,8 @@ ascending_same low (x ∷ xs) [] a b same = grind (arith, nat_tests, same x.at)
 ascending_same low (x ∷ xs) (y ∷ ys) a b same =
     let at : x.at ≡ y.at = omega (arith, heads_at low x y xs ys b same, heads_at low y x ys xs a (λ s. sym (same s))) in
     let bytes : x.bytes ≡ y.bytes = grind (arith, nat_tests, same x.at) in
-    let rest = ascending_same (x.at + 1) xs ys a.2 (rw at b.2) (λ s. grind (arith, nat_tests, same s, held_low (x.at + 1) s xs a.2, held_low (y.at + 1) s ys b.2)) in
+    let rest =
+    ascending_same (x.at + 1) xs ys a.2 (rw at b.2) (λ s. grind (arith, nat_tests, same s, held_low (x.at + 1) s xs a.2, held_low (y.at + 1) s ys b.2)) in
     λ i. sector_is x y at bytes i ∷ rest i
 
 -- one sector is written
@@ -73,7 +75,8 @@ ordered_same hs order =
 
 -- numbers that differ
 
-other_number : (s : ℕ) (hs : List HeldSector) (k : ℕ) (d : HeldSector) → AllByRecursion (λ (n : ℕ). nat_eq s n ≡ false) (numbers_of hs) → k < length hs → s ≢ (get_or hs k d).at
+other_number : (s : ℕ) (hs : List HeldSector) (k : ℕ) (d : HeldSector) → AllByRecursion (λ (n : ℕ). nat_eq s n ≡ false) (numbers_of hs) → k < length hs
+    → s ≢ (get_or hs k d).at
 other_number s [] k d all lt = absurd (omega arith)
 other_number s (h ∷ hs) zero d all lt = eqb-false s h.at all.0
 other_number s (h ∷ hs) (suc k) d all lt = other_number s hs k d all.1 (omega (arith, lt))
@@ -82,7 +85,8 @@ other_none : (s : ℕ) (hs : List HeldSector) → AllByRecursion (λ (n : ℕ). 
 other_none s [] all = refl
 other_none s (h ∷ hs) all = grind (arith, nat_tests, eqb-false s h.at all.0, other_none s hs all.1)
 
-pub held_at : (hs : List HeldSector) (k : ℕ) (d : HeldSector) → IsDistinct nat_eq (numbers_of hs) → k < length hs → held_for hs (get_or hs k d).at ≡ Some (get_or hs k d).bytes
+pub held_at : (hs : List HeldSector) (k : ℕ) (d : HeldSector) → IsDistinct nat_eq (numbers_of hs) → k < length hs
+    → held_for hs (get_or hs k d).at ≡ Some (get_or hs k d).bytes
 held_at [] k d once lt = absurd (omega arith)
 held_at (h ∷ hs) zero d once lt = grind (arith, nat_tests)
 held_at (h ∷ hs) (suc k) d once lt = grind (arith, nat_tests, other_number h.at hs k d (IsDistinct-head _ _ _ once), held_at hs k d (IsDistinct-tail _ _ _ once))
@@ -125,7 +129,8 @@ module _ (xs ys : List HeldSector) (turned : IsPermutation xs ys) (once : IsDist
     | inr p ↦ contains_held xs _ once (Contains-permutation ys xs _ (IsPermutation-sym xs ys turned) (held_contains ys s p.0 p.1)) ∙ sym p.1
   ]
 
-ascending_sorted : (low : ℕ) (hs : List HeldSector) → IsNonDecreasingBy (λ (h : HeldSector). h.at) hs → IsDistinct nat_eq (numbers_of hs) → AreWhole hs → All (λ (h : HeldSector). low ≤ h.at) hs → IsAscending low hs
+ascending_sorted : (low : ℕ) (hs : List HeldSector) → IsNonDecreasingBy (λ (h : HeldSector). h.at) hs → IsDistinct nat_eq (numbers_of hs) → AreWhole hs
+    → All (λ (h : HeldSector). low ≤ h.at) hs → IsAscending low hs
 ascending_sorted low [] rises once whole from = tt
 ascending_sorted low (h ∷ hs) rises once whole from =
     let others = other_number h.at hs in
@@ -136,7 +141,8 @@ ascending_sorted low (h ∷ hs) rises once whole from =
           (λ k d lt. omega (arith, rises 0 (suc k) d (omega arith) (omega (arith, lt)), others k d first lt)),
     )
 
-pub sorted_ordered : (xs ys : List HeldSector) → IsPermutation xs ys → IsNonDecreasingBy (λ (h : HeldSector). h.at) ys → IsDistinct nat_eq (numbers_of xs) → AreWhole xs → ys ≡ ordered xs
+pub sorted_ordered : (xs ys : List HeldSector) → IsPermutation xs ys → IsNonDecreasingBy (λ (h : HeldSector). h.at) ys → IsDistinct nat_eq (numbers_of xs)
+    → AreWhole xs → ys ≡ ordered xs
 sorted_ordered xs ys turned rises once whole =
     let same : AreWhole ys = All-permutation (λ (h : HeldSector). length h.bytes ≡ 512) xs ys turned whole in
     let order : IsAscending 0 ys = ascending_sorted 0 ys rises (once_turned xs ys turned once) same (λ k d lt. omega arith) in

@@ -40,14 +40,16 @@ module _ {A : Type 0} (xs p : List A) (i : ℕ) (fits : i + length p ≤ length 
   length-put : length (take i xs ++ p ++ drop (i + length p) xs) ≡ length xs
   length-put = omega (arith, length-append (take i xs ++ p) (drop (i + length p) xs), length-append (take i xs) p, length-take-le i xs (omega arith), length-drop (i + length p) xs)
 
-  put_append : (q : List A) → take (i + length p) (take i xs ++ p ++ drop (i + length p) xs) ++ q ++ drop (i + length p + length q) (take i xs ++ p ++ drop (i + length p) xs) ≡ take i xs ++ (p ++ q) ++ drop (i + (length p + length q)) xs
+  put_append : (q : List A) → take (i + length p) (take i xs ++ p ++ drop (i + length p) xs) ++ q
+      ++ drop (i + length p + length q) (take i xs ++ p ++ drop (i + length p) xs) ≡ take i xs ++ (p ++ q) ++ drop (i + (length p + length q)) xs
   put_append q =
       let front : length (take i xs ++ p) ≡ i + length p = omega (arith, length-append (take i xs) p, length-take-le i xs (omega arith)) in
       let old : List A = take i xs ++ p ++ drop (i + length p) xs in
       let head : take (i + length p) old ≡ take i xs ++ p = take_at (take i xs ++ p) _ (i + length p) front in
       let sum : i + length p + length q ≡ i + (length p + length q) = omega arith in
       let behind : drop (i + length p) old ≡ drop (i + length p) xs = drop_at (take i xs ++ p) _ (i + length p) front in
-      let tail : drop (i + length p + length q) old ≡ drop (i + (length p + length q)) xs = sym (drop-drop (length q) (i + length p) old) ∙ rw (behind, drop-drop (length q) (i + length p) xs, sum) refl in
+      let tail : drop (i + length p + length q) old ≡ drop (i + (length p + length q)) xs =
+      sym (drop-drop (length q) (i + length p) old) ∙ rw (behind, drop-drop (length q) (i + length p) xs, sum) refl in
       rw (head, tail, append_assoc (take i xs) p q) refl
 
 put_nothing : {A : Type 0} (xs : List A) (i : ℕ) → take i xs ++ [] ++ drop (i + 0) xs ≡ xs
@@ -55,7 +57,8 @@ put_nothing {A} xs i = let e : i + 0 ≡ i = omega arith in rw (append-nil (take
 
 -- the sectors of a run, written at once
 
-pub laid_run : (low at : ℕ) (bytes : List ℕ) (hs : List HeldSector) → IsAscending low hs → AreAdjacent at hs → 512 * at + 512 * length hs ≤ length bytes → laid_over bytes hs ≡ with_piece bytes (512 * at) (bytes_of hs)
+pub laid_run : (low at : ℕ) (bytes : List ℕ) (hs : List HeldSector) → IsAscending low hs → AreAdjacent at hs → 512 * at + 512 * length hs ≤ length bytes
+    → laid_over bytes hs ≡ with_piece bytes (512 * at) (bytes_of hs)
 laid_run low at bytes [] order a fits = sym (put_nothing bytes (512 * at))
 laid_run low at bytes (h ∷ hs) order a fits =
     let here : 512 * h.at ≡ 512 * at = omega (arith, a.0) in
@@ -65,7 +68,8 @@ laid_run low at bytes (h ∷ hs) order a fits =
     let rest = laid_run (h.at + 1) (at + 1) (with_piece bytes (512 * at) h.bytes) hs order.2 a.1 (omega (arith, size)) in
     rw (here, rest, more, length-append h.bytes (bytes_of hs)) (put_append bytes h.bytes (512 * at) room (bytes_of hs))
 
-pub marked_run : (at : ℕ) (loose : List Bool) (hs : List HeldSector) → AreAdjacent at hs → at + length hs ≤ length loose → marked loose hs ≡ with_marks loose at (length hs)
+pub marked_run : (at : ℕ) (loose : List Bool) (hs : List HeldSector) → AreAdjacent at hs → at + length hs ≤ length loose
+    → marked loose hs ≡ with_marks loose at (length hs)
 marked_run at loose [] a fits = sym (put_nothing loose at)
 marked_run at loose (h ∷ hs) a fits =
     let one : List Bool = replicate 1 true in

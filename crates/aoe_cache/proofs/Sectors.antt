@@ -13,7 +13,8 @@ use Rattle.aoe_cache.proofs.Ascending.{AreHeld, ascending_written, below_written
 
 -- sizes
 
-pub length-laid : (low sectors : ℕ) (bytes : List ℕ) (hs : List HeldSector) → IsAscending low hs → AreBelow sectors hs → length bytes ≡ 512 * sectors → length (laid_over bytes hs) ≡ 512 * sectors
+pub length-laid : (low sectors : ℕ) (bytes : List ℕ) (hs : List HeldSector) → IsAscending low hs → AreBelow sectors hs → length bytes ≡ 512 * sectors
+    → length (laid_over bytes hs) ≡ 512 * sectors
 length-laid low sectors bytes [] order b size = size
 length-laid low sectors bytes (h ∷ hs) order b size =
     let new = length-with_piece bytes (512 * h.at) h.bytes (omega (arith, size, order.1, b.0)) in
@@ -31,7 +32,8 @@ cases_held None = inl refl
 cases_held (Some p) = inr (p, refl)
 
 module _ (s sectors : ℕ) where
-  pub laid_at : (low : ℕ) (bytes : List ℕ) (hs : List HeldSector) → IsAscending low hs → AreBelow sectors hs → length bytes ≡ 512 * sectors → sector (laid_over bytes hs) s ≡ unwrap_or (held_for hs s) (sector bytes s)
+  pub laid_at : (low : ℕ) (bytes : List ℕ) (hs : List HeldSector) → IsAscending low hs → AreBelow sectors hs → length bytes ≡ 512 * sectors
+      → sector (laid_over bytes hs) s ≡ unwrap_or (held_for hs s) (sector bytes s)
   laid_at low bytes [] order b size = refl
   laid_at low bytes (h ∷ hs) order b size =
       let fits : 512 * h.at + 512 ≤ length bytes = omega (arith, size, b.0) in
@@ -39,7 +41,8 @@ module _ (s sectors : ℕ) where
       let rest = laid_at (h.at + 1) (with_piece bytes (512 * h.at) h.bytes) hs order.2 b.1 (new ∙ size) in
       grind (arith, nat_tests, rest, held_low (h.at + 1) s hs order.2, sector-with_sector bytes h.bytes h.at order.1 fits, sector-with_sector_other bytes h.bytes h.at s order.1 fits)
 
-  pub marked_at : (loose : List Bool) (hs : List HeldSector) → AreBelow sectors hs → length loose ≡ sectors → is_loose (marked loose hs) s ≡ (is_some (held_for hs s) || is_loose loose s)
+  pub marked_at : (loose : List Bool) (hs : List HeldSector) → AreBelow sectors hs → length loose ≡ sectors
+      → is_loose (marked loose hs) s ≡ (is_some (held_for hs s) || is_loose loose s)
   marked_at loose [] b size = refl
   marked_at loose (h ∷ hs) b size =
       let fits : h.at + 1 ≤ length loose = omega (arith, size, b.0) in
@@ -63,20 +66,24 @@ module _ {sectors : ℕ} {hs : List HeldSector} (held : AreHeld sectors hs) wher
   laid_here : (bytes : List ℕ) → length bytes ≡ 512 * sectors → (s : ℕ) → sector (laid_over bytes hs) s ≡ unwrap_or (held_for hs s) (sector bytes s)
   laid_here bytes size s = laid_at s sectors 0 bytes hs held.order held.below size
 
-  pub laid_over_same : (x y : List ℕ) → length x ≡ 512 * sectors → length y ≡ 512 * sectors → ((s : ℕ) → s < sectors → held_for hs s ≡ None → sector x s ≡ sector y s) → laid_over x hs ≡ laid_over y hs
+  pub laid_over_same : (x y : List ℕ) → length x ≡ 512 * sectors → length y ≡ 512 * sectors
+      → ((s : ℕ) → s < sectors → held_for hs s ≡ None → sector x s ≡ sector y s) → laid_over x hs ≡ laid_over y hs
   laid_over_same x y lx ly same =
       image_same sectors _ _ (length-laid_over x lx) (length-laid_over y ly)
       (λ s lt. laid_here x lx s ∙ unwrap_same (held_for hs s) _ _ (same s lt) ∙ sym (laid_here y ly s))
 
-  pub marked_over_same : (x y : List Bool) → length x ≡ sectors → length y ≡ sectors → ((s : ℕ) → s < sectors → held_for hs s ≡ None → is_loose x s ≡ is_loose y s) → marked x hs ≡ marked y hs
+  pub marked_over_same : (x y : List Bool) → length x ≡ sectors → length y ≡ sectors
+      → ((s : ℕ) → s < sectors → held_for hs s ≡ None → is_loose x s ≡ is_loose y s) → marked x hs ≡ marked y hs
   marked_over_same x y lx ly same =
       let size = length-marked sectors x hs held.below lx in
       ext_get_or false (marked x hs) (marked y hs) (size ∙ sym (length-marked sectors y hs held.below ly))
       (λ s lt. marked_at s sectors x hs held.below lx ∙ or_same (held_for hs s) _ _ (same s (omega (arith, lt, size))) ∙ sym (marked_at s sectors y hs held.below ly))
 
 -- the same sectors before others that come to one thing, over two disks
-module _ (xs : List HeldSector) {ys zs : List HeldSector} {sectors : ℕ} (one : AreHeld sectors (xs ++ ys)) (other : AreHeld sectors (xs ++ zs)) (first : AreHeld sectors ys) (second : AreHeld sectors zs) where
-  pub laid_front : (x y : List ℕ) → length x ≡ 512 * sectors → length y ≡ 512 * sectors → laid_over x ys ≡ laid_over y zs → laid_over x (xs ++ ys) ≡ laid_over y (xs ++ zs)
+module _ (xs : List HeldSector) {ys zs : List HeldSector} {sectors : ℕ} (one : AreHeld sectors (xs ++ ys)) (other : AreHeld sectors (xs ++ zs))
+    (first : AreHeld sectors ys) (second : AreHeld sectors zs) where
+  pub laid_front : (x y : List ℕ) → length x ≡ 512 * sectors → length y ≡ 512 * sectors → laid_over x ys ≡ laid_over y zs
+      → laid_over x (xs ++ ys) ≡ laid_over y (xs ++ zs)
   laid_front x y lx ly same =
       image_same sectors _ _ (length-laid_over one x lx) (length-laid_over other y ly) (λ s lt. laid_here one x lx s ∙ elim (cases_held (held_for xs s)) [
         | inl none ↦ rw (held_past s xs ys none, held_past s xs zs none) (sym (laid_here first x lx s) ∙ ap (λ bytes. sector bytes s) same ∙ laid_here second y ly s)
@@ -92,7 +99,8 @@ module _ (xs : List HeldSector) {ys zs : List HeldSector} {sectors : ℕ} (one :
       ] ∙ sym (marked_at s sectors y _ other.below ly))
 
 -- a write to the buffer is one to what is seen of the disk
-module _ (at n : ℕ) {sectors : ℕ} (piece : List ℕ) {hs : List HeldSector} (whole : length piece ≡ 512 * n) (fits : at + n ≤ sectors) (held : AreHeld sectors hs) where
+module _ (at n : ℕ) {sectors : ℕ} (piece : List ℕ) {hs : List HeldSector} (whole : length piece ≡ 512 * n) (fits : at + n ≤ sectors)
+    (held : AreHeld sectors hs) where
   enough : 512 * n ≤ length piece
   enough = omega (arith, whole)
 
@@ -115,7 +123,8 @@ module _ (at n : ℕ) {sectors : ℕ} (piece : List ℕ) {hs : List HeldSector} 
     ]
   ]
 
-  pub laid_written : (bytes : List ℕ) → length bytes ≡ 512 * sectors → laid_over bytes (with_written at n piece hs) ≡ with_piece (laid_over bytes hs) (512 * at) piece
+  pub laid_written : (bytes : List ℕ) → length bytes ≡ 512 * sectors → laid_over bytes (with_written at n piece hs)
+      ≡ with_piece (laid_over bytes hs) (512 * at) piece
   laid_written bytes size =
       let seen : List ℕ = laid_over bytes hs in
       let ls : length seen ≡ 512 * sectors = length-laid_over held bytes size in

@@ -15,7 +15,8 @@ use Rattle.aoe_cache.proofs.Sectors.{held_written, laid_written, length-laid_ove
 use Rattle.aoe_cache.proofs.Down.{AsSeen, down_seen}
 
 -- what holds of two that both tell holds of what is shown of them
-told_map : {A B : Type 0} (P : A → Type 0) (R : A → A → Type 0) (S : B → B → Type 0) (f g : A → B) (old new : Option A) → ((x y : A) → P x → R x y → S (f x) (g y)) → IfSome old P → BothTell R old new
+told_map : {A B : Type 0} (P : A → Type 0) (R : A → A → Type 0) (S : B → B → Type 0) (f g : A → B) (old new : Option A)
+    → ((x y : A) → P x → R x y → S (f x) (g y)) → IfSome old P → BothTell R old new
     → BothTell S (option_map f old) (option_map g new)
 told_map P R S f g None None then p told = tt
 told_map P R S f g None (Some y) then p told = absurd told
@@ -24,7 +25,8 @@ told_map P R S f g (Some x) (Some y) then p told = then x y p told
 
 -- it is a disk, to whoever sees it
 
-seen_shape : {sectors : ℕ} {hs : List HeldSector} (held : AreHeld sectors hs) (c : Option Contents) → IfSome c (HasShape sectors) → IfSome (option_map (seen_contents hs) c) (HasShape sectors)
+seen_shape : {sectors : ℕ} {hs : List HeldSector} (held : AreHeld sectors hs) (c : Option Contents) → IfSome c (HasShape sectors)
+    → IfSome (option_map (seen_contents hs) c) (HasShape sectors)
 seen_shape held None shape = tt
 seen_shape held (Some c) shape = record {
   bytes = length-laid_over held c.bytes shape.bytes;
@@ -45,7 +47,8 @@ seen_disk {d = d} disk held = record {
 
 -- any number of device calls is one call of it
 
-seen_moves : {m : ℕ} {failed : Bool} {before after : ℕ} {x y : Schedule} → MovesOn m failed before after x y → MovesOn 1 failed before after (seen_schedule x) (seen_schedule y)
+seen_moves : {m : ℕ} {failed : Bool} {before after : ℕ} {x y : Schedule} → MovesOn m failed before after x y
+    → MovesOn 1 failed before after (seen_schedule x) (seen_schedule y)
 seen_moves moves = record {
   kind = moves.kind;
   fewer = moves.fewer;
@@ -60,7 +63,8 @@ some_map : {A B : Type 0} (f : A → B) (o : Option A) → is_some (option_map f
 some_map f None = refl
 some_map f (Some x) = refl
 
-seen_run : {m : ℕ} {failed : Bool} {hs gs : List HeldSector} {old new : DiskState} → IsRun m failed old new → AreHeld old.sectors hs → AreHeld old.sectors gs → IsRun 1 failed (seen hs old) (seen gs new)
+seen_run : {m : ℕ} {failed : Bool} {hs gs : List HeldSector} {old new : DiskState} → IsRun m failed old new → AreHeld old.sectors hs → AreHeld old.sectors gs
+    → IsRun 1 failed (seen hs old) (seen gs new)
 seen_run {gs = gs} {old = old} {new = new} run held left =
     let rest : AreHeld new.sectors gs = rw run.sectors left in
     record {
@@ -79,13 +83,16 @@ seen_run {gs = gs} {old = old} {new = new} run held left =
 abbrev Lays : ℕ → ℕ → List HeldSector → List ℕ → List ℕ → Type 0
 Lays at n hs read out = (bytes : List ℕ) → 512 * at + n ≤ length bytes → read ≡ take n (drop (512 * at) bytes) → out ≡ take n (drop (512 * at) (laid_over bytes hs))
 
-read_laid : {T E : Type 0} (sectors at n : ℕ) (result : Result T E) (hs : List HeldSector) (read out : List ℕ) (c : Option Contents) → 512 * at + n ≤ 512 * sectors → IfSome c (HasShape sectors) → OnOk result (Lays at n hs read out)
-    → OnOk result (IfSome c (λ c. read ≡ take n (drop (512 * at) c.bytes))) → OnOk result (IfSome (option_map (seen_contents hs) c) (λ c. out ≡ take n (drop (512 * at) c.bytes)))
+read_laid : {T E : Type 0} (sectors at n : ℕ) (result : Result T E) (hs : List HeldSector) (read out : List ℕ) (c : Option Contents)
+    → 512 * at + n ≤ 512 * sectors → IfSome c (HasShape sectors) → OnOk result (Lays at n hs read out)
+    → OnOk result (IfSome c (λ c. read ≡ take n (drop (512 * at) c.bytes)))
+    → OnOk result (IfSome (option_map (seen_contents hs) c) (λ c. out ≡ take n (drop (512 * at) c.bytes)))
 read_laid sectors at n (Err e) hs read out c fits shape lays given = tt
 read_laid sectors at n (Ok v) hs read out None fits shape lays given = tt
 read_laid sectors at n (Ok v) hs read out (Some c) fits shape lays given = lays c.bytes (omega (arith, fits, shape.bytes)) given
 
-pub reads_seen : {T E : Type 0} (at n : ℕ) (result : Result T E) (hs : List HeldSector) (read out : List ℕ) (old new : DiskState) → IsRange at n old.sectors → AreHeld old.sectors hs → OnOk result (Lays at n hs read out)
+pub reads_seen : {T E : Type 0} (at n : ℕ) (result : Result T E) (hs : List HeldSector) (read out : List ℕ) (old new : DiskState) → IsRange at n old.sectors
+    → AreHeld old.sectors hs → OnOk result (Lays at n hs read out)
     → Reads at n result read old new → Reads at n result out (seen hs old) (seen hs new)
 reads_seen at n result hs read out old new range held lays reads = record {
   call = seen_run reads.call held held;
@@ -108,7 +115,8 @@ module _ (at : ℕ) (piece : List ℕ) {sectors : ℕ} (range : IsRange at (leng
   }
 
   -- to the disk, where nothing is held
-  write_seen : {T E : Type 0} (result : Result T E) (x y : Contents) → HasShape sectors x → Writes at piece result x y → Stores at piece result (seen_contents [] x) (seen_contents [] y)
+  write_seen : {T E : Type 0} (result : Result T E) (x y : Contents) → HasShape sectors x → Writes at piece result x y
+      → Stores at piece result (seen_contents [] x) (seen_contents [] y)
   write_seen (Ok v) x y shape told = record { bytes = told.bytes; loose = told.loose; settled = refl }
   write_seen (Err e) x y shape told =
       let may : MaySpoil at (length piece) x y = spoils_may_spoil at (length piece) x y sectors shape range told in
@@ -127,14 +135,16 @@ same_stored at piece (Err e) hs (Some x) err = record {
   exact = λ some. cc;
 }
 
-stored_as : {T E : Type 0} (at : ℕ) (piece : List ℕ) (result : Result T E) (c d : Option Contents) → is_err result ≡ false → BothTell (Puts at piece) c d → BothTell (Stores at piece result) c d
+stored_as : {T E : Type 0} (at : ℕ) (piece : List ℕ) (result : Result T E) (c d : Option Contents) → is_err result ≡ false → BothTell (Puts at piece) c d
+    → BothTell (Stores at piece result) c d
 stored_as at piece (Err e) c d ok puts = cc
 stored_as at piece (Ok v) c d ok puts = puts
 
 nothing : (sectors : ℕ) → AreHeld sectors []
 nothing sectors = record { order = tt; below = tt }
 
-module _ {T E : Type 0} (at : ℕ) (piece : List ℕ) (result : Result T E) (hs gs : List HeldSector) (old new : DiskState) (range : IsRange at (length piece) old.sectors) (disk : IsDisk old) (held : AreHeld old.sectors hs) where
+module _ {T E : Type 0} (at : ℕ) (piece : List ℕ) (result : Result T E) (hs gs : List HeldSector) (old new : DiskState)
+    (range : IsRange at (length piece) old.sectors) (disk : IsDisk old) (held : AreHeld old.sectors hs) where
   put_held : {rest : List HeldSector} → AreHeld old.sectors rest → AreHeld old.sectors (with_written at (length piece / 512) piece rest)
   put_held = held_written at _ piece (sym range.whole) range.within
 
@@ -164,7 +174,8 @@ module _ {T E : Type 0} (at : ℕ) (piece : List ℕ) (result : Result T E) (hs 
     shape_between = rw emptied.run.sectors at emptied.run.after.shape
 
     -- it was, and has room for the piece then
-    buffer_stored : is_err result ≡ false → new ≡ between → gs ≡ with_written at (length piece / 512) piece [] → StoresTo at piece result (seen hs old) (seen gs new)
+    buffer_stored : is_err result ≡ false → new ≡ between → gs ≡ with_written at (length piece / 512) piece []
+        → StoresTo at piece result (seen hs old) (seen gs new)
     buffer_stored ok same is = rw (same, is) (record {
       call = rw ok (seen_run emptied.run held (put_held (nothing _)));
       contents = stored_as at piece result _ _ ok (rw emptied.same at (put_seen at piece range between.contents (nothing _) shape_between));
@@ -180,7 +191,8 @@ module _ {T E : Type 0} (at : ℕ) (piece : List ℕ) (result : Result T E) (hs 
     })
 
 -- a write of a cached store is one of a store
-pub writes_seen : {D T E : Type 0} (state : D → DiskState) (at : ℕ) (piece : List ℕ) (result : Result T E) (old new : Cache D) → IsRange at (length piece) (state old.disk).sectors → IsDisk (state old.disk) → AreHeld (state old.disk).sectors old.held
+pub writes_seen : {D T E : Type 0} (state : D → DiskState) (at : ℕ) (piece : List ℕ) (result : Result T E) (old new : Cache D)
+    → IsRange at (length piece) (state old.disk).sectors → IsDisk (state old.disk) → AreHeld (state old.disk).sectors old.held
     → CacheWrites state at piece result old new → StoresTo at piece result (state_of state old) (state_of state new)
 writes_seen state at piece result old new range disk held writes = elim (cases_lt old.room (length (with_written at (length piece / 512) piece old.held))) [
   | inl over ↦ elim (writes.beyond over) [
@@ -199,13 +211,15 @@ sync_seen : {T E : Type 0} (result : Result T E) (x y : Contents) → Syncs resu
 sync_seen (Ok v) x y told = record { bytes = told.bytes; loose = told.loose; settled = tt }
 sync_seen (Err e) x y told = record { bytes = told.bytes; marks = told.marks; fewer = told.fewer; settled = refl; exact = λ some. cc }
 
-same_synced : {T E : Type 0} (result : Result T E) (hs : List HeldSector) (c : Option Contents) → is_err result ≡ true → BothTell (Syncs result) (option_map (seen_contents hs) c) (option_map (seen_contents hs) c)
+same_synced : {T E : Type 0} (result : Result T E) (hs : List HeldSector) (c : Option Contents) → is_err result ≡ true
+    → BothTell (Syncs result) (option_map (seen_contents hs) c) (option_map (seen_contents hs) c)
 same_synced (Ok v) hs c err = cc
 same_synced (Err e) hs None err = tt
 same_synced (Err e) hs (Some x) err = record { bytes = refl; marks = refl; fewer = λ s kept. kept; settled = refl; exact = λ some. refl }
 
 -- a sync of a cached store is one of a store
-module _ {D T E : Type 0} (state : D → DiskState) (result : Result T E) (old new : Cache D) (disk : IsDisk (state old.disk)) (held : AreHeld (state old.disk).sectors old.held) where
+module _ {D T E : Type 0} (state : D → DiskState) (result : Result T E) (old new : Cache D) (disk : IsDisk (state old.disk))
+    (held : AreHeld (state old.disk).sectors old.held) where
   part_synced : WritesPart result old.held new.held (state old.disk) (state new.disk) → SyncsTo result (state_of state old) (state_of state new)
   part_synced part =
       let stays = down_seen true old.held new.held (state old.disk) (state new.disk) disk held part.down in

@@ -43,7 +43,8 @@ module _ (at : ℕ) (piece : List ℕ) (hs : List HeldSector) where
     written_more = ascending_same 0 _ _ (ascending_written (at + i) 1 _ _ (omega (arith, piece_sector)) some_order) (ascending_written at (i + 1) piece hs whole order) held_more
 
   -- the same as the code cuts the piece
-  pub written_next : (i : ℕ) (held : List HeldSector) → IsAscending 0 hs → 512 * (i + 1) ≤ length piece → held ≡ with_written at i piece hs → with_written (at + i) 1 (take (512 * i + 512 - 512 * i) (drop (512 * i) piece)) held ≡ with_written at (i + 1) piece hs
+  pub written_next : (i : ℕ) (held : List HeldSector) → IsAscending 0 hs → 512 * (i + 1) ≤ length piece → held ≡ with_written at i piece hs
+      → with_written (at + i) 1 (take (512 * i + 512 - 512 * i) (drop (512 * i) piece)) held ≡ with_written at (i + 1) piece hs
   written_next i held order whole is =
       let size : 512 * i + 512 - 512 * i ≡ 512 = omega arith in
       rw (size, is) (written_more i order whole)

@@ -36,7 +36,8 @@ numbers_put e (h ∷ hs) = elim (cases_eq e.at h.at) [
 ]
 
 -- and so do the places, where the sector goes to the index of its number
-pub placed_put : (e : HeldSector) (ks : List ℕ) (places : List HeldSector) → ks ≡ numbers_of (take (length ks) places) → length (insert_key nat_eq ks e.at) ≤ length places
+pub placed_put : (e : HeldSector) (ks : List ℕ) (places : List HeldSector) → ks ≡ numbers_of (take (length ks) places)
+    → length (insert_key nat_eq ks e.at) ≤ length places
     → take (length (insert_key nat_eq ks e.at)) (set places (position_or_len (nat_eq e.at) ks) e) ≡ put_in e (take (length ks) places)
 placed_put e [] [] is fits = absurd (omega (arith, fits))
 placed_put e [] (p ∷ ps) is fits = refl
@@ -54,7 +55,8 @@ placed_put e (k ∷ ks) (p ∷ ps) is fits =
     ]
 
 -- the same as the code leaves them
-pub put_stored : (e : HeldSector) {p : HeldSector} {ks more : List ℕ} {old now : List HeldSector} {index : ℕ} → p ≡ e → now ≡ old → ks ≡ numbers_of (take (length ks) old) → more ≡ insert_key nat_eq ks e.at
+pub put_stored : (e : HeldSector) {p : HeldSector} {ks more : List ℕ} {old now : List HeldSector} {index : ℕ} → p ≡ e → now ≡ old
+    → ks ≡ numbers_of (take (length ks) old) → more ≡ insert_key nat_eq ks e.at
     → index ≡ position_or_len (nat_eq e.at) ks → length more ≤ length now → take (length more) (set now index p) ≡ put_in e (take (length ks) old)
 put_stored e {ks = ks} {old = old} put same is keys place fits = rw (put, same, place, keys) (placed_put e ks old is (rw (← keys, ← same) fits))
 
@@ -81,7 +83,8 @@ whole_put e (h ∷ hs) one whole = elim (cases_eq e.at h.at) [
   | inr other ↦ rw (ne_eqb _ _ other) (whole_more h _ (whole_first h hs whole) (whole_put e hs one (whole_rest h hs whole)))
 ]
 
-pub ordered_put : (e : HeldSector) (hs : List HeldSector) → length e.bytes ≡ 512 → AreWhole hs → ordered (put_in e hs) ≡ with_written e.at 1 e.bytes (ordered hs)
+pub ordered_put : (e : HeldSector) (hs : List HeldSector) → length e.bytes ≡ 512 → AreWhole hs
+    → ordered (put_in e hs) ≡ with_written e.at 1 e.bytes (ordered hs)
 ordered_put e hs one whole =
     let order : IsAscending 0 (ordered hs) = ascending_ordered hs whole in
     let put : AreWhole (put_in e hs) = whole_put e hs one whole in
@@ -100,7 +103,8 @@ length_present : (e : HeldSector) (hs : List HeldSector) (b : List ℕ) → held
 length_present e [] b some = cc
 length_present e (h ∷ hs) b some = grind (arith, nat_tests, length_present e hs b)
 
-pub length-put_in : (e : HeldSector) (hs : List HeldSector) → AreWhole hs → IsDistinct nat_eq (numbers_of hs) → length (put_in e hs) ≡ length (with_written e.at 1 e.bytes (ordered hs))
+pub length-put_in : (e : HeldSector) (hs : List HeldSector) → AreWhole hs → IsDistinct nat_eq (numbers_of hs)
+    → length (put_in e hs) ≡ length (with_written e.at 1 e.bytes (ordered hs))
 length-put_in e hs whole once =
     let order : IsAscending 0 (ordered hs) = ascending_ordered hs whole in
     let same : held_for (ordered hs) e.at ≡ held_for hs e.at = held_ordered hs whole e.at in
@@ -176,7 +180,8 @@ below_first low (h ∷ hs) (suc i) d order lt =
     let above = ascending_low (h.at + 1) hs i d order.2 (omega (arith, lt)) in
     (omega (arith, above), below_first (h.at + 1) hs i d order.2 (omega (arith, lt)))
 
-pub index_more : (held i : ℕ) (places : List HeldSector) (p : HeldSector) → IsAscending 0 (take held places) → i < held → held ≤ length places → p ≡ get_or places i p → insert_key nat_eq (numbers_of (take i places)) p.at ≡ numbers_of (take (i + 1) places)
+pub index_more : (held i : ℕ) (places : List HeldSector) (p : HeldSector) → IsAscending 0 (take held places) → i < held → held ≤ length places
+    → p ≡ get_or places i p → insert_key nat_eq (numbers_of (take i places)) p.at ≡ numbers_of (take (i + 1) places)
 index_more held i places p order lt used is =
     let first : take i (take held places) ≡ take i places = take-take i held places (omega (arith, lt)) in
     let here : get_or (take held places) i p ≡ p = get_or-take held places i p lt ∙ sym is in

@@ -68,9 +68,11 @@ impl<D: Disk> Store for AnyStore<D> {
         requires { IsRange at (length out.old) (any_state D.state self.old).sectors }
         ensures reads { Reads at (length out.old) result out.new
             (any_state D.state self.old) (any_state D.state self.new) }
-        ensures device { StaysWith (CacheReads D.state at (length out.old) result) self.old self.new }
+        ensures device { StaysWith (CacheReads D.state at
+            (length out.old) result) self.old self.new }
         ensures free { StaysWith (KeepsFree D.state) self.old self.new }
-        ensures under { BothTell (ReadsUnder (is_err result)) (any_under D.state self.old) (any_under D.state self.new) }
+        ensures under { BothTell (ReadsUnder (is_err result)) (any_under D.state self.old)
+            (any_under D.state self.new) }
     {
         match self {
             AnyStore::Direct(store) => store.read(at, out),
@@ -80,7 +82,8 @@ impl<D: Disk> Store for AnyStore<D> {
 
     fn write(&mut self, at: u64, piece: &[u8]) -> Result<(), Failed>
         requires { IsRange at (length piece.now) (any_state D.state self.old).sectors }
-        ensures stores { StoresTo at piece.now result (any_state D.state self.old) (any_state D.state self.new) }
+        ensures stores { StoresTo at piece.now result (any_state D.state self.old)
+            (any_state D.state self.new) }
         ensures device { StaysWith (CacheWrites D.state at piece.now result) self.old self.new }
         ensures free { StaysWith (SpendsFree D.state (length piece.now / 512)) self.old self.new }
         ensures under { BothTell (SpendsUnder (length piece.now / 512) (is_err result))
@@ -118,7 +121,8 @@ impl<D: Armed> ArmedStore for AnyStore<D> {
         requires { 0 < number_of arm }
         ensures arms { ArmsTo arm (any_state D.state self.old) (any_state D.state self.new) }
         ensures device { StaysWith (CacheArms D.state arm) self.old self.new }
-        ensures under { BothTell (ArmsUnder arm) (any_under D.state self.old) (any_under D.state self.new) }
+        ensures under { BothTell (ArmsUnder arm) (any_under D.state self.old)
+            (any_under D.state self.new) }
     {
         match self {
             AnyStore::Direct(store) => store.arm(arm),

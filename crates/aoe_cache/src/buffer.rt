@@ -69,7 +69,8 @@ impl Buffer {
     fn len_with(&self, at: u64, count: usize) -> usize
         requires buffer { IsBuffer (2 ^ 40) self.now }
         requires range { at + count ≤ 2 ^ 40 }
-        ensures { (piece : List ℕ) → result ≡ length (with_written at count piece (held_of self.now)) }
+        ensures { (piece : List ℕ) → result ≡ length
+            (with_written at count piece (held_of self.now)) }
     {
         let mut len = self.numbers.len();
         'sectors: for i in 0..count {
@@ -84,7 +85,8 @@ impl Buffer {
     pub(crate) fn fits(&self, at: u64, count: usize, room: usize) -> bool
         requires buffer { IsBuffer (2 ^ 40) self.now }
         requires range { at + count ≤ 2 ^ 40 }
-        ensures { (piece : List ℕ) → IsTrue result ↔ (length (with_written at count piece (held_of self.now)) ≤ room) }
+        ensures { (piece : List ℕ) → IsTrue result
+            ↔ (length (with_written at count piece (held_of self.now)) ≤ room) }
     {
         self.numbers.len() + count <= room || self.len_with(at, count) <= room
     }
@@ -93,7 +95,8 @@ impl Buffer {
     fn place_for(&mut self, at: u64) -> usize
         requires has { HasRoom self.old }
         requires once { IsUnique nat_eq self.old.numbers }
-        requires free { length (insert_key nat_eq self.old.numbers.keys at) ≤ length self.old.places.items }
+        requires free { length
+            (insert_key nat_eq self.old.numbers.keys at) ≤ length self.old.places.items }
         ensures index { result ≡ insert_index nat_eq self.old.numbers at }
         ensures within { result < length self.new.numbers.keys }
         ensures numbers { self.new.numbers.keys ≡ insert_key nat_eq self.old.numbers.keys at }
@@ -111,7 +114,8 @@ impl Buffer {
     fn put_one(&mut self, at: u64, bytes: &[u8])
         requires indexed { IsIndexed self.old }
         requires whole { length bytes.now ≡ 512 }
-        requires room { length (with_written at 1 bytes.now (held_of self.old)) ≤ length self.old.places.items }
+        requires room { length (with_written at 1 bytes.now
+            (held_of self.old)) ≤ length self.old.places.items }
         ensures indexed { IsIndexed self.new }
         ensures held { held_of self.new ≡ with_written at 1 bytes.now (held_of self.old) }
         ensures places { length self.new.places.items ≡ length self.old.places.items }
@@ -128,7 +132,8 @@ impl Buffer {
         requires room { length (with_written at (length piece.now / 512) piece.now (held_of self.old))
             ≤ length self.old.places.items }
         ensures indexed { IsIndexed self.new }
-        ensures held { held_of self.new ≡ with_written at (length piece.now / 512) piece.now (held_of self.old) }
+        ensures held { held_of self.new ≡ with_written at (length piece.now / 512) piece.now
+            (held_of self.old) }
         ensures places { length self.new.places.items ≡ length self.old.places.items }
     {
         'sectors: for i in 0..piece.len() / SECTOR_LEN {

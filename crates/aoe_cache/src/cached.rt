@@ -35,7 +35,8 @@ impl<D: Disk> Cached<D> {
     pub fn mount(alloc: Global, disk: D, room: u32) -> Result<Cached<D>, (NoMemory, D)>
         requires some { 1 ≤ room }
         requires most { room ≤ 65536 }
-        ensures store { IfOk result (λ store. store ≡ record { disk = disk; held = []; room = room }) }
+        ensures store { IfOk result (λ store. store
+            ≡ record { disk = disk; held = []; room = room }) }
         ensures free { IfOk result (λ store. IfSome (D.state disk).contents (λ c.
             is_settled c ≡ true → free D.state store ≡ Some room)) }
         ensures refused { IfErr result (λ e. e.1 ≡ disk) }
@@ -49,7 +50,8 @@ impl<D: Disk> Cached<D> {
     /// The disk. What is in the buffer is lost, so sync before.
     pub fn close(self) -> D
         ensures disk { result ≡ self.disk }
-        ensures kept { BothTell KeepsSettled (state_of D.state self).contents (D.state result).contents }
+        ensures kept { BothTell KeepsSettled (state_of D.state self).contents
+            (D.state result).contents }
     {
         self.behind.disk
     }
@@ -67,7 +69,8 @@ impl Cached<MemDisk> {
           room = self.room;
         } }
         ensures sectors { length result.disk.loose ≡ length self.disk.loose }
-        ensures kept { KeepsSettled (seen_contents self.held (contents_of self.disk)) (contents_of self.disk) }
+        ensures kept { KeepsSettled (seen_contents self.held (contents_of self.disk))
+            (contents_of self.disk) }
     {
         let WriteBehind {
             disk,
@@ -111,17 +114,20 @@ impl<D: Disk> Store for Cached<D> {
             (state_of D.state self.old) (state_of D.state self.new) }
         ensures device { CacheReads D.state at (length out.old) result self.old self.new }
         ensures free { KeepsFree D.state self.old self.new }
-        ensures under { ReadsUnder (is_err result) (under_of D.state self.old) (under_of D.state self.new) }
+        ensures under { ReadsUnder (is_err result) (under_of D.state self.old)
+            (under_of D.state self.new) }
     {
         self.behind.read(at, out)
     }
 
     fn write(&mut self, at: u64, piece: &[u8]) -> Result<(), Failed>
         requires { IsRange at (length piece.now) (state_of D.state self.old).sectors }
-        ensures stores { StoresTo at piece.now result (state_of D.state self.old) (state_of D.state self.new) }
+        ensures stores { StoresTo at piece.now result (state_of D.state self.old)
+            (state_of D.state self.new) }
         ensures device { CacheWrites D.state at piece.now result self.old self.new }
         ensures free { SpendsFree D.state (length piece.now / 512) self.old self.new }
-        ensures under { SpendsUnder (length piece.now / 512) (is_err result) (under_of D.state self.old) (under_of D.state self.new) }
+        ensures under { SpendsUnder (length piece.now / 512) (is_err result)
+            (under_of D.state self.old) (under_of D.state self.new) }
     {
         self.behind.write(at, piece)
     }

@@ -101,7 +101,8 @@ impl<D: Disk> WriteBehind<D> {
     /// Takes all memory that the later calls need.
     pub(crate) fn new(alloc: Global, disk: D, room: u32) -> Result<WriteBehind<D>, (NoMemory, D)>
         ensures behind { IfOk result (λ behind. IsWriteBehind D.state behind) }
-        ensures cache { IfOk result (λ behind. cache_of behind ≡ record { disk = disk; held = []; room = room }) }
+        ensures cache { IfOk result (λ behind. cache_of behind
+            ≡ record { disk = disk; held = []; room = room }) }
         ensures refused { IfErr result (λ e. e.1 ≡ disk) }
     {
         let places = disk.sectors().min(u64::from(room)) as usize;
@@ -124,7 +125,8 @@ impl<D: Disk> WriteBehind<D> {
         requires behind { IsWriteBehind D.state self.old }
         requires range { IsRange at (length out.old) (D.state self.old.disk).sectors }
         ensures behind { IsWriteBehind D.state self.new }
-        ensures reads { CacheReads D.state at (length out.old) result (cache_of self.old) (cache_of self.new) }
+        ensures reads { CacheReads D.state at (length out.old) result (cache_of self.old)
+            (cache_of self.new) }
         ensures seen { Reads at (length out.old) result out.new
             (state_of D.state (cache_of self.old)) (state_of D.state (cache_of self.new)) }
     {
@@ -160,7 +162,8 @@ impl<D: Disk> WriteBehind<D> {
         requires behind { IsWriteBehind D.state self.old }
         requires range { IsRange at (length piece.now) (D.state self.old.disk).sectors }
         ensures behind { IsWriteBehind D.state self.new }
-        ensures writes { CacheWrites D.state at piece.now result (cache_of self.old) (cache_of self.new) }
+        ensures writes { CacheWrites D.state at piece.now result (cache_of self.old)
+            (cache_of self.new) }
     {
         let room = self.room as usize;
         if !self.buffer.fits(at, piece.len() / SECTOR_LEN, room) {

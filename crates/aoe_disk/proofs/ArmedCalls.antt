@@ -12,13 +12,15 @@ use Rattle.aoe_disk.proofs.Runs.{is_none_same}
 Tells : Option Schedule → Bool → Option ℕ → Type 0
 Tells schedule is_stop due = IsSomeAnd schedule (λ s. (is_none s.armed ≡ is_stop) × (s.due ≡ Some due))
 
-due_moves : (failed is_stop : Bool) (a b : Option (Option ℕ)) (due : Option ℕ) → BothTell (MovesDue 1 failed is_stop) a b → a ≡ Some due → (next : Option ℕ) × (b ≡ Some next) × MovesDue 1 failed is_stop due next
+due_moves : (failed is_stop : Bool) (a b : Option (Option ℕ)) (due : Option ℕ) → BothTell (MovesDue 1 failed is_stop) a b → a ≡ Some due
+    → (next : Option ℕ) × (b ≡ Some next) × MovesDue 1 failed is_stop due next
 due_moves f i None None due t e = cc
 due_moves f i None (Some b) due t e = cc
 due_moves f i (Some a) None due t e = absurd t
 due_moves f i (Some a) (Some b) due t e = let same : a ≡ due = cc in (b, refl, subst (λ d. MovesDue 1 f i d b) same t)
 
-call_moves : (failed is_stop : Bool) (before after : ℕ) (x y : Option Schedule) (due : Option ℕ) → BothTell (MovesOn 1 failed before after) x y → Tells x is_stop due → (next : Option ℕ) × Tells y is_stop next × MovesDue 1 failed is_stop due next
+call_moves : (failed is_stop : Bool) (before after : ℕ) (x y : Option Schedule) (due : Option ℕ) → BothTell (MovesOn 1 failed before after) x y
+    → Tells x is_stop due → (next : Option ℕ) × Tells y is_stop next × MovesDue 1 failed is_stop due next
 unfolding Tells
 call_moves f i p q None y due t h = absurd h
 call_moves f i p q (Some x) None due t h = absurd t
@@ -30,7 +32,8 @@ call_moves f i p q (Some x) (Some y) due t (kind, told) =
 FailStage : ℕ → ℕ → Option ℕ → Type 0
 FailStage k i due = ((i ≤ k) × (due ≡ Some (k + 1 - i))) ⊎ ((k < i) × (due ≡ None))
 
-fail_step : (failed : Bool) (k i : ℕ) (due next : Option ℕ) → FailStage k i due → MovesDue 1 failed false due next → (failed ≡ (i == k)) × FailStage k (i + 1) next
+fail_step : (failed : Bool) (k i : ℕ) (due next : Option ℕ) → FailStage k i due → MovesDue 1 failed false due next
+    → (failed ≡ (i == k)) × FailStage k (i + 1) next
 unfolding FailStage
 fail_step false k i due next (inl (le, e)) moves =
     let v : MovesDueCall 1 false false (k + 1 - i) next = subst (λ d. MovesDue 1 false false d next) e moves in
@@ -46,7 +49,8 @@ fail_step failed k i due next (inr (lt, e)) moves =
 StopStage : ℕ → ℕ → Option ℕ → Type 0
 StopStage k i due = ((i ≤ k) × (due ≡ Some (k + 1 - i))) ⊎ ((k < i) × (due ≡ Some 1))
 
-stop_step : (failed : Bool) (k i : ℕ) (due next : Option ℕ) → StopStage k i due → MovesDue 1 failed true due next → (failed ≡ nat_le k i) × StopStage k (i + 1) next
+stop_step : (failed : Bool) (k i : ℕ) (due next : Option ℕ) → StopStage k i due → MovesDue 1 failed true due next
+    → (failed ≡ nat_le k i) × StopStage k (i + 1) next
 unfolding StopStage
 stop_step false k i due next (inl (le, e)) moves =
     let v : MovesDueCall 1 false true (k + 1 - i) next = subst (λ d. MovesDue 1 false true d next) e moves in
@@ -61,14 +65,16 @@ stop_step true k i due next (inr (lt, e)) moves =
     let v : MovesDueCall 1 true true 1 next = subst (λ d. MovesDue 1 true true d next) e moves in
     (sym (le-leb k i (omega arith)), inr (omega arith, v.1))
 
-fails_from : (k i : ℕ) (calls : List Bool) (old new : DiskState) (due : Option ℕ) → FailStage k i due → Tells old.schedule false due → Calls calls old new → FailsFrom i (Fail k) calls
+fails_from : (k i : ℕ) (calls : List Bool) (old new : DiskState) (due : Option ℕ) → FailStage k i due → Tells old.schedule false due → Calls calls old new
+    → FailsFrom i (Fail k) calls
 fails_from k i [] old new due stage told calls = tt
 fails_from k i (failed ∷ rest) old new due stage told (next, run, calls) =
     let m = call_moves failed false old.faults next.faults old.schedule next.schedule due run.schedule told in
     let s = fail_step failed k i due m.0 stage m.2 in
     (s.0, fails_from k (i + 1) rest next new m.0 s.1 m.1 calls)
 
-stops_from : (k i : ℕ) (calls : List Bool) (old new : DiskState) (due : Option ℕ) → StopStage k i due → Tells old.schedule true due → Calls calls old new → FailsFrom i (Stop k) calls
+stops_from : (k i : ℕ) (calls : List Bool) (old new : DiskState) (due : Option ℕ) → StopStage k i due → Tells old.schedule true due → Calls calls old new
+    → FailsFrom i (Stop k) calls
 stops_from k i [] old new due stage told calls = tt
 stops_from k i (failed ∷ rest) old new due stage told (next, run, calls) =
     let m = call_moves failed true old.faults next.faults old.schedule next.schedule due run.schedule told in

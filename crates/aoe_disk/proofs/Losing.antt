@@ -40,8 +40,10 @@ length-left_of Torn s now settled en es = length-torn now settled en es
 length-left_of (Mix x) s now settled en es = length-mixed ((x + s) % 2 ^ 64 % 4) now settled en es
 
 -- one sector more, which is loose
-pub left_more : (k : ℕ) (how : Loss) (now settled : List ℕ) (loose : List Bool) (image : List ℕ) → 512 * k + 512 ≤ length now → 512 * k + 512 ≤ length settled → is_loose loose k ≡ true
-    → LeftTo k how now settled loose image → LeftTo (k + 1) how now settled loose (with_piece image (512 * k) (left_of how k (sector image k) (sector settled k)))
+pub left_more : (k : ℕ) (how : Loss) (now settled : List ℕ) (loose : List Bool) (image : List ℕ) → 512 * k + 512 ≤ length now → 512 * k + 512 ≤ length settled
+    → is_loose loose k ≡ true
+    → LeftTo k how now settled loose image → LeftTo (k + 1) how now settled loose
+    (with_piece image (512 * k) (left_of how k (sector image k) (sector settled k)))
 left_more k how now settled loose image fn fs is left =
     let fits : 512 * k + 512 ≤ length image = omega (arith, left.size) in
     let piece = left_of how k (sector image k) (sector settled k) in
@@ -58,7 +60,8 @@ left_more k how now settled loose image fn fs is left =
     }
 
 -- one sector more, which isn't loose
-pub left_past : (k : ℕ) (how : Loss) (now settled : List ℕ) (loose : List Bool) (image : List ℕ) → is_loose loose k ≡ false → LeftTo k how now settled loose image → LeftTo (k + 1) how now settled loose image
+pub left_past : (k : ℕ) (how : Loss) (now settled : List ℕ) (loose : List Bool) (image : List ℕ) → is_loose loose k ≡ false
+    → LeftTo k how now settled loose image → LeftTo (k + 1) how now settled loose image
 left_past k how now settled loose image is left = record {
   size = left.size;
   kept = left.kept;
@@ -75,12 +78,14 @@ pub record SettledTo (k : ℕ) (now : List ℕ) (loose : List Bool) (settled : L
   pub done : (s : ℕ) → s < k → sector settled s ≡ sector now s
   pub agrees : AgreesWhereKept loose now settled
 
-pub settled_more : (k : ℕ) (now : List ℕ) (loose : List Bool) (settled : List ℕ) → 512 * k + 512 ≤ length now → SettledTo k now loose settled → SettledTo (k + 1) now loose (with_piece settled (512 * k) (sector now k))
+pub settled_more : (k : ℕ) (now : List ℕ) (loose : List Bool) (settled : List ℕ) → 512 * k + 512 ≤ length now → SettledTo k now loose settled
+    → SettledTo (k + 1) now loose (with_piece settled (512 * k) (sector now k))
 settled_more k now loose settled fits so =
     let size : length (sector now k) ≡ 512 = length-sector now k fits in
     let fits' : 512 * k + 512 ≤ length settled = omega (arith, so.size) in
     let now_k : sector (with_piece settled (512 * k) (sector now k)) k ≡ sector now k = sector-with_sector settled (sector now k) k size fits' in
-    let at_k : (s : ℕ) → s ≡ k → sector (with_piece settled (512 * k) (sector now k)) s ≡ sector now s = λ s same. subst (λ t. sector (with_piece settled (512 * k) (sector now k)) t ≡ sector now t) (sym same) now_k in
+    let at_k : (s : ℕ) → s ≡ k → sector (with_piece settled (512 * k) (sector now k)) s ≡ sector now s =
+    λ s same. subst (λ t. sector (with_piece settled (512 * k) (sector now k)) t ≡ sector now t) (sym same) now_k in
     record {
       size = length-with_piece settled (512 * k) (sector now k) (omega (arith, size, fits')) ∙ so.size;
       done = λ s l. elim (cases_eq s k) [
@@ -93,7 +98,8 @@ settled_more k now loose settled fits so =
       ];
     }
 
-pub settled_past : (k : ℕ) (now : List ℕ) (loose : List Bool) (settled : List ℕ) → is_loose loose k ≡ false → SettledTo k now loose settled → SettledTo (k + 1) now loose settled
+pub settled_past : (k : ℕ) (now : List ℕ) (loose : List Bool) (settled : List ℕ) → is_loose loose k ≡ false → SettledTo k now loose settled
+    → SettledTo (k + 1) now loose settled
 settled_past k now loose settled is so = record {
   size = so.size;
   done = λ s l. elim (cases_eq s k) [

@@ -21,15 +21,18 @@ arming_is_schedule None out h = record { number_in = λ _. h; from_one = tt }
 arming_is_schedule (Some (Fail k)) out h = record { number_in = λ _. h.1; from_one = h.0 }
 arming_is_schedule (Some (Stop k)) out h = record { number_in = λ e. cc; from_one = h }
 
-memory_is_disk : (bytes settled : List ℕ) (loose : List Bool) (arming : Option Arm) (out : Bool) (faults calls : ℕ) → IsMemory bytes settled loose arming out → IsDisk (state_of (memory bytes settled loose arming out faults calls))
+memory_is_disk : (bytes settled : List ℕ) (loose : List Bool) (arming : Option Arm) (out : Bool) (faults calls : ℕ) → IsMemory bytes settled loose arming out
+    → IsDisk (state_of (memory bytes settled loose arming out faults calls))
 memory_is_disk bytes settled loose arming out faults calls m = record {
   bound = m.bound;
   shape = record { bytes = m.now; marks = refl; settled = m.settled };
   schedule = arming_is_schedule arming out m.arming;
 }
 
-module _ (b s : List ℕ) (l : List Bool) (a : Option Arm) (o : Bool) (f c : ℕ) (m : IsMemory b s l a o) (b' s' : List ℕ) (l' : List Bool) (a' : Option Arm) (o' : Bool) (f' c' : ℕ) (m' : IsMemory b' s' l' a' o') where
-  pub memory_run : (failed : Bool) → length l' ≡ length l → f ≤ f' → OnTrue failed (Rose f f') → MovesOn 1 failed f f' (schedule_of a o) (schedule_of a' o') → IsRun 1 failed (state_of (memory b s l a o f c)) (state_of (memory b' s' l' a' o' f' c'))
+module _ (b s : List ℕ) (l : List Bool) (a : Option Arm) (o : Bool) (f c : ℕ) (m : IsMemory b s l a o) (b' s' : List ℕ) (l' : List Bool) (a' : Option Arm)
+    (o' : Bool) (f' c' : ℕ) (m' : IsMemory b' s' l' a' o') where
+  pub memory_run : (failed : Bool) → length l' ≡ length l → f ≤ f' → OnTrue failed (Rose f f') → MovesOn 1 failed f f' (schedule_of a o) (schedule_of a' o')
+      → IsRun 1 failed (state_of (memory b s l a o f c)) (state_of (memory b' s' l' a' o' f' c'))
   memory_run failed size later cause moves = record {
     before = memory_is_disk b s l a o f c m;
     after = memory_is_disk b' s' l' a' o' f' c' m';
@@ -41,7 +44,8 @@ module _ (b s : List ℕ) (l : List Bool) (a : Option Arm) (o : Bool) (f c : ℕ
   }
 
 -- a write, Ok or not, changes n sectors from at on and marks them
-pub memory_written : (b b' s : List ℕ) (l : List Bool) (a : Option Arm) (o : Bool) (a' : Option Arm) (o' : Bool) (at n : ℕ) → IsMemory b s l a o → IsArming a' o' → at + n ≤ length l → SameOutside (512 * at) (512 * n) b b' → IsMemory b' s (with_marks l at n) a' o'
+pub memory_written : (b b' s : List ℕ) (l : List Bool) (a : Option Arm) (o : Bool) (a' : Option Arm) (o' : Bool) (at n : ℕ) → IsMemory b s l a o
+    → IsArming a' o' → at + n ≤ length l → SameOutside (512 * at) (512 * n) b b' → IsMemory b' s (with_marks l at n) a' o'
 memory_written b b' s l a o a' o' at n m from_one fits same =
     let size = length-with_marks l at n fits in
     record {
@@ -62,7 +66,8 @@ memory_written b b' s l a o a' o' at n m from_one fits same =
     agree t out kept = m.agrees t (sym (is_loose-with_marks_outside l at n fits t out) ∙ kept) ∙ sym (sector_outside b b' at n t same out)
 
 -- a write of a piece to a disk with these fields, after which the meter has others
-module _ (b s : List ℕ) (l : List Bool) (a : Option Arm) (o : Bool) (m : IsMemory b s l a o) (at : ℕ) (piece : List ℕ) (range : IsRange at (length piece) (length l)) (a' : Option Arm) (o' : Bool) (from_one : IsArming a' o') where
+module _ (b s : List ℕ) (l : List Bool) (a : Option Arm) (o : Bool) (m : IsMemory b s l a o) (at : ℕ) (piece : List ℕ)
+    (range : IsRange at (length piece) (length l)) (a' : Option Arm) (o' : Bool) (from_one : IsArming a' o') where
   pub piece_fits : 512 * at + length piece ≤ length b
   piece_fits = omega (arith, range.whole, range.within, m.now)
 
@@ -79,7 +84,8 @@ module _ (b s : List ℕ) (l : List Bool) (a : Option Arm) (o : Bool) (m : IsMem
 
   module _ (f c f' c' : ℕ) (later : f ≤ f') where
     pub memory_writes : {T E : Type 0} (r : T) → MovesOn 1 false f f' (schedule_of a o) (schedule_of a' o')
-        → WritesTo {T = T} {E = E} at piece (Ok r) (state_of (memory b s l a o f c)) (state_of (memory (with_piece b (512 * at) piece) s (with_marks l at (length piece / 512)) a' o' f' c'))
+        → WritesTo {T = T} {E = E} at piece (Ok r) (state_of (memory b s l a o f c))
+        (state_of (memory (with_piece b (512 * at) piece) s (with_marks l at (length piece / 512)) a' o' f' c'))
     memory_writes r moves = record {
       call = memory_run b s l a o f c m _ s _ a' o' f' c' memory_put false (length-with_marks l at (length piece / 512) range.within) later tt moves;
       contents = record { bytes = refl; loose = refl; settled = refl };
@@ -87,7 +93,8 @@ module _ (b s : List ℕ) (l : List Bool) (a : Option Arm) (o : Bool) (m : IsMem
     }
 
     pub memory_fails_to_write : {T E : Type 0} (e : E) → OnTrue true (Rose f f') → MovesOn 1 true f f' (schedule_of a o) (schedule_of a' o')
-        → WritesTo {T = T} {E = E} at piece (Err e) (state_of (memory b s l a o f c)) (state_of (memory (with_piece b (512 * at) spoiled_sector) s (with_marks l at (length piece / 512)) a' o' f' c'))
+        → WritesTo {T = T} {E = E} at piece (Err e) (state_of (memory b s l a o f c))
+        (state_of (memory (with_piece b (512 * at) spoiled_sector) s (with_marks l at (length piece / 512)) a' o' f' c'))
     memory_fails_to_write e cause moves = record {
       call = memory_run b s l a o f c m _ s _ a' o' f' c' memory_spoiled true (length-with_marks l at (length piece / 512) range.within) later cause moves;
       contents = record {

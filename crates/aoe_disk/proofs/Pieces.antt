@@ -96,8 +96,10 @@ unfolding spoiled_sector
 with_piece-whole xs e = ap (λ (l : List ℕ). spoiled_sector ++ l) (drop_all (length spoiled_sector) xs (omega (arith, length-spoiled_sector))) ∙ append-nil spoiled_sector
 
 -- the same of marks, and of a piece, that a method wrote to a field
-pub stored_marks : (loose new seen : List Bool) (len at n : ℕ) → len ≡ length loose → seen ≡ loose → new ≡ with_marks seen at n → at + n ≤ length loose → take len (new ++ drop (length new) loose) ≡ with_marks loose at n
+pub stored_marks : (loose new seen : List Bool) (len at n : ℕ) → len ≡ length loose → seen ≡ loose → new ≡ with_marks seen at n → at + n ≤ length loose
+    → take len (new ++ drop (length new) loose) ≡ with_marks loose at n
 stored_marks loose new seen len at n whole same e fits = stored loose new (with_marks loose at n) len whole (length-with_marks loose at n fits) (e ∙ ap (λ (l : List Bool). with_marks l at n) same)
 
-pub stored_piece : (bytes new seen piece : List ℕ) (len start : ℕ) → len ≡ length bytes → seen ≡ bytes → new ≡ with_piece seen start piece → start + length piece ≤ length bytes → take len (new ++ drop (length new) bytes) ≡ with_piece bytes start piece
+pub stored_piece : (bytes new seen piece : List ℕ) (len start : ℕ) → len ≡ length bytes → seen ≡ bytes → new ≡ with_piece seen start piece
+    → start + length piece ≤ length bytes → take len (new ++ drop (length new) bytes) ≡ with_piece bytes start piece
 stored_piece bytes new seen piece len start whole same e fits = stored bytes new (with_piece bytes start piece) len whole (length-with_piece bytes start piece fits) (e ∙ ap (λ (l : List ℕ). with_piece l start piece) same)

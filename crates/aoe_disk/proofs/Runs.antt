@@ -34,14 +34,16 @@ run_none d h = record { before = h; after = h; sectors = refl; tells = refl; lat
 
 -- a call failed, and no more are made
 
-due_stop : (m n : ℕ) (is_stop : Bool) (old new : Option (Option ℕ)) → m ≤ n → BothTell (MovesDue m true is_stop) old new → BothTell (MovesDue n true is_stop) old new
+due_stop : (m n : ℕ) (is_stop : Bool) (old new : Option (Option ℕ)) → m ≤ n → BothTell (MovesDue m true is_stop) old new
+    → BothTell (MovesDue n true is_stop) old new
 due_stop m n i None None le t = tt
 due_stop m n i None (Some y) le t = t
 due_stop m n i (Some x) None le t = t
 due_stop m n i (Some None) (Some y) le t = t
 due_stop m n i (Some (Some k)) (Some y) le t = (omega (arith, t.0), t.1)
 
-moves_stop : (m n before after : ℕ) (old new : Option Schedule) → m ≤ n → BothTell (MovesOn m true before after) old new → BothTell (MovesOn n true before after) old new
+moves_stop : (m n before after : ℕ) (old new : Option Schedule) → m ≤ n → BothTell (MovesOn m true before after) old new
+    → BothTell (MovesOn n true before after) old new
 moves_stop m n b a None None le t = tt
 moves_stop m n b a None (Some y) le t = t
 moves_stop m n b a (Some x) None le t = t
@@ -69,7 +71,8 @@ due_more m n true i (Some k) b c t u =
     let v : MovesDueCall n true i (k - m) c = subst (λ w. MovesDue n true i w c) t.1 u in
     (omega (arith, t.0, v.0), v.1)
 
-due_then : (m n : ℕ) (failed i j : Bool) (a b c : Option (Option ℕ)) → j ≡ i → BothTell (MovesDue m false i) a b → BothTell (MovesDue n failed j) b c → BothTell (MovesDue (m + n) failed i) a c
+due_then : (m n : ℕ) (failed i j : Bool) (a b c : Option (Option ℕ)) → j ≡ i → BothTell (MovesDue m false i) a b → BothTell (MovesDue n failed j) b c
+    → BothTell (MovesDue (m + n) failed i) a c
 due_then m n f i j None None None e t u = tt
 due_then m n f i j None None (Some z) e t u = u
 due_then m n f i j None (Some y) c e t u = absurd t
@@ -107,7 +110,8 @@ is_none_same None (Some y) k = cc
 is_none_same (Some x) None k = cc
 is_none_same (Some x) (Some y) k = refl
 
-move_then : (m n : ℕ) (failed : Bool) (p q r : ℕ) (a b c : Schedule) → p ≤ q → q ≤ r → MovesOn m false p q a b → MovesOn n failed q r b c → MovesOn (m + n) failed p r a c
+move_then : (m n : ℕ) (failed : Bool) (p q r : ℕ) (a b c : Schedule) → p ≤ q → q ≤ r → MovesOn m false p q a b → MovesOn n failed q r b c
+    → MovesOn (m + n) failed p r a c
 move_then m n f p q r a b c l h t u = record {
   kind = u.kind ∙ t.kind;
   fewer = λ e. omega (arith, t.fewer e, u.fewer (some_from a.armed b.armed t.kind e));
@@ -127,7 +131,8 @@ move_then m n f p q r a b c l h t u = record {
   due = due_then m n f (is_none a.armed) (is_none b.armed) a.due b.due c.due (is_none_same a.armed b.armed t.kind) t.due u.due;
 }
 
-moves_then : (m n : ℕ) (failed : Bool) (p q r : ℕ) (a b c : Option Schedule) → p ≤ q → q ≤ r → BothTell (MovesOn m false p q) a b → BothTell (MovesOn n failed q r) b c → BothTell (MovesOn (m + n) failed p r) a c
+moves_then : (m n : ℕ) (failed : Bool) (p q r : ℕ) (a b c : Option Schedule) → p ≤ q → q ≤ r → BothTell (MovesOn m false p q) a b
+    → BothTell (MovesOn n failed q r) b c → BothTell (MovesOn (m + n) failed p r) a c
 moves_then m n f p q r None None None l h t u = tt
 moves_then m n f p q r None None (Some z) l h t u = u
 moves_then m n f p q r None (Some y) c l h t u = absurd t
@@ -154,7 +159,8 @@ run_then m n f a b c t u = record {
 pub logs_then : (xs ys : List DeviceCall) (a b c : DiskState) → Logs xs a b → Logs ys b c → Logs (xs ++ ys) a c
 logs_then xs ys a b c one two = two ∙ ap (option_map (λ made. made ++ ys)) one ∙ joined a.log
   where
-    joined : (log : Option (List DeviceCall)) → option_map (λ made. made ++ ys) (option_map (λ made. made ++ xs) log) ≡ option_map (λ made. made ++ (xs ++ ys)) log
+    joined : (log : Option (List DeviceCall)) → option_map (λ made. made ++ ys) (option_map (λ made. made ++ xs) log)
+        ≡ option_map (λ made. made ++ (xs ++ ys)) log
     joined None = refl
     joined (Some made) = ap Some (append_assoc made xs ys)
 

@@ -18,7 +18,8 @@ pub length-sector : (xs : List ℕ) (s : ℕ) → 512 * s + 512 ≤ length xs �
 length-sector xs s fits = length-take-le 512 (drop (512 * s) xs) (omega (arith, length-drop (512 * s) xs))
 
 -- n sectors from lo on that agree one by one agree as a whole
-pub range_same : (n lo : ℕ) (x y : List ℕ) → ((s : ℕ) → lo ≤ s → s < lo + n → sector x s ≡ sector y s) → take (512 * n) (drop (512 * lo) x) ≡ take (512 * n) (drop (512 * lo) y)
+pub range_same : (n lo : ℕ) (x y : List ℕ) → ((s : ℕ) → lo ≤ s → s < lo + n → sector x s ≡ sector y s)
+    → take (512 * n) (drop (512 * lo) x) ≡ take (512 * n) (drop (512 * lo) y)
 range_same zero lo x y same = refl
 range_same (suc n) lo x y same =
     let size : 512 * suc n ≡ 512 + 512 * n = omega arith in
@@ -64,7 +65,8 @@ sector-read bytes at n k fits =
     ∙ ap (take 512) (drop-drop (512 * k) (512 * at) bytes) ∙ ap (λ (m : ℕ). take 512 (drop m bytes)) from
 
 -- what stands in a sector that a piece was written to
-pub sector-with_piece : (bytes piece : List ℕ) (at k : ℕ) → 512 * at + length piece ≤ length bytes → 512 * k + 512 ≤ length piece → sector (with_piece bytes (512 * at) piece) (at + k) ≡ sector piece k
+pub sector-with_piece : (bytes piece : List ℕ) (at k : ℕ) → 512 * at + length piece ≤ length bytes → 512 * k + 512 ≤ length piece
+    → sector (with_piece bytes (512 * at) piece) (at + k) ≡ sector piece k
 sector-with_piece bytes piece at k fits inside =
     let from : 512 * (at + k) ≡ 512 * at + 512 * k = omega arith in
     let there = drop_start-with_piece bytes (512 * at) piece fits in
@@ -74,20 +76,24 @@ sector-with_piece bytes piece at k fits inside =
     ∙ sector_front (piece ++ drop (512 * at + length piece) bytes) piece k (length piece) inside (take_at piece (drop (512 * at + length piece) bytes) (length piece) refl ∙ sym (take-length piece))
 
 -- one sector that was written, and the others
-pub sector-with_sector : (bytes piece : List ℕ) (s : ℕ) → length piece ≡ 512 → 512 * s + 512 ≤ length bytes → sector (with_piece bytes (512 * s) piece) s ≡ piece
+pub sector-with_sector : (bytes piece : List ℕ) (s : ℕ) → length piece ≡ 512 → 512 * s + 512 ≤ length bytes
+    → sector (with_piece bytes (512 * s) piece) s ≡ piece
 sector-with_sector bytes piece s size fits = ap (take 512) (drop_start-with_piece bytes (512 * s) piece (omega arith)) ∙ take_at piece (drop (512 * s + length piece) bytes) 512 size
 
-pub sector-with_sector_other : (bytes piece : List ℕ) (s t : ℕ) → length piece ≡ 512 → 512 * s + 512 ≤ length bytes → t ≢ s → sector (with_piece bytes (512 * s) piece) t ≡ sector bytes t
+pub sector-with_sector_other : (bytes piece : List ℕ) (s t : ℕ) → length piece ≡ 512 → 512 * s + 512 ≤ length bytes → t ≢ s
+    → sector (with_piece bytes (512 * s) piece) t ≡ sector bytes t
 sector-with_sector_other bytes piece s t size fits other = elim (cases_lt t s) [
   | inl below ↦ sector_outside bytes (with_piece bytes (512 * s) piece) s 1 t (with_piece_outside bytes (512 * s) piece (omega arith) 512 (omega arith)) (inl below)
   | inr above ↦ sector_outside bytes (with_piece bytes (512 * s) piece) s 1 t (with_piece_outside bytes (512 * s) piece (omega arith) 512 (omega arith)) (inr (omega arith))
 ]
 
-pub puts_touch : (at : ℕ) (piece : List ℕ) (old new : Contents) (sectors : ℕ) → HasShape sectors old → IsRange at (length piece) sectors → Puts at piece old new → Touches at (length piece / 512) old new
+pub puts_touch : (at : ℕ) (piece : List ℕ) (old new : Contents) (sectors : ℕ) → HasShape sectors old → IsRange at (length piece) sectors → Puts at piece old new
+    → Touches at (length piece / 512) old new
 puts_touch at piece old new sectors shape range puts =
     let fits : 512 * at + length piece ≤ length old.bytes = omega (arith, shape.bytes, range.whole, range.within) in
     let marks : at + length piece / 512 ≤ length old.loose = omega (arith, shape.marks, range.within) in
-    let same : SameOutside (512 * at) (512 * (length piece / 512)) old.bytes new.bytes = rw puts.bytes (with_piece_outside old.bytes (512 * at) piece fits (512 * (length piece / 512)) (omega (arith, range.whole))) in
+    let same : SameOutside (512 * at) (512 * (length piece / 512)) old.bytes new.bytes =
+    rw puts.bytes (with_piece_outside old.bytes (512 * at) piece fits (512 * (length piece / 512)) (omega (arith, range.whole))) in
     record {
       size = same.size;
       marks = ap length puts.loose ∙ length-with_marks old.loose at (length piece / 512) marks;
@@ -95,7 +101,8 @@ puts_touch at piece old new sectors shape range puts =
       kept = λ s out e. ap (λ (l : List Bool). is_loose l s) puts.loose ∙ is_loose-with_marks_outside old.loose at (length piece / 512) marks s out ∙ e;
     }
 
-pub spoils_touch : (at n : ℕ) (old new : Contents) (sectors : ℕ) → HasShape sectors old → IsRange at n sectors → Spoils at n old new → Touches at (n / 512) old new
+pub spoils_touch : (at n : ℕ) (old new : Contents) (sectors : ℕ) → HasShape sectors old → IsRange at n sectors → Spoils at n old new
+    → Touches at (n / 512) old new
 spoils_touch at n old new sectors shape range spoils =
     let marks : at + n / 512 ≤ length old.loose = omega (arith, shape.marks, range.within) in
     let same : SameOutside (512 * at) (512 * (n / 512)) old.bytes new.bytes = rw range.whole spoils.bytes in

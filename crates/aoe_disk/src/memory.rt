@@ -122,7 +122,8 @@ impl MemDisk {
     pub fn crash(self, how: Loss) -> MemDisk
         ensures image { IsLeft how self.bytes self.settled self.loose result.bytes }
         ensures allowed { CanLeave (contents_of self) result.bytes }
-        ensures rest { result ≡ record (fresh result.bytes) { faults = self.faults; calls = self.calls } }
+        ensures rest { result
+            ≡ record (fresh result.bytes) { faults = self.faults; calls = self.calls } }
     {
         let MemDisk {
             mut bytes,
@@ -157,7 +158,8 @@ impl Disk for MemDisk {
 
     fn read(&mut self, at: u64, out: &mut [u8]) -> Result<(), Failed>
         requires { IsRange at (length out.old) (length self.old.loose) }
-        ensures reads { Reads at (length out.old) result out.new (state_of self.old) (state_of self.new) }
+        ensures reads { Reads at (length out.old) result out.new (state_of self.old)
+            (state_of self.new) }
         ensures calls { self.new.calls ≡ next_count self.old.calls }
     {
         if self.meter.fails() {

@@ -82,7 +82,8 @@ given c test fails d same = let one : d ≡ c = cc in rw one fails
 pub flies-true : (c : Outstanding) → c.finished ≡ false → flies c ≡ true
 flies-true c flying = ap not flying
 
-pub indexed-finished : {slab : Slab Outstanding} {tags tags_cut tags_new tickets tickets_new dues dues_new firsts firsts_new resting resting_new : OrderTable} (k : ℕ) (c : Outstanding)
+pub indexed-finished : {slab : Slab Outstanding} {tags tags_cut tags_new tickets tickets_new dues dues_new firsts firsts_new resting resting_new : OrderTable}
+    (k : ℕ) (c : Outstanding)
     → get slab k ≡ Some c → c.finished ≡ false
     → Removed tags (by_tag k c) tags_cut → Inserted tags_cut (by_tag k (after_finish c)) tags_new → Removed tickets (by_ticket k c) tickets_new
     → Removed dues (by_due k c) dues_new → Removed firsts (by_first k c) firsts_new → Inserted resting (by_last k (after_finish c)) resting_new
@@ -106,7 +107,8 @@ indexed-finished {slab} k c at flying tag_out tag_in ticket_out due_out first_ou
       resting_room = rest_in.room ∙ i.resting_room;
     }
 
-pub indexed-repeated : {slab : Slab Outstanding} {tags tickets dues dues_cut dues_new firsts resting : OrderTable} (k : ℕ) (c r : Outstanding) (now : Millis) (path : PathNo) (wait : Millis)
+pub indexed-repeated : {slab : Slab Outstanding} {tags tickets dues dues_cut dues_new firsts resting : OrderTable} (k : ℕ) (c r : Outstanding) (now : Millis)
+    (path : PathNo) (wait : Millis)
     → get slab k ≡ Some c → c.finished ≡ false → r ≡ after_repeat now path wait c → Removed dues (by_due k c) dues_cut → Inserted dues_cut (by_due k r) dues_new
     → IsIndexed slab tags tickets dues firsts resting → IsIndexed (with_value slab k r) tags tickets dues_new firsts resting
 indexed-repeated {slab} k c r now path wait at flying r_is due_out due_in i =
@@ -131,7 +133,8 @@ indexed-repeated {slab} k c r now path wait at flying r_is due_out due_in i =
       resting_room = i.resting_room;
     }
 
-pub indexed-inserted : {slab next : Slab Outstanding} {tags tags_new tickets tickets_new dues dues_new firsts firsts_new resting : OrderTable} (k : ℕ) (c : Outstanding)
+pub indexed-inserted : {slab next : Slab Outstanding} {tags tags_new tickets tickets_new dues dues_new firsts firsts_new resting : OrderTable} (k : ℕ)
+    (c : Outstanding)
     → get slab k ≡ None → c.finished ≡ false → Updates slab next k (Some c) → slab_len next ≡ slab_len slab + 1 → next.capacity ≡ slab.capacity
     → slab_len slab < slab.capacity
     → Inserted tags (by_tag k c) tags_new → Inserted tickets (by_ticket k c) tickets_new → Inserted dues (by_due k c) dues_new

@@ -44,7 +44,8 @@ none-out slab k test entry entries fails o = record {
   all = λ slot d other at passes. o.all slot d at passes;
 }
 
-pub moved-but : (old new : Slab Outstanding) (k : ℕ) (slot : Option Outstanding) (test : Outstanding → Bool) (entry : ℕ → Outstanding → Entry) (entries : List Entry)
+pub moved-but : (old new : Slab Outstanding) (k : ℕ) (slot : Option Outstanding) (test : Outstanding → Bool) (entry : ℕ → Outstanding → Entry)
+    (entries : List Entry)
     → Updates old new k slot → IsOrderBut old k test entry entries → IsOrderBut new k test entry entries
 moved-but old new k slot test entry entries updates o = record {
   other = o.other;

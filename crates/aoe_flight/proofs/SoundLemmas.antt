@@ -109,7 +109,8 @@ abbrev pub table_of : ℕ → ℕ → ℕ → ℕ → ℕ → List Outstanding �
 table_of room rest dead latest last_tag commands = record { room = room; rest = rest; dead = dead; latest = latest; last_tag = last_tag; commands = live rest latest commands }
 
 -- the table shows its fields
-module _ {room rest dead latest last_tag : ℕ} (commands : List Outstanding) {table : FlightTable} (is : table_of room rest dead latest last_tag commands ≡ table) where
+module _ {room rest dead latest last_tag : ℕ} (commands : List Outstanding) {table : FlightTable}
+    (is : table_of room rest dead latest last_tag commands ≡ table) where
   pub time-of : (now : ℕ) → table.latest ≤ now → latest ≤ now
   time-of now later = rw (← is) at later
 
@@ -120,7 +121,8 @@ module _ {room rest dead latest last_tag : ℕ} (commands : List Outstanding) {t
 
   pub change-value : (now ticket : ℕ) (change : Outstanding → Outstanding) (after : List Outstanding) → table.latest ≤ now
       → after ≡ map (change_of ticket change) commands
-      → table_of room rest dead now last_tag after ≡ record table { latest = now; commands = live table.rest now (map (change_of ticket change) table.commands) }
+      → table_of room rest dead now last_tag after
+      ≡ record table { latest = now; commands = live table.rest now (map (change_of ticket change) table.commands) }
   change-value now ticket change after later after_is = rw (← is, after_is, live-changed rest latest now ticket change commands (time-of now later)) refl
 
   pub finish-value : (ticket : ℕ) (change : Outstanding → Outstanding) (after : List Outstanding) → after ≡ map (change_of ticket change) commands

@@ -137,7 +137,8 @@ head-of slab test entry entries e c o head at =
     (held.is ∙ ap (entry e.slot) one, ap test (sym one) ∙ held.passes)
 
 -- where the first of an order doesn't pass, none passes
-pub none-past : {slab : Slab Outstanding} {test : Outstanding → Bool} {entry : ℕ → Outstanding → Entry} {entries : List Entry} (passes : Outstanding → Bool) (e : Entry) (c : Outstanding)
+pub none-past : {slab : Slab Outstanding} {test : Outstanding → Bool} {entry : ℕ → Outstanding → Entry} {entries : List Entry} (passes : Outstanding → Bool)
+    (e : Entry) (c : Outstanding)
     → ((d : Outstanding) → passes d ≡ true → test d ≡ true) → IsOrderOf slab test entry entries → IsInOrder entries
     → slice_get entries 0 ≡ Some e → get slab e.slot ≡ Some c
     → ((k : ℕ) (d : Outstanding) → get slab k ≡ Some d → test c ≡ true → (entry e.slot c).at ≤ (entry k d).at → passes d ≡ false)

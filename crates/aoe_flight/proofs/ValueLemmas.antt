@@ -82,7 +82,8 @@ unmoved : (f : Outstanding → Outstanding) (p : Outstanding → Bool) (o : Opti
 unmoved f p None stays out = refl
 unmoved f p (Some d) stays out = rw (stays d (out d refl))
 
-pub changed-more : {f : Outstanding → Outstanding} {p : Outstanding → Bool} {old now : Slab Outstanding} {from slot : ℕ} {c : Outstanding} (next : Slab Outstanding) (d : Outstanding)
+pub changed-more : {f : Outstanding → Outstanding} {p : Outstanding → Bool} {old now : Slab Outstanding} {from slot : ℕ} {c : Outstanding}
+    (next : Slab Outstanding) (d : Outstanding)
     → ((e : Outstanding) → p e ≡ false → f e ≡ e) → f c ≡ d
     → Changed f old now from → IsFirstSlot p now from slot c → next ≡ with_value now slot d → Changed f old next (slot + 1)
 changed-more {f} {p} {old} {now} {from} {slot} {c} next d stays is changed first next_is =

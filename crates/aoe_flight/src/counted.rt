@@ -48,7 +48,8 @@ fn counted_over<L: Ledger>(commands: &Table, rest: Millis, now: Millis, blank: B
     requires name { blank.name ≡ L.name }
     requires parts { blank.parts ≡ L.parts }
     requires some { 0 < blank.parts }
-    ensures some { result ≡ true → length (live rest.0 now.0 (values commands.now)) < length (values commands.now) }
+    ensures some { result ≡ true → length (live rest.0 now.0 (values commands.now)) < length
+        (values commands.now) }
     ensures none { result ≡ false → live rest.0 now.0 (values commands.now) ≡ values commands.now }
 {
     let mut steps = Steps::<L>::new(blank);
@@ -57,7 +58,8 @@ fn counted_over<L: Ledger>(commands: &Table, rest: Millis, now: Millis, blank: B
 
 /// Whether a command rested out.
 pub fn is_any_over(commands: &Table, rest: Millis, now: Millis) -> bool
-    ensures some { result ≡ true → length (live rest.0 now.0 (values commands.now)) < length (values commands.now) }
+    ensures some { result ≡ true → length (live rest.0 now.0 (values commands.now)) < length
+        (values commands.now) }
     ensures none { result ≡ false → live rest.0 now.0 (values commands.now) ≡ values commands.now }
 {
     counted_over::<Brand>(commands, rest, now, Blank::new(1))

@@ -89,7 +89,8 @@ impl Flight {
         requires { self.old.latest ≤ now.0 }
         ensures full { IfNone result (self.old.room ≤ length (live_at self.old now.0)) }
         ensures room { OnSome result (length (live_at self.old now.0) < self.old.room) }
-        ensures tag { IfSome result (λ tag. IsNextTag (live_at self.old now.0) self.old.last_tag tag) }
+        ensures tag { IfSome result (λ tag. IsNextTag
+            (live_at self.old now.0) self.old.last_tag tag) }
         ensures command { IfSome result (λ tag.
             IsPermutation
             (launched ticket tag now path wait ∷ live_at self.old now.0)
@@ -130,7 +131,8 @@ impl Flight {
     /// What is known of a flying command.
     pub fn flying(&self, ticket: Ticket) -> Flying
         requires { IsSome (find (flies_as ticket.0) self.now.commands) }
-        ensures value { option_map (λ c. c.flying) (find (flies_as ticket.0) self.now.commands) ≡ Some result }
+        ensures value { option_map (λ c. c.flying) (find (flies_as ticket.0) self.now.commands)
+            ≡ Some result }
         ensures sent { (sent : List Outstanding) → Recalls self.now sent
             → (c : Outstanding) × Contains sent c × (flies_as ticket.0 c ≡ true) × (c.flying ≡ result) }
     {
@@ -158,7 +160,8 @@ impl Flight {
     /// Takes note that a flying command was sent again.
     pub fn repeat(&mut self, ticket: Ticket, now: Millis, path: PathNo, wait: Millis)
         requires { self.old.latest ≤ now.0 }
-        ensures value { self.new ≡ after_change self.old ticket.0 (after_repeat now path wait) now.0 }
+        ensures value { self.new ≡ after_change self.old ticket.0
+            (after_repeat now path wait) now.0 }
         ensures recalls { (sent : List Outstanding) → Recalls self.old sent
             → Recalls self.new (map (change_of ticket.0 (after_repeat now path wait)) sent) }
     {
@@ -168,7 +171,8 @@ impl Flight {
 
     /// The flying command with a tag.
     pub fn match_tag(&self, tag: u32) -> Option<Ticket>
-        ensures flying { result ≡ option_map (λ c. c.ticket) (find (flies_with tag) self.now.commands) }
+        ensures flying { result ≡ option_map (λ c. c.ticket)
+            (find (flies_with tag) self.now.commands) }
         ensures only { tag_count self.now.commands tag ≤ 1 }
         ensures flying_sent { IfSome result (λ ticket.
             (sent : List Outstanding) → Recalls self.now sent
@@ -193,7 +197,8 @@ impl Flight {
         ensures first { IfSome result (λ ticket.
             (c : Outstanding) × (c.ticket ≡ ticket)
             × IsFirst (is_expired self.now.dead now.0) lower self.now.commands c) }
-        ensures none { IfNone result (All (λ c. is_expired self.now.dead now.0 c ≡ false) self.now.commands) }
+        ensures none { IfNone result (All (λ c. is_expired self.now.dead now.0 c
+            ≡ false) self.now.commands) }
         ensures first_sent { IfSome result (λ ticket.
             (sent : List Outstanding) → Recalls self.now sent
             → (c : Outstanding) × (c.ticket ≡ ticket)
@@ -210,7 +215,8 @@ impl Flight {
     pub fn forget(&mut self, now: Millis)
         requires { self.old.latest ≤ now.0 }
         ensures value { self.new ≡ at_time self.old now.0 }
-        ensures recalls { (sent : List Outstanding) → Recalls self.old sent → Recalls self.new sent }
+        ensures recalls { (sent : List Outstanding) → Recalls self.old sent
+            → Recalls self.new sent }
     {
         self.latest = now;
         self.commands.forget(self.rest, now);

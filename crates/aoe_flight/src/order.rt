@@ -73,7 +73,8 @@ impl Order {
     fn place(&self, entry: &Entry) -> usize
         ensures bound { result ≤ length self.now.entries }
         ensures low { AllWithin (λ e. before e entry.now ≡ true) self.now.entries 0 result }
-        ensures high { AllWithin (λ e. before e entry.now ≡ false) self.now.entries result (length self.now.entries) }
+        ensures high { AllWithin (λ e. before e entry.now ≡ false) self.now.entries result
+            (length self.now.entries) }
         ensures order { IsInOrder self.now.entries }
         ensures fits { length self.now.entries ≤ self.now.room }
     {
@@ -84,7 +85,8 @@ impl Order {
     fn first_from(&self, from: Entry) -> Option<Entry>
         ensures there { IfSome result (λ e. Contains self.now.entries e) }
         ensures from { IfSome result (λ e. before e from ≡ false) }
-        ensures first { IfSome result (λ e. All (λ other. before other from ≡ false → before other e ≡ false) self.now.entries) }
+        ensures first { IfSome result (λ e. All
+            (λ other. before other from ≡ false → before other e ≡ false) self.now.entries) }
         ensures none { IfNone result (All (λ other. before other from ≡ true) self.now.entries) }
     {
         self.entries.get(self.place(&from)).copied()
@@ -94,8 +96,10 @@ impl Order {
     pub fn find(&self, at: u128, from: usize) -> Option<usize>
         ensures there { IfSome result (λ slot. Contains self.now.entries (entry_at at slot)) }
         ensures from { IfSome result (λ slot. from ≤ slot) }
-        ensures first { IfSome result (λ slot. (k : ℕ) → from ≤ k → k < slot → ¬ (Contains self.now.entries (entry_at at k))) }
-        ensures none { IfNone result ((k : ℕ) → from ≤ k → ¬ (Contains self.now.entries (entry_at at k))) }
+        ensures first { IfSome result (λ slot. (k : ℕ) → from ≤ k → k < slot
+            → ¬ (Contains self.now.entries (entry_at at k))) }
+        ensures none { IfNone result ((k : ℕ) → from ≤ k
+            → ¬ (Contains self.now.entries (entry_at at k))) }
     {
         let first = self.first_from(Entry {
             at,
@@ -126,9 +130,11 @@ impl Order {
 
     /// Whether an entry stands at a place behind which none stands before it.
     fn is_at(&self, place: usize, entry: &Entry) -> bool
-        requires { AllWithin (λ e. before e entry.now ≡ false) self.now.entries place (length self.now.entries) }
+        requires { AllWithin (λ e. before e entry.now ≡ false) self.now.entries place
+            (length self.now.entries) }
         ensures here { result ≡ true → slice_get self.now.entries place ≡ Some entry.now }
-        ensures out { result ≡ false → IfSome (slice_get self.now.entries place) (λ e. before entry.now e ≡ true) }
+        ensures out { result ≡ false → IfSome (slice_get self.now.entries place)
+            (λ e. before entry.now e ≡ true) }
     {
         match self.entries.get(place) {
             Some(other) => !entry.is_before(other),
@@ -143,7 +149,8 @@ impl Order {
         ensures length { length self.new.entries ≤ length self.old.entries + 1 }
         ensures there { Contains self.new.entries entry }
         ensures kept { (e : Entry) → Contains self.old.entries e → Contains self.new.entries e }
-        ensures only { (e : Entry) → Contains self.new.entries e → Contains self.old.entries e ⊎ (e ≡ entry) }
+        ensures only { (e : Entry) → Contains self.new.entries e
+            → Contains self.old.entries e ⊎ (e ≡ entry) }
     {
         let place = self.place(&entry);
         if !self.is_at(place, &entry) {
@@ -155,9 +162,12 @@ impl Order {
     pub fn remove(&mut self, entry: Entry)
         ensures room { self.new.room ≡ self.old.room }
         ensures shorter { length self.new.entries ≤ length self.old.entries }
-        ensures length { Contains self.old.entries entry → length self.new.entries + 1 ≤ length self.old.entries }
-        ensures kept { (e : Entry) → e ≢ entry → Contains self.old.entries e → Contains self.new.entries e }
-        ensures only { (e : Entry) → Contains self.new.entries e → Contains self.old.entries e × (e ≢ entry) }
+        ensures length { Contains self.old.entries entry
+            → length self.new.entries + 1 ≤ length self.old.entries }
+        ensures kept { (e : Entry) → e ≢ entry → Contains self.old.entries e
+            → Contains self.new.entries e }
+        ensures only { (e : Entry) → Contains self.new.entries e
+            → Contains self.old.entries e × (e ≢ entry) }
     {
         let place = self.place(&entry);
         if self.is_at(place, &entry) {

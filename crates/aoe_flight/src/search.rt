@@ -13,7 +13,8 @@ use std::sync::ledger::Ledger;
 /// The command that is due first, where it is due: one step.
 pub fn first_due<L: Ledger>(commands: &Table, now: Millis, steps: &mut Steps<L>) -> Option<Ticket>
     requires { All (λ c. c.flying.last.0 ≤ now.0) (values commands.now) }
-    ensures first { IfSome result (λ ticket. (c : Outstanding) × (c.ticket ≡ ticket) × IsFirst (is_due now.0) precedes (values commands.now) c) }
+    ensures first { IfSome result (λ ticket. (c : Outstanding) × (c.ticket ≡ ticket)
+        × IsFirst (is_due now.0) precedes (values commands.now) c) }
     ensures none { IfNone result (All (λ c. is_due now.0 c ≡ false) (values commands.now)) }
     ensures step { steps.new ≡ steps.old + 1 }
 {

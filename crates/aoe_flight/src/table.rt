@@ -86,8 +86,10 @@ impl Table {
 
     /// The first slot from `from` on whose command flies and has the ticket.
     fn flying_slot(&self, ticket: Ticket, from: usize) -> Option<(usize, Outstanding)>
-        ensures some { IfSome result (λ found. IsFirstSlot (flies_as ticket.0) self.now from found.0 found.1) }
-        ensures none { IfNone result ((k : ℕ) (c : Outstanding) → from ≤ k → get self.now k ≡ Some c → flies_as ticket.0 c ≡ false) }
+        ensures some { IfSome result (λ found. IsFirstSlot
+            (flies_as ticket.0) self.now from found.0 found.1) }
+        ensures none { IfNone result ((k : ℕ) (c : Outstanding) → from ≤ k → get self.now k ≡ Some c
+            → flies_as ticket.0 c ≡ false) }
     {
         let slot = self.tickets.find(u128::from(ticket.0), from)?;
         let command = self.slots.get(slot)?;
@@ -162,7 +164,8 @@ impl Table {
 
     /// A command that rested out.
     fn over_slot(&self, rest: Millis, now: Millis) -> Option<(usize, Outstanding)>
-        ensures some { IfSome result (λ found. (get self.now found.0 ≡ Some found.1) × (is_over rest.0 now.0 found.1 ≡ true)) }
+        ensures some { IfSome result (λ found. (get self.now found.0 ≡ Some found.1)
+            × (is_over rest.0 now.0 found.1 ≡ true)) }
         ensures none { IfNone result (All (λ c. is_over rest.0 now.0 c ≡ false) (values self.now)) }
     {
         let first = self.rests.first()?;
@@ -176,7 +179,8 @@ impl Table {
 
     /// Looks whether a command rested out: one step.
     pub fn is_any_over<L: Ledger>(&self, rest: Millis, now: Millis, steps: &mut Steps<L>) -> bool
-        ensures some { result ≡ true → length (live rest.0 now.0 (values self.now)) < length (values self.now) }
+        ensures some { result ≡ true → length (live rest.0 now.0 (values self.now)) < length
+            (values self.now) }
         ensures none { result ≡ false → live rest.0 now.0 (values self.now) ≡ values self.now }
         ensures step { steps.new ≡ steps.old + 1 }
     {
@@ -321,7 +325,8 @@ impl Table {
         requires room { length (values self.old) < self.old.capacity }
         requires tags { length (values self.old) < 2 ^ 32 - 1 }
         ensures tag { IsNextTag (values self.old) last result }
-        ensures values { IsPermutation (launched ticket result now path wait ∷ values self.old) (values self.new) }
+        ensures values { IsPermutation (launched ticket result now path wait ∷ values self.old)
+            (values self.new) }
         ensures capacity { self.new.capacity ≡ self.old.capacity }
     {
         let tag = self.next_tag(last);

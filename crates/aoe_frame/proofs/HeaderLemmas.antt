@@ -35,7 +35,8 @@ header_of a0 a1 a2 a3 a4 a5 b0 b1 b2 b3 b4 b5 v f e major minor command tag = re
 
 spelled : (a0 a1 a2 a3 a4 a5 b0 b1 b2 b3 b4 b5 v f e major minor command tag : ℕ) (rest : List ℕ)
     → v < 16 → IsFlags f → major < 65536 → tag < 4294967296
-    → head (header_bytes (header_of a0 a1 a2 a3 a4 a5 b0 b1 b2 b3 b4 b5 v f e major minor command tag) ++ rest) ≡ Some (header_of a0 a1 a2 a3 a4 a5 b0 b1 b2 b3 b4 b5 v f e major minor command tag)
+    → head (header_bytes (header_of a0 a1 a2 a3 a4 a5 b0 b1 b2 b3 b4 b5 v f e major minor command tag) ++ rest)
+    ≡ Some (header_of a0 a1 a2 a3 a4 a5 b0 b1 b2 b3 b4 b5 v f e major minor command tag)
 unfolding header_of
 spelled a0 a1 a2 a3 a4 a5 b0 b1 b2 b3 b4 b5 v f e major minor command tag rest sv sf sm st =
     let h : Header = header_of a0 a1 a2 a3 a4 a5 b0 b1 b2 b3 b4 b5 v f e major minor command tag in
@@ -112,11 +113,13 @@ shared-byte b clear =
     rw back whole
 
 -- pieces of a list that are other words for others
-joined : (a b t t' g g' m m' n n' u u' x : List ℕ) → x ≡ a ++ b ++ t ++ g ++ m ++ n ++ u → t ≡ t' → g ≡ g' → m ≡ m' → n ≡ n' → u ≡ u' → x ≡ a ++ b ++ t' ++ g' ++ m' ++ n' ++ u'
+joined : (a b t t' g g' m m' n n' u u' x : List ℕ) → x ≡ a ++ b ++ t ++ g ++ m ++ n ++ u → t ≡ t' → g ≡ g' → m ≡ m' → n ≡ n' → u ≡ u'
+    → x ≡ a ++ b ++ t' ++ g' ++ m' ++ n' ++ u'
 joined a b t t' g g' m m' n n' u u' x split t_is g_is m_is n_is u_is = cc
 
 -- the pieces of the first 24 bytes
-pieces : (f : List ℕ) → take 24 f ≡ take 6 f ++ take 6 (drop 6 f) ++ take 2 (drop 12 f) ++ take 2 (drop 14 f) ++ take 2 (drop 16 f) ++ take 2 (drop 18 f) ++ take 4 (drop 20 f)
+pieces : (f : List ℕ) → take 24 f ≡ take 6 f ++ take 6 (drop 6 f) ++ take 2 (drop 12 f) ++ take 2 (drop 14 f) ++ take 2 (drop 16 f) ++ take 2 (drop 18 f)
+    ++ take 4 (drop 20 f)
 pieces f =
     let twelve : take 12 f ≡ take 6 f ++ take 6 (drop 6 f) = take-add 6 6 f in
     let fourteen : take 14 f ≡ take 12 f ++ take 2 (drop 12 f) = take-add 12 2 f in
@@ -132,11 +135,14 @@ one-spelling h f small clear is =
     let P : Header → Type 0 = λ g. take 24 f ≡ header_bytes g in
     let long : 24 ≤ length f = r.long in
     let type_is : take 2 (drop 12 f) ≡ 136 ∷ 162 ∷ [] = two-at f 12 (omega arith) ∙ (rw (r.first, r.second) refl) in
-    let flags_are : take 2 (drop 14 f) ≡ (get_or f 14 0 / 16 * 16 + bit_and (get_or f 14 0) 12) ∷ get_or f 15 0 ∷ [] = two-at f 14 (omega arith) ∙ (rw (shared-byte (get_or f 14 0) clear) refl) in
+    let flags_are : take 2 (drop 14 f) ≡ (get_or f 14 0 / 16 * 16 + bit_and (get_or f 14 0) 12) ∷ get_or f 15 0 ∷ [] =
+    two-at f 14 (omega arith) ∙ (rw (shared-byte (get_or f 14 0) clear) refl) in
     let two : length (take 2 (drop 16 f)) ≡ 2 = ap length (two-at f 16 (omega arith)) in
     let four : length (take 4 (drop 20 f)) ≡ 4 = ap length (four-at f 20 (omega arith)) in
-    let major_is : to_be_bytes w16 (from_be_bytes w16 (take 2 (drop 16 f))) ≡ take 2 (drop 16 f) = be_bytes_2 (take 2 (drop 16 f)) (from_be_bytes w16 (take 2 (drop 16 f))) two (part-small f 2 16 small) refl in
-    let tag_is : to_be_bytes w32 (from_be_bytes w32 (take 4 (drop 20 f))) ≡ take 4 (drop 20 f) = be_bytes_4 (take 4 (drop 20 f)) (from_be_bytes w32 (take 4 (drop 20 f))) four (part-small f 4 20 small) refl in
+    let major_is : to_be_bytes w16 (from_be_bytes w16 (take 2 (drop 16 f))) ≡ take 2 (drop 16 f) =
+    be_bytes_2 (take 2 (drop 16 f)) (from_be_bytes w16 (take 2 (drop 16 f))) two (part-small f 2 16 small) refl in
+    let tag_is : to_be_bytes w32 (from_be_bytes w32 (take 4 (drop 20 f))) ≡ take 4 (drop 20 f) =
+    be_bytes_4 (take 4 (drop 20 f)) (from_be_bytes w32 (take 4 (drop 20 f))) four (part-small f 4 20 small) refl in
     let minor_is : take 2 (drop 18 f) ≡ get_or f 18 0 ∷ get_or f 19 0 ∷ [] = two-at f 18 (omega arith) in
     subst P r.same (joined (take 6 f) (take 6 (drop 6 f)) (take 2 (drop 12 f)) _ (take 2 (drop 14 f)) _ (take 2 (drop 16 f)) _ (take 2 (drop 18 f)) _ (take 4 (drop 20 f)) _ (take 24 f)
     (pieces f) type_is flags_are (sym major_is) minor_is (sym tag_is))

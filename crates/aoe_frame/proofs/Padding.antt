@@ -5,14 +5,16 @@ use Rattle.std.proofs.lemmas.List.{take-replicate, take_at, take_all}
 use Rattle.aoe_frame.specs.Header.{padded, stretched}
 
 -- zeros that fill a frame up to n bytes
-zeros-up : (f g zeros : List ℕ) (n m : ℕ) → n ≤ 9018 → m ≡ length f → g ≡ f ++ zeros → zeros ≡ take (n - m) (replicate 9018 0) → g ≡ f ++ replicate (n - length f) 0
+zeros-up : (f g zeros : List ℕ) (n m : ℕ) → n ≤ 9018 → m ≡ length f → g ≡ f ++ zeros → zeros ≡ take (n - m) (replicate 9018 0)
+    → g ≡ f ++ replicate (n - length f) 0
 zeros-up f g zeros n m small m_is g_is zeros_are =
     g_is ∙ ap (λ (z : List ℕ). f ++ z) (zeros_are ∙ take-replicate (n - m) 9018 0 (omega arith) ∙ ap (λ (k : ℕ). replicate (n - k) 0) m_is)
 
 pub padded-by : (f g zeros : List ℕ) (m : ℕ) → m ≡ length f → g ≡ f ++ zeros → zeros ≡ take (60 - m) (replicate 9018 0) → g ≡ padded f
 padded-by f g zeros m m_is g_is zeros_are = zeros-up f g zeros 60 m (omega arith) m_is g_is zeros_are
 
-pub stretched-by : (f g zeros : List ℕ) (n m : ℕ) → n ≤ 9018 → length f ≤ n → m ≡ length f → g ≡ f ++ zeros → zeros ≡ take (n - m) (replicate 9018 0) → g ≡ stretched n f
+pub stretched-by : (f g zeros : List ℕ) (n m : ℕ) → n ≤ 9018 → length f ≤ n → m ≡ length f → g ≡ f ++ zeros → zeros ≡ take (n - m) (replicate 9018 0)
+    → g ≡ stretched n f
 stretched-by f g zeros n m small short m_is g_is zeros_are =
     zeros-up f g zeros n m small m_is g_is zeros_are ∙ ap (λ (l : List ℕ). l ++ replicate (n - length f) 0) (sym (take_all n f short))
 

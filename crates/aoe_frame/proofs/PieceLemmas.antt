@@ -16,7 +16,8 @@ behind (x ∷ l) a b c d e f g h i j k m = ap (λ (l : List ℕ). x ∷ l) (behi
 pub two-at : (f : List ℕ) (k : ℕ) → suc k < length f → take 2 (drop k f) ≡ get_or f k 0 ∷ get_or f (suc k) 0 ∷ []
 two-at f k inside = let before : k < length f = omega arith in rw (drop-cons f k 0 before, drop-cons f (suc k) 0 inside) refl
 
-pub four-at : (f : List ℕ) (k : ℕ) → suc (suc (suc k)) < length f → take 4 (drop k f) ≡ get_or f k 0 ∷ get_or f (suc k) 0 ∷ get_or f (suc (suc k)) 0 ∷ get_or f (suc (suc (suc k))) 0 ∷ []
+pub four-at : (f : List ℕ) (k : ℕ) → suc (suc (suc k)) < length f → take 4 (drop k f)
+    ≡ get_or f k 0 ∷ get_or f (suc k) 0 ∷ get_or f (suc (suc k)) 0 ∷ get_or f (suc (suc (suc k))) 0 ∷ []
 four-at f k inside =
     let zeroth : k < length f = omega arith in
     let first : suc k < length f = omega arith in

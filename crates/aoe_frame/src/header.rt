@@ -330,5 +330,6 @@ pub fn header_reads_back()
 
 /// A law: a frame that is read as a header begins with its one spelling, reserved flags aside.
 pub fn header_spelling_is_one()
-    ensures { (h : Header) (f : List ℕ) → All (λ b. b < 2 ^ 8) f → slice_index f 14 % 4 ≡ 0 → head f ≡ Some h → take 24 f ≡ header_bytes h }
+    ensures { (h : Header) (f : List ℕ) → All (λ b. b < 2 ^ 8) f → slice_index f 14 % 4 ≡ 0
+        → head f ≡ Some h → take 24 f ≡ header_bytes h }
 {}

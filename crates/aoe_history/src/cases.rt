@@ -65,13 +65,17 @@ pub fn worked_values()
 /// while a response to its last command can come; a response from any source; nothing sent while a
 /// command is clear; nothing repeated.
 pub fn wrong_hosts()
-    ensures flush { (number : ℕ) (bytes : List ℕ) → MayCome setup almost_waited (Sent a 2 number bytes) → ⊥ }
-    ensures write { (number : ℕ) (bytes : List ℕ) → MayCome setup second_submitted (Sent a 2 number bytes) → ⊥ }
+    ensures flush { (number : ℕ) (bytes : List ℕ)
+        → MayCome setup almost_waited (Sent a 2 number bytes) → ⊥ }
+    ensures write { (number : ℕ) (bytes : List ℕ)
+        → MayCome setup second_submitted (Sent a 2 number bytes) → ⊥ }
     ensures tag { (sent : step.Sent) → sent.ticket.0 ≡ 2 → sent.tag ≡ 1
         → IsNext (host_after setup host_a beside_submitted) (commands_of host_a beside_submitted) sent → ⊥ }
     ensures source { MayCome setup forged_response (Took a 2 false) → ⊥ }
-    ensures silent { IsQuiet (host_after setup host_a write_submitted) (commands_of host_a write_submitted) → ⊥ }
-    ensures repeat { IsQuiet (host_after setup host_a write_due) (commands_of host_a write_due) → ⊥ }
+    ensures silent { IsQuiet (host_after setup host_a write_submitted)
+        (commands_of host_a write_submitted) → ⊥ }
+    ensures repeat { IsQuiet (host_after setup host_a write_due) (commands_of host_a write_due)
+        → ⊥ }
 {}
 
 /// A law: what hosts that choose paths wrongly would have done may not come: the next command on the
@@ -80,12 +84,18 @@ pub fn wrong_hosts()
 /// answered, so that no trip is known, nothing repeated after 1000 milliseconds, and something
 /// before; a second repeat less than 2000 milliseconds after the first one, and none after 2000.
 pub fn wrong_paths()
-    ensures one_path { (number tag : ℕ) → MayCome two_paths other_submitted (Sent a 2 number (read_on 0 1 tag)) → ⊥ }
-    ensures same_path { (number tag : ℕ) → MayCome two_paths due (Sent a 1 number (read_on 0 0 tag)) → ⊥ }
-    ensures unmarked { (number tag : ℕ) → MayCome two_paths missed (Sent a 2 number (read_on 0 1 tag)) → ⊥ }
-    ensures trip { IsQuiet (host_after two_paths two_host (Ticked 1000 ∷ measured)) (commands_of two_host (Ticked 1000 ∷ measured)) → ⊥ }
-    ensures last_trip { (number : ℕ) (bytes : List ℕ) → MayCome two_paths (Ticked 999 ∷ measured) (Sent a 2 number bytes) → ⊥ }
-    ensures steady { (number : ℕ) (bytes : List ℕ) → MayCome two_paths almost_grown (Sent a 1 number bytes) → ⊥ }
+    ensures one_path { (number tag : ℕ) → MayCome two_paths other_submitted
+        (Sent a 2 number (read_on 0 1 tag)) → ⊥ }
+    ensures same_path { (number tag : ℕ) → MayCome two_paths due (Sent a 1 number (read_on 0 0 tag))
+        → ⊥ }
+    ensures unmarked { (number tag : ℕ) → MayCome two_paths missed
+        (Sent a 2 number (read_on 0 1 tag)) → ⊥ }
+    ensures trip { IsQuiet (host_after two_paths two_host (Ticked 1000 ∷ measured))
+        (commands_of two_host (Ticked 1000 ∷ measured)) → ⊥ }
+    ensures last_trip { (number : ℕ) (bytes : List ℕ)
+        → MayCome two_paths (Ticked 999 ∷ measured) (Sent a 2 number bytes) → ⊥ }
+    ensures steady { (number : ℕ) (bytes : List ℕ)
+        → MayCome two_paths almost_grown (Sent a 1 number bytes) → ⊥ }
     ensures slow { IsQuiet (host_after two_paths two_host grown) (commands_of two_host grown) → ⊥ }
 {}
 
@@ -95,20 +105,28 @@ pub fn wrong_paths()
 /// that the disk was armed for, and none in it; a store with a cache that writes through, and one
 /// without that doesn't.
 pub fn wrong_shelves()
-    ensures flush { (reply : List ℕ) → MayCome setup flush_sent (Arrived device 3 (Replied NoEffect 4 reply)) → ⊥ }
-    ensures reserves { (reply : List ℕ) → MayCome (setup_with None (host_a ∷ host_b ∷ [])) kept_out (Arrived device 5 (Replied (Wrote (span 0)) 6 reply)) → ⊥ }
+    ensures flush { (reply : List ℕ) → MayCome setup flush_sent
+        (Arrived device 3 (Replied NoEffect 4 reply)) → ⊥ }
+    ensures reserves { (reply : List ℕ) → MayCome (setup_with None (host_a ∷ host_b ∷ [])) kept_out
+        (Arrived device 5 (Replied (Wrote (span 0)) 6 reply)) → ⊥ }
     ensures masks { (effect : Effect) (reply : List ℕ)
         → MayCome (setup_with None (host_a ∷ host_b ∷ [])) masked_out (Arrived device 3 (Replied effect 4 reply)) → ⊥ }
-    ensures lists { (how : Loss) → MayCome (setup_with None (host_a ∷ host_b ∷ [])) reserved (Crashed device empty_settings how) → ⊥ }
-    ensures early { (reply : List ℕ) → MayCome setup (armed 2) (Arrived device 1 (Replied (WriteFault (span 0)) 2 reply)) → ⊥ }
-    ensures never { (reply : List ℕ) → MayCome setup (armed 1) (Arrived device 1 (Replied (Wrote (span 0)) 2 reply)) → ⊥ }
-    ensures cached { MayCome (setup_with (Some 8) (host_a ∷ [])) crashed_write (Arrived device 3 (Replied NoEffect 4 (show (read_frame 2) (full 0x5a)))) → ⊥ }
-    ensures stored { MayCome setup crashed_write (Arrived device 3 (Replied NoEffect 4 (show (read_frame 2) zero_sector))) → ⊥ }
+    ensures lists { (how : Loss) → MayCome (setup_with None (host_a ∷ host_b ∷ [])) reserved
+        (Crashed device empty_settings how) → ⊥ }
+    ensures early { (reply : List ℕ) → MayCome setup (armed 2)
+        (Arrived device 1 (Replied (WriteFault (span 0)) 2 reply)) → ⊥ }
+    ensures never { (reply : List ℕ) → MayCome setup (armed 1)
+        (Arrived device 1 (Replied (Wrote (span 0)) 2 reply)) → ⊥ }
+    ensures cached { MayCome (setup_with (Some 8) (host_a ∷ [])) crashed_write
+        (Arrived device 3 (Replied NoEffect 4 (show (read_frame 2) (full 0x5a)))) → ⊥ }
+    ensures stored { MayCome setup crashed_write
+        (Arrived device 3 (Replied NoEffect 4 (show (read_frame 2) zero_sector))) → ⊥ }
 {}
 
 /// A law: what a wrong network would have done may not come: a frame handed over after its
 /// lifetime, and a frame dropped within it.
 pub fn wrong_networks()
     ensures expired { (fate : Fate) → MayCome setup flush_sent (Arrived device 1 fate) → ⊥ }
-    ensures dropped { (got : Option Got) → Enters setup write_sent (Hand 1 (Shelf 1)) got (Lost 1 ∷ write_sent) → ⊥ }
+    ensures dropped { (got : Option Got) → Enters setup write_sent (Hand 1 (Shelf 1)) got
+        (Lost 1 ∷ write_sent) → ⊥ }
 {}

@@ -25,7 +25,8 @@ ghost use Rattle.aoe_history.specs.Setup.{HostSetup, Setup, SlotSetup};
 /// earlier one is done, and where it rests on effects, only once no frame of an earlier write or edit
 /// can arrive any more. No two commands that fly or rest have one tag.
 pub fn host_commands_law()
-    ensures commands { (s : Setup) (host : HostSetup) (h : List Entry) → HasHost s host h → commands_of host h ≡ views host h }
+    ensures commands { (s : Setup) (host : HostSetup) (h : List Entry) → HasHost s host h
+        → commands_of host h ≡ views host h }
     ensures askable { (s : Setup) (host : HostSetup) (h : List Entry) → HasHost s host h → (c : ℕ) (x : Submission)
         → submission host h c ≡ Some x → IsAskable host x }
     ensures sent_once_submitted { (s : Setup) (host : HostSetup) (h : List Entry) → HasHost s host h → (c : ℕ) (x : Sending)

@@ -48,7 +48,8 @@ fn twice(alloc: Global, frame: &[u8]) -> Result<(FrameBytes, FrameBytes), NoMemo
 
 /// Takes back what was pushed last.
 fn take_back(history: &mut History)
-    ensures { (last : Entry) (before : List Entry) → history.old ≡ last ∷ before → history.new ≡ before }
+    ensures { (last : Entry) (before : List Entry) → history.old ≡ last ∷ before
+        → history.new ≡ before }
 {
     let _ = history.pop();
 }
@@ -100,7 +101,8 @@ impl Run {
 
     /// The frame with a number, as long as it can be handed over.
     pub fn fetch(&self, number: FrameNo) -> Option<&[u8]>
-        ensures frame { option_map (λ frame. frame.now) result ≡ arriving self.now.life self.now.entries number.0 }
+        ensures frame { option_map (λ frame. frame.now) result
+            ≡ arriving self.now.life self.now.entries number.0 }
         ensures bound { IfSome result (λ frame. length frame.now ≤ 9018) }
     {
         self.net.fetch(number, self.clock)
@@ -138,7 +140,8 @@ impl Run {
     /// Refuses a frame that the network has no room for. It asks for no memory, and comes first.
     fn check_room(&self, frame: &[u8]) -> Result<(), NetRefusal>
         ensures room { OnOk result (¬ IsFull (network_of self.now) frame.now) }
-        ensures full { IfErr result (λ refusal. (refusal ≡ NetRefusal.Full) × IsFull (network_of self.now) frame.now) }
+        ensures full { IfErr result (λ refusal. (refusal ≡ NetRefusal.Full)
+            × IsFull (network_of self.now) frame.now) }
     {
         if self.net.is_full(frame) {
             return Err(NetRefusal::Full);
@@ -150,7 +153,8 @@ impl Run {
     fn bring(&mut self, entry: Entry, frame: FrameBytes) -> Result<(), NoMemory>
         requires len { length frame ≤ 9018 }
         requires room { ¬ IsFull (network_of self.old) frame }
-        requires frames { frames (entry ∷ self.old.entries) ≡ record { bytes = frame; birth = clock self.old.entries } ∷ frames self.old.entries }
+        requires frames { frames (entry ∷ self.old.entries)
+            ≡ record { bytes = frame; birth = clock self.old.entries } ∷ frames self.old.entries }
         requires clock { clock (entry ∷ self.old.entries) ≡ clock self.old.entries }
         ensures ok { OnOk result (self.new ≡ with_entry self.old entry) }
         ensures err { OnErr result (self.new ≡ self.old) }
@@ -175,10 +179,12 @@ impl Run {
     /// A host sends a frame of a command.
     pub fn send(&mut self, host: &Name, ticket: Ticket, frame: &[u8]) -> Result<(), NetRefusal>
         requires len { length frame.now ≤ 9018 }
-        ensures ok { OnOk result (self.new ≡ with_entry self.old (Sent host.now ticket.0 (next_number self.old.entries) frame.now)) }
+        ensures ok { OnOk result (self.new ≡ with_entry self.old
+            (Sent host.now ticket.0 (next_number self.old.entries) frame.now)) }
         ensures room { OnOk result (¬ IsFull (network_of self.old) frame.now) }
         ensures full { result ≡ Err NetRefusal.Full → IsFull (network_of self.old) frame.now }
-        ensures memory { result ≡ Err NetRefusal.NoMemory → ¬ IsFull (network_of self.old) frame.now }
+        ensures memory { result ≡ Err NetRefusal.NoMemory
+            → ¬ IsFull (network_of self.old) frame.now }
         ensures err { OnErr result (self.new ≡ self.old) }
     {
         self.check_room(frame)?;
@@ -198,10 +204,12 @@ impl Run {
     /// A frame of no station comes into the network.
     pub fn inject(&mut self, frame: &[u8]) -> Result<(), NetRefusal>
         requires len { length frame.now ≤ 9018 }
-        ensures ok { OnOk result (self.new ≡ with_entry self.old (Injected (next_number self.old.entries) frame.now)) }
+        ensures ok { OnOk result (self.new ≡ with_entry self.old
+            (Injected (next_number self.old.entries) frame.now)) }
         ensures room { OnOk result (¬ IsFull (network_of self.old) frame.now) }
         ensures full { result ≡ Err NetRefusal.Full → IsFull (network_of self.old) frame.now }
-        ensures memory { result ≡ Err NetRefusal.NoMemory → ¬ IsFull (network_of self.old) frame.now }
+        ensures memory { result ≡ Err NetRefusal.NoMemory
+            → ¬ IsFull (network_of self.old) frame.now }
         ensures err { OnErr result (self.new ≡ self.old) }
     {
         self.check_room(frame)?;
@@ -222,10 +230,12 @@ impl Run {
         reply: &[u8],
     ) -> Result<(), NetRefusal>
         requires len { length reply.now ≤ 9018 }
-        ensures ok { OnOk result (self.new ≡ with_entry self.old (Arrived dev number.0 (Replied effect (next_number self.old.entries) reply.now))) }
+        ensures ok { OnOk result (self.new ≡ with_entry self.old
+            (Arrived dev number.0 (Replied effect (next_number self.old.entries) reply.now))) }
         ensures room { OnOk result (¬ IsFull (network_of self.old) reply.now) }
         ensures full { result ≡ Err NetRefusal.Full → IsFull (network_of self.old) reply.now }
-        ensures memory { result ≡ Err NetRefusal.NoMemory → ¬ IsFull (network_of self.old) reply.now }
+        ensures memory { result ≡ Err NetRefusal.NoMemory
+            → ¬ IsFull (network_of self.old) reply.now }
         ensures err { OnErr result (self.new ≡ self.old) }
     {
         self.check_room(reply)?;

@@ -86,7 +86,8 @@ module _ {life latest : ℕ} {commands : List Command} {c : Command} {timed bloc
 
 -- ---- a frame of a command is sent
 
-pub index-sent : {life latest unsent : ℕ} {commands : List Command} {timed ready : QueueTable} (less ticket : ℕ) (now : Millis) (timed_new ready_new : QueueTable)
+pub index-sent : {life latest unsent : ℕ} {commands : List Command} {timed ready : QueueTable} (less ticket : ℕ) (now : Millis)
+    (timed_new ready_new : QueueTable)
     → latest ≤ now.0 → less ≤ unsent → timed_new.waiters ≡ filter (keeps ticket) timed.waiters → ready_new.waiters ≡ filter (keeps ticket) ready.waiters
     → timed_new.room ≡ timed.room → ready_new.room ≡ ready.room
     → IsIndex life latest unsent commands timed ready → IsIndex life now.0 less (after_stage ticket (stage_sent now) commands) timed_new ready_new
@@ -101,7 +102,8 @@ index-sent {life} {latest} {unsent} {commands} {timed} {ready} less ticket now t
       ready_room = omega (arith, index.ready_room);
     }
 
-pub held-gone : {unsent : ℕ} {commands : List Command} {timed ready blocked : QueueTable} (less ticket : ℕ) (now : Millis) (timed_new ready_new blocked_new : QueueTable)
+pub held-gone : {unsent : ℕ} {commands : List Command} {timed ready blocked : QueueTable} (less ticket : ℕ) (now : Millis)
+    (timed_new ready_new blocked_new : QueueTable)
     → less ≤ unsent → timed_new.waiters ≡ filter (keeps ticket) timed.waiters → ready_new.waiters ≡ filter (keeps ticket) ready.waiters
     → blocked_new.waiters ≡ filter (keeps ticket) blocked.waiters → blocked_new.room ≡ blocked.room
     → AreHeld unsent commands timed ready blocked → AreHeld less (after_stage ticket (stage_sent now) commands) timed_new ready_new blocked_new

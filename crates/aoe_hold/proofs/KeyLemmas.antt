@@ -196,7 +196,8 @@ pub keys-fewer : {old new : BTreeSet Key} {commands : List Command} → AreKeysO
 keys-fewer all fewer = record { each = λ key has. all.each key (fewer key has) }
 
 -- a key that was added, or was there
-pub key-only : (old new : BTreeSet Key) (added key : Key) (c : Command) → contains key_cmp new key ≡ cond (is_at (key_cmp added) key) true (contains key_cmp old key)
+pub key-only : (old new : BTreeSet Key) (added key : Key) (c : Command) → contains key_cmp new key
+    ≡ cond (is_at (key_cmp added) key) true (contains key_cmp old key)
     → added ≡ key_of c → contains key_cmp new key ≡ true → (contains key_cmp old key ≡ true) ⊎ (is_key_of key c ≡ true)
 key-only old new added key c is own has = elim (cases_Bool (is_at (key_cmp added) key)) [
   | inl here ↦ inr (rw own at here)

@@ -91,7 +91,8 @@ waited_for ended w = nat_eq w.from ended.ticket.0 && finished ended.stage
 
 -- each command that was never sent stands in one of the queues, once, and in the last one with a command that it waits for
 pub record AreHeld (unsent : ℕ) (commands : List Command) (timed ready blocked : QueueTable) : Type 0 where
-  pub all : (test : Command → Bool) → count_by (λ w. test w.command) timed.waiters + count_by (λ w. test w.command) ready.waiters + count_by (λ w. test w.command) blocked.waiters
+  pub all : (test : Command → Bool) → count_by (λ w. test w.command) timed.waiters + count_by (λ w. test w.command) ready.waiters + count_by
+      (λ w. test w.command) blocked.waiters
       ≡ count_by (λ c. is_unsent c && test c) commands
   pub held : All (IsHeldBy commands) blocked.waiters
   pub room : unsent ≤ blocked.room
@@ -114,10 +115,13 @@ pub record Moved (now : ℕ) (old_timed old_ready timed ready : QueueTable) : Ty
 
 -- a command was queued by what keeps it back
 pub record Queued (life latest : ℕ) (commands : List Command) (c : Command) (old_timed old_blocked new_timed new_blocked : QueueTable) : Type 0 where
-  pub timed : (test : Command → Bool) → count_by (λ w. test w.command) new_timed.waiters ≡ cond (not (is_blocked commands c) && test c) 1 0 + count_by (λ w. test w.command) old_timed.waiters
-  pub blocked : (test : Command → Bool) → count_by (λ w. test w.command) new_blocked.waiters ≡ cond (is_blocked commands c && test c) 1 0 + count_by (λ w. test w.command) old_blocked.waiters
+  pub timed : (test : Command → Bool) → count_by (λ w. test w.command) new_timed.waiters
+      ≡ cond (not (is_blocked commands c) && test c) 1 0 + count_by (λ w. test w.command) old_timed.waiters
+  pub blocked : (test : Command → Bool) → count_by (λ w. test w.command) new_blocked.waiters
+      ≡ cond (is_blocked commands c && test c) 1 0 + count_by (λ w. test w.command) old_blocked.waiters
   pub knows : All (Knows life latest commands) old_timed.waiters → All (Knows life latest commands) new_timed.waiters
-  pub held : (skip : Waiter → Bool) → All (λ w. skip w ≡ false → IsHeldBy commands w) old_blocked.waiters → All (λ w. skip w ≡ false → IsHeldBy commands w) new_blocked.waiters
+  pub held : (skip : Waiter → Bool) → All (λ w. skip w ≡ false → IsHeldBy commands w) old_blocked.waiters
+      → All (λ w. skip w ≡ false → IsHeldBy commands w) new_blocked.waiters
   pub after : (ended : Command) → ((d : Command) → list_any (λ e. nat_eq e.ticket.0 ended.ticket.0 && blocks d e) commands ≡ false)
       → count_by (waited_for ended) new_blocked.waiters ≡ count_by (waited_for ended) old_blocked.waiters
   pub timed_room : new_timed.room ≡ old_timed.room
@@ -129,6 +133,7 @@ pub record Released (life latest : ℕ) (commands : List Command) (ended : Comma
       ≡ count_by (λ w. test w.command) old_timed.waiters + count_by (λ w. test w.command) old_blocked.waiters
   pub free : count_by (λ w. is_blocked commands w.command) timed.waiters ≡ count_by (λ w. is_blocked commands w.command) old_timed.waiters
   pub knows : All (Knows life latest commands) old_timed.waiters → All (Knows life latest commands) timed.waiters
-  pub held : All (λ w. waited_for ended w ≡ false → IsHeldBy commands w) old_blocked.waiters → All (λ w. waited_for ended w ≡ false → IsHeldBy commands w) blocked.waiters
+  pub held : All (λ w. waited_for ended w ≡ false → IsHeldBy commands w) old_blocked.waiters
+      → All (λ w. waited_for ended w ≡ false → IsHeldBy commands w) blocked.waiters
   pub timed_room : timed.room ≡ old_timed.room
   pub blocked_room : blocked.room ≡ old_blocked.room

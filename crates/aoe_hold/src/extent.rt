@@ -29,7 +29,8 @@ impl Extent {
 
     /// The extent of what is still held.
     pub fn kept(self, commands: &[Command]) -> Extent
-        ensures { (keys : Seen KeyValue) → Covers self keys commands.now → Covers result keys commands.now }
+        ensures { (keys : Seen KeyValue) → Covers self keys commands.now
+            → Covers result keys commands.now }
     {
         if commands.is_empty() {
             Extent::new()

@@ -98,7 +98,9 @@ impl HeldCommands {
     /// The stage of the command at a place changes.
     pub fn set_stage(&mut self, at: usize, stage: Stage)
         requires { at < length self.old.items }
-        ensures items { (d : Command) → self.new.items ≡ slice_set self.old.items at (record (slice_index_or self.old.items at d) { stage = stage }) }
+        ensures items { (d : Command) → self.new.items
+            ≡ slice_set self.old.items at (record
+            (slice_index_or self.old.items at d) { stage = stage }) }
         ensures keys { self.new.keys ≡ self.old.keys }
     {
         self.items[at].stage = stage;
@@ -114,7 +116,8 @@ impl HeldCommands {
         steps: &mut Steps<L>,
     ) -> u128
         requires { NonePastBefore life.0 past_from self.old.items }
-        ensures keys { (c : Command) → IsNonePast life.0 now.0 self.old.items c → HasKey self.old.keys c → HasKey self.new.keys c }
+        ensures keys { (c : Command) → IsNonePast life.0 now.0 self.old.items c
+            → HasKey self.old.keys c → HasKey self.new.keys c }
         ensures left { AreLeft life.0 now.0 self.old.items self.old.keys self.new.keys }
         ensures live { self.new.items ≡ live life.0 now.0 self.old.items }
         ensures none { NonePastBefore life.0 result self.new.items }

@@ -29,7 +29,8 @@ fn blocker(
     latest: Millis,
 ) -> Option<Ticket>
     requires { AreOutside life.0 latest.0 first until commands.now command.now }
-    ensures some { IfSome result (λ ticket. list_any (λ e. nat_eq e.ticket.0 ticket.0 && blocks command.now e) commands.now ≡ true) }
+    ensures some { IfSome result (λ ticket. list_any
+        (λ e. nat_eq e.ticket.0 ticket.0 && blocks command.now e) commands.now ≡ true) }
     ensures none { IfNone result (is_blocked commands.now command.now ≡ false) }
 {
     let mut left = until;
@@ -53,7 +54,8 @@ fn clear_from(
     latest: Millis,
 ) -> u128
     requires { AreOutside life.0 latest.0 first until commands.now command.now }
-    ensures { (now : ℕ) → latest.0 ≤ now → list_any (λ e. lingers life.0 now command.now e) commands.now ≡ not (nat_le result now) }
+    ensures { (now : ℕ) → latest.0 ≤ now → list_any
+        (λ e. lingers life.0 now command.now e) commands.now ≡ not (nat_le result now) }
 {
     let mut from = 0;
     let mut left = until;
@@ -167,7 +169,8 @@ fn release<L: Ledger>(
 )
     requires ascending { is_ascending commands.now ≡ true }
     requires past { ArePast life.0 latest.0 gone commands.now }
-    requires done { finished ended.now.stage ≡ true → (c : Command) → list_any (λ e. nat_eq e.ticket.0 ended.now.ticket.0 && blocks c e) commands.now ≡ false }
+    requires done { finished ended.now.stage ≡ true → (c : Command)
+        → list_any (λ e. nat_eq e.ticket.0 ended.now.ticket.0 && blocks c e) commands.now ≡ false }
     requires timed { length timed.old.waiters + length blocked.old.waiters ≤ timed.old.room }
     requires blocked { length timed.old.waiters + length blocked.old.waiters ≤ blocked.old.room }
     ensures released { Released life.0 latest.0 commands.now ended.now timed.old blocked.old timed.new blocked.new }
@@ -199,7 +202,8 @@ fn make_ready<L: Ledger>(timed: &mut Queue, ready: &mut Queue, now: Millis, step
     requires { length timed.old.waiters + length ready.old.waiters ≤ ready.old.room }
     ensures moved { Moved now.0 timed.old ready.old timed.new ready.new }
     ensures late { All (λ w. now.0 < w.from) timed.new.waiters }
-    ensures steps { steps.new + length ready.old.waiters ≡ steps.old + 1 + length ready.new.waiters }
+    ensures steps { steps.new + length ready.old.waiters
+        ≡ steps.old + 1 + length ready.new.waiters }
 {
     'past: while let Some(waiter) = timed.pop_past(now, steps) {
         ready.insert(Waiter { from: 0, ..waiter });
@@ -217,9 +221,12 @@ fn leave<L: Ledger>(
 )
     requires once { count_by (has_ticket ticket.0) timed.old.waiters + count_by (has_ticket ticket.0) ready.old.waiters
         + count_by (has_ticket ticket.0) blocked.old.waiters ≤ cond may_stand 1 0 }
-    ensures timed { timed.new.waiters ≡ filter (λ w. not (nat_eq w.command.ticket.0 ticket.0)) timed.old.waiters }
-    ensures ready { ready.new.waiters ≡ filter (λ w. not (nat_eq w.command.ticket.0 ticket.0)) ready.old.waiters }
-    ensures blocked { blocked.new.waiters ≡ filter (λ w. not (nat_eq w.command.ticket.0 ticket.0)) blocked.old.waiters }
+    ensures timed { timed.new.waiters ≡ filter
+        (λ w. not (nat_eq w.command.ticket.0 ticket.0)) timed.old.waiters }
+    ensures ready { ready.new.waiters ≡ filter
+        (λ w. not (nat_eq w.command.ticket.0 ticket.0)) ready.old.waiters }
+    ensures blocked { blocked.new.waiters ≡ filter
+        (λ w. not (nat_eq w.command.ticket.0 ticket.0)) blocked.old.waiters }
     ensures timed_room { timed.new.room ≡ timed.old.room }
     ensures ready_room { ready.new.room ≡ ready.old.room }
     ensures blocked_room { blocked.new.room ≡ blocked.old.room }

@@ -51,7 +51,8 @@ pub fn add_key(keys: &mut BTreeSet<Key>, command: &Command) -> Result<(), NoMemo
 
 /// Drops the keys of the commands that are past, and no others.
 pub fn drop_past(keys: &mut BTreeSet<Key>, commands: &[Command], life: Millis, now: Millis)
-    ensures kept { (c : CommandValue) → IsNonePast life.0 now.0 commands.now c → HasKey keys.old c → HasKey keys.new c }
+    ensures kept { (c : CommandValue) → IsNonePast life.0 now.0 commands.now c → HasKey keys.old c
+        → HasKey keys.new c }
     ensures left { AreLeft life.0 now.0 commands.now keys.old keys.new }
 {
     'held: for command in commands {
@@ -95,7 +96,8 @@ fn keeper_of_some(
     life: Millis,
 ) -> Keeper
     requires { is_ascending commands.now ≡ true }
-    ensures { IsKeeperOf life.0 (λ e. list_any (λ k. nat_eq e.ticket.0 k.ticket.0) keys.old) commands.now command.now result }
+    ensures { IsKeeperOf life.0 (λ e. list_any
+        (λ k. nat_eq e.ticket.0 k.ticket.0) keys.old) commands.now command.now result }
 {
     let mut from = 0;
     'keys: while let Some(key) = keys.next_back() {
@@ -119,7 +121,8 @@ fn keeper_of_sort(
     requires ascending { is_ascending commands.now ≡ true }
     requires covers { Covers extent keys.now commands.now }
     requires spans { goes_by_span extent command.now.kind ≡ true }
-    ensures { IsKeeperOf life.0 (λ e. beq (is_write e.kind) writes) commands.now command.now result }
+    ensures { IsKeeperOf life.0
+        (λ e. beq (is_write e.kind) writes) commands.now command.now result }
 {
     let first = u128::from(command.span.at);
     let low = Key {

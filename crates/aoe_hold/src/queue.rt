@@ -112,7 +112,8 @@ impl Queue {
 
     /// Takes the first command out, where its time is past: one step.
     pub fn pop_past<L: Ledger>(&mut self, now: Millis, steps: &mut Steps<L>) -> Option<Waiter>
-        ensures some { IfSome result (λ w. (w.from ≤ now.0) × (self.old.waiters ≡ w ∷ self.new.waiters)) }
+        ensures some { IfSome result (λ w. (w.from ≤ now.0)
+            × (self.old.waiters ≡ w ∷ self.new.waiters)) }
         ensures none { IfNone result (self.new.waiters ≡ self.old.waiters) }
         ensures late { IfNone result (All (λ w. now.0 < w.from) self.old.waiters) }
         ensures room { self.new.room ≡ self.old.room }
@@ -126,7 +127,8 @@ impl Queue {
 
     /// Takes the first command out, where it has this ticket: one step.
     pub fn pop_ticket<L: Ledger>(&mut self, ticket: Ticket, steps: &mut Steps<L>) -> Option<Waiter>
-        ensures some { IfSome result (λ w. (nat_eq w.command.ticket.0 ticket.0 ≡ true) × (self.old.waiters ≡ w ∷ self.new.waiters)) }
+        ensures some { IfSome result (λ w. (nat_eq w.command.ticket.0 ticket.0 ≡ true)
+            × (self.old.waiters ≡ w ∷ self.new.waiters)) }
         ensures none { IfNone result (self.new.waiters ≡ self.old.waiters) }
         ensures room { self.new.room ≡ self.old.room }
         ensures step { steps.new ≡ steps.old + 1 }
@@ -140,7 +142,8 @@ impl Queue {
 
     /// Takes a command out that waits for this: one step.
     pub fn pop_from<L: Ledger>(&mut self, from: u128, steps: &mut Steps<L>) -> Option<Waiter>
-        ensures some { IfSome result (λ w. (w.from ≡ from) × IsPermutation self.old.waiters (w ∷ self.new.waiters)) }
+        ensures some { IfSome result (λ w. (w.from ≡ from)
+            × IsPermutation self.old.waiters (w ∷ self.new.waiters)) }
         ensures none { IfNone result (self.new.waiters ≡ self.old.waiters) }
         ensures out { IfNone result (All (λ w. nat_eq w.from from ≡ false) self.old.waiters) }
         ensures room { self.new.room ≡ self.old.room }
@@ -168,7 +171,8 @@ impl Queue {
 
     /// Takes a command out: a step for each that waits.
     pub fn remove<L: Ledger>(&mut self, ticket: Ticket, steps: &mut Steps<L>)
-        ensures waiters { self.new.waiters ≡ filter (λ w. not (nat_eq w.command.ticket.0 ticket.0)) self.old.waiters }
+        ensures waiters { self.new.waiters ≡ filter
+            (λ w. not (nat_eq w.command.ticket.0 ticket.0)) self.old.waiters }
         ensures room { self.new.room ≡ self.old.room }
         ensures steps { steps.new ≡ steps.old + length self.old.waiters }
     {

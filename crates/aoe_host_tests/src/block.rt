@@ -28,7 +28,8 @@ fn is_read(op: &Option<Op>, at: u64, count: u32) -> bool {
 /// Whether the next part of a read is this one, which is handed then.
 fn hands(block: &mut Block, ticket: u64, at: u64, count: u32) -> bool
     requires { part_of ticket block.old.parts ≡ None }
-    ensures { (later : ℕ) → ticket < later → part_of later block.old.parts ≡ None → part_of later block.new.parts ≡ None }
+    ensures { (later : ℕ) → ticket < later → part_of later block.old.parts ≡ None
+        → part_of later block.new.parts ≡ None }
 {
     let Ok(part) = block.pending() else {
         return false;

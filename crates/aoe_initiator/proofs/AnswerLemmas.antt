@@ -56,7 +56,8 @@ all-true : (a b c : Bool) → a ≡ true → b ≡ true → c ≡ true → (a &&
 all-true a b c x y z = and_from (a && b) c (and_from a b x y) z
 
 -- a frame whose header isn't that of a response to the command
-not-answered : (host : Host) (c : HostCommand) (frame : List ℕ) (h : Header) → head frame ≡ Some h → is_answered host c h ≡ false → answer_to host c frame ≡ None
+not-answered : (host : Host) (c : HostCommand) (frame : List ℕ) (h : Header) → head frame ≡ Some h → is_answered host c h ≡ false
+    → answer_to host c frame ≡ None
 not-answered host c frame h is out = rw (is, out) refl
 
 pub untagged : (host : Host) (c : HostCommand) (frame : List ℕ) (h : Header) → head frame ≡ Some h → tagged h.tag c ≡ false → answer_to host c frame ≡ None
@@ -70,7 +71,8 @@ no-flyer cs tag c none there = at c.sends refl
     at None is = and_right (not c.done) false refl
     at (Some s) is = All-contains (λ o. flies_with tag o ≡ false) (sent_of cs) (outstanding c s) none (sent-there cs c s there is)
 
-pub all-untagged : (host : Host) (log : List Event) (frame : List ℕ) (h : Header) → head frame ≡ Some h → All (λ o. flies_with h.tag o ≡ false) (sent_of (commands log)) → All (λ c. answer_to host c frame ≡ None) (commands log)
+pub all-untagged : (host : Host) (log : List Event) (frame : List ℕ) (h : Header) → head frame ≡ Some h
+    → All (λ o. flies_with h.tag o ≡ false) (sent_of (commands log)) → All (λ c. answer_to host c frame ≡ None) (commands log)
 all-untagged host log frame h is none =
     All-weaker (Contains (commands log)) (λ c. answer_to host c frame ≡ None) (λ c there. untagged host c frame h is (no-flyer (commands log) h.tag c none there)) (commands log) (All-contains_itself (commands log))
 
@@ -83,7 +85,8 @@ pub record IsFlyer (cs : List HostCommand) (tag : ℕ) (t : Ticket) (c : HostCom
   pub ticket : c.ticket ≡ t
   pub flies : flies_with tag (outstanding c s) ≡ true
 
-pub flyer : (cs : List HostCommand) (tag : ℕ) (t : Ticket) → ((o : Outstanding) × (o.ticket ≡ t) × Contains (sent_of cs) o × (flies_with tag o ≡ true)) → (c : HostCommand) × IsFlyer cs tag t c
+pub flyer : (cs : List HostCommand) (tag : ℕ) (t : Ticket) → ((o : Outstanding) × (o.ticket ≡ t) × Contains (sent_of cs) o × (flies_with tag o ≡ true))
+    → (c : HostCommand) × IsFlyer cs tag t c
 flyer cs tag t found =
     let o = found.0 in
     let from = sent-from cs o found.2 in
@@ -106,7 +109,8 @@ flyer-tagged cs tag t c f =
     rw f.sends f.flies
 
 -- it is the only one
-only-flyer : (host : Host) (log : List Event) (tag : ℕ) (t : Ticket) (c x : HostCommand) → Matches log host → tag_count host.flight.commands tag ≤ 1 → IsFlyer (commands log) tag t c → Contains (commands log) x → tagged tag x ≡ true → x ≡ c
+only-flyer : (host : Host) (log : List Event) (tag : ℕ) (t : Ticket) (c x : HostCommand) → Matches log host → tag_count host.flight.commands tag ≤ 1
+    → IsFlyer (commands log) tag t c → Contains (commands log) x → tagged tag x ≡ true → x ≡ c
 only-flyer host log tag t c x m few f there flies = at x.sends refl
   where
     at : (o : Option Sending) → x.sends ≡ o → x ≡ c
@@ -121,7 +125,8 @@ only-flyer host log tag t c x m few f there flies = at x.sends refl
         one-command (commands log) c x c.ticket.0 (only 0 (commands log) c m.tickets f.there) there (ap (λ (e : Outstanding). e.ticket.0) same) refl
 
 -- where the command that flies with the tag isn't answered, none is
-pub none-answered : (host : Host) (log : List Event) (frame : List ℕ) (h : Header) (t : Ticket) (c : HostCommand) → Matches log host → head frame ≡ Some h → tag_count host.flight.commands h.tag ≤ 1 → IsFlyer (commands log) h.tag t c
+pub none-answered : (host : Host) (log : List Event) (frame : List ℕ) (h : Header) (t : Ticket) (c : HostCommand) → Matches log host → head frame ≡ Some h
+    → tag_count host.flight.commands h.tag ≤ 1 → IsFlyer (commands log) h.tag t c
     → answer_to host c frame ≡ None → All (λ x. answer_to host x frame ≡ None) (commands log)
 none-answered host log frame h t c m is few f none =
     All-weaker (Contains (commands log)) (λ x. answer_to host x frame ≡ None) each (commands log) (All-contains_itself (commands log))
@@ -133,7 +138,8 @@ none-answered host log frame h t c m is few f none =
     ]
 
 -- what flies is pending
-pub flyer-placed : (host : Host) (log : List Event) (tag : ℕ) (t : Ticket) (c : HostCommand) → Matches log host → IsFlyer (commands log) tag t c → place t host.pending ≢ None
+pub flyer-placed : (host : Host) (log : List Event) (tag : ℕ) (t : Ticket) (c : HostCommand) → Matches log host → IsFlyer (commands log) tag t c
+    → place t host.pending ≢ None
 flyer-placed host log tag t c m f missing =
     let waits = unfinished-there (commands log) c f.there f.waits in
     let inside = rw (← m.pending) at waits in
@@ -144,20 +150,23 @@ flyer-placed host log tag t c m f missing =
     absurd cc
 
 -- what is pending at the place of its ticket is the command that flies
-pub flyer-pending : (host : Host) (log : List Event) (tag at : ℕ) (t : Ticket) (c : HostCommand) (p : Pending) → Matches log host → IsFlyer (commands log) tag t c → place t host.pending ≡ Some at → slice_get host.pending at ≡ Some p → IsPending (commands log) p c
+pub flyer-pending : (host : Host) (log : List Event) (tag at : ℕ) (t : Ticket) (c : HostCommand) (p : Pending) → Matches log host
+    → IsFlyer (commands log) tag t c → place t host.pending ≡ Some at → slice_get host.pending at ≡ Some p → IsPending (commands log) p c
 flyer-pending host log tag at t c p m f found there =
     let is_ticket : p.ticket.0 ≡ t.0 = eqb-true p.ticket.0 t.0 (placed (λ (q : Pending). nat_eq q.ticket.0 t.0) host.pending at p found there) in
     let other = pending-command (commands log) host.pending at p m.pending there in
     let same : other.0 ≡ c = one-command (commands log) c other.0 t.0 (only 0 (commands log) c m.tickets f.there) other.1.there (ap (λ (u : Ticket). u.0) other.1.ticket ∙ is_ticket) (ap (λ (u : Ticket). u.0) f.ticket) in
     rw (← same) other.1
 
-pub not-from : (host : Host) (log : List Event) (frame : List ℕ) (h : Header) (p : Pending) (c : HostCommand) → IsPending (commands log) p c → head frame ≡ Some h → is_from (slice_get host.devices p.device.0) p.op h ≡ false → answer_to host c frame ≡ None
+pub not-from : (host : Host) (log : List Event) (frame : List ℕ) (h : Header) (p : Pending) (c : HostCommand) → IsPending (commands log) p c
+    → head frame ≡ Some h → is_from (slice_get host.devices p.device.0) p.op h ≡ false → answer_to host c frame ≡ None
 not-from host log frame h p c pending is out =
     let device : c.device.0 ≡ p.device.0 = ap (λ (d : DeviceNo). d.0) pending.device in
     let elsewhere : is_from (slice_get host.devices c.device.0) c.op h ≡ false = rw (device, pending.op) out in
     not-answered host c frame h is (last-false (is_response host h) (tagged h.tag c) (is_from (slice_get host.devices c.device.0) c.op h) elsewhere)
 
-pub no-answer : (host : Host) (log : List Event) (frame : List ℕ) (h : Header) (p : Pending) (c : HostCommand) → IsPending (commands log) p c → head frame ≡ Some h → answer p.op h (drop 24 frame) ≡ None → answer_to host c frame ≡ None
+pub no-answer : (host : Host) (log : List Event) (frame : List ℕ) (h : Header) (p : Pending) (c : HostCommand) → IsPending (commands log) p c
+    → head frame ≡ Some h → answer p.op h (drop 24 frame) ≡ None → answer_to host c frame ≡ None
 no-answer host log frame h p c pending is out =
     rw is (at (is_answered host c h) (rw pending.op out))
   where
@@ -165,25 +174,33 @@ no-answer host log frame h p c pending is out =
     at true none = none
     at false none = refl
 
-pub answered-by : (host : Host) (log : List Event) (frame : List ℕ) (h : Header) (t : Ticket) (p : Pending) (c : HostCommand) (a : Answer) → IsPending (commands log) p c → IsFlyer (commands log) h.tag t c → head frame ≡ Some h
-    → is_response host h ≡ true → is_from (slice_get host.devices p.device.0) p.op h ≡ true → answer p.op h (drop 24 frame) ≡ Some a → answer_to host c frame ≡ Some a
+pub answered-by : (host : Host) (log : List Event) (frame : List ℕ) (h : Header) (t : Ticket) (p : Pending) (c : HostCommand) (a : Answer)
+    → IsPending (commands log) p c → IsFlyer (commands log) h.tag t c → head frame ≡ Some h
+    → is_response host h ≡ true → is_from (slice_get host.devices p.device.0) p.op h ≡ true → answer p.op h (drop 24 frame) ≡ Some a
+    → answer_to host c frame ≡ Some a
 answered-by host log frame h t p c a pending f is hears from says =
     let device : c.device.0 ≡ p.device.0 = ap (λ (d : DeviceNo). d.0) pending.device in
     let here : is_from (slice_get host.devices c.device.0) c.op h ≡ true = rw (device, pending.op) from in
-    let yes_answered : is_answered host c h ≡ true = all-true (is_response host h) (tagged h.tag c) (is_from (slice_get host.devices c.device.0) c.op h) hears (flyer-tagged (commands log) h.tag t c f) here in
+    let yes_answered : is_answered host c h ≡ true =
+    all-true (is_response host h) (tagged h.tag c) (is_from (slice_get host.devices c.device.0) c.op h) hears (flyer-tagged (commands log) h.tag t c f) here in
     rw (is, yes_answered) (rw pending.op says)
 
-pub not-from-at : (host : Host) (log : List Event) (frame : List ℕ) (h : Header) (t : Ticket) (at : ℕ) (from : Bool) (c : HostCommand) → Matches log host → head frame ≡ Some h → tag_count host.flight.commands h.tag ≤ 1 → IsFlyer (commands log) h.tag t c
-    → place t host.pending ≡ Some at → from ≡ false → IfSome (slice_get host.pending at) (λ p. from ≡ is_from (slice_get host.devices p.device.0) p.op h) → All (λ x. answer_to host x frame ≡ None) (commands log)
+pub not-from-at : (host : Host) (log : List Event) (frame : List ℕ) (h : Header) (t : Ticket) (at : ℕ) (from : Bool) (c : HostCommand) → Matches log host
+    → head frame ≡ Some h → tag_count host.flight.commands h.tag ≤ 1 → IsFlyer (commands log) h.tag t c
+    → place t host.pending ≡ Some at → from ≡ false → IfSome (slice_get host.pending at) (λ p. from ≡ is_from (slice_get host.devices p.device.0) p.op h)
+    → All (λ x. answer_to host x frame ≡ None) (commands log)
 not-from-at host log frame h t at from c m is few f found out says =
     none-answered host log frame h t c m is few f (by_place (slice_get host.pending at) refl says)
   where
-    by_place : (o : Option Pending) → slice_get host.pending at ≡ o → IfSome o (λ p. from ≡ is_from (slice_get host.devices p.device.0) p.op h) → answer_to host c frame ≡ None
+    by_place : (o : Option Pending) → slice_get host.pending at ≡ o → IfSome o (λ p. from ≡ is_from (slice_get host.devices p.device.0) p.op h)
+        → answer_to host c frame ≡ None
     by_place None missing says_so = absurd (omega (arith, get-past host.pending at missing, placed-inside (λ (q : Pending). nat_eq q.ticket.0 t.0) host.pending at found))
     by_place (Some p) there says_so = not-from host log frame h p c (flyer-pending host log h.tag at t c p m f found there) is (sym says_so ∙ out)
 
-pub none-says : (host : Host) (log : List Event) (frame : List ℕ) (h : Header) (t : Ticket) (at : ℕ) (p : Pending) (c : HostCommand) → Matches log host → head frame ≡ Some h → tag_count host.flight.commands h.tag ≤ 1 → IsFlyer (commands log) h.tag t c
-    → place t host.pending ≡ Some at → slice_get host.pending at ≡ Some p → answer p.op h (drop 24 frame) ≡ None → All (λ x. answer_to host x frame ≡ None) (commands log)
+pub none-says : (host : Host) (log : List Event) (frame : List ℕ) (h : Header) (t : Ticket) (at : ℕ) (p : Pending) (c : HostCommand) → Matches log host
+    → head frame ≡ Some h → tag_count host.flight.commands h.tag ≤ 1 → IsFlyer (commands log) h.tag t c
+    → place t host.pending ≡ Some at → slice_get host.pending at ≡ Some p → answer p.op h (drop 24 frame) ≡ None
+    → All (λ x. answer_to host x frame ≡ None) (commands log)
 none-says host log frame h t at p c m is few f found there none =
     none-answered host log frame h t c m is few f (no-answer host log frame h p c (flyer-pending host log h.tag at t c p m f found there) is none)
 
@@ -196,14 +213,17 @@ from-device (Some d) op h is =
     (d, refl, (and_parts (holds d.about.remotes.items h.src) (same_id h.id d.about.id) outer.0).0)
 
 -- the pair of a response's ports is that of a path
-pub no-path : (host : Host) (log : List Event) (h : Header) (at : ℕ) (p : Pending) (from : Bool) → Matches log host → slice_get host.pending at ≡ Some p → is_response host h ≡ true → from ≡ true
+pub no-path : (host : Host) (log : List Event) (h : Header) (at : ℕ) (p : Pending) (from : Bool) → Matches log host → slice_get host.pending at ≡ Some p
+    → is_response host h ≡ true → from ≡ true
     → IfSome (slice_get host.pending at) (λ q. from ≡ is_from (slice_get host.devices q.device.0) q.op h)
-    → IfSome (slice_get host.pending at) (λ q. IfSome (slice_get host.devices q.device.0) (λ d. (n : ℕ) → pair_of d.paths n ≢ Some (h.dst, h.src))) → {P : Type 0} → P
+    → IfSome (slice_get host.pending at) (λ q. IfSome (slice_get host.devices q.device.0) (λ d. (n : ℕ) → pair_of d.paths n ≢ Some (h.dst, h.src)))
+    → {P : Type 0} → P
 no-path host log h at p from m there hears is_true says none =
     let F : Option Pending → Type 0 = λ o. IfSome o (λ q. from ≡ is_from (slice_get host.devices q.device.0) q.op h) in
     let here : is_from (slice_get host.devices p.device.0) p.op h ≡ true = sym (subst F there says) ∙ is_true in
     let d = from-device (slice_get host.devices p.device.0) p.op h here in
-    let N : Option Pending → Type 0 = λ o. IfSome o (λ q. IfSome (slice_get host.devices q.device.0) (λ e. (n : ℕ) → pair_of e.paths n ≢ Some (h.dst, h.src))) in
+    let N : Option Pending → Type 0 =
+    λ o. IfSome o (λ q. IfSome (slice_get host.devices q.device.0) (λ e. (n : ℕ) → pair_of e.paths n ≢ Some (h.dst, h.src))) in
     let M : Option Device → Type 0 = λ o. IfSome o (λ e. (n : ℕ) → pair_of e.paths n ≢ Some (h.dst, h.src)) in
     let never_so = subst M d.1 (subst N there none) in
     let has = has-paths host log p.device.0 d.0 m d.1 in
@@ -213,7 +233,8 @@ no-path host log h at p from m there hears is_true says none =
     let R : List Mac → Type 0 = λ l. slice_get l remote.0 ≡ Some h.src in
     absurd (never_so (local.0 * length d.0.paths.remotes + remote.0) (pair-of-number d.0.paths local.0 remote.0 _ h.dst h.src refl (subst L (sym has.locals) local.1) (subst R (sym has.remotes) remote.1)))
 
-came-on : (host : Host) (log : List Event) (frame : List ℕ) (h : Header) (p : Pending) (c : HostCommand) (path : PathNo) → Matches log host → IsPending (commands log) p c → head frame ≡ Some h → is_from (slice_get host.devices p.device.0) p.op h ≡ true
+came-on : (host : Host) (log : List Event) (frame : List ℕ) (h : Header) (p : Pending) (c : HostCommand) (path : PathNo) → Matches log host
+    → IsPending (commands log) p c → head frame ≡ Some h → is_from (slice_get host.devices p.device.0) p.op h ≡ true
     → IfSome (slice_get host.devices p.device.0) (λ d. pair_of d.paths path.0 ≡ Some (h.dst, h.src)) → CameOn host c frame path
 came-on host log frame h p c path m pending is from on =
     let d = from-device (slice_get host.devices p.device.0) p.op h from in
@@ -228,10 +249,14 @@ came-on host log frame h p c path m pending is from on =
     }
 
 -- the command that a frame answers
-pub found-answer : (host : Host) (log : List Event) (frame : List ℕ) (h : Header) (t : Ticket) (at : ℕ) (p : Pending) (c : HostCommand) (path : PathNo) (a : Answer) (from : Bool) → Matches log host → head frame ≡ Some h → IsFlyer (commands log) h.tag t c
-    → place t host.pending ≡ Some at → slice_get host.pending at ≡ Some p → is_response host h ≡ true → from ≡ true → IfSome (slice_get host.pending at) (λ q. from ≡ is_from (slice_get host.devices q.device.0) q.op h)
-    → IfSome (slice_get host.pending at) (λ q. IfSome (slice_get host.devices q.device.0) (λ d. pair_of d.paths path.0 ≡ Some (h.dst, h.src))) → answer p.op h (drop 24 frame) ≡ Some a
-    → (x : HostCommand) × Contains (commands log) x × IfSome (slice_get host.pending at) (λ q. q.ticket ≡ x.ticket) × (answer_to host x frame ≡ Some a) × CameOn host x frame path
+pub found-answer : (host : Host) (log : List Event) (frame : List ℕ) (h : Header) (t : Ticket) (at : ℕ) (p : Pending) (c : HostCommand) (path : PathNo)
+    (a : Answer) (from : Bool) → Matches log host → head frame ≡ Some h → IsFlyer (commands log) h.tag t c
+    → place t host.pending ≡ Some at → slice_get host.pending at ≡ Some p → is_response host h ≡ true → from ≡ true
+    → IfSome (slice_get host.pending at) (λ q. from ≡ is_from (slice_get host.devices q.device.0) q.op h)
+    → IfSome (slice_get host.pending at) (λ q. IfSome (slice_get host.devices q.device.0) (λ d. pair_of d.paths path.0 ≡ Some (h.dst, h.src)))
+    → answer p.op h (drop 24 frame) ≡ Some a
+    → (x : HostCommand) × Contains (commands log) x × IfSome (slice_get host.pending at) (λ q. q.ticket ≡ x.ticket) × (answer_to host x frame ≡ Some a)
+    × CameOn host x frame path
 found-answer host log frame h t at p c path a from m is f found there hears is_true says on given =
     let pending = flyer-pending host log h.tag at t c p m f found there in
     let P : Option Pending → Type 0 = λ o. IfSome o (λ q. from ≡ is_from (slice_get host.devices q.device.0) q.op h) in
@@ -246,10 +271,12 @@ found-answer host log frame h t at p c path a from m is f found there hears is_t
     )
 
 -- what flies is found
-pub flies-found : (tag : ℕ) (table : FlightTable) (t : Ticket) → option_map (λ (c : Outstanding). c.ticket) (find (flies_with tag) table.commands) ≡ Some t → IsSome (find (flies_as t.0) table.commands)
+pub flies-found : (tag : ℕ) (table : FlightTable) (t : Ticket) → option_map (λ (c : Outstanding). c.ticket) (find (flies_with tag) table.commands) ≡ Some t
+    → IsSome (find (flies_as t.0) table.commands)
 flies-found tag table t is = by_find (find (flies_with tag) table.commands) refl is
   where
-    by_find : (o : Option Outstanding) → find (flies_with tag) table.commands ≡ o → option_map (λ (c : Outstanding). c.ticket) o ≡ Some t → IsSome (find (flies_as t.0) table.commands)
+    by_find : (o : Option Outstanding) → find (flies_with tag) table.commands ≡ o → option_map (λ (c : Outstanding). c.ticket) o ≡ Some t
+        → IsSome (find (flies_as t.0) table.commands)
     by_find None none given = absurd cc
     by_find (Some c) some given =
         let found = find-there (flies_with tag) c table.commands some in

@@ -25,7 +25,8 @@ use Rattle.aoe_initiator.proofs.MatchLemmas.{one-command, pending-command, IsPen
 -- ---- what is pending and what flies
 
 -- a command that waits is pending
-pub is-placed : (host : Host) (log : List Event) (t : Ticket) (c : HostCommand) → Matches log host → Contains (commands log) c → c.done ≡ false → c.ticket.0 ≡ t.0 → place t host.pending ≢ None
+pub is-placed : (host : Host) (log : List Event) (t : Ticket) (c : HostCommand) → Matches log host → Contains (commands log) c → c.done ≡ false
+    → c.ticket.0 ≡ t.0 → place t host.pending ≢ None
 is-placed host log t c m there waits ticket missing =
     let entry : Waiting = record { ticket = c.ticket; device = c.device; op = c.op } in
     let found = Contains-map_from (λ (p : Pending). record { ticket = p.ticket; device = p.device; op = p.op }) host.pending entry (rw m.pending (unfinished-there (commands log) c there waits)) in
@@ -35,7 +36,8 @@ is-placed host log t c m there waits ticket missing =
     absurd cc
 
 -- a command's pending entry, by the place where its ticket is found
-pub pending-of : (host : Host) (log : List Event) (t : Ticket) (at : ℕ) (p : Pending) (c : HostCommand) → Matches log host → place t host.pending ≡ Some at → slice_get host.pending at ≡ Some p
+pub pending-of : (host : Host) (log : List Event) (t : Ticket) (at : ℕ) (p : Pending) (c : HostCommand) → Matches log host → place t host.pending ≡ Some at
+    → slice_get host.pending at ≡ Some p
     → Contains (commands log) c → c.ticket.0 ≡ t.0 → IsPending (commands log) p c
 pending-of host log t at p c m found there inside same =
     let is_ticket : p.ticket.0 ≡ t.0 = eqb-true _ _ (placed (λ (q : Pending). nat_eq q.ticket.0 t.0) host.pending at p found there) in
@@ -55,7 +57,8 @@ find-flies test (x ∷ xs) c there passes = elim (Contains-cons_cases x c xs the
     at false rest = rest
 
 -- a due command flies
-pub due-flies : (now : ℕ) (table : FlightTable) (t : Ticket) → ((c : Outstanding) × (c.ticket ≡ t) × IsFirst (is_due now) precedes table.commands c) → IsSome (find (flies_as t.0) table.commands)
+pub due-flies : (now : ℕ) (table : FlightTable) (t : Ticket) → ((c : Outstanding) × (c.ticket ≡ t) × IsFirst (is_due now) precedes table.commands c)
+    → IsSome (find (flies_as t.0) table.commands)
 due-flies now table t found =
     let c = found.0 in
     let parts = and_parts (not c.finished) (nat_le c.wait.0 (now - c.flying.last.0)) found.2.passes in
@@ -74,12 +77,14 @@ pub record IsClearOf (life now : ℕ) (cs : List HostCommand) (t : ℕ) (c : Hos
   pub clear : is_clear_at life now cs c ≡ true
 
 module _ (life now : ℕ) (cs : List HostCommand) where
-  clear-here : (n : ℕ) (c : HostCommand) → Contains cs c → c.device.0 ≡ n → is_clear_at life now cs c ≡ true → Contains (clear_tickets life now (entered_at n cs)) c.ticket.0
+  clear-here : (n : ℕ) (c : HostCommand) → Contains cs c → c.device.0 ≡ n → is_clear_at life now cs c ≡ true
+      → Contains (clear_tickets life now (entered_at n cs)) c.ticket.0
   clear-here n c there at_n is =
       let entered = Contains-map as_entered _ c (Contains-filter (is_at n) cs c there (eq-eqb c.device.0 n at_n)) in
       Contains-map (λ (d : Command). d.ticket.0) _ (as_entered c) (Contains-filter (is_clear life now (entered_at n cs)) _ (as_entered c) entered (rw (← at_n) is))
 
-  clear-there : (n k : ℕ) (devices : List Device) (c : HostCommand) → Contains cs c → c.device.0 ≡ n + k → k < length devices → is_clear_at life now cs c ≡ true → Contains (all_clear life now cs n devices) c.ticket.0
+  clear-there : (n k : ℕ) (devices : List Device) (c : HostCommand) → Contains cs c → c.device.0 ≡ n + k → k < length devices → is_clear_at life now cs c ≡ true
+      → Contains (all_clear life now cs n devices) c.ticket.0
   clear-there n k [] c there place_is inside is = absurd (omega (arith, inside))
   clear-there n zero (d ∷ devices) c there place_is inside is = Contains-append_left _ _ _ (clear-here n c there (omega (arith, place_is)) is)
   clear-there n (suc k) (d ∷ devices) c there place_is inside is =
@@ -109,7 +114,8 @@ abbrev clear_in : Host → List Event → List ℕ
 clear_in host log = all_clear host.life host.clock (commands log) 0 host.devices
 
 -- every clear command of the log is among the clear ones of the devices
-clear-all : (host : Host) (log : List Event) (c : HostCommand) → Matches log host → Contains (commands log) c → is_clear_at host.life host.clock (commands log) c ≡ true → Contains (clear_in host log) c.ticket.0
+clear-all : (host : Host) (log : List Event) (c : HostCommand) → Matches log host → Contains (commands log) c
+    → is_clear_at host.life host.clock (commands log) c ≡ true → Contains (clear_in host log) c.ticket.0
 clear-all host log c m there is =
     clear-there host.life host.clock (commands log) 0 c.device.0 host.devices c there (omega arith) (All-contains (λ x. x.device.0 < length host.devices) (commands log) c m.attached there) is
 
@@ -118,7 +124,8 @@ pub record IsLowestClear (host : Host) (log : List Event) (t : Ticket) (c : Host
   pub is : IsClearOf host.life host.clock (commands log) t.0 c
   pub first : All (λ other. is_clear_at host.life host.clock (commands log) other ≡ true → t.0 ≤ other.ticket.0) (commands log)
 
-pub lowest-clear : (host : Host) (log : List Event) (t : Ticket) → Matches log host → IsLowest (clear_in host log) (Some t) → (c : HostCommand) × IsLowestClear host log t c
+pub lowest-clear : (host : Host) (log : List Event) (t : Ticket) → Matches log host → IsLowest (clear_in host log) (Some t)
+    → (c : HostCommand) × IsLowestClear host log t c
 lowest-clear host log t m lowest =
     let found = clear-from host.life host.clock (commands log) 0 host.devices t.0 lowest.0 in (
       found.0,
@@ -131,10 +138,12 @@ lowest-clear host log t m lowest =
 
 -- ---- room
 
-live-count : (host : Host) (log : List Event) → Matches log host → InTime host → length (live_at host.flight host.clock) ≡ length (live (rest_time host.life) host.clock (sent_of (commands log)))
+live-count : (host : Host) (log : List Event) → Matches log host → InTime host
+    → length (live_at host.flight host.clock) ≡ length (live (rest_time host.life) host.clock (sent_of (commands log)))
 live-count host log m time = rw (← m.rest) (length-recalled host.flight (sent_of (commands log)) host.clock m.sent time.flight)
 
-pub has-room : (host : Host) (log : List Event) → Matches log host → InTime host → is_full host ≡ false → length (live (rest_time host.life) host.clock (sent_of (commands log))) < host.room
+pub has-room : (host : Host) (log : List Event) → Matches log host → InTime host → is_full host ≡ false
+    → length (live (rest_time host.life) host.clock (sent_of (commands log))) < host.room
 has-room host log m time room = omega (arith, leb-false _ _ room, live-count host log m time, m.room)
 
 -- ---- nothing to be sent
@@ -146,7 +155,8 @@ IsQuietIdle host = (log : List Event) → Matches log host → All (λ o. is_due
 quiet-full : (host : Host) → InTime host → is_full host ≡ true → IsQuietIdle host
 quiet-full host time full log m none = record { nothing_due = none; nothing_clear = inl (omega (arith, leb-true _ _ full, live-count host log m time, m.room)) }
 
-quiet-clear : (host : Host) (log : List Event) (lowest : Option Ticket) → Matches log host → All (λ o. is_due host.clock o ≡ false) (sent_of (commands log)) → IsLowest (clear_in host log) lowest
+quiet-clear : (host : Host) (log : List Event) (lowest : Option Ticket) → Matches log host → All (λ o. is_due host.clock o ≡ false) (sent_of (commands log))
+    → IsLowest (clear_in host log) lowest
     → IfSome lowest (λ t. place t host.pending ≡ None) → IsQuiet host (commands log)
 quiet-clear host log None m none lowest missing = record { nothing_due = none; nothing_clear = inr (All-weaker (Contains (commands log)) _ each (commands log) (All-contains_itself (commands log))) }
   where

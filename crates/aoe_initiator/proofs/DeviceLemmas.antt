@@ -23,10 +23,12 @@ use Rattle.aoe_initiator.proofs.LogLemmas.{end-keeps, entered-elsewhere, entered
 
 -- ---- one device
 
-hold-sent : (t : HoldTable) (entered : List Command) (ticket : ℕ) (now : Millis) → t.latest ≤ now.0 → Recalls t entered → Recalls (after_send t ticket now) (after_stage ticket (stage_sent now) entered)
+hold-sent : (t : HoldTable) (entered : List Command) (ticket : ℕ) (now : Millis) → t.latest ≤ now.0 → Recalls t entered
+    → Recalls (after_send t ticket now) (after_stage ticket (stage_sent now) entered)
 hold-sent t entered ticket now later recalls = recalls-after_stage t.life t.latest now.0 ticket (stage_sent now) t.commands entered later (λ last. refl) recalls
 
-hold-finished : (t : HoldTable) (entered : List Command) (ticket : ℕ) → Recalls t entered → Recalls (after_finish t ticket) (after_stage ticket stage_finished entered)
+hold-finished : (t : HoldTable) (entered : List Command) (ticket : ℕ) → Recalls t entered
+    → Recalls (after_finish t ticket) (after_stage ticket stage_finished entered)
 hold-finished t entered ticket recalls = recalls-after_stage t.life t.latest t.latest ticket stage_finished t.commands entered (omega arith) (λ last. refl) recalls
 
 hold-at : (t : HoldTable) (entered : List Command) (now : ℕ) → t.latest ≤ now → Recalls t entered → Recalls (at_time t now) entered
@@ -45,25 +47,29 @@ length-change_at n change [] = refl
 length-change_at zero change (d ∷ devices) = refl
 length-change_at (suc n) change (d ∷ devices) = ap suc (length-change_at n change devices)
 
-pub about-change_at : (n : ℕ) (change : Device → Device) (devices : List Device) → ((d : Device) → (change d).about ≡ d.about) → map (λ (d : Device). d.about) (change_at n change devices) ≡ map (λ (d : Device). d.about) devices
+pub about-change_at : (n : ℕ) (change : Device → Device) (devices : List Device) → ((d : Device) → (change d).about ≡ d.about)
+    → map (λ (d : Device). d.about) (change_at n change devices) ≡ map (λ (d : Device). d.about) devices
 about-change_at n change [] keeps = refl
 about-change_at zero change (d ∷ devices) keeps = rw (keeps d) refl
 about-change_at (suc n) change (d ∷ devices) keeps = rw (about-change_at n change devices keeps) refl
 
-pub All-change_at : (P : Device → Type 0) (n : ℕ) (change : Device → Device) (devices : List Device) → ((d : Device) → P d → P (change d)) → All P devices → All P (change_at n change devices)
+pub All-change_at : (P : Device → Type 0) (n : ℕ) (change : Device → Device) (devices : List Device) → ((d : Device) → P d → P (change d)) → All P devices
+    → All P (change_at n change devices)
 All-change_at P n change [] keeps all = all
 All-change_at P zero change (d ∷ devices) keeps all = All-cons P (change d) devices (keeps d (All-head P d devices all)) (All-tail P d devices all)
 All-change_at P (suc n) change (d ∷ devices) keeps all = All-cons P d (change_at n change devices) (All-head P d devices all) (All-change_at P n change devices keeps (All-tail P d devices all))
 
 -- an element that was read and changed is put back
-pub set-change_at : (devices : List Device) (n : ℕ) (d : Device) (change : Device → Device) → n < length devices → d ≡ get_or devices n d → set devices n (change d) ≡ change_at n change devices
+pub set-change_at : (devices : List Device) (n : ℕ) (d : Device) (change : Device → Device) → n < length devices → d ≡ get_or devices n d
+    → set devices n (change d) ≡ change_at n change devices
 set-change_at [] n d change inside read = absurd (omega (arith, inside))
 set-change_at (x ∷ devices) zero d change inside read = rw read refl
 set-change_at (x ∷ devices) (suc n) d change inside read = ap (λ (l : List Device). x ∷ l) (set-change_at devices n d change (omega (arith, inside)) read)
 
 -- ---- a send
 
-recall-elsewhere : (life n : ℕ) (t : Ticket) (tag : ℕ) (now : Millis) (path : PathNo) (ts : ℕ → ℕ) (cs : List HostCommand) (devices : List Device) → All (λ x. x.ticket.0 ≡ t.0 → x.device.0 < n) cs
+recall-elsewhere : (life n : ℕ) (t : Ticket) (tag : ℕ) (now : Millis) (path : PathNo) (ts : ℕ → ℕ) (cs : List HostCommand) (devices : List Device)
+    → All (λ x. x.ticket.0 ≡ t.0 → x.device.0 < n) cs
     → RecallAll life cs n devices → RecallAll life (map (at_ticket t (command_sent tag now path ts)) cs) n devices
 recall-elsewhere life n t tag now path ts cs [] before recalls = recalls
 recall-elsewhere life n t tag now path ts cs (d ∷ devices) before recalls = (
@@ -74,8 +80,10 @@ recall-elsewhere life n t tag now path ts cs (d ∷ devices) before recalls = (
       (All-weaker (λ x. x.ticket.0 ≡ t.0 → x.device.0 < n) (λ x. x.ticket.0 ≡ t.0 → x.device.0 < n + 1) (λ x less same. omega (arith, less same)) cs before) recalls.2,
 )
 
-pub recall-sent : (life n k : ℕ) (t : Ticket) (tag : ℕ) (now : Millis) (path : PathNo) (ts : ℕ → ℕ) (missed : Option PathNo) (cs : List HostCommand) (devices : List Device) → All (λ x. x.ticket.0 ≡ t.0 → x.device.0 ≡ n + k) cs → All (λ x. x.ticket.0 ≡ t.0 → x.done ≡ false) cs
-    → All (λ d. d.holds.latest ≤ now.0) devices → RecallAll life cs n devices → RecallAll life (map (at_ticket t (command_sent tag now path ts)) cs) n (change_at k (device_sent t now missed path) devices)
+pub recall-sent : (life n k : ℕ) (t : Ticket) (tag : ℕ) (now : Millis) (path : PathNo) (ts : ℕ → ℕ) (missed : Option PathNo) (cs : List HostCommand)
+    (devices : List Device) → All (λ x. x.ticket.0 ≡ t.0 → x.device.0 ≡ n + k) cs → All (λ x. x.ticket.0 ≡ t.0 → x.done ≡ false) cs
+    → All (λ d. d.holds.latest ≤ now.0) devices → RecallAll life cs n devices
+    → RecallAll life (map (at_ticket t (command_sent tag now path ts)) cs) n (change_at k (device_sent t now missed path) devices)
 recall-sent life n k t tag now path ts missed cs [] place open_ times recalls = recalls
 recall-sent life n zero t tag now path ts missed cs (d ∷ devices) place open_ times recalls = (
   recalls.0,
@@ -94,7 +102,8 @@ recall-sent life n (suc k) t tag now path ts missed cs (d ∷ devices) place ope
 
 -- ---- an end
 
-recall-elsewhere-ended : (life n : ℕ) (t : Ticket) (cs : List HostCommand) (devices : List Device) → All (λ x. x.ticket.0 ≡ t.0 → x.device.0 < n) cs → RecallAll life cs n devices → RecallAll life (map (at_ticket t after_end) cs) n devices
+recall-elsewhere-ended : (life n : ℕ) (t : Ticket) (cs : List HostCommand) (devices : List Device) → All (λ x. x.ticket.0 ≡ t.0 → x.device.0 < n) cs
+    → RecallAll life cs n devices → RecallAll life (map (at_ticket t after_end) cs) n devices
 recall-elsewhere-ended life n t cs [] before recalls = recalls
 recall-elsewhere-ended life n t cs (d ∷ devices) before recalls = (
   recalls.0,
@@ -104,7 +113,8 @@ recall-elsewhere-ended life n t cs (d ∷ devices) before recalls = (
       (All-weaker (λ x. x.ticket.0 ≡ t.0 → x.device.0 < n) (λ x. x.ticket.0 ≡ t.0 → x.device.0 < n + 1) (λ x less same. omega (arith, less same)) cs before) recalls.2,
 )
 
-pub recall-ended : (life n k : ℕ) (t : Ticket) (came : Option Arrival) (cs : List HostCommand) (devices : List Device) → All (λ x. x.ticket.0 ≡ t.0 → x.device.0 ≡ n + k) cs → RecallAll life cs n devices
+pub recall-ended : (life n k : ℕ) (t : Ticket) (came : Option Arrival) (cs : List HostCommand) (devices : List Device)
+    → All (λ x. x.ticket.0 ≡ t.0 → x.device.0 ≡ n + k) cs → RecallAll life cs n devices
     → RecallAll life (map (at_ticket t after_end) cs) n (change_at k (device_finished t came) devices)
 recall-ended life n k t came cs [] place recalls = recalls
 recall-ended life n zero t came cs (d ∷ devices) place recalls = (
@@ -126,7 +136,8 @@ recall-ended life n (suc k) t came cs (d ∷ devices) place recalls = (
 abbrev pub device_entered : Command → Device → Device
 device_entered c d = record d { holds = with_command d.holds c }
 
-recall-elsewhere-entered : (life n : ℕ) (cs : List HostCommand) (t : Ticket) (device : DeviceNo) (op : Op) (devices : List Device) → device.0 < n → RecallAll life cs n devices → RecallAll life (cs ++ submitted t device op ∷ []) n devices
+recall-elsewhere-entered : (life n : ℕ) (cs : List HostCommand) (t : Ticket) (device : DeviceNo) (op : Op) (devices : List Device) → device.0 < n
+    → RecallAll life cs n devices → RecallAll life (cs ++ submitted t device op ∷ []) n devices
 recall-elsewhere-entered life n cs t device op [] before recalls = recalls
 recall-elsewhere-entered life n cs t device op (d ∷ devices) before recalls = (
   recalls.0,
@@ -134,7 +145,8 @@ recall-elsewhere-entered life n cs t device op (d ∷ devices) before recalls = 
   recall-elsewhere-entered life (n + 1) cs t device op devices (omega (arith, before)) recalls.2,
 )
 
-pub recall-entered : (life n k : ℕ) (cs : List HostCommand) (t : Ticket) (device : DeviceNo) (op : Op) (devices : List Device) → device.0 ≡ n + k → RecallAll life cs n devices
+pub recall-entered : (life n k : ℕ) (cs : List HostCommand) (t : Ticket) (device : DeviceNo) (op : Op) (devices : List Device) → device.0 ≡ n + k
+    → RecallAll life cs n devices
     → RecallAll life (cs ++ submitted t device op ∷ []) n (change_at k (device_entered (new_command t (kind_of op) (span_of op))) devices)
 recall-entered life n k cs t device op [] place recalls = recalls
 recall-entered life n zero cs t device op (d ∷ devices) place recalls = (
@@ -150,7 +162,8 @@ recall-entered life n (suc k) cs t device op (d ∷ devices) place recalls = (
 
 -- ---- time
 
-pub recall-at : (life n now : ℕ) (cs : List HostCommand) (devices : List Device) → All (λ d. d.holds.latest ≤ now) devices → RecallAll life cs n devices → RecallAll life cs n (map (device_at now) devices)
+pub recall-at : (life n now : ℕ) (cs : List HostCommand) (devices : List Device) → All (λ d. d.holds.latest ≤ now) devices → RecallAll life cs n devices
+    → RecallAll life cs n (map (device_at now) devices)
 recall-at life n now cs [] times recalls = recalls
 recall-at life n now cs (d ∷ devices) times recalls = (
   recalls.0,
@@ -206,16 +219,19 @@ mapped-get f [] i d inside = absurd (omega (arith, inside))
 mapped-get f (x ∷ xs) zero d inside = refl
 mapped-get f (x ∷ xs) (suc i) d inside = mapped-get f xs i d (omega (arith, inside))
 
-mapped-set : (f : Device → Device) (xs : List Device) (i : ℕ) (d : Device) → i < length xs → set (map f (take i xs) ++ drop i xs) i (f (get_or xs i d)) ≡ map f (take (suc i) xs) ++ drop (suc i) xs
+mapped-set : (f : Device → Device) (xs : List Device) (i : ℕ) (d : Device) → i < length xs
+    → set (map f (take i xs) ++ drop i xs) i (f (get_or xs i d)) ≡ map f (take (suc i) xs) ++ drop (suc i) xs
 mapped-set f [] i d inside = absurd (omega (arith, inside))
 mapped-set f (x ∷ xs) zero d inside = refl
 mapped-set f (x ∷ xs) (suc i) d inside = ap (λ (l : List Device). f x ∷ l) (mapped-set f xs i d (omega (arith, inside)))
 
 -- the item of a loop, as the devices had it before
-pub item-before : (f : Device → Device) (xs items : List Device) (i : ℕ) (item : Device) → items ≡ map f (take i xs) ++ drop i xs → item ≡ get_or items i item → i < length xs → item ≡ get_or xs i item
+pub item-before : (f : Device → Device) (xs items : List Device) (i : ℕ) (item : Device) → items ≡ map f (take i xs) ++ drop i xs → item ≡ get_or items i item
+    → i < length xs → item ≡ get_or xs i item
 item-before f xs items i item is read inside = read ∙ ap (λ (l : List Device). get_or l i item) is ∙ mapped-get f xs i item inside
 
-pub items-after : (f : Device → Device) (xs items : List Device) (i : ℕ) (item new : Device) → items ≡ map f (take i xs) ++ drop i xs → item ≡ get_or items i item → i < length xs → new ≡ f item
+pub items-after : (f : Device → Device) (xs items : List Device) (i : ℕ) (item new : Device) → items ≡ map f (take i xs) ++ drop i xs
+    → item ≡ get_or items i item → i < length xs → new ≡ f item
     → set items i new ≡ map f (take (i + 1) xs) ++ drop (i + 1) xs
 items-after f xs items i item new is read inside changed =
     let before = item-before f xs items i item is read inside in
@@ -237,7 +253,8 @@ lowest-after xs i now item lowest found after inside read before here is life cs
     rw (next, is) (rw (clear-more life now 0 cs xs i inside) (lower-append (all_clear life now cs 0 (take i xs)) (clear_tickets life now (entered_at (0 + i) cs)) lowest found (before life cs recalls) found_is))
 
 -- what the search at one device gives
-pub lowest-of : (table : HoldTable) (now : ℕ) (found : Option Ticket) → IfSome found (λ ticket. (entered : List Command) → Recalls table entered → Contains (clear_tickets table.life now entered) ticket.0)
+pub lowest-of : (table : HoldTable) (now : ℕ) (found : Option Ticket) → IfSome found
+    (λ ticket. (entered : List Command) → Recalls table entered → Contains (clear_tickets table.life now entered) ticket.0)
     → IfSome found (λ ticket. (entered : List Command) → Recalls table entered → All (λ other. ticket.0 ≤ other) (clear_tickets table.life now entered))
     → IfNone found ((entered : List Command) → Recalls table entered → clear_tickets table.life now entered ≡ [])
     → (entered : List Command) → Recalls table entered → IsLowest (clear_tickets table.life now entered) found

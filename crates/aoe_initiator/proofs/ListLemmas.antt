@@ -61,7 +61,8 @@ pub Contains-filter_from : {X : Type 0} (p : X → Bool) (xs : List X) (x : X) �
 Contains-filter_from p [] x there = absurd (omega (arith, there.1))
 Contains-filter_from {X} p (y ∷ xs) x there = at (p y) refl there (Contains-filter_from p xs x)
   where
-    at : (b : Bool) → p y ≡ b → Contains (cond b (y ∷ filter p xs) (filter p xs)) x → (Contains (filter p xs) x → Contains xs x × (p x ≡ true)) → Contains (y ∷ xs) x × (p x ≡ true)
+    at : (b : Bool) → p y ≡ b → Contains (cond b (y ∷ filter p xs) (filter p xs)) x → (Contains (filter p xs) x → Contains xs x × (p x ≡ true))
+        → Contains (y ∷ xs) x × (p x ≡ true)
     at true is inside rest = elim (Contains-cons_cases y x (filter p xs) inside) [
       | inl same ↦ ((0, omega arith, same), ap p (sym same) ∙ is)
       | inr behind ↦ (Contains-cons y x xs (rest behind).0, (rest behind).1)

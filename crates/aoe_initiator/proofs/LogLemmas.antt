@@ -38,7 +38,8 @@ send-keeps tag now path ts = record { ticket = λ c. refl; device = λ c. refl; 
 pub end-keeps : Keeps after_end
 end-keeps = record { ticket = λ c. refl; device = λ c. refl; op = λ c. refl }
 
-kept : {X : Type 0} (part : HostCommand → X) (t : Ticket) (change : HostCommand → HostCommand) (c : HostCommand) → part (change c) ≡ part c → part (at_ticket t change c) ≡ part c
+kept : {X : Type 0} (part : HostCommand → X) (t : Ticket) (change : HostCommand → HostCommand) (c : HostCommand) → part (change c) ≡ part c
+    → part (at_ticket t change c) ≡ part c
 kept part t change c same = elim (cases_Bool (nat_eq c.ticket.0 t.0)) [
   | inl here ↦ rw here same
   | inr other ↦ rw other refl
@@ -50,13 +51,15 @@ kept-ticket t change c keeps = kept (λ d. d.ticket) t change c (keeps.ticket c)
 pub kept-device : (t : Ticket) (change : HostCommand → HostCommand) (c : HostCommand) → Keeps change → (at_ticket t change c).device ≡ c.device
 kept-device t change c keeps = kept (λ d. d.device) t change c (keeps.device c)
 
-pub ascends-kept : (n : ℕ) (t : Ticket) (change : HostCommand → HostCommand) (cs : List HostCommand) → Keeps change → Ascends n cs → Ascends n (map (at_ticket t change) cs)
+pub ascends-kept : (n : ℕ) (t : Ticket) (change : HostCommand → HostCommand) (cs : List HostCommand) → Keeps change → Ascends n cs
+    → Ascends n (map (at_ticket t change) cs)
 ascends-kept n t change [] keeps up = up
 ascends-kept n t change (c ∷ cs) keeps up =
     let same : (at_ticket t change c).ticket.0 ≡ c.ticket.0 = ap (λ (u : Ticket). u.0) (kept-ticket t change c keeps) in
     rw same (up.0, ascends-kept c.ticket.0 t change cs keeps up.1)
 
-pub ascends-push : (n : ℕ) (cs : List HostCommand) (c : HostCommand) → Ascends n cs → n < c.ticket.0 → All (λ x. x.ticket.0 < c.ticket.0) cs → Ascends n (cs ++ c ∷ [])
+pub ascends-push : (n : ℕ) (cs : List HostCommand) (c : HostCommand) → Ascends n cs → n < c.ticket.0 → All (λ x. x.ticket.0 < c.ticket.0) cs
+    → Ascends n (cs ++ c ∷ [])
 ascends-push n [] c up above all = (above, tt)
 ascends-push n (x ∷ cs) c up above all =
     (up.0, ascends-push x.ticket.0 cs c up.1 (All-head (λ y. y.ticket.0 < c.ticket.0) x cs all) (All-tail (λ y. y.ticket.0 < c.ticket.0) x cs all))
@@ -96,12 +99,14 @@ above-others n cs t is up =
 
 -- ---- what was sent
 
-map-cons_option : (f : Outstanding → Outstanding) (o : Option Outstanding) (xs : List Outstanding) → map f (cons_option o xs) ≡ cons_option (option_map f o) (map f xs)
+map-cons_option : (f : Outstanding → Outstanding) (o : Option Outstanding) (xs : List Outstanding)
+    → map f (cons_option o xs) ≡ cons_option (option_map f o) (map f xs)
 map-cons_option f None xs = refl
 map-cons_option f (Some o) xs = refl
 
 -- where each command is changed as its sends are
-sent-mapped : (change : HostCommand → HostCommand) (f : Outstanding → Outstanding) (cs : List HostCommand) → All (λ c. as_sent (change c) ≡ option_map f (as_sent c)) cs → sent_of (map change cs) ≡ map f (sent_of cs)
+sent-mapped : (change : HostCommand → HostCommand) (f : Outstanding → Outstanding) (cs : List HostCommand)
+    → All (λ c. as_sent (change c) ≡ option_map f (as_sent c)) cs → sent_of (map change cs) ≡ map f (sent_of cs)
 sent-mapped change f [] all = refl
 sent-mapped change f (c ∷ cs) all =
     rw (All-head (λ x. as_sent (change x) ≡ option_map f (as_sent x)) c cs all, sent-mapped change f cs (All-tail (λ x. as_sent (change x) ≡ option_map f (as_sent x)) c cs all))
@@ -136,14 +141,16 @@ unfolding made
 sent-ended t cs = sent-mapped (at_ticket t after_end) (change_of t.0 after_finish) cs (λ k d below. sent-ended-one t (get_or cs k d).ticket (get_or cs k d).device (get_or cs k d).op (get_or cs k d).sends (get_or cs k d).done)
 
 sent-repeated-one : (t : Ticket) (tag : ℕ) (now : Millis) (path : PathNo) (ts : ℕ → ℕ) (s : Sending) (device : DeviceNo) (op : Op)
-    → as_sent (after_send tag now path ts (made t device op (Some s) false)) ≡ option_map (change_of t.0 (after_repeat now path (record { 0 = wait_of (ts device.0) (s.count + 1) }))) (as_sent (made t device op (Some s) false))
+    → as_sent (after_send tag now path ts (made t device op (Some s) false))
+    ≡ option_map (change_of t.0 (after_repeat now path (record { 0 = wait_of (ts device.0) (s.count + 1) }))) (as_sent (made t device op (Some s) false))
 unfolding made
 sent-repeated-one t tag now path ts s device op =
     let same : nat_eq t.0 t.0 ≡ true = eq-eqb t.0 t.0 refl in
     let count : min (min s.count 32 + 1) 32 ≡ min (s.count + 1) 32 = omega arith in
     rw (same, count) refl
 
-others-sent : (t : Ticket) (f : Outstanding → Outstanding) (x : HostCommand) → nat_eq x.ticket.0 t.0 ≡ false → as_sent x ≡ option_map (change_of t.0 f) (as_sent x)
+others-sent : (t : Ticket) (f : Outstanding → Outstanding) (x : HostCommand) → nat_eq x.ticket.0 t.0 ≡ false
+    → as_sent x ≡ option_map (change_of t.0 f) (as_sent x)
 others-sent t f x other = at x.sends
   where
     at : (o : Option Sending) → option_map (outstanding x) o ≡ option_map (change_of t.0 f) (option_map (outstanding x) o)
@@ -151,8 +158,10 @@ others-sent t f x other = at x.sends
     at (Some s) = rw other (ap (λ (o : Outstanding). Some o) (sym (never (not x.done) (f (outstanding x s)) (outstanding x s))))
 
 -- the flying command with a ticket is sent again
-pub sent-repeated : (c : HostCommand) (s : Sending) (tag : ℕ) (now : Millis) (path : PathNo) (ts : ℕ → ℕ) (cs : List HostCommand) → c.sends ≡ Some s → c.done ≡ false → Only c cs
-    → sent_of (map (at_ticket c.ticket (after_send tag now path ts)) cs) ≡ map (change_of c.ticket.0 (after_repeat now path (record { 0 = wait_of (ts c.device.0) (s.count + 1) }))) (sent_of cs)
+pub sent-repeated : (c : HostCommand) (s : Sending) (tag : ℕ) (now : Millis) (path : PathNo) (ts : ℕ → ℕ) (cs : List HostCommand) → c.sends ≡ Some s
+    → c.done ≡ false → Only c cs
+    → sent_of (map (at_ticket c.ticket (after_send tag now path ts)) cs) ≡ map
+    (change_of c.ticket.0 (after_repeat now path (record { 0 = wait_of (ts c.device.0) (s.count + 1) }))) (sent_of cs)
 unfolding made
 sent-repeated c s tag now path ts cs sends flying alone =
     sent-mapped (at_ticket c.ticket (after_send tag now path ts)) (change_of c.ticket.0 f) cs
@@ -161,12 +170,14 @@ sent-repeated c s tag now path ts cs sends flying alone =
     f : Outstanding → Outstanding
     f = after_repeat now path (record { 0 = wait_of (ts c.device.0) (s.count + 1) })
 
-    here : as_sent (after_send tag now path ts c) ≡ option_map (change_of c.ticket.0 (after_repeat now path (record { 0 = wait_of (ts c.device.0) (s.count + 1) }))) (as_sent c)
+    here : as_sent (after_send tag now path ts c)
+        ≡ option_map (change_of c.ticket.0 (after_repeat now path (record { 0 = wait_of (ts c.device.0) (s.count + 1) }))) (as_sent c)
     here =
         let is : c ≡ made c.ticket c.device c.op (Some s) false = rw (← sends, ← flying) refl in
         rw is (sent-repeated-one c.ticket tag now path ts s c.device c.op)
 
-    each : (x : HostCommand) → (x.ticket.0 ≡ c.ticket.0 → x ≡ c) → as_sent (at_ticket c.ticket (after_send tag now path ts) x) ≡ option_map (change_of c.ticket.0 (after_repeat now path (record { 0 = wait_of (ts c.device.0) (s.count + 1) }))) (as_sent x)
+    each : (x : HostCommand) → (x.ticket.0 ≡ c.ticket.0 → x ≡ c) → as_sent (at_ticket c.ticket (after_send tag now path ts) x)
+        ≡ option_map (change_of c.ticket.0 (after_repeat now path (record { 0 = wait_of (ts c.device.0) (s.count + 1) }))) (as_sent x)
     each x is_c = elim (cases_Bool (nat_eq x.ticket.0 c.ticket.0)) [
       | inl same ↦
           rw same (rw (is_c (eqb-true x.ticket.0 c.ticket.0 same)) here)
@@ -174,17 +185,21 @@ sent-repeated c s tag now path ts cs sends flying alone =
           rw other (others-sent c.ticket (after_repeat now path (record { 0 = wait_of (ts c.device.0) (s.count + 1) })) x other)
     ]
 
-count-swap : (test : Outstanding → Bool) (a b : Outstanding) (xs ys : List Outstanding) → count_by test (a ∷ xs) ≡ count_by test ys → count_by test (a ∷ b ∷ xs) ≡ count_by test (b ∷ ys)
+count-swap : (test : Outstanding → Bool) (a b : Outstanding) (xs ys : List Outstanding) → count_by test (a ∷ xs) ≡ count_by test ys
+    → count_by test (a ∷ b ∷ xs) ≡ count_by test (b ∷ ys)
 count-swap test a b xs ys same = omega (arith, count-cons test a xs, count-cons test a (b ∷ xs), count-cons test b xs, count-cons test b ys, same)
 
 -- a command is sent for the first time
-pub sent-started : (n : ℕ) (c : HostCommand) (tag : ℕ) (now : Millis) (path : PathNo) (ts : ℕ → ℕ) (cs : List HostCommand) → Ascends n cs → Contains cs c → c.sends ≡ None → c.done ≡ false
-    → SameCommands (launched c.ticket tag now path (record { 0 = wait_of (ts c.device.0) 1 }) ∷ sent_of cs) (sent_of (map (at_ticket c.ticket (after_send tag now path ts)) cs))
+pub sent-started : (n : ℕ) (c : HostCommand) (tag : ℕ) (now : Millis) (path : PathNo) (ts : ℕ → ℕ) (cs : List HostCommand) → Ascends n cs → Contains cs c
+    → c.sends ≡ None → c.done ≡ false
+    → SameCommands (launched c.ticket tag now path (record { 0 = wait_of (ts c.device.0) 1 }) ∷ sent_of cs)
+    (sent_of (map (at_ticket c.ticket (after_send tag now path ts)) cs))
 sent-started n c tag now path ts [] up there fresh waits = absurd (omega (arith, there.1))
 sent-started n c tag now path ts (x ∷ cs) up there fresh waits = elim (Contains-cons_cases x c cs there) [
   | inl same ↦
       let is_ticket : nat_eq x.ticket.0 c.ticket.0 ≡ true = eq-eqb x.ticket.0 c.ticket.0 (ap (λ (e : HostCommand). e.ticket.0) same) in
-      let rest : map (at_ticket c.ticket (after_send tag now path ts)) cs ≡ cs = others-same c.ticket (after_send tag now path ts) cs (above-others x.ticket.0 cs c.ticket (ap (λ (e : HostCommand). e.ticket.0) same) up.1) in
+      let rest : map (at_ticket c.ticket (after_send tag now path ts)) cs ≡ cs =
+      others-same c.ticket (after_send tag now path ts) cs (above-others x.ticket.0 cs c.ticket (ap (λ (e : HostCommand). e.ticket.0) same) up.1) in
       let none : x.sends ≡ None = ap (λ (e : HostCommand). e.sends) same ∙ fresh in
       let open_ : x.done ≡ false = ap (λ (e : HostCommand). e.done) same ∙ waits in
       let ticket : x.ticket ≡ c.ticket = ap (λ (e : HostCommand). e.ticket) same in
@@ -197,8 +212,10 @@ sent-started n c tag now path ts (x ∷ cs) up there fresh waits = elim (Contain
       rw other (with_front (as_sent x) rest)
 ]
   where
-    with_front : (o : Option Outstanding) → SameCommands (launched c.ticket tag now path (record { 0 = wait_of (ts c.device.0) 1 }) ∷ sent_of cs) (sent_of (map (at_ticket c.ticket (after_send tag now path ts)) cs))
-        → SameCommands (launched c.ticket tag now path (record { 0 = wait_of (ts c.device.0) 1 }) ∷ cons_option o (sent_of cs)) (cons_option o (sent_of (map (at_ticket c.ticket (after_send tag now path ts)) cs)))
+    with_front : (o : Option Outstanding) → SameCommands (launched c.ticket tag now path (record { 0 = wait_of (ts c.device.0) 1 }) ∷ sent_of cs)
+        (sent_of (map (at_ticket c.ticket (after_send tag now path ts)) cs))
+        → SameCommands (launched c.ticket tag now path (record { 0 = wait_of (ts c.device.0) 1 }) ∷ cons_option o (sent_of cs))
+        (cons_option o (sent_of (map (at_ticket c.ticket (after_send tag now path ts)) cs)))
     with_front None rest = rest
     with_front (Some o) rest = λ test. count-swap test (launched c.ticket tag now path (record { 0 = wait_of (ts c.device.0) 1 })) o (sent_of cs) (sent_of (map (at_ticket c.ticket (after_send tag now path ts)) cs)) (rest test)
 
@@ -212,7 +229,8 @@ at-kept n t change c keeps = ap (λ (d : DeviceNo). nat_eq d.0 n) (kept-device t
 
 -- where each command of a device changes as its stage does
 entered-mapped : (n : ℕ) (t : Ticket) (change : HostCommand → HostCommand) (f : Command → Command) (cs : List HostCommand) → Keeps change
-    → All (λ c. is_at n c ≡ true → as_entered (at_ticket t change c) ≡ f (as_entered c)) cs → entered_at n (map (at_ticket t change) cs) ≡ map f (entered_at n cs)
+    → All (λ c. is_at n c ≡ true → as_entered (at_ticket t change c) ≡ f (as_entered c)) cs
+    → entered_at n (map (at_ticket t change) cs) ≡ map f (entered_at n cs)
 entered-mapped n t change f [] keeps all = refl
 entered-mapped n t change f (c ∷ cs) keeps all =
     rw (at-kept n t change c keeps)
@@ -226,7 +244,8 @@ entered-mapped n t change f (c ∷ cs) keeps all =
     at false here rest = rest
 
 -- a device at which no command has the ticket
-pub entered-others : (n : ℕ) (t : Ticket) (change : HostCommand → HostCommand) (cs : List HostCommand) → Keeps change → All (λ x. x.ticket.0 ≡ t.0 → x.device.0 ≢ n) cs
+pub entered-others : (n : ℕ) (t : Ticket) (change : HostCommand → HostCommand) (cs : List HostCommand) → Keeps change
+    → All (λ x. x.ticket.0 ≡ t.0 → x.device.0 ≢ n) cs
     → entered_at n (map (at_ticket t change) cs) ≡ entered_at n cs
 entered-others n t change [] keeps all = refl
 entered-others n t change (c ∷ cs) keeps all =
@@ -246,7 +265,8 @@ entered-others n t change (c ∷ cs) keeps all =
         rw (ap as_entered is, rest) refl
     at false here elsewhere rest = rest
 
-stage-sent-one : (now : Millis) (tag : ℕ) (path : PathNo) (timeout : ℕ) (sends : Option Sending) → stage (Some (one_more tag now path timeout sends)) false ≡ stage_sent now (stage sends false)
+stage-sent-one : (now : Millis) (tag : ℕ) (path : PathNo) (timeout : ℕ) (sends : Option Sending)
+    → stage (Some (one_more tag now path timeout sends)) false ≡ stage_sent now (stage sends false)
 stage-sent-one now tag path timeout None = refl
 stage-sent-one now tag path timeout (Some s) = refl
 
@@ -255,13 +275,15 @@ stage-ended-one None done = refl
 stage-ended-one (Some s) true = refl
 stage-ended-one (Some s) false = refl
 
-pub entered-sent : (n : ℕ) (t : Ticket) (tag : ℕ) (now : Millis) (path : PathNo) (ts : ℕ → ℕ) (cs : List HostCommand) → All (λ x. x.ticket.0 ≡ t.0 → x.done ≡ false) cs
+pub entered-sent : (n : ℕ) (t : Ticket) (tag : ℕ) (now : Millis) (path : PathNo) (ts : ℕ → ℕ) (cs : List HostCommand)
+    → All (λ x. x.ticket.0 ≡ t.0 → x.done ≡ false) cs
     → entered_at n (map (at_ticket t (after_send tag now path ts)) cs) ≡ after_stage t.0 (stage_sent now) (entered_at n cs)
 entered-sent n t tag now path ts cs waits =
     entered-mapped n t (after_send tag now path ts) (with_stage t.0 (stage_sent now)) cs (send-keeps tag now path ts)
     (All-weaker (λ x. x.ticket.0 ≡ t.0 → x.done ≡ false) (λ x. is_at n x ≡ true → as_entered (at_ticket t (after_send tag now path ts) x) ≡ with_stage t.0 (stage_sent now) (as_entered x)) (λ x open_ _. each x open_) cs waits)
   where
-    each : (x : HostCommand) → (x.ticket.0 ≡ t.0 → x.done ≡ false) → as_entered (at_ticket t (after_send tag now path ts) x) ≡ with_stage t.0 (stage_sent now) (as_entered x)
+    each : (x : HostCommand) → (x.ticket.0 ≡ t.0 → x.done ≡ false) → as_entered (at_ticket t (after_send tag now path ts) x)
+        ≡ with_stage t.0 (stage_sent now) (as_entered x)
     each x open_ = elim (cases_Bool (nat_eq x.ticket.0 t.0)) [
       | inl same ↦
           let waits_still : x.done ≡ false = open_ (eqb-true x.ticket.0 t.0 same) in
@@ -269,7 +291,8 @@ entered-sent n t tag now path ts cs waits =
       | inr other ↦ rw other refl
     ]
 
-pub entered-ended : (n : ℕ) (t : Ticket) (cs : List HostCommand) → entered_at n (map (at_ticket t after_end) cs) ≡ after_stage t.0 stage_finished (entered_at n cs)
+pub entered-ended : (n : ℕ) (t : Ticket) (cs : List HostCommand) → entered_at n (map (at_ticket t after_end) cs)
+    ≡ after_stage t.0 stage_finished (entered_at n cs)
 entered-ended n t cs = entered-mapped n t after_end (with_stage t.0 stage_finished) cs end-keeps (λ k d below _. each (get_or cs k d))
   where
     each : (x : HostCommand) → as_entered (at_ticket t after_end x) ≡ with_stage t.0 stage_finished (as_entered x)
@@ -282,18 +305,22 @@ pub entered-submitted : (n : ℕ) (cs : List HostCommand) (t : Ticket) (device :
     → entered_at n (cs ++ submitted t device op ∷ []) ≡ entered_at n cs ++ new_command t (kind_of op) (span_of op) ∷ []
 entered-submitted n cs t device op is =
     let here : nat_eq device.0 n ≡ true = eq-eqb device.0 n is in
-    let parts : filter (is_at n) (cs ++ submitted t device op ∷ []) ≡ filter (is_at n) cs ++ submitted t device op ∷ [] = filter-append (is_at n) cs (submitted t device op ∷ []) ∙ rw here refl in
+    let parts : filter (is_at n) (cs ++ submitted t device op ∷ []) ≡ filter (is_at n) cs ++ submitted t device op ∷ [] =
+    filter-append (is_at n) cs (submitted t device op ∷ []) ∙ rw here refl in
     ap (map as_entered) parts ∙ map-append as_entered (filter (is_at n) cs) (submitted t device op ∷ [])
 
-pub entered-elsewhere : (n : ℕ) (cs : List HostCommand) (t : Ticket) (device : DeviceNo) (op : Op) → device.0 ≢ n → entered_at n (cs ++ submitted t device op ∷ []) ≡ entered_at n cs
+pub entered-elsewhere : (n : ℕ) (cs : List HostCommand) (t : Ticket) (device : DeviceNo) (op : Op) → device.0 ≢ n
+    → entered_at n (cs ++ submitted t device op ∷ []) ≡ entered_at n cs
 entered-elsewhere n cs t device op elsewhere =
     let away : nat_eq device.0 n ≡ false = ne_eqb device.0 n elsewhere in
-    let parts : filter (is_at n) (cs ++ submitted t device op ∷ []) ≡ filter (is_at n) cs = filter-append (is_at n) cs (submitted t device op ∷ []) ∙ rw away (append-nil (filter (is_at n) cs)) in
+    let parts : filter (is_at n) (cs ++ submitted t device op ∷ []) ≡ filter (is_at n) cs =
+    filter-append (is_at n) cs (submitted t device op ∷ []) ∙ rw away (append-nil (filter (is_at n) cs)) in
     ap (map as_entered) parts
 
 -- ---- what has no outcome
 
-pub unfinished-sent : (t : Ticket) (tag : ℕ) (now : Millis) (path : PathNo) (ts : ℕ → ℕ) (cs : List HostCommand) → unfinished (map (at_ticket t (after_send tag now path ts)) cs) ≡ unfinished cs
+pub unfinished-sent : (t : Ticket) (tag : ℕ) (now : Millis) (path : PathNo) (ts : ℕ → ℕ) (cs : List HostCommand)
+    → unfinished (map (at_ticket t (after_send tag now path ts)) cs) ≡ unfinished cs
 unfinished-sent t tag now path ts [] = refl
 unfinished-sent t tag now path ts (c ∷ cs) = at (nat_eq c.ticket.0 t.0) c.done (unfinished-sent t tag now path ts cs)
   where
@@ -305,13 +332,15 @@ unfinished-sent t tag now path ts (c ∷ cs) = at (nat_eq c.ticket.0 t.0) c.done
     at true false rest = rw rest refl
     at false false rest = rw rest refl
 
-pub unfinished-submitted : (cs : List HostCommand) (t : Ticket) (device : DeviceNo) (op : Op) → unfinished (cs ++ submitted t device op ∷ []) ≡ unfinished cs ++ record { ticket = t; device = device; op = op } ∷ []
+pub unfinished-submitted : (cs : List HostCommand) (t : Ticket) (device : DeviceNo) (op : Op)
+    → unfinished (cs ++ submitted t device op ∷ []) ≡ unfinished cs ++ record { ticket = t; device = device; op = op } ∷ []
 unfinished-submitted cs t device op =
     ap (map (λ c. record { ticket = c.ticket; device = c.device; op = c.op })) (filter-append (λ c. not c.done) cs (submitted t device op ∷ []))
     ∙ map-append (λ c. record { ticket = c.ticket; device = c.device; op = c.op }) (filter (λ c. not c.done) cs) (submitted t device op ∷ [])
 
 -- a command without an outcome is among those that wait
-pub unfinished-there : (cs : List HostCommand) (c : HostCommand) → Contains cs c → c.done ≡ false → Contains {X = Waiting} (unfinished cs) (record { ticket = c.ticket; device = c.device; op = c.op })
+pub unfinished-there : (cs : List HostCommand) (c : HostCommand) → Contains cs c → c.done ≡ false
+    → Contains {X = Waiting} (unfinished cs) (record { ticket = c.ticket; device = c.device; op = c.op })
 unfinished-there [] c there open_ = absurd (omega (arith, there.1))
 unfinished-there (x ∷ cs) c there open_ = elim (Contains-cons_cases x c cs there) [
   | inl same ↦
@@ -324,7 +353,8 @@ unfinished-there (x ∷ cs) c there open_ = elim (Contains-cons_cases x c cs the
 ]
 
 -- what waits is a command without an outcome
-pub unfinished-from : (cs : List HostCommand) (w : Waiting) → Contains (unfinished cs) w → (c : HostCommand) × Contains cs c × (c.done ≡ false) × (w ≡ record { ticket = c.ticket; device = c.device; op = c.op })
+pub unfinished-from : (cs : List HostCommand) (w : Waiting) → Contains (unfinished cs) w
+    → (c : HostCommand) × Contains cs c × (c.done ≡ false) × (w ≡ record { ticket = c.ticket; device = c.device; op = c.op })
 unfinished-from [] w there = absurd (omega (arith, there.1))
 unfinished-from (x ∷ cs) w there = elim (cases_Bool x.done) [
   | inl done ↦ let found = unfinished-from cs w (rw done at there) in (found.0, Contains-cons x found.0 cs found.1, found.2, found.3)
@@ -337,7 +367,8 @@ unfinished-from (x ∷ cs) w there = elim (cases_Bool x.done) [
 above-waits : (n : ℕ) (cs : List HostCommand) → Ascends n cs → All {X = Waiting} (λ w. n < w.ticket.0) (unfinished cs)
 above-waits n [] up = All-nil (λ w. n < w.ticket.0)
 above-waits n (c ∷ cs) up =
-    let rest = All-weaker (λ w. c.ticket.0 < w.ticket.0) (λ w. n < w.ticket.0) (λ w above. omega (arith, above, up.0)) (unfinished cs) (above-waits c.ticket.0 cs up.1) in
+    let rest =
+    All-weaker (λ w. c.ticket.0 < w.ticket.0) (λ w. n < w.ticket.0) (λ w above. omega (arith, above, up.0)) (unfinished cs) (above-waits c.ticket.0 cs up.1) in
     elim (cases_Bool c.done) [
       | inl done ↦ rw done rest
       | inr open_ ↦ rw open_ (All-cons (λ w. n < w.ticket.0) (record { ticket = c.ticket; device = c.device; op = c.op }) (unfinished cs) up.0 rest)
@@ -346,7 +377,8 @@ above-waits n (c ∷ cs) up =
 skip : (x : HostCommand) (xs : List HostCommand) → x.done ≡ true → unfinished (x ∷ xs) ≡ unfinished xs
 skip x xs is = rw is refl
 
-keep : (x : HostCommand) (xs : List HostCommand) → x.done ≡ false → unfinished (x ∷ xs) ≡ record { ticket = x.ticket; device = x.device; op = x.op } ∷ unfinished xs
+keep : (x : HostCommand) (xs : List HostCommand) → x.done ≡ false → unfinished (x ∷ xs)
+    ≡ record { ticket = x.ticket; device = x.device; op = x.op } ∷ unfinished xs
 keep x xs is = rw is refl
 
 done-still : (t : Ticket) (c : HostCommand) → c.done ≡ true → (at_ticket t after_end c).done ≡ true
@@ -356,16 +388,20 @@ done-still t c is = elim (cases_Bool (nat_eq c.ticket.0 t.0)) [
 ]
 
 -- a command ends: what waits at its place goes
-pub unfinished-ended : (n : ℕ) (t : Ticket) (cs : List HostCommand) (at : ℕ) (d : Waiting) → Ascends n cs → at < length (unfinished cs) → (get_or (unfinished cs) at d).ticket.0 ≡ t.0
+pub unfinished-ended : (n : ℕ) (t : Ticket) (cs : List HostCommand) (at : ℕ) (d : Waiting) → Ascends n cs → at < length (unfinished cs)
+    → (get_or (unfinished cs) at d).ticket.0 ≡ t.0
     → remove (unfinished cs) at ≡ unfinished (map (at_ticket t after_end) cs)
 unfinished-ended n t [] at d up inside is = absurd (omega (arith, inside))
 unfinished-ended n t (c ∷ cs) at d up inside is = by_done c.done refl at inside is (λ k within there. unfinished-ended c.ticket.0 t cs k d up.1 within there)
   where
     by_done : (b : Bool) → c.done ≡ b → (k : ℕ)
-        → k < length {A = Waiting} (map (λ e. record { ticket = e.ticket; device = e.device; op = e.op }) (cond (not b) (c ∷ filter (λ e. not e.done) cs) (filter (λ e. not e.done) cs)))
+        → k < length {A = Waiting}
+        (map (λ e. record { ticket = e.ticket; device = e.device; op = e.op }) (cond (not b) (c ∷ filter (λ e. not e.done) cs) (filter (λ e. not e.done) cs)))
         → (get_or {A = Waiting} (map (λ e. record { ticket = e.ticket; device = e.device; op = e.op }) (cond (not b) (c ∷ filter (λ e. not e.done) cs) (filter (λ e. not e.done) cs))) k d).ticket.0 ≡ t.0
         → ((j : ℕ) → j < length (unfinished cs) → (get_or (unfinished cs) j d).ticket.0 ≡ t.0 → remove (unfinished cs) j ≡ unfinished (map (at_ticket t after_end) cs))
-        → remove {X = Waiting} (map (λ e. record { ticket = e.ticket; device = e.device; op = e.op }) (cond (not b) (c ∷ filter (λ e. not e.done) cs) (filter (λ e. not e.done) cs))) k ≡ unfinished (map (at_ticket t after_end) (c ∷ cs))
+        → remove {X = Waiting}
+        (map (λ e. record { ticket = e.ticket; device = e.device; op = e.op }) (cond (not b) (c ∷ filter (λ e. not e.done) cs) (filter (λ e. not e.done) cs))) k
+        ≡ unfinished (map (at_ticket t after_end) (c ∷ cs))
     by_done true done k within there rest =
         rest k within there ∙ sym (skip (at_ticket t after_end c) (map (at_ticket t after_end) cs) (done-still t c done))
     by_done false open_ zero within there rest =

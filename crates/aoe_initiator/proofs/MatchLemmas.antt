@@ -43,10 +43,12 @@ pub record IsPending (cs : List HostCommand) (p : Pending) (c : HostCommand) : T
   pub device : c.device ≡ p.device
   pub op : c.op ≡ p.op
 
-pub pending-command : (cs : List HostCommand) (pending : List Pending) (at : ℕ) (p : Pending) → waiting_of pending ≡ unfinished cs → slice_get pending at ≡ Some p → (c : HostCommand) × IsPending cs p c
+pub pending-command : (cs : List HostCommand) (pending : List Pending) (at : ℕ) (p : Pending) → waiting_of pending ≡ unfinished cs
+    → slice_get pending at ≡ Some p → (c : HostCommand) × IsPending cs p c
 pending-command cs pending at p same there =
     let entry : Waiting = record { ticket = p.ticket; device = p.device; op = p.op } in
-    let inside : Contains (unfinished cs) entry = rw (← same) (Contains-map (λ (q : Pending). record { ticket = q.ticket; device = q.device; op = q.op }) pending p (Contains-get pending at p there)) in
+    let inside : Contains (unfinished cs) entry =
+    rw (← same) (Contains-map (λ (q : Pending). record { ticket = q.ticket; device = q.device; op = q.op }) pending p (Contains-get pending at p there)) in
     let found = unfinished-from cs entry inside in (
       found.0,
       record {
@@ -69,7 +71,8 @@ pub sent-from : (cs : List HostCommand) (o : Outstanding) → Contains (sent_of 
 sent-from [] o there = absurd (omega (arith, there.1))
 sent-from (x ∷ cs) o there = at x.sends refl there (sent-from cs o)
   where
-    at : (sends : Option Sending) → x.sends ≡ sends → Contains (cons_option (option_map (outstanding x) sends) (sent_of cs)) o → (Contains (sent_of cs) o → (c : HostCommand) × IsSentOf cs o c)
+    at : (sends : Option Sending) → x.sends ≡ sends → Contains (cons_option (option_map (outstanding x) sends) (sent_of cs)) o
+        → (Contains (sent_of cs) o → (c : HostCommand) × IsSentOf cs o c)
         → (c : HostCommand) × IsSentOf (x ∷ cs) o c
     at None is inside rest =
         let found = rest inside in
@@ -128,14 +131,17 @@ flying-command table cs ticket f recalls is =
 
 -- ---- an end
 
-kept-all : (P : HostCommand → Type 0) (t : Ticket) (change : HostCommand → HostCommand) (cs : List HostCommand) → ((c : HostCommand) → P c → P (at_ticket t change c)) → All P cs → All P (map (at_ticket t change) cs)
+kept-all : (P : HostCommand → Type 0) (t : Ticket) (change : HostCommand → HostCommand) (cs : List HostCommand)
+    → ((c : HostCommand) → P c → P (at_ticket t change c)) → All P cs → All P (map (at_ticket t change) cs)
 kept-all P t change cs keeps all = All-map P (at_ticket t change) cs (All-weaker P (λ c. P (at_ticket t change c)) keeps cs all)
 
-kept-last : (t : Ticket) (change : HostCommand → HostCommand) (cs : List HostCommand) (last : ℕ) → Keeps change → All (λ c. c.ticket.0 ≤ last) cs → All (λ c. c.ticket.0 ≤ last) (map (at_ticket t change) cs)
+kept-last : (t : Ticket) (change : HostCommand → HostCommand) (cs : List HostCommand) (last : ℕ) → Keeps change → All (λ c. c.ticket.0 ≤ last) cs
+    → All (λ c. c.ticket.0 ≤ last) (map (at_ticket t change) cs)
 kept-last t change cs last keeps all =
     kept-all (λ c. c.ticket.0 ≤ last) t change cs (λ c below. omega (arith, below, ap (λ (u : Ticket). u.0) (kept-ticket t change c keeps))) all
 
-kept-attached : (t : Ticket) (change : HostCommand → HostCommand) (cs : List HostCommand) (n m : ℕ) → m ≡ n → Keeps change → All (λ c. c.device.0 < n) cs → All (λ c. c.device.0 < m) (map (at_ticket t change) cs)
+kept-attached : (t : Ticket) (change : HostCommand → HostCommand) (cs : List HostCommand) (n m : ℕ) → m ≡ n → Keeps change → All (λ c. c.device.0 < n) cs
+    → All (λ c. c.device.0 < m) (map (at_ticket t change) cs)
 kept-attached t change cs n m same keeps all =
     kept-all (λ c. c.device.0 < m) t change cs (λ c below. omega (arith, below, ap (λ (u : DeviceNo). u.0) (kept-device t change c keeps)))
     (All-weaker (λ c. c.device.0 < n) (λ c. c.device.0 < m) (λ c below. omega (arith, below, same)) cs all)
@@ -144,7 +150,8 @@ some-of : (o : Option Sending) (s : Sending) → o ≡ Some s → IsSome o
 some-of None s is = absurd cc
 some-of (Some t) s is = refl
 
-pub matches-ended : (log : List Event) (host new : Host) (at : ℕ) (path : Option PathNo) (outcome : Outcome) (s : Sending) → Matches log host → (closes : Closes host at (arrival_on host.clock path (Some s)) outcome new)
+pub matches-ended : (log : List Event) (host new : Host) (at : ℕ) (path : Option PathNo) (outcome : Outcome) (s : Sending) → Matches log host
+    → (closes : Closes host at (arrival_on host.clock path (Some s)) outcome new)
     → ((c : HostCommand) → IsPending (commands log) closes.command c → c.sends ≡ Some s) → Matches (Ends closes.command.ticket path ∷ log) new
 matches-ended log host new at path outcome s m closes flew =
     let cs = commands log in
@@ -153,7 +160,8 @@ matches-ended log host new at path outcome s m closes flew =
     let c = found.0 in
     let alone : Only c cs = only 0 cs c m.tickets found.1.there in
     let ticket_same : c.ticket.0 ≡ p.ticket.0 = ap (λ (t : Ticket). t.0) found.1.ticket in
-    let is_c : All (λ x. x.ticket.0 ≡ p.ticket.0 → x ≡ c) cs = All-weaker (λ x. x.ticket.0 ≡ c.ticket.0 → x ≡ c) (λ x. x.ticket.0 ≡ p.ticket.0 → x ≡ c) (λ x is same. is (same ∙ sym ticket_same)) cs alone in
+    let is_c : All (λ x. x.ticket.0 ≡ p.ticket.0 → x ≡ c) cs =
+    All-weaker (λ x. x.ticket.0 ≡ c.ticket.0 → x ≡ c) (λ x. x.ticket.0 ≡ p.ticket.0 → x ≡ c) (λ x is same. is (same ∙ sym ticket_same)) cs alone in
     let place : All (λ x. x.ticket.0 ≡ p.ticket.0 → x.device.0 ≡ 0 + p.device.0) cs =
     All-weaker (λ x. x.ticket.0 ≡ p.ticket.0 → x ≡ c) (λ x. x.ticket.0 ≡ p.ticket.0 → x.device.0 ≡ 0 + p.device.0)
     (λ x is same. omega (arith, ap (λ (e : HostCommand). e.device.0) (is same), ap (λ (d : DeviceNo). d.0) found.1.device)) cs is_c in
@@ -170,7 +178,8 @@ matches-ended log host new at path outcome s m closes flew =
     let flown : All (λ x. x.done ≡ true → IsSome x.sends) (map (at_ticket p.ticket after_end) cs) =
     All-map (λ x. x.done ≡ true → IsSome x.sends) (at_ticket p.ticket after_end) cs (λ k d below. flown_one (get_or cs k d) (m.flew k d below) (is_c k d below) (some-of c.sends s (flew c found.1))) in
     let met : with_ticket p.ticket cs ≡ Some c = found-one 0 cs c p.ticket m.tickets found.1.there ticket_same in
-    let D : ℕ → ℕ → Option Sending → Type 0 = λ k now o. HaveAll host.ports (Ends p.ticket path ∷ log) (change_at k (device_finished p.ticket (arrival_on now path o)) host.devices) in
+    let D : ℕ → ℕ → Option Sending → Type 0 =
+    λ k now o. HaveAll host.ports (Ends p.ticket path ∷ log) (change_at k (device_finished p.ticket (arrival_on now path o)) host.devices) in
     let had : D c.device.0 (clock log) c.sends = have-ended host.ports log c p.ticket path host.devices met m.paths in
     let had_at : D p.device.0 (clock log) c.sends = subst (λ (k : ℕ). D k (clock log) c.sends) (ap (λ (d : DeviceNo). d.0) found.1.device) had in
     let had_then : D p.device.0 host.clock c.sends = subst (λ (n : ℕ). D p.device.0 n c.sends) (sym m.time) had_at in
@@ -196,8 +205,10 @@ matches-ended log host new at path outcome s m closes flew =
     } in
     rw closes.after after
   where
-    flown_one : (x : HostCommand) → (x.done ≡ true → IsSome x.sends) → (x.ticket.0 ≡ closes.command.ticket.0 → x ≡ (pending-command (commands log) host.pending at closes.command m.pending closes.there).0)
-        → IsSome (pending-command (commands log) host.pending at closes.command m.pending closes.there).0.sends → (at_ticket closes.command.ticket after_end x).done ≡ true → IsSome (at_ticket closes.command.ticket after_end x).sends
+    flown_one : (x : HostCommand) → (x.done ≡ true → IsSome x.sends)
+        → (x.ticket.0 ≡ closes.command.ticket.0 → x ≡ (pending-command (commands log) host.pending at closes.command m.pending closes.there).0)
+        → IsSome (pending-command (commands log) host.pending at closes.command m.pending closes.there).0.sends
+        → (at_ticket closes.command.ticket after_end x).done ≡ true → IsSome (at_ticket closes.command.ticket after_end x).sends
     flown_one x before is_c sent = by_ticket (nat_eq x.ticket.0 closes.command.ticket.0) refl
       where
         by_ticket : (b : Bool) → nat_eq x.ticket.0 closes.command.ticket.0 ≡ b → (cond b (after_end x) x).done ≡ true → IsSome (cond b (after_end x) x).sends
@@ -208,17 +219,20 @@ matches-ended log host new at path outcome s m closes flew =
 -- ---- a send
 
 -- the parts of a send that first sends and repeats share
-pub matches-sent : (log : List Event) (host : Host) (c : HostCommand) (p : Pending) (tag : ℕ) (path : PathNo) (flight : FlightTable) → Matches log host → IsPending (commands log) p c → All (λ d. d.holds.latest ≤ host.clock) host.devices
+pub matches-sent : (log : List Event) (host : Host) (c : HostCommand) (p : Pending) (tag : ℕ) (path : PathNo) (flight : FlightTable) → Matches log host
+    → IsPending (commands log) p c → All (λ d. d.holds.latest ≤ host.clock) host.devices
     → flight.rest ≡ host.flight.rest → flight.room ≡ host.flight.room → flight.dead ≡ host.flight.dead
     → RecallsSent flight (sent_of (map (at_ticket p.ticket (after_send tag (record { 0 = host.clock }) path (timeouts_on log path))) (commands log)))
-    → Matches (Sends p.ticket tag path ∷ log) (record host { flight = flight; devices = change_at p.device.0 (device_sent p.ticket (record { 0 = host.clock }) (path_before c.sends) path) host.devices })
+    → Matches (Sends p.ticket tag path ∷ log)
+    (record host { flight = flight; devices = change_at p.device.0 (device_sent p.ticket (record { 0 = host.clock }) (path_before c.sends) path) host.devices })
 matches-sent log host c p tag path flight m is times rest room dead sent =
     let cs = commands log in
     let now : Millis = record { 0 = host.clock } in
     let ts = timeouts_on log path in
     let alone : Only c cs = only 0 cs c m.tickets is.there in
     let ticket_same : c.ticket.0 ≡ p.ticket.0 = ap (λ (t : Ticket). t.0) is.ticket in
-    let is_c : All (λ x. x.ticket.0 ≡ p.ticket.0 → x ≡ c) cs = All-weaker (λ x. x.ticket.0 ≡ c.ticket.0 → x ≡ c) (λ x. x.ticket.0 ≡ p.ticket.0 → x ≡ c) (λ x only_c same. only_c (same ∙ sym ticket_same)) cs alone in
+    let is_c : All (λ x. x.ticket.0 ≡ p.ticket.0 → x ≡ c) cs =
+    All-weaker (λ x. x.ticket.0 ≡ c.ticket.0 → x ≡ c) (λ x. x.ticket.0 ≡ p.ticket.0 → x ≡ c) (λ x only_c same. only_c (same ∙ sym ticket_same)) cs alone in
     let place : All (λ x. x.ticket.0 ≡ p.ticket.0 → x.device.0 ≡ 0 + p.device.0) cs =
     All-weaker (λ x. x.ticket.0 ≡ p.ticket.0 → x ≡ c) (λ x. x.ticket.0 ≡ p.ticket.0 → x.device.0 ≡ 0 + p.device.0)
     (λ x only_c same. omega (arith, ap (λ (e : HostCommand). e.device.0) (only_c same), ap (λ (d : DeviceNo). d.0) is.device)) cs is_c in
@@ -227,7 +241,8 @@ matches-sent log host c p tag path flight m is times rest room dead sent =
     let flown : All (λ x. x.done ≡ true → IsSome x.sends) (map (at_ticket p.ticket (after_send tag now path ts)) cs) =
     kept-all (λ x. x.done ≡ true → IsSome x.sends) p.ticket (after_send tag now path ts) cs (λ x before. flown_one x before) m.flew in
     let met : with_ticket p.ticket cs ≡ Some c = found-one 0 cs c p.ticket m.tickets is.there ticket_same in
-    let D : ℕ → Type 0 = λ k. HaveAll host.ports (Sends p.ticket tag path ∷ log) (change_at k (device_sent p.ticket now (path_before c.sends) path) host.devices) in
+    let D : ℕ → Type 0 =
+    λ k. HaveAll host.ports (Sends p.ticket tag path ∷ log) (change_at k (device_sent p.ticket now (path_before c.sends) path) host.devices) in
     let have : D p.device.0 = subst D (ap (λ (d : DeviceNo). d.0) is.device) (have-sent host.ports log c p.ticket tag now path host.devices met m.paths) in
     record {
       time = m.time;
@@ -244,16 +259,20 @@ matches-sent log host c p tag path flight m is times rest room dead sent =
       paths = have;
     }
   where
-    flown_one : (x : HostCommand) → (x.done ≡ true → IsSome x.sends) → (at_ticket p.ticket (after_send tag (record { 0 = host.clock }) path (timeouts_on log path)) x).done ≡ true → IsSome (at_ticket p.ticket (after_send tag (record { 0 = host.clock }) path (timeouts_on log path)) x).sends
+    flown_one : (x : HostCommand) → (x.done ≡ true → IsSome x.sends)
+        → (at_ticket p.ticket (after_send tag (record { 0 = host.clock }) path (timeouts_on log path)) x).done ≡ true
+        → IsSome (at_ticket p.ticket (after_send tag (record { 0 = host.clock }) path (timeouts_on log path)) x).sends
     flown_one x before = by_ticket (nat_eq x.ticket.0 p.ticket.0)
       where
-        by_ticket : (b : Bool) → (cond b (after_send tag (record { 0 = host.clock }) path (timeouts_on log path) x) x).done ≡ true → IsSome (cond b (after_send tag (record { 0 = host.clock }) path (timeouts_on log path) x) x).sends
+        by_ticket : (b : Bool) → (cond b (after_send tag (record { 0 = host.clock }) path (timeouts_on log path) x) x).done ≡ true
+            → IsSome (cond b (after_send tag (record { 0 = host.clock }) path (timeouts_on log path) x) x).sends
         by_ticket true done = refl
         by_ticket false done = before done
 
 -- ---- a submission, an attachment, time, and an outcome that is taken
 
-pub matches-submitted : (log : List Event) (host new : Host) (t : Ticket) (device : DeviceNo) (op : Op) (room : List ℕ) → Matches log host → t.0 ≡ host.last_ticket + 1 → device.0 < length host.devices
+pub matches-submitted : (log : List Event) (host new : Host) (t : Ticket) (device : DeviceNo) (op : Op) (room : List ℕ) → Matches log host
+    → t.0 ≡ host.last_ticket + 1 → device.0 < length host.devices
     → new ≡ record host {
       last_ticket = t.0;
       devices = change_at device.0 (device_entered (new_command t (kind_of op) (span_of op))) host.devices;
@@ -262,12 +281,14 @@ pub matches-submitted : (log : List Event) (host new : Host) (t : Ticket) (devic
 matches-submitted log host new t device op room m is inside same =
     let cs = commands log in
     let c = submitted t device op in
-    let below : All (λ x. x.ticket.0 < t.0) cs = All-weaker (λ x. x.ticket.0 ≤ host.last_ticket) (λ x. x.ticket.0 < t.0) (λ x le. omega (arith, le, is)) cs m.last in
+    let below : All (λ x. x.ticket.0 < t.0) cs =
+    All-weaker (λ x. x.ticket.0 ≤ host.last_ticket) (λ x. x.ticket.0 < t.0) (λ x le. omega (arith, le, is)) cs m.last in
     let entry : Pending = record { ticket = t; device = device; op = op; room = room } in
     let waiting : waiting_of (host.pending ++ entry ∷ []) ≡ unfinished (cs ++ c ∷ []) =
     map-append (λ (q : Pending). record { ticket = q.ticket; device = q.device; op = q.op }) host.pending (entry ∷ [])
     ∙ ap (λ (l : List Waiting). l ++ record { ticket = t; device = device; op = op } ∷ []) m.pending ∙ sym (unfinished-submitted cs t device op) in
-    let devices_same : length (change_at device.0 (device_entered (new_command t (kind_of op) (span_of op))) host.devices) ≡ length host.devices = length-change_at device.0 (device_entered (new_command t (kind_of op) (span_of op))) host.devices in
+    let devices_same : length (change_at device.0 (device_entered (new_command t (kind_of op) (span_of op))) host.devices) ≡ length host.devices =
+    length-change_at device.0 (device_entered (new_command t (kind_of op) (span_of op))) host.devices in
     let after : Matches (Submits t device op ∷ log) (record host {
       last_ticket = t.0;
       devices = change_at device.0 (device_entered (new_command t (kind_of op) (span_of op))) host.devices;
@@ -296,9 +317,11 @@ nothing-at (c ∷ cs) n all =
     let elsewhere : is_at n c ≡ false = ne_eqb c.device.0 n (λ same. absurd (omega (arith, All-head (λ x. x.device.0 < n) c cs all, same))) in
     rw elsewhere (nothing-at cs n (All-tail (λ x. x.device.0 < n) c cs all))
 
-recall-attached : (life n : ℕ) (cs : List HostCommand) (devices : List Device) (d : Device) → All (λ c. c.device.0 < n + length devices) cs → d.holds ≡ nothing_entered life → RecallAll life cs n devices → RecallAll life cs n (devices ++ d ∷ [])
+recall-attached : (life n : ℕ) (cs : List HostCommand) (devices : List Device) (d : Device) → All (λ c. c.device.0 < n + length devices) cs
+    → d.holds ≡ nothing_entered life → RecallAll life cs n devices → RecallAll life cs n (devices ++ d ∷ [])
 recall-attached life n cs [] d all fresh recalls =
-    let none : entered_at n cs ≡ [] = nothing-at cs n (All-weaker (λ c. c.device.0 < n + length {A = Device} []) (λ c. c.device.0 < n) (λ c less. omega (arith, less)) cs all) in
+    let none : entered_at n cs ≡ [] =
+    nothing-at cs n (All-weaker (λ c. c.device.0 < n + length {A = Device} []) (λ c. c.device.0 < n) (λ c less. omega (arith, less)) cs all) in
     (rw fresh refl, rw (fresh, none) refl, tt)
 recall-attached life n cs (x ∷ devices) d all fresh recalls = (
   recalls.0,
@@ -306,7 +329,8 @@ recall-attached life n cs (x ∷ devices) d all fresh recalls = (
   recall-attached life (n + 1) cs devices d (All-weaker (λ c. c.device.0 < n + length (x ∷ devices)) (λ c. c.device.0 < n + 1 + length devices) (λ c less. omega (arith, less)) cs all) fresh recalls.2,
 )
 
-pub matches-attached : (log : List Event) (host new : Host) (d : Device) → Matches log host → d.holds ≡ nothing_entered host.life → d.paths ≡ new_paths host.ports d.about.remotes.items → new ≡ with_device host d → Matches log new
+pub matches-attached : (log : List Event) (host new : Host) (d : Device) → Matches log host → d.holds ≡ nothing_entered host.life
+    → d.paths ≡ new_paths host.ports d.about.remotes.items → new ≡ with_device host d → Matches log new
 matches-attached log host new d m fresh paths same =
     let cs = commands log in
     let more : length (host.devices ++ d ∷ []) ≡ length host.devices + 1 = length-append host.devices (d ∷ []) in
@@ -326,7 +350,8 @@ matches-attached log host new d m fresh paths same =
     } in
     rw same after
 
-pub matches-advanced : (log : List Event) (host : Host) (now : Millis) (clock_now : ℕ) → clock_now ≡ max host.clock now.0 → Matches log host → Matches (Advances now ∷ log) (record host { clock = clock_now })
+pub matches-advanced : (log : List Event) (host : Host) (now : Millis) (clock_now : ℕ) → clock_now ≡ max host.clock now.0 → Matches log host
+    → Matches (Advances now ∷ log) (record host { clock = clock_now })
 matches-advanced log host now clock_now is m = record {
   time = is ∙ ap (λ (n : ℕ). max n now.0) m.time;
   tickets = m.tickets;
@@ -359,7 +384,8 @@ matches-taken log host waiting m = record {
 }
 
 -- devices and flight at a later time
-pub matches-devices : (log : List Event) (host : Host) → Matches log host → All (λ d. d.holds.latest ≤ host.clock) host.devices → Matches log (record host { devices = map (device_at host.clock) host.devices })
+pub matches-devices : (log : List Event) (host : Host) → Matches log host → All (λ d. d.holds.latest ≤ host.clock) host.devices
+    → Matches log (record host { devices = map (device_at host.clock) host.devices })
 matches-devices log host m times = record {
   time = m.time;
   tickets = m.tickets;
@@ -375,7 +401,8 @@ matches-devices log host m times = record {
   paths = have-at host.ports log host.clock host.devices m.paths;
 }
 
-pub matches-cleared : (log : List Event) (host : Host) (devices : List Device) → Matches log host → All (λ d. d.holds.latest ≤ host.clock) host.devices → devices ≡ map (device_at host.clock) host.devices → Matches log (record host { devices = devices })
+pub matches-cleared : (log : List Event) (host : Host) (devices : List Device) → Matches log host → All (λ d. d.holds.latest ≤ host.clock) host.devices
+    → devices ≡ map (device_at host.clock) host.devices → Matches log (record host { devices = devices })
 matches-cleared log host devices m times is =
     rw is (matches-devices log host m times)
 

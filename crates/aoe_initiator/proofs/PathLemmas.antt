@@ -28,7 +28,8 @@ use Rattle.aoe_initiator.proofs.LogLemmas.{ascends-all, end-keeps, kept-device, 
 
 -- ---- one device of many
 
-pub slice-changed : (k : ℕ) (change : Device → Device) (devices : List Device) → slice_get (change_at k change devices) k ≡ option_map change (slice_get devices k)
+pub slice-changed : (k : ℕ) (change : Device → Device) (devices : List Device)
+    → slice_get (change_at k change devices) k ≡ option_map change (slice_get devices k)
 slice-changed k change [] = refl
 slice-changed zero change (d ∷ devices) = refl
 slice-changed (suc k) change (d ∷ devices) = slice-changed k change devices
@@ -49,8 +50,10 @@ if-some-map None f P Q each p = tt
 if-some-map (Some d) f P Q each p = each d p
 
 -- what happened at one device leaves the others
-have-changed : (ports : List Mac) (log later : List Event) (k : ℕ) (change : Device → Device) (devices : List Device) → ((n : ℕ) → n ≢ k → path_log later n ≡ path_log log n)
-    → ((d : Device) → HasPaths ports (path_log log k) d → HasPaths ports (path_log later k) (change d)) → HaveAll ports log devices → HaveAll ports later (change_at k change devices)
+have-changed : (ports : List Mac) (log later : List Event) (k : ℕ) (change : Device → Device) (devices : List Device)
+    → ((n : ℕ) → n ≢ k → path_log later n ≡ path_log log n)
+    → ((d : Device) → HasPaths ports (path_log log k) d → HasPaths ports (path_log later k) (change d)) → HaveAll ports log devices
+    → HaveAll ports later (change_at k change devices)
 have-changed ports log later k change devices others here have n = elim (cases_Bool (nat_eq n k)) [
   | inl same ↦
       let is : n ≡ k = eqb-true n k same in
@@ -61,15 +64,18 @@ have-changed ports log later k change devices others here have n = elim (cases_B
 ]
 
 -- a change that leaves what is known of a device and its paths
-pub have-kept : (ports : List Mac) (log later : List Event) (k : ℕ) (change : Device → Device) (devices : List Device) → ((n : ℕ) → path_log later n ≡ path_log log n)
-    → ((d : Device) → (change d).about ≡ d.about) → ((d : Device) → (change d).paths ≡ d.paths) → HaveAll ports log devices → HaveAll ports later (change_at k change devices)
+pub have-kept : (ports : List Mac) (log later : List Event) (k : ℕ) (change : Device → Device) (devices : List Device)
+    → ((n : ℕ) → path_log later n ≡ path_log log n)
+    → ((d : Device) → (change d).about ≡ d.about) → ((d : Device) → (change d).paths ≡ d.paths) → HaveAll ports log devices
+    → HaveAll ports later (change_at k change devices)
 have-kept ports log later k change devices same about paths have =
     have-changed ports log later k change devices (λ n other. same n) here have
   where
     here : (d : Device) → HasPaths ports (path_log log k) d → HasPaths ports (path_log later k) (change d)
     here d has = rw (same k) (record { locals = rw (paths d) has.locals; remotes = rw (paths d, about d) has.remotes; recalls = rw (paths d) has.recalls })
 
-pub have-at : (ports : List Mac) (log : List Event) (now : ℕ) (devices : List Device) → HaveAll ports log devices → HaveAll ports log (map (device_at now) devices)
+pub have-at : (ports : List Mac) (log : List Event) (now : ℕ) (devices : List Device) → HaveAll ports log devices
+    → HaveAll ports log (map (device_at now) devices)
 have-at ports log now devices have n =
     let P : Option Device → Type 0 = λ o. IfSome o (HasPaths ports (path_log log n)) in
     subst P (sym (slice_get-map (device_at now) devices n))
@@ -106,7 +112,8 @@ recalls-routed : (table : PathTable) (happened : List PathEvent) (sends : Option
 recalls-routed table happened sends path r =
     recalls-chosen (record table { marks = marks_after (path_before sends) table.marks }) (missed_by sends happened) path.0 (recalls-marked table happened sends r)
 
-pub have-sent : (ports : List Mac) (log : List Event) (c : HostCommand) (t : Ticket) (tag : ℕ) (now : Millis) (path : PathNo) (devices : List Device) → with_ticket t (commands log) ≡ Some c → HaveAll ports log devices
+pub have-sent : (ports : List Mac) (log : List Event) (c : HostCommand) (t : Ticket) (tag : ℕ) (now : Millis) (path : PathNo) (devices : List Device)
+    → with_ticket t (commands log) ≡ Some c → HaveAll ports log devices
     → HaveAll ports (Sends t tag path ∷ log) (change_at c.device.0 (device_sent t now (path_before c.sends) path) devices)
 have-sent ports log c t tag now path devices found have =
     have-changed ports log (Sends t tag path ∷ log) c.device.0 (device_sent t now (path_before c.sends) path) devices elsewhere here have
@@ -116,7 +123,8 @@ have-sent ports log c t tag now path devices found have =
         let away : is_at n c ≡ false = ne_eqb c.device.0 n (λ same. other (sym same)) in
         rw (found, away) refl
 
-    here : (d : Device) → HasPaths ports (path_log log c.device.0) d → HasPaths ports (path_log (Sends t tag path ∷ log) c.device.0) (device_sent t now (path_before c.sends) path d)
+    here : (d : Device) → HasPaths ports (path_log log c.device.0) d → HasPaths ports (path_log (Sends t tag path ∷ log) c.device.0)
+        (device_sent t now (path_before c.sends) path d)
     here d has =
         let at_it : is_at c.device.0 c ≡ true = eq-eqb c.device.0 c.device.0 refl in
         let is : path_log (Sends t tag path ∷ log) c.device.0 ≡ Chosen path.0 ∷ missed_by c.sends (path_log log c.device.0) = rw (found, at_it) refl in
@@ -128,23 +136,27 @@ timeouts_on log path n = timeout_on (path_log log n) path.0
 
 -- ---- a route, as the log has it
 
-pub has-paths : (host : Host) (log : List Event) (n : ℕ) (d : Device) → Matches log host → slice_get host.devices n ≡ Some d → HasPaths host.ports (path_log log n) d
+pub has-paths : (host : Host) (log : List Event) (n : ℕ) (d : Device) → Matches log host → slice_get host.devices n ≡ Some d
+    → HasPaths host.ports (path_log log n) d
 has-paths host log n d m there = let P : Option Device → Type 0 = λ o. IfSome o (HasPaths host.ports (path_log log n)) in subst P there (m.paths n)
 
-pub route-spelled : (host : Host) (op : Op) (n : DeviceNo) (happened : List PathEvent) (d : Device) (missed : Option PathNo) (route : Route) (tag : ℕ) (frame : List ℕ) → HasPaths host.ports happened d → slice_get host.devices n.0 ≡ Some d
+pub route-spelled : (host : Host) (op : Op) (n : DeviceNo) (happened : List PathEvent) (d : Device) (missed : Option PathNo) (route : Route) (tag : ℕ)
+    (frame : List ℕ) → HasPaths host.ports happened d → slice_get host.devices n.0 ≡ Some d
     → IsRoute d missed route → frame ≡ request op route.target route.remote route.local tag → spelled_for host op n route.path tag ≡ Some frame
 route-spelled host op n happened d missed route tag frame has there routed bytes =
     let pair : pair_at host.ports d.about.remotes.items route.path.0 ≡ Some (route.local, route.remote) = rw (← has.locals, ← has.remotes) routed.pair in
     rw (there, pair, bytes, routed.target) refl
 
-pub route-next : (host : Host) (n : ℕ) (happened : List PathEvent) (d : Device) (sends : Option Sending) (route : Route) → HasPaths host.ports happened d → slice_get host.devices n ≡ Some d
+pub route-next : (host : Host) (n : ℕ) (happened : List PathEvent) (d : Device) (sends : Option Sending) (route : Route) → HasPaths host.ports happened d
+    → slice_get host.devices n ≡ Some d
     → IsRoute d (path_before sends) route → route.path.0 ≡ next_of (paths_to host n) (missed_by sends happened)
 route-next host n happened d sends route has there routed =
     let table : PathTable = record d.paths { marks = marks_after (path_before sends) d.paths.marks } in
     let count : path_count d.paths ≡ paths_to host n = rw (there, has.locals, has.remotes) refl in
     routed.next ∙ next-recalled table (missed_by sends happened) (recalls-marked d.paths happened sends has.recalls) ∙ ap (λ (k : ℕ). next_of k (missed_by sends happened)) count
 
-pub route-timeout : (ports : List Mac) (happened : List PathEvent) (d : Device) (missed : Option PathNo) (route : Route) → HasPaths ports happened d → IsRoute d missed route → route.timeout.0 ≡ timeout_on happened route.path.0
+pub route-timeout : (ports : List Mac) (happened : List PathEvent) (d : Device) (missed : Option PathNo) (route : Route) → HasPaths ports happened d
+    → IsRoute d missed route → route.timeout.0 ≡ timeout_on happened route.path.0
 route-timeout ports happened d missed route has routed = routed.timeout ∙ timeout-recalled d.paths happened route.path.0 has.recalls routed.inside
 
 -- ---- an end
@@ -153,7 +165,8 @@ route-timeout ports happened d missed route has routed = routed.timeout ∙ time
 abbrev pub arrival_on : ℕ → Option PathNo → Option Sending → Option Arrival
 arrival_on now path sends = option_map (λ p. record { path = p; trip = trip_of now sends }) path
 
-pub have-ended : (ports : List Mac) (log : List Event) (c : HostCommand) (t : Ticket) (path : Option PathNo) (devices : List Device) → with_ticket t (commands log) ≡ Some c → HaveAll ports log devices
+pub have-ended : (ports : List Mac) (log : List Event) (c : HostCommand) (t : Ticket) (path : Option PathNo) (devices : List Device)
+    → with_ticket t (commands log) ≡ Some c → HaveAll ports log devices
     → HaveAll ports (Ends t path ∷ log) (change_at c.device.0 (device_finished t (arrival_on (clock log) path c.sends)) devices)
 have-ended ports log c t None devices found have =
     have-kept ports log (Ends t None ∷ log) c.device.0 (device_finished t None) devices (λ n. refl) (λ d. refl) (λ d. refl) have
@@ -165,10 +178,12 @@ have-ended ports log c t (Some path) devices found have =
         let away : is_at n c ≡ false = ne_eqb c.device.0 n (λ same. other (sym same)) in
         rw (found, away) refl
 
-    here : (d : Device) → HasPaths ports (path_log log c.device.0) d → HasPaths ports (path_log (Ends t (Some path) ∷ log) c.device.0) (device_finished t (arrival_on (clock log) (Some path) c.sends) d)
+    here : (d : Device) → HasPaths ports (path_log log c.device.0) d → HasPaths ports (path_log (Ends t (Some path) ∷ log) c.device.0)
+        (device_finished t (arrival_on (clock log) (Some path) c.sends) d)
     here d has =
         let at_it : is_at c.device.0 c ≡ true = eq-eqb c.device.0 c.device.0 refl in
-        let is : path_log (Ends t (Some path) ∷ log) c.device.0 ≡ Answered path.0 (trip_of (clock log) c.sends) ∷ path_log log c.device.0 = rw (found, at_it) refl in
+        let is : path_log (Ends t (Some path) ∷ log) c.device.0 ≡ Answered path.0 (trip_of (clock log) c.sends) ∷ path_log log c.device.0 =
+        rw (found, at_it) refl in
         rw is (record { locals = has.locals; remotes = has.remotes; recalls = recalls-answered d.paths (path_log log c.device.0) path.0 (trip_of (clock log) c.sends) has.recalls })
 
 -- ---- an attachment
@@ -185,7 +200,8 @@ below-found n (x ∷ cs) t c all is = at (nat_eq x.ticket.0 t.0) is (below-found
     at false rest behind = behind rest
 
 -- the devices of commands before a change
-below-before : (n : ℕ) (t : Ticket) (change : HostCommand → HostCommand) (cs : List HostCommand) → Keeps change → All (λ x. x.device.0 < n) (map (at_ticket t change) cs) → All (λ x. x.device.0 < n) cs
+below-before : (n : ℕ) (t : Ticket) (change : HostCommand → HostCommand) (cs : List HostCommand) → Keeps change
+    → All (λ x. x.device.0 < n) (map (at_ticket t change) cs) → All (λ x. x.device.0 < n) cs
 below-before n t change [] keeps all = All-nil (λ x. x.device.0 < n)
 below-before n t change (c ∷ cs) keeps all =
     All-cons (λ x. x.device.0 < n) c cs
@@ -217,7 +233,8 @@ nothing-happened n (Ends t path ∷ log) all = at path (with_ticket t (commands 
     before : All (λ c. c.device.0 < n) (commands log)
     before = below-before n t after_end (commands log) end-keeps all
 
-    at : (p : Option PathNo) (o : Option HostCommand) → with_ticket t (commands log) ≡ o → path_log log n ≡ [] → after_response n p (clock log) o (path_log log n) ≡ []
+    at : (p : Option PathNo) (o : Option HostCommand) → with_ticket t (commands log) ≡ o → path_log log n ≡ []
+        → after_response n p (clock log) o (path_log log n) ≡ []
     at None o is earlier = earlier
     at (Some p) None is earlier = earlier
     at (Some p) (Some c) is earlier =
@@ -225,13 +242,15 @@ nothing-happened n (Ends t path ∷ log) all = at path (with_ticket t (commands 
         rw away earlier
 nothing-happened n (Advances now ∷ log) all = nothing-happened n log all
 
-slice-pushed : (devices : List Device) (d : Device) (n : ℕ) (P : ℕ → Device → Type 0) → ((m : ℕ) → IfSome (slice_get devices m) (P m)) → P (length devices) d → IfSome (slice_get (devices ++ d ∷ []) n) (P n)
+slice-pushed : (devices : List Device) (d : Device) (n : ℕ) (P : ℕ → Device → Type 0) → ((m : ℕ) → IfSome (slice_get devices m) (P m)) → P (length devices) d
+    → IfSome (slice_get (devices ++ d ∷ []) n) (P n)
 slice-pushed [] d zero P each new = new
 slice-pushed [] d (suc n) P each new = tt
 slice-pushed (x ∷ devices) d zero P each new = each zero
 slice-pushed (x ∷ devices) d (suc n) P each new = slice-pushed devices d n (λ m. P (suc m)) (λ m. each (suc m)) new
 
-pub have-attached : (ports : List Mac) (log : List Event) (devices : List Device) (d : Device) → All (λ c. c.device.0 < length devices) (commands log) → d.paths ≡ new_paths ports d.about.remotes.items
+pub have-attached : (ports : List Mac) (log : List Event) (devices : List Device) (d : Device) → All (λ c. c.device.0 < length devices) (commands log)
+    → d.paths ≡ new_paths ports d.about.remotes.items
     → HaveAll ports log devices → HaveAll ports log (devices ++ d ∷ [])
 have-attached ports log devices d below fresh have n =
     let none : path_log log (length devices) ≡ [] = nothing-happened (length devices) log below in

@@ -26,7 +26,8 @@ partitioned ticket (x ∷ xs) order (suc i) (suc j) d le below passes = partitio
 lower-not : (ticket : ℕ) (p : Pending) → lower ticket p ≡ true → has ticket p ≡ false
 lower-not ticket p low = ne_eqb p.ticket.0 ticket (λ same. absurd (omega (arith, ltb-true p.ticket.0 ticket low, same)))
 
-first-at : (ticket : ℕ) (xs : List Pending) (i : ℕ) → i < length xs → ((k : ℕ) (d : Pending) → k < i → lower ticket (get_or xs k d) ≡ true) → ((d : Pending) → has ticket (get_or xs i d) ≡ true)
+first-at : (ticket : ℕ) (xs : List Pending) (i : ℕ) → i < length xs → ((k : ℕ) (d : Pending) → k < i → lower ticket (get_or xs k d) ≡ true)
+    → ((d : Pending) → has ticket (get_or xs i d) ≡ true)
     → position_or_len (has ticket) xs ≡ i
 first-at ticket [] i inside low here = absurd (omega (arith, inside))
 first-at ticket (x ∷ xs) zero inside low here = let is : has ticket x ≡ true = here x in rw is refl
@@ -34,13 +35,15 @@ first-at ticket (x ∷ xs) (suc i) inside low here =
     let other : has ticket x ≡ false = lower-not ticket x (low 0 x (omega arith)) in
     rw other (omega (arith, first-at ticket xs i (omega (arith, inside)) (λ k d below. low (suc k) d (omega (arith, below))) here))
 
-none-at : (ticket : ℕ) (xs : List Pending) → ((k : ℕ) (d : Pending) → k < length xs → has ticket (get_or xs k d) ≡ false) → position_or_len (has ticket) xs ≡ length xs
+none-at : (ticket : ℕ) (xs : List Pending) → ((k : ℕ) (d : Pending) → k < length xs → has ticket (get_or xs k d) ≡ false)
+    → position_or_len (has ticket) xs ≡ length xs
 none-at ticket [] none = refl
 none-at ticket (x ∷ xs) none =
     let other : has ticket x ≡ false = none 0 x (omega arith) in
     rw other (omega (arith, none-at ticket xs (λ k d below. none (suc k) d (omega (arith, below)))))
 
-pub place-some : (ticket : ℕ) (xs : List Pending) (i : ℕ) → i < length xs → ((k : ℕ) (d : Pending) → 0 ≤ k → k < i → lower ticket (get_or xs k d) ≡ true) → ((d : Pending) → has ticket (get_or xs i d) ≡ true)
+pub place-some : (ticket : ℕ) (xs : List Pending) (i : ℕ) → i < length xs → ((k : ℕ) (d : Pending) → 0 ≤ k → k < i → lower ticket (get_or xs k d) ≡ true)
+    → ((d : Pending) → has ticket (get_or xs i d) ≡ true)
     → Some i ≡ position (has ticket) xs
 place-some ticket xs i inside low here =
     let is : position_or_len (has ticket) xs ≡ i = first-at ticket xs i inside (λ k d below. low k d (omega arith) below) here in
@@ -53,7 +56,8 @@ later (x ∷ xs) i zero d order more inside = absurd (omega (arith, more))
 later (x ∷ xs) zero (suc k) d order more inside = order.0 k d (omega (arith, inside))
 later (x ∷ xs) (suc i) (suc k) d order more inside = later xs i k d order.1 (omega (arith, more)) (omega (arith, inside))
 
-pub place-none : (ticket : ℕ) (xs : List Pending) (i : ℕ) → IsInOrder xs → ((k : ℕ) (d : Pending) → 0 ≤ k → k < i → lower ticket (get_or xs k d) ≡ true) → ((k : ℕ) (d : Pending) → i ≤ k → k < length xs → lower ticket (get_or xs k d) ≡ false)
+pub place-none : (ticket : ℕ) (xs : List Pending) (i : ℕ) → IsInOrder xs → ((k : ℕ) (d : Pending) → 0 ≤ k → k < i → lower ticket (get_or xs k d) ≡ true)
+    → ((k : ℕ) (d : Pending) → i ≤ k → k < length xs → lower ticket (get_or xs k d) ≡ false)
     → ((d : Pending) → i < length xs → has ticket (get_or xs i d) ≡ false) → None ≡ position (has ticket) xs
 place-none ticket xs i order low high here =
     let is : position_or_len (has ticket) xs ≡ length xs = none-at ticket xs other in

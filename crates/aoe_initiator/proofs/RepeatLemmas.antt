@@ -25,7 +25,8 @@ use Rattle.aoe_initiator.proofs.ClearLemmas.{is-placed, pending-of, IsQuietIdle}
 use Rattle.aoe_initiator.proofs.StartLemmas.{left-changed, left-same, IsLeft}
 
 -- the commands that were sent have one for each ticket
-pub sent-one : (host : Host) (log : List Event) (o : Outstanding) (c : HostCommand) (s : Sending) → Matches log host → Contains (sent_of (commands log)) o → Contains (commands log) c → c.sends ≡ Some s → o.ticket.0 ≡ c.ticket.0 → o ≡ outstanding c s
+pub sent-one : (host : Host) (log : List Event) (o : Outstanding) (c : HostCommand) (s : Sending) → Matches log host → Contains (sent_of (commands log)) o
+    → Contains (commands log) c → c.sends ≡ Some s → o.ticket.0 ≡ c.ticket.0 → o ≡ outstanding c s
 sent-one host log o c s m inside there sends same =
     let from = sent-from (commands log) o inside in
     let is : from.0 ≡ c = one-command (commands log) c from.0 c.ticket.0 (only 0 (commands log) c m.tickets there) from.1.there (ap (λ (e : Outstanding). e.ticket.0) (sym from.1.is) ∙ same) refl in
@@ -71,7 +72,8 @@ module _ {host new : Host} {log : List Event} {t : Ticket} {sent : Sent} {frame 
       let o = first.0 in
       let is = sent-one host log o c.0 f.s m first.2.there f.there f.sends (ap (λ (u : Ticket). u.0) first.1 ∙ sym f.same) in
       let tag = ap (λ (e : Outstanding). e.flying.tag) is ∙ ap (λ (g : Flying). g.tag) (sym f.flying) in
-      let repeat : IsRepeat host (commands log) (record { ticket = t; tag = repeats.flying.tag; path = repeats.route.path; again = true }) = record { command = o; first_due = first.2; ticket = first.1; tag = tag } in
+      let repeat : IsRepeat host (commands log) (record { ticket = t; tag = repeats.flying.tag; path = repeats.route.path; again = true }) =
+      record { command = o; first_due = first.2; ticket = first.1; tag = tag } in
       rw repeats.is repeat
 
   pub repeat-frame : IsFrameOf host (commands log) sent frame
@@ -119,7 +121,8 @@ module _ {host new : Host} {log : List Event} {t : Ticket} {sent : Sent} {frame 
       let wait_is : wait ≡ wait_of (ts c.device.0) (s.count + 1) =
       ap (λ k. wait_of k (min f.sends 32 + 1)) timeout ∙ ap (λ n. wait_of (ts c.device.0) (n + 1)) twice ∙ wait-capped (ts c.device.0) s.count in
       let change = after_repeat now path (record { 0 = wait }) in
-      let changed : RecallsSent (after_change host.flight t.0 change host.clock) (map (change_of t.0 change) (sent_of cs)) = recalls-change host.flight _ (sent_of cs) t.0 change host.clock refl m.sent time.flight in
+      let changed : RecallsSent (after_change host.flight t.0 change host.clock) (map (change_of t.0 change) (sent_of cs)) =
+      recalls-change host.flight _ (sent_of cs) t.0 change host.clock refl m.sent time.flight in
       let mapped = sent-repeated c s sent.tag now path ts cs is.flies.sends is.flies.waits (only 0 cs c m.tickets is.flies.there) in
       let mapped_t = rw is.ticket at (rw (← wait_is) at mapped) in
       let whole = matches-sent log host c p sent.tag path (after_change host.flight t.0 change host.clock) m is.pending time.devices refl refl refl (rw (p_is, mapped_t) changed) in
@@ -127,7 +130,8 @@ module _ {host new : Host} {log : List Event} {t : Ticket} {sent : Sent} {frame 
       let at_t : T t (Some f.path) = subst (λ (u : Ticket). T u (Some f.path)) p_is (subst (λ (o : Option PathNo). T p.ticket o) is.missed whole) in
       rw (is_ticket, is_path) (rw (← repeats.after) at at_t)
 
-pub left-repeated : (old new : Host) (t : Ticket) (frame : List ℕ) (o : Option Sent) → IfSome o (λ sent. Repeats old t sent frame new) → IfNone o (new ≡ old) → IsLeft old new
+pub left-repeated : (old new : Host) (t : Ticket) (frame : List ℕ) (o : Option Sent) → IfSome o (λ sent. Repeats old t sent frame new) → IfNone o (new ≡ old)
+    → IsLeft old new
 left-repeated old new t frame None some none = rw none (left-same old)
 left-repeated old new t frame (Some sent) some none = left-changed old new _ some.command.device.0 t (record { 0 = old.clock }) (Some some.flying.path) some.route.path some.after
 
@@ -136,7 +140,8 @@ abbrev pub IsFirstDue : Host → Ticket → Type 0
 IsFirstDue host t = (sent : List Outstanding) → RecallsSent host.flight sent → (e : Outstanding) × (e.ticket ≡ t) × IsFirst (is_due host.clock) precedes sent e
 
 -- what flies is pending, so a repeat always finds it
-pub repeat-quiet : (o : Option Sent) (host : Host) (t : Ticket) → IfNone o (place t host.pending ≡ None) → IsFirstDue host t → IfNone o ((log : List Event) → Matches log host → IsQuiet host (commands log))
+pub repeat-quiet : (o : Option Sent) (host : Host) (t : Ticket) → IfNone o (place t host.pending ≡ None) → IsFirstDue host t
+    → IfNone o ((log : List Event) → Matches log host → IsQuiet host (commands log))
 repeat-quiet (Some sent) host t missing first = tt
 repeat-quiet None host t missing first = λ log m.
     let found = first (sent_of (commands log)) m.sent in
@@ -152,7 +157,8 @@ repeat-quiet None host t missing first = λ log m.
 abbrev pub IsIdle : Host → Type 0
 IsIdle host = (sent : List Outstanding) → RecallsSent host.flight sent → All (λ e. is_due host.clock e ≡ false) sent
 
-pub idle-quiet : {T : Type 0} (o : Option T) (host : Host) → IsIdle host → IfNone o (IsQuietIdle host) → IfNone o ((log : List Event) → Matches log host → IsQuiet host (commands log))
+pub idle-quiet : {T : Type 0} (o : Option T) (host : Host) → IsIdle host → IfNone o (IsQuietIdle host)
+    → IfNone o ((log : List Event) → Matches log host → IsQuiet host (commands log))
 idle-quiet (Some x) host idle quiet = tt
 idle-quiet None host idle quiet = λ log m. quiet log m (idle (sent_of (commands log)) m.sent)
 
@@ -161,7 +167,8 @@ stays-unchanged (Some x) old new same = tt
 stays-unchanged None old new same = λ log m. rw same m
 
 -- a repeat gives no tag
-pub repeat-tag : {old new : Host} {t : Ticket} {sent : Sent} {frame : List ℕ} → Repeats old t sent frame new → GivesTag sent.again old.flight old.clock sent.tag new.flight
+pub repeat-tag : {old new : Host} {t : Ticket} {sent : Sent} {frame : List ℕ} → Repeats old t sent frame new
+    → GivesTag sent.again old.flight old.clock sent.tag new.flight
 repeat-tag repeats = rw repeats.is (ap (λ (h : Host). h.flight.last_tag) repeats.after)
 
 pub same-tag : (o : Option Sent) (old new : Host) → IfNone o (new ≡ old) → IfNone o (new.flight.last_tag ≡ old.flight.last_tag)

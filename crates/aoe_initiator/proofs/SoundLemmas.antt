@@ -36,7 +36,8 @@ attached-later now last later last_later d more above a = record {
 attached-at : (now last : ℕ) (d : Device) → IsAttached now last d → IsAttached now last (device_at now d)
 attached-at now last d a = record { port = a.port; total = a.total; max = a.max; time = omega arith; ticket = a.ticket }
 
-attached-sent : (last : ℕ) (t : Ticket) (now : Millis) (missed : Option PathNo) (path : PathNo) (d : Device) → IsAttached now.0 last d → IsAttached now.0 last (device_sent t now missed path d)
+attached-sent : (last : ℕ) (t : Ticket) (now : Millis) (missed : Option PathNo) (path : PathNo) (d : Device) → IsAttached now.0 last d
+    → IsAttached now.0 last (device_sent t now missed path d)
 attached-sent last t now missed path d a = record { port = a.port; total = a.total; max = a.max; time = omega arith; ticket = a.ticket }
 
 attached-finished : (now last : ℕ) (t : Ticket) (came : Option Arrival) (d : Device) → IsAttached now last d → IsAttached now last (device_finished t came d)
@@ -73,8 +74,10 @@ ordered-push (x ∷ xs) p last order given new =
       ordered-push xs p last order.1 (λ k d below. given (suc k) d (omega (arith, below))) new,
     )
 
-pub sound-sent : (ports : List Mac) (last n : ℕ) (now : Millis) (t : Ticket) (missed : Option PathNo) (path : PathNo) (flight after : FlightTable) (devices changed : List Device) (pending : List Pending) (waiting : List Done) (capacity : ℕ)
-    → after.latest ≤ now.0 → changed ≡ change_at n (device_sent t now missed path) devices → IsConsistent ports now.0 last flight devices pending waiting capacity → IsConsistent ports now.0 last after changed pending waiting capacity
+pub sound-sent : (ports : List Mac) (last n : ℕ) (now : Millis) (t : Ticket) (missed : Option PathNo) (path : PathNo) (flight after : FlightTable)
+    (devices changed : List Device) (pending : List Pending) (waiting : List Done) (capacity : ℕ)
+    → after.latest ≤ now.0 → changed ≡ change_at n (device_sent t now missed path) devices
+    → IsConsistent ports now.0 last flight devices pending waiting capacity → IsConsistent ports now.0 last after changed pending waiting capacity
 sound-sent ports last n now t missed path flight after devices changed pending waiting capacity time is s =
     let P : List Device → Type 0 = λ l. IsConsistent ports now.0 last after l pending waiting capacity in
     let same : length (change_at n (device_sent t now missed path) devices) ≡ length devices = length-change_at n (device_sent t now missed path) devices in
@@ -89,8 +92,10 @@ sound-sent ports last n now t missed path flight after devices changed pending w
       reserved = s.reserved;
     })
 
-pub sound-cleared : (ports : List Mac) (now last : ℕ) (flight : FlightTable) (devices changed : List Device) (pending : List Pending) (waiting : List Done) (capacity : ℕ)
-    → changed ≡ map (device_at now) devices → IsConsistent ports now last flight devices pending waiting capacity → IsConsistent ports now last flight changed pending waiting capacity
+pub sound-cleared : (ports : List Mac) (now last : ℕ) (flight : FlightTable) (devices changed : List Device) (pending : List Pending) (waiting : List Done)
+    (capacity : ℕ)
+    → changed ≡ map (device_at now) devices → IsConsistent ports now last flight devices pending waiting capacity
+    → IsConsistent ports now last flight changed pending waiting capacity
 sound-cleared ports now last flight devices changed pending waiting capacity is s =
     let P : List Device → Type 0 = λ l. IsConsistent ports now last flight l pending waiting capacity in
     let same : length (map (device_at now) devices) ≡ length devices = length-map devices (device_at now) in
@@ -105,8 +110,10 @@ sound-cleared ports now last flight devices changed pending waiting capacity is 
       reserved = s.reserved;
     })
 
-pub sound-closed : (ports : List Mac) (now last n at : ℕ) (t : Ticket) (came : Option Arrival) (flight after : FlightTable) (devices changed : List Device) (pending left : List Pending) (waiting more : List Done) (done : Done) (capacity capacity_after : ℕ)
-    → after.latest ≤ now → changed ≡ change_at n (device_finished t came) devices → left ≡ remove pending at → more ≡ waiting ++ done ∷ [] → capacity_after ≡ capacity → at < length pending
+pub sound-closed : (ports : List Mac) (now last n at : ℕ) (t : Ticket) (came : Option Arrival) (flight after : FlightTable) (devices changed : List Device)
+    (pending left : List Pending) (waiting more : List Done) (done : Done) (capacity capacity_after : ℕ)
+    → after.latest ≤ now → changed ≡ change_at n (device_finished t came) devices → left ≡ remove pending at → more ≡ waiting ++ done ∷ []
+    → capacity_after ≡ capacity → at < length pending
     → IsConsistent ports now last flight devices pending waiting capacity → IsConsistent ports now last after changed left more capacity_after
 sound-closed ports now last n at t came flight after devices changed pending left waiting more done capacity capacity_after time is left_is more_is same_capacity inside s =
     let P : List Device → List Pending → List Done → ℕ → Type 0 = λ ds ps ws c. IsConsistent ports now last after ds ps ws c in
@@ -124,8 +131,10 @@ sound-closed ports now last n at t came flight after devices changed pending lef
     } in
     rw (is, left_is, more_is, same_capacity) whole
 
-pub sound-attached : (ports : List Mac) (now last : ℕ) (flight : FlightTable) (devices more : List Device) (d : Device) (pending : List Pending) (waiting : List Done) (capacity : ℕ)
-    → more ≡ devices ++ d ∷ [] → IsAttached now last d → IsConsistent ports now last flight devices pending waiting capacity → IsConsistent ports now last flight more pending waiting capacity
+pub sound-attached : (ports : List Mac) (now last : ℕ) (flight : FlightTable) (devices more : List Device) (d : Device) (pending : List Pending)
+    (waiting : List Done) (capacity : ℕ)
+    → more ≡ devices ++ d ∷ [] → IsAttached now last d → IsConsistent ports now last flight devices pending waiting capacity
+    → IsConsistent ports now last flight more pending waiting capacity
 sound-attached ports now last flight devices more d pending waiting capacity is new s =
     let P : List Device → Type 0 = λ l. IsConsistent ports now last flight l pending waiting capacity in
     let one_more : length (devices ++ d ∷ []) ≡ length devices + 1 = length-append devices (d ∷ []) in
@@ -140,8 +149,10 @@ sound-attached ports now last flight devices more d pending waiting capacity is 
       reserved = s.reserved;
     })
 
-pub sound-submitted : (ports : List Mac) (now last next n : ℕ) (flight : FlightTable) (devices changed : List Device) (c : Command) (pending more : List Pending) (p : Pending) (waiting same_waiting : List Done) (capacity capacity_after : ℕ)
-    → next ≡ last + 1 → c.ticket.0 ≡ next → changed ≡ change_at n (device_entered c) devices → more ≡ pending ++ p ∷ [] → same_waiting ≡ waiting → length waiting + length pending + 1 ≤ capacity_after → p.ticket.0 ≡ next → IsSendable (length devices) p
+pub sound-submitted : (ports : List Mac) (now last next n : ℕ) (flight : FlightTable) (devices changed : List Device) (c : Command)
+    (pending more : List Pending) (p : Pending) (waiting same_waiting : List Done) (capacity capacity_after : ℕ)
+    → next ≡ last + 1 → c.ticket.0 ≡ next → changed ≡ change_at n (device_entered c) devices → more ≡ pending ++ p ∷ [] → same_waiting ≡ waiting
+    → length waiting + length pending + 1 ≤ capacity_after → p.ticket.0 ≡ next → IsSendable (length devices) p
     → IsConsistent ports now last flight devices pending waiting capacity → IsConsistent ports now next flight changed more same_waiting capacity_after
 sound-submitted ports now last next n flight devices changed c pending more p waiting same_waiting capacity capacity_after next_is ticket_is is more_is waiting_is room new ready s =
     let same : length (change_at n (device_entered c) devices) ≡ length devices = length-change_at n (device_entered c) devices in

@@ -42,13 +42,16 @@ map-or-part : {A B C : Type 0} (part : A → B) (f : B → C) (c : C) (o : Optio
 map-or-part part f c None = refl
 map-or-part part f c (Some a) = refl
 
-about-slice : (ds es : List Device) (n : ℕ) → map (λ (d : Device). d.about) ds ≡ map (λ (d : Device). d.about) es → option_map (λ (d : Device). d.about) (slice_get ds n) ≡ option_map (λ (d : Device). d.about) (slice_get es n)
+about-slice : (ds es : List Device) (n : ℕ) → map (λ (d : Device). d.about) ds ≡ map (λ (d : Device). d.about) es
+    → option_map (λ (d : Device). d.about) (slice_get ds n) ≡ option_map (λ (d : Device). d.about) (slice_get es n)
 about-slice ds es n same = sym (slice_get-map _ ds n) ∙ ap (λ l. slice_get l n) same ∙ slice_get-map _ es n
 
 -- the frame goes by what doesn't change of the devices
-pub spelled-same : (host new : Host) (op : Op) (device : DeviceNo) (path : PathNo) (tag : ℕ) → IsSame host new → spelled_for new op device path tag ≡ spelled_for host op device path tag
+pub spelled-same : (host new : Host) (op : Op) (device : DeviceNo) (path : PathNo) (tag : ℕ) → IsSame host new
+    → spelled_for new op device path tag ≡ spelled_for host op device path tag
 spelled-same host new op device path tag same =
-    let frame_for : Attached → Option (List ℕ) = λ about. option_map (λ pair. request op about.id pair.1 pair.0 tag) (pair_at host.ports about.remotes.items path.0) in
+    let frame_for : Attached → Option (List ℕ) =
+    λ about. option_map (λ pair. request op about.id pair.1 pair.0 tag) (pair_at host.ports about.remotes.items path.0) in
     rw same.ports (and-then-part (λ (d : Device). d.about) frame_for _ ∙ ap (option_and_then frame_for) (about-slice _ _ device.0 same.devices) ∙ sym (and-then-part (λ (d : Device). d.about) frame_for _))
 
 -- and so does the number of paths
@@ -57,7 +60,8 @@ paths-same host new n same =
     let paths : Attached → ℕ = λ about. length host.ports * length about.remotes.items in
     rw same.ports (map-or-part (λ (d : Device). d.about) paths 0 _ ∙ ap (λ o. option_map_or paths o 0) (about-slice _ _ n same.devices) ∙ sym (map-or-part (λ (d : Device). d.about) paths 0 _))
 
-pub about-mapped : (f : Device → Device) (devices : List Device) → ((d : Device) → (f d).about ≡ d.about) → map (λ (d : Device). d.about) (map f devices) ≡ map (λ (d : Device). d.about) devices
+pub about-mapped : (f : Device → Device) (devices : List Device) → ((d : Device) → (f d).about ≡ d.about)
+    → map (λ (d : Device). d.about) (map f devices) ≡ map (λ (d : Device). d.about) devices
 about-mapped f [] keeps = refl
 about-mapped f (d ∷ devices) keeps = rw (keeps d, about-mapped f devices keeps) refl
 
@@ -73,12 +77,14 @@ left-same host = record { same = record { ports = refl; life = refl; room = refl
 pub left-then : {a b c : Host} → IsLeft a b → IsLeft b c → IsLeft a c
 left-then one two = record { same = same-then _ _ _ one.same two.same; clock = two.clock ∙ one.clock; last = two.last ∙ one.last; waiting = two.waiting ∙ one.waiting }
 
-pub left-changed : (old new : Host) (flight : FlightTable) (n : ℕ) (t : Ticket) (now : Millis) (missed : Option PathNo) (path : PathNo) → new ≡ record old { flight = flight; devices = change_at n (device_sent t now missed path) old.devices } → IsLeft old new
+pub left-changed : (old new : Host) (flight : FlightTable) (n : ℕ) (t : Ticket) (now : Millis) (missed : Option PathNo) (path : PathNo)
+    → new ≡ record old { flight = flight; devices = change_at n (device_sent t now missed path) old.devices } → IsLeft old new
 left-changed old new flight n t now missed path is =
     rw is (record { same = record { ports = refl; life = refl; room = refl; dead = refl; devices = about-change_at n (device_sent t now missed path) old.devices (λ d. refl) }; clock = refl; last = refl; waiting = refl })
 
 -- where the search for a clear command went over the devices, or had no room
-pub left-cleared : (old new : Host) → new ≡ record old { devices = new.devices } → new.devices ≡ cond (is_full old) old.devices (map (device_at old.clock) old.devices) → IsLeft old new
+pub left-cleared : (old new : Host) → new ≡ record old { devices = new.devices }
+    → new.devices ≡ cond (is_full old) old.devices (map (device_at old.clock) old.devices) → IsLeft old new
 left-cleared old new same devices = record {
   same = record {
     ports = ap (λ (h : Host). h.ports) same;
@@ -92,7 +98,8 @@ left-cleared old new same devices = record {
   waiting = ap (λ (h : Host). h.waiting) same;
 }
   where
-    at : (b : Bool) → new.devices ≡ cond b old.devices (map (device_at old.clock) old.devices) → map (λ (d : Device). d.about) new.devices ≡ map (λ (d : Device). d.about) old.devices
+    at : (b : Bool) → new.devices ≡ cond b old.devices (map (device_at old.clock) old.devices)
+        → map (λ (d : Device). d.about) new.devices ≡ map (λ (d : Device). d.about) old.devices
     at true is = ap (map (λ (d : Device). d.about)) is
     at false is = ap (map (λ (d : Device). d.about)) is ∙ about-mapped (device_at old.clock) old.devices (λ d. refl)
 
@@ -117,11 +124,13 @@ pub start-quiet : (o : Option Sent) (old h : Host) (t : Ticket) (at : ℕ) → I
 start-quiet (Some sent) old h t at cleared none = tt
 start-quiet None old h t at cleared full = absurd (still-room cleared full)
 
-pub left-launched : (old h new : Host) (t : Ticket) (at : ℕ) (frame : List ℕ) (o : Option Sent) → IsCleared old h t at → IfSome o (λ sent. Launches h t at sent frame new) → IfNone o (is_full h ≡ true) → IsLeft h new
+pub left-launched : (old h new : Host) (t : Ticket) (at : ℕ) (frame : List ℕ) (o : Option Sent) → IsCleared old h t at
+    → IfSome o (λ sent. Launches h t at sent frame new) → IfNone o (is_full h ≡ true) → IsLeft h new
 left-launched old h new t at frame None cleared some full = absurd (still-room cleared full)
 left-launched old h new t at frame (Some sent) cleared some full = left-changed h new new.flight some.command.device.0 t (record { 0 = h.clock }) None some.route.path some.after
 
-module _ {old h new : Host} {log : List Event} {t : Ticket} {at : ℕ} {sent : Sent} {frame : List ℕ} (m : Matches log old) (cleared : IsCleared old h t at) (launches : Launches h t at sent frame new) where
+module _ {old h new : Host} {log : List Event} {t : Ticket} {at : ℕ} {sent : Sent} {frame : List ℕ} (m : Matches log old) (cleared : IsCleared old h t at)
+    (launches : Launches h t at sent frame new) where
   -- the clear command with the lowest ticket, and its pending entry
   record IsStarted (c : HostCommand) : Type 0 where
     there : Contains (commands log) c
@@ -222,7 +231,8 @@ module _ {old h new : Host} {log : List Event} {t : Ticket} {at : ℕ} {sent : S
         let at_t : T t None = subst (λ (u : Ticket). T u None) p_is (subst (λ (o : Option Sending). T p.ticket o) is.fresh whole) in
         rw (is_ticket, is_path) (rw (← launches.after) at at_t)
 
-pub start-next-all : (o : Option Sent) (old h new : Host) (t : Ticket) (at : ℕ) (frame : List ℕ) → InTime old → IsCleared old h t at → IfSome o (λ sent. Launches h t at sent frame new)
+pub start-next-all : (o : Option Sent) (old h new : Host) (t : Ticket) (at : ℕ) (frame : List ℕ) → InTime old → IsCleared old h t at
+    → IfSome o (λ sent. Launches h t at sent frame new)
     → IfSome o (λ sent. (before : List Outstanding) → RecallsSent h.flight before → is_taken (live h.flight.rest h.clock before) sent.tag ≡ false)
     → IfSome o (λ sent. (log : List Event) → Matches log old → All (λ e. is_due old.clock e ≡ false) (sent_of (commands log)) → IsNext old (commands log) sent)
 start-next-all None old h new t at frame time cleared launches free = tt

@@ -25,9 +25,12 @@ use Rattle.aoe_initiator.specs.Request.{request}
 use Rattle.aoe_initiator.specs.Steps.{place, Launches, Repeats}
 use Rattle.aoe_initiator.proofs.ListLemmas.{placed-within}
 
-pub closes-from : (old : Host) (at : ℕ) (p : Pending) (came : Option Arrival) (outcome : Outcome) (flight : FlightTable) (devices : List Device) (pending : List Pending) (waiting : List Done) → at < length old.pending → p ≡ get_or old.pending at p
-    → flight ≡ after_change old.flight p.ticket.0 after_finish old.flight.latest → devices ≡ change_at p.device.0 (device_finished p.ticket came) old.devices → pending ≡ remove old.pending at
-    → waiting ≡ old.waiting ++ record { ticket = p.ticket; outcome = outcome } ∷ [] → Closes old at came outcome (record old { flight = flight; devices = devices; pending = pending; waiting = waiting })
+pub closes-from : (old : Host) (at : ℕ) (p : Pending) (came : Option Arrival) (outcome : Outcome) (flight : FlightTable) (devices : List Device)
+    (pending : List Pending) (waiting : List Done) → at < length old.pending → p ≡ get_or old.pending at p
+    → flight ≡ after_change old.flight p.ticket.0 after_finish old.flight.latest → devices ≡ change_at p.device.0 (device_finished p.ticket came) old.devices
+    → pending ≡ remove old.pending at
+    → waiting ≡ old.waiting ++ record { ticket = p.ticket; outcome = outcome } ∷ []
+    → Closes old at came outcome (record old { flight = flight; devices = devices; pending = pending; waiting = waiting })
 closes-from old at p came outcome flight devices pending waiting inside read flight_is devices_is pending_is waiting_is = record {
   command = p;
   there = slice_get_read old.pending (length old.pending) at p refl inside read;
@@ -40,10 +43,12 @@ not-full a b less = elim (cases_Bool (nat_le a b)) [
   | inr no_le ↦ no_le
 ]
 
-pub launches-from : (old : Host) (t : Ticket) (at tag : ℕ) (p : Pending) (d : Device) (route : Route) (frame : List ℕ) (wait : Millis) (flight : FlightTable) (devices : List Device) → at < length old.pending → p ≡ get_or old.pending at p
+pub launches-from : (old : Host) (t : Ticket) (at tag : ℕ) (p : Pending) (d : Device) (route : Route) (frame : List ℕ) (wait : Millis) (flight : FlightTable)
+    (devices : List Device) → at < length old.pending → p ≡ get_or old.pending at p
     → slice_get old.devices p.device.0 ≡ Some d → IsRoute d None route → frame ≡ request p.op route.target route.remote route.local tag
     → devices ≡ change_at p.device.0 (device_sent t (record { 0 = old.clock }) None route.path) old.devices
-    → flight ≡ record old.flight { latest = old.clock; last_tag = tag; commands = flight.commands } → length (live_at old.flight old.clock) < old.flight.room → wait.0 ≡ wait_of route.timeout.0 1
+    → flight ≡ record old.flight { latest = old.clock; last_tag = tag; commands = flight.commands } → length (live_at old.flight old.clock) < old.flight.room
+    → wait.0 ≡ wait_of route.timeout.0 1
     → ((before : List Outstanding) → Recalls old.flight before → Recalls flight (launched t tag (record { 0 = old.clock }) route.path wait ∷ before))
     → Launches old t at (record { ticket = t; tag = tag; path = route.path; again = false }) frame (record old { flight = flight; devices = devices })
 launches-from old t at tag p d route frame wait flight devices inside read held routed bytes devices_is flight_is room wait_is recalls =
@@ -63,9 +68,12 @@ launches-from old t at tag p d route frame wait flight devices inside read held 
       room = not-full old.flight.room (length (live_at old.flight old.clock)) room;
     }
 
-pub repeats-from : (old : Host) (t : Ticket) (at : ℕ) (f : Flying) (p : Pending) (d : Device) (route : Route) (frame : List ℕ) (wait : Millis) (flight : FlightTable) (devices : List Device) → place t old.pending ≡ Some at → p ≡ get_or old.pending at p
-    → option_map (λ c. c.flying) (find (flies_as t.0) old.flight.commands) ≡ Some f → slice_get old.devices p.device.0 ≡ Some d → IsRoute d (Some f.path) route → frame ≡ request p.op route.target route.remote route.local f.tag
-    → wait.0 ≡ wait_of route.timeout.0 (min f.sends 32 + 1) → flight ≡ after_change old.flight t.0 (after_repeat (record { 0 = old.clock }) route.path wait) old.clock
+pub repeats-from : (old : Host) (t : Ticket) (at : ℕ) (f : Flying) (p : Pending) (d : Device) (route : Route) (frame : List ℕ) (wait : Millis)
+    (flight : FlightTable) (devices : List Device) → place t old.pending ≡ Some at → p ≡ get_or old.pending at p
+    → option_map (λ c. c.flying) (find (flies_as t.0) old.flight.commands) ≡ Some f → slice_get old.devices p.device.0 ≡ Some d → IsRoute d (Some f.path) route
+    → frame ≡ request p.op route.target route.remote route.local f.tag
+    → wait.0 ≡ wait_of route.timeout.0 (min f.sends 32 + 1) → flight ≡ after_change old.flight t.0
+    (after_repeat (record { 0 = old.clock }) route.path wait) old.clock
     → devices ≡ change_at p.device.0 (device_sent t (record { 0 = old.clock }) (Some f.path) route.path) old.devices
     → Repeats old t (record { ticket = t; tag = f.tag; path = route.path; again = true }) frame (record old { flight = flight; devices = devices })
 repeats-from old t at f p d route frame wait flight devices found read flies held routed bytes wait_is flight_is devices_is =
@@ -87,7 +95,8 @@ repeats-from old t at f p d route frame wait flight devices found read flies hel
       after = rw (devices_is, flight_is ∙ ap P wait_is) refl;
     }
 
-pub held-less : (devices : List Device) (n : ℕ) (d : Device) → slice_get devices n ≡ Some d → option_map_or (λ (e : Device). unsent_count e.holds.commands) (slice_get devices n) 0 < 65536 → unsent_count d.holds.commands < 4294967295
+pub held-less : (devices : List Device) (n : ℕ) (d : Device) → slice_get devices n ≡ Some d
+    → option_map_or (λ (e : Device). unsent_count e.holds.commands) (slice_get devices n) 0 < 65536 → unsent_count d.holds.commands < 4294967295
 held-less devices n d there few =
     let P : Option Device → Type 0 = λ o. option_map_or (λ (e : Device). unsent_count e.holds.commands) o 0 < 65536 in
     let less : unsent_count d.holds.commands < 65536 = subst P there few in

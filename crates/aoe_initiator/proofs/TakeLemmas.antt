@@ -67,14 +67,17 @@ trip-same now f s first sends = elim (cases_Bool (nat_eq s.count 1)) [
       let one : nat_eq f.sends 1 ≡ true = eq-eqb f.sends 1 (omega (arith, sends, eqb-true s.count 1 once)) in
       rw (one, once, first) refl
   | inr more ↦
-      let other : nat_eq f.sends 1 ≡ false = ne_eqb f.sends 1 (λ is. (let same : nat_eq s.count 1 ≡ true = eq-eqb s.count 1 (omega (arith, sends, is)) in absurd cc)) in
+      let other : nat_eq f.sends 1 ≡ false =
+      ne_eqb f.sends 1 (λ is. (let same : nat_eq s.count 1 ≡ true = eq-eqb s.count 1 (omega (arith, sends, is)) in absurd cc)) in
       rw (other, more) refl
 ]
 
 -- the answered command ends with the round trip that the log has
 takes-closed : (host new : Host) (log : List Event) (frame : List ℕ) (at : ℕ) (path : PathNo) (s : Sending) (a : Answer) (ticket : Ticket) → Matches log host
-    → Closes host at (Some (record { path = path; trip = trip_of host.clock (Some s) })) (outcome_of a (drop 24 frame)) new → IfSome (slice_get host.pending at) (λ p. ticket ≡ p.ticket)
-    → (c : HostCommand) → c.sends ≡ Some s → Contains (commands log) c → IfSome (slice_get host.pending at) (λ p. p.ticket ≡ c.ticket) → answer_to host c frame ≡ Some a → CameOn host c frame path → Takes host frame log (Finished ticket) new
+    → Closes host at (Some (record { path = path; trip = trip_of host.clock (Some s) })) (outcome_of a (drop 24 frame)) new
+    → IfSome (slice_get host.pending at) (λ p. ticket ≡ p.ticket)
+    → (c : HostCommand) → c.sends ≡ Some s → Contains (commands log) c → IfSome (slice_get host.pending at) (λ p. p.ticket ≡ c.ticket)
+    → answer_to host c frame ≡ Some a → CameOn host c frame path → Takes host frame log (Finished ticket) new
 takes-closed host new log frame at path s a ticket m closes ticket_is c sends there same answered came =
     let p = closes.command in
     let P : Option Pending → Type 0 = λ o. IfSome o (λ q. ticket ≡ q.ticket) in
@@ -82,15 +85,19 @@ takes-closed host new log frame at path s a ticket m closes ticket_is c sends th
     let mine : ticket ≡ p.ticket = subst P closes.there ticket_is in
     let of_c : p.ticket ≡ c.ticket = subst Q closes.there same in
     let flew : (d : HostCommand) → IsPending (commands log) p d → d.sends ≡ Some s = λ d pending.
-    let is_c : d ≡ c = one-command (commands log) c d c.ticket.0 (only 0 (commands log) c m.tickets there) pending.there (ap (λ (t : Ticket). t.0) (pending.ticket ∙ of_c)) refl in
+    let is_c : d ≡ c =
+    one-command (commands log) c d c.ticket.0 (only 0 (commands log) c m.tickets there) pending.there (ap (λ (t : Ticket). t.0) (pending.ticket ∙ of_c)) refl in
     ap (λ (e : HostCommand). e.sends) is_c ∙ sends in
     let W : Ticket → Type 0 = λ t. new.waiting ≡ host.waiting ++ record { ticket = t; outcome = outcome_of a (drop 24 frame) } ∷ [] in
-    let waiting : new.waiting ≡ host.waiting ++ record { ticket = p.ticket; outcome = outcome_of a (drop 24 frame) } ∷ [] = ap (λ (h : Host). h.waiting) closes.after in
+    let waiting : new.waiting ≡ host.waiting ++ record { ticket = p.ticket; outcome = outcome_of a (drop 24 frame) } ∷ [] =
+    ap (λ (h : Host). h.waiting) closes.after in
     let M : Ticket → Type 0 = λ t. Matches (Ends t (Some path) ∷ log) new in
     (c, a, path, there, sym (mine ∙ of_c), answered, came, subst W (sym mine) waiting, subst M (sym mine) (matches-ended log host new at (Some path) (outcome_of a (drop 24 frame)) s m closes flew))
 
-pub takes-finished : (host new : Host) (log : List Event) (frame : List ℕ) (at : ℕ) (t : Ticket) (path : PathNo) (f : Flying) (a : Answer) (ticket : Ticket) → Matches log host → place t host.pending ≡ Some at
-    → option_map (λ c. c.flying) (find (flies_as t.0) host.flight.commands) ≡ Some f → Closes host at (Some (record { path = path; trip = trip_from host.clock f })) (outcome_of a (drop 24 frame)) new
+pub takes-finished : (host new : Host) (log : List Event) (frame : List ℕ) (at : ℕ) (t : Ticket) (path : PathNo) (f : Flying) (a : Answer) (ticket : Ticket)
+    → Matches log host → place t host.pending ≡ Some at
+    → option_map (λ c. c.flying) (find (flies_as t.0) host.flight.commands) ≡ Some f
+    → Closes host at (Some (record { path = path; trip = trip_from host.clock f })) (outcome_of a (drop 24 frame)) new
     → IfSome (slice_get host.pending at) (λ p. ticket ≡ p.ticket)
     → ((c : HostCommand) × Contains (commands log) c × IfSome (slice_get host.pending at) (λ p. p.ticket ≡ c.ticket) × (answer_to host c frame ≡ Some a) × CameOn host c frame path) → Takes host frame log (Finished ticket) new
 takes-finished host new log frame at t path f a ticket m placed_at flies closes ticket_is found =
@@ -127,7 +134,8 @@ left-closed old new at came outcome closes =
 -- ---- what is given up
 
 -- an expired command flies
-pub expired-flies : (dead now : ℕ) (table : FlightTable) (t : Ticket) → ((c : Outstanding) × (c.ticket ≡ t) × IsFirst (is_expired dead now) lower table.commands c) → IsSome (find (flies_as t.0) table.commands)
+pub expired-flies : (dead now : ℕ) (table : FlightTable) (t : Ticket)
+    → ((c : Outstanding) × (c.ticket ≡ t) × IsFirst (is_expired dead now) lower table.commands c) → IsSome (find (flies_as t.0) table.commands)
 expired-flies dead now table t found =
     let c = found.0 in
     let parts = and_parts (not c.finished) _ found.2.passes in
@@ -151,7 +159,8 @@ abbrev pub ended_now : Host → Ticket → Flying → Done
 ended_now host t f = record { ticket = t; outcome = GaveUp f.first (record { 0 = host.clock }) }
 
 -- one command more is given up
-pub gave-up-once : (host new : Host) (log : List Event) (t : Ticket) (at : ℕ) (f : Flying) → Matches log host → place t host.pending ≡ Some at → option_map (λ c. c.flying) (find (flies_as t.0) host.flight.commands) ≡ Some f
+pub gave-up-once : (host new : Host) (log : List Event) (t : Ticket) (at : ℕ) (f : Flying) → Matches log host → place t host.pending ≡ Some at
+    → option_map (λ c. c.flying) (find (flies_as t.0) host.flight.commands) ≡ Some f
     → (closes : Closes host at None (GaveUp f.first (record { 0 = host.clock })) new)
     → ((sent : List Outstanding) → Recalls host.flight sent → (o : Outstanding) × (o.ticket ≡ t) × IsFirst (is_expired host.flight.dead host.clock) lower sent o)
     → Matches (Ends closes.command.ticket None ∷ log) new
@@ -166,7 +175,8 @@ gave-up-once host new log t at f m found flies closes first =
     ap (λ (e : HostCommand). e.sends) same ∙ flying.1.sends in
     let of_first = first (sent_of (commands log)) m.sent in
     let o = of_first.0 in
-    let is : o ≡ outstanding c flying.1.s = sent-one host log o c flying.1.s m of_first.2.there flying.1.there flying.1.sends (ap (λ (u : Ticket). u.0) of_first.1 ∙ sym flying.1.same) in
+    let is : o ≡ outstanding c flying.1.s =
+    sent-one host log o c flying.1.s m of_first.2.there flying.1.there flying.1.sends (ap (λ (u : Ticket). u.0) of_first.1 ∙ sym flying.1.same) in
     let ticket : p.ticket ≡ o.ticket = ap (λ (n : ℕ). record { 0 = n }) is_ticket ∙ sym of_first.1 in
     let sent_first : f.first ≡ o.flying.first = ap (λ (g : Flying). g.first) flying.1.flying ∙ ap (λ (e : Outstanding). e.flying.first) (sym is) in (
       matches-ended log host new at None (GaveUp f.first (record { 0 = host.clock })) flying.1.s m closes flew,

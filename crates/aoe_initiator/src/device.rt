@@ -94,7 +94,8 @@ impl Device {
     /// Chooses the path of a frame. The path on which an answer was missed is marked before.
     fn route(&mut self, missed: Option<PathNo>) -> Route
         ensures route { IsRoute self.old missed result }
-        ensures chosen { self.new ≡ record self.old { paths = after_choice missed result.path self.old.paths } }
+        ensures chosen { self.new
+            ≡ record self.old { paths = after_choice missed result.path self.old.paths } }
     {
         mark(&mut self.paths, missed);
         let path = self.paths.choose();
@@ -146,7 +147,8 @@ pub(crate) fn note_sent(
     requires inside { device.0 < length devices.old.items }
     requires time { All (λ d. d.holds.latest ≤ now.0) devices.old.items }
     ensures route { IfSome (slice_get devices.old.items device.0) (λ d. IsRoute d missed result) }
-    ensures value { devices.new.items ≡ change_at device.0 (device_sent ticket now missed result.path) devices.old.items }
+    ensures value { devices.new.items ≡ change_at device.0
+        (device_sent ticket now missed result.path) devices.old.items }
 {
     let device = &mut devices[device.0 as usize];
     device.holds.sent(ticket, now);
@@ -170,7 +172,8 @@ pub(crate) fn note_finished(
     came: Option<Arrival>,
 )
     requires { device.0 < length devices.old.items }
-    ensures { devices.new.items ≡ change_at device.0 (device_finished ticket came) devices.old.items }
+    ensures { devices.new.items ≡ change_at device.0
+        (device_finished ticket came) devices.old.items }
 {
     let device = &mut devices[device.0 as usize];
     device.holds.finished(ticket);

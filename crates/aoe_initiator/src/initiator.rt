@@ -134,7 +134,8 @@ fn make_room(
     ensures done { done.new.items ≡ done.old.items }
     ensures capacity { deque_capacity done.old ≤ deque_capacity done.new }
     ensures place { OnOk result (length pending.new.items < deque_capacity pending.new) }
-    ensures outcomes { OnOk result (length done.new.items + length pending.new.items + 1 ≤ deque_capacity done.new) }
+    ensures outcomes { OnOk result
+        (length done.new.items + length pending.new.items + 1 ≤ deque_capacity done.new) }
     ensures room { IfOk result (λ room. length room ≡ len) }
 {
     pending.reserve(1)?;
@@ -154,10 +155,12 @@ fn close(
     requires inside { All (λ p. p.device.0 < length devices.old.items) pending.old.items }
     ensures command { result ≡ slice_index_or pending.old.items at result }
     ensures pending { pending.new.items ≡ remove pending.old.items at }
-    ensures flight { flight.new ≡ after_change flight.old result.ticket.0 after_finish flight.old.latest }
+    ensures flight { flight.new
+        ≡ after_change flight.old result.ticket.0 after_finish flight.old.latest }
     ensures sent { (sent : List Outstanding) → Recalls flight.old sent
         → Recalls flight.new (map (change_of result.ticket.0 after_finish) sent) }
-    ensures devices { devices.new.items ≡ change_at result.device.0 (device_finished result.ticket came) devices.old.items }
+    ensures devices { devices.new.items ≡ change_at result.device.0
+        (device_finished result.ticket came) devices.old.items }
 {
     let command = pending.remove(at).unwrap();
     flight.finish(command.ticket);
@@ -214,11 +217,16 @@ impl Initiator {
         requires some { 0 < max }
         requires max { max ≤ 17 }
         requires few { length self.old.devices < 2 ^ 32 - 1 }
-        ensures refused { IfSome (attach_refusal id remotes.now.items self.old.devices) (λ refusal. result ≡ Err refusal) }
-        ensures no_memory { IfNone (attach_refusal id remotes.now.items self.old.devices) (IfErr result (λ refusal. refusal ≡ AttachRefusal.NoMemory)) }
+        ensures refused { IfSome (attach_refusal id remotes.now.items self.old.devices)
+            (λ refusal. result ≡ Err refusal) }
+        ensures no_memory { IfNone (attach_refusal id remotes.now.items self.old.devices)
+            (IfErr result (λ refusal. refusal ≡ AttachRefusal.NoMemory)) }
         ensures number { IfOk result (λ device. device.0 ≡ length self.old.devices) }
-        ensures device { OnOk result (self.new ≡ with_device self.old (new_device self.old.ports id remotes.now.items total max self.old.life)) }
-        ensures matches { OnOk result ((log : List Event) → Matches log self.old → Matches log self.new) }
+        ensures device { OnOk result (self.new
+            ≡ with_device self.old
+            (new_device self.old.ports id remotes.now.items total max self.old.life)) }
+        ensures matches { OnOk result ((log : List Event) → Matches log self.old
+            → Matches log self.new) }
         ensures unchanged { OnErr result (self.new ≡ self.old) }
     {
         if is_attached(&self.devices, id) {
@@ -269,11 +277,16 @@ impl Initiator {
         requires few { self.old.last_ticket < 2 ^ 64 - 1 }
         requires attached { device.0 < length self.old.devices }
         requires op { CanSubmit op }
-        ensures refused { IfSome (submit_refusal self.old device.0 op) (λ refusal. result ≡ Err (refusal, op)) }
-        ensures no_memory { IfNone (submit_refusal self.old device.0 op) (IfErr result (λ e. e ≡ (SubmitRefusal.NoMemory, op))) }
+        ensures refused { IfSome (submit_refusal self.old device.0 op)
+            (λ refusal. result ≡ Err (refusal, op)) }
+        ensures no_memory { IfNone (submit_refusal self.old device.0 op)
+            (IfErr result (λ e. e ≡ (SubmitRefusal.NoMemory, op))) }
         ensures ticket { IfOk result (λ ticket. ticket.0 ≡ self.old.last_ticket + 1) }
-        ensures matches { IfOk result (λ ticket. (log : List Event) → Matches log self.old → Matches (Submits ticket device op ∷ log) self.new) }
-        ensures same { IfOk result (λ ticket. IsSame self.old self.new × (self.new.clock ≡ self.old.clock) × (self.new.last_ticket ≡ ticket.0) × (self.new.waiting ≡ self.old.waiting)) }
+        ensures matches { IfOk result (λ ticket. (log : List Event) → Matches log self.old
+            → Matches (Submits ticket device op ∷ log) self.new) }
+        ensures same { IfOk result (λ ticket. IsSame self.old self.new
+            × (self.new.clock ≡ self.old.clock) × (self.new.last_ticket ≡ ticket.0)
+            × (self.new.waiting ≡ self.old.waiting)) }
         ensures no_tag { OnOk result (self.new.flight.last_tag ≡ self.old.flight.last_tag) }
         ensures unchanged { OnErr result (self.new ≡ self.old) }
     {
@@ -374,8 +387,10 @@ impl Initiator {
     /// The clear command with the lowest ticket, where there is room for one more.
     fn clear(&mut self) -> Option<(Ticket, usize)>
         ensures same { self.new ≡ record self.old { devices = self.new.devices } }
-        ensures devices { self.new.devices ≡ (if is_full self.old then self.old.devices else map (device_at self.old.clock) self.old.devices) }
-        ensures some { IfSome result (λ found. (is_full self.old ≡ false) × (place found.0 self.old.pending ≡ Some found.1)) }
+        ensures devices { self.new.devices ≡ (if is_full self.old then self.old.devices else map
+            (device_at self.old.clock) self.old.devices) }
+        ensures some { IfSome result (λ found. (is_full self.old ≡ false)
+            × (place found.0 self.old.pending ≡ Some found.1)) }
         ensures lowest { IfSome result (λ found. (life : ℕ) (cs : List HostCommand) → RecallAll life cs 0 self.old.devices
             → IsLowest (all_clear life self.old.clock cs 0 self.old.devices) (Some found.0)) }
         ensures none { IfNone result (is_full self.old ≡ false → (lowest : Option Ticket)
@@ -396,11 +411,13 @@ impl Initiator {
     /// Sends the command with a ticket, which is pending at a place, for the first time.
     fn launch(&mut self, ticket: Ticket, at: usize, out: &mut Frame) -> Option<Sent>
         requires { at < length self.old.pending }
-        ensures sent { IfSome result (λ sent. Launches self.old ticket at sent out.new.items self.new) }
+        ensures sent { IfSome result
+            (λ sent. Launches self.old ticket at sent out.new.items self.new) }
         ensures free { IfSome result (λ sent. (sent_before : List Outstanding) → Recalls self.old.flight sent_before
             → is_taken (live self.old.flight.rest self.old.clock sent_before) sent.tag ≡ false) }
         ensures none { IfNone result (is_full self.old ≡ true) }
-        ensures tag { IfSome result (λ sent. GivesTag sent.again self.old.flight self.old.clock sent.tag self.new.flight) }
+        ensures tag { IfSome result
+            (λ sent. GivesTag sent.again self.old.flight self.old.clock sent.tag self.new.flight) }
         ensures no_tag { IfNone result (self.new.flight.last_tag ≡ self.old.flight.last_tag) }
         ensures in_time { InTime self.old }
     {
@@ -423,14 +440,21 @@ impl Initiator {
     fn start(&mut self, out: &mut Frame) -> Option<Sent>
         ensures next { IfSome result (λ sent. (log : List Event) → Matches log self.old
             → All (λ o. is_due self.old.clock o ≡ false) (sent_of (commands log)) → IsNext self.old (commands log) sent) }
-        ensures frame { IfSome result (λ sent. (log : List Event) → Matches log self.old → IsFrameOf self.old (commands log) sent out.new.items) }
-        ensures path { IfSome result (λ sent. (log : List Event) → Matches log self.old → IsOnNextPath self.old log sent) }
-        ensures sends { IfSome result (λ sent. (log : List Event) → Matches log self.old → Matches (Sends sent.ticket sent.tag sent.path ∷ log) self.new) }
+        ensures frame { IfSome result (λ sent. (log : List Event) → Matches log self.old
+            → IsFrameOf self.old (commands log) sent out.new.items) }
+        ensures path { IfSome result (λ sent. (log : List Event) → Matches log self.old
+            → IsOnNextPath self.old log sent) }
+        ensures sends { IfSome result (λ sent. (log : List Event) → Matches log self.old
+            → Matches (Sends sent.ticket sent.tag sent.path ∷ log) self.new) }
         ensures quiet { IfNone result ((log : List Event) → Matches log self.old
             → All (λ o. is_due self.old.clock o ≡ false) (sent_of (commands log)) → IsQuiet self.old (commands log)) }
-        ensures stays { IfNone result ((log : List Event) → Matches log self.old → Matches log self.new) }
-        ensures same { IsSame self.old self.new × (self.new.clock ≡ self.old.clock) × (self.new.last_ticket ≡ self.old.last_ticket) × (self.new.waiting ≡ self.old.waiting) }
-        ensures tag { IfSome result (λ sent. GivesTag sent.again self.old.flight self.old.clock sent.tag self.new.flight) }
+        ensures stays { IfNone result ((log : List Event) → Matches log self.old
+            → Matches log self.new) }
+        ensures same { IsSame self.old self.new × (self.new.clock ≡ self.old.clock)
+            × (self.new.last_ticket ≡ self.old.last_ticket)
+            × (self.new.waiting ≡ self.old.waiting) }
+        ensures tag { IfSome result
+            (λ sent. GivesTag sent.again self.old.flight self.old.clock sent.tag self.new.flight) }
         ensures no_tag { IfNone result (self.new.flight.last_tag ≡ self.old.flight.last_tag) }
     {
         let (ticket, at) = self.clear()?;
@@ -440,14 +464,23 @@ impl Initiator {
     /// The frame that is to be sent next, in `out`: a due command is repeated, else the clear
     /// command with the lowest ticket is sent for the first time.
     pub fn pull(&mut self, out: &mut Frame) -> Option<Sent>
-        ensures next { IfSome result (λ sent. (log : List Event) → Matches log self.old → IsNext self.old (commands log) sent) }
-        ensures frame { IfSome result (λ sent. (log : List Event) → Matches log self.old → IsFrameOf self.old (commands log) sent out.new.items) }
-        ensures path { IfSome result (λ sent. (log : List Event) → Matches log self.old → IsOnNextPath self.old log sent) }
-        ensures sends { IfSome result (λ sent. (log : List Event) → Matches log self.old → Matches (Sends sent.ticket sent.tag sent.path ∷ log) self.new) }
-        ensures quiet { IfNone result ((log : List Event) → Matches log self.old → IsQuiet self.old (commands log)) }
-        ensures stays { IfNone result ((log : List Event) → Matches log self.old → Matches log self.new) }
-        ensures same { IsSame self.old self.new × (self.new.clock ≡ self.old.clock) × (self.new.last_ticket ≡ self.old.last_ticket) × (self.new.waiting ≡ self.old.waiting) }
-        ensures tag { IfSome result (λ sent. GivesTag sent.again self.old.flight self.old.clock sent.tag self.new.flight) }
+        ensures next { IfSome result (λ sent. (log : List Event) → Matches log self.old
+            → IsNext self.old (commands log) sent) }
+        ensures frame { IfSome result (λ sent. (log : List Event) → Matches log self.old
+            → IsFrameOf self.old (commands log) sent out.new.items) }
+        ensures path { IfSome result (λ sent. (log : List Event) → Matches log self.old
+            → IsOnNextPath self.old log sent) }
+        ensures sends { IfSome result (λ sent. (log : List Event) → Matches log self.old
+            → Matches (Sends sent.ticket sent.tag sent.path ∷ log) self.new) }
+        ensures quiet { IfNone result ((log : List Event) → Matches log self.old
+            → IsQuiet self.old (commands log)) }
+        ensures stays { IfNone result ((log : List Event) → Matches log self.old
+            → Matches log self.new) }
+        ensures same { IsSame self.old self.new × (self.new.clock ≡ self.old.clock)
+            × (self.new.last_ticket ≡ self.old.last_ticket)
+            × (self.new.waiting ≡ self.old.waiting) }
+        ensures tag { IfSome result
+            (λ sent. GivesTag sent.again self.old.flight self.old.clock sent.tag self.new.flight) }
         ensures no_tag { IfNone result (self.new.flight.last_tag ≡ self.old.flight.last_tag) }
     {
         match first_due(&self.flight, self.clock) {
@@ -492,14 +525,18 @@ impl Initiator {
 
     /// The response to a pending command that a frame is.
     fn answered(&self, frame: &[u8]) -> Option<Heard>
-        ensures there { IfSome result (λ heard. place heard.ticket self.now.pending ≡ Some heard.at) }
-        ensures flies { IfSome result (λ heard. IsSome (find (flies_as heard.ticket.0) self.now.flight.commands)) }
-        ensures fills { IfSome result (λ heard. IfSome (slice_get self.now.pending heard.at) (λ p. CanFill heard.answer (drop 24 frame.now) (data_len p.op))) }
+        ensures there { IfSome result (λ heard. place heard.ticket self.now.pending
+            ≡ Some heard.at) }
+        ensures flies { IfSome result (λ heard. IsSome
+            (find (flies_as heard.ticket.0) self.now.flight.commands)) }
+        ensures fills { IfSome result (λ heard. IfSome (slice_get self.now.pending heard.at)
+            (λ p. CanFill heard.answer (drop 24 frame.now) (data_len p.op))) }
         ensures header { OnSome result (24 ≤ length frame.now) }
         ensures some { IfSome result (λ heard. (log : List Event) → Matches log self.now
             → (c : HostCommand) × Contains (commands log) c × IfSome (slice_get self.now.pending heard.at) (λ p. p.ticket ≡ c.ticket)
             × (answer_to self.now c frame.now ≡ Some heard.answer) × CameOn self.now c frame.now heard.path) }
-        ensures none { IfNone result ((log : List Event) → Matches log self.now → All (λ c. answer_to self.now c frame.now ≡ None) (commands log)) }
+        ensures none { IfNone result ((log : List Event) → Matches log self.now
+            → All (λ c. answer_to self.now c frame.now ≡ None) (commands log)) }
     {
         let header = read_header(frame)?;
         if !self.hears(&header) {
@@ -524,7 +561,8 @@ impl Initiator {
     fn finish(&mut self, heard: Heard, args: &[u8]) -> Ticket
         requires there { place heard.ticket self.old.pending ≡ Some heard.at }
         requires flies { IsSome (find (flies_as heard.ticket.0) self.old.flight.commands) }
-        requires fills { IfSome (slice_get self.old.pending heard.at) (λ p. CanFill heard.answer args.now (data_len p.op)) }
+        requires fills { IfSome (slice_get self.old.pending heard.at)
+            (λ p. CanFill heard.answer args.now (data_len p.op)) }
         ensures closes { (flying : Flying)
             × (option_map (λ c. c.flying) (find (flies_as heard.ticket.0) self.old.flight.commands) ≡ Some flying)
             × Closes self.old heard.at (Some (record { path = heard.path; trip = trip_from self.old.clock flying })) (outcome_of heard.answer args.now) self.new }
@@ -552,8 +590,10 @@ impl Initiator {
 
     /// Takes a frame that came. A well-formed response to a command that waits for one ends it.
     pub fn receive(&mut self, frame: &[u8]) -> Taken
-        ensures taken { (log : List Event) → Matches log self.old → Takes self.old frame.now log result self.new }
-        ensures same { IsSame self.old self.new × (self.new.clock ≡ self.old.clock) × (self.new.last_ticket ≡ self.old.last_ticket) }
+        ensures taken { (log : List Event) → Matches log self.old
+            → Takes self.old frame.now log result self.new }
+        ensures same { IsSame self.old self.new × (self.new.clock ≡ self.old.clock)
+            × (self.new.last_ticket ≡ self.old.last_ticket) }
         ensures no_tag { self.new.flight.last_tag ≡ self.old.flight.last_tag }
     {
         match self.answered(frame) {

@@ -37,7 +37,8 @@ fn append_registers(aflags: u8, code: CommandCode, span: Span, out: &mut Frame)
     requires address { span.at < 2 ^ 48 }
     requires count { span.count < 2 ^ 8 }
     requires room { array_vec_len out.old + 12 ≤ 9018 }
-    ensures bytes { out.new.items ≡ out.old.items ++ args_bytes (registers_of aflags (code_of code) span) }
+    ensures bytes { out.new.items ≡ out.old.items
+        ++ args_bytes (registers_of aflags (code_of code) span) }
     ensures len { length out.new.items ≡ length out.old.items + 12 }
 {
     write_args(&registers(aflags, code, span), out);

@@ -43,7 +43,8 @@ pub count-within : (xs : List ℕ) (d n : ℕ) → d ≤ length xs → n ≤ len
 count-within xs d n inside within = let shorter : n ≤ length (drop d xs) = rw (take_rest xs d) at within in omega (arith, length-drop d xs)
 
 -- a sink that took a front of xs took a further piece of the rest
-pub Took-further : (a b c : Option (List ℕ)) (xs : List ℕ) (d n : ℕ) → Took a b (take d xs) → Took b c (take n (take (length xs - d) (drop d xs))) → Took a c (take (d + n) xs)
+pub Took-further : (a b c : Option (List ℕ)) (xs : List ℕ) (d n : ℕ) → Took a b (take d xs) → Took b c (take n (take (length xs - d) (drop d xs)))
+    → Took a c (take (d + n) xs)
 Took-further a b c xs d n before piece =
     let P : List ℕ → Type 0 = λ ys. Took b c (take n ys) in
     let Q : List ℕ → Type 0 = λ ys. Took a c ys in
@@ -57,18 +58,21 @@ filled xs ys d k n inside within =
     subst P front (take-append-add (take d xs) (ys ++ post_of d k xs) n) ∙ ap (λ (t : List ℕ). take d xs ++ t) (take-append-le n ys (post_of d k xs) within)
 
 -- a source that filled the front of a buffer gave a further piece behind it
-pub Gave-further : (a b c : Option (List ℕ)) (xs ys : List ℕ) (d k n : ℕ) → d ≤ length xs → n ≤ length ys → Gave a b (take d xs) → Gave b c (take n ys) → Gave a c (take (d + n) (put_mid d k xs ys))
+pub Gave-further : (a b c : Option (List ℕ)) (xs ys : List ℕ) (d k n : ℕ) → d ≤ length xs → n ≤ length ys → Gave a b (take d xs) → Gave b c (take n ys)
+    → Gave a c (take (d + n) (put_mid d k xs ys))
 Gave-further a b c xs ys d k n inside within before piece =
     let P : List ℕ → Type 0 = λ zs. Gave a c zs in
     subst P (sym (filled xs ys d k n inside within)) (Gave-then a b c (take d xs) (take n ys) before piece)
 
 -- the count of a piece of the middle is within the list
-pub count-within-middle : (xs ys : List ℕ) (d n : ℕ) → d ≤ length xs → length ys ≡ length (mid_of d (length xs - d) xs) → n ≤ length ys → d + n ≤ length (put_mid d (length xs - d) xs ys)
+pub count-within-middle : (xs ys : List ℕ) (d n : ℕ) → d ≤ length xs → length ys ≡ length (mid_of d (length xs - d) xs) → n ≤ length ys
+    → d + n ≤ length (put_mid d (length xs - d) xs ys)
 count-within-middle xs ys d n inside same within =
     rw (same_len_mid d (length xs - d) xs ys same) (count-within xs d n inside (rw same at within))
 
 -- a source that keeps a list gave a piece of its rest
-pub Gave-piece : (left xs ys piece : List ℕ) (d n : ℕ) → left ≡ drop d xs → ys ≡ xs → piece ≡ take n (take (length ys - d) (drop d ys)) → Gave (Some left) (Some (drop (d + n) xs)) piece
+pub Gave-piece : (left xs ys piece : List ℕ) (d n : ℕ) → left ≡ drop d xs → ys ≡ xs → piece ≡ take n (take (length ys - d) (drop d ys))
+    → Gave (Some left) (Some (drop (d + n) xs)) piece
 Gave-piece left xs ys piece d n left_is same piece_is =
     let P : List ℕ → Type 0 = λ zs. piece ≡ take n (take (length zs - d) (drop d zs)) in
     let Q : List ℕ → Type 0 = λ zs. piece ≡ take n zs in
@@ -82,7 +86,8 @@ TookSome-both a b c p q r xs whole same first second =
     subst Q whole (TookSome-then a b c p q first (subst P same second))
 
 -- the two bytes of a length
-pub prefix-is : (p : List ℕ) (k n : ℕ) → length p ≡ 2 → k ≡ 2 → n ≡ get_or p 0 0 * 256 + get_or p 1 0 → get_or p 0 0 < 256 → get_or p 1 0 < 256 → take k p ≡ to_be_bytes w16 n
+pub prefix-is : (p : List ℕ) (k n : ℕ) → length p ≡ 2 → k ≡ 2 → n ≡ get_or p 0 0 * 256 + get_or p 1 0 → get_or p 0 0 < 256 → get_or p 1 0 < 256
+    → take k p ≡ to_be_bytes w16 n
 prefix-is [] k n two k_is n_is high_small low_small = absurd (omega arith)
 prefix-is (high ∷ []) k n two k_is n_is high_small low_small = absurd (omega arith)
 prefix-is (high ∷ low ∷ []) k n two k_is n_is high_small low_small =

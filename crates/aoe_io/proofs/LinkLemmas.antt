@@ -34,7 +34,8 @@ given-next all at here =
     ∙ reverse-append (map brought (take at all)) (brought turn ∷ []) in
     rw (after, before, latest, drop_more all at None here, turn-head turn (drop (at + 1) all)) refl
 
-given-again : (all : List (Option (List ℕ))) (at turns : ℕ) → length all ≤ at → at ≤ turns → given_of all at (turns + 1) ≡ turn_next (drop at all) ∷ given_of all at turns
+given-again : (all : List (Option (List ℕ))) (at turns : ℕ) → length all ≤ at → at ≤ turns
+    → given_of all at (turns + 1) ≡ turn_next (drop at all) ∷ given_of all at turns
 given-again all at turns over asked =
     let more : turns + 1 - at ≡ suc (turns - at) = omega arith in
     rw (more, drop_all at all over) refl

@@ -62,7 +62,8 @@ impl Clock for SetClock {
     fn now(&mut self) -> u64
         ensures least { self.old.coming ≤ result }
         ensures later { result ≤ self.new.coming }
-        ensures told { IfSome self.new.answers (λ _. Added self.old.answers self.new.answers (result ∷ [])) }
+        ensures told { IfSome self.new.answers
+            (λ _. Added self.old.answers self.new.answers (result ∷ [])) }
         ensures exact { result ≡ self.old.coming }
         ensures ticked { self.new ≡ ticked self.old }
     {

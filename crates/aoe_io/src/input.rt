@@ -29,14 +29,17 @@ fn read_piece<S: Source>(
 ) -> Result<usize, InputRefusal>
     requires { 0 < length buffer.old }
     ensures within { IfOk result (λ n. n ≤ length buffer.old) }
-    ensures gave { IfOk result (λ n. Gave (S.left source.old) (S.left source.new) (take n buffer.new)) }
+    ensures gave { IfOk result (λ n. Gave (S.left source.old) (S.left source.new)
+        (take n buffer.new)) }
     ensures added { IfOk result (λ n. input.new.items ≡ input.old.items ++ take n buffer.new) }
     ensures end { IfOk result (λ n. n ≡ 0 → IsEnded (S.left source.old)) }
     ensures unread { OnErr result (GaveSome (S.left source.old) (S.left source.new)) }
     ensures count { S.faults source.old ≤ S.faults source.new }
-    ensures cause { result ≡ Err InputRefusal.Fault → Rose (S.faults source.old) (S.faults source.new) }
+    ensures cause { result ≡ Err InputRefusal.Fault
+        → Rose (S.faults source.old) (S.faults source.new) }
     ensures no_fault { OnOk result (S.faults source.new ≡ S.faults source.old) }
-    ensures untold { IfErr result (λ e. e ≢ InputRefusal.Fault → S.faults source.new ≡ S.faults source.old) }
+    ensures untold { IfErr result (λ e. e ≢ InputRefusal.Fault
+        → S.faults source.new ≡ S.faults source.old) }
     ensures one_fault { S.faults source.new ≤ S.faults source.old + 1 }
 {
     let n = match source.read(buffer) {
@@ -59,12 +62,15 @@ fn read_pieces<S: Source>(
     requires some { 0 < length buffer.old }
     requires few { length buffer.old ≤ 65536 }
     requires empty { input.old.items ≡ [] }
-    ensures read { IfOk result (λ _. IsReadUpTo most (S.left source.old) (S.left source.new) input.new.items) }
+    ensures read { IfOk result (λ _. IsReadUpTo most (S.left source.old)
+        (S.left source.new) input.new.items) }
     ensures unread { OnErr result (GaveSome (S.left source.old) (S.left source.new)) }
     ensures count { S.faults source.old ≤ S.faults source.new }
-    ensures cause { result ≡ Err InputRefusal.Fault → Rose (S.faults source.old) (S.faults source.new) }
+    ensures cause { result ≡ Err InputRefusal.Fault
+        → Rose (S.faults source.old) (S.faults source.new) }
     ensures no_fault { OnOk result (S.faults source.new ≡ S.faults source.old) }
-    ensures untold { IfErr result (λ e. e ≢ InputRefusal.Fault → S.faults source.new ≡ S.faults source.old) }
+    ensures untold { IfErr result (λ e. e ≢ InputRefusal.Fault
+        → S.faults source.new ≡ S.faults source.old) }
     ensures one_fault { S.faults source.new ≤ S.faults source.old + 1 }
 {
     'pieces: while input.len() <= most {
@@ -83,12 +89,15 @@ pub fn read_up_to<S: Source>(
     source: &mut S,
     most: usize,
 ) -> Result<Vec<u8>, InputRefusal>
-    ensures read { IfOk result (λ bytes. IsReadUpTo most (S.left source.old) (S.left source.new) bytes.items) }
+    ensures read { IfOk result (λ bytes. IsReadUpTo most (S.left source.old)
+        (S.left source.new) bytes.items) }
     ensures unread { OnErr result (GaveSome (S.left source.old) (S.left source.new)) }
     ensures count { S.faults source.old ≤ S.faults source.new }
-    ensures cause { result ≡ Err InputRefusal.Fault → Rose (S.faults source.old) (S.faults source.new) }
+    ensures cause { result ≡ Err InputRefusal.Fault
+        → Rose (S.faults source.old) (S.faults source.new) }
     ensures no_fault { OnOk result (S.faults source.new ≡ S.faults source.old) }
-    ensures untold { IfErr result (λ e. e ≢ InputRefusal.Fault → S.faults source.new ≡ S.faults source.old) }
+    ensures untold { IfErr result (λ e. e ≢ InputRefusal.Fault
+        → S.faults source.new ≡ S.faults source.old) }
     ensures one_fault { S.faults source.new ≤ S.faults source.old + 1 }
 {
     let mut buffer = [0; PIECE];

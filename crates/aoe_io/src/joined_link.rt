@@ -84,7 +84,8 @@ impl JoinedLink {
     /// Both ends of two joined links. At each, `room` frames wait at most: a send of one more, or of
     /// more than 9018 bytes, counts a fault and is lost.
     pub fn pair(alloc: Global, room: usize) -> Result<(JoinedLink, JoinedLink), NoMemory>
-        ensures { IfOk result (λ ends. (ends.0 ≡ record { room = room; turns = 0; faults = 0 }) × (ends.1 ≡ record { room = room; turns = 0; faults = 0 })) }
+        ensures { IfOk result (λ ends. (ends.0 ≡ record { room = room; turns = 0; faults = 0 })
+            × (ends.1 ≡ record { room = room; turns = 0; faults = 0 })) }
     {
         let there = queue(alloc, room)?;
         let back = queue(alloc, room)?;
@@ -122,7 +123,8 @@ impl Link for JoinedLink {
         ensures cause { OnErr result (Rose self.old.faults self.new.faults) }
         ensures one_fault { self.new.faults ≤ self.old.faults + 1 }
         ensures ok { OnOk result (self.new ≡ self.old) }
-        ensures err { OnErr result (self.new ≡ record self.old { faults = counted self.old.faults }) }
+        ensures err { OnErr result
+            (self.new ≡ record self.old { faults = counted self.old.faults }) }
         ensures long { 9018 < length frame.now → result ≡ Err record {} }
         ensures no_room { self.old.room ≡ 0 → result ≡ Err record {} }
     {

@@ -52,10 +52,13 @@ pub trait Link {
 
     /// Gives what this turn brings; `out` is the frame where one came, and may else hold any bytes.
     fn recv(&mut self, out: &mut Frame) -> Result<Got, Failed>
-        ensures gave { IfOk result (λ got. GaveTurns (turns self.new) (given self.old) (given self.new) (turn_of got out.new.items ∷ [])) }
+        ensures gave { IfOk result (λ got. GaveTurns (turns self.new) (given self.old)
+            (given self.new) (turn_of got out.new.items ∷ [])) }
         ensures passed { OnOk result (coming self.new ≡ option_map (drop 1) (coming self.old)) }
-        ensures frame { result ≡ Ok Got.Frame → IfSome (coming self.old) (λ turns. next_of turns ≡ Some out.new.items) }
-        ensures quiet { result ≡ Ok Got.Quiet → IfSome (coming self.old) (λ turns. next_of turns ≡ None) }
+        ensures frame { result ≡ Ok Got.Frame → IfSome (coming self.old)
+            (λ turns. next_of turns ≡ Some out.new.items) }
+        ensures quiet { result ≡ Ok Got.Quiet → IfSome (coming self.old)
+            (λ turns. next_of turns ≡ None) }
         ensures ended { result ≡ Ok Got.Ended → IfSome (coming self.old) (λ turns. turns ≡ []) }
         ensures turns { OnOk result (turns self.new ≡ counted (turns self.old)) }
         ensures passing { turns self.old ≤ turns self.new }

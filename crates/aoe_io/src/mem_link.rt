@@ -70,7 +70,8 @@ fn keep(taken: &mut Vec<Frame>, frame: &[u8]) -> Result<(), Failed>
     requires { vec_len taken.old < vec_capacity taken.old }
     ensures fits { length frame.now ≤ 9018 → IsOk result }
     ensures short { OnOk result (length frame.now ≤ 9018) }
-    ensures took { OnOk result (map (λ f. f.items) taken.new.items ≡ map (λ f. f.items) taken.old.items ++ frame.now ∷ []) }
+    ensures took { OnOk result (map (λ f. f.items) taken.new.items
+        ≡ map (λ f. f.items) taken.old.items ++ frame.now ∷ []) }
     ensures err { OnErr result (taken.new.items ≡ taken.old.items) }
     ensures capacity { vec_capacity taken.old ≤ vec_capacity taken.new }
 {
@@ -164,7 +165,8 @@ impl Link for MemLink {
     ghost faults = { λ l. l.faults };
 
     fn send(&mut self, frame: &[u8]) -> Result<(), Failed>
-        ensures took { OnOk result (Added (Some self.old.taken) (Some self.new.taken) (frame.now ∷ [])) }
+        ensures took { OnOk result (Added (Some self.old.taken) (Some self.new.taken)
+            (frame.now ∷ [])) }
         ensures err { OnErr result (Some self.new.taken ≡ Some self.old.taken) }
         ensures given { Some self.new.given ≡ Some self.old.given }
         ensures coming { Some self.new.coming ≡ Some self.old.coming }
@@ -183,11 +185,16 @@ impl Link for MemLink {
     }
 
     fn recv(&mut self, out: &mut Frame) -> Result<Got, Failed>
-        ensures gave { IfOk result (λ got. GaveTurns self.new.turns (Some self.old.given) (Some self.new.given) (turn_of got out.new.items ∷ [])) }
-        ensures passed { OnOk result (Some self.new.coming ≡ option_map (drop 1) (Some self.old.coming)) }
-        ensures frame { result ≡ Ok Got.Frame → IfSome (Some self.old.coming) (λ turns. next_of turns ≡ Some out.new.items) }
-        ensures quiet { result ≡ Ok Got.Quiet → IfSome (Some self.old.coming) (λ turns. next_of turns ≡ None) }
-        ensures ended { result ≡ Ok Got.Ended → IfSome (Some self.old.coming) (λ turns. turns ≡ []) }
+        ensures gave { IfOk result (λ got. GaveTurns self.new.turns (Some self.old.given)
+            (Some self.new.given) (turn_of got out.new.items ∷ [])) }
+        ensures passed { OnOk result (Some self.new.coming
+            ≡ option_map (drop 1) (Some self.old.coming)) }
+        ensures frame { result ≡ Ok Got.Frame → IfSome (Some self.old.coming)
+            (λ turns. next_of turns ≡ Some out.new.items) }
+        ensures quiet { result ≡ Ok Got.Quiet → IfSome (Some self.old.coming)
+            (λ turns. next_of turns ≡ None) }
+        ensures ended { result ≡ Ok Got.Ended → IfSome (Some self.old.coming)
+            (λ turns. turns ≡ []) }
         ensures turns { OnOk result (self.new.turns ≡ counted self.old.turns) }
         ensures passing { self.old.turns ≤ self.new.turns }
         ensures err_given { OnErr result (Some self.new.given ≡ Some self.old.given) }

@@ -59,7 +59,8 @@ impl Source for MemSource {
     fn read(&mut self, buf: &mut [u8]) -> Result<usize, Failed>
         requires { 0 < length buf.old }
         ensures within { IfOk result (λ n. n ≤ length buf.old) }
-        ensures gave { IfOk result (λ n. Gave (Some self.old.left) (Some self.new.left) (take n buf.new)) }
+        ensures gave { IfOk result (λ n. Gave (Some self.old.left) (Some self.new.left)
+            (take n buf.new)) }
         ensures end { IfOk result (λ n. n ≡ 0 → IsEnded (Some self.old.left)) }
         ensures err { OnErr result (Some self.new.left ≡ Some self.old.left) }
         ensures count { self.old.faults ≤ self.new.faults }
@@ -149,7 +150,8 @@ impl Sink for MemSink {
         requires { 0 < length piece.now }
         ensures some { IfOk result (λ n. 0 < n) }
         ensures within { IfOk result (λ n. n ≤ length piece.now) }
-        ensures took { IfOk result (λ n. Took (Some self.old.held) (Some self.new.held) (take n piece.now)) }
+        ensures took { IfOk result (λ n. Took (Some self.old.held) (Some self.new.held)
+            (take n piece.now)) }
         ensures err { OnErr result (Some self.new.held ≡ Some self.old.held) }
         ensures count { self.old.faults ≤ self.new.faults }
         ensures cause { OnErr result (Rose self.old.faults self.new.faults) }

@@ -39,7 +39,8 @@ pub enum StreamRefusal {
 #[inline(never)]
 fn fill_on<S: Source>(source: &mut S, out: &mut [u8]) -> Result<usize, Failed>
     ensures within { IfOk result (λ n. n ≤ length out.old) }
-    ensures gave { IfOk result (λ n. Gave (S.left source.old) (S.left source.new) (take n out.new)) }
+    ensures gave { IfOk result (λ n. Gave (S.left source.old) (S.left source.new)
+        (take n out.new)) }
     ensures short { IfOk result (λ n. n < length out.old → IsEnded (S.left source.new)) }
     ensures taken { OnErr result (GaveSome (S.left source.old) (S.left source.new)) }
     ensures count { S.faults source.old ≤ S.faults source.new }
@@ -64,7 +65,8 @@ fn fill_on<S: Source>(source: &mut S, out: &mut [u8]) -> Result<usize, Failed>
 pub fn fill_from<S: Source>(source: &mut S, out: &mut [u8]) -> Result<usize, Failed>
     requires { 0 < length out.old }
     ensures within { IfOk result (λ n. n ≤ length out.old) }
-    ensures gave { IfOk result (λ n. Gave (S.left source.old) (S.left source.new) (take n out.new)) }
+    ensures gave { IfOk result (λ n. Gave (S.left source.old) (S.left source.new)
+        (take n out.new)) }
     ensures short { IfOk result (λ n. n < length out.old → IsEnded (S.left source.new)) }
     ensures taken { OnErr result (GaveSome (S.left source.old) (S.left source.new)) }
     ensures count { S.faults source.old ≤ S.faults source.new }
@@ -88,11 +90,16 @@ pub fn fill_from<S: Source>(source: &mut S, out: &mut [u8]) -> Result<usize, Fai
 /// Takes the length of the next frame, or `None` where the input ends before it.
 fn read_length<S: Source>(source: &mut S, offset: u64) -> Result<Option<usize>, StreamRefusal>
     ensures length { IfOk result (λ came. IfSome came IsLength) }
-    ensures gave { IfOk result (λ came. IfSome came (λ n. Gave (S.left source.old) (S.left source.new) (to_be_bytes w16 n))) }
-    ensures end { result ≡ Ok None → IsEnded (S.left source.old) × (S.left source.new ≡ S.left source.old) }
-    ensures stream { (at : ℕ) → result ≡ Err (StreamRefusal.Stream at) → (at ≡ offset) × IfSome (S.left source.old) IsBroken }
-    ensures source_fault { result ≡ Err StreamRefusal.SourceFault → Rose (S.faults source.old) (S.faults source.new) }
-    ensures no_fault { result ≢ Err StreamRefusal.SourceFault → S.faults source.new ≡ S.faults source.old }
+    ensures gave { IfOk result (λ came. IfSome came
+        (λ n. Gave (S.left source.old) (S.left source.new) (to_be_bytes w16 n))) }
+    ensures end { result ≡ Ok None → IsEnded (S.left source.old)
+        × (S.left source.new ≡ S.left source.old) }
+    ensures stream { (at : ℕ) → result ≡ Err (StreamRefusal.Stream at)
+        → (at ≡ offset) × IfSome (S.left source.old) IsBroken }
+    ensures source_fault { result ≡ Err StreamRefusal.SourceFault
+        → Rose (S.faults source.old) (S.faults source.new) }
+    ensures no_fault { result ≢ Err StreamRefusal.SourceFault
+        → S.faults source.new ≡ S.faults source.old }
     ensures one_fault { S.faults source.new ≤ S.faults source.old + 1 }
     ensures taken { OnErr result (GaveSome (S.left source.old) (S.left source.new)) }
     ensures count { S.faults source.old ≤ S.faults source.new }
@@ -140,11 +147,16 @@ pub fn next_frame<S: Source>(
     offset: u64,
     out: &mut Frame,
 ) -> Result<Next, StreamRefusal>
-    ensures frame { result ≡ Ok Next.Frame → IsFrame out.new.items × Gave (S.left source.old) (S.left source.new) (framed out.new.items) }
-    ensures end { result ≡ Ok Next.End → IsEnded (S.left source.old) × (S.left source.new ≡ S.left source.old) }
-    ensures stream { (at : ℕ) → result ≡ Err (StreamRefusal.Stream at) → (at ≡ offset) × IfSome (S.left source.old) IsBroken }
-    ensures source_fault { result ≡ Err StreamRefusal.SourceFault → Rose (S.faults source.old) (S.faults source.new) }
-    ensures no_fault { result ≢ Err StreamRefusal.SourceFault → S.faults source.new ≡ S.faults source.old }
+    ensures frame { result ≡ Ok Next.Frame → IsFrame out.new.items
+        × Gave (S.left source.old) (S.left source.new) (framed out.new.items) }
+    ensures end { result ≡ Ok Next.End → IsEnded (S.left source.old)
+        × (S.left source.new ≡ S.left source.old) }
+    ensures stream { (at : ℕ) → result ≡ Err (StreamRefusal.Stream at)
+        → (at ≡ offset) × IfSome (S.left source.old) IsBroken }
+    ensures source_fault { result ≡ Err StreamRefusal.SourceFault
+        → Rose (S.faults source.old) (S.faults source.new) }
+    ensures no_fault { result ≢ Err StreamRefusal.SourceFault
+        → S.faults source.new ≡ S.faults source.old }
     ensures one_fault { S.faults source.new ≤ S.faults source.old + 1 }
     ensures taken { OnErr result (GaveSome (S.left source.old) (S.left source.new)) }
     ensures count { S.faults source.old ≤ S.faults source.new }
@@ -258,10 +270,12 @@ pub fn give_frame<K: Sink>(sink: &mut K, frame: &[u8]) -> Result<(), Failed>
 /// A law: bytes that begin with a frame aren't at an end and aren't broken, so that each answer of
 /// `next_frame` comes exactly where its clause holds.
 pub fn frame_begins_no_broken_stream()
-    ensures { (f rest : List ℕ) → IsFrame f → (framed f ++ rest ≢ []) × (IsBroken (framed f ++ rest) → ⊥) }
+    ensures { (f rest : List ℕ) → IsFrame f → (framed f ++ rest ≢ [])
+        × (IsBroken (framed f ++ rest) → ⊥) }
 {}
 
 /// A law: bytes are the stream of frames in one way only, since no two frames begin them.
 pub fn stream_begins_with_one_frame()
-    ensures { (f g rest other : List ℕ) → IsFrame f → IsFrame g → framed f ++ rest ≡ framed g ++ other → (f ≡ g) × (rest ≡ other) }
+    ensures { (f g rest other : List ℕ) → IsFrame f → IsFrame g
+        → framed f ++ rest ≡ framed g ++ other → (f ≡ g) × (rest ≡ other) }
 {}

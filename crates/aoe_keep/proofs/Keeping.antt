@@ -8,11 +8,13 @@ use Rattle.aoe_keep.specs.Stages.{IsKept, IsInterrupted, IsReplaced, spare, turn
 use Rattle.aoe_keep.specs.declared.place.Place.{Place}
 use Rattle.aoe_keep.proofs.Told.{both_map}
 
-pub offered_of : (before after : DiskState) (place : Option Place) (is_closed : Bool) (now old next : Settings) → now ≡ old → BothTell (IsInterrupted place is_closed now next) before.contents after.contents → FindsOffered before after old next
+pub offered_of : (before after : DiskState) (place : Option Place) (is_closed : Bool) (now old next : Settings) → now ≡ old
+    → BothTell (IsInterrupted place is_closed now next) before.contents after.contents → FindsOffered before after old next
 offered_of before after place is_closed now old next e told = rw (← e) (both_map _ _ before.contents after.contents (λ x y i. i.finds) told)
 
 -- after a replacement the slot that was spare holds the lists
-pub kept_replaced : (place : Option Place) (slot turn : ℕ) (is_closed : Bool) (lists next : Settings) (c : Option Contents) → slot ≡ spare place → turn ≡ turn_after place → is_closed ≡ is_unplaced place → lists ≡ next → IfSome c (IsReplaced place next)
+pub kept_replaced : (place : Option Place) (slot turn : ℕ) (is_closed : Bool) (lists next : Settings) (c : Option Contents) → slot ≡ spare place
+    → turn ≡ turn_after place → is_closed ≡ is_unplaced place → lists ≡ next → IfSome c (IsReplaced place next)
     → IfSome c (IsKept (Some (record { slot = slot; turn = turn })) is_closed lists)
 kept_replaced place slot turn is_closed lists next c es et ec el told =
     IfSome_then c told (λ x r. rw (es, et, ec, el) r.kept)

@@ -25,7 +25,8 @@ or_none : (t : Bool) → (t || false) ≡ t
 or_none t = grind arith
 
 module _ {D : Type 0} (state : D → DiskState) where
-  pub clears_failed : {T E : Type 0} (r : Result T E) (e : E) (failed : Bool) (old new : Mounted D) → r ≡ Err e → failed ≡ true → new.is_closed ≡ (old.is_closed || is_ok r)
+  pub clears_failed : {T E : Type 0} (r : Result T E) (e : E) (failed : Bool) (old new : Mounted D) → r ≡ Err e → failed ≡ true
+      → new.is_closed ≡ (old.is_closed || is_ok r)
       → Logs (calls.close_gate old.place old.is_closed ∷ []) (state old.disk) (state new.disk) → Clears state failed old new
   unfolding makes_one makes_stop
   clears_failed r e failed old new is f known log = rw f (record {
@@ -33,7 +34,8 @@ module _ {D : Type 0} (state : D → DiskState) where
     closed = (rw is at known) ∙ or_none old.is_closed;
   })
 
-  pub clears_done : (failed : Bool) (old new : Mounted D) (b : DiskState) → new.is_closed ≡ true → Logs (calls.close_gate old.place old.is_closed ∷ []) (state old.disk) b → Logs (Sync ∷ []) b (state new.disk) → Clears state failed old new
+  pub clears_done : (failed : Bool) (old new : Mounted D) (b : DiskState) → new.is_closed ≡ true
+      → Logs (calls.close_gate old.place old.is_closed ∷ []) (state old.disk) b → Logs (Sync ∷ []) b (state new.disk) → Clears state failed old new
   unfolding makes_two makes_one makes_then
   clears_done failed old new b closed one two = record { calls = makes_two (calls.close_gate old.place old.is_closed) Sync failed (state old.disk) b (state new.disk) one two; closed = closed }
 
@@ -58,7 +60,8 @@ module _ {D : Type 0} (state : D → DiskState) (next : Settings) where
   opening place = calls.write_gate place true ∷ Sync ∷ []
 
   -- the first or the second call failed
-  pub fails_to_clear : {failed : Bool} {old new : Mounted D} → failed ≡ true → Clears state true old new → new.place ≡ old.place → ReplacesBy state next failed (shown old) (shown new)
+  pub fails_to_clear : {failed : Bool} {old new : Mounted D} → failed ≡ true → Clears state true old new → new.place ≡ old.place
+      → ReplacesBy state next failed (shown old) (shown new)
   unfolding makes_stop
   fails_to_clear {failed} {old} {new} f k place = rw f (record {
     calls = makes_stop (clearing old) (staging old.place ++ opening old.place) (state old.disk) (state new.disk) k.calls;
@@ -71,7 +74,8 @@ module _ {D : Type 0} (state : D → DiskState) (next : Settings) where
     closed_mid = k.closed ∙ (λ i. cond (k.calls.all refl i == 1) old.is_closed true)
 
     -- the third or the fourth call failed
-    pub fails_to_stage : {failed : Bool} (new : Mounted D) → failed ≡ true → Makes (staging mid.place) true (state mid.disk) (state new.disk) → new.place ≡ mid.place → new.is_closed ≡ mid.is_closed
+    pub fails_to_stage : {failed : Bool} (new : Mounted D) → failed ≡ true → Makes (staging mid.place) true (state mid.disk) (state new.disk)
+        → new.place ≡ mid.place → new.is_closed ≡ mid.is_closed
         → ReplacesBy state next failed (shown old) (shown new)
     unfolding makes_then makes_stop
     fails_to_stage {failed} new f makes place same =
@@ -84,12 +88,14 @@ module _ {D : Type 0} (state : D → DiskState) (next : Settings) where
         })
 
     module _ (last : Mounted D) (s : Makes (staging mid.place) false (state mid.disk) (state last.disk)) (here : last.place ≡ mid.place) where
-      all_calls : (failed : Bool) (b : DiskState) → Makes (opening old.place) failed (state last.disk) b → Makes (clearing old ++ (staging old.place ++ opening old.place)) failed (state old.disk) b
+      all_calls : (failed : Bool) (b : DiskState) → Makes (opening old.place) failed (state last.disk) b
+          → Makes (clearing old ++ (staging old.place ++ opening old.place)) failed (state old.disk) b
       all_calls failed b makes = makes_then (clearing old) (staging old.place ++ opening old.place) failed (state old.disk) (state mid.disk) b k.calls
           (makes_then (staging old.place) (opening old.place) failed (state mid.disk) (state last.disk) b (rw there at s) makes)
 
       -- the fifth or the sixth call failed
-      pub fails_to_open : {failed : Bool} (new : Mounted D) → failed ≡ true → Makes (opening last.place) true (state last.disk) (state new.disk) → new.place ≡ last.place → new.is_closed ≡ false
+      pub fails_to_open : {failed : Bool} (new : Mounted D) → failed ≡ true → Makes (opening last.place) true (state last.disk) (state new.disk)
+          → new.place ≡ last.place → new.is_closed ≡ false
           → ReplacesBy state next failed (shown old) (shown new)
       unfolding all_calls makes_then
       fails_to_open {failed} new f makes place closed =
@@ -102,8 +108,10 @@ module _ {D : Type 0} (state : D → DiskState) (next : Settings) where
           })
 
       -- no call failed
-      pub replaces : (disk : D) (lists : Settings) {slot turn : ℕ} {is_closed : Bool} → Makes (opening last.place) false (state last.disk) (state disk) → slot ≡ spare last.place → turn ≡ turn_after last.place → is_closed ≡ is_unplaced last.place
-          → ReplacesBy state next false (shown old) (shown (record { disk = disk; lists = lists; place = Some (record { slot = slot; turn = turn }); is_closed = is_closed }))
+      pub replaces : (disk : D) (lists : Settings) {slot turn : ℕ} {is_closed : Bool} → Makes (opening last.place) false (state last.disk) (state disk)
+          → slot ≡ spare last.place → turn ≡ turn_after last.place → is_closed ≡ is_unplaced last.place
+          → ReplacesBy state next false (shown old)
+          (shown (record { disk = disk; lists = lists; place = Some (record { slot = slot; turn = turn }); is_closed = is_closed }))
       replaces disk lists makes es et ec = record {
         calls = all_calls false (state disk) (rw (here ∙ there) at makes);
         place = (λ i. Some (record { slot = es i; turn = et i })) ∙ ap next_place (here ∙ there);
@@ -121,7 +129,8 @@ told_gate k None = tt
 told_gate k (Some c) = refl
 
 -- what a read of a gate gave
-pub read_gate : (k : ℕ) (out : List ℕ) (contents : Option Contents) → IfSome contents (λ c. out ≡ take 512 (drop (512 * (8 * k)) c.bytes)) → IfSome contents (λ c. (get_or out 0 0 == 167) ≡ is_open c.bytes k)
+pub read_gate : (k : ℕ) (out : List ℕ) (contents : Option Contents) → IfSome contents (λ c. out ≡ take 512 (drop (512 * (8 * k)) c.bytes))
+    → IfSome contents (λ c. (get_or out 0 0 == 167) ≡ is_open c.bytes k)
 read_gate k out None given = tt
 read_gate k out (Some c) given = rw given refl
 
@@ -136,7 +145,8 @@ module _ (k : ℕ) (a b : DiskState) (log : Logs (Read (8 * k) 512 ∷ []) a b) 
   pub gate_closed : {opened : Bool} → opened ≡ false → IfSome a.contents (λ c. opened ≡ is_open c.bytes k) → ReadsSlot k false a b
   gate_closed {opened} e gate = record { opened = false; gate = rw e at gate; calls = makes_one (Read (8 * k) 512) false a b log }
 
-  pub body_read : {opened : Bool} (failed : Bool) (c : DiskState) → opened ≡ true → IfSome a.contents (λ x. opened ≡ is_open x.bytes k) → Logs (Read (8 * k + 1) 3584 ∷ []) b c → ReadsSlot k failed a c
+  pub body_read : {opened : Bool} (failed : Bool) (c : DiskState) → opened ≡ true → IfSome a.contents (λ x. opened ≡ is_open x.bytes k)
+      → Logs (Read (8 * k + 1) 3584 ∷ []) b c → ReadsSlot k failed a c
   body_read {opened} failed c e gate two = record {
     opened = true;
     gate = rw e at gate;
@@ -145,12 +155,14 @@ module _ (k : ℕ) (a b : DiskState) (log : Logs (Read (8 * k) 512 ∷ []) a b) 
 
 -- the calls of a mounting, after a sync that may have settled some sectors
 
-same_gate : {T E : Type 0} (r : Result T E) (k : ℕ) (opened : Bool) (a b : Option Contents) → BothTell (Syncs r) a b → IfSome b (λ c. opened ≡ is_open c.bytes k) → IfSome a (λ c. opened ≡ is_open c.bytes k)
+same_gate : {T E : Type 0} (r : Result T E) (k : ℕ) (opened : Bool) (a b : Option Contents) → BothTell (Syncs r) a b
+    → IfSome b (λ c. opened ≡ is_open c.bytes k) → IfSome a (λ c. opened ≡ is_open c.bytes k)
 same_gate r k opened None b told gate = tt
 same_gate r k opened (Some x) None told gate = absurd told
 same_gate r k opened (Some x) (Some y) told gate = rw (syncs_calm r x y told).bytes at gate
 
-both : (first second : Bool) (a : Option Contents) → IfSome a (λ c. first ≡ is_open c.bytes 0) → IfSome a (λ c. second ≡ is_open c.bytes 1) → IfSome a (λ c. (first ≡ is_open c.bytes 0) × (second ≡ is_open c.bytes 1))
+both : (first second : Bool) (a : Option Contents) → IfSome a (λ c. first ≡ is_open c.bytes 0) → IfSome a (λ c. second ≡ is_open c.bytes 1)
+    → IfSome a (λ c. (first ≡ is_open c.bytes 0) × (second ≡ is_open c.bytes 1))
 both first second None f s = tt
 both first second (Some c) f s = (f, s)
 

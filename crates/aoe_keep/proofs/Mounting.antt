@@ -58,10 +58,12 @@ module _ (c : Contents) (kept : (s : ℕ) → is_loose c.loose s ≡ false) wher
   turn_of : (k : ℕ) (b : Written) → StaysOpen c k b → b.turn < 3
   turn_of k b h = turn_small (body c.bytes k) b h.body.spells
 
-  steady_in : (k : ℕ) (b : Written) (lists : Settings) → k < 2 → b.lists ≡ lists → StaysOpen c k b → IsSteady (Some (record { slot = k; turn = b.turn })) lists c
+  steady_in : (k : ℕ) (b : Written) (lists : Settings) → k < 2 → b.lists ≡ lists → StaysOpen c k b
+      → IsSteady (Some (record { slot = k; turn = b.turn })) lists c
   steady_in k b lists lt same h = (lt, turn_of k b h, rw same at h)
 
-  both_open : (a b : Written) (lists : Settings) → StaysOpen c 0 a → StaysOpen c 1 b → (t : Bool) → (a.turn == next_turn b.turn) ≡ t → cond {A = Result Settings ℕ} t (Ok a.lists) (cond {A = Result Settings ℕ} (b.turn == next_turn a.turn) (Ok b.lists) (Err 1)) ≡ Ok lists
+  both_open : (a b : Written) (lists : Settings) → StaysOpen c 0 a → StaysOpen c 1 b → (t : Bool) → (a.turn == next_turn b.turn) ≡ t
+      → cond {A = Result Settings ℕ} t (Ok a.lists) (cond {A = Result Settings ℕ} (b.turn == next_turn a.turn) (Ok b.lists) (Err 1)) ≡ Ok lists
       → IsKept (later t a b).0 (later t a b).1 lists c
   both_open a b lists ha hb true e is =
       let la = turn_of 0 a ha in let lb = turn_of 1 b hb in
@@ -79,7 +81,8 @@ module _ (c : Contents) (kept : (s : ℕ) → is_loose c.loose s ≡ false) wher
     | inr t ↦ absurd cc
   ]
 
-  kept_from : (o p : Option (Option Written)) (lists : Settings) → slot c.bytes 0 ≡ o → slot c.bytes 1 ≡ p → choice o p ≡ Ok lists → IsKept (placement o p).0 (placement o p).1 lists c
+  kept_from : (o p : Option (Option Written)) (lists : Settings) → slot c.bytes 0 ≡ o → slot c.bytes 1 ≡ p → choice o p ≡ Ok lists
+      → IsKept (placement o p).0 (placement o p).1 lists c
   kept_from None None lists e f is =
       let s0 = closed_from 0 e in let s1 = closed_from 1 f in let l : lists ≡ empty_settings = cc in
       record { steady = (l, s1); spare = (s0.gate, inl s0) }
@@ -98,19 +101,22 @@ module _ (c : Contents) (kept : (s : ℕ) → is_loose c.loose s ≡ false) wher
 abbrev pub Chooses : Option (Option Written) → Option (Option Written) → Result Present ℕ → Type 0
 Chooses o p r = MatchResult r (λ f. (choice o p ≡ Ok f.lists) × (placement o p ≡ (f.place, f.is_closed))) (λ k. choice o p ≡ Err k)
 
-read_told : (r : Result Present ℕ) (o p : Option (Option Written)) (a b : Contents) → Settles a b → slot b.bytes 0 ≡ o → slot b.bytes 1 ≡ p → Chooses o p r → ReadsSlots r a b
+read_told : (r : Result Present ℕ) (o p : Option (Option Written)) (a b : Contents) → Settles a b → slot b.bytes 0 ≡ o → slot b.bytes 1 ≡ p → Chooses o p r
+    → ReadsSlots r a b
 read_told (Ok f) o p a b settles e g h =
     let kept = rw h.1 at (kept_from b (settles_kept a b settles) o p f.lists e g h.0) in
     (rw (← settles.bytes, e, g) h.0, settles, kept, rw (← settles.bytes, e, g) h.1)
 read_told (Err k) o p a b settles e g h = (rw (← settles.bytes, e, g) h, settles)
 
-at_once : (r : Result Present ℕ) (o p : Option (Option Written)) (a b : Option Contents) → BothTell Settles a b → IfSome b (λ x. slot x.bytes 0 ≡ o) → IfSome b (λ x. slot x.bytes 1 ≡ p) → Chooses o p r → BothTell (ReadsSlots r) a b
+at_once : (r : Result Present ℕ) (o p : Option (Option Written)) (a b : Option Contents) → BothTell Settles a b → IfSome b (λ x. slot x.bytes 0 ≡ o)
+    → IfSome b (λ x. slot x.bytes 1 ≡ p) → Chooses o p r → BothTell (ReadsSlots r) a b
 at_once r o p None None settles e f h = tt
 at_once r o p None (Some y) settles e f h = settles
 at_once r o p (Some x) None settles e f h = settles
 at_once r o p (Some x) (Some y) settles e f h = read_told r o p x y settles e f h
 
-pub slots_told : (r : Result Present ℕ) (o p : Option (Option Written)) (a b c d : Option Contents) → BothTell Settles a b → c ≡ b → d ≡ c → IfSome b (λ x. slot x.bytes 0 ≡ o) → IfSome c (λ x. slot x.bytes 1 ≡ p) → Chooses o p r
+pub slots_told : (r : Result Present ℕ) (o p : Option (Option Written)) (a b c d : Option Contents) → BothTell Settles a b → c ≡ b → d ≡ c
+    → IfSome b (λ x. slot x.bytes 0 ≡ o) → IfSome c (λ x. slot x.bytes 1 ≡ p) → Chooses o p r
     → BothTell (ReadsSlots r) a d
 slots_told r o p a b c d settles cb dc e f h = rw (dc, cb) (at_once r o p a b settles e (rw cb at f) h)
 
@@ -118,6 +124,7 @@ pub calm_told : (a b c : Option Contents) → BothTell Settles a b → c ≡ b �
 calm_told a b c settles e = rw e (both_map Settles Calms a b (λ x y s. settles_calm x y s) settles)
 
 -- after a mounting every crash finds the lists that stand
-pub always_found : (lists : Settings) (a b : Option Contents) → BothTell (λ x y. (found x.bytes ≡ Ok lists) × Settles x y) a b → IfSome b (Finds (λ l. l ≡ lists))
+pub always_found : (lists : Settings) (a b : Option Contents) → BothTell (λ x y. (found x.bytes ≡ Ok lists) × Settles x y) a b
+    → IfSome b (Finds (λ l. l ≡ lists))
 always_found lists a b told = told_last (λ x y. (found x.bytes ≡ Ok lists) × Settles x y) (Finds (λ l. l ≡ lists)) a b
     (λ x y (h : (found x.bytes ≡ Ok lists) × Settles x y). finds_kept y (settles_kept x y h.1) lists (ap found h.1.bytes ∙ h.0)) told

@@ -14,11 +14,13 @@ module _ (P : Settings → Type 0) (old next : Settings) where
       let same : f.0 ≡ l = (let ok : (let r : Result Settings ℕ = Ok f.0 in r) ≡ Ok l = sym f.1 ∙ can.is in cc) in
       inr (inr (rw same at f.2))
 
-  finds_told : (a b : Option Contents) → IfSome a (Finds P) → BothTell (λ x y. Finds (IsOffered old next x) y) a b → IfSome b (Finds (λ l. (l ≡ old) ⊎ ((l ≡ next) ⊎ P l)))
+  finds_told : (a b : Option Contents) → IfSome a (Finds P) → BothTell (λ x y. Finds (IsOffered old next x) y) a b
+      → IfSome b (Finds (λ l. (l ≡ old) ⊎ ((l ≡ next) ⊎ P l)))
   finds_told a None p told = tt
   finds_told None (Some y) p told = absurd told
   finds_told (Some x) (Some y) p told = λ image left. let f = told image left in (f.0, f.1, offer x f.0 p f.2)
 
   -- a replacement failed: every crash finds the old lists, the next ones, or lists that have what every crash found before
-  pub finds_offered : (before after : DiskState) → IfSome before.contents (Finds P) → FindsOffered before after old next → IfSome after.contents (Finds (λ l. (l ≡ old) ⊎ ((l ≡ next) ⊎ P l)))
+  pub finds_offered : (before after : DiskState) → IfSome before.contents (Finds P) → FindsOffered before after old next
+      → IfSome after.contents (Finds (λ l. (l ≡ old) ⊎ ((l ≡ next) ⊎ P l)))
   finds_offered before after p told = finds_told before.contents after.contents p told

@@ -48,7 +48,8 @@ module _ (f : Format) (turn n m r : ℕ) (rest : List ℕ) where
   unfolding is_valid fields_of
   no_masks bytes is e = and_right _ _ (and_left _ _ (rw is at e))
 
-  pub no_reserves : (bytes : List ℕ) → bytes ≡ drop (n + 6 * m) rest → all_unique (addresses (first_chunks 6 r bytes)) ≡ false → is_valid f turn n m r rest ≡ false
+  pub no_reserves : (bytes : List ℕ) → bytes ≡ drop (n + 6 * m) rest → all_unique (addresses (first_chunks 6 r bytes)) ≡ false
+      → is_valid f turn n m r rest ≡ false
   unfolding is_valid fields_of
   no_reserves bytes is e = and_right _ _ (and_right _ _ (and_left _ _ (rw is at e)))
 
@@ -58,11 +59,13 @@ module _ (f : Format) (turn n m r : ℕ) (rest : List ℕ) where
       let s = fields_of n m r rest in
       and_right (sizes_fit f turn n m r) _ (and_right (all_unique s.masks) _ (and_right (all_unique s.reserves) _ (rw is at e)))
 
-  pub all_fields : (s : Settings) → s.config ≡ take n rest → s.masks ≡ addresses (first_chunks 6 m (drop n rest)) → s.reserves ≡ addresses (first_chunks 6 r (drop (n + 6 * m) rest)) → s ≡ fields_of n m r rest
+  pub all_fields : (s : Settings) → s.config ≡ take n rest → s.masks ≡ addresses (first_chunks 6 m (drop n rest))
+      → s.reserves ≡ addresses (first_chunks 6 r (drop (n + 6 * m) rest)) → s ≡ fields_of n m r rest
   unfolding fields_of
   all_fields s c ms rs = λ i. record { config = c i; masks = ms i; reserves = rs i }
 
-  pub all_valid : (s : Settings) (bytes : List ℕ) → s ≡ fields_of n m r rest → bytes ≡ drop (n + 6 * m + 6 * r) rest → sizes_fit f turn n m r ≡ true → all_unique s.masks ≡ true → all_unique s.reserves ≡ true → list_all (λ b. b == 0) bytes ≡ true → is_valid f turn n m r rest ≡ true
+  pub all_valid : (s : Settings) (bytes : List ℕ) → s ≡ fields_of n m r rest → bytes ≡ drop (n + 6 * m + 6 * r) rest → sizes_fit f turn n m r ≡ true
+      → all_unique s.masks ≡ true → all_unique s.reserves ≡ true → list_all (λ b. b == 0) bytes ≡ true → is_valid f turn n m r rest ≡ true
   unfolding is_valid
   all_valid s bytes is end sizes ms rs zeros = and_from _ _ sizes (rw (← is) (and_from _ _ ms (and_from _ _ rs (rw end at zeros))))
 
@@ -77,15 +80,18 @@ pub decode_no_mark : (f : Format) (body : List ℕ) → starts_with nat_eq body 
 unfolding decode_by
 decode_no_mark f body e = sym (cond-false _ _ None (and_left _ _ e))
 
-module _ (f : Format) (body rest : List ℕ) (n m r : ℕ) (en : n ≡ config_len body) (em : m ≡ slice_index body 8) (er : r ≡ slice_index body 9) (is : rest ≡ drop 10 body) where
-  valid_same : (b : Bool) → is_valid f (slice_index body 5) n m r rest ≡ b → is_valid f (slice_index body 5) (config_len body) (slice_index body 8) (slice_index body 9) (drop 10 body) ≡ b
+module _ (f : Format) (body rest : List ℕ) (n m r : ℕ) (en : n ≡ config_len body) (em : m ≡ slice_index body 8) (er : r ≡ slice_index body 9)
+    (is : rest ≡ drop 10 body) where
+  valid_same : (b : Bool) → is_valid f (slice_index body 5) n m r rest ≡ b
+      → is_valid f (slice_index body 5) (config_len body) (slice_index body 8) (slice_index body 9) (drop 10 body) ≡ b
   valid_same b e = (λ i. is_valid f (slice_index body 5) (sym en i) (sym em i) (sym er i) (sym is i)) ∙ e
 
   pub decode_invalid : is_valid f (slice_index body 5) n m r rest ≡ false → None ≡ decode_by f body
   unfolding decode_by
   decode_invalid e = sym (cond-false _ _ None (and_right _ _ (valid_same false e)))
 
-  pub decode_valid : (x : Settings) → starts_with nat_eq body (mark f) ≡ true → is_valid f (slice_index body 5) n m r rest ≡ true → x ≡ fields_of n m r rest → Some (record { turn = slice_index body 5; lists = x }) ≡ decode_by f body
+  pub decode_valid : (x : Settings) → starts_with nat_eq body (mark f) ≡ true → is_valid f (slice_index body 5) n m r rest ≡ true → x ≡ fields_of n m r rest
+      → Some (record { turn = slice_index body 5; lists = x }) ≡ decode_by f body
   unfolding decode_by
   decode_valid x s e ex =
       ap (λ (y : Settings). let w : Written = record { turn = slice_index body 5; lists = y } in Some w) (ex ∙ (λ i. fields_of (en i) (em i) (er i) (is i)))
@@ -94,7 +100,8 @@ module _ (f : Format) (body rest : List ℕ) (n m r : ℕ) (en : n ≡ config_le
 -- a body that spells lists is their spelling
 
 fields_whole : (n m r : ℕ) (rest : List ℕ) → n + 6 * m + 6 * r ≤ length rest → list_all (λ b. b == 0) (drop (n + 6 * m + 6 * r) rest) ≡ true
-    → rest ≡ (fields_of n m r rest).config ++ flat_map (λ a. a.0) (fields_of n m r rest).masks ++ flat_map (λ a. a.0) (fields_of n m r rest).reserves ++ replicate (length rest - (n + 6 * m + 6 * r)) 0
+    → rest ≡ (fields_of n m r rest).config ++ flat_map (λ a. a.0) (fields_of n m r rest).masks ++ flat_map (λ a. a.0) (fields_of n m r rest).reserves
+    ++ replicate (length rest - (n + 6 * m + 6 * r)) 0
 unfolding fields_of
 fields_whole n m r rest fits zeros =
     let tail = rw (length-drop (n + 6 * m + 6 * r) rest) at (only_zeros (drop (n + 6 * m + 6 * r) rest) zeros) in
@@ -107,23 +114,27 @@ sizes_total f turn n m r is fit =
     let lists = and_parts (nat_le m f.most) (nat_le r f.most) sizes.1 in
     omega (arith, leb-true _ _ sizes.0, leb-true _ _ lists.0, leb-true _ _ lists.1, is.room)
 
-assembled : (f : Format) (body : List ℕ) (turn high low m r : ℕ) (rest : List ℕ) (s : Settings) (k : ℕ) → length body ≡ 3584 → body ≡ mark f ++ (turn ∷ high ∷ low ∷ m ∷ r ∷ rest) → to_be_bytes w16 (length s.config) ≡ high ∷ low ∷ [] → length s.masks ≡ m → length s.reserves ≡ r
+assembled : (f : Format) (body : List ℕ) (turn high low m r : ℕ) (rest : List ℕ) (s : Settings) (k : ℕ) → length body ≡ 3584
+    → body ≡ mark f ++ (turn ∷ high ∷ low ∷ m ∷ r ∷ rest) → to_be_bytes w16 (length s.config) ≡ high ∷ low ∷ [] → length s.masks ≡ m → length s.reserves ≡ r
     → rest ≡ s.config ++ flat_map (λ a. a.0) s.masks ++ flat_map (λ a. a.0) s.reserves ++ replicate k 0 → body ≡ spelling f turn s
 unfolding spelling
 assembled f body turn high low m r rest s k size is eb em er fields =
     let all : body ≡ written f turn s ++ replicate k 0 = is ∙ (λ i. mark f ++ (turn ∷ (sym eb i ++ (sym em i ∷ sym er i ∷ fields i)))) in
-    let pad : k ≡ 3584 - length (written f turn s) = omega (arith, ap length all, size, length-append (written f turn s) (replicate k 0), length-replicate {A = ℕ} k 0) in
+    let pad : k ≡ 3584 - length (written f turn s) =
+    omega (arith, ap length all, size, length-append (written f turn s) (replicate k 0), length-replicate {A = ℕ} k 0) in
     rw pad at all
 
 two_bytes : (high low : ℕ) → high < 256 → low < 256 → (i : ℕ) → get_or (high ∷ low ∷ []) i 0 < 256
 two_bytes high low lh ll i = grind arith
 
-numbers : (body : List ℕ) → length body ≡ 3584 → drop 5 body ≡ get_or body 5 0 ∷ get_or body 6 0 ∷ get_or body 7 0 ∷ get_or body 8 0 ∷ get_or body 9 0 ∷ drop 10 body
+numbers : (body : List ℕ) → length body ≡ 3584
+    → drop 5 body ≡ get_or body 5 0 ∷ get_or body 6 0 ∷ get_or body 7 0 ∷ get_or body 8 0 ∷ get_or body 9 0 ∷ drop 10 body
 numbers body size =
     let at : (k : ℕ) → k < 10 → drop k body ≡ get_or body k 0 ∷ drop (k + 1) body = λ k l. drop_more body k 0 (omega (arith, size, l)) in
     rw (at 5 (omega arith), at 6 (omega arith), at 7 (omega arith), at 8 (omega arith), at 9 (omega arith)) refl
 
-spelling_of : (f : Format) (body : List ℕ) (n m r : ℕ) → IsFormat f → length body ≡ 3584 → All (λ b. b < 256) body → n ≡ config_len body → m ≡ get_or body 8 0 → r ≡ get_or body 9 0 → starts_with nat_eq body (mark f) ≡ true
+spelling_of : (f : Format) (body : List ℕ) (n m r : ℕ) → IsFormat f → length body ≡ 3584 → All (λ b. b < 256) body → n ≡ config_len body → m ≡ get_or body 8 0
+    → r ≡ get_or body 9 0 → starts_with nat_eq body (mark f) ≡ true
     → is_valid f (get_or body 5 0) n m r (drop 10 body) ≡ true → body ≡ spelling f (get_or body 5 0) (fields_of n m r (drop 10 body))
 unfolding is_valid fields_of
 spelling_of f body n m r is size bytes en em er starts valid =
@@ -143,7 +154,8 @@ spelling_of f body n m r is size bytes en em er starts valid =
     (begins ∙ (λ i. mark f ++ numbers body size i)) written_len (length-pieces m (drop n rest) ∙ em) (length-pieces r (drop (n + 6 * m) rest) ∙ er)
     (fields_whole n m r rest (omega (arith, long, total)) zeros)
 
-pub one_spelling : (f : Format) (body : List ℕ) (b : Written) → IsFormat f → length body ≡ 3584 → All (λ b. b < 256) body → decode_by f body ≡ Some b → body ≡ spelling f b.turn b.lists
+pub one_spelling : (f : Format) (body : List ℕ) (b : Written) → IsFormat f → length body ≡ 3584 → All (λ b. b < 256) body → decode_by f body ≡ Some b
+    → body ≡ spelling f b.turn b.lists
 unfolding decode_by
 one_spelling f body b is size bytes e =
     let n = config_len body in
@@ -155,10 +167,12 @@ one_spelling f body b is size bytes e =
 
 -- why a body spells no lists
 
-all_true : {X : Type 0} (a b c d e : Bool) (x : X) → cond (a && (b && (c && (d && e)))) (Some x) None ≡ None → (a ≡ false) ⊎ ((b ≡ false) ⊎ ((c ≡ false) ⊎ ((d ≡ false) ⊎ (e ≡ false))))
+all_true : {X : Type 0} (a b c d e : Bool) (x : X) → cond (a && (b && (c && (d && e)))) (Some x) None ≡ None
+    → (a ≡ false) ⊎ ((b ≡ false) ⊎ ((c ≡ false) ⊎ ((d ≡ false) ⊎ (e ≡ false))))
 all_true a b c d e x is = grind arith
 
-one_false : {X : Type 0} (a b c d e : Bool) (x : X) → (a ≡ false) ⊎ ((b ≡ false) ⊎ ((c ≡ false) ⊎ ((d ≡ false) ⊎ (e ≡ false)))) → cond (a && (b && (c && (d && e)))) (Some x) None ≡ None
+one_false : {X : Type 0} (a b c d e : Bool) (x : X) → (a ≡ false) ⊎ ((b ≡ false) ⊎ ((c ≡ false) ⊎ ((d ≡ false) ⊎ (e ≡ false))))
+    → cond (a && (b && (c && (d && e)))) (Some x) None ≡ None
 one_false a b c d e x is = grind arith
 
 pub faults : (f : Format) (body : List ℕ) → (decode_by f body ≡ None) ↔ HasFault f body

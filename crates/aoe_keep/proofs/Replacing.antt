@@ -30,7 +30,8 @@ outcome_next None lists next = refl
 outcome_next (Some p) lists next = rw (eq-eqb (next_turn p.turn) (next_turn p.turn) refl) refl
 
 -- the slot that is spare from now on holds the lists before, behind an open gate
-spare_some : (k t : ℕ) (lists : Settings) (c : Contents) → k < 2 → t < 3 → StaysOpen c k (record { turn = t; lists = lists }) → IsSpare (Some (record { slot = 1 - k; turn = next_turn t })) false c
+spare_some : (k t : ℕ) (lists : Settings) (c : Contents) → k < 2 → t < 3 → StaysOpen c k (record { turn = t; lists = lists })
+    → IsSpare (Some (record { slot = 1 - k; turn = next_turn t })) false c
 spare_some k t lists c lk lt holds =
     let back : k ≡ 1 - (1 - k) = omega (arith, lk) in
     (record { turn = t; lists = lists }, record { body = rw back at holds.body; turn = (lt, λ e. omega (arith, lt, e)) }, inr (rw back at holds.gate))
@@ -54,7 +55,8 @@ module _ (place : Option Place) (lists next : Settings) where
     finds = weaker _ _ d (λ l can. inr (inr can)) (finds_calm c d calm _ (kept_finds place lists true c kept));
   }
 
-  module _ (sectors : ℕ) (room : 16 ≤ sectors) (c d : Contents) (shape : HasShape sectors c) (kept : IsKept place false lists c) (touch : Touches (8 * spare place) 1 c d) where
+  module _ (sectors : ℕ) (room : 16 ≤ sectors) (c d : Contents) (shape : HasShape sectors c) (kept : IsKept place false lists c)
+      (touch : Touches (8 * spare place) 1 c d) where
     ready : IsChoosable place d kept.spare.0
     ready = record { body = body_touch (8 * spare place) 1 c d touch (spare place) kept.spare.0 (λ s l h. inr (omega arith)) kept.spare.1.body; turn = kept.spare.1.turn }
 
@@ -101,7 +103,8 @@ module _ (place : Option Place) (lists next : Settings) where
   pub cleared_calm : (c d : Contents) → IsCleared place lists c → Calms c d → IsCleared place lists d
   cleared_calm c d cleared calm = record { steady = steady_calm c d calm place lists cleared.steady; closed = closed_calm c d calm (spare place) cleared.closed }
 
-  pub stage_done : (c d : Contents) → IsCleared place lists c → decode (body c.bytes (spare place)) ≡ Some (record { turn = turn_after place; lists = next }) → Settles c d → IsStaged place lists next d
+  pub stage_done : (c d : Contents) → IsCleared place lists c → decode (body c.bytes (spare place)) ≡ Some (record { turn = turn_after place; lists = next })
+      → Settles c d → IsStaged place lists next d
   stage_done c d cleared spells settles = record {
     cleared = cleared_calm c d cleared (settles_calm c d settles);
     body = record { spells = rw settles.bytes spells; kept = none_loose c d settles (8 * spare place + 1) 7 };
@@ -112,7 +115,8 @@ module _ (place : Option Place) (lists next : Settings) where
   abbrev next_body : Written
   next_body = record { turn = turn_after place; lists = next }
 
-  half_open : (before d : Contents) → IsSteady place lists d → StaysBody d (spare place) next_body → (is_loose d.loose (8 * spare place) ≡ true) ⊎ (is_open d.bytes (spare place) ≡ true) → IsInterrupted place false lists next before d
+  half_open : (before d : Contents) → IsSteady place lists d → StaysBody d (spare place) next_body
+      → (is_loose d.loose (8 * spare place) ≡ true) ⊎ (is_open d.bytes (spare place) ≡ true) → IsInterrupted place false lists next before d
   half_open before d steady has gate =
       let ready : IsChoosable place d next_body = record { body = has; turn = other_turn place lists d steady } in
       record {

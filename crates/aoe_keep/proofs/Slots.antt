@@ -64,10 +64,12 @@ outcome place lists None = lists
 outcome None lists (Some b) = b.lists
 outcome (Some p) lists (Some b) = cond (b.turn == next_turn p.turn) b.lists lists
 
-first_holds : (t : ℕ) (lists : Settings) (b : Written) → t < 3 → b.turn < 3 → b.turn ≢ t → choice (Some (Some (record { turn = t; lists = lists }))) (Some (Some b)) ≡ Ok (cond (b.turn == next_turn t) b.lists lists)
+first_holds : (t : ℕ) (lists : Settings) (b : Written) → t < 3 → b.turn < 3 → b.turn ≢ t
+    → choice (Some (Some (record { turn = t; lists = lists }))) (Some (Some b)) ≡ Ok (cond (b.turn == next_turn t) b.lists lists)
 first_holds t lists b lt lb ne = grind (arith, nat_tests, rivals b.turn t lb lt ne)
 
-second_holds : (t : ℕ) (lists : Settings) (b : Written) → t < 3 → b.turn < 3 → b.turn ≢ t → choice (Some (Some b)) (Some (Some (record { turn = t; lists = lists }))) ≡ Ok (cond (b.turn == next_turn t) b.lists lists)
+second_holds : (t : ℕ) (lists : Settings) (b : Written) → t < 3 → b.turn < 3 → b.turn ≢ t
+    → choice (Some (Some b)) (Some (Some (record { turn = t; lists = lists }))) ≡ Ok (cond (b.turn == next_turn t) b.lists lists)
 second_holds t lists b lt lb ne = grind (arith, nat_tests, rivals b.turn t lb lt ne)
 
 -- a slot that isn't bad
@@ -82,7 +84,8 @@ IsRival place (Some b) = IsOtherTurn place b.turn
 found_of : (image : List ℕ) (a b : Option (Option Written)) → slot image 0 ≡ a → slot image 1 ≡ b → found image ≡ choice a b
 found_of image a b ea eb = λ i. choice (ea i) (eb i)
 
-found_some : (k t : ℕ) (lists : Settings) (c : Contents) (image : List ℕ) (o : Option Written) → k < 2 → t < 3 → StaysOpen c k (record { turn = t; lists = lists }) → CanLeave c image
+found_some : (k t : ℕ) (lists : Settings) (c : Contents) (image : List ℕ) (o : Option Written) → k < 2 → t < 3
+    → StaysOpen c k (record { turn = t; lists = lists }) → CanLeave c image
     → slot image (1 - k) ≡ seen o → IsRival (Some (record { slot = k; turn = t })) o → found image ≡ Ok (outcome (Some (record { slot = k; turn = t })) lists o)
 found_some zero t lists c image None lk lt holds left e rival = found_of image _ _ (open_after c 0 (record { turn = t; lists = lists }) image holds left) e
 found_some zero t lists c image (Some b) lk lt holds left e rival = found_of image _ _ (open_after c 0 (record { turn = t; lists = lists }) image holds left) e ∙ first_holds t lists b lt rival.0 rival.1
@@ -101,7 +104,8 @@ spare_small None = omega arith
 spare_small (Some p) = omega arith
 
 -- a crash can leave a gate open that is loose, or that is open
-pub reopened : (c : Contents) (k sectors : ℕ) (b : Written) → HasShape sectors c → 16 ≤ sectors → k ≤ 1 → StaysBody c k b → (is_loose c.loose (8 * k) ≡ true) ⊎ (is_open c.bytes k ≡ true)
+pub reopened : (c : Contents) (k sectors : ℕ) (b : Written) → HasShape sectors c → 16 ≤ sectors → k ≤ 1 → StaysBody c k b
+    → (is_loose c.loose (8 * k) ≡ true) ⊎ (is_open c.bytes k ≡ true)
     → (image : List ℕ) × CanLeave c image × (slot image k ≡ Some (Some b))
 reopened c k sectors b shape room lk has (inr opened) = (c.bytes, record { size = refl; kept = λ s e. refl }, open_slot c.bytes k (Some b) opened has.spells)
 reopened c k sectors b shape room lk has (inl loose) =

@@ -20,13 +20,15 @@ pub length_joined : (list : List Mac) → All (λ a. length a.0 ≡ 6) list → 
 length_joined [] six = refl
 length_joined (a ∷ list) six = omega (arith, length-append a.0 (flat_map (λ b. b.0) list), six 0 a (omega arith), length_joined list (six_tail a list six))
 
-addresses_back : (list : List Mac) (rest : List ℕ) → All (λ a. length a.0 ≡ 6) list → addresses (first_chunks 6 (length list) (flat_map (λ a. a.0) list ++ rest)) ≡ list
+addresses_back : (list : List Mac) (rest : List ℕ) → All (λ a. length a.0 ≡ 6) list
+    → addresses (first_chunks 6 (length list) (flat_map (λ a. a.0) list ++ rest)) ≡ list
 addresses_back [] rest six = refl
 addresses_back (a ∷ list) rest six =
     let split : a.0 ++ flat_map (λ b. b.0) list ++ rest ≡ a.0 ++ (flat_map (λ b. b.0) list ++ rest) = append_assoc a.0 (flat_map (λ b. b.0) list) rest in
     let first : take 6 (a.0 ++ flat_map (λ b. b.0) list ++ rest) ≡ a.0 = rw split (take_at a.0 _ 6 (six 0 a (omega arith))) in
     let after : drop 6 (a.0 ++ flat_map (λ b. b.0) list ++ rest) ≡ flat_map (λ b. b.0) list ++ rest = rw split (drop_at a.0 _ 6 (six 0 a (omega arith))) in
-    let others : addresses (first_chunks 6 (length list) (drop 6 (a.0 ++ flat_map (λ b. b.0) list ++ rest))) ≡ list = rw after (addresses_back list rest (six_tail a list six)) in
+    let others : addresses (first_chunks 6 (length list) (drop 6 (a.0 ++ flat_map (λ b. b.0) list ++ rest))) ≡ list =
+    rw after (addresses_back list rest (six_tail a list six)) in
     λ i. (let m : Mac = record { 0 = first i } in m) ∷ others i
 
 zeros : (k : ℕ) → list_all (λ b. b == 0) (replicate k 0) ≡ true
@@ -34,13 +36,15 @@ zeros zero = refl
 zeros (suc k) = zeros k
 
 module _ (f : Format) (turn : ℕ) (s : Settings) (fits : Fits f turn s) (pad : ℕ) where
-  part : (c m r z : List ℕ) (n k : ℕ) → length c ≡ n → length m ≡ k → (drop n (c ++ m ++ r ++ z) ≡ m ++ (r ++ z)) × (drop (n + k) (c ++ m ++ r ++ z) ≡ r ++ z) × (take n (c ++ m ++ r ++ z) ≡ c)
+  part : (c m r z : List ℕ) (n k : ℕ) → length c ≡ n → length m ≡ k → (drop n (c ++ m ++ r ++ z) ≡ m ++ (r ++ z)) × (drop (n + k) (c ++ m ++ r ++ z) ≡ r ++ z)
+      × (take n (c ++ m ++ r ++ z) ≡ c)
   part c m r z n k lc lm =
       let all : c ++ m ++ r ++ z ≡ c ++ (m ++ (r ++ z)) = append_assoc (c ++ m) r z ∙ append_assoc c m (r ++ z) in
       let d : drop n (c ++ m ++ r ++ z) ≡ m ++ (r ++ z) = ap (drop n) all ∙ drop_at c _ n lc in
       (d, sym (drop-drop k n (c ++ m ++ r ++ z)) ∙ ap (drop k) d ∙ drop_at m (r ++ z) k lm, ap (take n) all ∙ take_at c _ n lc)
 
-  fields_back : fields_of (length s.config) (length s.masks) (length s.reserves) (s.config ++ flat_map (λ a. a.0) s.masks ++ flat_map (λ a. a.0) s.reserves ++ replicate pad 0) ≡ s
+  fields_back : fields_of (length s.config) (length s.masks) (length s.reserves)
+      (s.config ++ flat_map (λ a. a.0) s.masks ++ flat_map (λ a. a.0) s.reserves ++ replicate pad 0) ≡ s
   unfolding fields_of
   fields_back =
       let p = part s.config (flat_map (λ a. a.0) s.masks) (flat_map (λ a. a.0) s.reserves) (replicate pad 0) (length s.config) (6 * length s.masks) refl (length_joined s.masks fits.six_masks) in
@@ -48,11 +52,13 @@ module _ (f : Format) (turn : ℕ) (s : Settings) (fits : Fits f turn s) (pad : 
       let r = ap (λ (l : List ℕ). addresses (first_chunks 6 (length s.reserves) l)) p.1 ∙ addresses_back s.reserves _ fits.six_reserves in
       λ i. record { config = p.2 i; masks = m i; reserves = r i }
 
-  end_back : drop (length s.config + 6 * length s.masks + 6 * length s.reserves) (s.config ++ flat_map (λ a. a.0) s.masks ++ flat_map (λ a. a.0) s.reserves ++ replicate pad 0) ≡ replicate pad 0
+  end_back : drop (length s.config + 6 * length s.masks + 6 * length s.reserves)
+      (s.config ++ flat_map (λ a. a.0) s.masks ++ flat_map (λ a. a.0) s.reserves ++ replicate pad 0) ≡ replicate pad 0
   end_back = drop_at (s.config ++ flat_map (λ a. a.0) s.masks ++ flat_map (λ a. a.0) s.reserves) (replicate pad 0) _
       (omega (arith, length-append (s.config ++ flat_map (λ a. a.0) s.masks) (flat_map (λ a. a.0) s.reserves), length-append s.config (flat_map (λ a. a.0) s.masks), length_joined s.masks fits.six_masks, length_joined s.reserves fits.six_reserves))
 
-  valid_back : is_valid f turn (length s.config) (length s.masks) (length s.reserves) (s.config ++ flat_map (λ a. a.0) s.masks ++ flat_map (λ a. a.0) s.reserves ++ replicate pad 0) ≡ true
+  valid_back : is_valid f turn (length s.config) (length s.masks) (length s.reserves)
+      (s.config ++ flat_map (λ a. a.0) s.masks ++ flat_map (λ a. a.0) s.reserves ++ replicate pad 0) ≡ true
   unfolding is_valid
   valid_back =
       and_from _ _ (and_from _ _ (lt-ltb turn 3 fits.known_turn) (and_from _ _ (le-leb _ max_config fits.config) (and_from _ _ (le-leb _ f.most fits.masks) (le-leb _ f.most fits.reserves))))
@@ -63,7 +69,8 @@ unfolding decode_by spelling
 reads_back f turn s fits =
     let pad = 3584 - length (written f turn s) in
     let rest = s.config ++ flat_map (λ a. a.0) s.masks ++ flat_map (λ a. a.0) s.reserves ++ replicate pad 0 in
-    let n : from_be_bytes w16 (to_be_bytes w16 (length s.config)) ≡ length s.config = from_be_bytes-to_be_bytes_2 (length s.config) (omega (arith, fits.config)) in
+    let n : from_be_bytes w16 (to_be_bytes w16 (length s.config)) ≡ length s.config =
+    from_be_bytes-to_be_bytes_2 (length s.config) (omega (arith, fits.config)) in
     let with : Settings → Option Written = λ x. Some (record { turn = turn; lists = x }) in
     let at : (k : ℕ) → Option Written =
     λ k. cond (starts_with nat_eq (spelling f turn s) (mark f) && is_valid f turn k (length s.masks) (length s.reserves) rest) (with (fields_of k (length s.masks) (length s.reserves) rest)) None in
@@ -71,7 +78,8 @@ reads_back f turn s fits =
     let begins : starts_with nat_eq (spelling f turn s) (mark f) ≡ true = ap (λ t. t && true) (eq-eqb f.number f.number refl) in
     here ∙ ap at n ∙ cond-true _ _ None (and_from _ _ begins (valid_back f turn s fits pad)) ∙ ap with (fields_back f turn s fits pad)
 
-pub length-written : (f : Format) (turn : ℕ) (s : Settings) → All (λ a. length a.0 ≡ 6) s.masks → All (λ a. length a.0 ≡ 6) s.reserves → length (written f turn s) ≡ 10 + length s.config + 6 * length s.masks + 6 * length s.reserves
+pub length-written : (f : Format) (turn : ℕ) (s : Settings) → All (λ a. length a.0 ≡ 6) s.masks → All (λ a. length a.0 ≡ 6) s.reserves
+    → length (written f turn s) ≡ 10 + length s.config + 6 * length s.masks + 6 * length s.reserves
 length-written f turn s sm sr =
     omega (arith, length-append (head_of f turn s ++ s.config ++ flat_map (λ a. a.0) s.masks) (flat_map (λ a. a.0) s.reserves), length-append (head_of f turn s ++ s.config) (flat_map (λ a. a.0) s.masks), length-append (head_of f turn s) s.config, length_joined s.masks sm, length_joined s.reserves sr)
 
@@ -82,6 +90,7 @@ length-spelling f turn s is fits =
     omega (arith, length-append all (replicate (3584 - length all) 0), length-replicate {A = ℕ} (3584 - length all) 0, length-written f turn s fits.six_masks fits.six_reserves, fits.config, fits.masks, fits.reserves, is.room)
 
 -- what was appended, piece by piece, is the spelling
-pub spelled : (f : Format) (turn : ℕ) (s : Settings) (a b c d e : List ℕ) → a ≡ head_of f turn s → b ≡ a ++ s.config → c ≡ b ++ flat_map (λ a. a.0) s.masks → d ≡ c ++ flat_map (λ a. a.0) s.reserves → e ≡ d ++ replicate (3584 - length d) 0 → e ≡ spelling f turn s
+pub spelled : (f : Format) (turn : ℕ) (s : Settings) (a b c d e : List ℕ) → a ≡ head_of f turn s → b ≡ a ++ s.config → c ≡ b ++ flat_map (λ a. a.0) s.masks
+    → d ≡ c ++ flat_map (λ a. a.0) s.reserves → e ≡ d ++ replicate (3584 - length d) 0 → e ≡ spelling f turn s
 unfolding spelling
 spelled f turn s a b c d e ea eb ec ed ee = rw (ee, ed, ec, eb, ea) refl

@@ -36,7 +36,8 @@ apart k lo n s lk low high l h = elim (cases_lt s lo) [
   | inr above ↦ inr (omega arith)
 ]
 
-pub steady_touch : (place : Option Place) (lists : Settings) (lo n : ℕ) (old new : Contents) → IsWithin place lo n → Touches lo n old new → IsSteady place lists old → IsSteady place lists new
+pub steady_touch : (place : Option Place) (lists : Settings) (lo n : ℕ) (old new : Contents) → IsWithin place lo n → Touches lo n old new
+    → IsSteady place lists old → IsSteady place lists new
 steady_touch None lists lo n old new within touch steady = (steady.0, closed_touch lo n old new touch 1 (λ s l h. inr (omega (arith, within.high))) steady.1)
 steady_touch (Some p) lists lo n old new within touch steady =
     let out : (s : ℕ) → 8 * p.slot ≤ s → s < 8 * p.slot + 8 → IsOutside lo n s = λ s l h. apart p.slot lo n s steady.0 within.low within.high l h in (
@@ -102,7 +103,8 @@ module _ (place : Option Place) (lists : Settings) (c : Contents) (steady : IsSt
     | inr opened ↦ (outcome place lists (Some b), found_by place lists c image (Some b) steady left opened ready.turn, inr refl)
   ]
 
-  pub could : (sectors : ℕ) (b : Written) → HasShape sectors c → 16 ≤ sectors → IsChoosable place c b → (is_loose c.loose (8 * spare place) ≡ true) ⊎ (is_open c.bytes (spare place) ≡ true) → CanFind c (outcome place lists (Some b))
+  pub could : (sectors : ℕ) (b : Written) → HasShape sectors c → 16 ≤ sectors → IsChoosable place c b
+      → (is_loose c.loose (8 * spare place) ≡ true) ⊎ (is_open c.bytes (spare place) ≡ true) → CanFind c (outcome place lists (Some b))
   could sectors b shape room ready gate =
       let again = reopened c (spare place) sectors b shape room (spare_small place) ready.body gate in
       record { image = again.0; left = again.1; is = found_by place lists c again.0 (Some b) steady again.1 again.2 ready.turn }

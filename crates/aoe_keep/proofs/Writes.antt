@@ -18,7 +18,8 @@ module _ (sectors k : ℕ) (room : 16 ≤ sectors) (small : k ≤ 1) (piece : Li
   is_set : {n : ℕ} → n ≡ 1 → d.loose ≡ with_marks c.loose (8 * k) n → is_loose d.loose (8 * k) ≡ true
   is_set {n} one loose = rw loose (is_loose-with_marks_inside c.loose (8 * k) n (omega (arith, shape.marks, one)) (8 * k) (omega arith) (omega (arith, one)))
 
-  gate_written : {T E : Type 0} (opens : Bool) (result : Result T E) → length piece ≡ 512 → (get_or piece 0 0 == 167) ≡ opens → Writes (8 * k) piece result c d → WritesGate sectors k opens result c d
+  gate_written : {T E : Type 0} (opens : Bool) (result : Result T E) → length piece ≡ 512 → (get_or piece 0 0 == 167) ≡ opens → Writes (8 * k) piece result c d
+      → WritesGate sectors k opens result c d
   gate_written opens (Ok r) size first puts =
       let range = gate_range k (length piece) sectors size small room in
       let one : length piece / 512 ≡ 1 = omega (arith, size) in
@@ -50,7 +51,8 @@ module _ (sectors k : ℕ) (room : 16 ≤ sectors) (small : k ≤ 1) (piece : Li
 
 -- the same for a sector that is numbered by j, which is k
 module _ {T E : Type 0} (j k : ℕ) (is : j ≡ k) (small : k ≤ 1) (piece : List ℕ) (result : Result T E) (old new : DiskState) (room : 16 ≤ old.sectors) where
-  pub writes_gate : (opens : Bool) → length piece ≡ 512 → (get_or piece 0 0 == 167) ≡ opens → WritesTo (8 * j) piece result old new → BothTell (WritesGate old.sectors k opens result) old.contents new.contents
+  pub writes_gate : (opens : Bool) → length piece ≡ 512 → (get_or piece 0 0 == 167) ≡ opens → WritesTo (8 * j) piece result old new
+      → BothTell (WritesGate old.sectors k opens result) old.contents new.contents
   writes_gate opens size first w =
       let v : WritesTo (8 * k) piece result old new = rw is at w in
       told_both (HasShape old.sectors) (Writes (8 * k) piece result) (WritesGate old.sectors k opens result) old.contents new.contents

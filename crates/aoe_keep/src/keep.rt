@@ -64,7 +64,8 @@ impl<D: Disk> Keep<D> {
         ensures lists { OnOk result (self.new.lists ≡ next.now) }
         ensures finds { OnOk result (AlwaysFinds (D.state self.new.disk) next.now) }
         ensures stays { OnErr result (self.new.lists ≡ self.old.lists) }
-        ensures offered { OnErr result (FindsOffered (D.state self.old.disk) (D.state self.new.disk) self.old.lists next.now) }
+        ensures offered { OnErr result (FindsOffered (D.state self.old.disk)
+            (D.state self.new.disk) self.old.lists next.now) }
         ensures others { KeepsOthers (D.state self.old.disk) (D.state self.new.disk) }
         ensures run { IsRun 6 (is_err result) (D.state self.old.disk) (D.state self.new.disk) }
         ensures calls { ReplacesBy D.state next.now (is_err result) self.old self.new }

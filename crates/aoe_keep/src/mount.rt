@@ -77,7 +77,8 @@ fn choose(first: Slot, second: Slot) -> Result<Present, u8>
 fn read_slot<D: Disk>(disk: &mut D, k: u8) -> Result<Slot, Failed>
     requires room { 16 ≤ (D.state disk.old).sectors }
     requires slot { k ≤ 1 }
-    ensures slot { IfOk result (λ held. IfSome (D.state disk.old).contents (λ c. slot c.bytes k ≡ held)) }
+    ensures slot { IfOk result (λ held. IfSome (D.state disk.old).contents
+        (λ c. slot c.bytes k ≡ held)) }
     ensures same { (D.state disk.new).contents ≡ (D.state disk.old).contents }
     ensures run { RunsBetween 1 2 (is_err result) (D.state disk.old) (D.state disk.new) }
     ensures reads { ReadsSlot k (is_err result) (D.state disk.old) (D.state disk.new) }
@@ -96,7 +97,8 @@ fn read_slot<D: Disk>(disk: &mut D, k: u8) -> Result<Slot, Failed>
 /// Reads the lists that stand on a disk, or the slot that is bad, after a sync.
 fn read_slots<D: Disk>(disk: &mut D) -> Result<Result<Present, u8>, Failed>
     requires { 16 ≤ (D.state disk.old).sectors }
-    ensures found { IfOk result (λ read. BothTell (ReadsSlots read) (D.state disk.old).contents (D.state disk.new).contents) }
+    ensures found { IfOk result (λ read. BothTell (ReadsSlots read) (D.state disk.old).contents
+        (D.state disk.new).contents) }
     ensures calm { BothTell Calms (D.state disk.old).contents (D.state disk.new).contents }
     ensures err { OnErr result (RunsBetween 1 5 true (D.state disk.old) (D.state disk.new)) }
     ensures ok { OnOk result (RunsBetween 3 5 false (D.state disk.old) (D.state disk.new)) }

@@ -47,7 +47,8 @@ fn write_gate<D: Disk>(disk: &mut D, slot: u8, opens: bool) -> Result<(), Failed
     ensures gate { BothTell (WritesGate (D.state disk.old).sectors slot opens result)
         (D.state disk.old).contents (D.state disk.new).contents }
     ensures others { KeepsOthers (D.state disk.old) (D.state disk.new) }
-    ensures log { Logs (Write (8 * slot) (calls.gate opens) ∷ []) (D.state disk.old) (D.state disk.new) }
+    ensures log { Logs (Write (8 * slot) (calls.gate opens) ∷ []) (D.state disk.old)
+        (D.state disk.new) }
 {
     let gate = gate_of(opens);
     disk.write(8 * u64::from(slot), &gate)

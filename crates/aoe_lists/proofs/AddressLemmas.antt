@@ -9,7 +9,8 @@ use Rattle.aoe_base.proofs.AddressLemmas.{same-address, same_address-comm}
 use Rattle.aoe_lists.specs.Addresses.{without, first_places}
 
 -- the head of a list is taken out, or stays
-without_head : (x : Mac) (list : List Mac) (a : Mac) (P : List Mac → Type 0) → (same_address x a ≡ true → P (without list a)) → (same_address x a ≡ false → P (x ∷ without list a)) → P (without (x ∷ list) a)
+without_head : (x : Mac) (list : List Mac) (a : Mac) (P : List Mac → Type 0) → (same_address x a ≡ true → P (without list a))
+    → (same_address x a ≡ false → P (x ∷ without list a)) → P (without (x ∷ list) a)
 without_head x list a P out stays = at (same_address x a) out stays
   where
     at : (t : Bool) → (t ≡ true → P (without list a)) → (t ≡ false → P (x ∷ without list a)) → P (cond (not t) (x ∷ without list a) (without list a))
@@ -60,7 +61,8 @@ pub holds-first_places : (list : List Mac) (b : Mac) → holds (first_places lis
 holds-first_places [] b = refl
 holds-first_places (x ∷ list) b = at (same_address x b) refl (holds-first_places list b)
   where
-    at : (t : Bool) → same_address x b ≡ t → holds (first_places list) b ≡ holds list b → (same_address x b || holds (without (first_places list) x) b) ≡ (same_address x b || holds list b)
+    at : (t : Bool) → same_address x b ≡ t → holds (first_places list) b ≡ holds list b
+        → (same_address x b || holds (without (first_places list) x) b) ≡ (same_address x b || holds list b)
     at true e later = rw e refl
     at false e later = rw e (holds-without_other (first_places list) x b e ∙ later)
 

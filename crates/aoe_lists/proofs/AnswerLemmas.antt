@@ -27,7 +27,8 @@ abbrev pub ChangesOnly : Settings → Step → Type 0
 ChangesOnly s step = IfChange step (λ next. next ≢ s)
 
 -- what is made at a change is other settings, where the whole answer is a step that changes them so
-pub made_other : (s made : Settings) (a : Answer) (args : List ℕ) (step : Step) → step_with a args made ≡ step → ChangesOnly s step → a ≡ answer.Change → made ≢ s
+pub made_other : (s made : Settings) (a : Answer) (args : List ℕ) (step : Step) → step_with a args made ≡ step → ChangesOnly s step → a ≡ answer.Change
+    → made ≢ s
 made_other s made a args step e changes is =
     let P : Answer → Type 0 = λ b. ChangesOnly s (step_with b args made) in
     subst P is (subst (ChangesOnly s) (sym e) changes)
@@ -36,7 +37,8 @@ either : (s : Settings) (t : Bool) (a b : Step) → ChangesOnly s a → ChangesO
 either s true a b x y = x
 either s false a b x y = y
 
-pub ChangesOnly-config_result : (s : Settings) (facts : Facts) (command : ConfigCommand) (string : List ℕ) → ChangesOnly s (config_result s facts command string)
+pub ChangesOnly-config_result : (s : Settings) (facts : Facts) (command : ConfigCommand) (string : List ℕ)
+    → ChangesOnly s (config_result s facts command string)
 ChangesOnly-config_result s facts Read string = tt
 ChangesOnly-config_result s facts Test string = either s (bytes_eq s.config string) _ _ tt tt
 ChangesOnly-config_result s facts TestPrefix string = either s (starts_with nat_eq s.config string) _ _ tt tt
@@ -51,7 +53,8 @@ pub ChangesOnly-mask_result : (s : Settings) (command : MaskCommand) (directives
 ChangesOnly-mask_result s ReadMasks directives = tt
 ChangesOnly-mask_result s Edit directives = outcome s (after_directives s.masks directives)
 
-pub ChangesOnly-reserve_result : (s : Settings) (source : Mac) (command : ReserveCommand) (given : List Mac) → ChangesOnly s (reserve_result s source command given)
+pub ChangesOnly-reserve_result : (s : Settings) (source : Mac) (command : ReserveCommand) (given : List Mac)
+    → ChangesOnly s (reserve_result s source command given)
 ChangesOnly-reserve_result s source ReadReserves given = tt
 ChangesOnly-reserve_result s source SetReserves given = either s (may_use s source) _ _ (IfChange-success_of s (record s { reserves = first_places given }) (reserve_args SetReserves (first_places given))) tt
 ChangesOnly-reserve_result s source ForceReserves given = IfChange-success_of s (record s { reserves = first_places given }) (reserve_args ForceReserves (first_places given))

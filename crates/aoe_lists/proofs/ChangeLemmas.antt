@@ -34,7 +34,8 @@ same_settings-config s config = rw (same_addresses-refl s.masks, same_addresses-
 pub same_settings-masks : (s : Settings) (masks : List Mac) → same_settings (record s { masks = masks }) s ≡ pointwise same_address masks s.masks
 same_settings-masks s masks = rw (same_bytes-refl s.config, same_addresses-refl s.reserves, and_true (pointwise same_address masks s.masks)) refl
 
-pub same_settings-reserves : (s : Settings) (reserves : List Mac) → same_settings (record s { reserves = reserves }) s ≡ pointwise same_address reserves s.reserves
+pub same_settings-reserves : (s : Settings) (reserves : List Mac) → same_settings (record s { reserves = reserves }) s
+    ≡ pointwise same_address reserves s.reserves
 same_settings-reserves s reserves = rw (same_bytes-refl s.config, same_addresses-refl s.masks) refl
 
 pub IfChange-success_of : (old next : Settings) (args : List ℕ) → IfChange (success_of old next args) (λ n. n ≢ old)

@@ -188,7 +188,8 @@ fn act(
     args: &mut Args,
 ) -> Answer
     requires { length string.now ≤ max_config }
-    ensures { step_with result args.new.items next.new ≡ config_result lists.now facts.now command string.now }
+    ensures { step_with result args.new.items next.new
+        ≡ config_result lists.now facts.now command string.now }
 {
     let current = lists.config.as_slice();
     match command {
@@ -212,8 +213,10 @@ fn act(
 /// request. They are what [`config_step`] writes, without a step.
 #[inline(always)]
 pub fn empty_config_args(lists: &Lists, facts: &Facts, bytes: &[u8]) -> Option<[u8; 8]>
-    ensures args { IfSome result (λ args. config_answer lists.now facts.now bytes.now ≡ reply_of args) }
-    ensures told { lists.now.config ≡ [] → config_request bytes.now ≡ Some (ConfigCommand.Read, []) → IsSome result }
+    ensures args { IfSome result (λ args. config_answer lists.now facts.now bytes.now
+        ≡ reply_of args) }
+    ensures told { lists.now.config ≡ [] → config_request bytes.now ≡ Some (ConfigCommand.Read, [])
+        → IsSome result }
 {
     if !lists.config.is_empty() || bytes.len() < STRING_AT || bytes[5] % 16 != 0 {
         return None;
@@ -232,7 +235,8 @@ pub fn config_step(
     next: &mut Lists,
     args: &mut Args,
 ) -> Answer
-    ensures answer { step_with result args.new.items next.new ≡ config_answer lists.now facts.now bytes.now }
+    ensures answer { step_with result args.new.items next.new
+        ≡ config_answer lists.now facts.now bytes.now }
     ensures changes { result ≡ Answer.Change → next.new ≢ lists.now }
 {
     match read_request(bytes) {

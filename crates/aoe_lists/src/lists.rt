@@ -124,7 +124,8 @@ pub fn admits(lists: &Lists, source: Mac) -> bool
 #[inline(never)]
 pub fn may_use(lists: &Lists, source: Mac) -> bool
     ensures value { result ≡ is_user lists.now source }
-    ensures means { IsTrue result ↔ ((lists.now.reserves ≡ []) ⊎ Contains lists.now.reserves source) }
+    ensures means { IsTrue result ↔ ((lists.now.reserves ≡ [])
+        ⊎ Contains lists.now.reserves source) }
 {
     lists.reserves.is_empty() || lists.reserves.contains(&source)
 }

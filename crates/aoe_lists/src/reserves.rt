@@ -61,7 +61,8 @@ impl ReserveCommand {
 /// The command of a request and its addresses, where the request has both. A read has no address,
 /// and its count isn't looked at.
 fn read_request(bytes: &[u8]) -> Option<(ReserveCommand, &[[u8; 6]])>
-    ensures request { option_map (λ r. (r.0, addresses r.1.now)) result ≡ reserve_request bytes.now }
+    ensures request { option_map (λ r. (r.0, addresses r.1.now)) result
+        ≡ reserve_request bytes.now }
     ensures bound { IfSome result (λ r. length r.1.now ≤ max_addresses) }
 {
     if bytes.len() < ADDRESSES_AT {
@@ -114,7 +115,8 @@ fn set(
     args: &mut Args,
 ) -> Answer
     requires { length given.now ≤ max_addresses }
-    ensures { step_with result args.new.items next.new ≡ reserve_set lists.now command (addresses given.now) }
+    ensures { step_with result args.new.items next.new
+        ≡ reserve_set lists.now command (addresses given.now) }
 {
     next.take(lists);
     first_of_each(given, &mut next.reserves);
@@ -162,7 +164,8 @@ pub fn reserve_step(
     next: &mut Lists,
     args: &mut Args,
 ) -> Answer
-    ensures answer { step_with result args.new.items next.new ≡ reserve_answer lists.now source bytes.now }
+    ensures answer { step_with result args.new.items next.new
+        ≡ reserve_answer lists.now source bytes.now }
     ensures changes { result ≡ Answer.Change → next.new ≢ lists.now }
 {
     match read_request(bytes) {

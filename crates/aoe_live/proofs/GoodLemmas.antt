@@ -92,7 +92,10 @@ module _ (sectors count i : ℕ) (some : 1 ≤ sectors) (most : sectors ≤ 6553
   pub command-good : event_why (stations sectors) (command sectors count i) ≡ None
   command-good = go (i == count) (i % 2 == 0)
     where
-      go : (last write : Bool) → event_why (stations sectors) (if last then Flush host_a device else if write then Write host_a device (i % sectors) 1 (i % 256) else Read host_a device ((i - 1) % sectors) 1) ≡ None
+      go : (last write : Bool)
+          → event_why (stations sectors)
+          (if last then Flush host_a device else if write then Write host_a device (i % sectors) 1 (i % 256) else Read host_a device ((i - 1) % sectors) 1)
+          ≡ None
       go true write = flush-good sectors
       go false true = write-good sectors (i % sectors) (i % 256) (within i)
       go false false = read-good sectors ((i - 1) % sectors) (within (i - 1))
@@ -105,7 +108,8 @@ module _ (sectors : ℕ) where
   end-is : (d rest : List ℕ) → (((d ++ []) ++ 10 ∷ []) ++ rest) ++ [] ≡ d ++ 10 ∷ rest
   end-is d rest = append-nil (((d ++ []) ++ 10 ∷ []) ++ rest) ∙ append_assoc (d ++ []) (10 ∷ []) rest ∙ ap (λ l. l ++ 10 ∷ rest) (append-nil d)
 
-  pub text-is : script_text (record { setups = stations sectors; events = [] }) ≡ codes "life 2000\nshelf s 1 02:00:00:00:00:01 1500\nslot s 0 " ++ (decimal sectors ++ 10 ∷ behind)
+  pub text-is : script_text (record { setups = stations sectors; events = [] }) ≡ codes "life 2000\nshelf s 1 02:00:00:00:00:01 1500\nslot s 0 "
+      ++ (decimal sectors ++ 10 ∷ behind)
   unfolding digits
   text-is = ap (λ t. codes "life 2000\nshelf s 1 02:00:00:00:00:01 1500\nslot s 0 " ++ t) (end-is (decimal sectors) behind)
 

@@ -37,7 +37,8 @@ ticked s ms h m (n, group, is) =
 pub record Asked (dev : TargetId) (op : Op) (h m : List Entry) : Type 0 where
   pub entry : Entry
   pub aside : Aside (entry ∷ h) m
-  pub is : ((name : ArrayVec ℕ) × (ticket : ℕ) × (entry ≡ Submitted name ticket dev op)) ⊎ ((name : ArrayVec ℕ) × (refusal : SubmitRefusal) × (entry ≡ Refused name refusal))
+  pub is : ((name : ArrayVec ℕ) × (ticket : ℕ) × (entry ≡ Submitted name ticket dev op))
+      ⊎ ((name : ArrayVec ℕ) × (refusal : SubmitRefusal) × (entry ≡ Refused name refusal))
 
 submitted-is : (s : Setup) (host : HostSetup) (h : List Entry) (name : ArrayVec ℕ) (dev : TargetId) (op : Op) (refusal : Option SubmitRefusal)
     → ((n : ArrayVec ℕ) × (ticket : ℕ) × (submit_entry s host h name dev op refusal ≡ Submitted n ticket dev op))

@@ -13,7 +13,8 @@ use Rattle.aoe_live.specs.Lines.{is_recorded, LineComes, LinesCome}
 use Rattle.aoe_live.proofs.GrownLemmas.{asked, handed, tail-behind, aside-tail, ticked}
 
 -- a recorded line leaves the cursor
-pub cursor-stays : (s : Setup) (lines : List Line) (e : Event) (cursor behind : ℕ) (h m : List Entry) → is_recorded e ≡ true → Comes s lines e cursor h behind m → behind ≡ cursor
+pub cursor-stays : (s : Setup) (lines : List Line) (e : Event) (cursor behind : ℕ) (h m : List Entry) → is_recorded e ≡ true → Comes s lines e cursor h behind m
+    → behind ≡ cursor
 cursor-stays s lines (Read host dev at count) cursor behind h m t comes = comes.0
 cursor-stays s lines (Write host dev at count fill) cursor behind h m t comes = comes.0
 cursor-stays s lines (Flush host dev) cursor behind h m t comes = comes.0
@@ -31,7 +32,8 @@ line-tail sectors (Deliver frame name) h m t comes = aside-tail h m (handed _ fr
 line-tail sectors _ h m t comes = absurd cc
 
 -- lines behind lines
-plays-then : (s : Setup) (lines : List Line) (xs ys : List Event) (a b c : ℕ) (h m n : List Entry) → Plays s lines xs a h b m → Plays s lines ys b m c n → Plays s lines (xs ++ ys) a h c n
+plays-then : (s : Setup) (lines : List Line) (xs ys : List Event) (a b c : ℕ) (h m n : List Entry) → Plays s lines xs a h b m → Plays s lines ys b m c n
+    → Plays s lines (xs ++ ys) a h c n
 plays-then s lines [] ys a b c h m n x y =
     let P : ℕ → Type 0 = λ k. Plays s lines ys k m c n in
     let Q : List Entry → Type 0 = λ l. Plays s lines ys a l c n in
@@ -47,5 +49,6 @@ come-none sectors h = (refl, refl)
 pub come-one : (sectors : ℕ) (e : Event) (h m : List Entry) → LineComes sectors e h m → LinesCome sectors (e ∷ []) h m
 come-one sectors e h m comes = (1, m, comes, (refl, refl))
 
-pub come-more : (sectors : ℕ) (xs : List Event) (e : Event) (h m n : List Entry) → LinesCome sectors xs h m → LineComes sectors e m n → LinesCome sectors (xs ++ e ∷ []) h n
+pub come-more : (sectors : ℕ) (xs : List Event) (e : Event) (h m n : List Entry) → LinesCome sectors xs h m → LineComes sectors e m n
+    → LinesCome sectors (xs ++ e ∷ []) h n
 come-more sectors xs e h m n x y = come-then sectors xs (e ∷ []) h m n x (come-one sectors e m n y)

@@ -13,7 +13,8 @@ use Rattle.aoe_live.specs.Frames.{frame_by, matching, ms_of, newest, number_of, 
 
 -- ONE ENTRY
 
-sent-found : (e : Entry) (bytes f : List ℕ) → option_map (λ (x : Numbered). x.bytes) (sent_by e) ≡ Some bytes → bytes_eq bytes f ≡ true → matching f (sent_by e) ≡ Some (number_of e)
+sent-found : (e : Entry) (bytes f : List ℕ) → option_map (λ (x : Numbered). x.bytes) (sent_by e) ≡ Some bytes → bytes_eq bytes f ≡ true
+    → matching f (sent_by e) ≡ Some (number_of e)
 sent-found (Sent host ticket number b) bytes f is same =
     let e : b ≡ bytes = cc in
     let t : bytes_eq b f ≡ true = ap (λ x. bytes_eq x f) e ∙ same in
@@ -28,11 +29,13 @@ reply-found (Replied effect number b) bytes f is same =
     rw t refl
 reply-found _ bytes f is same = absurd cc
 
-replied-found : (e : Entry) (bytes f : List ℕ) → option_map (λ (x : Numbered). x.bytes) (replied_by e) ≡ Some bytes → bytes_eq bytes f ≡ true → matching f (replied_by e) ≡ Some (number_of e)
+replied-found : (e : Entry) (bytes f : List ℕ) → option_map (λ (x : Numbered). x.bytes) (replied_by e) ≡ Some bytes → bytes_eq bytes f ≡ true
+    → matching f (replied_by e) ≡ Some (number_of e)
 replied-found (Arrived dev frame fate) bytes f is same = reply-found fate bytes f is same
 replied-found _ bytes f is same = absurd cc
 
-pub matching-found : (s : Sender) (e : Entry) (bytes f : List ℕ) → option_map (λ (x : Numbered). x.bytes) (frame_by s e) ≡ Some bytes → bytes_eq bytes f ≡ true → matching f (frame_by s e) ≡ Some (number_of e)
+pub matching-found : (s : Sender) (e : Entry) (bytes f : List ℕ) → option_map (λ (x : Numbered). x.bytes) (frame_by s e) ≡ Some bytes → bytes_eq bytes f ≡ true
+    → matching f (frame_by s e) ≡ Some (number_of e)
 matching-found sender.Host e bytes f is same = sent-found e bytes f is same
 matching-found sender.Shelf e bytes f is same = replied-found e bytes f is same
 
@@ -40,7 +43,8 @@ pub matching-none : (x : Option Numbered) (f : List ℕ) → option_map (λ (x :
 matching-none None f is = refl
 matching-none (Some x) f is = absurd cc
 
-pub matching-other : (x : Option Numbered) (bytes f : List ℕ) → option_map (λ (x : Numbered). x.bytes) x ≡ Some bytes → bytes_eq bytes f ≡ false → matching f x ≡ None
+pub matching-other : (x : Option Numbered) (bytes f : List ℕ) → option_map (λ (x : Numbered). x.bytes) x ≡ Some bytes → bytes_eq bytes f ≡ false
+    → matching f x ≡ None
 matching-other None bytes f is other = absurd cc
 matching-other (Some x) bytes f is other =
     let e : x.bytes ≡ bytes = cc in

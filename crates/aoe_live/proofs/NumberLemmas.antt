@@ -24,11 +24,13 @@ matching-number f x n = go (bytes_eq x.bytes f)
     go false is = absurd cc
 
 -- the number of a frame is one more than there were frames
-sent-number : (s : Setup) (h : List Entry) (o : Option HostSetup) (ticket number : ℕ) (bytes : List ℕ) → IsSomeAnd o (λ host. IsSent s host h ticket number bytes) → number ≡ next_number h
+sent-number : (s : Setup) (h : List Entry) (o : Option HostSetup) (ticket number : ℕ) (bytes : List ℕ)
+    → IsSomeAnd o (λ host. IsSent s host h ticket number bytes) → number ≡ next_number h
 sent-number s h None ticket number bytes may = absurd may
 sent-number s h (Some host) ticket number bytes may = may.number_is
 
-reply-number : (s : Setup) (h : List Entry) (o : Option SlotSetup) (frame : ℕ) (fate : Fate) → IsSomeAnd o (λ slot. IsArrival s slot h frame fate) → IsNumbered (next_number h) fate
+reply-number : (s : Setup) (h : List Entry) (o : Option SlotSetup) (frame : ℕ) (fate : Fate) → IsSomeAnd o (λ slot. IsArrival s slot h frame fate)
+    → IsNumbered (next_number h) fate
 reply-number s h None frame fate may = absurd may
 reply-number s h (Some slot) frame fate may = may.numbered
 
@@ -53,7 +55,8 @@ by : (x : Sender) (s : Setup) (e : Entry) (h : List Entry) (f : List ℕ) (n : �
 by sender.Host s e h f n may is = by-host s e h f n may is
 by sender.Shelf s e h f n may is = by-shelf s e h f n may is
 
-pub newest-one : (x : Sender) (s : Setup) (age : ℕ) (h : List Entry) (f : List ℕ) (n : ℕ) → IsLawful s h → newest x age h f ≡ Some n → (1 ≤ n) × (n ≤ length (frames h))
+pub newest-one : (x : Sender) (s : Setup) (age : ℕ) (h : List Entry) (f : List ℕ) (n : ℕ) → IsLawful s h → newest x age h f ≡ Some n
+    → (1 ≤ n) × (n ≤ length (frames h))
 newest-one x s age [] f n lawful is = absurd cc
 newest-one x s age (e ∷ h) f n lawful is = at (matching f (frame_by x e)) refl (newest-one x s (age - ms_of e) h f n lawful.1) is
   where
@@ -64,6 +67,7 @@ newest-one x s age (e ∷ h) f n lawful is = at (matching f (frame_by x e)) refl
     old true before is = absurd cc
     old false before is = later (before is)
 
-    at : (o : Option ℕ) → matching f (frame_by x e) ≡ o → (newest x (age - ms_of e) h f ≡ Some n → IsOne n h) → option_or o (if nat_lt age (ms_of e) then None else newest x (age - ms_of e) h f) ≡ Some n → IsOne n (e ∷ h)
+    at : (o : Option ℕ) → matching f (frame_by x e) ≡ o → (newest x (age - ms_of e) h f ≡ Some n → IsOne n h)
+        → option_or o (if nat_lt age (ms_of e) then None else newest x (age - ms_of e) h f) ≡ Some n → IsOne n (e ∷ h)
     at None other before is = old (nat_lt age (ms_of e)) before is
     at (Some k) found before is = let same : k ≡ n = cc in by x s e h f n lawful.0 (found ∙ ap Some same)

@@ -173,7 +173,8 @@ asks-of e dev op h m is a =
       | inr (name, refusal, same) ↦ record { new = tail.0; tail = tail.1; time = time ∙ ap (λ x. clock (x ∷ h)) same; what = inl (subs ∙ ap (λ x. submissions (x ∷ h)) same) }
     ]
 
-command-asks : (s : Setup) (lines : List Line) (sectors count i a b : ℕ) (h m : List Entry) → Comes s lines (command sectors count i) a h b m → Asks (command sectors count i) h m
+command-asks : (s : Setup) (lines : List Line) (sectors count i a b : ℕ) (h m : List Entry) → Comes s lines (command sectors count i) a h b m
+    → Asks (command sectors count i) h m
 command-asks s lines sectors count i a b h m = go (i == count) (i % 2 == 0)
   where
     go : (last write : Bool) → Comes s lines (if last then Flush host_a device else if write then Write host_a device (i % sectors) 1 (i % 256) else Read host_a device ((i - 1) % sectors) 1) a h b m
@@ -201,7 +202,8 @@ module _ (sectors count : ℕ) (h m : List Entry) (o : InOrder sectors count h) 
         each_done = λ ticket some below. ap (has_outcome ticket) k.tail ∙ has-more k.new h ticket (o.each_done ticket some (omega (arith, n, below)));
       }
 
-  order-asks : count < 2 ^ 32 → ((tally_of h).ended == (tally_of h).begun) ≡ true → (tally_of h).begun ≤ count → Asks (command sectors count (tally_of h).begun) h m → InOrder sectors count m
+  order-asks : count < 2 ^ 32 → ((tally_of h).ended == (tally_of h).begun) ≡ true → (tally_of h).begun ≤ count
+      → Asks (command sectors count (tally_of h).begun) h m → InOrder sectors count m
   order-asks small over next a =
       let begun = begun-is h (omega (arith, o.few, small)) in
       let same : (tally_of h).ended ≡ (tally_of h).begun = grind (arith, nat_tests, over) in
@@ -210,7 +212,8 @@ module _ (sectors count : ℕ) (h m : List Entry) (o : InOrder sectors count h) 
         | inr (x, is, subs) ↦
             let P : List Submission → Type 0 = λ l. AreAsked sectors count l in
             let n : length (submissions m) ≡ suc (length (submissions h)) = ap length subs in
-            let this : submission_in (command sectors count (length (submissions h))) ≡ Some x = ap (λ i. submission_in (command sectors count i)) (sym begun) ∙ is in
+            let this : submission_in (command sectors count (length (submissions h))) ≡ Some x =
+            ap (λ i. submission_in (command sectors count i)) (sym begun) ∙ is in
             record {
               asked = subst P (sym subs) (this, o.asked);
               few = omega (arith, n, begun, next);
@@ -218,14 +221,16 @@ module _ (sectors count : ℕ) (h m : List Entry) (o : InOrder sectors count h) 
             }
       ]
     where
-      earlier : (ticket : ℕ) → 1 ≤ ticket → ticket ≤ length (submissions h) → (tally_of h).begun ≡ length (submissions h) → (tally_of h).ended ≡ (tally_of h).begun → has_outcome ticket h ≡ true
+      earlier : (ticket : ℕ) → 1 ≤ ticket → ticket ≤ length (submissions h) → (tally_of h).begun ≡ length (submissions h)
+          → (tally_of h).ended ≡ (tally_of h).begun → has_outcome ticket h ≡ true
       earlier ticket some most begun same = elim (cases_lt ticket (length (submissions h))) [
         | inl below ↦ o.each_done ticket some below
         | inr over ↦ ended-has h ticket (omega (arith, most, over, begun, same)) some
       ]
 
 -- of the last part of a turn
-asking-order : (sectors count : ℕ) (h m : List Entry) → count < 2 ^ 32 → InOrder sectors count h → LinesCome sectors (asking sectors count (tally_of h)) h m → InOrder sectors count m × (clock m ≡ clock h)
+asking-order : (sectors count : ℕ) (h m : List Entry) → count < 2 ^ 32 → InOrder sectors count h → LinesCome sectors (asking sectors count (tally_of h)) h m
+    → InOrder sectors count m × (clock m ≡ clock h)
 asking-order sectors count h m small o = go (((tally_of h).ended == (tally_of h).begun) && not (nat_lt count (tally_of h).begun)) refl
   where
     go : (b : Bool) → (((tally_of h).ended == (tally_of h).begun) && not (nat_lt count (tally_of h).begun)) ≡ b
@@ -241,7 +246,8 @@ asking-order sectors count h m small o = go (((tally_of h).ended == (tally_of h)
         (subst P (sym x.3.1) (order-asks sectors count h x.1 o small both.0 next a), ap clock x.3.1 ∙ a.time)
 
 -- a turn keeps the order, and takes its time
-pub turn-keeps : (sectors count ms : ℕ) (one two : Turn) (h m : List Entry) (lines : List Event) → count < 2 ^ 32 → IsTurn sectors count ms one two h m lines → InOrder sectors count h
+pub turn-keeps : (sectors count ms : ℕ) (one two : Turn) (h m : List Entry) (lines : List Event) → count < 2 ^ 32 → IsTurn sectors count ms one two h m lines
+    → InOrder sectors count h
     → InOrder sectors count m × (clock m ≡ clock h + ms)
 turn-keeps sectors count ms one two h m lines small t o =
     let s = setup_of (stations sectors) in
@@ -260,14 +266,16 @@ over-parts count t over =
     ((and_parts (not t.gave_up) (t.ended == t.begun) all.0).1, all.1)
 
 -- at the end each was submitted, and has its outcome
-pub all-submitted : (sectors count : ℕ) (h : List Entry) → count < 2 ^ 32 → InOrder sectors count h → is_over count (tally_of h) ≡ true → length (submissions h) ≡ count + 1
+pub all-submitted : (sectors count : ℕ) (h : List Entry) → count < 2 ^ 32 → InOrder sectors count h → is_over count (tally_of h) ≡ true
+    → length (submissions h) ≡ count + 1
 all-submitted sectors count h small o over =
     let both = over-parts count (tally_of h) over in
     let begun = begun-is h (omega (arith, o.few, small)) in
     let more : count < (tally_of h).begun = grind (arith, nat_tests, both.1) in
     omega (arith, begun, more, o.few)
 
-pub all-done : (sectors count : ℕ) (h : List Entry) → count < 2 ^ 32 → InOrder sectors count h → is_over count (tally_of h) ≡ true → (ticket : ℕ) → 1 ≤ ticket → ticket ≤ count + 1 → has_outcome ticket h ≡ true
+pub all-done : (sectors count : ℕ) (h : List Entry) → count < 2 ^ 32 → InOrder sectors count h → is_over count (tally_of h) ≡ true → (ticket : ℕ) → 1 ≤ ticket
+    → ticket ≤ count + 1 → has_outcome ticket h ≡ true
 all-done sectors count h small o over ticket some most =
     let both = over-parts count (tally_of h) over in
     let begun = begun-is h (omega (arith, o.few, small)) in

@@ -21,7 +21,8 @@ pub carries-then : (s : Sender) (h m n : List Entry) (a b c : Option (List (List
 carries-then s h m n a b c x y = λ start so. y start (x start so)
 
 -- the frame of one more entry
-pub carries-one : (s : Sender) (e : Entry) (h : List Entry) (a b : Option (List (List ℕ))) → Added a b (option_to_list (option_map (λ f. f.bytes) (frame_by s e))) → Carries s h (e ∷ h) a b
+pub carries-one : (s : Sender) (e : Entry) (h : List Entry) (a b : Option (List (List ℕ)))
+    → Added a b (option_to_list (option_map (λ f. f.bytes) (frame_by s e))) → Carries s h (e ∷ h) a b
 carries-one s e h a b took = λ start so. Added-then start a b (frames_by s h) (option_to_list (option_map (λ f. f.bytes) (frame_by s e))) so took
 
 -- the entries up to one of them were looked at
@@ -32,7 +33,8 @@ pub record Passing (h : List Entry) (told i : ℕ) (tally : Tally) (one one' two
 
 pub passed-one : (h : List Entry) (told i : ℕ) (e : Entry) (tally tally' : Tally) (one a b two c d : Option (List (List ℕ)))
     → drop (length h - (i + 1)) h ≡ e ∷ drop (length h - i) h → Passing h told i tally one a two c → tally' ≡ noted e tally
-    → Added a b (option_to_list (option_map (λ f. f.bytes) (frame_by sender.Shelf e))) → Added c d (option_to_list (option_map (λ f. f.bytes) (frame_by sender.Host e)))
+    → Added a b (option_to_list (option_map (λ f. f.bytes) (frame_by sender.Shelf e)))
+    → Added c d (option_to_list (option_map (λ f. f.bytes) (frame_by sender.Host e)))
     → Passing h told (i + 1) tally' one b two d
 passed-one h told i e tally tally' one a b two c d at p is first second =
     let before : List Entry = drop (length h - i) h in
@@ -59,7 +61,8 @@ carries-line s h m later new told a b is all same x =
     let Q : List Entry → Type 0 = λ l. Carries s h l a b in
     subst Q (sym same) (subst P (looked-at h m new told is all) x)
 
-pub carried : {T : Type 0} (result : Result T LiveRefusal) (s : Sender) (h m later new : List Entry) (told : ℕ) (a b : Option (List (List ℕ))) → m ≡ new ++ h → told ≡ length h → later ≡ m
+pub carried : {T : Type 0} (result : Result T LiveRefusal) (s : Sender) (h m later new : List Entry) (told : ℕ) (a b : Option (List (List ℕ))) → m ≡ new ++ h
+    → told ≡ length h → later ≡ m
     → OnOk result (Carries s (drop (length m - told) m) m a b) → OnOk result (Carries s h later a b)
 carried (Ok u) s h m later new told a b is all same x = carries-line s h m later new told a b is all same x
 carried (Err r) s h m later new told a b is all same x = tt

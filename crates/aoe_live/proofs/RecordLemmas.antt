@@ -18,7 +18,8 @@ use Rattle.aoe_live.specs.Stations.{stations}
 use Rattle.aoe_live.proofs.LineLemmas.{come-more, cursor-stays}
 
 module _ (sectors : ℕ) (script : ScriptLines) (old : Stepped) (event : Event) (f : Follows sectors script old) where
-  module _ (recorded : is_recorded event ≡ true) (new : Stepped) (comes : Comes (setup_of old.lines) old.lines event old.cursor old.entries new.cursor new.entries) where
+  module _ (recorded : is_recorded event ≡ true) (new : Stepped)
+      (comes : Comes (setup_of old.lines) old.lines event old.cursor old.entries new.cursor new.entries) where
     abbrev moved : Comes (setup_of (stations sectors)) (stations sectors) event 1 old.entries new.cursor new.entries
     moved =
         let P : List Line → Type 0 = λ l. Comes (setup_of l) l event old.cursor old.entries new.cursor new.entries in
@@ -53,7 +54,8 @@ module _ (sectors : ℕ) (script : ScriptLines) (old : Stepped) (event : Event) 
           come = subst P (sym events) (come-more sectors script.events event [] old.entries new.entries f.come line-comes);
         }
 
-  begun : (k : List Entry) → ComesSome (setup_of old.lines) old.lines event old.cursor old.entries k → ComesSome (setup_of (stations sectors)) (stations sectors) event 1 old.entries k
+  begun : (k : List Entry) → ComesSome (setup_of old.lines) old.lines event old.cursor old.entries k
+      → ComesSome (setup_of (stations sectors)) (stations sectors) event 1 old.entries k
   begun k begins =
       let P : List Line → Type 0 = λ l. ComesSome (setup_of l) l event old.cursor old.entries k in
       let Q : ℕ → Type 0 = λ c. ComesSome (setup_of (stations sectors)) (stations sectors) event c old.entries k in

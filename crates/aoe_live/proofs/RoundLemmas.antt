@@ -32,7 +32,8 @@ told-nothing : (a : Option (List ℕ)) → IfSome a (λ all. Added a a [])
 told-nothing None = tt
 told-nothing (Some l) = refl
 
-told-then : (a b c : Option (List ℕ)) (xs : List ℕ) (n : ℕ) → IfSome b (λ all. Added a b xs) → IfSome c (λ all. Added b c (n ∷ [])) → IfSome c (λ all. Added a c (n ∷ xs))
+told-then : (a b c : Option (List ℕ)) (xs : List ℕ) (n : ℕ) → IfSome b (λ all. Added a b xs) → IfSome c (λ all. Added b c (n ∷ []))
+    → IfSome c (λ all. Added a c (n ∷ xs))
 told-then a b None xs n first second = tt
 told-then a None (Some l) xs n first second = absurd cc
 told-then a (Some k) (Some l) xs n first second = Added-then a (Some k) (Some l) xs (n ∷ []) first second
@@ -82,7 +83,8 @@ ends-as s s' c c' turns ms r before h k one one' two two' same same_count x =
     let Q : ℕ → Type 0 = λ n. TurnEnds s' n turns ms r before h k one one' two two' in
     subst Q same_count (subst P same x)
 
-pub taken-as : {sectors sectors' count count' ms : ℕ} {finishes : Bool} {h m : List Entry} {before events : List Event} {one one' two two' : Wire} → sectors ≡ sectors' → count ≡ count'
+pub taken-as : {sectors sectors' count count' ms : ℕ} {finishes : Bool} {h m : List Entry} {before events : List Event} {one one' two two' : Wire}
+    → sectors ≡ sectors' → count ≡ count'
     → Taken sectors count ms finishes h m before events one one' two two' → Taken sectors' count' ms finishes h m before events one one' two two'
 taken-as {sectors} {sectors'} {count} {count'} {ms} {finishes} {h} {m} {before} {events} {one} {one'} {two} {two'} same same_count t =
     let P : ℕ → Type 0 = λ n. Taken n count ms finishes h m before events one one' two two' in
@@ -136,7 +138,8 @@ module _ {sectors count turns quiet : ℕ} {last : Option ℕ} {h : List Entry} 
           order = kept.0;
         }
 
-    pub goes-on : (quiet' : ℕ) → quiet' ≡ quiet_by finishes quiet → is_over count (tally_of m) ≡ false → Going sectors count turns quiet' (Some now) m later old new
+    pub goes-on : (quiet' : ℕ) → quiet' ≡ quiet_by finishes quiet → is_over count (tally_of m) ≡ false
+        → Going sectors count turns quiet' (Some now) m later old new
     goes-on quiet' is more = record {
       rounds = round ∷ g.rounds;
       came = came-on;
@@ -157,13 +160,15 @@ module _ {sectors count turns quiet : ℕ} {last : Option ℕ} {h : List Entry} 
     }
 
   -- or it broke off in the next turn
-  pub is-refused : (ms : ℕ) → ms ≡ now - or_now last now → or_now last now ≤ now → (r : LiveRefusal) (k : List Entry) → TurnEnds sectors count turns ms r events h k mid.one new.one mid.two new.two
+  pub is-refused : (ms : ℕ) → ms ≡ now - or_now last now → or_now last now ≤ now → (r : LiveRefusal) (k : List Entry)
+      → TurnEnds sectors count turns ms r events h k mid.one new.one mid.two new.two
       → Lives sectors count turns (Err r) old new
   is-refused ms ms_is not_before r k ends =
       let P : ℕ → Type 0 = λ n. TurnEnds sectors count turns n r events h k mid.one new.one mid.two new.two in
       at r (subst P (ms_is ∙ ap (λ l. now - l) (g.last_is now)) ends)
     where
-      unfinished : {Breaks : List Round → ℕ → List Event → List Entry → List Entry → Outside → Type 0} → Breaks g.rounds now events h k mid → Unfinished sectors count turns Breaks old new
+      unfinished : {Breaks : List Round → ℕ → List Event → List Entry → List Entry → Outside → Type 0} → Breaks g.rounds now events h k mid
+          → Unfinished sectors count turns Breaks old new
       unfinished x = record {
         rounds = g.rounds;
         entries = h;
@@ -179,7 +184,8 @@ module _ {sectors count turns quiet : ℕ} {last : Option ℕ} {h : List Entry} 
         breaks = x;
       }
 
-      at : (r : LiveRefusal) → TurnEnds sectors count turns (now - last_now g.rounds now) r events h k mid.one new.one mid.two new.two → Lives sectors count turns (Err r) old new
+      at : (r : LiveRefusal) → TurnEnds sectors count turns (now - last_now g.rounds now) r events h k mid.one new.one mid.two new.two
+          → Lives sectors count turns (Err r) old new
       at (live.Unanswered t) x = (x.0, inr (unfinished x.1))
       at (live.LinkFault link) x = x
       at live.NoMemory x = inr (inl (unfinished x))
@@ -187,7 +193,8 @@ module _ {sectors count turns quiet : ℕ} {last : Option ℕ} {h : List Entry} 
 
 -- HOW MANY TURNS THERE CAN BE
 
-turn-comes : (sectors count ms : ℕ) (one two : Turn) (h m : List Entry) (lines : List Event) → IsTurn sectors count ms one two h m lines → LinesCome sectors lines h m
+turn-comes : (sectors count ms : ℕ) (one two : Turn) (h m : List Entry) (lines : List Event) → IsTurn sectors count ms one two h m lines
+    → LinesCome sectors lines h m
 turn-comes sectors count ms one two h m lines t =
     let xs = ticks ms in
     let ys = handing sender.Host one t.passed in
@@ -198,7 +205,8 @@ turn-comes sectors count ms one two h m lines t =
     (come-then sectors (ys ++ zs) ws t.passed t.answered m (come-then sectors ys zs t.passed t.asked t.answered t.to_shelf t.to_host) t.asks))
 
 -- a turn that finished a command has a line
-some-line : (sectors : ℕ) (lines : List Event) (h m : List Entry) → LinesCome sectors lines h m → true ≡ not ((tally_of m).ended == (tally_of h).ended) → 1 ≤ length lines
+some-line : (sectors : ℕ) (lines : List Event) (h m : List Entry) → LinesCome sectors lines h m → true ≡ not ((tally_of m).ended == (tally_of h).ended)
+    → 1 ≤ length lines
 some-line sectors [] h m come finishes =
     let same : ((tally_of m).ended == (tally_of h).ended) ≡ true = ap (λ l. (tally_of l).ended == (tally_of h).ended) come.1 ∙ equal (tally_of h).ended in
     absurd (no_more (finishes ∙ ap not same))
@@ -215,13 +223,15 @@ answered-smaller turns before after quiet less =
     let more : (turns + 1) * (after + 1) ≤ (turns + 1) * before = mul-le-mul_left (turns + 1) less in
     grind (arith, more)
 
-quiet-smaller : (turns before after quiet : ℕ) → after ≤ before → quiet < turns → after * (turns + 1) + (turns - (quiet + 1)) < before * (turns + 1) + (turns - quiet)
+quiet-smaller : (turns before after quiet : ℕ) → after ≤ before → quiet < turns
+    → after * (turns + 1) + (turns - (quiet + 1)) < before * (turns + 1) + (turns - quiet)
 quiet-smaller turns before after quiet less below =
     let more : (turns + 1) * after ≤ (turns + 1) * before = mul-le-mul_left (turns + 1) less in
     grind (arith, more)
 
 -- so there are fewer lines to come, or fewer turns that may finish none
-pub turn-smaller : {sectors count turns quiet ms : ℕ} {finishes : Bool} {h m : List Entry} {events later : List Event} {one one' two two' : Wire} → Taken sectors count ms finishes h m events later one one' two two'
+pub turn-smaller : {sectors count turns quiet ms : ℕ} {finishes : Bool} {h m : List Entry} {events later : List Event} {one one' two two' : Wire}
+    → Taken sectors count ms finishes h m events later one one' two two'
     → length later ≤ 50000 → quiet < turns → (quiet' : ℕ) → quiet' ≡ quiet_by finishes quiet
     → (50000 - length later) * (turns + 1) + (turns - quiet') < (50000 - length events) * (turns + 1) + (turns - quiet)
 turn-smaller {sectors} {count} {turns} {quiet} {ms} {finishes} {h} {m} {events} {later} {one} {one'} {two} {two'} t few below quiet' is =
@@ -231,7 +241,8 @@ turn-smaller {sectors} {count} {turns} {quiet} {ms} {finishes} {h} {m} {events} 
     count_is : length later ≡ length events + length t.lines
     count_is = ap length t.lines_are ∙ length-append events t.lines
 
-    go : (b : Bool) → b ≡ not ((tally_of m).ended == (tally_of h).ended) → (50000 - length later) * (turns + 1) + (turns - quiet_by b quiet) < (50000 - length events) * (turns + 1) + (turns - quiet)
+    go : (b : Bool) → b ≡ not ((tally_of m).ended == (tally_of h).ended) → (50000 - length later) * (turns + 1) + (turns - quiet_by b quiet) <
+        (50000 - length events) * (turns + 1) + (turns - quiet)
     go true finishes_is =
         let some = some-line sectors t.lines h m (turn-comes sectors count ms t.first t.second h m t.lines t.turn) finishes_is in
         answered-smaller turns (50000 - length events) (50000 - length later) quiet (omega (arith, count_is, few, some))

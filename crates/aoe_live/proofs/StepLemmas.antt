@@ -33,7 +33,8 @@ over-none h one two = record {
   carries_two = carries-none sender.Host h two.taken;
 }
 
-pub over-then : (f s f' s' : List Turn) (h m n : List Entry) (a b c a2 b2 c2 : Wire) → OverLinks f s h m a b a2 b2 → OverLinks f' s' m n b c b2 c2 → OverLinks (f' ++ f) (s' ++ s) h n a c a2 c2
+pub over-then : (f s f' s' : List Turn) (h m n : List Entry) (a b c a2 b2 c2 : Wire) → OverLinks f s h m a b a2 b2 → OverLinks f' s' m n b c b2 c2
+    → OverLinks (f' ++ f) (s' ++ s) h n a c a2 c2
 over-then f s f' s' h m n a b c a2 b2 c2 x y = record {
   turned_one = turned-then a.turns b.turns c.turns a.given b.given c.given f f' x.turned_one y.turned_one;
   turned_two = turned-then a2.turns b2.turns c2.turns a2.given b2.given c2.given s s' x.turned_two y.turned_two;
@@ -46,7 +47,8 @@ over-then f s f' s' h m n a b c a2 b2 c2 x y = record {
 come-as : (s s' : ℕ) (lines : List Event) (h m : List Entry) → s ≡ s' → LinesCome s lines h m → LinesCome s' lines h m
 come-as s s' lines h m same x = let P : ℕ → Type 0 = λ n. LinesCome n lines h m in subst P same x
 
-module _ (f s f' s' : List Turn) (xs ys : List Event) (p q r : Recorder) (k l m : Links) (same : q.sectors ≡ p.sectors) (first : Recorded f s xs p q k l) (next : Recorded f' s' ys q r l m) where
+module _ (f s f' s' : List Turn) (xs ys : List Event) (p q r : Recorder) (k l m : Links) (same : q.sectors ≡ p.sectors) (first : Recorded f s xs p q k l)
+    (next : Recorded f' s' ys q r l m) where
   pub recorded-then : Recorded (f' ++ f) (s' ++ s) (xs ++ ys) p r k m
   recorded-then = record {
     come = come-then p.sectors xs ys p.world.entries q.world.entries r.world.entries first.come (come-as q.sectors p.sectors ys q.world.entries r.world.entries same next.come);
@@ -55,10 +57,12 @@ module _ (f s f' s' : List Turn) (xs ys : List Event) (p q r : Recorder) (k l m 
   }
 
 -- a link was asked before the first line, or behind the last
-pub recorded-asked : (p : Recorder) (k l : Links) (f s : List Turn) → OverLinks f s p.world.entries p.world.entries k.one l.one k.two l.two → Recorded f s [] p p k l
+pub recorded-asked : (p : Recorder) (k l : Links) (f s : List Turn) → OverLinks f s p.world.entries p.world.entries k.one l.one k.two l.two
+    → Recorded f s [] p p k l
 recorded-asked p k l f s over = record { come = come-none p.sectors p.world.entries; lines_are = sym (append-nil p.script.events); over = over }
 
-pub recorded-asks : (f s f' s' : List Turn) (xs : List Event) (p q : Recorder) (k l m : Links) → Recorded f s xs p q k l → OverLinks f' s' q.world.entries q.world.entries l.one m.one l.two m.two
+pub recorded-asks : (f s f' s' : List Turn) (xs : List Event) (p q : Recorder) (k l m : Links) → Recorded f s xs p q k l
+    → OverLinks f' s' q.world.entries q.world.entries l.one m.one l.two m.two
     → Recorded (f' ++ f) (s' ++ s) xs p q k m
 recorded-asks f s f' s' xs p q k l m x over = record {
   come = x.come;
@@ -69,7 +73,8 @@ recorded-asks f s f' s' xs p q k l m x over = record {
 pub recorded-as : (f s : List Turn) (xs ys : List Event) (p q : Recorder) (k l : Links) → xs ≡ ys → Recorded f s xs p q k l → Recorded f s ys p q k l
 recorded-as f s xs ys p q k l same x = let P : List Event → Type 0 = λ es. Recorded f s es p q k l in subst P same x
 
-pub steps-as : {T : Type 0} (result : Result T LiveRefusal) (xs ys : List Event) (p q : Recorder) (k l : Links) → xs ≡ ys → Steps xs result p q k l → Steps ys result p q k l
+pub steps-as : {T : Type 0} (result : Result T LiveRefusal) (xs ys : List Event) (p q : Recorder) (k l : Links) → xs ≡ ys → Steps xs result p q k l
+    → Steps ys result p q k l
 steps-as result xs ys p q k l same x = let P : List Event → Type 0 = λ es. Steps es result p q k l in subst P same x
 
 -- ONE LINE
@@ -115,11 +120,13 @@ link-records _ t u = absurd cc
 module _ (p q r : Recorder) (k l : Links) (e : Event) (tail : List Entry) (is : q.world.entries ≡ tail ++ p.world.entries) (told : q.told ≡ length p.world.entries)
     (begun : q ≡ record p { script = q.script; world = q.world }) (sent : r ≡ record q { told = r.told; tally = r.tally })
     (comes : LineComes p.sectors e p.world.entries q.world.entries) (line : q.script.events ≡ p.script.events ++ e ∷ [])
-    (turns_one : l.one.turns ≡ k.one.turns) (given_one : l.one.given ≡ k.one.given) (turns_two : l.two.turns ≡ k.two.turns) (given_two : l.two.given ≡ k.two.given) where
+    (turns_one : l.one.turns ≡ k.one.turns) (given_one : l.one.given ≡ k.one.given) (turns_two : l.two.turns ≡ k.two.turns)
+    (given_two : l.two.given ≡ k.two.given) where
   all : r.world.entries ≡ q.world.entries
   all = ap (λ (x : Recorder). x.world.entries) sent
 
-  came : Carries sender.Shelf p.world.entries r.world.entries k.one.taken l.one.taken → Carries sender.Host p.world.entries r.world.entries k.two.taken l.two.taken → Recorded [] [] (e ∷ []) p r k l
+  came : Carries sender.Shelf p.world.entries r.world.entries k.one.taken l.one.taken
+      → Carries sender.Host p.world.entries r.world.entries k.two.taken l.two.taken → Recorded [] [] (e ∷ []) p r k l
   came one two =
       let P : List Entry → Type 0 = λ m. LinesCome p.sectors (e ∷ []) p.world.entries m in
       record {
@@ -136,7 +143,8 @@ module _ (p q r : Recorder) (k l : Links) (e : Event) (tail : List Entry) (is : 
   abbrev Sent : Sender → Option (List (List ℕ)) → Option (List (List ℕ)) → Type 0
   Sent s a b = Carries s p.world.entries r.world.entries a b
 
-  pub line-comes-on : {T : Type 0} (result : Result T LiveRefusal) → OnOk result (Sent sender.Shelf k.one.taken l.one.taken) → OnOk result (Sent sender.Host k.two.taken l.two.taken)
+  pub line-comes-on : {T : Type 0} (result : Result T LiveRefusal) → OnOk result (Sent sender.Shelf k.one.taken l.one.taken)
+      → OnOk result (Sent sender.Host k.two.taken l.two.taken)
       → IfErr result (λ x. is_link x ≡ true) → Steps (e ∷ []) result p r k l
   line-comes-on (Ok u) one two link = record {
     whole = came one two;
@@ -165,7 +173,8 @@ Moves sectors S S' f s xs m =
 
 module _ (S S' : Standing) (f s : List Turn) (xs : List Event) (p q r : Recorder) (k l m : Links) (same : q.sectors ≡ p.sectors) (same_count : q.commands ≡ p.commands) (first : Recorded f s xs p q k l)
     (moves : Moves p.sectors S S' f s xs q.world.entries) where
-  stopped-behind : (x : LiveRefusal) → Stopped p.sectors S x q.script.events q.world.entries r.world.entries l.one m.one l.two m.two → Stopped p.sectors S' x p.script.events p.world.entries r.world.entries k.one m.one k.two m.two
+  stopped-behind : (x : LiveRefusal) → Stopped p.sectors S x q.script.events q.world.entries r.world.entries l.one m.one l.two m.two
+      → Stopped p.sectors S' x p.script.events p.world.entries r.world.entries k.one m.one k.two m.two
   stopped-behind x t =
       let P : List Event → Type 0 = λ es. Fails p.sectors x es t.next t.mid r.world.entries in
       record {
@@ -180,7 +189,8 @@ module _ (S S' : Standing) (f s : List Turn) (xs : List Event) (p q r : Recorder
         over = over-then f s t.first t.second p.world.entries q.world.entries t.mid k.one l.one m.one k.two l.two m.two first.over t.over;
       }
 
-  stopped-later : (x : LiveRefusal) → Stopped q.sectors S x q.script.events q.world.entries r.world.entries l.one m.one l.two m.two → Stopped p.sectors S' x p.script.events p.world.entries r.world.entries k.one m.one k.two m.two
+  stopped-later : (x : LiveRefusal) → Stopped q.sectors S x q.script.events q.world.entries r.world.entries l.one m.one l.two m.two
+      → Stopped p.sectors S' x p.script.events p.world.entries r.world.entries k.one m.one k.two m.two
   stopped-later x t =
       let P : ℕ → Type 0 = λ n. Stopped n S x q.script.events q.world.entries r.world.entries l.one m.one l.two m.two in
       stopped-behind x (subst P same t)
@@ -215,7 +225,8 @@ none-left : (xs : List Event) → length xs ≤ 0 → xs ≡ []
 none-left [] few = refl
 none-left (x ∷ xs) few = absurd (omega (arith, few))
 
-pub alone : (sectors : ℕ) (part : List Event) → length part ≤ 1 → (lines : List Event) (next : Event) (m n : List Entry) → LinesCome sectors lines m n → StandsIn part lines next → Alone part lines next m n
+pub alone : (sectors : ℕ) (part : List Event) → length part ≤ 1 → (lines : List Event) (next : Event) (m n : List Entry) → LinesCome sectors lines m n
+    → StandsIn part lines next → Alone part lines next m n
 alone sectors part few [] next m n come s =
     let count = ap length s.part_is in
     record { no_lines = refl; part_is = s.part_is ∙ ap (λ l. next ∷ l) (none-left s.behind (omega (arith, few, count))); here = come.1 }

@@ -93,7 +93,8 @@ lines-short (e ∷ events) short =
     let others = lines-short events (All-tail IsShort e events short) in
     omega (arith, all, first, others)
 
-pub script-short : (sectors : ℕ) (script : ScriptLines) → sectors ≤ 65536 → script.setups ≡ stations sectors → length script.events ≤ 50000 → All IsShort script.events
+pub script-short : (sectors : ℕ) (script : ScriptLines) → sectors ≤ 65536 → script.setups ≡ stations sectors → length script.events ≤ 50000
+    → All IsShort script.events
     → length (script_text script) ≤ 16777216
 script-short sectors script most setups few short =
     let behind : Text = flat_map (λ (e : Event). line_text (event_words e)) script.events in

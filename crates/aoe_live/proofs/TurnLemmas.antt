@@ -27,7 +27,8 @@ use Rattle.aoe_live.proofs.StepLemmas.{alone, does-behind, fails-behind, recorde
 -- THE LINES OF A PART
 
 -- what comes of a frame that a link brought
-pub handing-frame : (s : Sender) (g : Got) (bytes : List ℕ) (h : List Entry) (number : Option ℕ) → g ≡ got.Frame → number ≡ newest s 2000 h bytes → handing s (turn_of g bytes) h ≡ delivery s number
+pub handing-frame : (s : Sender) (g : Got) (bytes : List ℕ) (h : List Entry) (number : Option ℕ) → g ≡ got.Frame → number ≡ newest s 2000 h bytes
+    → handing s (turn_of g bytes) h ≡ delivery s number
 handing-frame s g bytes h number is found = ap (λ x. handing s (turn_of x bytes) h) is ∙ ap (delivery s) (sym found)
 
 delivery-short : (s : Sender) (number : Option ℕ) → length (delivery s number) ≤ 1
@@ -51,7 +52,8 @@ abbrev Told : Type 0
 Told = Option (List (List ℕ))
 
 -- a link that is asked, which takes nothing by it
-module _ (h : List Entry) (a b w : Wire) (t : Turn) (gave : GaveTurns b.turns a.given b.given (t ∷ [])) (later : a.turns ≤ b.turns) (turns : b.turns ≡ counted a.turns) (taken : b.taken ≡ a.taken) where
+module _ (h : List Entry) (a b w : Wire) (t : Turn) (gave : GaveTurns b.turns a.given b.given (t ∷ [])) (later : a.turns ≤ b.turns)
+    (turns : b.turns ≡ counted a.turns) (taken : b.taken ≡ a.taken) where
   pub asked-one : OverLinks (t ∷ []) [] h h a b w w
   asked-one =
       let P : Told → Type 0 = λ x. Carries sender.Shelf h h a.taken x in
@@ -92,7 +94,8 @@ second-moves sectors one two h m before [] [] n lines next come s =
 second-moves sectors one two h m before _ _ n lines next come s = absurd s
 
 module _ (p q : Recorder) (k k' l : Links) (first : Turn) (asked : OverLinks (first ∷ []) [] p.world.entries p.world.entries k.one k'.one k.two k'.two) where
-  pub exchange-fails-first : {T U : Type 0} (x : LiveRefusal) → Steps {T = T} (handing sender.Host first p.world.entries) (Err x) p q k' l → Exchanges {T = U} (Err x) p q k l
+  pub exchange-fails-first : {T U : Type 0} (x : LiveRefusal) → Steps {T = T} (handing sender.Host first p.world.entries) (Err x) p q k' l
+      → Exchanges {T = U} (Err x) p q k l
   exchange-fails-first x d =
       fails-behind (Among (handing sender.Host first p.world.entries)) (InExchange p.sectors p.world.entries) (first ∷ []) [] [] p p q k k' l refl refl (recorded-asked p k k' (first ∷ []) [] asked)
       (first-moves p.sectors first p.world.entries) _ _ x d
@@ -135,7 +138,8 @@ ends-by sectors count turns ms (live.Unanswered t) before h k a b a2 b2 why stop
 ends-by sectors count turns ms (live.LinkFault link) before h k a b a2 b2 why stops = why
 ends-by sectors count turns ms _ before h k a b a2 b2 why stops = stops refl
 
-module _ (sectors sectors' count ms : ℕ) (same : sectors' ≡ sectors) (h m : List Entry) (time : LinesCome sectors (ticks ms) h m) (goes_on : (tally_of m).gave_up ≡ false) where
+module _ (sectors sectors' count ms : ℕ) (same : sectors' ≡ sectors) (h m : List Entry) (time : LinesCome sectors (ticks ms) h m)
+    (goes_on : (tally_of m).gave_up ≡ false) where
   exchange-moves : Moves sectors (InExchange sectors' m) (InTurn sectors count ms h) [] [] (ticks ms) m
   exchange-moves (one ∷ []) [] n lines next come (here, none, hands) =
       let P : List Entry → Type 0 = λ l. LinesCome sectors (ticks ms) h l in
@@ -150,7 +154,8 @@ module _ (sectors sectors' count ms : ℕ) (same : sectors' ≡ sectors) (h m : 
       inl (record { passed = m; time = time; goes_on = goes_on; to_shelf = subst P same to_shelf; lines_are = ap (λ l. ticks ms ++ l) is; hands = hands })
   exchange-moves _ _ n lines next come s = absurd s
 
-  module _ (one two : Turn) (handed : List Event) (a : List Entry) (exchange : IsExchange sectors one two m a handed) (part : List Event) (part_is : part ≡ asking sectors count (tally_of a)) where
+  module _ (one two : Turn) (handed : List Event) (a : List Entry) (exchange : IsExchange sectors one two m a handed) (part : List Event)
+      (part_is : part ≡ asking sectors count (tally_of a)) where
     asking-moves : Moves sectors (Among part) (InTurn sectors count ms h) (one ∷ []) (two ∷ []) (ticks ms ++ handed) a
     asking-moves [] [] n lines next come s =
         let few : length part ≤ 1 = ask-few in
@@ -178,7 +183,8 @@ module _ (turns ms : ℕ) (a b : Recorder) (k l : Links) where
   abbrev Ends : LiveRefusal → Recorder → Links → Type 0
   Ends x r m = TurnEnds a.sectors a.commands turns ms x a.script.events a.world.entries r.world.entries k.one m.one k.two m.two
 
-  module _ (time : Recorded [] [] (ticks ms) a b k l) (same : b.sectors ≡ a.sectors) (same_count : b.commands ≡ a.commands) (tally_is : b.tally ≡ tally_of b.world.entries) where
+  module _ (time : Recorded [] [] (ticks ms) a b k l) (same : b.sectors ≡ a.sectors) (same_count : b.commands ≡ a.commands)
+      (tally_is : b.tally ≡ tally_of b.world.entries) where
     module _ (goes_on' : b.tally.gave_up ≡ false) (c : Recorder) (m : Links) where
       goes_on : (tally_of b.world.entries).gave_up ≡ false
       goes_on = ap (λ (t : Tally). t.gave_up) (sym tally_is) ∙ goes_on'
@@ -191,7 +197,8 @@ module _ (turns ms : ℕ) (a b : Recorder) (k l : Links) where
           (exchange-moves a.sectors b.sectors a.commands ms same a.world.entries b.world.entries time.come goes_on) _ _ x d in
           ends-by a.sectors a.commands turns ms x a.script.events a.world.entries c.world.entries k.one m.one k.two m.two e.why e.stops
 
-      module _ (x : Exchanged b c l m) (same' : c.sectors ≡ b.sectors) (same_count' : c.commands ≡ b.commands) (tally_is' : c.tally ≡ tally_of c.world.entries) (d : Recorder) (n : Links) where
+      module _ (x : Exchanged b c l m) (same' : c.sectors ≡ b.sectors) (same_count' : c.commands ≡ b.commands) (tally_is' : c.tally ≡ tally_of c.world.entries)
+          (d : Recorder) (n : Links) where
         exchange : IsExchange a.sectors x.first x.second b.world.entries c.world.entries x.lines
         exchange = let P : ℕ → Type 0 = λ s. IsExchange s x.first x.second b.world.entries c.world.entries x.lines in subst P same x.exchange
 

@@ -16,7 +16,8 @@ pub(crate) enum Sender {
 
 /// The frame that a sender sent, where the entry is that of its sending.
 pub(crate) fn frame_by(sender: Sender, entry: &Entry) -> Option<&[u8]>
-    ensures { option_map (λ bytes. bytes.now) result ≡ option_map (λ f. f.bytes) (frame_by sender entry.now) }
+    ensures { option_map (λ bytes. bytes.now) result
+        ≡ option_map (λ f. f.bytes) (frame_by sender entry.now) }
 {
     match sender {
         Sender::Host => match entry {

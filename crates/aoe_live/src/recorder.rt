@@ -50,7 +50,8 @@ fn stopped(refusal: WorldRefusal) -> LiveRefusal
 
 /// Sends the frame of an entry, where it is one of this sender.
 fn send_of<L: Link>(sender: Sender, entry: &Entry, link: &mut L) -> Result<(), Failed>
-    ensures took { OnOk result (Added (L.taken link.old) (L.taken link.new) (option_to_list (option_map (λ f. f.bytes) (frame_by sender entry.now)))) }
+    ensures took { OnOk result (Added (L.taken link.old) (L.taken link.new)
+        (option_to_list (option_map (λ f. f.bytes) (frame_by sender entry.now)))) }
     ensures given { L.given link.new ≡ L.given link.old }
     ensures turns { L.turns link.new ≡ L.turns link.old }
     ensures count { L.faults link.old ≤ L.faults link.new }
@@ -72,12 +73,15 @@ impl Recorder<'_> {
         requires recorded { is_recorded event ≡ true }
         requires short { IsShort event }
         ensures follows { OnOk result (Follows self.old.sectors self.new.script self.new.world) }
-        ensures comes { OnOk result (LineComes self.old.sectors event self.old.world.entries self.new.world.entries) }
+        ensures comes { OnOk result
+            (LineComes self.old.sectors event self.old.world.entries self.new.world.entries) }
         ensures line { OnOk result (self.new.script.events ≡ self.old.script.events ++ event ∷ []) }
         ensures fails { IfErr result (λ refusal. Fails self.old.sectors refusal self.old.script.events event self.old.world.entries self.new.world.entries) }
-        ensures stopped { IfSome self.new.world.refused (λ refusal. result ≡ Err (refusal_of refusal)) }
+        ensures stopped { IfSome self.new.world.refused
+            (λ refusal. result ≡ Err (refusal_of refusal)) }
         ensures no_fault { (link : ℕ) → result ≡ Err (LiveRefusal.LinkFault link) → ⊥ }
-        ensures rest { self.new ≡ record self.old { script = self.new.script; world = self.new.world } }
+        ensures rest { self.new
+            ≡ record self.old { script = self.new.script; world = self.new.world } }
     {
         if self.script.count() >= MAX_EVENTS {
             return Err(LiveRefusal::TooMany);
@@ -97,7 +101,8 @@ impl Recorder<'_> {
     /// Sends the frames of the entries that came since it was called last.
     fn pass_on<L: Link>(&mut self, one: &mut L, two: &mut L) -> Result<(), LiveRefusal>
         requires told { self.old.told ≤ length self.old.world.entries }
-        requires tally { self.old.tally ≡ tally_of (drop (length self.old.world.entries - self.old.told) self.old.world.entries) }
+        requires tally { self.old.tally ≡ tally_of
+            (drop (length self.old.world.entries - self.old.told) self.old.world.entries) }
         ensures told { OnOk result (self.new.told ≡ length self.old.world.entries) }
         ensures tally { OnOk result (self.new.tally ≡ tally_of self.old.world.entries) }
         ensures one { OnOk result (Carries Sender.Shelf (drop (length self.old.world.entries - self.old.told) self.old.world.entries) self.old.world.entries (L.taken one.old) (L.taken one.new)) }
@@ -139,7 +144,9 @@ impl Recorder<'_> {
         requires recorded { is_recorded event ≡ true }
         requires short { IsShort event }
         ensures kept { OnOk result (IsKept self.new) }
-        ensures steps { Steps (event ∷ []) result self.old self.new (links L.turns L.given L.taken one.old two.old) (links L.turns L.given L.taken one.new two.new) }
+        ensures steps { Steps (event ∷ []) result self.old self.new
+            (links L.turns L.given L.taken one.old two.old)
+            (links L.turns L.given L.taken one.new two.new) }
         ensures faults_one { Blames result 0 (L.faults one.old) (L.faults one.new) }
         ensures faults_two { Blames result 1 (L.faults two.old) (L.faults two.new) }
     {

@@ -21,7 +21,8 @@ pub(crate) fn named(letter: u8) -> Name
 
 /// The text of the setup lines, where the slot has so many sectors.
 fn setup_text(alloc: Global, sectors: u64) -> Result<Vec<u8>, NoMemory>
-    ensures { IfOk result (λ text. text.items ≡ script_text (record { setups = stations sectors; events = [] })) }
+    ensures { IfOk result (λ text. text.items ≡ script_text
+        (record { setups = stations sectors; events = [] })) }
 {
     let mut text = Vec::new(alloc);
     put_count(

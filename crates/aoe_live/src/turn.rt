@@ -46,7 +46,9 @@ impl Recorder<'_> {
     fn pass_time<L: Link>(&mut self, ms: u64, one: &mut L, two: &mut L) -> Result<(), LiveRefusal>
         requires kept { IsKept self.old }
         ensures kept { OnOk result (IsKept self.new) }
-        ensures steps { Steps (ticks ms) result self.old self.new (links L.turns L.given L.taken one.old two.old) (links L.turns L.given L.taken one.new two.new) }
+        ensures steps { Steps (ticks ms) result self.old self.new
+            (links L.turns L.given L.taken one.old two.old)
+            (links L.turns L.given L.taken one.new two.new) }
         ensures faults_one { Blames result 0 (L.faults one.old) (L.faults one.new) }
         ensures faults_two { Blames result 1 (L.faults two.old) (L.faults two.new) }
     {
@@ -74,7 +76,10 @@ impl Recorder<'_> {
     ) -> Result<(), LiveRefusal>
         requires kept { IsKept self.old }
         ensures kept { OnOk result (IsKept self.new) }
-        ensures steps { Steps (handing sender (turn_of got frame.now) self.old.world.entries) result self.old self.new (links L.turns L.given L.taken one.old two.old) (links L.turns L.given L.taken one.new two.new) }
+        ensures steps { Steps
+            (handing sender (turn_of got frame.now) self.old.world.entries) result self.old self.new
+            (links L.turns L.given L.taken one.old two.old)
+            (links L.turns L.given L.taken one.new two.new) }
         ensures faults_one { Blames result 0 (L.faults one.old) (L.faults one.new) }
         ensures faults_two { Blames result 1 (L.faults two.old) (L.faults two.new) }
     {
@@ -95,7 +100,10 @@ impl Recorder<'_> {
     fn ask<L: Link>(&mut self, one: &mut L, two: &mut L) -> Result<(), LiveRefusal>
         requires kept { IsKept self.old }
         ensures kept { OnOk result (IsKept self.new) }
-        ensures steps { Steps (asking self.old.sectors self.old.commands self.old.tally) result self.old self.new (links L.turns L.given L.taken one.old two.old) (links L.turns L.given L.taken one.new two.new) }
+        ensures steps { Steps
+            (asking self.old.sectors self.old.commands self.old.tally) result self.old self.new
+            (links L.turns L.given L.taken one.old two.old)
+            (links L.turns L.given L.taken one.new two.new) }
         ensures faults_one { Blames result 0 (L.faults one.old) (L.faults one.new) }
         ensures faults_two { Blames result 1 (L.faults two.old) (L.faults two.new) }
     {
@@ -115,7 +123,9 @@ impl Recorder<'_> {
     ) -> Result<(), LiveRefusal>
         requires kept { IsKept self.old }
         ensures kept { OnOk result (IsKept self.new) }
-        ensures exchanges { Exchanges result self.old self.new (links L.turns L.given L.taken one.old two.old) (links L.turns L.given L.taken one.new two.new) }
+        ensures exchanges { Exchanges result self.old self.new
+            (links L.turns L.given L.taken one.old two.old)
+            (links L.turns L.given L.taken one.new two.new) }
         ensures faults_one { Blames result 0 (L.faults one.old) (L.faults one.new) }
         ensures faults_two { Blames result 1 (L.faults two.old) (L.faults two.new) }
     {

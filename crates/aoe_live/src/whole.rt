@@ -68,10 +68,14 @@ pub fn live<L: Link, C: Clock>(
         (outside (wire (L.turns one.new) (L.given one.new) (L.taken one.new)) (wire (L.turns two.new) (L.given two.new) (L.taken two.new)) (C.answers clock.new))) }
     ensures count_one { L.faults one.old ≤ L.faults one.new }
     ensures count_two { L.faults two.old ≤ L.faults two.new }
-    ensures cause_one { result ≡ Err (LiveRefusal.LinkFault 0) → Rose (L.faults one.old) (L.faults one.new) }
-    ensures cause_two { result ≡ Err (LiveRefusal.LinkFault 1) → Rose (L.faults two.old) (L.faults two.new) }
-    ensures no_fault_one { result ≢ Err (LiveRefusal.LinkFault 0) → L.faults one.new ≡ L.faults one.old }
-    ensures no_fault_two { result ≢ Err (LiveRefusal.LinkFault 1) → L.faults two.new ≡ L.faults two.old }
+    ensures cause_one { result ≡ Err (LiveRefusal.LinkFault 0)
+        → Rose (L.faults one.old) (L.faults one.new) }
+    ensures cause_two { result ≡ Err (LiveRefusal.LinkFault 1)
+        → Rose (L.faults two.old) (L.faults two.new) }
+    ensures no_fault_one { result ≢ Err (LiveRefusal.LinkFault 0)
+        → L.faults one.new ≡ L.faults one.old }
+    ensures no_fault_two { result ≢ Err (LiveRefusal.LinkFault 1)
+        → L.faults two.new ≡ L.faults two.old }
     ensures one_fault_one { L.faults one.new ≤ L.faults one.old + 1 }
     ensures one_fault_two { L.faults two.new ≤ L.faults two.old + 1 }
 {

@@ -44,7 +44,8 @@ count_le [] = omega arith
 count_le (true ∷ marks) = omega (arith, count_le marks)
 count_le (false ∷ marks) = omega (arith, count_le marks)
 
-pub count_set : (marks : List Bool) (s : ℕ) (value : Bool) → s < length marks → count_of (set marks s value) + cond (get_or marks s false) 1 0 ≡ count_of marks + cond value 1 0
+pub count_set : (marks : List Bool) (s : ℕ) (value : Bool) → s < length marks
+    → count_of (set marks s value) + cond (get_or marks s false) 1 0 ≡ count_of marks + cond value 1 0
 unfolding count_of
 count_set [] s value within = absurd (omega arith)
 count_set (true ∷ marks) zero true within = omega arith
@@ -124,7 +125,8 @@ byte_small true = omega arith
 byte_small false = omega arith
 
 -- none below a place is set, where none was and what is set now stands no lower
-pub clear_set : (marks : List Bool) (s : ℕ) (value : Bool) (from from' : ℕ) → IsClear marks 0 from → from' ≤ from → (value ≡ true → from' ≤ s) → IsClear (set marks s value) 0 from'
+pub clear_set : (marks : List Bool) (s : ℕ) (value : Bool) (from from' : ℕ) → IsClear marks 0 from → from' ≤ from → (value ≡ true → from' ≤ s)
+    → IsClear (set marks s value) 0 from'
 clear_set marks s value from from' clear fewer low = λ k le lt. elim (cases_eq k s) [
   | inl is ↦ elim (cases_Bool value) [
     | inl on ↦ let h : from' ≤ s = low on in absurd (omega arith)
@@ -141,7 +143,8 @@ module _ (words : List ℕ) (len many from s v : ℕ) (value : Bool) (marks : Ar
   pub set_is : bits_of (set words (s / 64) v) len ≡ set (bits_of words len) s value
   set_is = bits_of-set words len s v value within marks.room same others
 
-  counted_for : (was : Bool) (many' : ℕ) → was ≡ get_or (bits_of words len) s false → many' + cond was 1 0 ≡ many + cond value 1 0 → many' ≡ count_of (set (bits_of words len) s value)
+  counted_for : (was : Bool) (many' : ℕ) → was ≡ get_or (bits_of words len) s false → many' + cond was 1 0 ≡ many + cond value 1 0
+      → many' ≡ count_of (set (bits_of words len) s value)
   counted_for was many' is counts =
       let c = count_set (bits_of words len) s value (omega (arith, length-bits_of words len)) in
       let d = marks.count in
@@ -158,7 +161,8 @@ module _ (words : List ℕ) (len many from s v : ℕ) (value : Bool) (marks : Ar
   pub set_fits : many + bool_byte value ≤ 2 ^ 40 + 1
   set_fits = rw byte_is (let h : cond value 1 0 ≤ 1 = byte_small value in omega (arith, h, marks.count, count_le (bits_of words len), length-bits_of words len, marks.bound))
 
-  pub set_marks : (was : Bool) (many' from' : ℕ) → was ≡ get_or (bits_of words len) s false → many' ≡ many + bool_byte value - bool_byte was → from' ≤ from → (value ≡ true → from' ≤ s) → AreMarks (set words (s / 64) v) len many' from'
+  pub set_marks : (was : Bool) (many' from' : ℕ) → was ≡ get_or (bits_of words len) s false → many' ≡ many + bool_byte value - bool_byte was → from' ≤ from
+      → (value ≡ true → from' ≤ s) → AreMarks (set words (s / 64) v) len many' from'
   set_marks was many' from' is counts fewer low = record {
     bound = marks.bound;
     room = omega (arith, marks.room, length-set words (s / 64) v);
@@ -177,7 +181,8 @@ clear_word words len s k none whole le lt = elim (cases_lt k len) [
 ]
 
 -- the marks below a place and at it
-pub clear_more : (marks : List Bool) (at n k : ℕ) → at ≤ k → IsClear marks at (k - at) → ((s : ℕ) → k ≤ s → s < k + n → is_loose marks s ≡ false) → IsClear marks at (k + n - at)
+pub clear_more : (marks : List Bool) (at n k : ℕ) → at ≤ k → IsClear marks at (k - at) → ((s : ℕ) → k ≤ s → s < k + n → is_loose marks s ≡ false)
+    → IsClear marks at (k + n - at)
 clear_more marks at n k le clear more = λ s low high. elim (cases_lt s k) [
   | inl below ↦ clear s low (omega arith)
   | inr past ↦ more s past (omega arith)
@@ -213,7 +218,8 @@ module _ (marks : List Bool) (at n : ℕ) (value : Bool) (fits : at + n ≤ leng
       ∙ get_or-append_right (take at marks) (replicate n value) at s false front_each low ∙ get_or-replicate n (s - at) value false (omega arith)
 
 -- one more
-pub each_more : (marks : List Bool) (at n : ℕ) (value : Bool) → at + n < length marks → set (with_each marks at n value) (at + n) value ≡ with_each marks at (n + 1) value
+pub each_more : (marks : List Bool) (at n : ℕ) (value : Bool) → at + n < length marks
+    → set (with_each marks at n value) (at + n) value ≡ with_each marks at (n + 1) value
 each_more marks at n value fits =
     let long = length-with_each marks at n value (omega arith) in
     let longer = length-with_each marks at (n + 1) value (omega arith) in
@@ -229,7 +235,8 @@ each_more marks at n value fits =
     ])
 
 -- none below the end of a run is set that was cleared, where none was set below its begin
-pub clear_through : (marks : List Bool) (at n from to : ℕ) → at + n ≤ length marks → IsClear (with_each marks at n false) 0 from → at ≤ from → to ≤ from ⊎ (to ≤ at + n) → IsClear (with_each marks at n false) 0 to
+pub clear_through : (marks : List Bool) (at n from to : ℕ) → at + n ≤ length marks → IsClear (with_each marks at n false) 0 from → at ≤ from
+    → to ≤ from ⊎ (to ≤ at + n) → IsClear (with_each marks at n false) 0 to
 clear_through marks at n from to fits clear le which = λ s low high. elim (cases_lt s from) [
   | inl below ↦ clear s low (omega arith)
   | inr past ↦ with_each_inside marks at n false fits s (omega arith) (elim which [ inl fewer ↦ absurd (omega arith) | inr within ↦ omega arith ])
@@ -241,7 +248,8 @@ clear_front marks from at below between = λ s low high. elim (cases_lt s from) 
   | inr past ↦ between s past (omega arith)
 ]
 
-pub marks_from : (words : List ℕ) (len many from at : ℕ) → AreMarks words len many from → at ≤ len → IsClear (bits_of words len) 0 at → AreMarks words len many at
+pub marks_from : (words : List ℕ) (len many from at : ℕ) → AreMarks words len many from → at ≤ len → IsClear (bits_of words len) 0 at
+    → AreMarks words len many at
 marks_from words len many from at marks within clear = record { bound = marks.bound; room = marks.room; low = within; count = marks.count; lowest = clear }
 
 pub none_through : (marks : List Bool) → IsClear marks 0 (length marks) → count_of marks ≡ 0

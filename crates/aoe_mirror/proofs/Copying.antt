@@ -26,7 +26,8 @@ Touched at n a c = (b : Contents) × Beside at n a b × Calms b c
 abbrev Put : ℕ → List ℕ → Contents → Contents → Type 0
 Put at piece a c = (b : Contents) × Puts at piece a b × Settles b c
 
-module _ (sectors at n : ℕ) (settled : Bool) (stale : List Bool) (run : IsFirstRun stale at n) (p q : Contents × Contents) (fit : Fit sectors stale p) (agree : Agree settled stale p) (lead : q.0 ≡ p.0) where
+module _ (sectors at n : ℕ) (settled : Bool) (stale : List Bool) (run : IsFirstRun stale at n) (p q : Contents × Contents) (fit : Fit sectors stale p)
+    (agree : Agree settled stale p) (lead : q.0 ≡ p.0) where
   outside_run : (s : ℕ) → is_loose stale s ≡ false → IsOutside at n s
   outside_run s off = elim (cases_range at n s) [
     | inl out ↦ out
@@ -133,7 +134,8 @@ module _ (sectors at n : ℕ) (settled : Bool) (stale : List Bool) (run : IsFirs
 
 -- THE DISKS
 
-module _ (old : Pair) (m : IsMirror old) (at n : ℕ) (run : IsFirstRun old.stale at n) (lead follower : DiskState) (l : Later old.lead lead) (same : lead.contents ≡ old.lead.contents) (f : Later old.follower follower) where
+module _ (old : Pair) (m : IsMirror old) (at n : ℕ) (run : IsFirstRun old.stale at n) (lead follower : DiskState) (l : Later old.lead lead)
+    (same : lead.contents ≡ old.lead.contents) (f : Later old.follower follower) where
   told_lead : BothTell (λ (a b : Contents). b ≡ a) old.lead.contents lead.contents
   told_lead = rw same (told_same old.lead.contents)
 
@@ -151,7 +153,8 @@ module _ (old : Pair) (m : IsMirror old) (at n : ℕ) (run : IsFirstRun old.stal
       agree = agree;
     }
 
-    copies_by : (failed : Bool) → IfSome (both lead.contents follower.contents) (Agree old.settled stale) → BothTell Calms (shown old).contents (shown copied).contents
+    copies_by : (failed : Bool) → IfSome (both lead.contents follower.contents) (Agree old.settled stale)
+        → BothTell Calms (shown old).contents (shown copied).contents
         → (failed ≡ true → (stale ≡ old.stale) × (Rose (shown old).faults (shown copied).faults × (LeadFailed old copied ⊎ FollowerFailed old copied)))
         → (failed ≡ false → stale ≡ with_each old.stale at n false) → Copies failed old copied
     copies_by failed agree calm why done = record {
@@ -167,7 +170,9 @@ module _ (old : Pair) (m : IsMirror old) (at n : ℕ) (run : IsFirstRun old.stal
 
   -- the run is stale still
 
-  touched_copies : BothTell (Touched at n) old.follower.contents follower.contents → Rose (shown old).faults (shown (copied old.stale refl)).faults × (LeadFailed old (copied old.stale refl) ⊎ FollowerFailed old (copied old.stale refl)) → Copies true old (copied old.stale refl)
+  touched_copies : BothTell (Touched at n) old.follower.contents follower.contents
+      → Rose (shown old).faults (shown (copied old.stale refl)).faults × (LeadFailed old (copied old.stale refl) ⊎ FollowerFailed old (copied old.stale refl))
+      → Copies true old (copied old.stale refl)
   touched_copies told why =
       let pairs = told_both (λ (a b : Contents). b ≡ a) (Touched at n) old.lead.contents lead.contents old.follower.contents follower.contents told_lead told in
       copies_by old.stale refl true
@@ -179,7 +184,8 @@ module _ (old : Pair) (m : IsMirror old) (at n : ℕ) (run : IsFirstRun old.stal
 
   -- the run is stale no more
 
-  put_copies : (piece : List ℕ) → length piece ≡ 512 * n → IfSome old.lead.contents (λ (c : Contents). piece ≡ take (512 * n) (drop (512 * at) c.bytes)) → BothTell (Put at piece) old.follower.contents follower.contents
+  put_copies : (piece : List ℕ) → length piece ≡ 512 * n → IfSome old.lead.contents (λ (c : Contents). piece ≡ take (512 * n) (drop (512 * at) c.bytes))
+      → BothTell (Put at piece) old.follower.contents follower.contents
       → Copies false old (copied (with_each old.stale at n false) (length-with_each old.stale at n false run.within))
   put_copies piece whole given told =
       let pairs = told_both (λ (a b : Contents). b ≡ a) (Put at piece) old.lead.contents lead.contents old.follower.contents follower.contents told_lead told in
@@ -208,7 +214,8 @@ module _ (old : Pair) (m : IsMirror old) where
     cause = λ e. cc;
   }
 
-module _ {T : Type 0} (old : Pair) (m : IsMirror old) (at n : ℕ) (run : IsFirstRun old.stale at n) (result : Result T ℕ) (mid : Pair) (c : CopiesRun at (512 * n) result old mid) where
+module _ {T : Type 0} (old : Pair) (m : IsMirror old) (at n : ℕ) (run : IsFirstRun old.stale at n) (result : Result T ℕ) (mid : Pair)
+    (c : CopiesRun at (512 * n) result old mid) where
   lead_later : Later old.lead c.looked
   lead_later = record { disk = c.read.call.after; sectors = c.read.call.sectors; later = c.read.call.later }
 
@@ -218,7 +225,8 @@ module _ {T : Type 0} (old : Pair) (m : IsMirror old) (at n : ℕ) (run : IsFirs
   piece_range : IsRange at (length c.piece) old.lead.sectors
   piece_range = record { some = omega (arith, run.some, c.size); whole = omega (arith, c.size); within = omega (arith, c.size, run.within, m.marks) }
 
-  beside_written : (r : Answer) (written : DiskState) → WritesTo at c.piece r old.follower written → BothTell (Beside at n) old.follower.contents written.contents
+  beside_written : (r : Answer) (written : DiskState) → WritesTo at c.piece r old.follower written
+      → BothTell (Beside at n) old.follower.contents written.contents
   beside_written r written w = told_with (Writes at c.piece r) (Beside at n) (HasShape old.lead.sectors) old.follower.contents written.contents w.contents (rw m.size at m.follower.shape)
       (λ a b shape t. rw count at (beside_by at c.piece r a b old.lead.sectors shape piece_range t))
 
@@ -234,7 +242,8 @@ module _ {T : Type 0} (old : Pair) (m : IsMirror old) (at n : ℕ) (run : IsFirs
 
   -- the follower wasn't written, or not synced
 
-  module _ (follower : DiskState) (f : Later old.follower follower) (told : BothTell (Touched at n) old.follower.contents follower.contents) (fell : Rose old.follower.faults follower.faults) where
+  module _ (follower : DiskState) (f : Later old.follower follower) (told : BothTell (Touched at n) old.follower.contents follower.contents)
+      (fell : Rose old.follower.faults follower.faults) where
     unwritten_failed : FollowerFailed old (record old { lead = c.looked; follower = follower })
     unwritten_failed = follower_same old (record old { lead = c.looked; follower = follower }) m.mark.side refl fell
 
@@ -242,13 +251,16 @@ module _ {T : Type 0} (old : Pair) (m : IsMirror old) (at n : ℕ) (run : IsFirs
     unwritten_copies = touched_copies old m at n run c.looked follower lead_later c.read.same f told
         (rose_part old.follower.faults follower.faults (shown old).faults (shown (record old { lead = c.looked; follower = follower })).faults fell (omega arith) (omega (arith, lead_later.later)), inr unwritten_failed)
 
-  synced_later : (w : WritesCopy at c.piece result (record old { lead = c.looked }) mid) (reply : Answer) → SyncsTo reply w.written mid.follower → Later old.follower mid.follower
+  synced_later : (w : WritesCopy at c.piece result (record old { lead = c.looked }) mid) (reply : Answer) → SyncsTo reply w.written mid.follower
+      → Later old.follower mid.follower
   synced_later w reply s = record { disk = s.call.after; sectors = s.call.sectors ∙ w.write.call.sectors; later = omega (arith, s.call.later, w.write.call.later) }
 
-  synced_touched : (w : WritesCopy at c.piece result (record old { lead = c.looked }) mid) (reply : Answer) → SyncsTo reply w.written mid.follower → BothTell (Touched at n) old.follower.contents mid.follower.contents
+  synced_touched : (w : WritesCopy at c.piece result (record old { lead = c.looked }) mid) (reply : Answer) → SyncsTo reply w.written mid.follower
+      → BothTell (Touched at n) old.follower.contents mid.follower.contents
   synced_touched w reply s = told_then (Beside at n) (Syncs reply) (Touched at n) old.follower.contents w.written.contents mid.follower.contents (beside_written w.answer w.written w.write) s.contents (λ x y z t u. (y, t, calm_by reply y z u))
 
-  synced_fell : (w : WritesCopy at c.piece result (record old { lead = c.looked }) mid) (reply : Answer) → SyncsTo reply w.written mid.follower → is_err reply ≡ true → Rose old.follower.faults mid.follower.faults
+  synced_fell : (w : WritesCopy at c.piece result (record old { lead = c.looked }) mid) (reply : Answer) → SyncsTo reply w.written mid.follower
+      → is_err reply ≡ true → Rose old.follower.faults mid.follower.faults
   synced_fell w reply s bad = rose_from old.follower.faults w.written.faults mid.follower.faults w.write.call.later s.call.later (OnTrue_at bad s.call.cause)
 
   write_touched : (w : WritesCopy at c.piece result (record old { lead = c.looked }) mid) → BothTell (Touched at n) old.follower.contents w.written.contents
@@ -286,7 +298,8 @@ module _ {T : Type 0} (old : Pair) (m : IsMirror old) (at n : ℕ) (run : IsFirs
     | inr ok ↦ ok_blames result ok
   ]
 
-  put_told : (w : WritesCopy at c.piece result (record old { lead = c.looked }) mid) (reply : Answer) → is_err w.answer ≡ false → is_err reply ≡ false → SyncsTo reply w.written mid.follower → BothTell (Put at c.piece) old.follower.contents mid.follower.contents
+  put_told : (w : WritesCopy at c.piece result (record old { lead = c.looked }) mid) (reply : Answer) → is_err w.answer ≡ false → is_err reply ≡ false
+      → SyncsTo reply w.written mid.follower → BothTell (Put at c.piece) old.follower.contents mid.follower.contents
   put_told w reply ok done s = told_then (Writes at c.piece w.answer) (Syncs reply) (Put at c.piece) old.follower.contents w.written.contents mid.follower.contents w.write.contents s.contents (λ x y z t u. (y, put_by at c.piece w.answer x y ok t, settled_by reply y z done u))
 
   pub done_copies : is_err result ≡ false → Copies false old (record mid { stale = with_each mid.stale at n false })

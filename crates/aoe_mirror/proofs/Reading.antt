@@ -32,13 +32,15 @@ given_for : {T E : Type 0} {P : Type 0} (r : Result T E) → (is_err r ≡ false
 given_for (Ok v) h = h refl
 given_for (Err e) h = tt
 
-from_lead : (P : Contents → Type 0) (Q : Contents → Type 0) (stale : List Bool) (H : Contents × Contents → Type 0) (x y : Option Contents) → IfSome x P → IfSome (both x y) H → ((p : Contents × Contents) → H p → P p.0 → Q (seen stale p)) → IfSome (option_map (seen stale) (both x y)) Q
+from_lead : (P : Contents → Type 0) (Q : Contents → Type 0) (stale : List Bool) (H : Contents × Contents → Type 0) (x y : Option Contents) → IfSome x P
+    → IfSome (both x y) H → ((p : Contents × Contents) → H p → P p.0 → Q (seen stale p)) → IfSome (option_map (seen stale) (both x y)) Q
 from_lead P Q stale H None None p h k = tt
 from_lead P Q stale H None (Some b) p h k = tt
 from_lead P Q stale H (Some a) None p h k = tt
 from_lead P Q stale H (Some a) (Some b) p h k = k (a, b) h p
 
-from_follower : (P : Contents → Type 0) (Q : Contents → Type 0) (stale : List Bool) (H : Contents × Contents → Type 0) (x y : Option Contents) → IfSome y P → IfSome (both x y) H → ((p : Contents × Contents) → H p → P p.1 → Q (seen stale p)) → IfSome (option_map (seen stale) (both x y)) Q
+from_follower : (P : Contents → Type 0) (Q : Contents → Type 0) (stale : List Bool) (H : Contents × Contents → Type 0) (x y : Option Contents) → IfSome y P
+    → IfSome (both x y) H → ((p : Contents × Contents) → H p → P p.1 → Q (seen stale p)) → IfSome (option_map (seen stale) (both x y)) Q
 from_follower P Q stale H None None p h k = tt
 from_follower P Q stale H None (Some b) p h k = tt
 from_follower P Q stale H (Some a) None p h k = tt
@@ -62,7 +64,8 @@ module _ (at n : ℕ) (out : List ℕ) (old : Pair) (m : IsMirror old) where
     after_same : (shown after).contents ≡ (shown old).contents
     after_same = rw (l.same, f.same) refl
 
-    read_by : {T E : Type 0} (result : Result T E) → (is_err result ≡ false → IfSome (shown old).contents (Gave at n out)) → (is_err result ≡ true → Rose (shown old).faults (shown after).faults × ReadCause at (n / 512) old after) → MirrorReads at n result out old after
+    read_by : {T E : Type 0} (result : Result T E) → (is_err result ≡ false → IfSome (shown old).contents (Gave at n out))
+        → (is_err result ≡ true → Rose (shown old).faults (shown after).faults × ReadCause at (n / 512) old after) → MirrorReads at n result out old after
     read_by result given why = record {
       mirror = after_mirror;
       reads = record {
@@ -77,13 +80,15 @@ module _ (at n : ℕ) (out : List ℕ) (old : Pair) (m : IsMirror old) where
     }
 
   -- the lead gave it
-  pub lead_reads : {T E : Type 0} (result : Result T E) (r : Answer) (lead : DiskState) → is_err result ≡ false → is_err r ≡ false → Reads at n r out old.lead lead → MirrorReads at n result out old (record old { lead = lead })
+  pub lead_reads : {T E : Type 0} (result : Result T E) (r : Answer) (lead : DiskState) → is_err result ≡ false → is_err r ≡ false
+      → Reads at n r out old.lead lead → MirrorReads at n result out old (record old { lead = lead })
   lead_reads result r lead done ok reads =
       read_by lead old.follower (looked at n r out old.lead lead reads) (record { disk = m.follower; sectors = refl; same = refl; later = omega arith }) result
       (λ _. from_lead (Gave at n out) (Gave at n out) old.stale (Holds old) old.lead.contents old.follower.contents (ok_given r ok reads.given) (holds_of old m) (λ p h g. g))
       (λ bad. absurd (both_ways (is_err result) done bad))
 
-  module _ (range : IsRange at n old.lead.sectors) {T E : Type 0} (result : Result T E) (r : Answer) (some : List ℕ) (lead : DiskState) (bad : is_err r ≡ true) (reads : Reads at n r some old.lead lead) where
+  module _ (range : IsRange at n old.lead.sectors) {T E : Type 0} (result : Result T E) (r : Answer) (some : List ℕ) (lead : DiskState) (bad : is_err r ≡ true)
+      (reads : Reads at n r some old.lead lead) where
     l : Looked old.lead lead
     l = looked at n r some old.lead lead reads
 
@@ -98,14 +103,16 @@ module _ (at n : ℕ) (out : List ℕ) (old : Pair) (m : IsMirror old) where
         (λ _. (rose_part old.lead.faults lead.faults (shown old).faults (shown (record old { lead = lead })).faults rose (omega arith) (omega arith), record { lead = lead_same old (record old { lead = lead }) refl rose; follower = inl stale }))
 
     -- the follower is read
-    follower_reads : (follower : DiskState) → IsClear old.stale at (n / 512) → Reads at n result out old.follower follower → MirrorReads at n result out old (record old { lead = lead; follower = follower })
+    follower_reads : (follower : DiskState) → IsClear old.stale at (n / 512) → Reads at n result out old.follower follower
+        → MirrorReads at n result out old (record old { lead = lead; follower = follower })
     follower_reads follower clear f =
         let both_read : Pair = record old { lead = lead; follower = follower } in
         read_by lead follower l (looked at n result out old.follower follower f) result
         (λ done. from_follower (Gave at n out) (Gave at n out) old.stale (Holds old) old.lead.contents old.follower.contents (ok_given result done f.given) (holds_of old m) (λ p h g. g ∙ same_range p h.1 clear))
         (λ failed. (rose_part old.lead.faults lead.faults (shown old).faults (shown both_read).faults rose (omega arith) (omega (arith, f.call.later)), record { lead = lead_same old both_read refl rose; follower = inr (follower_same old both_read m.mark.side refl (OnTrue_at failed f.call.cause)) }))
       where
-        same_range : (p : Contents × Contents) → Agree old.settled old.stale p → IsClear old.stale at (n / 512) → take n (drop (512 * at) p.1.bytes) ≡ take n (drop (512 * at) p.0.bytes)
+        same_range : (p : Contents × Contents) → Agree old.settled old.stale p → IsClear old.stale at (n / 512)
+            → take n (drop (512 * at) p.1.bytes) ≡ take n (drop (512 * at) p.0.bytes)
         same_range p agree none =
             let whole : 512 * (n / 512) ≡ n = range.whole in
             let e = range_same (n / 512) at p.1.bytes p.0.bytes (λ s low high. agree.same s (none s low high)) in

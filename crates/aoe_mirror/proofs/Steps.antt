@@ -61,14 +61,18 @@ follower_moved old new e rose = rw (eq-eqb (1 - old.side) new.side (sym e)) rose
 
 -- A MIRROR AS A STORE
 
-module _ (old new : Pair) (mold : IsMirror old) (mnew : IsMirror new) (sectors : new.lead.sectors ≡ old.lead.sectors) (later : (shown old).faults ≤ (shown new).faults) where
-  pub run_shown : (failed : Bool) → is_some (shown new).contents ≡ is_some (shown old).contents → (failed ≡ true → Rose (shown old).faults (shown new).faults) → IsRun 1 failed (shown old) (shown new)
+module _ (old new : Pair) (mold : IsMirror old) (mnew : IsMirror new) (sectors : new.lead.sectors ≡ old.lead.sectors)
+    (later : (shown old).faults ≤ (shown new).faults) where
+  pub run_shown : (failed : Bool) → is_some (shown new).contents ≡ is_some (shown old).contents → (failed ≡ true → Rose (shown old).faults (shown new).faults)
+      → IsRun 1 failed (shown old) (shown new)
   run_shown failed tells cause = record { before = shown_disk old mold; after = shown_disk new mnew; sectors = sectors; tells = tells; later = later; cause = OnTrue_from failed _ cause; schedule = tt }
 
-  pub stored : {T E : Type 0} (at : ℕ) (piece : List ℕ) (result : Result T E) → BothTell (Stores at piece result) (shown old).contents (shown new).contents → (is_err result ≡ true → Rose (shown old).faults (shown new).faults) → StoresTo at piece result (shown old) (shown new)
+  pub stored : {T E : Type 0} (at : ℕ) (piece : List ℕ) (result : Result T E) → BothTell (Stores at piece result) (shown old).contents (shown new).contents
+      → (is_err result ≡ true → Rose (shown old).faults (shown new).faults) → StoresTo at piece result (shown old) (shown new)
   stored at piece result told cause = record { call = run_shown (is_err result) (told_tells (Stores at piece result) (shown old).contents (shown new).contents told) cause; contents = told; log = refl }
 
-  pub synced : {T E : Type 0} (result : Result T E) → BothTell (Syncs result) (shown old).contents (shown new).contents → (is_err result ≡ true → Rose (shown old).faults (shown new).faults) → SyncsTo result (shown old) (shown new)
+  pub synced : {T E : Type 0} (result : Result T E) → BothTell (Syncs result) (shown old).contents (shown new).contents
+      → (is_err result ≡ true → Rose (shown old).faults (shown new).faults) → SyncsTo result (shown old) (shown new)
   synced result told cause = record { call = run_shown (is_err result) (told_tells (Syncs result) (shown old).contents (shown new).contents told) cause; contents = told; log = refl }
 
 -- SETTLING
@@ -88,7 +92,8 @@ settled_mirror failed old new m s =
 pub settled_shown : (failed : Bool) (old new : Pair) → SettlesLead failed old new → (shown new).contents ≡ (shown old).contents
 settled_shown failed old new s = ap (λ (p : Pair). (shown p).contents) s.is
 
-pub settled_faults : (failed : Bool) (old new : Pair) → SettlesLead failed old new → (shown new).faults ≡ old.lead.faults + old.follower.faults + new.mark.faults
+pub settled_faults : (failed : Bool) (old new : Pair) → SettlesLead failed old new
+    → (shown new).faults ≡ old.lead.faults + old.follower.faults + new.mark.faults
 settled_faults failed old new s = ap (λ (p : Pair). (shown p).faults) s.is
 
 pub settled_sectors : (failed : Bool) (old new : Pair) → SettlesLead failed old new → new.lead.sectors ≡ old.lead.sectors
@@ -102,7 +107,8 @@ settled_stale failed old new s = ap (λ (p : Pair). p.stale) s.is
 
 -- EITHER SIDE CAN LEAD WHERE NOTHING IS STALE
 
-map_turned : {A B : Type 0} (H : A → Type 0) (g : A → B) (f : A → A) (x : Option A) → IfSome x H → ((a : A) → H a → g (f a) ≡ g a) → option_map g (option_map f x) ≡ option_map g x
+map_turned : {A B : Type 0} (H : A → Type 0) (g : A → B) (f : A → A) (x : Option A) → IfSome x H → ((a : A) → H a → g (f a) ≡ g a)
+    → option_map g (option_map f x) ≡ option_map g x
 map_turned H g f None h same = refl
 map_turned H g f (Some a) h same = ap Some (same a h)
 
@@ -126,7 +132,8 @@ shown_if p m = map_if (Fit p.lead.sectors p.stale) (λ (c : Contents). HasShape 
 
 -- NO COUNT FALLS
 
-pub counts_same : (old new : Pair) → new.side ≡ old.side → old.lead.faults ≤ new.lead.faults → old.follower.faults ≤ new.follower.faults → old.mark.faults ≤ new.mark.faults → Counts old new
+pub counts_same : (old new : Pair) → new.side ≡ old.side → old.lead.faults ≤ new.lead.faults → old.follower.faults ≤ new.follower.faults
+    → old.mark.faults ≤ new.mark.faults → Counts old new
 counts_same old new e lead follower mark = λ k le. elim (cases_eq k 2) [
   | inl is ↦ rw (eq-eqb k 2 is) mark
   | inr other ↦ rw (ne_eqb k 2 other) (elim (cases_eq k old.side) [
@@ -135,7 +142,8 @@ counts_same old new e lead follower mark = λ k le. elim (cases_eq k 2) [
   ])
 ]
 
-pub counts_moved : (old new : Pair) → old.side ≤ 1 → new.side ≡ 1 - old.side → old.lead.faults ≤ new.follower.faults → old.follower.faults ≤ new.lead.faults → old.mark.faults ≤ new.mark.faults → Counts old new
+pub counts_moved : (old new : Pair) → old.side ≤ 1 → new.side ≡ 1 - old.side → old.lead.faults ≤ new.follower.faults → old.follower.faults ≤ new.lead.faults
+    → old.mark.faults ≤ new.mark.faults → Counts old new
 counts_moved old new one e lead follower mark = λ k le. elim (cases_eq k 2) [
   | inl is ↦ rw (eq-eqb k 2 is) mark
   | inr other ↦ rw (ne_eqb k 2 other) (elim (cases_eq k old.side) [
@@ -154,11 +162,13 @@ settled_counts failed old new s = counts_same old new (settled_side failed old n
 pub lead_later : (old mid new : Pair) → old.side ≤ 1 → Counts mid new → LeadFailed old mid → LeadFailed old new
 lead_later old mid new le counts failed = λ low.
     let more : old.lead.faults < (side_of mid old.side).faults = failed low in
-    let h : (side_of mid old.side).faults ≤ (side_of new old.side).faults = rw (ne_eqb old.side 2 (λ e. absurd (omega arith))) at (counts old.side (omega arith)) in
+    let h : (side_of mid old.side).faults ≤ (side_of new old.side).faults =
+    rw (ne_eqb old.side 2 (λ e. absurd (omega arith))) at (counts old.side (omega arith)) in
     omega arith
 
 pub follower_later : (old mid new : Pair) → old.side ≤ 1 → Counts mid new → FollowerFailed old mid → FollowerFailed old new
 follower_later old mid new le counts failed = λ low.
     let more : old.follower.faults < (side_of mid (1 - old.side)).faults = failed low in
-    let h : (side_of mid (1 - old.side)).faults ≤ (side_of new (1 - old.side)).faults = rw (ne_eqb (1 - old.side) 2 (λ e. absurd (omega arith))) at (counts (1 - old.side) (omega arith)) in
+    let h : (side_of mid (1 - old.side)).faults ≤ (side_of new (1 - old.side)).faults =
+    rw (ne_eqb (1 - old.side) 2 (λ e. absurd (omega arith))) at (counts (1 - old.side) (omega arith)) in
     omega arith

@@ -32,7 +32,8 @@ module _ (p : Pair) (m : IsMirror p) (sides : Contents × Contents) (mark : Cont
   agree : Agree p.settled p.stale sides
   agree = rw told at m.agree
 
-  parts : (s : ℕ) → is_loose (seen p.stale sides).loose s ≡ false → (is_loose sides.0.loose s ≡ false) × ((is_loose sides.1.loose s ≡ false) ⊎ (is_loose p.stale s ≡ true))
+  parts : (s : ℕ) → is_loose (seen p.stale sides).loose s ≡ false → (is_loose sides.0.loose s ≡ false)
+      × ((is_loose sides.1.loose s ≡ false) ⊎ (is_loose p.stale s ≡ true))
   parts s off = parts_in (is_loose sides.0.loose s) (is_loose sides.1.loose s) (is_loose p.stale s) (sym (seen_at p.lead.sectors p.stale sides s fit) ∙ off)
 
   from_lead : CanLeave (seen p.stale sides) one
@@ -80,7 +81,8 @@ agree_stale n settled sides is fit = record {
   unsettled = λ isnt s on. absurd (both_ways settled isnt is);
 }
 
-pub mounted_mirror : (lead follower mark : DiskState) (side : ℕ) (stale : List Bool) → IsDisk lead → IsDisk follower → IsDisk mark → follower.sectors ≡ lead.sectors → 0 < mark.sectors → side ≤ 1 → IfSome mark.contents (Names side) → stale ≡ replicate lead.sectors true
+pub mounted_mirror : (lead follower mark : DiskState) (side : ℕ) (stale : List Bool) → IsDisk lead → IsDisk follower → IsDisk mark
+    → follower.sectors ≡ lead.sectors → 0 < mark.sectors → side ≤ 1 → IfSome mark.contents (Names side) → stale ≡ replicate lead.sectors true
     → IsMirror (record { lead = lead; follower = follower; mark = mark; side = side; stale = stale; settled = true })
 mounted_mirror lead follower mark side stale dl df dm size room le names e =
     let shape : IfSome follower.contents (HasShape lead.sectors) = rw size at df.shape in

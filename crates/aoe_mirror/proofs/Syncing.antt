@@ -22,12 +22,15 @@ Quiet c = (s : ℕ) → is_loose c.loose s ≡ false
 
 -- A SYNC BY WHAT IT LEAVES
 
-pub sync_ok : {T E : Type 0} (result : Result T E) (old new : Pair) → IsMirror old → IsMirror new → is_err result ≡ false → BothTell Calms (shown old).contents (shown new).contents → IfSome (shown new).contents Quiet → BothTell (Syncs result) (shown old).contents (shown new).contents
+pub sync_ok : {T E : Type 0} (result : Result T E) (old new : Pair) → IsMirror old → IsMirror new → is_err result ≡ false
+    → BothTell Calms (shown old).contents (shown new).contents → IfSome (shown new).contents Quiet
+    → BothTell (Syncs result) (shown old).contents (shown new).contents
 sync_ok {T = T} {E = E} (Ok v) old new m n ok told quiet = told_ends Calms (Syncs {T = T} {E = E} (Ok v)) (λ (a : Contents). HasShape old.lead.sectors a × (a.settled ≡ None)) (λ (b : Contents). Quiet b × (HasShape new.lead.sectors b × (b.settled ≡ None))) (shown old).contents (shown new).contents told (shown_if old m)
     (and_if Quiet (λ (b : Contents). HasShape new.lead.sectors b × (b.settled ≡ None)) (shown new).contents quiet (shown_if new n)) (λ a b h k t. calm_settles a b h.1 k.1.1 t k.0)
 sync_ok (Err e) old new m n ok told quiet = cc
 
-pub sync_err : {T E : Type 0} (result : Result T E) (old new : Pair) → IsMirror old → IsMirror new → is_err result ≡ true → BothTell Calms (shown old).contents (shown new).contents → BothTell (Syncs result) (shown old).contents (shown new).contents
+pub sync_err : {T E : Type 0} (result : Result T E) (old new : Pair) → IsMirror old → IsMirror new → is_err result ≡ true
+    → BothTell Calms (shown old).contents (shown new).contents → BothTell (Syncs result) (shown old).contents (shown new).contents
 sync_err (Ok v) old new m n bad told = cc
 sync_err {T = T} {E = E} (Err e) old new m n bad told = told_ends Calms (Syncs {T = T} {E = E} (Err e)) (λ (a : Contents). HasShape old.lead.sectors a × (a.settled ≡ None)) (λ (b : Contents). HasShape new.lead.sectors b × (b.settled ≡ None)) (shown old).contents (shown new).contents told (shown_if old m) (shown_if new n) (λ a b h k t. calm_may a b h.1 k.1 t)
 
@@ -72,7 +75,8 @@ module _ (old : Pair) (m : IsMirror old) (settled : old.settled ≡ true) (lead 
   pub calmed_calm : BothTell Calms (shown old).contents (shown calmed).contents
   calmed_calm = told_map Calm Calms (Holds old) (seen old.stale) (seen stale) (both old.lead.contents old.follower.contents) (both lead.contents follower.contents) told_calm (holds_of old m) (λ p q h t. seen_calm old.lead.sectors old.stale stale p q h.0 t.0 t.1 grows)
 
-  pub calmed_quiet : IfSome lead.contents Quiet → (IfSome follower.contents Quiet ⊎ ((s : ℕ) → s < length stale → is_loose stale s ≡ true)) → IfSome (shown calmed).contents Quiet
+  pub calmed_quiet : IfSome lead.contents Quiet → (IfSome follower.contents Quiet ⊎ ((s : ℕ) → s < length stale → is_loose stale s ≡ true))
+      → IfSome (shown calmed).contents Quiet
   calmed_quiet quiet which = elim which [
     | inl other ↦ map_if (λ (q : Contents × Contents). Fit lead.sectors stale q × (Quiet q.0 × Quiet q.1)) Quiet (seen stale) (both lead.contents follower.contents)
         (and_if (Fit lead.sectors stale) (λ (q : Contents × Contents). Quiet q.0 × Quiet q.1) (both lead.contents follower.contents) (fit_of calmed calmed_mirror) (both_if Quiet Quiet lead.contents follower.contents quiet other))
@@ -106,7 +110,8 @@ newly_if : (b : Bool) (stale : List Bool) (s : ℕ) → is_loose stale s ≡ fal
 newly_if true stale s was now = refl
 newly_if false stale s was now = absurd (both_ways _ was now)
 
-all_if : (b : Bool) (stale : List Bool) → b ≡ true → (s : ℕ) → s < length (if b then replicate (length stale) true else stale) → is_loose (if b then replicate (length stale) true else stale) s ≡ true
+all_if : (b : Bool) (stale : List Bool) → b ≡ true → (s : ℕ) → s < length (if b then replicate (length stale) true else stale)
+    → is_loose (if b then replicate (length stale) true else stale) s ≡ true
 all_if true stale e s lt = get_or-replicate (length stale) s true false (omega (arith, length-replicate (length stale) true))
 all_if false stale e s lt = cc
 
@@ -179,10 +184,12 @@ module _ (old : Pair) (m : IsMirror old) (settled : old.settled ≡ true) (lead 
       cause = λ _. inl (stays_failed, stale);
     }
 
-    pub stays_syncs : {S T E : Type 0} (reply : Result S ℕ) (result : Result T E) (new : Pair) → StaysLead reply (record old { lead = lead }) new → is_err result ≡ true → MirrorSyncs result old new
+    pub stays_syncs : {S T E : Type 0} (reply : Result S ℕ) (result : Result T E) (new : Pair) → StaysLead reply (record old { lead = lead }) new
+        → is_err result ≡ true → MirrorSyncs result old new
     stays_syncs reply result new s failed = subst (MirrorSyncs result old) (sym s.is) (stays_by result failed s.stale)
 
-    pub stays_blames : {S : Type 0} (reply : Result S ℕ) (new : Pair) (k : ℕ) → StaysLead reply (record old { lead = lead }) new → k ≡ old.side → Blames (Some k) old new
+    pub stays_blames : {S : Type 0} (reply : Result S ℕ) (new : Pair) (k : ℕ) → StaysLead reply (record old { lead = lead }) new → k ≡ old.side
+        → Blames (Some k) old new
     stays_blames reply new k s is = subst (Blames (Some k) old) (sym s.is) (blame_lead old eased k m.mark.side is stays_failed)
 
     -- and the follower leads from then on
@@ -243,7 +250,8 @@ module _ (old : Pair) (m : IsMirror old) (settled : old.settled ≡ true) (lead 
         last_follower_failed : is_err x.answer ≡ true → FollowerFailed old last
         last_follower_failed failed = follower_moved old last mid_side (rw mid_lead at (OnTrue_at failed x.sync.call.cause))
 
-        last_syncs : {T E : Type 0} (result : Result T E) → (b : Bool) → is_err x.answer ≡ b → is_err result ≡ b → BothTell (Syncs result) (shown old).contents (shown last).contents
+        last_syncs : {T E : Type 0} (result : Result T E) → (b : Bool) → is_err x.answer ≡ b → is_err result ≡ b
+            → BothTell (Syncs result) (shown old).contents (shown last).contents
         last_syncs result true e is = sync_err result old last m last_mirror is last_calm
         last_syncs result false e is = sync_ok result old last m last_mirror is last_calm (last_quiet e)
 
@@ -288,7 +296,8 @@ module _ (old : Pair) (m : IsMirror old) (settled : old.settled ≡ true) (lead 
 
 -- A LEAD THAT WASN'T SETTLED
 
-same_syncs : {T E : Type 0} (result : Result T E) (old mid : Pair) → IsMirror old → IsMirror mid → is_err result ≡ true → (shown mid).contents ≡ (shown old).contents → BothTell (Syncs result) (shown old).contents (shown mid).contents
+same_syncs : {T E : Type 0} (result : Result T E) (old mid : Pair) → IsMirror old → IsMirror mid → is_err result ≡ true
+    → (shown mid).contents ≡ (shown old).contents → BothTell (Syncs result) (shown old).contents (shown mid).contents
 same_syncs result old mid m n bad e = sync_err result old mid m n bad (rw e (told_mono (λ (x y : Contents). y ≡ x) Calms (shown old).contents (shown old).contents (told_same (shown old).contents) (λ x y q. rw q (calm_refl x))))
 
 pub unsettled_syncs : {T E : Type 0} (e : E) (old mid : Pair) (m : IsMirror old) → SettlesLead true old mid → MirrorSyncs {T = T} {E = E} (Err e) old mid
@@ -304,7 +313,8 @@ unsettled_syncs {T = T} {E = E} e old mid m s =
       cause = λ _. inr (inr (s.cause refl));
     }
 
-pub settled_syncs : {T E : Type 0} (result : Result T E) (old mid new : Pair) (m : IsMirror old) → SettlesLead false old mid → MirrorSyncs result mid new → MirrorSyncs result old new
+pub settled_syncs : {T E : Type 0} (result : Result T E) (old mid new : Pair) (m : IsMirror old) → SettlesLead false old mid → MirrorSyncs result mid new
+    → MirrorSyncs result old new
 settled_syncs result old mid new m s syncs =
     let w : MirrorSyncs result (record old { mark = mid.mark; settled = mid.settled }) new = subst (λ (p : Pair). MirrorSyncs result p new) s.is syncs in
     let mark : MarkFailed mid new → MarkFailed old new = rose_from old.mark.faults mid.mark.faults new.mark.faults s.mark.later w.keeps.later in
@@ -344,7 +354,8 @@ stale_before false mid new c s off = elim (c.done refl) [
   ])
 ]
 
-pub copied_syncs : {T E S F : Type 0} (v : T) (w : S) (failed : Bool) (old mid new : Pair) (m : IsMirror old) → MirrorSyncs {T = S} {E = F} (Ok w) old mid → Copies failed mid new → MirrorSyncs {T = T} {E = E} (Ok v) old new
+pub copied_syncs : {T E S F : Type 0} (v : T) (w : S) (failed : Bool) (old mid new : Pair) (m : IsMirror old) → MirrorSyncs {T = S} {E = F} (Ok w) old mid
+    → Copies failed mid new → MirrorSyncs {T = T} {E = E} (Ok v) old new
 copied_syncs {T = T} {E = E} {S = S} {F = F} v w failed old mid new m s c =
     let later : (shown old).faults ≤ (shown new).faults = let a = s.syncs.call.later in let b = c.run.later in omega arith in
     let calm : BothTell Calms (shown old).contents (shown new).contents = told_then Calms Calms Calms (shown old).contents (shown mid).contents (shown new).contents
@@ -382,6 +393,7 @@ err_syncs {T = T} {E = E} {S = S} {F = F} d e old new s = record {
 }
 
 -- the disk that is told of a sync and of the copy behind it
-pub told_blames : {T : Type 0} (q : Result T ℕ) (x : Option ℕ) (mid new : Pair) → IsErrAnd q (λ d. x ≡ Some d) → IfErr q (λ k. Blames (Some k) mid new) → Blames x mid new
+pub told_blames : {T : Type 0} (q : Result T ℕ) (x : Option ℕ) (mid new : Pair) → IsErrAnd q (λ d. x ≡ Some d) → IfErr q (λ k. Blames (Some k) mid new)
+    → Blames x mid new
 told_blames (Ok v) x mid new is b = absurd is
 told_blames (Err k) x mid new is b = rw is b

@@ -13,7 +13,8 @@ told_mono R S None (Some b) t f = absurd t
 told_mono R S (Some a) None t f = absurd t
 told_mono R S (Some a) (Some b) t f = f a b t
 
-pub told_both : {A : Type 0} (R S : A → A → Type 0) (x x' y y' : Option A) → BothTell R x x' → BothTell S y y' → BothTell (λ (p : A × A) (q : A × A). R p.0 q.0 × S p.1 q.1) (both x y) (both x' y')
+pub told_both : {A : Type 0} (R S : A → A → Type 0) (x x' y y' : Option A) → BothTell R x x' → BothTell S y y'
+    → BothTell (λ (p : A × A) (q : A × A). R p.0 q.0 × S p.1 q.1) (both x y) (both x' y')
 told_both R S None None None None t u = tt
 told_both R S None None None (Some d) t u = absurd u
 told_both R S None None (Some c) None t u = absurd u
@@ -25,13 +26,15 @@ told_both R S (Some a) (Some b) None (Some d) t u = absurd u
 told_both R S (Some a) (Some b) (Some c) None t u = absurd u
 told_both R S (Some a) (Some b) (Some c) (Some d) t u = (t, u)
 
-pub told_map : {A B : Type 0} (R : A → A → Type 0) (S : B → B → Type 0) (H : A → Type 0) (f g : A → B) (x y : Option A) → BothTell R x y → IfSome x H → ((a b : A) → H a → R a b → S (f a) (g b)) → BothTell S (option_map f x) (option_map g y)
+pub told_map : {A B : Type 0} (R : A → A → Type 0) (S : B → B → Type 0) (H : A → Type 0) (f g : A → B) (x y : Option A) → BothTell R x y → IfSome x H
+    → ((a b : A) → H a → R a b → S (f a) (g b)) → BothTell S (option_map f x) (option_map g y)
 told_map R S H f g None None t h k = tt
 told_map R S H f g None (Some b) t h k = absurd t
 told_map R S H f g (Some a) None t h k = absurd t
 told_map R S H f g (Some a) (Some b) t h k = k a b h t
 
-pub told_if : {A B : Type 0} (R : A → B → Type 0) (H : A → Type 0) (K : B → Type 0) (x : Option A) (y : Option B) → BothTell R x y → IfSome x H → ((a : A) (b : B) → H a → R a b → K b) → IfSome y K
+pub told_if : {A B : Type 0} (R : A → B → Type 0) (H : A → Type 0) (K : B → Type 0) (x : Option A) (y : Option B) → BothTell R x y → IfSome x H
+    → ((a : A) (b : B) → H a → R a b → K b) → IfSome y K
 told_if R H K None None t h k = tt
 told_if R H K None (Some b) t h k = absurd t
 told_if R H K (Some a) None t h k = tt
@@ -44,7 +47,8 @@ told_tells R (Some a) None t = absurd t
 told_tells R (Some a) (Some b) t = refl
 
 -- one relation after another
-pub told_then : {A : Type 0} (R S T : A → A → Type 0) (x y z : Option A) → BothTell R x y → BothTell S y z → ((a b c : A) → R a b → S b c → T a c) → BothTell T x z
+pub told_then : {A : Type 0} (R S T : A → A → Type 0) (x y z : Option A) → BothTell R x y → BothTell S y z → ((a b c : A) → R a b → S b c → T a c)
+    → BothTell T x z
 told_then R S T None None None t u k = tt
 told_then R S T None None (Some c) t u k = absurd u
 told_then R S T None (Some b) z t u k = absurd t
@@ -73,7 +77,8 @@ both_swap None (Some b) = refl
 both_swap (Some a) None = refl
 both_swap (Some a) (Some b) = refl
 
-pub told_with : {A B : Type 0} (R S : A → B → Type 0) (H : A → Type 0) (x : Option A) (y : Option B) → BothTell R x y → IfSome x H → ((a : A) (b : B) → H a → R a b → S a b) → BothTell S x y
+pub told_with : {A B : Type 0} (R S : A → B → Type 0) (H : A → Type 0) (x : Option A) (y : Option B) → BothTell R x y → IfSome x H
+    → ((a : A) (b : B) → H a → R a b → S a b) → BothTell S x y
 told_with R S H None None t h f = tt
 told_with R S H None (Some b) t h f = absurd t
 told_with R S H (Some a) None t h f = absurd t
@@ -84,7 +89,8 @@ map_if H K f None h k = tt
 map_if H K f (Some a) h k = k a h
 
 -- with what is known of both ends
-pub told_ends : {A B : Type 0} (R S : A → B → Type 0) (H : A → Type 0) (K : B → Type 0) (x : Option A) (y : Option B) → BothTell R x y → IfSome x H → IfSome y K → ((a : A) (b : B) → H a → K b → R a b → S a b) → BothTell S x y
+pub told_ends : {A B : Type 0} (R S : A → B → Type 0) (H : A → Type 0) (K : B → Type 0) (x : Option A) (y : Option B) → BothTell R x y → IfSome x H → IfSome y K
+    → ((a : A) (b : B) → H a → K b → R a b → S a b) → BothTell S x y
 told_ends R S H K None None t h k f = tt
 told_ends R S H K None (Some b) t h k f = absurd t
 told_ends R S H K (Some a) None t h k f = absurd t

@@ -25,22 +25,26 @@ pub spoilt_by : (at : ℕ) (piece : List ℕ) (r : Answer) (a b : Contents) → 
 spoilt_by at piece (Ok v) a b bad w = cc
 spoilt_by at piece (Err e) a b bad w = w
 
-pub beside_by : (at : ℕ) (piece : List ℕ) (r : Answer) (a b : Contents) (sectors : ℕ) → HasShape sectors a → IsRange at (length piece) sectors → Writes at piece r a b → Beside at (length piece / 512) a b
+pub beside_by : (at : ℕ) (piece : List ℕ) (r : Answer) (a b : Contents) (sectors : ℕ) → HasShape sectors a → IsRange at (length piece) sectors
+    → Writes at piece r a b → Beside at (length piece / 512) a b
 beside_by at piece (Ok v) a b sectors shape range w = puts_beside at piece a b sectors shape range w
 beside_by at piece (Err e) a b sectors shape range w = spoils_beside at (length piece) a b sectors shape range w
 
 -- an answer of the mirror
 
-stores_put : {T E : Type 0} (at : ℕ) (piece : List ℕ) (result : Result T E) (a b : Contents) → is_err result ≡ false → Puts at piece a b → Stores at piece result a b
+stores_put : {T E : Type 0} (at : ℕ) (piece : List ℕ) (result : Result T E) (a b : Contents) → is_err result ≡ false → Puts at piece a b
+    → Stores at piece result a b
 stores_put at piece (Ok v) a b ok p = p
 stores_put at piece (Err e) a b ok p = cc
 
-stores_spoilt : {T E : Type 0} (at : ℕ) (piece : List ℕ) (result : Result T E) (a b : Contents) → is_err result ≡ true → MaySpoil at (length piece) a b → Stores at piece result a b
+stores_spoilt : {T E : Type 0} (at : ℕ) (piece : List ℕ) (result : Result T E) (a b : Contents) → is_err result ≡ true → MaySpoil at (length piece) a b
+    → Stores at piece result a b
 stores_spoilt at piece (Ok v) a b bad p = cc
 stores_spoilt at piece (Err e) a b bad p = p
 
 -- a put piece is a spoilt one, where the bytes of the last sync aren't told
-puts_spoil : (at : ℕ) (piece : List ℕ) (a b : Contents) (sectors : ℕ) → HasShape sectors a → IsRange at (length piece) sectors → a.settled ≡ None → Puts at piece a b → Spoils at (length piece) a b
+puts_spoil : (at : ℕ) (piece : List ℕ) (a b : Contents) (sectors : ℕ) → HasShape sectors a → IsRange at (length piece) sectors → a.settled ≡ None
+    → Puts at piece a b → Spoils at (length piece) a b
 puts_spoil at piece a b sectors shape range none p = record {
   bytes = rw p.bytes (with_piece_outside a.bytes (512 * at) piece (omega (arith, shape.bytes, range.whole, range.within)) (length piece) (omega arith));
   loose = p.loose;
@@ -54,13 +58,15 @@ module _ (at : ℕ) (piece : List ℕ) (old : Pair) (m : IsMirror old) (range : 
 
   -- what stands on the follower within the range, where it isn't stale then
   inside_by : (r : Answer) (p q : Contents × Contents) → Fit old.lead.sectors old.stale p → Puts at piece p.0 q.0 → Writes at piece r p.1 q.1
-      → (s : ℕ) → at ≤ s → s < at + length piece / 512 → is_loose (with_each old.stale at (length piece / 512) (is_err r)) s ≡ false → sector q.1.bytes s ≡ sector q.0.bytes s
+      → (s : ℕ) → at ≤ s → s < at + length piece / 512 → is_loose (with_each old.stale at (length piece / 512) (is_err r)) s ≡ false
+      → sector q.1.bytes s ≡ sector q.0.bytes s
   inside_by (Ok v) p q fit put w s low high off = same_piece at piece old.lead.sectors p.0 p.1 q.0 q.1 fit.lead fit.follower range put.bytes w.bytes s low high
   inside_by (Err e) p q fit put w s low high off = absurd (both_ways _ off (with_each_inside old.stale at (length piece / 512) true fits s low high))
 
   -- THE LEAD WAS WRITTEN
 
-  module _ (lead : DiskState) (r : Answer) (ok : is_err r ≡ false) (w : WritesTo at piece r old.lead lead) (answer : Answer) (written : DiskState) (f : WritesTo at piece answer old.follower written) where
+  module _ (lead : DiskState) (r : Answer) (ok : is_err r ≡ false) (w : WritesTo at piece r old.lead lead) (answer : Answer) (written : DiskState)
+      (f : WritesTo at piece answer old.follower written) where
     abbrev through : Pair
     through = record {
       lead = lead;
@@ -239,7 +245,8 @@ module _ (at : ℕ) (piece : List ℕ) (old : Pair) (m : IsMirror old) (range : 
   new_puts : BothTell (Puts at piece) (shown old).contents (shown new).contents
   new_puts = rw (settled_shown failed mid new settles) (rw (turned_shown old m s.whole) at mid_puts)
 
-  stores_by : {T E : Type 0} (result : Result T E) (a b : Contents) → HasShape old.lead.sectors a × (a.settled ≡ None) → Puts at piece a b → Stores at piece result a b
+  stores_by : {T E : Type 0} (result : Result T E) (a b : Contents) → HasShape old.lead.sectors a × (a.settled ≡ None) → Puts at piece a b
+      → Stores at piece result a b
   stores_by (Ok v) a b h p = p
   stores_by (Err e) a b h p = spoils_may_spoil at (length piece) a b old.lead.sectors h.0 range (puts_spoil at piece a b old.lead.sectors h.0 range h.1 p)
 
@@ -291,7 +298,8 @@ module _ {T E : Type 0} (at : ℕ) (piece : List ℕ) (result : Result T E) (old
   settled_writes s writes =
       let side = settled_side false old mid s in
       let faults = settled_faults false old mid s in
-      let w : MirrorWrites at piece result (record old { mark = mid.mark; settled = mid.settled }) new = subst (λ (p : Pair). MirrorWrites at piece result p new) s.is writes in
+      let w : MirrorWrites at piece result (record old { mark = mid.mark; settled = mid.settled }) new =
+      subst (λ (p : Pair). MirrorWrites at piece result p new) s.is writes in
       let mark : MarkFailed mid new → MarkFailed old new = rose_from old.mark.faults mid.mark.faults new.mark.faults s.mark.later w.keeps.later in
       let later : (shown old).faults ≤ (shown new).faults = let c = w.stores.call.later in omega (arith, c, s.mark.later) in
       record {
@@ -315,5 +323,6 @@ module _ {T E : Type 0} (at : ℕ) (piece : List ℕ) (result : Result T E) (old
         ];
       }
 
-pub unsettled_err : {T E : Type 0} (at : ℕ) (piece : List ℕ) (e : E) (old mid : Pair) (m : IsMirror old) → SettlesLead true old mid → MirrorWrites {T = T} {E = E} at piece (Err e) old mid
+pub unsettled_err : {T E : Type 0} (at : ℕ) (piece : List ℕ) (e : E) (old mid : Pair) (m : IsMirror old) → SettlesLead true old mid
+    → MirrorWrites {T = T} {E = E} at piece (Err e) old mid
 unsettled_err {T = T} {E = E} at piece e old mid m s = unsettled_writes {T = T} {E = E} at piece (Err e) old mid mid m refl s

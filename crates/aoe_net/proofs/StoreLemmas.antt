@@ -94,7 +94,8 @@ store-push total kept k store few small =
 pub nothing : (net : Network) (number now : ℕ) → numbered net.sent number ≡ None → None ≡ deliverable net number now
 nothing net number now missing = sym (ap (option_and_then (fresh_bytes net now)) missing)
 
-something : (net : Network) (number now : ℕ) (frame : SentFrame) → numbered net.sent number ≡ Some frame → fresh_bytes net now frame ≡ deliverable net number now
+something : (net : Network) (number now : ℕ) (frame : SentFrame) → numbered net.sent number ≡ Some frame
+    → fresh_bytes net now frame ≡ deliverable net number now
 something net number now frame found = sym (ap (option_and_then (fresh_bytes net now)) found)
 
 pub missing : (kept : List Kept) (number index : ℕ) → 1 ≤ number → index ≡ number - 1 → length kept ≤ index → numbered (frames_of kept) number ≡ None
@@ -108,26 +109,31 @@ found kept number index k low is inside read =
     let next : number ≡ suc index = omega arith in
     rw next (numbered-frames_of kept index ∙ ap (option_map frame_of) (slice_get_read kept (length kept) index k refl inside read))
 
-pub expired : (net : Network) (number now : ℕ) (frame : SentFrame) → numbered net.sent number ≡ Some frame → net.life < now - frame.birth → None ≡ deliverable net number now
+pub expired : (net : Network) (number now : ℕ) (frame : SentFrame) → numbered net.sent number ≡ Some frame → net.life < now - frame.birth
+    → None ≡ deliverable net number now
 expired net number now frame is old =
     let late : nat_le (now - frame.birth) net.life ≡ false = lt-leb (now - frame.birth) net.life old in
     let gone : None ≡ fresh_bytes net now frame = rw late refl in
     gone ∙ something net number now frame is
 
-pub fresh : (net : Network) (number now : ℕ) (frame : SentFrame) → numbered net.sent number ≡ Some frame → now - frame.birth ≤ net.life → Some frame.bytes ≡ deliverable net number now
+pub fresh : (net : Network) (number now : ℕ) (frame : SentFrame) → numbered net.sent number ≡ Some frame → now - frame.birth ≤ net.life
+    → Some frame.bytes ≡ deliverable net number now
 fresh net number now frame is young =
     let early : nat_le (now - frame.birth) net.life ≡ true = le-leb (now - frame.birth) net.life young in
     let here : Some frame.bytes ≡ fresh_bytes net now frame = rw early refl in
     here ∙ something net number now frame is
 
 -- whose number a number is
-pub is-number : (net : Network) (bytes : List ℕ) (number : ℕ) (frame : SentFrame) → numbered net.sent number ≡ Some frame → frame.bytes ≡ bytes → IsNumberOf net bytes number
+pub is-number : (net : Network) (bytes : List ℕ) (number : ℕ) (frame : SentFrame) → numbered net.sent number ≡ Some frame → frame.bytes ≡ bytes
+    → IsNumberOf net bytes number
 is-number net bytes number frame is same = let P : Option SentFrame → Type 0 = λ f. IsSomeAnd f (λ g. g.bytes ≡ bytes) in subst P (sym is) same
 
-not-number : (net : Network) (bytes : List ℕ) (number : ℕ) (frame : SentFrame) → numbered net.sent number ≡ Some frame → (frame.bytes ≡ bytes → ⊥) → IsNumberOf net bytes number → ⊥
+not-number : (net : Network) (bytes : List ℕ) (number : ℕ) (frame : SentFrame) → numbered net.sent number ≡ Some frame → (frame.bytes ≡ bytes → ⊥)
+    → IsNumberOf net bytes number → ⊥
 not-number net bytes number frame is other claim = let P : Option SentFrame → Type 0 = λ f. IsSomeAnd f (λ g. g.bytes ≡ bytes) in let same : frame.bytes ≡ bytes = subst P is claim in other same
 
-number-within : (sent : List SentFrame) (bytes : List ℕ) (number : ℕ) → IsSomeAnd (numbered sent number) (λ f. f.bytes ≡ bytes) → (1 ≤ number) × (number ≤ length sent)
+number-within : (sent : List SentFrame) (bytes : List ℕ) (number : ℕ) → IsSomeAnd (numbered sent number) (λ f. f.bytes ≡ bytes)
+    → (1 ≤ number) × (number ≤ length sent)
 number-within [] bytes number claim = absurd claim
 number-within (frame ∷ sent) bytes number claim =
     elim (cases_eq number (suc (length sent))) [

@@ -143,7 +143,8 @@ impl Net {
     /// The number of the latest frame with these bytes, expired or not.
     pub fn newest_equal(&self, frame: &[u8]) -> Option<FrameNo>
         ensures equal { IfSome result (λ number. IsNumberOf self.now frame.now number.0) }
-        ensures newest { IfSome result (λ number. (k : ℕ) → IsNumberOf self.now frame.now k → k ≤ number.0) }
+        ensures newest { IfSome result (λ number. (k : ℕ) → IsNumberOf self.now frame.now k
+            → k ≤ number.0) }
         ensures none { IfNone result ((k : ℕ) → ¬ IsNumberOf self.now frame.now k) }
     {
         for index in (0..self.frames.len()).rev() {

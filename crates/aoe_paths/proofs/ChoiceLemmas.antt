@@ -41,7 +41,8 @@ next-is paths chosen count start steps next count_is start_is steps_is next_is =
     rw (len, ← start_is, same, ← steps_is) next_is
 
 -- an element of a list in cyclic order
-get-in_turn : (start i : ℕ) (marks : List Bool) (d : Bool) → start < length marks → i < length marks → get_or (in_turn start marks) i d ≡ get_or marks ((start + i) % length marks) d
+get-in_turn : (start i : ℕ) (marks : List Bool) (d : Bool) → start < length marks → i < length marks
+    → get_or (in_turn start marks) i d ≡ get_or marks ((start + i) % length marks) d
 get-in_turn start i marks d inside below =
     let dropped : length (drop start marks) ≡ length marks - start = length-drop start marks in
     elim (cases_lt i (length marks - start)) [
@@ -53,7 +54,8 @@ get-in_turn start i marks d inside below =
           let far : start + i ≡ 1 * length marks + (start + i - length marks) = omega arith in
           let low : start + i - length marks < length marks = omega arith in
           let before : i - (length marks - start) < start = omega arith in
-          let same : (start + i) % length marks ≡ start + i - length marks = ap (λ (n : ℕ). n % length marks) far ∙ mod-mul-add 1 (length marks) (start + i - length marks) low in
+          let same : (start + i) % length marks ≡ start + i - length marks =
+          ap (λ (n : ℕ). n % length marks) far ∙ mod-mul-add 1 (length marks) (start + i - length marks) low in
           let here : i - (length marks - start) ≡ start + i - length marks = omega arith in
           rw same (get_or-append_right (drop start marks) (take start marks) (length marks - start) i d dropped back ∙ get_or-take start marks (i - (length marks - start)) d before ∙ ap (λ (k : ℕ). get_or marks k d) here)
     ]
@@ -66,7 +68,8 @@ length-in_turn : (start : ℕ) (marks : List Bool) → start < length marks → 
 length-in_turn start marks inside = omega (arith, length-append (drop start marks) (take start marks), length-drop start marks, length-take-le start marks (omega arith))
 
 -- the place of an element, counted from another in cyclic order
-place-in_turn : (start k : ℕ) (marks : List Bool) → start < length marks → k < length marks → (i : ℕ) × (i < length marks) × (get_or (in_turn start marks) i false ≡ get_or marks k false)
+place-in_turn : (start k : ℕ) (marks : List Bool) → start < length marks → k < length marks
+    → (i : ℕ) × (i < length marks) × (get_or (in_turn start marks) i false ≡ get_or marks k false)
 place-in_turn start k marks inside there =
     elim (cases_lt k start) [
       | inl before ↦
@@ -82,7 +85,8 @@ place-in_turn start k marks inside there =
     ]
 
 -- where a path has no mark, the one that is chosen has none
-pub next-unmarked : (marks : List Bool) (chosen : Option ℕ) → path_after (length marks) chosen < length marks → Contains marks false → slice_get marks (next_path marks chosen) ≡ Some false
+pub next-unmarked : (marks : List Bool) (chosen : Option ℕ) → path_after (length marks) chosen < length marks → Contains marks false
+    → slice_get marks (next_path marks chosen) ≡ Some false
 next-unmarked marks chosen inside free =
     let start = path_after (length marks) chosen in
     let turn = in_turn start marks in
@@ -93,7 +97,8 @@ next-unmarked marks chosen inside free =
     let found : first < length turn = elim (cases_lt first (length turn)) [
       | inl yes_found ↦ yes_found
       | inr past ↦
-          let marked : not (get_or turn there.0 false) ≡ false = fails_before_first (λ mark. not mark) turn there.0 false (omega (arith, there.1, long, past)) in
+          let marked : not (get_or turn there.0 false) ≡ false =
+          fails_before_first (λ mark. not mark) turn there.0 false (omega (arith, there.1, long, past)) in
           let both : not false ≡ false = ap not (sym unmarked) ∙ marked in
           absurd cc
     ] in
@@ -101,6 +106,7 @@ next-unmarked marks chosen inside free =
     let at : position (λ mark. not mark) turn ≡ Some first = rw (lt-ltb first (length turn) found) refl in
     let next : next_path marks chosen ≡ (start + first) % length marks = rw at refl in
     let below : (start + first) % length marks < length marks = omega arith in
-    let same : get_or marks ((start + first) % length marks) false ≡ get_or turn first false = sym (get-in_turn start first marks false inside (omega (arith, found, long))) in
+    let same : get_or marks ((start + first) % length marks) false ≡ get_or turn first false =
+    sym (get-in_turn start first marks false inside (omega (arith, found, long))) in
     let free_there : get_or turn first false ≡ false = not-true (get_or turn first false) passes in
     ap (λ (n : ℕ). slice_get marks n) next ∙ slice_get-get_or marks ((start + first) % length marks) false below ∙ ap (λ (mark : Bool). Some mark) (same ∙ free_there)

@@ -15,11 +15,13 @@ use Rattle.aoe_base.specs.Addresses.{IsDistinct}
 use Rattle.aoe_paths.specs.PathTable.{PathTable, pair_of, path_count}
 
 -- the ports at the two places of a path are its pair
-pub pair-at : (table : PathTable) (p : ℕ) (local remote : Mac) → slice_get table.locals (p / length table.remotes) ≡ Some local → slice_get table.remotes (p % length table.remotes) ≡ Some remote
+pub pair-at : (table : PathTable) (p : ℕ) (local remote : Mac) → slice_get table.locals (p / length table.remotes) ≡ Some local
+    → slice_get table.remotes (p % length table.remotes) ≡ Some remote
     → pair_of table p ≡ Some (local, remote)
 pair-at table p local remote here there = rw (here, there) refl
 
-both : (x y : Option Mac) (local remote : Mac) → option_and_then {U = Mac × Mac} (λ l. option_map {U = Mac × Mac} (λ r. (l, r)) y) x ≡ Some (local, remote) → (x ≡ Some local) × (y ≡ Some remote)
+both : (x y : Option Mac) (local remote : Mac) → option_and_then {U = Mac × Mac} (λ l. option_map {U = Mac × Mac} (λ r. (l, r)) y) x ≡ Some (local, remote)
+    → (x ≡ Some local) × (y ≡ Some remote)
 both None y local remote is = absurd cc
 both (Some l) None local remote is = absurd cc
 both (Some l) (Some r) local remote is =
@@ -68,7 +70,8 @@ one-place ports port i j distinct at_i at_j =
     ]
 
 -- the pair of the path whose number is made of two places
-pub pair-of-number : (table : PathTable) (i j p : ℕ) (local remote : Mac) → p ≡ i * length table.remotes + j → slice_get table.locals i ≡ Some local → slice_get table.remotes j ≡ Some remote
+pub pair-of-number : (table : PathTable) (i j p : ℕ) (local remote : Mac) → p ≡ i * length table.remotes + j → slice_get table.locals i ≡ Some local
+    → slice_get table.remotes j ≡ Some remote
     → pair_of table p ≡ Some (local, remote)
 pair-of-number table i j p local remote is here there =
     let inside : j < length table.remotes = slice_get_within table.remotes j remote there in
@@ -78,7 +81,8 @@ pair-of-number table i j p local remote is here there =
 
 -- no other path has that pair
 pub one-number : (table : PathTable) (i j p q : ℕ) (local remote : Mac) → IsDistinct table.locals → IsDistinct table.remotes
-    → p ≡ i * length table.remotes + j → slice_get table.locals i ≡ Some local → slice_get table.remotes j ≡ Some remote → pair_of table q ≡ Some (local, remote) → q ≡ p
+    → p ≡ i * length table.remotes + j → slice_get table.locals i ≡ Some local → slice_get table.remotes j ≡ Some remote
+    → pair_of table q ≡ Some (local, remote) → q ≡ p
 one-number table i j p q local remote locals_differ remotes_differ is here there claim =
     let parts = pair-split table q local remote claim in
     let first : q / length table.remotes ≡ i = one-place table.locals local (q / length table.remotes) i locals_differ parts.0 here in
@@ -88,7 +92,8 @@ one-number table i j p q local remote locals_differ remotes_differ is here there
     omega (arith, named, is)
 
 -- the ports that are read for a path
-pub pair-read : (table : PathTable) (p n : ℕ) (locals remotes : List Mac) (d : Mac) → locals ≡ table.locals → remotes ≡ table.remotes → n ≡ length table.remotes → 0 < length table.remotes
+pub pair-read : (table : PathTable) (p n : ℕ) (locals remotes : List Mac) (d : Mac) → locals ≡ table.locals → remotes ≡ table.remotes → n ≡ length table.remotes
+    → 0 < length table.remotes
     → p < path_count table → pair_of table p ≡ Some (get_or locals (p / n) d, get_or remotes (p % n) d)
 pair-read table p n locals remotes d locals_are remotes_are n_is some inside =
     let first : p / length table.remotes < length table.locals = local-within p (length table.locals) (length table.remotes) some inside in

@@ -20,7 +20,8 @@ same-counting f g a zero same = refl
 same-counting f g a (suc n) same = rw (same a (omega arith), same-counting f g (a + 1) n (λ q above. same q (omega (arith, above)))) refl
 
 -- a change at one number
-set-counting : {X : Type 0} (f g : ℕ → X) (a n k p : ℕ) (x : X) → p ≡ a + k → ((q : ℕ) → q ≢ p → f q ≡ g q) → (k < n → g p ≡ x) → set (map f (range_with_len a n)) k x ≡ map g (range_with_len a n)
+set-counting : {X : Type 0} (f g : ℕ → X) (a n k p : ℕ) (x : X) → p ≡ a + k → ((q : ℕ) → q ≢ p → f q ≡ g q) → (k < n → g p ≡ x)
+    → set (map f (range_with_len a n)) k x ≡ map g (range_with_len a n)
 set-counting f g a zero k p x at same here = refl
 set-counting f g a (suc n) zero p x at same here =
     let first : g a ≡ x = ap g (let is : a ≡ p = omega (arith, at) in is) ∙ here (omega arith) in
@@ -73,22 +74,26 @@ trips-recalled : (table : PathTable) (log : List PathEvent) (p : ℕ) → Recall
 trips-recalled table log p r inside =
     ap (λ (l : List (List ℕ)). get_or l p []) r.trips ∙ get-counting (λ q. last_trips (trips_on log q)) (path_count table) p [] inside
 
-pub timeout-recalled : (table : PathTable) (log : List PathEvent) (p : ℕ) → Recalls table log → p < path_count table → timeout_of (trips_of table p) ≡ timeout_on log p
+pub timeout-recalled : (table : PathTable) (log : List PathEvent) (p : ℕ) → Recalls table log → p < path_count table
+    → timeout_of (trips_of table p) ≡ timeout_on log p
 timeout-recalled table log p r inside = ap timeout_of (trips-recalled table log p r inside) ∙ timeout_of-last_trips (trips_on log p)
 
-trips-others : (log : List PathEvent) (p : ℕ) (trip : Option Millis) (q : ℕ) → q ≢ p → last_trips (trips_on log q) ≡ last_trips (trips_on (Answered p trip ∷ log) q)
+trips-others : (log : List PathEvent) (p : ℕ) (trip : Option Millis) (q : ℕ) → q ≢ p
+    → last_trips (trips_on log q) ≡ last_trips (trips_on (Answered p trip ∷ log) q)
 trips-others log p None q other = refl
 trips-others log p (Some trip) q other =
     let apart : nat_eq p q ≡ false = ne_eqb p q (λ same. other (sym same)) in
     rw apart refl
 
-trips-here : (log : List PathEvent) (p : ℕ) (trip : Option Millis) (trips : List ℕ) → trips ≡ last_trips (trips_on log p) → last_trips (trips_on (Answered p trip ∷ log) p) ≡ after_trip trips trip
+trips-here : (log : List PathEvent) (p : ℕ) (trip : Option Millis) (trips : List ℕ) → trips ≡ last_trips (trips_on log p)
+    → last_trips (trips_on (Answered p trip ∷ log) p) ≡ after_trip trips trip
 trips-here log p None trips is = sym is
 trips-here log p (Some trip) trips is =
     let same : nat_eq p p ≡ true = eq-eqb p p refl in
     rw (same, is) (sym (last_trips-cons trip.0 (trips_on log p)))
 
-pub recalls-answered : (table : PathTable) (log : List PathEvent) (p : ℕ) (trip : Option Millis) → Recalls table log → Recalls (after_answer table p trip) (Answered p trip ∷ log)
+pub recalls-answered : (table : PathTable) (log : List PathEvent) (p : ℕ) (trip : Option Millis) → Recalls table log
+    → Recalls (after_answer table p trip) (Answered p trip ∷ log)
 recalls-answered table log p trip r = record {
   chosen = r.chosen;
   marks = ap (λ (l : List Bool). set l p false) r.marks

@@ -96,7 +96,8 @@ impl Paths {
         requires remote { remotes.now.items ≢ [] }
         requires locals_differ { IsDistinct locals.now.items }
         requires remotes_differ { IsDistinct remotes.now.items }
-        ensures value { IfOk result (λ paths. paths ≡ new_paths locals.now.items remotes.now.items) }
+        ensures value { IfOk result (λ paths. paths
+            ≡ new_paths locals.now.items remotes.now.items) }
         ensures recalls { IfOk result (λ paths. Recalls paths []) }
     {
         Ok(Paths {
@@ -112,10 +113,13 @@ impl Paths {
     pub fn choose(&mut self) -> PathNo
         ensures next { result.0 ≡ next_path self.old.marks self.old.chosen }
         ensures within { result.0 < path_count self.new }
-        ensures unmarked { Contains self.old.marks false → slice_get self.old.marks result.0 ≡ Some false }
+        ensures unmarked { Contains self.old.marks false
+            → slice_get self.old.marks result.0 ≡ Some false }
         ensures same { self.new ≡ record self.old { chosen = Some result.0 } }
-        ensures next_recalled { (log : List PathEvent) → Recalls self.old log → result.0 ≡ next_of (path_count self.old) log }
-        ensures recalls { (log : List PathEvent) → Recalls self.old log → Recalls self.new (Chosen result.0 ∷ log) }
+        ensures next_recalled { (log : List PathEvent) → Recalls self.old log
+            → result.0 ≡ next_of (path_count self.old) log }
+        ensures recalls { (log : List PathEvent) → Recalls self.old log
+            → Recalls self.new (Chosen result.0 ∷ log) }
     {
         let count = self.paths.len();
         let start = path_after(count, self.chosen);
@@ -139,7 +143,8 @@ impl Paths {
     pub fn find(&self, local: Mac, remote: Mac) -> Option<PathNo>
         ensures within { IfSome result (λ p. p.0 < path_count self.now) }
         ensures pair { IfSome result (λ p. pair_of self.now p.0 ≡ Some (local, remote)) }
-        ensures only { IfSome result (λ p. (q : ℕ) → pair_of self.now q ≡ Some (local, remote) → q ≡ p.0) }
+        ensures only { IfSome result (λ p. (q : ℕ) → pair_of self.now q ≡ Some (local, remote)
+            → q ≡ p.0) }
         ensures none { IfNone result ((q : ℕ) → pair_of self.now q ≢ Some (local, remote)) }
     {
         let local = place_of(&self.locals, local)?;
@@ -151,7 +156,8 @@ impl Paths {
     /// known. A number of no path changes nothing.
     pub fn answered(&mut self, p: PathNo, trip: Option<Millis>)
         ensures value { self.new ≡ after_answer self.old p.0 trip }
-        ensures recalls { (log : List PathEvent) → Recalls self.old log → Recalls self.new (Answered p.0 trip ∷ log) }
+        ensures recalls { (log : List PathEvent) → Recalls self.old log
+            → Recalls self.new (Answered p.0 trip ∷ log) }
     {
         let Some(path) = self.paths.get_mut(p.0 as usize) else {
             return;
@@ -162,7 +168,8 @@ impl Paths {
     /// Marks a path on which an answer was missed. A number of no path changes nothing.
     pub fn missed(&mut self, p: PathNo)
         ensures value { self.new ≡ after_miss self.old p.0 }
-        ensures recalls { (log : List PathEvent) → Recalls self.old log → Recalls self.new (Missed p.0 ∷ log) }
+        ensures recalls { (log : List PathEvent) → Recalls self.old log
+            → Recalls self.new (Missed p.0 ∷ log) }
     {
         let Some(path) = self.paths.get_mut(p.0 as usize) else {
             return;
@@ -174,7 +181,8 @@ impl Paths {
     pub fn timeout(&self, p: PathNo) -> Millis
         requires { p.0 < path_count self.now }
         ensures value { result.0 ≡ timeout_of (trips_of self.now p.0) }
-        ensures recalled { (log : List PathEvent) → Recalls self.now log → result.0 ≡ timeout_on log p.0 }
+        ensures recalled { (log : List PathEvent) → Recalls self.now log
+            → result.0 ≡ timeout_on log p.0 }
     {
         self.paths[p.0 as usize].timeout()
     }

@@ -60,7 +60,8 @@ module _ (setups : List Setup) (events : List Event) (h : IsScript (record { set
       ∙ ap (λ s. option_and_then (line_refusal (k + 1) s) (option_map Asks (slice_get events f.j))) (lines_kept setups (take f.j events))
       ∙ go (slice_get events f.j) refl
     where
-      go : (o : Option Event) → slice_get events f.j ≡ o → option_and_then (line_refusal (k + 1) (record { setups = setups; events = take f.j events })) (option_map Asks o) ≡ None
+      go : (o : Option Event) → slice_get events f.j ≡ o → option_and_then (line_refusal (k + 1) (record { setups = setups; events = take f.j events }))
+          (option_map Asks o) ≡ None
       go None e = refl
       go (Some event) e =
           let fine = if_at (λ x. event_why setups x ≡ None) (slice_get events f.j) event e (h.events f.j) in

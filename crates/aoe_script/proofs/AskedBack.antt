@@ -28,7 +28,8 @@ module _ (law : AddressLaw) (devices : DeviceLaw)
       rw (name_back host named, device_back devices dev known, number_is at low, number_is count few)
       (rw (name_word host named, device_word dev known, number_word at low, number_word count few) refl)
 
-  pub write_is : (at count fill : ℕ) → at < 2 ^ 64 → count < 2 ^ 64 → IsByte fill → IsSaid (event_words (Write host dev at count fill)) (Asks (Write host dev at count fill))
+  pub write_is : (at count fill : ℕ) → at < 2 ^ 64 → count < 2 ^ 64 → IsByte fill
+      → IsSaid (event_words (Write host dev at count fill)) (Asks (Write host dev at count fill))
   unfolding said
   write_is at count fill low few byte =
       rw (name_back host named, device_back devices dev known, number_is at low, number_is count few, byte_back fill byte)
@@ -62,7 +63,8 @@ module _ (law : AddressLaw) (devices : DeviceLaw)
   config_is (suc (suc (suc (suc zero)))) text e few small = config_with 4 text refl refl refl small
   config_is (suc (suc (suc (suc (suc n))))) text e few small = absurd (grind (arith, nat_tests))
 
-  pub masks_is : (edit : Bool) (dirs : List Dir) → is_within (if edit then 1 else 0) (if edit then 64 else 0) (length dirs) ≡ true → All (λ dir. IsAddress dir.mac) dirs
+  pub masks_is : (edit : Bool) (dirs : List Dir) → is_within (if edit then 1 else 0) (if edit then 64 else 0) (length dirs) ≡ true
+      → All (λ dir. IsAddress dir.mac) dirs
       → IsSaid (event_words (Masks host dev edit (record { items = dirs }))) (Asks (Masks host dev edit (record { items = dirs })))
   unfolding said
   masks_is false [] e fits = rw (name_back host named, device_back devices dev known, name_word host named, device_word dev known) refl
@@ -74,7 +76,8 @@ module _ (law : AddressLaw) (devices : DeviceLaw)
       rw (name_back host named, device_back devices dev known, dirs_back law dirs some most fits)
       (rw (name_word host named, device_word dev known, dirs_word law dirs some fits) refl)
 
-  reserve_with : (rcmd : ℕ) (list : List Mac) → rcmd_of (rcmd_text rcmd) ≡ Some rcmd → is_word (rcmd_text rcmd) ≡ true → (rcmd == 0) ≡ false → length list ≤ 64 → All IsAddress list
+  reserve_with : (rcmd : ℕ) (list : List Mac) → rcmd_of (rcmd_text rcmd) ≡ Some rcmd → is_word (rcmd_text rcmd) ≡ true → (rcmd == 0) ≡ false → length list ≤ 64
+      → All IsAddress list
       → IsSaid (event_words (Reserve host dev rcmd (record { items = list }))) (Asks (Reserve host dev rcmd (record { items = list })))
   unfolding said
   reserve_with rcmd list back word some most fits =

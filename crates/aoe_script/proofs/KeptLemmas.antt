@@ -24,7 +24,8 @@ no_setups : (events : List Event) → filter_map declared (map Asks events) ≡ 
 no_setups [] = refl
 no_setups (event ∷ events) = no_setups events
 
-pub both : (a b : List Setup) (x y : List Event) → a ≡ b → x ≡ y → (let l : ScriptLines = record { setups = a; events = x } in l) ≡ record { setups = b; events = y }
+pub both : (a b : List Setup) (x y : List Event) → a ≡ b → x ≡ y → (let l : ScriptLines = record { setups = a; events = x } in l)
+    ≡ record { setups = b; events = y }
 both a b x y e f = cc
 
 pub lines_kept : (setups : List Setup) (events : List Event) → lines_of (map Declares setups ++ map Asks events) ≡ record { setups = setups; events = events }

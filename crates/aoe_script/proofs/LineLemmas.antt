@@ -11,7 +11,8 @@ tail_is : (x y : List ℕ) (xs ys : List (List ℕ)) → x ∷ xs ≡ y ∷ ys �
 tail_is x y xs ys e = cc
 
 -- a last line without a line feed
-pub last_line : (text rest : List ℕ) (end : ℕ) → end ≡ position_or_len (λ c. c == 10) text → end ≡ length text → (length text == 0) ≡ false → rest ≡ drop end text
+pub last_line : (text rest : List ℕ) (end : ℕ) → end ≡ position_or_len (λ c. c == 10) text → end ≡ length text → (length text == 0) ≡ false
+    → rest ≡ drop end text
     → lines text ≡ text ∷ lines rest
 last_line text rest end place all some rest_is =
     let c = cut (λ c. c == 10) text in
@@ -39,7 +40,8 @@ first_line text line rest end place within line_is rest_is =
     let passes : (get_or text (position_or_len (λ c. c == 10) text) 0 == 10) ≡ true = passes_at_first (λ c. c == 10) text 0 inside in
     let feed : get_or text end 0 ≡ 10 = ap (λ i. get_or text i 0) place ∙ eqb-true _ 10 passes in
     let one : suc end ≡ end + 1 = omega arith in
-    let behind : drop end text ≡ 10 ∷ drop (end + 1) text = drop-cons text end 0 within ∙ ap (λ (b : ℕ). b ∷ drop (suc end) text) feed ∙ ap (λ i. 10 ∷ drop i text) one in
+    let behind : drop end text ≡ 10 ∷ drop (end + 1) text =
+    drop-cons text end 0 within ∙ ap (λ (b : ℕ). b ∷ drop (suc end) text) feed ∙ ap (λ i. 10 ∷ drop i text) one in
     let split : slice_split (λ c. c == 10) (10 ∷ drop (end + 1) text) ≡ [] ∷ c.parts = sym (ap (slice_split (λ c. c == 10)) behind) ∙ ap (λ i. slice_split (λ c. c == 10) (drop i text)) place ∙ c.behind in
     let parts : slice_split (λ c. c == 10) (drop (end + 1) text) ≡ c.parts = tail_is [] [] _ c.parts split in
     ap lines_of_parts (c.whole ∙ ap (λ i. take i text ∷ c.parts) (sym place) ∙ ap (λ q. take end text ∷ q) (sym parts))

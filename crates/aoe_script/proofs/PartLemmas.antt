@@ -9,7 +9,8 @@ use Rattle.aoe_script.specs.Classes.{at_most}
 use Rattle.aoe_script.specs.Words.{Text}
 
 -- more than there may be
-too_many : {T : Type 0} (read : Text → Option T) (most : ℕ) (texts : List Text) (n : ℕ) (xs : List T) → AreRead read texts n xs → most < n → None ≡ at_most most (each read texts)
+too_many : {T : Type 0} (read : Text → Option T) (most : ℕ) (texts : List Text) (n : ℕ) (xs : List T) → AreRead read texts n xs → most < n
+    → None ≡ at_most most (each read texts)
 too_many {T} read most texts n xs h lt = go (each read (drop n texts)) ∙ sym (ap (at_most most) h.same)
   where
     go : (o : Option (List T)) → None ≡ at_most most (option_map (λ rest. xs ++ rest) o)
@@ -25,7 +26,8 @@ one_too_many read most texts n xs h part at x e full =
     too_many read most texts (n + 1) (xs ++ x ∷ []) (one_more read texts n xs h part at x e) (omega (arith, full, h.as_many))
 
 -- all parts
-pub all_read : {T : Type 0} (read : Text → Option T) (most : ℕ) (texts : List Text) (n : ℕ) (xs : List T) → AreRead read texts n xs → n ≡ length texts → length xs ≤ most
+pub all_read : {T : Type 0} (read : Text → Option T) (most : ℕ) (texts : List Text) (n : ℕ) (xs : List T) → AreRead read texts n xs → n ≡ length texts
+    → length xs ≤ most
     → Some xs ≡ at_most most (each read texts)
 all_read read most texts n xs h end few =
     let test : nat_le (length xs) most ≡ true = grind (arith, nat_tests) in

@@ -54,7 +54,8 @@ module _ {X : Type 0} (ws : X → List Text) (line : X → Line) where
   lines_are (x ∷ xs) rest h = rw (line_is (ws x) (line x) h.0, lines_are xs rest h.1) refl
 
   -- the lines at the front of a text
-  said_first : (xs : List X) (rest : Text) → AllByRecursion (λ x. IsSaid (ws x) (line x)) xs → said_by (flat_map (λ x. line_text (ws x)) xs ++ rest) ≡ map line xs ++ said_by rest
+  said_first : (xs : List X) (rest : Text) → AllByRecursion (λ x. IsSaid (ws x) (line x)) xs
+      → said_by (flat_map (λ x. line_text (ws x)) xs ++ rest) ≡ map line xs ++ said_by rest
   unfolding said_by
   said_first xs rest h = ap (map line_of) (lines_back ws xs rest (all_tested (λ x. IsSaid (ws x) (line x)) (λ x. list_all is_word (ws x)) (λ x said. are_words (ws x) (line x) said) xs h)) ∙ lines_are xs (lines rest) h
 

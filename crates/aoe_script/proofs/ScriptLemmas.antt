@@ -30,7 +30,8 @@ each_pushed P (x ∷ xs) y h new zero = h zero
 each_pushed P (x ∷ xs) y h new (suc k) = each_pushed (λ before z. P (x ∷ before) z) xs y (λ k. h (suc k)) new k
 
 -- where nothing is wrong with a setup line no event stands before it
-not_behind : (setups : List Setup) (behind : Bool) (setup : Setup) → setup_why setups behind setup ≡ None → (behind ≡ false) × (setup_why setups false setup ≡ None)
+not_behind : (setups : List Setup) (behind : Bool) (setup : Setup) → setup_why setups behind setup ≡ None
+    → (behind ≡ false) × (setup_why setups false setup ≡ None)
 unfolding setup_why
 not_behind setups behind setup e = go (not (is_setup setup)) behind (declared_why setups setup) e
   where
@@ -93,7 +94,8 @@ setups_more before (Bad why) = omega arith
 -- ---- a text that is read line by line
 
 -- one line more of a list, from the front
-taken_more : {X : Type 0} → (xs rest : List X) (x : X) (k : ℕ) → drop k xs ≡ x ∷ rest → (take (k + 1) xs ≡ take k xs ++ x ∷ []) × (drop (k + 1) xs ≡ rest) × (slice_get xs k ≡ Some x) × (k < length xs)
+taken_more : {X : Type 0} → (xs rest : List X) (x : X) (k : ℕ) → drop k xs ≡ x ∷ rest
+    → (take (k + 1) xs ≡ take k xs ++ x ∷ []) × (drop (k + 1) xs ≡ rest) × (slice_get xs k ≡ Some x) × (k < length xs)
 taken_more [] rest x zero e = absurd cc
 taken_more [] rest x (suc k) e = absurd cc
 taken_more (y ∷ xs) rest x zero e = (ap (λ z. z ∷ []) cc, cc, ap Some cc, omega arith)
@@ -168,7 +170,8 @@ module _ (text rest line next : List ℕ) (number : ℕ) (script : ScriptLines) 
       let one : number + 1 ≡ suc number = omega arith in
       rw one (ap (λ o. option_or o (refusal_at (said_by text) number)) h.good ∙ at_next ∙ ap (λ n. line_refusal n script (line_of line)) one)
 
-  pub one_more : (new : ScriptLines) → length next < length rest → line_refusal (number + 1) script (line_of line) ≡ None → new ≡ with_line script (line_of line)
+  pub one_more : (new : ScriptLines) → length next < length rest → line_refusal (number + 1) script (line_of line) ≡ None
+      → new ≡ with_line script (line_of line)
       → AreRead text next (number + 1) new
   one_more new shorter fine new_is =
       let t = taken_more (said_by text) _ (line_of line) number said_next in

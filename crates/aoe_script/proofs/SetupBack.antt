@@ -28,7 +28,8 @@ few_ports ports e =
     (grind (arith, nat_tests), grind (arith, nat_tests))
 
 module _ (law : AddressLaw) where
-  shelf_is : (name : ArrayVec ℕ) (major : ℕ) (ports : ArrayVec Mac) (mtu : ℕ) → is_name name ≡ true → major < 2 ^ 64 → are_ports ports ≡ true → mtu < 2 ^ 64 → All IsAddress ports.items
+  shelf_is : (name : ArrayVec ℕ) (major : ℕ) (ports : ArrayVec Mac) (mtu : ℕ) → is_name name ≡ true → major < 2 ^ 64 → are_ports ports ≡ true → mtu < 2 ^ 64
+      → All IsAddress ports.items
       → IsSaid (setup_words (Shelf name major ports mtu)) (Declares (Shelf name major ports mtu))
   unfolding said
   shelf_is name major ports mtu named high are low fits =
@@ -45,7 +46,8 @@ module _ (law : AddressLaw) where
       rw (name_back shelf named, number_is minor low, number_is sectors small, number_is room high)
       (rw (name_word shelf named, number_word minor low, number_word sectors small, number_word room high) refl)
 
-  host_is : (name : ArrayVec ℕ) (ports : ArrayVec Mac) (room dead : Option ℕ) → is_name name ≡ true → are_ports ports ≡ true → is_limit room dead ≡ true → All IsAddress ports.items
+  host_is : (name : ArrayVec ℕ) (ports : ArrayVec Mac) (room dead : Option ℕ) → is_name name ≡ true → are_ports ports ≡ true → is_limit room dead ≡ true
+      → All IsAddress ports.items
       → IsSaid (setup_words (Host name ports room dead)) (Declares (Host name ports room dead))
   unfolding said
   host_is name ports None None named are limit fits =

@@ -17,7 +17,8 @@ pub past_spaces : (line : List ℕ) → words line ≡ words (drop (position_or_
 past_spaces [] = refl
 past_spaces (c ∷ line) = go (past_spaces line) (c == 32) refl
   where
-    go : words line ≡ words (drop (position_or_len (λ c. not (c == 32)) line) line) → (b : Bool) → (c == 32) ≡ b → words (c ∷ line) ≡ words (drop (position_or_len (λ c. not (c == 32)) (c ∷ line)) (c ∷ line))
+    go : words line ≡ words (drop (position_or_len (λ c. not (c == 32)) line) line) → (b : Bool) → (c == 32) ≡ b
+        → words (c ∷ line) ≡ words (drop (position_or_len (λ c. not (c == 32)) (c ∷ line)) (c ∷ line))
     go h true is =
         let one : 1 + position_or_len (λ c. not (c == 32)) line ≡ suc (position_or_len (λ c. not (c == 32)) line) = omega arith in
         space_first c line is ∙ h ∙ rw (is, one) refl
@@ -79,7 +80,8 @@ module _ (line rest behind : List ℕ) (start end : ℕ) (start_is : start ≡ p
       omega (arith, first, most, one, two, end_is)
 
 -- nothing stands behind the spaces
-pub none_is : (line rest : List ℕ) (start : ℕ) → start ≡ position_or_len (λ c. not (c == 32)) line → rest ≡ drop start line → (length rest == 0) ≡ true → words line ≡ []
+pub none_is : (line rest : List ℕ) (start : ℕ) → start ≡ position_or_len (λ c. not (c == 32)) line → rest ≡ drop start line → (length rest == 0) ≡ true
+    → words line ≡ []
 none_is line rest start start_is rest_is none =
     past_spaces line ∙ ap words (sym (rest_is ∙ ap (λ i. drop i line) start_is) ∙ empty rest (eqb-true (length rest) 0 none)) ∙ no_words
   where

@@ -117,7 +117,8 @@ bytes_back (b ∷ bytes) small =
 -- ---- lists
 
 -- what each part says, where each is read as it was written
-pub each_back : {T : Type 0} (read : List ℕ → Option T) (write : T → List ℕ) (xs : List T) → AllByRecursion (λ x. read (write x) ≡ Some x) xs → each read (map write xs) ≡ Some xs
+pub each_back : {T : Type 0} (read : List ℕ → Option T) (write : T → List ℕ) (xs : List T) → AllByRecursion (λ x. read (write x) ≡ Some x) xs
+    → each read (map write xs) ≡ Some xs
 each_back read write [] e = refl
 each_back read write (x ∷ xs) e = rw (e.0, each_back read write xs e.1) refl
 

@@ -14,8 +14,10 @@ use aoe_base::{device_law, mac_reads_back};
 /// A law: a printed line whose words are in their ranges says what it was printed for. Its end is no
 /// part of it.
 pub fn printed_line_reads_back()
-    ensures setup { (setup : Setup) → is_setup setup ≡ true → FitsSetup setup → line_of (spelled (setup_words setup)) ≡ Declares setup }
-    ensures event { (event : Event) → is_event event ≡ true → FitsEvent event → line_of (spelled (event_words event)) ≡ Asks event }
+    ensures setup { (setup : Setup) → is_setup setup ≡ true → FitsSetup setup
+        → line_of (spelled (setup_words setup)) ≡ Declares setup }
+    ensures event { (event : Event) → is_event event ≡ true → FitsEvent event
+        → line_of (spelled (event_words event)) ≡ Asks event }
 {
     mac_reads_back();
     device_law();
@@ -24,8 +26,10 @@ pub fn printed_line_reads_back()
 /// A law: a script is read from its text, which is refused for nothing but its length. Every
 /// [`Script`](crate::Script) is one of these.
 pub fn printed_script_reads_back()
-    ensures reads { (script : ScriptLines) → IsScript script → script_of (script_text script) ≡ script }
-    ensures accepted { (script : ScriptLines) → IsScript script → length (script_text script) ≤ 16777216 → refusal (script_text script) ≡ None }
+    ensures reads { (script : ScriptLines) → IsScript script
+        → script_of (script_text script) ≡ script }
+    ensures accepted { (script : ScriptLines) → IsScript script
+        → length (script_text script) ≤ 16777216 → refusal (script_text script) ≡ None }
 {
     mac_reads_back();
     device_law();

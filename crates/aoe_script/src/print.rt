@@ -136,7 +136,9 @@ fn put_setup(out: &mut Vec<u8>, setup: &Setup) -> Result<(), NoMemory>
 /// How a submission begins: its first word, its host and its device.
 fn beginning(event: &Event) -> (&[u8], &Name, &TargetId)
     requires { is_submission event.now ≡ true }
-    ensures { event_words event.now ≡ result.0.now ∷ result.1.now.items ∷ device_text result.2.now ∷ drop 3 (event_words event.now) }
+    ensures { event_words event.now
+        ≡ result.0.now ∷ result.1.now.items ∷ device_text result.2.now ∷ drop 3
+        (event_words event.now) }
 {
     match event {
         Event::Read { host, dev, .. } => (b"read", host, dev),
@@ -153,7 +155,8 @@ fn beginning(event: &Event) -> (&[u8], &Name, &TargetId)
 /// Adds the words of a submission behind its device.
 fn put_details(out: &mut Vec<u8>, event: &Event) -> Result<(), NoMemory>
     requires { is_submission event.now ≡ true }
-    ensures { OnOk result (out.new.items ≡ out.old.items ++ spaced (drop 3 (event_words event.now))) }
+    ensures { OnOk result (out.new.items ≡ out.old.items
+        ++ spaced (drop 3 (event_words event.now))) }
 {
     match event {
         Event::Read { at, count, .. } => put_rest(out, &[Word::Number(*at), Word::Number(*count)]),

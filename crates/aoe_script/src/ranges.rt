@@ -89,7 +89,8 @@ fn has_text(ccmd: u8, text: &Blob) -> bool
 
 /// Whether an action on the mask list can have these directives: a read has none.
 fn has_dirs(edit: bool, dirs: &ArrayVec<Dir, MAX_DIRS>) -> bool
-    ensures { result ≡ is_within (if edit then 1 else 0) (if edit then 64 else 0) (length dirs.now.items) }
+    ensures { result ≡ is_within (if edit then 1 else 0) (if edit then 64 else 0)
+        (length dirs.now.items) }
 {
     if edit {
         is_within(1, MAX_DIRS as u64, dirs.len() as u64)

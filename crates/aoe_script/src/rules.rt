@@ -27,7 +27,8 @@ fn first_of(repeat: bool, size: bool, unknown: bool) -> Option<Why>
 
 /// What stands in the way of a shelf.
 fn shelf_why(setups: &[Setup], name: &Name, major: u64, ports: &[Mac]) -> Option<Why>
-    ensures { result ≡ first_of (is_taken setups.now name.now ports.now || list_any (has_major major) setups.now) (is_full is_shelf setups.now) false }
+    ensures { result ≡ first_of (is_taken setups.now name.now ports.now || list_any
+        (has_major major) setups.now) (is_full is_shelf setups.now) false }
 {
     let repeat = is_taken(setups, name, ports) || any(setups, &Kind::Major(major));
     first_of(repeat, is_full(setups, &Kind::Shelf), false)

@@ -129,7 +129,9 @@ impl Script {
 
     /// Adds an event at the end. The number of a bad line is the one that it would have there.
     pub fn push(&mut self, event: Event) -> Result<(), ScriptRefusal>
-        ensures cause { FailsFor (line_refusal (length self.old.setups + length self.old.events + 1) self.old (Line.Asks event)) result }
+        ensures cause { FailsFor (line_refusal
+            (length self.old.setups + length self.old.events + 1) self.old
+            (Line.Asks event)) result }
         ensures ok { OnOk result (self.new ≡ with_line self.old (Line.Asks event)) }
         ensures err { OnErr result (self.new ≡ self.old) }
     {

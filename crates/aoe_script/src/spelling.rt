@@ -186,7 +186,8 @@ pub fn put_masks_words(
     edit: bool,
     dirs: &ArrayVec<Dir, MAX_DIRS>,
 ) -> Result<(), NoMemory>
-    ensures { OnOk result (out.new.items ≡ out.old.items ++ spaced (masks_words edit dirs.now.items)) }
+    ensures { OnOk result (out.new.items ≡ out.old.items
+        ++ spaced (masks_words edit dirs.now.items)) }
 {
     if !edit {
         return put(out, b" read");
@@ -201,7 +202,8 @@ pub fn put_reserve_words(
     rcmd: u8,
     list: &ArrayVec<Mac, MAX_DIRS>,
 ) -> Result<(), NoMemory>
-    ensures { OnOk result (out.new.items ≡ out.old.items ++ spaced (reserve_words rcmd list.now.items)) }
+    ensures { OnOk result (out.new.items ≡ out.old.items
+        ++ spaced (reserve_words rcmd list.now.items)) }
 {
     put_rcmd(out, rcmd)?;
     if rcmd == 0 {

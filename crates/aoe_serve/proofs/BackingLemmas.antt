@@ -43,10 +43,12 @@ unwritten-fewer (r ∷ runs) held =
       | inr written ↦ rw written (omega (arith, rest, less))
     ]
 
-part-fewer : {T E : Type 0} (result : Result T E) (held left : List HeldSector) (old new : DiskState) → WritesPart result held left old new → length left ≤ length held
+part-fewer : {T E : Type 0} (result : Result T E) (held left : List HeldSector) (old new : DiskState) → WritesPart result held left old new
+    → length left ≤ length held
 part-fewer result held left old new part = omega (arith, ap length part.down.stays, unwritten-fewer part.down.runs held)
 
-puts-few : {T E : Type 0} (at n : ℕ) (piece : List ℕ) (result : Result T E) (most : ℕ) (held : List HeldSector) (between new : DiskState) → PutsAfter at n piece result most held between new → length held ≤ most
+puts-few : {T E : Type 0} (at n : ℕ) (piece : List ℕ) (result : Result T E) (most : ℕ) (held : List HeldSector) (between new : DiskState)
+    → PutsAfter at n piece result most held between new → length held ≤ most
 puts-few at n piece result most held between new puts =
     elim (cases_lt most n) [
       | inl more ↦ omega (arith, ap length (puts.disk more).0)
@@ -58,7 +60,8 @@ record KeepsRoom {D : Type 0} (old new : Cache D) : Type 0 where
   room : new.room ≡ old.room
   few : length old.held ≤ old.room → length new.held ≤ old.room
 
-holds-then : {D : Type 0} (R : Cache D → Cache D → Type 0) (most : ℕ) (old new : AnyStore D) → ((a b : Cache D) → R a b → KeepsRoom a b) → StaysWith R old new → HoldsBack most old → HoldsBack most new
+holds-then : {D : Type 0} (R : Cache D → Cache D → Type 0) (most : ℕ) (old new : AnyStore D) → ((a b : Cache D) → R a b → KeepsRoom a b) → StaysWith R old new
+    → HoldsBack most old → HoldsBack most new
 holds-then R zero (Direct a) (Direct b) keeps stays holds = tt
 holds-then R zero (Direct a) (Cached b) keeps stays holds = absurd stays
 holds-then R zero (Cached a) new keeps stays holds = absurd holds

@@ -34,7 +34,8 @@ both_settle (Some a) None z xy yz = absurd xy
 both_settle (Some a) (Some b) None xy yz = absurd yz
 both_settle (Some a) (Some b) (Some c) xy yz = agrees_then a (settles b) (settles c) xy (settles_agree b c yz)
 
-told_settled : (old new : Option Contents) → BothTell Settles old new → BothTell (λ a b. Agrees a (settles b)) (option_map sectors_of new) (option_map sectors_of old)
+told_settled : (old new : Option Contents) → BothTell Settles old new → BothTell (λ a b. Agrees a (settles b)) (option_map sectors_of new)
+    (option_map sectors_of old)
 told_settled None None told = tt
 told_settled None (Some y) told = absurd told
 told_settled (Some x) None told = absurd told
@@ -46,7 +47,8 @@ told_unsettled None (Some y) told = absurd told
 told_unsettled (Some x) None told = absurd told
 told_unsettled (Some x) (Some y) told = may_settle_agrees x y told
 
-synced_sectors : (synced : Result (Unit {0}) Failed) (old new : DiskState) (k : State) → SyncsTo synced old new → BothTell Agrees (option_map sectors_of old.contents) k.sectors
+synced_sectors : (synced : Result (Unit {0}) Failed) (old new : DiskState) (k : State) → SyncsTo synced old new
+    → BothTell Agrees (option_map sectors_of old.contents) k.sectors
     → BothTell Agrees (option_map sectors_of new.contents) (after_last synced k).sectors
 synced_sectors (Ok done) old new k sync agree = both_settle (option_map sectors_of new.contents) (option_map sectors_of old.contents) k.sectors (told_settled old.contents new.contents sync.contents) agree
 synced_sectors (Err failed) old new k sync agree = both_then (option_map sectors_of new.contents) (option_map sectors_of old.contents) k.sectors (told_unsettled old.contents new.contents sync.contents) agree
@@ -55,7 +57,8 @@ same_lists : (synced : Result (Unit {0}) Failed) (k : State) → (after_last syn
 same_lists (Ok done) k = refl
 same_lists (Err failed) k = refl
 
-same_crash : (synced : Result (Unit {0}) Failed) (k : State) (c : Option Contents) → IfSome c (Finds (MayStand k)) → IfSome c (Finds (MayStand (after_last synced k)))
+same_crash : (synced : Result (Unit {0}) Failed) (k : State) (c : Option Contents) → IfSome c (Finds (MayStand k))
+    → IfSome c (Finds (MayStand (after_last synced k)))
 same_crash (Ok done) k c f = f
 same_crash (Err failed) k c f = f
 
@@ -83,7 +86,8 @@ leaves_known : (c : Contents) (k : Sectors) → Agrees (sectors_of c) k → Leav
 leaves_known c k agree = λ image left s unmarked.
     known_left (Some (sector c.bytes s)) (k.known s) (sector c.bytes s) (agree.known s) refl (sector image s) (left.kept s (agree.marks s unmarked))
 
-both_leave : (x : Option Contents) (y : Option Sectors) → BothTell Agrees (option_map sectors_of x) y → IfSome x (λ c. IfSome y (λ sectors. LeavesKnown sectors c))
+both_leave : (x : Option Contents) (y : Option Sectors) → BothTell Agrees (option_map sectors_of x) y
+    → IfSome x (λ c. IfSome y (λ sectors. LeavesKnown sectors c))
 both_leave None y told = tt
 both_leave (Some c) None told = tt
 both_leave (Some c) (Some k) told = leaves_known c k told
@@ -97,17 +101,20 @@ leaves_under c d k agree settled = λ image left s unmarked.
     let both = settled.kept s (agree.marks s unmarked) in
     known_left (Some (sector c.bytes s)) (k.known s) (sector c.bytes s) (agree.known s) refl (sector image s) (left.kept s both.0 ∙ both.1)
 
-both_under : (x y : Option Contents) (z : Option Sectors) → BothTell Agrees (option_map sectors_of x) z → BothTell KeepsSettled x y → IfSome y (λ c. IfSome z (λ sectors. LeavesKnown sectors c))
+both_under : (x y : Option Contents) (z : Option Sectors) → BothTell Agrees (option_map sectors_of x) z → BothTell KeepsSettled x y
+    → IfSome y (λ c. IfSome z (λ sectors. LeavesKnown sectors c))
 both_under x None z told kept = tt
 both_under None (Some d) z told kept = absurd kept
 both_under (Some c) (Some d) None told kept = tt
 both_under (Some c) (Some d) (Some k) told kept = leaves_under c d k told kept
 
-outlived_under : (d : Device) (k : State) (disk : DiskState) → Holds d k → BothTell KeepsSettled d.store.contents disk.contents → Outlives (record d { store = disk }) k
+outlived_under : (d : Device) (k : State) (disk : DiskState) → Holds d k → BothTell KeepsSettled d.store.contents disk.contents
+    → Outlives (record d { store = disk }) k
 outlived_under d k disk h kept = record { file = both_under d.store.contents disk.contents k.sectors h.sectors kept; keep = h.crash }
 
 -- frames came to a slot, whose lists every crash found before, and then its store was synced
-ends_after : (a m b : Slot) (h : List Met) (synced : Result (Unit {0}) Failed) → AlwaysFinds a.device.keep a.device.lists → IsServed a m h → SyncsSlot synced m b → EndsAfter h synced a b
+ends_after : (a m b : Slot) (h : List Met) (synced : Result (Unit {0}) Failed) → AlwaysFinds a.device.keep a.device.lists → IsServed a m h
+    → SyncsSlot synced m b → EndsAfter h synced a b
 ends_after a m b h synced finds served sync =
     let at_end = λ (k : State) (hold : Holds a.device k). synced_slot synced m b (left_by a.station k h) sync (served.holds k hold) in
     record {
@@ -129,14 +136,16 @@ there (x ∷ slots) (suc i) below = let t = there slots i (omega (arith, below))
 abbrev pub FindsAll : List Slot → Type 0
 FindsAll slots = (i : ℕ) (s : Slot) → slice_get slots i ≡ Some s → AlwaysFinds s.device.keep s.device.lists
 
-pub served_in : {S K L : Type 0} (t : Tells S K L) (p : Plan) (e : RunEnd) (a b : Outside S K L) (old new : List Slot) (ran : HasRun t p e a b old new) → AreServed old new (arrivals_in t p e a b old new ran)
+pub served_in : {S K L : Type 0} (t : Tells S K L) (p : Plan) (e : RunEnd) (a b : Outside S K L) (old new : List Slot) (ran : HasRun t p e a b old new)
+    → AreServed old new (arrivals_in t p e a b old new ran)
 served_in t plan.Answer (end.Answered e) a b old new ran = ran.answered.served
 served_in t plan.Answer (end.Served e) a b old new ran = absurd ran
 served_in t (plan.Serve frames idle) (end.Answered e) a b old new ran = absurd ran
 served_in t (plan.Serve frames idle) (end.Served e) a b old new ran = ran.served.served
 
 -- each slot at the end of a run
-pub each_ends : (old middle new : List Slot) (arrivals : List Arrived) (results : List (Result (Unit {0}) Failed)) → FindsAll old → AreServed old middle arrivals → SyncsEach results middle new
+pub each_ends : (old middle new : List Slot) (arrivals : List Arrived) (results : List (Result (Unit {0}) Failed)) → FindsAll old
+    → AreServed old middle arrivals → SyncsEach results middle new
     → EachSlot (λ i x y. EndsAfter (at_slot i arrivals) (get_or results i (Ok tt)) x y) old new
 each_ends old middle new arrivals results finds served synced = record {
   count = synced.slots.count ∙ served.slots.count;
@@ -145,7 +154,8 @@ each_ends old middle new arrivals results finds served synced = record {
       ends_after a m.slot b (at_slot i arrivals) (get_or results i (Ok tt)) (finds i a ea) (served.slots.each i a m.slot ea m.is) (synced.slots.each i m.slot b m.is eb);
 }
 
-pub run_ends : {S K L : Type 0} (t : Tells S K L) (p : Plan) (e : RunEnd) (a b : Outside S K L) (old middle new : List Slot) (results : List (Result (Unit {0}) Failed))
+pub run_ends : {S K L : Type 0} (t : Tells S K L) (p : Plan) (e : RunEnd) (a b : Outside S K L) (old middle new : List Slot)
+    (results : List (Result (Unit {0}) Failed))
     (ran : HasRun t p e a b old middle) → FindsAll old → SyncsEach results middle new
     → EachSlot (λ i x y. EndsAfter (at_slot i (arrivals_in t p e a b old middle ran)) (get_or results i (Ok tt)) x y) old new
 run_ends t p e a b old middle new results ran finds synced = each_ends old middle new (arrivals_in t p e a b old middle ran) results finds (served_in t p e a b old middle ran) synced
@@ -154,7 +164,8 @@ finds_first : (s x : Slot) → AlwaysFinds s.device.keep s.device.lists → (let
 finds_first s x finds e = let same : s ≡ x = cc in subst (λ (y : Slot). AlwaysFinds y.device.keep y.device.lists) same finds
 
 -- every crash finds the lists of a slot over a keep that was mounted
-pub over_finds : {D : Type 0} (state : D → DiskState) (most : ℕ) (name : ℕ → ℕ → Station) (minor : ℕ) (disks disks' : List (Option D)) (first last : List Slot) → OverFiles state most name minor disks disks' first last → FindsAll first
+pub over_finds : {D : Type 0} (state : D → DiskState) (most : ℕ) (name : ℕ → ℕ → Station) (minor : ℕ) (disks disks' : List (Option D)) (first last : List Slot)
+    → OverFiles state most name minor disks disks' first last → FindsAll first
 over_finds state most name minor (Some f ∷ Some k ∷ disks) (Some f' ∷ Some k' ∷ disks') (a ∷ first) (b ∷ last) over zero s e = finds_first a s over.0.mounted.finds e
 over_finds state most name minor (Some f ∷ Some k ∷ disks) (Some f' ∷ Some k' ∷ disks') (a ∷ first) (b ∷ last) over (suc i) s e = over_finds state most name (minor + 1) disks disks' first last over.1 i s e
 over_finds state most name minor (Some f ∷ Some k ∷ disks) (Some f' ∷ Some k' ∷ disks') (a ∷ first) [] over i s e = absurd over

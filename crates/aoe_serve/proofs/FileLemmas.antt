@@ -31,8 +31,10 @@ ends_with disks file keep = disks ++ Some file ∷ Some keep ∷ []
 -- One slot more.
 
 module _ {D : Type 0} (state : D → DiskState) (most : ℕ) where
-  seated-more : (name : ℕ → ℕ → Station) (minor : ℕ) (disks : List (Option D)) (targets : List (Mounted (AnyStore D) D)) (file keep : D) (t : Mounted (AnyStore D) D) → AreSeated state most name minor disks targets
-      → IsSeatedOn state (name (minor + length targets)) (over_file most file) keep t → AreSeated state most name minor (ends_with disks file keep) (targets ++ t ∷ [])
+  seated-more : (name : ℕ → ℕ → Station) (minor : ℕ) (disks : List (Option D)) (targets : List (Mounted (AnyStore D) D)) (file keep : D)
+      (t : Mounted (AnyStore D) D) → AreSeated state most name minor disks targets
+      → IsSeatedOn state (name (minor + length targets)) (over_file most file) keep t
+      → AreSeated state most name minor (ends_with disks file keep) (targets ++ t ∷ [])
   seated-more name minor disks [] file keep t none on = (
     file,
     keep,
@@ -51,14 +53,16 @@ module _ {D : Type 0} (state : D → DiskState) (most : ℕ) where
         (subst (λ (n : ℕ). IsSeatedOn state (name n) (over_file most file) keep t) (let same : minor + suc (length targets) ≡ minor + 1 + length targets = omega arith in same) on),
   )
 
-  back-more : (disks : List (Option D)) (targets : List (Mounted (AnyStore D) D)) (file keep : D) (t : Mounted (AnyStore D) D) → AreBack state most disks targets → IsLeft state most file keep t
+  back-more : (disks : List (Option D)) (targets : List (Mounted (AnyStore D) D)) (file keep : D) (t : Mounted (AnyStore D) D)
+      → AreBack state most disks targets → IsLeft state most file keep t
       → AreBack state most (ends_with disks file keep) (targets ++ t ∷ [])
   back-more disks [] file keep t none left = (file, keep, [], ap (λ (xs : List (Option D)). ends_with xs file keep) none, left, refl)
   back-more disks (u ∷ targets) file keep t (f, k, others, is, l, rest) left =
       (f, k, ends_with others file keep, ap (λ (xs : List (Option D)). ends_with xs file keep) is, l, back-more others targets file keep t rest left)
 
   -- the keep behind slots that were added and left again is refused
-  refused-last : (name : ℕ → ℕ → Station) (minor : ℕ) (disks disks' : List (Option D)) (targets : List (Mounted (AnyStore D) D)) (refusal : MountRefusal) (file file' keep keep' : D)
+  refused-last : (name : ℕ → ℕ → Station) (minor : ℕ) (disks disks' : List (Option D)) (targets : List (Mounted (AnyStore D) D)) (refusal : MountRefusal)
+      (file file' keep keep' : D)
       → AreSeated state most name minor disks targets → AreBack state most disks' targets → file' ≡ file → IsRefused state keep refusal keep'
       → GivesBack state (length targets) refusal (ends_with disks file keep) (ends_with disks' file' keep')
   refused-last name minor disks disks' [] refusal file file' keep keep' none none' same why =
@@ -67,7 +71,8 @@ module _ {D : Type 0} (state : D → DiskState) (most : ℕ) where
       subst P (sym none) (subst Q (sym none') (record { file_same = same; why = why }, refl))
   refused-last name minor disks disks' (t ∷ targets) refusal file file' keep keep' (f, k, others, is, s, rest) (f', k', others', is', l, rest') same why =
       let P : List (Option D) → Type 0 = λ xs. GivesBack state (suc (length targets)) refusal (ends_with xs file keep) (ends_with disks' file' keep') in
-      let Q : List (Option D) → Type 0 = λ ys. GivesBack state (suc (length targets)) refusal (ends_with (Some f ∷ Some k ∷ others) file keep) (ends_with ys file' keep') in
+      let Q : List (Option D) → Type 0 =
+      λ ys. GivesBack state (suc (length targets)) refusal (ends_with (Some f ∷ Some k ∷ others) file keep) (ends_with ys file' keep') in
       let M : D → Type 0 = λ d. HasMounted (state k) (state d) t.keep.lists in
       subst P (sym is) (subst Q (sym is') (
         record {
@@ -79,7 +84,8 @@ module _ {D : Type 0} (state : D → DiskState) (most : ℕ) where
       ))
 
 -- a keep in front of these disks was refused
-refused-front : {D : Type 0} (state : D → DiskState) (n : ℕ) (refusal : MountRefusal) (disks disks' behind : List (Option D)) → GivesBack state n refusal disks disks' → GivesBack state n refusal (disks ++ behind) (disks' ++ behind)
+refused-front : {D : Type 0} (state : D → DiskState) (n : ℕ) (refusal : MountRefusal) (disks disks' behind : List (Option D))
+    → GivesBack state n refusal disks disks' → GivesBack state n refusal (disks ++ behind) (disks' ++ behind)
 refused-front state zero refusal (Some f ∷ Some k ∷ disks) (Some f' ∷ Some k' ∷ disks') behind back = (back.0, ap (λ (xs : List (Option _)). xs ++ behind) back.1)
 refused-front state (suc n) refusal (Some f ∷ Some k ∷ disks) (Some f' ∷ Some k' ∷ disks') behind back = (back.0, refused-front state n refusal disks disks' behind back.1)
 refused-front state zero refusal (Some f ∷ Some k ∷ disks) (Some f' ∷ None ∷ disks') behind back = absurd back
@@ -99,13 +105,15 @@ refused-front state (suc n) refusal (Some f ∷ []) disks' behind back = absurd 
 refused-front state (suc n) refusal (None ∷ disks) disks' behind back = absurd back
 refused-front state (suc n) refusal [] disks' behind back = absurd back
 
-given-front : {D : Type 0} (state : D → DiskState) (e : ExportRefusal) (disks disks' behind : List (Option D)) → AreGivenBack state e disks disks' → AreGivenBack state e (disks ++ behind) (disks' ++ behind)
+given-front : {D : Type 0} (state : D → DiskState) (e : ExportRefusal) (disks disks' behind : List (Option D)) → AreGivenBack state e disks disks'
+    → AreGivenBack state e (disks ++ behind) (disks' ++ behind)
 given-front state why.NoMemory disks disks' behind back = ap (λ (xs : List (Option _)). xs ++ behind) back
 given-front state (why.Keep slot refusal) disks disks' behind back = refused-front state slot refusal disks disks' behind back
 
 -- The minor of the next slot.
 
-unused : {D : Type 0} (state : D → DiskState) (most major : ℕ) (ports : List Mac) (mtu minor m : ℕ) (disks : List (Option D)) (targets : List (Mounted (AnyStore D) D))
+unused : {D : Type 0} (state : D → DiskState) (most major : ℕ) (ports : List Mac) (mtu minor m : ℕ) (disks : List (Option D))
+    (targets : List (Mounted (AnyStore D) D))
     → AreSeated state most (named major ports mtu) minor disks targets → minor + length targets ≤ m → has_minor targets m ≡ false
 unused state most major ports mtu minor m disks [] seated above = refl
 unused state most major ports mtu minor m disks (t ∷ targets) (f, k, others, is, s, rest) above =
@@ -113,7 +121,8 @@ unused state most major ports mtu minor m disks (t ∷ targets) (f, k, others, i
     let other : (t.station.id.minor == m) ≡ false = ne_eqb t.station.id.minor m (λ e. omega (arith, e, at, above)) in
     rw other (unused state most major ports mtu (minor + 1) m others targets rest (omega (arith, above)))
 
-pub free : {D : Type 0} (state : D → DiskState) (most major : ℕ) (ports : List Mac) (mtu minor slot : ℕ) (disks : List (Option D)) (targets : List (Mounted (AnyStore D) D))
+pub free : {D : Type 0} (state : D → DiskState) (most major : ℕ) (ports : List Mac) (mtu minor slot : ℕ) (disks : List (Option D))
+    (targets : List (Mounted (AnyStore D) D))
     → AreSeated state most (named major ports mtu) minor disks targets → length targets ≡ slot → slot < 16 → refusal_of targets (minor + slot) ≡ None
 free state most major ports mtu minor slot disks targets seated at room =
     let few : (length targets == 16) ≡ false = ne_eqb (length targets) 16 (λ e. omega (arith, e, at, room)) in
@@ -122,7 +131,8 @@ free state most major ports mtu minor slot disks targets seated at room =
 
 -- The disks of the last slot, behind those of the others.
 
-module _ {D : Type 0} (state : D → DiskState) (most : ℕ) (all others pair : List (Option D)) (file keep : D) (parts : all ≡ others ++ pair) (pair_is : pair ≡ Some file ∷ Some keep ∷ []) where
+module _ {D : Type 0} (state : D → DiskState) (most : ℕ) (all others pair : List (Option D)) (file keep : D) (parts : all ≡ others ++ pair)
+    (pair_is : pair ≡ Some file ∷ Some keep ∷ []) where
   joined : all ≡ ends_with others file keep
   joined = parts ∙ ap (λ (xs : List (Option D)). others ++ xs) pair_is
 
@@ -131,28 +141,36 @@ module _ {D : Type 0} (state : D → DiskState) (most : ℕ) (all others pair : 
   unused-disk store file' is closed = closed ∙ ap (λ (x : AnyStore D). any_disk x) is ∙ over-disk most file
 
   -- the slot is added behind the others
-  pub seated-then : (name name' : ℕ → ℕ → Station) (minor slot : ℕ) (store : AnyStore D) (middle new : List (Mounted (AnyStore D) D)) → store ≡ over_file most file → length middle ≡ slot → name' ≡ name
+  pub seated-then : (name name' : ℕ → ℕ → Station) (minor slot : ℕ) (store : AnyStore D) (middle new : List (Mounted (AnyStore D) D))
+      → store ≡ over_file most file → length middle ≡ slot → name' ≡ name
       → AreSeated state most name minor others middle → IsSeated state (name' (minor + slot)) store keep middle new → AreSeated state most name minor all new
   seated-then name name' minor slot store middle new is at same seated s =
       let P : List (Option D) → Type 0 = λ xs. AreSeated state most name minor xs new in
       let Q : List (Mounted (AnyStore D) D) → Type 0 = λ ts. AreSeated state most name minor (ends_with others file keep) ts in
-      let on : IsSeatedOn state (name' (minor + slot)) (over_file most file) keep s.target = subst (λ (x : AnyStore D). IsSeatedOn state (name' (minor + slot)) x keep s.target) is s.seated in
-      let here : IsSeatedOn state (name' (minor + length middle)) (over_file most file) keep s.target = subst (λ (n : ℕ). IsSeatedOn state (name' (minor + n)) (over_file most file) keep s.target) (sym at) on in
-      let there : IsSeatedOn state (name (minor + length middle)) (over_file most file) keep s.target = subst (λ (n : ℕ → ℕ → Station). IsSeatedOn state (n (minor + length middle)) (over_file most file) keep s.target) same here in
+      let on : IsSeatedOn state (name' (minor + slot)) (over_file most file) keep s.target =
+      subst (λ (x : AnyStore D). IsSeatedOn state (name' (minor + slot)) x keep s.target) is s.seated in
+      let here : IsSeatedOn state (name' (minor + length middle)) (over_file most file) keep s.target =
+      subst (λ (n : ℕ). IsSeatedOn state (name' (minor + n)) (over_file most file) keep s.target) (sym at) on in
+      let there : IsSeatedOn state (name (minor + length middle)) (over_file most file) keep s.target =
+      subst (λ (n : ℕ → ℕ → Station). IsSeatedOn state (n (minor + length middle)) (over_file most file) keep s.target) same here in
       subst P (sym joined) (subst Q (sym s.added) (seated-more state most name minor others middle file keep s.target seated there))
 
   -- nothing is run for another cause
-  pub given-then : (e : ExportRefusal) (others' pair' : List (Option D)) (store : AnyStore D) (file' : D) → store ≡ over_file most file → file' ≡ any_disk store → pair' ≡ Some file' ∷ Some keep ∷ []
+  pub given-then : (e : ExportRefusal) (others' pair' : List (Option D)) (store : AnyStore D) (file' : D) → store ≡ over_file most file → file' ≡ any_disk store
+      → pair' ≡ Some file' ∷ Some keep ∷ []
       → AreGivenBack state e others others' → AreGivenBack state e all (others' ++ pair')
   given-then e others' pair' store file' is closed pair_is' back =
-      let here : ends_with others' file keep ≡ others' ++ pair' = ap (λ (f : D). ends_with others' f keep) (sym (unused-disk store file' is closed)) ∙ ap (λ (xs : List (Option D)). others' ++ xs) (sym pair_is') in
+      let here : ends_with others' file keep ≡ others' ++ pair' =
+      ap (λ (f : D). ends_with others' f keep) (sym (unused-disk store file' is closed)) ∙ ap (λ (xs : List (Option D)). others' ++ xs) (sym pair_is') in
       let P : List (Option D) → Type 0 = λ xs. AreGivenBack state e xs (others' ++ pair') in
       let Q : List (Option D) → Type 0 = λ ys. AreGivenBack state e (ends_with others file keep) ys in
       subst P (sym joined) (subst Q here (given-front state e others others' (Some file ∷ Some keep ∷ []) back))
 
   -- its keep is refused
-  pub refused-then : (name : ℕ → ℕ → Station) (minor slot : ℕ) (refusal : MountRefusal) (others' pair' : List (Option D)) (targets : List (Mounted (AnyStore D) D)) (store store' : AnyStore D) (file' keep' : D)
-      → AreSeated state most name minor others targets → AreBack state most others' targets → length targets ≡ slot → store ≡ over_file most file → store' ≡ store → file' ≡ any_disk store' → pair' ≡ Some file' ∷ Some keep' ∷ []
+  pub refused-then : (name : ℕ → ℕ → Station) (minor slot : ℕ) (refusal : MountRefusal) (others' pair' : List (Option D))
+      (targets : List (Mounted (AnyStore D) D)) (store store' : AnyStore D) (file' keep' : D)
+      → AreSeated state most name minor others targets → AreBack state most others' targets → length targets ≡ slot → store ≡ over_file most file
+      → store' ≡ store → file' ≡ any_disk store' → pair' ≡ Some file' ∷ Some keep' ∷ []
       → IsRefused state keep refusal keep' → GivesBack state slot refusal all (others' ++ pair')
   refused-then name minor slot refusal others' pair' targets store store' file' keep' seated back at is same closed pair_is' why =
       let R : ℕ → Type 0 = λ n. GivesBack state n refusal all (others' ++ pair') in
@@ -161,14 +179,16 @@ module _ {D : Type 0} (state : D → DiskState) (most : ℕ) (all others pair : 
       let file_same : file' ≡ file = unused-disk store' file' (same ∙ is) closed in
       subst R at (subst P (sym joined) (subst Q (sym pair_is') (refused-last state most name minor others others' targets refusal file file' keep keep' seated back file_same why)))
 
-pub back-then : {D : Type 0} (state : D → DiskState) (most : ℕ) (others' pair' : List (Option D)) (file' keep' : D) (old new : List (Mounted (AnyStore D) D)) → pair' ≡ Some file' ∷ Some keep' ∷ []
+pub back-then : {D : Type 0} (state : D → DiskState) (most : ℕ) (others' pair' : List (Option D)) (file' keep' : D) (old new : List (Mounted (AnyStore D) D))
+    → pair' ≡ Some file' ∷ Some keep' ∷ []
     → Leaves state most file' keep' old new → AreBack state most others' new → AreBack state most (others' ++ pair') old
 back-then {D} state most others' pair' file' keep' old new is l back =
     let P : List (Option D) → Type 0 = λ xs. AreBack state most (others' ++ xs) old in
     let Q : List (Mounted (AnyStore D) D) → Type 0 = λ ts. AreBack state most (ends_with others' file' keep') ts in
     subst P (sym is) (subst Q (sym l.last) (back-more state most others' new file' keep' l.target back l.left))
 
-pub all-there : {D : Type 0} (others' pair' : List (Option D)) (file' keep' : D) → pair' ≡ Some file' ∷ Some keep' ∷ [] → All IsSome others' → All IsSome (others' ++ pair')
+pub all-there : {D : Type 0} (others' pair' : List (Option D)) (file' keep' : D) → pair' ≡ Some file' ∷ Some keep' ∷ [] → All IsSome others'
+    → All IsSome (others' ++ pair')
 all-there others' pair' file' keep' is there = subst (λ (xs : List (Option _)). All IsSome (others' ++ xs)) (sym is) (behind others' there)
   where
     behind : (xs : List (Option _)) → All IsSome xs → All IsSome (ends_with xs file' keep')
@@ -185,8 +205,10 @@ same-first R same (x ∷ xs) = (same x, refl)
 
 -- From the mounting to the giving back.
 
-over-files : {D : Type 0} (state : D → DiskState) (most : ℕ) (name : ℕ → ℕ → Station) (minor : ℕ) (disks disks' : List (Option D)) (first last : List (Mounted (AnyStore D) D)) → length last ≡ length first
-    → AreSeated state most name minor disks first → AreBack state most disks' last → OverFiles state most name minor disks disks' (slots_of (any_state state) state first) (slots_of (any_state state) state last)
+over-files : {D : Type 0} (state : D → DiskState) (most : ℕ) (name : ℕ → ℕ → Station) (minor : ℕ) (disks disks' : List (Option D))
+    (first last : List (Mounted (AnyStore D) D)) → length last ≡ length first
+    → AreSeated state most name minor disks first → AreBack state most disks' last
+    → OverFiles state most name minor disks disks' (slots_of (any_state state) state first) (slots_of (any_state state) state last)
 over-files {D} state most name minor disks disks' [] [] count seated back =
     let P : List (Option D) → Type 0 = λ xs. OverFiles state most name minor xs disks' [] [] in
     let Q : List (Option D) → Type 0 = λ xs. OverFiles state most name minor [] xs [] [] in
@@ -194,7 +216,8 @@ over-files {D} state most name minor disks disks' [] [] count seated back =
 over-files state most name minor disks disks' [] (b ∷ last) count seated back = absurd (omega (arith, count))
 over-files state most name minor disks disks' (a ∷ first) [] count seated back = absurd (omega (arith, count))
 over-files {D} state most name minor disks disks' (a ∷ first) (b ∷ last) count (file, keep, others, is, s, seated) (file', keep', others', is', l, back) =
-    let P : List (Option D) → Type 0 = λ xs. OverFiles state most name minor xs disks' (slots_of (any_state state) state (a ∷ first)) (slots_of (any_state state) state (b ∷ last)) in
+    let P : List (Option D) → Type 0 =
+    λ xs. OverFiles state most name minor xs disks' (slots_of (any_state state) state (a ∷ first)) (slots_of (any_state state) state (b ∷ last)) in
     let Q : List (Option D) → Type 0 = λ xs. OverFiles state most name minor (Some file ∷ Some keep ∷ others) xs (slots_of (any_state state) state (a ∷ first)) (slots_of (any_state state) state (b ∷ last)) in
     subst P (sym is) (subst Q (sym is') (
       record {
@@ -208,17 +231,20 @@ over-files {D} state most name minor disks disks' (a ∷ first) (b ∷ last) cou
     ))
 
 -- a run adds no slot and takes none
-pub run-count : {D S K L : Type 0} (t : Tells S K L) (p : Plan) (e : RunEnd) (a b : Outside S K L) (state : D → DiskState) (old new : List (Mounted (AnyStore D) D))
+pub run-count : {D S K L : Type 0} (t : Tells S K L) (p : Plan) (e : RunEnd) (a b : Outside S K L) (state : D → DiskState)
+    (old new : List (Mounted (AnyStore D) D))
     → HasRun t p e a b (slots_of (any_state state) state old) (slots_of (any_state state) state new) → length new ≡ length old
 run-count t p e a b state old new ran =
     let f = slot_of (any_state state) state in
     sym (length-map new f) ∙ (served_in t p e a b (slots_of (any_state state) state old) (slots_of (any_state state) state new) ran).slots.count ∙ length-map old f
 
 -- a shelf was given these slots, ran, and gave them back
-pub exported : {D S K L : Type 0} (state : D → DiskState) (most most' : ℕ) (name name' : ℕ → ℕ → Station) (minor : ℕ) (t : Tells S K L) (p : Plan) (e : Exported) (a b : Outside S K L)
+pub exported : {D S K L : Type 0} (state : D → DiskState) (most most' : ℕ) (name name' : ℕ → ℕ → Station) (minor : ℕ) (t : Tells S K L) (p : Plan)
+    (e : Exported) (a b : Outside S K L)
     (disks disks' : List (Option D)) (first last : List (Mounted (AnyStore D) D)) → most' ≡ most → name' ≡ name → length last ≡ length first
     → AreSeated state most' name' minor disks first → AreBack state most' disks' last
-    → HasRunAndSynced t p e a b (slots_of (any_state state) state first) (slots_of (any_state state) state last) → IsExported state most name minor t p e a b disks disks'
+    → HasRunAndSynced t p e a b (slots_of (any_state state) state first) (slots_of (any_state state) state last)
+    → IsExported state most name minor t p e a b disks disks'
 exported {D} state most most' name name' minor t p e a b disks disks' first last room same count seated back run =
     let over = over-files state most' name' minor disks disks' first last count seated back in
     let first_slots = slots_of (any_state state) state first in

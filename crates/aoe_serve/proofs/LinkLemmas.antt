@@ -66,7 +66,8 @@ pub record SoFar (limit idle start now : ℕ) (given given' : Option (List Turn)
   pub loud : quiet_since turns ≡ 0
   pub going : has_ended turns ≡ false
 
-pub begun : (limit idle start : ℕ) (given : Option (List Turn)) (taken : Option Frames) (old : List Slot) → SoFar limit idle start start given given taken taken old old 0
+pub begun : (limit idle start : ℕ) (given : Option (List Turn)) (taken : Option Frames) (old : List Slot)
+    → SoFar limit idle start start given given taken taken old old 0
 begun limit idle start given taken old = record {
   turns = [];
   arrivals = [];
@@ -80,7 +81,8 @@ begun limit idle start given taken old = record {
   going = refl;
 }
 
-module _ (limit idle : ℕ) (turns : List Turn) (count : ℕ) (counted : length (came_in turns) ≡ count) (few : count < limit) (loud : quiet_since turns ≡ 0) (going : has_ended turns ≡ false) where
+module _ (limit idle : ℕ) (turns : List Turn) (count : ℕ) (counted : length (came_in turns) ≡ count) (few : count < limit) (loud : quiet_since turns ≡ 0)
+    (going : has_ended turns ≡ false) where
   -- while it waits
   waits : (n : ℕ) → n < idle → is_over limit idle (replicate n quiet ++ turns) ≡ false
   waits n short =
@@ -96,7 +98,8 @@ module _ (limit idle : ℕ) (turns : List Turn) (count : ℕ) (counted : length 
 module _ (limit idle start now : ℕ) (given0 given : Option (List Turn)) (taken0 taken : Option Frames) (old mid : List Slot) (count : ℕ) (few : count < limit)
     (s : SoFar limit idle start now given0 given taken0 taken old mid count) where
   -- a frame came after so many quiet turns, and the link took all replies, or some
-  module _ (later : ℕ) (given' : Option (List Turn)) (n : ℕ) (short : n < idle) (f : List ℕ) (t : Turned now later given given' (came f ∷ replicate n quiet)) where
+  module _ (later : ℕ) (given' : Option (List Turn)) (n : ℕ) (short : n < idle) (f : List ℕ)
+      (t : Turned now later given given' (came f ∷ replicate n quiet)) where
     abbrev turns' : List Turn
     turns' = came f ∷ (replicate n quiet ++ s.turns)
 
@@ -119,7 +122,8 @@ module _ (limit idle start now : ℕ) (given0 given : Option (List Turn)) (taken
       served' : AreServed old new h'
       served' = served_then old mid new f r.fates s.arrivals s.served r.meets
 
-    pub goes_on : (taken' : Option Frames) (new : List Slot) → Round (Sends {T = Unit {0}} {E = Failed} (Ok tt) taken taken') f mid new → SoFar limit idle start later given0 given' taken0 taken' old new (count + 1)
+    pub goes_on : (taken' : Option Frames) (new : List Slot) → Round (Sends {T = Unit {0}} {E = Failed} (Ok tt) taken taken') f mid new
+        → SoFar limit idle start later given0 given' taken0 taken' old new (count + 1)
     goes_on taken' new r = record {
       turns = turns';
       arrivals = h' (Ok tt) taken' new r;
@@ -134,7 +138,8 @@ module _ (limit idle start now : ℕ) (given0 given : Option (List Turn)) (taken
     }
 
     -- the link failed to take a reply
-    pub breaks : (e : Failed) (taken' : Option Frames) (new : List Slot) → Round (Sends {T = Unit {0}} (Err e) taken taken') f mid new → Served end.LinkFault limit idle start later given0 given' taken0 taken' old new
+    pub breaks : (e : Failed) (taken' : Option Frames) (new : List Slot) → Round (Sends {T = Unit {0}} (Err e) taken taken') f mid new
+        → Served end.LinkFault limit idle start later given0 given' taken0 taken' old new
     breaks e taken' new r =
         let before : Frames = replies s.arrivals in
         let n = r.took.0 in
@@ -165,7 +170,8 @@ module _ (limit idle start now : ℕ) (given0 given : Option (List Turn)) (taken
         }
 
     -- the link ended after so many quiet turns
-    pub link_ends : (n : ℕ) → n < idle → Turned now later given given' (ended ∷ replicate n quiet) → Served end.Ended limit idle start later given0 given' taken0 taken old mid
+    pub link_ends : (n : ℕ) → n < idle → Turned now later given given' (ended ∷ replicate n quiet)
+        → Served end.Ended limit idle start later given0 given' taken0 taken old mid
     link_ends n short t =
         let turns = ended ∷ (replicate n quiet ++ s.turns) in
         record {
@@ -179,7 +185,8 @@ module _ (limit idle start now : ℕ) (given0 given : Option (List Turn)) (taken
         }
 
     -- the link failed after so many quiet turns
-    pub link_fails : (n : ℕ) → n < idle → Turned now later given given' (replicate n quiet) → Served end.LinkFault limit idle start later given0 given' taken0 taken old mid
+    pub link_fails : (n : ℕ) → n < idle → Turned now later given given' (replicate n quiet)
+        → Served end.LinkFault limit idle start later given0 given' taken0 taken old mid
     link_fails n short t = record {
       turns = replicate n quiet ++ s.turns;
       arrivals = s.arrivals;
@@ -205,7 +212,8 @@ module _ (limit idle start now later : ℕ) (given0 given given' : Option (List 
   pub by_end : AfterWait (Ok Ended) idle f now later given given' → Served end.Ended limit idle start later given0 given' taken0 waiting old mid
   by_end w = link_ends limit idle start now given0 given taken0 waiting old mid count few s later given' w.1.0 w.1.1 (subst (λ (l : List Turn). Turned now later given given' l) w.1.2 w.2)
 
-  pub by_failure : (e : Failed) → AfterWait (Err e) idle f now later given given' → Served end.LinkFault limit idle start later given0 given' taken0 waiting old mid
+  pub by_failure : (e : Failed) → AfterWait (Err e) idle f now later given given'
+      → Served end.LinkFault limit idle start later given0 given' taken0 waiting old mid
   by_failure e w = link_fails limit idle start now given0 given taken0 waiting old mid count few s later given' w.1.0 w.1.1 (subst (λ (l : List Turn). Turned now later given given' l) w.1.2 w.2)
 
   module _ (last : ℕ) (given'' : Option (List Turn)) (taken' : Option Frames) (new : List Slot) (result : Outcome) (m n : ℕ) (w : AfterWait (Ok Frame) idle f now later given given')

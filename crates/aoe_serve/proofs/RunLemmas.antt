@@ -37,13 +37,15 @@ one_more o n b c before later rose =
 same_many : (o n b c : ℕ) → min (o + n) (2 ^ 64 - 1) ≤ b → b ≤ c → min (o + (n + 0)) (2 ^ 64 - 1) ≤ c
 same_many o n b c before later = omega arith
 
-counted-step : (o n b c : ℕ) (fault : Bool) → min (o + n) (2 ^ 64 - 1) ≤ b → b ≤ c → (fault ≡ true → b < 2 ^ 64 - 1 → b < c) → min (o + (n + (if fault then 1 else 0))) (2 ^ 64 - 1) ≤ c
+counted-step : (o n b c : ℕ) (fault : Bool) → min (o + n) (2 ^ 64 - 1) ≤ b → b ≤ c → (fault ≡ true → b < 2 ^ 64 - 1 → b < c)
+    → min (o + (n + (if fault then 1 else 0))) (2 ^ 64 - 1) ≤ c
 counted-step o n b c true before later rose = one_more o n b c before later (rose refl)
 counted-step o n b c false before later rose = same_many o n b c before later
 
 -- Slots.
 
-served_slot : (a b c : Slot) (f : List ℕ) (fate : Fate) (h : List Met) → IsServed a b h → Meets b c f fate → IsServed a c (record { frame = f; fate = fate } ∷ h)
+served_slot : (a b c : Slot) (f : List ℕ) (fate : Fate) (h : List Met) → IsServed a b h → Meets b c f fate
+    → IsServed a c (record { frame = f; fate = fate } ∷ h)
 served_slot a b c f fate h s m = record {
   station = m.station ∙ s.station;
   lawful = λ k hk. ((step k hk).allowed, s.lawful k hk);
@@ -61,7 +63,8 @@ unserved a b e = subst (λ (x : Slot). IsServed a x []) e (record { station = re
 pub served_begun : (old : List Slot) → AreServed old old []
 served_begun old = record { rounds = tt; slots = record { count = refl; each = λ i a b ea eb. unserved a b (same_Some a b (sym ea ∙ eb)) } }
 
-pub served_then : (old now new : List Slot) (f : List ℕ) (fates : List Fate) (h : List Arrived) → AreServed old now h → MeetAll now new f fates → AreServed old new (record { frame = f; fates = fates } ∷ h)
+pub served_then : (old now new : List Slot) (f : List ℕ) (fates : List Fate) (h : List Arrived) → AreServed old now h → MeetAll now new f fates
+    → AreServed old new (record { frame = f; fates = fates } ∷ h)
 served_then old now new f fates h s m = record {
   rounds = ((m.round.0 ∙ s.slots.count, m.round.1), s.rounds);
   slots = record {
@@ -105,7 +108,8 @@ begun left held old = record {
 }
 
 pub goes_on : (left0 left left' held0 held held' : Option (List ℕ)) (old now new : List Slot) (offset count n l m : ℕ) (f : List ℕ)
-    → SoFar left0 left held0 held old now offset count → n ≡ length f → IsFrame f → Gave left left' (framed f) → Round (SinkTook (Ok tt) held held' l m) f now new
+    → SoFar left0 left held0 held old now offset count → n ≡ length f → IsFrame f → Gave left left' (framed f)
+    → Round (SinkTook (Ok tt) held held' l m) f now new
     → SoFar left0 left' held0 held' old new (offset + (2 + n)) (count + 1)
 goes_on left0 left left' held0 held held' old now new offset count n l m f s n_is is gave r =
     let h = s.arrivals in
@@ -132,11 +136,13 @@ length-frames : (h : List Arrived) → length (frames h) ≡ length h
 length-frames [] = refl
 length-frames (a ∷ h) = omega (arith, length-append (frames h) (a.frame ∷ []), length-frames h)
 
-pub offset-fits : (left0 left held0 held : Option (List ℕ)) (old new : List Slot) (offset count : ℕ) → SoFar left0 left held0 held old new offset count → offset ≤ 9020 * count
+pub offset-fits : (left0 left held0 held : Option (List ℕ)) (old new : List Slot) (offset count : ℕ) → SoFar left0 left held0 held old new offset count
+    → offset ≤ 9020 * count
 offset-fits left0 left held0 held old new offset count s = omega (arith, s.count_is, s.offset_is, length-stream (frames s.arrivals) s.whole, length-frames s.arrivals)
 
 -- the shelf and what the sink took stay as they were
-stays : (left0 left held0 held held' : Option (List ℕ)) (old now new : List Slot) (offset count : ℕ) → SoFar left0 left held0 held old now offset count → held' ≡ held → new ≡ now → SoFar left0 left held0 held' old new offset count
+stays : (left0 left held0 held held' : Option (List ℕ)) (old now new : List Slot) (offset count : ℕ) → SoFar left0 left held0 held old now offset count
+    → held' ≡ held → new ≡ now → SoFar left0 left held0 held' old new offset count
 stays left0 left held0 held held' old now new offset count s held_is same =
     let P : Option (List ℕ) → Type 0 = λ o. SoFar left0 left held0 o old new offset count in
     let Q : List Slot → Type 0 = λ d. SoFar left0 left held0 held old d offset count in
@@ -144,7 +150,8 @@ stays left0 left held0 held held' old now new offset count s held_is same =
 
 -- a turn ended the run
 pub ends : (e : AnswerEnd) (left0 left left' held0 held held' : Option (List ℕ)) (old now new : List Slot) (offset count : ℕ)
-    → count < 4294967295 → SoFar left0 left held0 held old now offset count → Ends e offset left left' held held' now new → Answered e left0 left' held0 held' old new
+    → count < 4294967295 → SoFar left0 left held0 held old now offset count → Ends e offset left left' held held' now new
+    → Answered e left0 left' held0 held' old new
 ends end.Ended left0 left left' held0 held held' old now new offset count few s e =
     let t = stays left0 left held0 held held' old now new offset count s e.2 e.3 in
     record { arrivals = t.arrivals; whole = t.whole; served = t.served; behind = left; gave = t.gave; stops = (omega (arith, t.count_is), e.0, e.1); took = t.took }

@@ -7,7 +7,8 @@ use Rattle.aoe_serve.specs.Rounds.{Keeps, Outcome, Round}
 use Rattle.aoe_serve.specs.ShelfLink.{with_room}
 use Rattle.aoe_serve.specs.Slots.{Slot}
 
-pub stays_short : (result : Outcome) (frame : List ℕ) (waiting waiting' : List (List ℕ)) (old new : List Slot) → length waiting ≤ 64 → Round (Keeps result waiting waiting') frame old new → length waiting' ≤ 64
+pub stays_short : (result : Outcome) (frame : List ℕ) (waiting waiting' : List (List ℕ)) (old new : List Slot) → length waiting ≤ 64
+    → Round (Keeps result waiting waiting') frame old new → length waiting' ≤ 64
 stays_short (Ok u) frame waiting waiting' old new few r = omega (arith, ap length (r.took few), length-take 64 (waiting ++ replies_of r.fates))
 stays_short (Err e) frame waiting waiting' old new few r = absurd r.took
 

@@ -29,8 +29,10 @@ fate_before fates fate i below = get_or_append_left fates (fate ∷ []) ignored 
 fate_last : (fates : List Fate) (fate : Fate) (i : ℕ) → length fates ≡ i → fate_at i (fates ++ fate ∷ []) ≡ fate
 fate_last fates fate i e = get_or_at fates fate [] ignored i e
 
-module _ (old now new : List Slot) (frame : List ℕ) (fates : List Fate) (fate : Fate) (s : ℕ) (at : length fates ≡ s) (p : Partly old now frame fates) (m : MeetsAt s now new frame fate) where
-  done_then : (i : ℕ) (a b : Slot) → i < length (fates ++ fate ∷ []) → slice_get old i ≡ Some a → slice_get new i ≡ Some b → Meets a b frame (fate_at i (fates ++ fate ∷ []))
+module _ (old now new : List Slot) (frame : List ℕ) (fates : List Fate) (fate : Fate) (s : ℕ) (at : length fates ≡ s) (p : Partly old now frame fates)
+    (m : MeetsAt s now new frame fate) where
+  done_then : (i : ℕ) (a b : Slot) → i < length (fates ++ fate ∷ []) → slice_get old i ≡ Some a → slice_get new i ≡ Some b
+      → Meets a b frame (fate_at i (fates ++ fate ∷ []))
   done_then i a b below ea eb =
       elim (cases_lt i s) [
         | inl before ↦
@@ -67,7 +69,8 @@ module _ (old new : List Slot) (frame : List ℕ) (fates : List Fate) (p : Partl
   uncut k d below =
       let a = there old k (omega (arith, e, below)) in
       let b = there new k (omega (arith, e, below, p.count)) in
-      let same : fate_at k fates ≡ get_or fates k d = same_Some (fate_at k fates) (get_or fates k d) (sym (slice_get-get_or fates k ignored below) ∙ slice_get-get_or fates k d below) in
+      let same : fate_at k fates ≡ get_or fates k d =
+      same_Some (fate_at k fates) (get_or fates k d) (sym (slice_get-get_or fates k ignored below) ∙ slice_get-get_or fates k d below) in
       subst (λ (f : Fate). is_cut f ≡ false) same (p.done k a.slot b.slot below a.is b.is).uncut
 
   -- every slot met it

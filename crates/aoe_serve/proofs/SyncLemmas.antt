@@ -24,7 +24,8 @@ module _ {S D : Type 0} (store : S → DiskState) (keep : D → DiskState) (resu
   syncs_from : (a b : Mounted S D) → SyncsStore store result a b → SyncsSlot result (slot_of store keep a) (slot_of store keep b)
   syncs_from a b s = record { syncs = s.syncs; rest = ap (slot_of store keep) s.rest }
 
-  pub syncs_at : (slot : ℕ) (old new : List (Mounted S D)) → ChangesAt slot (SyncsStore store result) old new → SyncsAt slot result (slots_of store keep old) (slots_of store keep new)
+  pub syncs_at : (slot : ℕ) (old new : List (Mounted S D)) → ChangesAt slot (SyncsStore store result) old new
+      → SyncsAt slot result (slots_of store keep old) (slots_of store keep new)
   syncs_at slot old new c =
       let f = slot_of store keep in
       record {
@@ -45,8 +46,10 @@ pub record Partly (old new : List Slot) (results : List (Result (Unit {0}) Faile
 pub partly_begun : (old : List Slot) → Partly old old []
 partly_begun old = record { count = refl; done = λ i a b below. absurd (omega (arith, below)); rest = λ i above. refl }
 
-module _ (old now new : List Slot) (results : List (Result (Unit {0}) Failed)) (result : Result (Unit {0}) Failed) (s : ℕ) (at : length results ≡ s) (p : Partly old now results) (m : SyncsAt s result now new) where
-  done_then : (i : ℕ) (a b : Slot) → i < length (results ++ result ∷ []) → slice_get old i ≡ Some a → slice_get new i ≡ Some b → SyncsSlot (get_or (results ++ result ∷ []) i (Ok tt)) a b
+module _ (old now new : List Slot) (results : List (Result (Unit {0}) Failed)) (result : Result (Unit {0}) Failed) (s : ℕ) (at : length results ≡ s)
+    (p : Partly old now results) (m : SyncsAt s result now new) where
+  done_then : (i : ℕ) (a b : Slot) → i < length (results ++ result ∷ []) → slice_get old i ≡ Some a → slice_get new i ≡ Some b
+      → SyncsSlot (get_or (results ++ result ∷ []) i (Ok tt)) a b
   done_then i a b below ea eb =
       elim (cases_lt i s) [
         | inl before ↦
@@ -68,20 +71,23 @@ module _ (old now new : List Slot) (results : List (Result (Unit {0}) Failed)) (
         m.others i (λ e. omega (arith, e, at, more)) ∙ p.rest i (omega (arith, more));
   }
 
-pub partly_whole : (old new : List Slot) (results : List (Result (Unit {0}) Failed)) → Partly old new results → length results ≡ length old → SyncsEach results old new
+pub partly_whole : (old new : List Slot) (results : List (Result (Unit {0}) Failed)) → Partly old new results → length results ≡ length old
+    → SyncsEach results old new
 partly_whole old new results p e = record {
   count = e;
   slots = record { count = p.count; each = λ i a b ea eb. p.done i a b (omega (arith, e, slice_get_within old i a ea)) ea eb };
 }
 
 -- the first failure, with one result more
-later : (first : Option ℕ) (result : Result (Unit {0}) Failed) (n : ℕ) → option_map (λ slot. slot + 1) (first_of first result n) ≡ first_of (option_map (λ slot. slot + 1) first) result (n + 1)
+later : (first : Option ℕ) (result : Result (Unit {0}) Failed) (n : ℕ) → option_map (λ slot. slot + 1) (first_of first result n)
+    ≡ first_of (option_map (λ slot. slot + 1) first) result (n + 1)
 later None (Ok done) n = refl
 later None (Err failed) n = refl
 later (Some k) (Ok done) n = refl
 later (Some k) (Err failed) n = refl
 
-pub first_then : (results : List (Result (Unit {0}) Failed)) (result : Result (Unit {0}) Failed) → first_failed (results ++ result ∷ []) ≡ first_of (first_failed results) result (length results)
+pub first_then : (results : List (Result (Unit {0}) Failed)) (result : Result (Unit {0}) Failed)
+    → first_failed (results ++ result ∷ []) ≡ first_of (first_failed results) result (length results)
 first_then [] (Ok done) = refl
 first_then [] (Err failed) = refl
 first_then (Err failed ∷ results) (Ok done) = refl

@@ -72,13 +72,17 @@ module _ {S D : Type 0} (store : S → DiskState) (keep : D → DiskState) (f : 
   }
 
   -- a frame came to the slot, and the others are as they were
-  pub meets_at : (slot : ℕ) (old new : List (Mounted S D)) → ChangesAt slot (λ a b. Receives store keep a b f h out) old new → MeetsAt slot (slots_of store keep old) (slots_of store keep new) f (fate_of h out)
+  pub meets_at : (slot : ℕ) (old new : List (Mounted S D)) → ChangesAt slot (λ a b. Receives store keep a b f h out) old new
+      → MeetsAt slot (slots_of store keep old) (slots_of store keep new) f (fate_of h out)
   meets_at slot old new c = record {
     count = length-map new (slot_of store keep) ∙ ap length c.others ∙ length-set old slot c.after ∙ sym (length-map old (slot_of store keep));
     meets = λ a b ea eb.
-        let first : slot_of store keep c.before ≡ a = same_Some (slot_of store keep c.before) a (sym (slice_get-map (slot_of store keep) old slot ∙ ap (option_map (slot_of store keep)) c.found) ∙ ea) in
-        let there : slice_get new slot ≡ Some c.after = ap (λ (l : List (Mounted S D)). slice_get l slot) c.others ∙ get_set_same old slot c.after (slice_get_within old slot c.before c.found) in
-        let second : slot_of store keep c.after ≡ b = same_Some (slot_of store keep c.after) b (sym (slice_get-map (slot_of store keep) new slot ∙ ap (option_map (slot_of store keep)) there) ∙ eb) in
+        let first : slot_of store keep c.before ≡ a =
+        same_Some (slot_of store keep c.before) a (sym (slice_get-map (slot_of store keep) old slot ∙ ap (option_map (slot_of store keep)) c.found) ∙ ea) in
+        let there : slice_get new slot ≡ Some c.after =
+        ap (λ (l : List (Mounted S D)). slice_get l slot) c.others ∙ get_set_same old slot c.after (slice_get_within old slot c.before c.found) in
+        let second : slot_of store keep c.after ≡ b =
+        same_Some (slot_of store keep c.after) b (sym (slice_get-map (slot_of store keep) new slot ∙ ap (option_map (slot_of store keep)) there) ∙ eb) in
         subst (λ (x : Slot). Meets x b f (fate_of h out)) first (subst (λ (x : Slot). Meets (slot_of store keep c.before) x f (fate_of h out)) second (meets_from c.before c.after c.change));
     others = λ i other.
         slice_get-map (slot_of store keep) new i
@@ -87,8 +91,10 @@ module _ {S D : Type 0} (store : S → DiskState) (keep : D → DiskState) (f : 
   }
 
 -- the targets of a shelf change, and nothing else of it
-pub rest_then : {S D : Type 0} (a b c : Rack S D) → b ≡ record a { targets = b.targets } → c ≡ record b { targets = c.targets } → c ≡ record a { targets = c.targets }
+pub rest_then : {S D : Type 0} (a b c : Rack S D) → b ≡ record a { targets = b.targets } → c ≡ record b { targets = c.targets }
+    → c ≡ record a { targets = c.targets }
 rest_then a b c one two = two ∙ ap (λ (x : Rack _ _). record x { targets = c.targets }) one
 
-pub count_slots : {S D : Type 0} (store : S → DiskState) (keep : D → DiskState) (targets : List (Mounted S D)) → length (slots_of store keep targets) ≡ length targets
+pub count_slots : {S D : Type 0} (store : S → DiskState) (keep : D → DiskState) (targets : List (Mounted S D))
+    → length (slots_of store keep targets) ≡ length targets
 count_slots store keep targets = length-map targets (slot_of store keep)

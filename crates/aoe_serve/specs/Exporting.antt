@@ -85,7 +85,8 @@ HasRun t (plan.Serve frames idle) (end.Served e) a b old new = ServesFirst t fra
 HasRun t _ _ a b old new = ⊥
 
 -- the frames that came in the run
-abbrev pub arrivals_in : {S K L : Type 0} (t : Tells S K L) (p : Plan) (e : RunEnd) (a b : Outside S K L) (old new : List Slot) → HasRun t p e a b old new → List Arrived
+abbrev pub arrivals_in : {S K L : Type 0} (t : Tells S K L) (p : Plan) (e : RunEnd) (a b : Outside S K L) (old new : List Slot) → HasRun t p e a b old new
+    → List Arrived
 arrivals_in t plan.Answer (end.Answered e) a b old new ran = ran.answered.arrivals
 arrivals_in t plan.Answer (end.Served e) a b old new ran = []
 arrivals_in t (plan.Serve frames idle) (end.Answered e) a b old new ran = []

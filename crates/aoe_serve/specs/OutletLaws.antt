@@ -32,14 +32,16 @@ same_faults result a b is counts = let P : Outcome → Type 0 = λ r. Counts r a
 pub stream-append : (xs ys : Frames) → stream (xs ++ ys) ≡ stream xs ++ stream ys
 stream-append xs ys = flat_map-append framed xs ys
 
-writes_more : (result : Outcome) (a b c : Option (List ℕ)) (xs ys : Frames) → Took a b (stream xs) → WritesTo result b c (stream ys) → WritesTo result a c (stream (xs ++ ys))
+writes_more : (result : Outcome) (a b c : Option (List ℕ)) (xs ys : Frames) → Took a b (stream xs) → WritesTo result b c (stream ys)
+    → WritesTo result a c (stream (xs ++ ys))
 writes_more (Ok u) a b c xs ys one two = subst (λ (bytes : List ℕ). Took a c bytes) (sym (stream-append xs ys)) (Took-then a b c (stream xs) (stream ys) one two)
 writes_more (Err e) a b c xs ys one two = subst (λ (bytes : List ℕ). TookSome a c bytes) (sym (stream-append xs ys)) (TookSome-then a b c (stream xs) (stream ys) one two)
 
 pub sink_none : (held : Option (List ℕ)) (faults : ℕ) → SinkTook (Ok tt) held held faults faults []
 sink_none held faults = record { writes = Took-nothing held; counts = counts_none faults }
 
-pub sink_more : (result : Outcome) (a b c : Option (List ℕ)) (l m n : ℕ) (xs ys : Frames) → SinkTook (Ok tt) a b l m xs → SinkTook result b c m n ys → SinkTook result a c l n (xs ++ ys)
+pub sink_more : (result : Outcome) (a b c : Option (List ℕ)) (l m n : ℕ) (xs ys : Frames) → SinkTook (Ok tt) a b l m xs → SinkTook result b c m n ys
+    → SinkTook result a c l n (xs ++ ys)
 sink_more result a b c l m n xs ys one two = record { writes = writes_more result a b c xs ys one.writes two.writes; counts = counts_more result l m n one.counts two.counts }
 
 pub sink_over : (e : Failed) (a b : Option (List ℕ)) (m n : ℕ) (xs ys : Frames) → SinkTook (Err e) a b m n xs → SinkTook (Err e) a b m n (xs ++ ys)
@@ -83,7 +85,8 @@ link_more result a b c p q r i j k l m n xs ys one two = record {
   counts = counts_more result l m n one.counts two.counts;
 }
 
-pub link_over : (e : Failed) (a b : Option Frames) (p q : Option (List Turn)) (i j m n : ℕ) (xs ys : Frames) → LinkTook (Err e) a b p q i j m n xs → LinkTook (Err e) a b p q i j m n (xs ++ ys)
+pub link_over : (e : Failed) (a b : Option Frames) (p q : Option (List Turn)) (i j m n : ℕ) (xs ys : Frames) → LinkTook (Err e) a b p q i j m n xs
+    → LinkTook (Err e) a b p q i j m n (xs ++ ys)
 link_over e a b p q i j m n xs ys one = record { sends = sends_over e a b xs ys one.sends; same_given = one.same_given; same_turns = one.same_turns; counts = one.counts }
 
 -- Queues.

@@ -87,7 +87,8 @@ pub(crate) fn mount<D: Disk + Drop, M: Most>(
     requires empty { shelf.old.targets ≡ [] }
     requires room { length disks.old ≤ 32 }
     requires minors { minor + length disks.old / 2 ≤ 255 }
-    ensures seated { OnOk result (AreSeated D.state M.most (named shelf.old.major shelf.old.ports shelf.old.mtu) minor disks.old shelf.new.targets) }
+    ensures seated { OnOk result (AreSeated D.state M.most
+        (named shelf.old.major shelf.old.ports shelf.old.mtu) minor disks.old shelf.new.targets) }
     ensures refused { IfErr result (λ e. AreGivenBack D.state e disks.old disks.new) }
     ensures same { OnErr result (shelf.new.targets ≡ []) }
     ensures there { OnErr result (All IsSome disks.new) }

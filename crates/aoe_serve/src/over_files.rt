@@ -57,7 +57,9 @@ pub fn export<D: Disk + Drop, S: Source, K: Sink, L: Link>(
         disks.old disks.new) }
 
     // Nothing was run: where a keep was refused, those in front of it were mounted, and those behind it weren't.
-    ensures refused { (slot : ℕ) (refusal : MountRefusal) → result ≡ Err (ExportRefusal.Keep slot refusal) → GivesBack D.state slot refusal disks.old disks.new }
+    ensures refused { (slot : ℕ) (refusal : MountRefusal)
+        → result ≡ Err (ExportRefusal.Keep slot refusal)
+        → GivesBack D.state slot refusal disks.old disks.new }
     ensures memory { result ≡ Err ExportRefusal.NoMemory → disks.new ≡ disks.old }
     ensures source { OnErr result (source.new ≡ source.old) }
     ensures sink { OnErr result (sink.new ≡ sink.old) }
@@ -67,9 +69,12 @@ pub fn export<D: Disk + Drop, S: Source, K: Sink, L: Link>(
     ensures source_count { S.faults source.old ≤ S.faults source.new }
     ensures sink_count { K.faults sink.old ≤ K.faults sink.new }
     ensures link_count { AtFirst (λ a b. L.faults a ≤ L.faults b) links.old links.new }
-    ensures source_blame { Blamed (EndsAs result (RunEnd.Answered AnswerEnd.SourceFault)) (S.faults source.old) (S.faults source.new) }
-    ensures sink_blame { Blamed (EndsAs result (RunEnd.Answered AnswerEnd.SinkFault)) (K.faults sink.old) (K.faults sink.new) }
-    ensures link_blame { AtFirst (λ a b. Blamed (EndsAs result (RunEnd.Served ServeEnd.LinkFault)) (L.faults a) (L.faults b)) links.old links.new }
+    ensures source_blame { Blamed (EndsAs result (RunEnd.Answered AnswerEnd.SourceFault))
+        (S.faults source.old) (S.faults source.new) }
+    ensures sink_blame { Blamed (EndsAs result (RunEnd.Answered AnswerEnd.SinkFault))
+        (K.faults sink.old) (K.faults sink.new) }
+    ensures link_blame { AtFirst (λ a b. Blamed (EndsAs result (RunEnd.Served ServeEnd.LinkFault))
+        (L.faults a) (L.faults b)) links.old links.new }
 {
     export_at::<Brand, D, S, K, L>(alloc, rack, plan, source, sink, disks, links)
 }
@@ -101,9 +106,12 @@ fn export_at<M: Most, D: Disk + Drop, S: Source, K: Sink, L: Link>(
     ensures source_count { S.faults source.old ≤ S.faults source.new }
     ensures sink_count { K.faults sink.old ≤ K.faults sink.new }
     ensures link_count { AtFirst (λ a b. L.faults a ≤ L.faults b) links.old links.new }
-    ensures source_blame { Blamed (EndsAs result (RunEnd.Answered AnswerEnd.SourceFault)) (S.faults source.old) (S.faults source.new) }
-    ensures sink_blame { Blamed (EndsAs result (RunEnd.Answered AnswerEnd.SinkFault)) (K.faults sink.old) (K.faults sink.new) }
-    ensures link_blame { AtFirst (λ a b. Blamed (EndsAs result (RunEnd.Served ServeEnd.LinkFault)) (L.faults a) (L.faults b)) links.old links.new }
+    ensures source_blame { Blamed (EndsAs result (RunEnd.Answered AnswerEnd.SourceFault))
+        (S.faults source.old) (S.faults source.new) }
+    ensures sink_blame { Blamed (EndsAs result (RunEnd.Answered AnswerEnd.SinkFault))
+        (K.faults sink.old) (K.faults sink.new) }
+    ensures link_blame { AtFirst (λ a b. Blamed (EndsAs result (RunEnd.Served ServeEnd.LinkFault))
+        (L.faults a) (L.faults b)) links.old links.new }
 {
     let Rack {
         first,

@@ -56,7 +56,8 @@ pub fn serve<S: Store, D: Disk, L: Link>(
         (slots_of S.state D.state shelf.old.targets) (slots_of S.state D.state shelf.new.targets) }
     ensures rest { shelf.new ≡ record shelf.old { targets = shelf.new.targets } }
     ensures count { L.faults link.old ≤ L.faults link.new }
-    ensures link_blame { Blamed (result ≡ ServeEnd.LinkFault) (L.faults link.old) (L.faults link.new) }
+    ensures link_blame { Blamed (result ≡ ServeEnd.LinkFault) (L.faults link.old)
+        (L.faults link.new) }
 {
     let mut request = Frame::new();
     let mut reply = Frame::new();

@@ -46,7 +46,8 @@ fn turn<S: Store, D: Disk, R: Source, K: Sink>(
     reply: &mut Frame,
 ) -> Result<(), AnswerEnd>
     ensures frame { OnOk result (IsFrame request.new.items) }
-    ensures gave { OnOk result (Gave (R.left source.old) (R.left source.new) (framed request.new.items)) }
+    ensures gave { OnOk result (Gave (R.left source.old) (R.left source.new)
+        (framed request.new.items)) }
     ensures round { OnOk result (Round (SinkTook (Ok tt) (K.held sink.old) (K.held sink.new) (K.faults sink.old) (K.faults sink.new)) request.new.items
         (slots_of S.state D.state shelf.old.targets) (slots_of S.state D.state shelf.new.targets)) }
     ensures ends { IfErr result (λ end. Ends end offset (R.left source.old) (R.left source.new) (K.held sink.old) (K.held sink.new)
@@ -54,8 +55,10 @@ fn turn<S: Store, D: Disk, R: Source, K: Sink>(
     ensures rest { shelf.new ≡ record shelf.old { targets = shelf.new.targets } }
     ensures source_count { R.faults source.old ≤ R.faults source.new }
     ensures sink_count { K.faults sink.old ≤ K.faults sink.new }
-    ensures source_blame { Blamed (result ≡ Err AnswerEnd.SourceFault) (R.faults source.old) (R.faults source.new) }
-    ensures sink_blame { Blamed (result ≡ Err AnswerEnd.SinkFault) (K.faults sink.old) (K.faults sink.new) }
+    ensures source_blame { Blamed (result ≡ Err AnswerEnd.SourceFault) (R.faults source.old)
+        (R.faults source.new) }
+    ensures sink_blame { Blamed (result ≡ Err AnswerEnd.SinkFault) (K.faults sink.old)
+        (K.faults sink.new) }
 {
     match next_frame(source, offset, request) {
         Ok(Next::Frame) => {}
@@ -82,8 +85,10 @@ pub fn answer<S: Store, D: Disk, R: Source, K: Sink>(
     ensures rest { shelf.new ≡ record shelf.old { targets = shelf.new.targets } }
     ensures source_count { R.faults source.old ≤ R.faults source.new }
     ensures sink_count { K.faults sink.old ≤ K.faults sink.new }
-    ensures source_blame { Blamed (result ≡ AnswerEnd.SourceFault) (R.faults source.old) (R.faults source.new) }
-    ensures sink_blame { Blamed (result ≡ AnswerEnd.SinkFault) (K.faults sink.old) (K.faults sink.new) }
+    ensures source_blame { Blamed (result ≡ AnswerEnd.SourceFault) (R.faults source.old)
+        (R.faults source.new) }
+    ensures sink_blame { Blamed (result ≡ AnswerEnd.SinkFault) (K.faults sink.old)
+        (K.faults sink.new) }
 {
     let mut request = Frame::new();
     let mut reply = Frame::new();

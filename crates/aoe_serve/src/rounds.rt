@@ -22,7 +22,8 @@ fn give<By, O: Outlet<By>>(
     outlet: &mut O,
     given: Result<(), Failed>,
 ) -> Result<(), Failed>
-    ensures { TakesOn O.took given result outlet.old outlet.new (reply_of (fate_of heard reply.now.items)) }
+    ensures { TakesOn O.took given result outlet.old outlet.new
+        (reply_of (fate_of heard reply.now.items)) }
 {
     match given {
         Ok(()) => {}
@@ -61,7 +62,8 @@ pub(crate) fn round<S: Store, D: Disk, By, O: Outlet<By>>(
     reply: &mut Frame,
     outlet: &mut O,
 ) -> Result<(), Failed>
-    ensures round { Round (O.took result outlet.old outlet.new) frame.now (slots_of S.state D.state shelf.old.targets) (slots_of S.state D.state shelf.new.targets) }
+    ensures round { Round (O.took result outlet.old outlet.new) frame.now
+        (slots_of S.state D.state shelf.old.targets) (slots_of S.state D.state shelf.new.targets) }
     ensures rest { shelf.new ≡ record shelf.old { targets = shelf.new.targets } }
 {
     let mut given = Ok(());

@@ -53,9 +53,12 @@ pub(crate) fn run<T: Store, D: Disk, S: Source, K: Sink, L: Link>(
     ensures source_count { S.faults source.old ≤ S.faults source.new }
     ensures sink_count { K.faults sink.old ≤ K.faults sink.new }
     ensures link_count { AtFirst (λ a b. L.faults a ≤ L.faults b) links.old links.new }
-    ensures source_blame { Blamed (result ≡ RunEnd.Answered AnswerEnd.SourceFault) (S.faults source.old) (S.faults source.new) }
-    ensures sink_blame { Blamed (result ≡ RunEnd.Answered AnswerEnd.SinkFault) (K.faults sink.old) (K.faults sink.new) }
-    ensures link_blame { AtFirst (λ a b. Blamed (result ≡ RunEnd.Served ServeEnd.LinkFault) (L.faults a) (L.faults b)) links.old links.new }
+    ensures source_blame { Blamed (result ≡ RunEnd.Answered AnswerEnd.SourceFault)
+        (S.faults source.old) (S.faults source.new) }
+    ensures sink_blame { Blamed (result ≡ RunEnd.Answered AnswerEnd.SinkFault) (K.faults sink.old)
+        (K.faults sink.new) }
+    ensures link_blame { AtFirst (λ a b. Blamed (result ≡ RunEnd.Served ServeEnd.LinkFault)
+        (L.faults a) (L.faults b)) links.old links.new }
 {
     match plan {
         Plan::Answer => RunEnd::Answered(answer(shelf, source, sink)),

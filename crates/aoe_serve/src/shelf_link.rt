@@ -98,7 +98,8 @@ impl<S: Store, D: Disk> Link for ShelfLink<S, D> {
     fn recv(&mut self, out: &mut Frame) -> Result<Got, Failed>
         ensures passing { self.old.turns ≤ self.new.turns }
         ensures answer { result ≡ Ok (got_of self.old.waiting) }
-        ensures first { result ≡ Ok Got.Frame → self.old.waiting ≡ out.new.items ∷ self.new.waiting }
+        ensures first { result ≡ Ok Got.Frame → self.old.waiting
+            ≡ out.new.items ∷ self.new.waiting }
         ensures left { self.new ≡ record self.old { waiting = drop 1 self.old.waiting; turns = counted self.old.turns } }
     {
         self.turns = self.turns.saturating_add(1);

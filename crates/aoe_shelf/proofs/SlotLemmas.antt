@@ -6,7 +6,8 @@ use Rattle.std.proofs.lemmas.Option.{slice_get_read, slice_get_within}
 use Rattle.aoe_shelf.specs.Slot.{ChangesAt}
 
 -- the element that was read is changed
-pub changed : {X : Type 0} (slot : ℕ) (Change : X → X → Type 0) (items xs : List X) (x y : X) → items ≡ xs → slot < length xs → x ≡ get_or items slot x → Change x y
+pub changed : {X : Type 0} (slot : ℕ) (Change : X → X → Type 0) (items xs : List X) (x y : X) → items ≡ xs → slot < length xs → x ≡ get_or items slot x
+    → Change x y
     → ChangesAt slot Change xs (slice_set items slot y)
 changed slot Change items xs x y same inside read change = record {
   before = x;
@@ -38,5 +39,6 @@ get-set (x ∷ xs) (suc i) zero y apart = refl
 get-set (x ∷ xs) (suc i) (suc j) y apart = get-set xs i j y (λ same. apart (ap suc same))
 
 -- the element at another slot stays
-pub get-other : {X : Type 0} (slot : ℕ) (Change : X → X → Type 0) (xs ys : List X) → ChangesAt slot Change xs ys → (other : ℕ) → other ≢ slot → slice_get ys other ≡ slice_get xs other
+pub get-other : {X : Type 0} (slot : ℕ) (Change : X → X → Type 0) (xs ys : List X) → ChangesAt slot Change xs ys → (other : ℕ) → other ≢ slot
+    → slice_get ys other ≡ slice_get xs other
 get-other slot Change xs ys c other apart = ap (λ ws. slice_get ws other) c.others ∙ get-set xs slot other c.after apart

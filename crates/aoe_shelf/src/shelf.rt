@@ -123,7 +123,8 @@ impl<S: Store, D: Disk> Shelf<S, D> {
     /// The name of the target at the slot.
     pub fn id(&self, slot: usize) -> TargetId
         requires { slot < length self.now.targets }
-        ensures { IsSomeAnd (slice_get self.now.targets slot) (λ target. result ≡ target.station.id) }
+        ensures { IsSomeAnd (slice_get self.now.targets slot)
+            (λ target. result ≡ target.station.id) }
     {
         self.targets[slot].id()
     }
@@ -131,7 +132,8 @@ impl<S: Store, D: Disk> Shelf<S, D> {
     /// The lists of the target at the slot.
     pub fn lists(&self, slot: usize) -> &Lists
         requires { slot < length self.now.targets }
-        ensures { IsSomeAnd (slice_get self.now.targets slot) (λ target. result.now ≡ target.keep.lists) }
+        ensures { IsSomeAnd (slice_get self.now.targets slot)
+            (λ target. result.now ≡ target.keep.lists) }
     {
         self.targets[slot].lists()
     }
@@ -142,7 +144,8 @@ impl<S: Store, D: Disk> Shelf<S, D> {
         requires { slot < length self.old.targets }
         ensures receives { ChangesAt slot (λ before after. Receives S.state D.state before after frame.now result out.new.items)
             self.old.targets self.new.targets }
-        ensures under { ChangesAt slot (TurnsDisk S.state S.under frame.now result) self.old.targets self.new.targets }
+        ensures under { ChangesAt slot
+            (TurnsDisk S.state S.under frame.now result) self.old.targets self.new.targets }
         ensures count { length self.new.targets ≡ length self.old.targets }
         ensures rest { self.new ≡ record self.old { targets = self.new.targets } }
     {
@@ -152,7 +155,8 @@ impl<S: Store, D: Disk> Shelf<S, D> {
     /// Syncs the store of the target at the slot.
     pub fn sync_slot(&mut self, slot: usize) -> Result<(), Failed>
         requires { slot < length self.old.targets }
-        ensures syncs { ChangesAt slot (SyncsStore S.state result) self.old.targets self.new.targets }
+        ensures syncs { ChangesAt slot
+            (SyncsStore S.state result) self.old.targets self.new.targets }
         ensures count { length self.new.targets ≡ length self.old.targets }
         ensures rest { self.new ≡ record self.old { targets = self.new.targets } }
     {

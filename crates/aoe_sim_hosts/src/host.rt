@@ -62,9 +62,12 @@ fn entry_of(
     answer: Result<Ticket, (SubmitRefusal, Op)>,
 ) -> Result<Entry, NoMemory>
     ensures plain { IfOk result (λ entry. is_plain entry ≡ true) }
-    ensures taken { IfOk result (λ entry. IfOk answer (λ ticket. entry ≡ Submitted host ticket.0 dev copy)) }
-    ensures refused { IfOk result (λ entry. IfErr answer (λ e. (entry ≡ Refused host e.0) × (e.0 ≢ SubmitRefusal.NoMemory))) }
-    ensures memory { OnErr result (IfErr answer (λ e. e.0 ≡ SubmitRefusal.NoMemory) × IfOk answer (λ _. ⊥)) }
+    ensures taken { IfOk result (λ entry. IfOk answer
+        (λ ticket. entry ≡ Submitted host ticket.0 dev copy)) }
+    ensures refused { IfOk result (λ entry. IfErr answer
+        (λ e. (entry ≡ Refused host e.0) × (e.0 ≢ SubmitRefusal.NoMemory))) }
+    ensures memory { OnErr result (IfErr answer (λ e. e.0 ≡ SubmitRefusal.NoMemory)
+        × IfOk answer (λ _. ⊥)) }
 {
     match answer {
         Ok(ticket) => Ok(Entry::Submitted {
@@ -95,7 +98,8 @@ impl NamedHost {
         requires some_room { 0 < room }
         requires room { room ≤ 16384 }
         requires dead { 0 < dead.0 }
-        ensures value { IfOk result (λ x. x ≡ record { name = name; core = new_host ports.now.items life.0 room dead.0 }) }
+        ensures value { IfOk result
+            (λ x. x ≡ record { name = name; core = new_host ports.now.items life.0 room dead.0 }) }
         ensures matches { IfOk result (λ x. Matches [] x.core) }
     {
         let core = Initiator::new(alloc, ports, life, room, dead)?;
@@ -126,7 +130,8 @@ impl NamedHost {
           core = with_device self.old.core
               (new_device self.old.core.ports dev remotes.now.items total max self.old.core.life);
         }) }
-        ensures matches { OnOk result ((log : List LogEvent) → Matches log self.old.core → Matches log self.new.core) }
+        ensures matches { OnOk result ((log : List LogEvent) → Matches log self.old.core
+            → Matches log self.new.core) }
         ensures err { OnErr result (self.new ≡ self.old) }
     {
         self.ids.reserve(1)?;
@@ -141,8 +146,10 @@ impl NamedHost {
 
     /// The number of the device with a name.
     fn device(&self, dev: TargetId) -> DeviceNo
-        requires attached { is_some (position (λ d. same_id d.about.id dev) self.now.core.devices) ≡ true }
-        ensures place { position (λ d. same_id d.about.id dev) self.now.core.devices ≡ Some result.0 }
+        requires attached { is_some (position (λ d. same_id d.about.id dev) self.now.core.devices)
+            ≡ true }
+        ensures place { position (λ d. same_id d.about.id dev) self.now.core.devices
+            ≡ Some result.0 }
         ensures inside { result.0 < length self.now.core.devices }
     {
         let place = place_of(&self.ids, dev);
@@ -152,7 +159,8 @@ impl NamedHost {
     /// Submits a command. It is taken, or refused.
     pub fn submit(&mut self, run: &mut Run, dev: TargetId, op: Op) -> Result<(), NoMemory>
         requires can { CanSubmit op }
-        requires attached { is_some (position (λ d. same_id d.about.id dev) self.old.core.devices) ≡ true }
+        requires attached { is_some (position (λ d. same_id d.about.id dev) self.old.core.devices)
+            ≡ true }
         requires few { self.old.core.last_ticket < 2 ^ 64 - 1 }
         ensures life { run.new.life ≡ run.old.life }
         ensures ok { OnOk result ((s : Setup) (host : HostSetup) → IsSettled s host run.old.entries self.old → IsLawful s run.old.entries
@@ -171,7 +179,8 @@ impl NamedHost {
     fn enter(&mut self, dev: TargetId, op: Op, copy: Boxed<Op>) -> Result<Entry, NoMemory>
         requires same { copy ≡ op }
         requires can { CanSubmit op }
-        requires attached { is_some (position (λ d. same_id d.about.id dev) self.old.core.devices) ≡ true }
+        requires attached { is_some (position (λ d. same_id d.about.id dev) self.old.core.devices)
+            ≡ true }
         requires few { self.old.core.last_ticket < 2 ^ 64 - 1 }
         ensures plain { IfOk result (λ entry. is_plain entry ≡ true) }
         ensures ok { IfOk result (λ entry. (s : Setup) (host : HostSetup) (h : List Happened) → IsSettled s host h self.old → IsLawful s h

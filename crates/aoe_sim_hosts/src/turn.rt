@@ -21,7 +21,8 @@ use aoe_net::NetRefusal;
 impl NamedHost {
     /// Records the outcome of a command.
     fn tell(&self, run: &mut Run, done: Done) -> Result<(), NoMemory>
-        ensures ok { OnOk result (run.new ≡ with_entry run.old (Finished self.now.name done.ticket.0 done.outcome)) }
+        ensures ok { OnOk result (run.new ≡ with_entry run.old
+            (Finished self.now.name done.ticket.0 done.outcome)) }
         ensures err { OnErr result (run.new ≡ run.old) }
     {
         let outcome = Boxed::new(self.alloc, done.outcome)?;
@@ -35,9 +36,13 @@ impl NamedHost {
     /// Records the outcomes that wait, in the order in which they came.
     fn tell_all(&mut self, run: &mut Run) -> Result<(), NoMemory>
         ensures life { run.new.life ≡ run.old.life }
-        ensures same { self.new ≡ record self.old { core = record self.old.core { waiting = self.new.core.waiting } } }
-        ensures ok { OnOk result (Notes self.old.name self.old.core.waiting [] run.old.entries run.new.entries × (self.new.core.waiting ≡ [])) }
-        ensures err { OnErr result ((rest : List Done) × Notes self.old.name self.old.core.waiting rest run.old.entries run.new.entries) }
+        ensures same { self.new
+            ≡ record self.old { core = record self.old.core { waiting = self.new.core.waiting } } }
+        ensures ok { OnOk result
+            (Notes self.old.name self.old.core.waiting [] run.old.entries run.new.entries
+            × (self.new.core.waiting ≡ [])) }
+        ensures err { OnErr result ((rest : List Done)
+            × Notes self.old.name self.old.core.waiting rest run.old.entries run.new.entries) }
     {
         'outcomes: while let Some(done) = self.core.take_done() {
             self.tell(run, done)?;

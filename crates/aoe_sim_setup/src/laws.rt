@@ -12,8 +12,10 @@ ghost use Rattle.aoe_script.specs.Rules.{event_why, is_event};
 /// of its own, and attach hosts to slots that are there.
 pub fn layout_law()
     ensures setup { (script : ScriptLines) → IsScript script → IsSetup (setup_of script.setups) }
-    ensures hosts { (script : ScriptLines) → IsScript script → HasHosts script.setups (setup_of script.setups) }
-    ensures shelves { (script : ScriptLines) → IsScript script → HasShelves script.setups (setup_of script.setups) }
+    ensures hosts { (script : ScriptLines) → IsScript script
+        → HasHosts script.setups (setup_of script.setups) }
+    ensures shelves { (script : ScriptLines) → IsScript script
+        → HasShelves script.setups (setup_of script.setups) }
     ensures ranges { (script : ScriptLines) → IsScript script → HasRanges (setup_of script.setups) }
     ensures stations { (script : ScriptLines) → IsScript script → HasStations script.setups }
 {}
@@ -21,8 +23,11 @@ pub fn layout_law()
 /// A law: an event line in which nothing is wrong behind the setup lines of a script speaks of
 /// stations and devices that are there, and its words are in their ranges.
 pub fn events_law()
-    ensures comes { (script : ScriptLines) (event : Event) → IsScript script → event_why script.setups event ≡ None → CanCome script.setups (setup_of script.setups) event }
-    ensures ranges { (script : ScriptLines) (event : Event) → event_why script.setups event ≡ None → is_event event ≡ true }
+    ensures comes { (script : ScriptLines) (event : Event) → IsScript script
+        → event_why script.setups event ≡ None
+        → CanCome script.setups (setup_of script.setups) event }
+    ensures ranges { (script : ScriptLines) (event : Event) → event_why script.setups event ≡ None
+        → is_event event ≡ true }
 {}
 
 /// The setup of the worked cases is that of these lines, and a script can have them.

@@ -150,7 +150,8 @@ pub record IsStanding (slot : SlotSetup) (h : List Entry) (t : Mounted (AnyStore
 pub record Stands (slots : List SlotSetup) (h : List Entry) (x : MemoryRack) : Type 0 where
   pub count : length x.shelf.targets ≡ length slots
   pub stops : length x.stops ≡ length slots
-  pub each : (i : ℕ) (slot : SlotSetup) (t : Mounted (AnyStore Memory) Memory) → slice_get slots i ≡ Some slot → slice_get x.shelf.targets i ≡ Some t → IsStanding slot h t
+  pub each : (i : ℕ) (slot : SlotSetup) (t : Mounted (AnyStore Memory) Memory) → slice_get slots i ≡ Some slot → slice_get x.shelf.targets i ≡ Some t
+      → IsStanding slot h t
 
 -- and those of each slot of a shelf
 pub record Serves (slots : List SlotSetup) (h : List Entry) (x : MemoryRack) : Type 0 where

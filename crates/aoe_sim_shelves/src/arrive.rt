@@ -59,7 +59,8 @@ fn take_down(
     ensures ok { OnOk result (run.new ≡ with_entry run.old
         (Arrived dev number.0 (noted stop heard (next_number run.old.entries) out.now.items))) }
     ensures err { OnErr result (run.new ≡ run.old) }
-    ensures full { result ≡ Err NetRefusal.Full → IsReplyFull stop heard (network_of run.old) out.now.items }
+    ensures full { result ≡ Err NetRefusal.Full
+        → IsReplyFull stop heard (network_of run.old) out.now.items }
 {
     if stop.is_some() {
         return note(run, dev, number, Fate::Cut);
@@ -91,7 +92,8 @@ impl MemoryRack {
             → MeetsFull s (ArriveAtSome number.0 frame.now slots (drop slot slots) run.old.entries) run.new.entries }
         ensures count { length self.new.shelf.targets ≡ length self.old.shelf.targets }
         ensures major { self.new.shelf.major ≡ self.old.shelf.major }
-        ensures stations { map (λ t. t.station) self.new.shelf.targets ≡ map (λ t. t.station) self.old.shelf.targets }
+        ensures stations { map (λ t. t.station) self.new.shelf.targets
+            ≡ map (λ t. t.station) self.old.shelf.targets }
     {
         let dev = self.shelf.id(slot);
         let heard = self.shelf.receive_slot(slot, frame, out);
@@ -125,7 +127,8 @@ impl MemoryRack {
             → arriving s.life run.old.entries number.0 ≡ Some frame.now
             → MeetsFull s (ArriveAtSome number.0 frame.now slots slots run.old.entries) run.new.entries }
         ensures major { self.new.shelf.major ≡ self.old.shelf.major }
-        ensures stations { map (λ t. t.station) self.new.shelf.targets ≡ map (λ t. t.station) self.old.shelf.targets }
+        ensures stations { map (λ t. t.station) self.new.shelf.targets
+            ≡ map (λ t. t.station) self.old.shelf.targets }
     {
         'slots: for slot in 0..self.shelf.count() {
             if let Some(how) = self.arrive_at(run, slot, number, frame, out)? {

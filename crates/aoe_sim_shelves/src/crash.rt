@@ -71,7 +71,11 @@ fn note(run: &mut Run, shelf: &MemShelf, slot: usize, how: Loss) -> Result<(), N
 /// Records that each target lost its power, as far as there is memory.
 fn note_each(run: &mut Run, shelf: &MemShelf, how: Loss) -> Result<(), NoMemory>
     ensures ok { OnOk result (run.new ≡ record run.old { entries = with_crashes how shelf.now.targets run.old.entries }) }
-    ensures err { OnErr result ((n : ℕ) × (run.new ≡ record run.old { entries = with_crashes how (take n shelf.now.targets) run.old.entries })) }
+    ensures err { OnErr result ((n : ℕ) × (run.new
+        ≡ record run.old {
+          entries = with_crashes how
+              (take n shelf.now.targets) run.old.entries;
+        })) }
 {
     'slots: for slot in 0..shelf.count() {
         note(run, shelf, slot, how)?;
@@ -96,14 +100,16 @@ impl MemoryRack {
     pub fn crash(&mut self, run: &mut Run, how: Loss) -> Result<(), NoMemory>
         ensures life { run.new.life ≡ run.old.life }
         ensures restarts { RestartEach how self.old.shelf.targets self.new.shelf.targets }
-        ensures found { OnOk result (run.new.entries ≡ with_crashes how self.new.shelf.targets run.old.entries) }
+        ensures found { OnOk result (run.new.entries
+            ≡ with_crashes how self.new.shelf.targets run.old.entries) }
         ensures ok { OnOk result ((s : Setup) (slots : List SlotSetup) → AreSlots s slots → Stands slots run.old.entries self.old
             → IsLawful s run.old.entries
             → CrashEach how slots run.old.entries run.new.entries × IsLawful s run.new.entries × Serves slots run.new.entries self.new) }
         ensures err { OnErr result ((s : Setup) (slots : List SlotSetup) → AreSlots s slots → Stands slots run.old.entries self.old
             → IsLawful s run.old.entries → CrashSome how slots run.old.entries run.new.entries × IsLawful s run.new.entries) }
         ensures major { self.new.shelf.major ≡ self.old.shelf.major }
-        ensures stations { map (λ t. t.station) self.new.shelf.targets ≡ map (λ t. t.station) self.old.shelf.targets }
+        ensures stations { map (λ t. t.station) self.new.shelf.targets
+            ≡ map (λ t. t.station) self.old.shelf.targets }
     {
         restart(&mut self.shelf, how);
         self.stops = no_stops(self.shelf.count());

@@ -133,10 +133,12 @@ impl MemoryRack {
         requires cache { IfSome room (λ (n : ℕ). (1 ≤ n) × (n ≤ 65536)) }
         requires repeats { has_minor self.old.shelf.targets minor ≡ false }
         ensures serves { OnOk result ((slots : List SlotSetup) → Serves slots [] self.old → Serves (slots ++ slot_over
-          (station_of record { major = self.old.shelf.major; minor = minor } self.old.shelf.ports self.old.shelf.mtu sectors)
-          room ∷ []) [] self.new) }
-        ensures count { OnOk result (length self.new.shelf.targets ≡ length self.old.shelf.targets + 1) }
-        ensures minors { OnOk result ((m : ℕ) → has_minor self.new.shelf.targets m ≡ (has_minor self.old.shelf.targets m || minor == m)) }
+            (station_of record { major = self.old.shelf.major; minor = minor } self.old.shelf.ports self.old.shelf.mtu sectors)
+            room ∷ []) [] self.new) }
+        ensures count { OnOk result (length self.new.shelf.targets
+            ≡ length self.old.shelf.targets + 1) }
+        ensures minors { OnOk result ((m : ℕ) → has_minor self.new.shelf.targets m
+            ≡ (has_minor self.old.shelf.targets m || minor == m)) }
         ensures added { OnOk result (map (λ t. t.station) self.new.shelf.targets
             ≡ map (λ t. t.station) self.old.shelf.targets ++ station_of record { major = self.old.shelf.major; minor = minor } self.old.shelf.ports
             self.old.shelf.mtu sectors ∷ []) }
@@ -175,7 +177,8 @@ impl MemoryRack {
     /// The name of the target at the slot.
     pub fn id(&self, slot: usize) -> TargetId
         requires { slot < length self.now.shelf.targets }
-        ensures { IsSomeAnd (slice_get self.now.shelf.targets slot) (λ target. result ≡ target.station.id) }
+        ensures { IsSomeAnd (slice_get self.now.shelf.targets slot)
+            (λ target. result ≡ target.station.id) }
     {
         self.shelf.id(slot)
     }
@@ -201,7 +204,8 @@ impl MemoryRack {
         ensures err { OnErr result (run.new ≡ run.old) }
         ensures same { OnErr result (self.new ≡ self.old) }
         ensures major { self.new.shelf.major ≡ self.old.shelf.major }
-        ensures stations { map (λ t. t.station) self.new.shelf.targets ≡ map (λ t. t.station) self.old.shelf.targets }
+        ensures stations { map (λ t. t.station) self.new.shelf.targets
+            ≡ map (λ t. t.station) self.old.shelf.targets }
     {
         let entry = Entry::Armed {
             dev: self.id(slot),

@@ -45,7 +45,8 @@ fn one(port: Mac) -> Ports
 
 /// The host, attached to the device.
 fn attached(alloc: Global) -> Result<NamedHost, NoMemory>
-    ensures device { IfOk result (λ x. is_some (position (λ d. same_id d.about.id DEVICE) x.core.devices) ≡ true) }
+    ensures device { IfOk result (λ x. is_some
+        (position (λ d. same_id d.about.id DEVICE) x.core.devices) ≡ true) }
     ensures tickets { IfOk result (λ x. x.core.last_ticket ≡ 0) }
 {
     let mut host = NamedHost::new(alloc, name(), &one(A), Millis(2000), 4, Millis(180_000))?;
@@ -56,7 +57,8 @@ fn attached(alloc: Global) -> Result<NamedHost, NoMemory>
 /// Submits the host's first command.
 fn submit(host: &mut NamedHost, run: &mut Run, op: Op) -> Result<(), NoMemory>
     requires can { CanSubmit op }
-    requires device { is_some (position (λ d. same_id d.about.id DEVICE) host.old.core.devices) ≡ true }
+    requires device { is_some (position (λ d. same_id d.about.id DEVICE) host.old.core.devices)
+        ≡ true }
     requires tickets { host.old.core.last_ticket ≡ 0 }
 {
     host.submit(run, DEVICE, op)
@@ -105,7 +107,8 @@ fn is_flushed(entry: &Entry) -> bool {
 
 /// The host asks for a flush, and gets its response twice.
 fn flush(host: &mut NamedHost, run: &mut Run) -> Result<(), Fail>
-    requires device { is_some (position (λ d. same_id d.about.id DEVICE) host.old.core.devices) ≡ true }
+    requires device { is_some (position (λ d. same_id d.about.id DEVICE) host.old.core.devices)
+        ≡ true }
     requires tickets { host.old.core.last_ticket ≡ 0 }
 {
     submit(host, run, Op::Flush)?;
@@ -129,7 +132,8 @@ fn has_one_end(history: &History) -> bool {
 
 /// Whether two responses to a flush end it once.
 fn ends_once(host: &mut NamedHost, run: &mut Run) -> Result<bool, Fail>
-    requires device { is_some (position (λ d. same_id d.about.id DEVICE) host.old.core.devices) ≡ true }
+    requires device { is_some (position (λ d. same_id d.about.id DEVICE) host.old.core.devices)
+        ≡ true }
     requires tickets { host.old.core.last_ticket ≡ 0 }
 {
     flush(host, run)?;
@@ -145,7 +149,8 @@ fn has_empty(history: &History) -> bool {
 
 /// Whether an empty read is refused.
 fn refuses_empty(host: &mut NamedHost, run: &mut Run) -> Result<bool, Fail>
-    requires device { is_some (position (λ d. same_id d.about.id DEVICE) host.old.core.devices) ≡ true }
+    requires device { is_some (position (λ d. same_id d.about.id DEVICE) host.old.core.devices)
+        ≡ true }
     requires tickets { host.old.core.last_ticket ≡ 0 }
 {
     submit(host, run, Op::Read(Span { at: 0, count: 0 }))?;

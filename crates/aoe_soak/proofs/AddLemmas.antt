@@ -10,7 +10,8 @@ pub record AreAdded (old now : ScriptLines) (all left : List Event) : Type 0 whe
   pub events : now.events ++ left ≡ old.events ++ all
   pub good : All (Takes old) left
 
-pub room : (old now : ScriptLines) (all left rest : List Event) (event : Event) (most : ℕ) → AreAdded old now all left → left ≡ event ∷ rest → length old.events + length all ≤ most
+pub room : (old now : ScriptLines) (all left rest : List Event) (event : Event) (most : ℕ) → AreAdded old now all left → left ≡ event ∷ rest
+    → length old.events + length all ≤ most
     → length now.events < most
 room old now all left rest event most h is few =
     let whole : length (now.events ++ left) ≡ length (old.events ++ all) = ap length h.events in

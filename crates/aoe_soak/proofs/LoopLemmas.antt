@@ -59,7 +59,8 @@ pub record IsSoaked (seed count i : ℕ) (script : ScriptLines) : Type 0 where
   pub script_is : script ≡ record { setups = stations; events = commands seed count i }
   pub lines : length script.events ≡ lines_of i + crash_lines count i
 
-one_soaked : (seed count i : ℕ) (old new : ScriptLines) → IsSoaked seed count i old → new ≡ with_events old (command seed count i) → IsSoaked seed count (suc i) new
+one_soaked : (seed count i : ℕ) (old new : ScriptLines) → IsSoaked seed count i old → new ≡ with_events old (command seed count i)
+    → IsSoaked seed count (suc i) new
 one_soaked seed count i old new h is = record {
   script_is =
       is ∙ ap (λ s. with_events s (command seed count i)) h.script_is
@@ -70,5 +71,6 @@ one_soaked seed count i old new h is = record {
       omega (arith, added, parts, length-append old.events (command seed count i), h.lines, following_lines i, before_lines count i);
 }
 
-pub next_soaked : (seed count i : ℕ) (old new : ScriptLines) → IsSoaked seed count i old → new ≡ with_events old (command seed count i) → IsSoaked seed count (i + 1) new
+pub next_soaked : (seed count i : ℕ) (old new : ScriptLines) → IsSoaked seed count i old → new ≡ with_events old (command seed count i)
+    → IsSoaked seed count (i + 1) new
 next_soaked seed count i old new h is = let one : i + 1 ≡ suc i = omega arith in rw one (one_soaked seed count i old new h is)

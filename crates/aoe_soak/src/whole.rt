@@ -13,7 +13,8 @@ pub fn soak(alloc: Global, seed: u16, count: u32) -> Result<Script, NoMemory>
     requires some { 1 ≤ count }
     requires most { count ≤ 16000 }
     ensures script { IfOk result (λ script. script ≡ soaked seed count) }
-    ensures events { IfOk result (λ script. length script.events ≡ 2 * count + 3 * ((count + 6) / 10) + 2 * ((count + 3) / 10) + 6) }
+    ensures events { IfOk result (λ script. length script.events
+        ≡ 2 * count + 3 * ((count + 6) / 10) + 2 * ((count + 3) / 10) + 6) }
 {
     let mut script = stations(alloc)?;
     'commands: for i in 0..count {

@@ -48,7 +48,8 @@ is_loose_outside old new at n s same (inl below) =
     sym (get_or-take at new s false below) ∙ ap (λ (l : List Bool). get_or l s false) same.before ∙ get_or-take at old s false below
 is_loose_outside old new at n s same (inr above) =
     let from : at + n + (s - (at + n)) ≡ s = omega arith in
-    let there : (l : List Bool) → get_or (drop (at + n) l) (s - (at + n)) false ≡ get_or l s false = λ l. get_or-drop (at + n) l (s - (at + n)) false ∙ ap (λ (i : ℕ). get_or l i false) from in
+    let there : (l : List Bool) → get_or (drop (at + n) l) (s - (at + n)) false ≡ get_or l s false =
+    λ l. get_or-drop (at + n) l (s - (at + n)) false ∙ ap (λ (i : ℕ). get_or l i false) from in
     sym (there new) ∙ ap (λ (l : List Bool). get_or l (s - (at + n)) false) same.after ∙ there old
 
 -- a failed write touches its own sectors alone
@@ -62,7 +63,8 @@ may_spoil_touch at n old new sectors range spoils =
       kept = λ s out e. is_loose_outside old.loose new.loose at (n / 512) s spoils.loose out ∙ e;
     }
 
-stores_contents : {T E : Type 0} (at : ℕ) (piece : List ℕ) (result : Result T E) (old new : Option Contents) (sectors : ℕ) → IfSome old (HasShape sectors) → IsRange at (length piece) sectors
+stores_contents : {T E : Type 0} (at : ℕ) (piece : List ℕ) (result : Result T E) (old new : Option Contents) (sectors : ℕ) → IfSome old (HasShape sectors)
+    → IsRange at (length piece) sectors
     → BothTell (Writes at piece result) old new → BothTell (Stores at piece result) old new
 stores_contents at piece r None None sectors shape range told = tt
 stores_contents at piece r None (Some y) sectors shape range told = told
@@ -71,7 +73,8 @@ stores_contents at piece (Ok v) (Some x) (Some y) sectors shape range told = tol
 stores_contents at piece (Err e) (Some x) (Some y) sectors shape range told = spoils_may_spoil at (length piece) x y sectors shape range told
 
 -- a write to a disk is one to a store
-pub writes_store : {T E : Type 0} (at : ℕ) (piece : List ℕ) (result : Result T E) (old new : DiskState) → IsRange at (length piece) old.sectors → WritesTo at piece result old new → StoresTo at piece result old new
+pub writes_store : {T E : Type 0} (at : ℕ) (piece : List ℕ) (result : Result T E) (old new : DiskState) → IsRange at (length piece) old.sectors
+    → WritesTo at piece result old new → StoresTo at piece result old new
 writes_store at piece result old new range writes = record {
   call = writes.call;
   contents = stores_contents at piece result old.contents new.contents old.sectors writes.call.before.shape range writes.contents;

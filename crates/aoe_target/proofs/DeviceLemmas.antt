@@ -34,7 +34,8 @@ contains_later : (next : Settings) (offers : List Settings) (l : Settings) → C
 contains_later next offers l c = (suc c.0, omega (arith, c.1), c.2)
 
 -- the old lists, the next ones, or lists that might stand before: each may stand after an edit that failed
-offered : (old next : Settings) (k : State) (l : Settings) → old ≡ k.lists → (l ≡ old) ⊎ ((l ≡ next) ⊎ MayStand k l) → MayStand (record k { offers = next ∷ k.offers }) l
+offered : (old next : Settings) (k : State) (l : Settings) → old ≡ k.lists → (l ≡ old) ⊎ ((l ≡ next) ⊎ MayStand k l)
+    → MayStand (record k { offers = next ∷ k.offers }) l
 offered old next k l same (inl e) = inl (e ∙ same)
 offered old next k l same (inr (inl e)) = inr (0, omega arith, sym e)
 offered old next k l same (inr (inr (inl e))) = inl e

@@ -73,7 +73,8 @@ spoils_same span a b same = record {
 pub spoils_agree : (span : Span) (a b : Sectors) → Agrees a b → Agrees (spoils span a) (spoils span b)
 spoils_agree span a b ab = at b.exact refl
   where
-    unknown : (t first : Bool) (x y : Option (List ℕ)) (own : Option (List ℕ)) → IfSome y (λ v. x ≡ Some v) → IfSome (cond t (left_by_fault false first y) y) (λ v. cond t own x ≡ Some v)
+    unknown : (t first : Bool) (x y : Option (List ℕ)) (own : Option (List ℕ)) → IfSome y (λ v. x ≡ Some v)
+        → IfSome (cond t (left_by_fault false first y) y) (λ v. cond t own x ≡ Some v)
     unknown true true x y own g = tt
     unknown true false x y own g = tt
     unknown false first x y own g = g
@@ -83,7 +84,8 @@ spoils_agree span a b ab = at b.exact refl
     at false e = record {
       known = λ s.
           let own : Option (List ℕ) = left_by_fault a.exact (s == span.at) (a.known s) in
-          let P : Bool → Type 0 = λ t. IfSome (cond (in_span span s) (left_by_fault t (s == span.at) (b.known s)) (b.known s)) (λ v. cond (in_span span s) own (a.known s) ≡ Some v) in
+          let P : Bool → Type 0 =
+          λ t. IfSome (cond (in_span span s) (left_by_fault t (s == span.at) (b.known s)) (b.known s)) (λ v. cond (in_span span s) own (a.known s) ≡ Some v) in
           subst P (sym e) (unknown (in_span span s) (s == span.at) (a.known s) (b.known s) own (ab.known s));
       marks = λ s f. or_false (in_span span s) (a.marks s) (b.marks s) (ab.marks s) f;
       exact = λ f. absurd (let no : true ≡ false → ⊥ = λ q. (cc) in no (sym f ∙ e));
@@ -96,7 +98,8 @@ learn_known None None true w g told = refl
 learn_known (Some u) None true w g told = ap Some (sym (told refl))
 learn_known x None false w g told = tt
 
-told_at : (span : Span) (bytes : List ℕ) (a : Sectors) (s : ℕ) → Tells span bytes a → in_span span s ≡ true → IfSome (a.known s) (λ u. value_in span bytes s ≡ u)
+told_at : (span : Span) (bytes : List ℕ) (a : Sectors) (s : ℕ) → Tells span bytes a → in_span span s ≡ true
+    → IfSome (a.known s) (λ u. value_in span bytes s ≡ u)
 told_at span bytes a s told = by_span span s (λ t. t ≡ true → IfSome (a.known s) (λ u. value_in span bytes s ≡ u))
     (λ low high e.
     let place : span.at + (s - span.at) ≡ s = omega arith in
@@ -130,7 +133,8 @@ settles_agree a b ab = record {
 
 -- What an ATA command leaves.
 
-read_agrees : (answer : AtaAnswer) (station : Station) (h : Header) (args : AtaArgs) (reply : List ℕ) (a b : Sectors) → AllowsAta station (Some a) h args answer (replied effect.None reply) → Agrees a b → Agrees (after_read answer reply a) (after_read answer reply b)
+read_agrees : (answer : AtaAnswer) (station : Station) (h : Header) (args : AtaArgs) (reply : List ℕ) (a b : Sectors)
+    → AllowsAta station (Some a) h args answer (replied effect.None reply) → Agrees a b → Agrees (after_read answer reply a) (after_read answer reply b)
 read_agrees (Give span) station h args reply a b allowed ab = learns_agree span (data_of span reply) a b allowed.2 ab
 read_agrees Abort station h args reply a b allowed ab = ab
 read_agrees NotFound station h args reply a b allowed ab = ab
@@ -150,7 +154,8 @@ cut_agrees (Give span) a b ab = ab
 cut_agrees (Verify span) a b ab = ab
 cut_agrees Sync a b ab = ab
 
-effect_agrees : (e : Effect) (f : List ℕ) (answer : AtaAnswer) (station : Station) (h : Header) (args : AtaArgs) (reply : List ℕ) (a b : Sectors) → AllowsAta station (Some a) h args answer (replied e reply) → Agrees a b → Agrees (after_effect f answer e reply a) (after_effect f answer e reply b)
+effect_agrees : (e : Effect) (f : List ℕ) (answer : AtaAnswer) (station : Station) (h : Header) (args : AtaArgs) (reply : List ℕ) (a b : Sectors)
+    → AllowsAta station (Some a) h args answer (replied e reply) → Agrees a b → Agrees (after_effect f answer e reply a) (after_effect f answer e reply b)
 effect_agrees effect.None f answer station h args reply a b allowed ab = read_agrees answer station h args reply a b allowed ab
 effect_agrees (effect.Wrote span) f answer station h args reply a b allowed ab = puts_agree span (written (drop 24 f) span) a b ab
 effect_agrees (effect.WriteFault span) f answer station h args reply a b allowed ab = spoils_agree span a b ab
@@ -160,13 +165,15 @@ effect_agrees effect.ReadFault f answer station h args reply a b allowed ab = ab
 effect_agrees effect.SyncFault f answer station h args reply a b allowed ab = ab
 effect_agrees effect.EditFault f answer station h args reply a b allowed ab = ab
 
-ata_agrees : (fate : Fate) (f : List ℕ) (answer : AtaAnswer) (station : Station) (h : Header) (args : AtaArgs) (a b : Sectors) → AllowsAta station (Some a) h args answer fate → Agrees a b → Agrees (after_ata f answer fate a) (after_ata f answer fate b)
+ata_agrees : (fate : Fate) (f : List ℕ) (answer : AtaAnswer) (station : Station) (h : Header) (args : AtaArgs) (a b : Sectors)
+    → AllowsAta station (Some a) h args answer fate → Agrees a b → Agrees (after_ata f answer fate a) (after_ata f answer fate b)
 ata_agrees ignored f answer station h args a b allowed ab = ab
 ata_agrees silent f answer station h args a b allowed ab = ab
 ata_agrees cut f answer station h args a b allowed ab = cut_agrees answer a b ab
 ata_agrees (replied e reply) f answer station h args a b allowed ab = effect_agrees e f answer station h args reply a b allowed ab
 
-pub both_ata : (fate : Fate) (f : List ℕ) (answer : AtaAnswer) (station : Station) (h : Header) (args : AtaArgs) (x y : Option Sectors) → AllowsAta station x h args answer fate → BothTell Agrees x y
+pub both_ata : (fate : Fate) (f : List ℕ) (answer : AtaAnswer) (station : Station) (h : Header) (args : AtaArgs) (x y : Option Sectors)
+    → AllowsAta station x h args answer fate → BothTell Agrees x y
     → BothTell Agrees (option_map (after_ata f answer fate) x) (option_map (after_ata f answer fate) y)
 both_ata fate f answer station h args None None allowed told = tt
 both_ata fate f answer station h args None (Some b) allowed told = absurd told
@@ -185,7 +192,8 @@ tells_less span bytes (Some a) (Some b) ab told = λ i low. value (a.known (span
     value x None w g t = tt
     value x (Some v) w g t = let P : Option (List ℕ) → Type 0 = λ o. IfSome o (λ u. w ≡ u) in subst P g t
 
-gives_less : (e : Effect) (station : Station) (x y : Option Sectors) (h : Header) (args : AtaArgs) (span : Span) (reply : List ℕ) → BothTell Agrees x y → Gives station x h args span e reply → Gives station y h args span e reply
+gives_less : (e : Effect) (station : Station) (x y : Option Sectors) (h : Header) (args : AtaArgs) (span : Span) (reply : List ℕ) → BothTell Agrees x y
+    → Gives station x h args span e reply → Gives station y h args span e reply
 gives_less effect.None station x y h args span reply ab g = (g.0, g.1, tells_less span (data_of span reply) x y ab g.2)
 gives_less effect.ReadFault station x y h args span reply ab g = g
 gives_less (effect.Wrote s) station x y h args span reply ab g = absurd g
@@ -195,13 +203,15 @@ gives_less effect.Edited station x y h args span reply ab g = absurd g
 gives_less effect.SyncFault station x y h args span reply ab g = absurd g
 gives_less effect.EditFault station x y h args span reply ab g = absurd g
 
-give_less : (fate : Fate) (station : Station) (x y : Option Sectors) (h : Header) (args : AtaArgs) (span : Span) → BothTell Agrees x y → AllowsAta station x h args (Give span) fate → AllowsAta station y h args (Give span) fate
+give_less : (fate : Fate) (station : Station) (x y : Option Sectors) (h : Header) (args : AtaArgs) (span : Span) → BothTell Agrees x y
+    → AllowsAta station x h args (Give span) fate → AllowsAta station y h args (Give span) fate
 give_less ignored station x y h args span ab g = g
 give_less silent station x y h args span ab g = g
 give_less cut station x y h args span ab g = g
 give_less (replied e reply) station x y h args span ab g = gives_less e station x y h args span reply ab g
 
-pub allows_less : (answer : AtaAnswer) (fate : Fate) (station : Station) (x y : Option Sectors) (h : Header) (args : AtaArgs) → BothTell Agrees x y → AllowsAta station x h args answer fate → AllowsAta station y h args answer fate
+pub allows_less : (answer : AtaAnswer) (fate : Fate) (station : Station) (x y : Option Sectors) (h : Header) (args : AtaArgs) → BothTell Agrees x y
+    → AllowsAta station x h args answer fate → AllowsAta station y h args answer fate
 allows_less (Give span) fate station x y h args ab g = give_less fate station x y h args span ab g
 allows_less Abort fate station x y h args ab g = g
 allows_less NotFound fate station x y h args ab g = g

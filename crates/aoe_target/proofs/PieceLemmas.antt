@@ -17,7 +17,8 @@ rewritten xs vs ys n same whole part =
     let P : List ℕ → Type 0 = λ v. refill (length xs) xs (take 36 v ++ (ys ++ drop (length v - 36) (drop 36 v))) ≡ take 36 xs ++ ys in
     subst P (sym same)
     (let none : drop (length xs - 36) (drop 36 xs) ≡ [] = drop_all (length xs - 36) (drop 36 xs) (omega (arith, length-drop 36 xs)) in
-    let all : take 36 xs ++ (ys ++ drop (length xs - 36) (drop 36 xs)) ≡ take 36 xs ++ ys = ap (λ (l : List ℕ). take 36 xs ++ (ys ++ l)) none ∙ ap (λ (l : List ℕ). take 36 xs ++ l) (append-nil ys) in
+    let all : take 36 xs ++ (ys ++ drop (length xs - 36) (drop 36 xs)) ≡ take 36 xs ++ ys =
+    ap (λ (l : List ℕ). take 36 xs ++ (ys ++ l)) none ∙ ap (λ (l : List ℕ). take 36 xs ++ l) (append-nil ys) in
     let size : length (take 36 xs ++ ys) ≡ length xs = omega (arith, length-append (take 36 xs) ys, length-take-le 36 xs (omega arith)) in
     ap (λ (l : List ℕ). refill (length xs) xs l) all ∙ take_at (take 36 xs ++ ys) (drop (length (take 36 xs ++ ys)) xs) (length xs) size)
 
@@ -37,7 +38,8 @@ padded_whole out long =
 pub data_in : (out : List ℕ) (n : ℕ) → length out ≡ 36 + n → take (36 + n - 36) (drop 36 (padded out)) ≡ drop 36 out
 data_in out n size =
     let zeros : List ℕ = replicate (60 - length out) 0 in
-    let split : padded out ≡ take 36 out ++ (drop 36 out ++ zeros) = ap (λ (l : List ℕ). l ++ zeros) (sym (take-append-drop 36 out)) ∙ append_assoc (take 36 out) (drop 36 out) zeros in
+    let split : padded out ≡ take 36 out ++ (drop 36 out ++ zeros) =
+    ap (λ (l : List ℕ). l ++ zeros) (sym (take-append-drop 36 out)) ∙ append_assoc (take 36 out) (drop 36 out) zeros in
     ap (λ (l : List ℕ). take (36 + n - 36) (drop 36 l)) split
     ∙ ap (λ (l : List ℕ). take (36 + n - 36) l) (drop_at (take 36 out) (drop 36 out ++ zeros) 36 (length-take-le 36 out (omega arith)))
     ∙ take_at (drop 36 out) zeros (36 + n - 36) (omega (arith, length-drop 36 out))

@@ -18,7 +18,8 @@ of_one (port ∷ []) dst none one = chosen port dst (same_address port dst) refl
 of_one (port ∷ other ∷ rest) dst none one = absurd (omega arith)
 
 -- each of its replies comes from it, since a request that went to a port went to this one
-pub from_the_only_port : (station : Station) (ports : List Mac) (none : Mac) (h : Header) → ports ≡ station.ports.items → length ports ≡ 1 → reply_port station h ≡ get_or ports 0 none
+pub from_the_only_port : (station : Station) (ports : List Mac) (none : Mac) (h : Header) → ports ≡ station.ports.items → length ports ≡ 1
+    → reply_port station h ≡ get_or ports 0 none
 from_the_only_port station ports none h same one =
     let P : List Mac → Type 0 = λ l. (if holds l h.dst then h.dst else get_or l 0 h.dst) ≡ get_or ports 0 none in
     subst P same (of_one ports h.dst none one)

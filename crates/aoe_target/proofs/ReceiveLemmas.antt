@@ -28,7 +28,8 @@ use Rattle.aoe_target.proofs.LawLemmas.{allows_less, both_ata, both_then}
 use Rattle.aoe_target.proofs.DeviceLemmas.{stepped}
 
 -- a store that is called once, or not at all, has as many sectors as before
-pub same_sectors : {S : Type 0} (state : S → DiskState) (calls failed : Bool) (old new : S) → OnTrue calls (IsRun 1 failed (state old) (state new)) → (calls ≡ false → new ≡ old)
+pub same_sectors : {S : Type 0} (state : S → DiskState) (calls failed : Bool) (old new : S) → OnTrue calls (IsRun 1 failed (state old) (state new))
+    → (calls ≡ false → new ≡ old)
     → (state new).sectors ≡ (state old).sectors
 same_sectors state true failed old new run idle = run.sectors
 same_sectors state false failed old new run idle = ap (λ s. (state s).sectors) (idle refl)
@@ -38,7 +39,8 @@ pub unheard : (station : Station) (lists : Settings) (f : List ℕ) → false �
 unfolding verdict
 unheard station lists f e = ap (λ (t : Bool). cond t (judged station lists (fields f) (drop 24 f)) Ignored) (sym e)
 
-pub judged_is : (station : Station) {lists told : Settings} (f : List ℕ) {h : Header} {args : List ℕ} (v : Verdict) → true ≡ is_some (head f) → h ≡ fields f → args ≡ drop 24 f → told ≡ lists
+pub judged_is : (station : Station) {lists told : Settings} (f : List ℕ) {h : Header} {args : List ℕ} (v : Verdict) → true ≡ is_some (head f) → h ≡ fields f
+    → args ≡ drop 24 f → told ≡ lists
     → v ≡ judged station told h args → verdict station lists f ≡ v
 unfolding verdict
 judged_is station {lists} f {h} {args} v there header rest same e =
@@ -47,7 +49,8 @@ judged_is station {lists} f {h} {args} v there header rest same e =
 
 module _ (station : Station) (d d' : Device) (k : State) (f : List ℕ) (h : Holds d k) where
   -- a step by its verdict
-  step_by : (fate : Fate) (v : Verdict) → verdict station d.lists f ≡ v → Allows station k f v fate → Holds d' (after station f v fate k) → IsStep station k f fate d'
+  step_by : (fate : Fate) (v : Verdict) → verdict station d.lists f ≡ v → Allows station k f v fate → Holds d' (after station f v fate k)
+      → IsStep station k f fate d'
   step_by fate v e allowed holds =
       let is : verdict station k.lists f ≡ v = subst (λ (l : Settings). verdict station l f ≡ v) h.lists e in
       record {
@@ -62,14 +65,16 @@ module _ (station : Station) (d d' : Device) (k : State) (f : List ℕ) (h : Hol
   silent_step e same = step_by silent Silent e refl (subst (λ (x : Device). Holds x k) same h)
 
   -- a reply that bears an error
-  pub refused_step : (header : Header) (error : AoeError) (out : List ℕ) → verdict station d.lists f ≡ Refused error → header ≡ fields f → out ≡ spelled station header (Some error) (repeated f) → d ≡ d'
+  pub refused_step : (header : Header) (error : AoeError) (out : List ℕ) → verdict station d.lists f ≡ Refused error → header ≡ fields f
+      → out ≡ spelled station header (Some error) (repeated f) → d ≡ d'
       → IsStep station k f (replied effect.None out) d'
   refused_step header error out e header_is out_is same =
       step_by (replied effect.None out) (Refused error) e
       (ap (replied effect.None) (out_is ∙ ap (λ (x : Header). spelled station x (Some error) (repeated f)) header_is)) (subst (λ (x : Device). Holds x k) same h)
 
   -- the answer of the lists
-  pub lists_step : (command : ListCommand) (r : Heard) (out : List ℕ) → verdict station d.lists f ≡ Lists command → AllowsStep station f (step_of station d.lists f command) (fate_of r out)
+  pub lists_step : (command : ListCommand) (r : Heard) (out : List ℕ) → verdict station d.lists f ≡ Lists command
+      → AllowsStep station f (step_of station d.lists f command) (fate_of r out)
       → KeepsStep (step_of station d.lists f command) r d.lists d'.lists d.keep d'.keep → d'.store ≡ d.store → IsStep station k f (fate_of r out) d'
   lists_step command r out e allowed kept store =
       step_by (fate_of r out) (Lists command) e
@@ -78,11 +83,13 @@ module _ (station : Station) (d d' : Device) (k : State) (f : List ℕ) (h : Hol
 
   -- an ATA command
   pub ata_step : (header : Header) (a : AtaDecision) (e : Effect) (out : List ℕ) → verdict station d.lists f ≡ Ata a → header ≡ fields f
-      → AllowsAta station (option_map sectors_of d.store.contents) header a.args a.answer (replied e out) → Leaves f a.answer e out d.store.contents d'.store.contents
+      → AllowsAta station (option_map sectors_of d.store.contents) header a.args a.answer (replied e out)
+      → Leaves f a.answer e out d.store.contents d'.store.contents
       → d'.lists ≡ d.lists → d'.keep ≡ d.keep → IsStep station k f (replied e out) d'
   ata_step header a e out v header_is allowed leaves lists keep =
       let known = option_map sectors_of d.store.contents in
-      let allows : AllowsAta station known (fields f) a.args a.answer (replied e out) = subst (λ (x : Header). AllowsAta station known x a.args a.answer (replied e out)) header_is allowed in
+      let allows : AllowsAta station known (fields f) a.args a.answer (replied e out) =
+      subst (λ (x : Header). AllowsAta station known x a.args a.answer (replied e out)) header_is allowed in
       step_by (replied e out) (Ata a) v
       (allows_less a.answer (replied e out) station known k.sectors (fields f) a.args h.sectors allows)
       (record {

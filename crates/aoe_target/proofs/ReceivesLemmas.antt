@@ -31,7 +31,8 @@ pub record Calls {S D : Type 0} (store : S → DiskState) (keep : D → DiskStat
   pub edit : OnTrue (edits old.station old.keep.lists f w) (Replaces (is_unkept h) (keep old.keep.disk) (keep new.keep.disk))
   pub unedited : edits old.station old.keep.lists f w ≡ false → new.keep ≡ old.keep
 
-pub by_it : {S D : Type 0} (store : S → DiskState) (keep : D → DiskState) (f : List ℕ) (h : Heard) (old new : Mounted S D) (w : Verdict) → verdict old.station old.keep.lists f ≡ w
+pub by_it : {S D : Type 0} (store : S → DiskState) (keep : D → DiskState) (f : List ℕ) (h : Heard) (old new : Mounted S D) (w : Verdict)
+    → verdict old.station old.keep.lists f ≡ w
     → Calls store keep f h old new w → Calls store keep f h old new (verdict old.station old.keep.lists f)
 by_it store keep f h old new w e calls = subst (λ (v : Verdict). Calls store keep f h old new v) (sym e) calls
 
@@ -53,14 +54,16 @@ pub record Rests {S D : Type 0} (store : S → DiskState) (keep : D → DiskStat
   pub ignored : h ≡ heard.Ignored → out ≡ []
   pub step : (k : State) → Holds (device_of store keep t) k → IsStep t.station k f (fate_of h out) (device_of store keep t)
 
-no_calls : {S D : Type 0} (store : S → DiskState) (keep : D → DiskState) (f : List ℕ) (h : Heard) (t : Mounted S D) (w : Verdict) → is_rest w ≡ true → Calls store keep f h t t w
+no_calls : {S D : Type 0} (store : S → DiskState) (keep : D → DiskState) (f : List ℕ) (h : Heard) (t : Mounted S D) (w : Verdict) → is_rest w ≡ true
+    → Calls store keep f h t t w
 no_calls store keep f h t Ignored rest = record { call = tt; log = logs_none (store t.store); idle = λ _. refl; edit = tt; unedited = λ _. refl }
 no_calls store keep f h t Silent rest = record { call = tt; log = logs_none (store t.store); idle = λ _. refl; edit = tt; unedited = λ _. refl }
 no_calls store keep f h t (Refused error) rest = record { call = tt; log = logs_none (store t.store); idle = λ _. refl; edit = tt; unedited = λ _. refl }
 no_calls store keep f h t (Lists command) rest = let clash : false ≡ true = rest in absurd cc
 no_calls store keep f h t (Ata decision) rest = let clash : false ≡ true = rest in absurd cc
 
-pub unmoved : {S D : Type 0} (store : S → DiskState) (keep : D → DiskState) (t : Mounted S D) (f : List ℕ) (h : Heard) (out : List ℕ) (w : Verdict) → Rests store keep t f h out w
+pub unmoved : {S D : Type 0} (store : S → DiskState) (keep : D → DiskState) (t : Mounted S D) (f : List ℕ) (h : Heard) (out : List ℕ) (w : Verdict)
+    → Rests store keep t f h out w
     → Receives store keep t t f h out
 unmoved store keep t f h out w r =
     let calls = by_it store keep f h t t w r.by (no_calls store keep f h t w r.rest) in
@@ -79,7 +82,8 @@ unmoved store keep t f h out w r =
     }
 
 -- no ATA command is answered as a change of the lists
-pub keeps_lists : (station : Station) (k : Option Sectors) (h : Header) (args : AtaArgs) (a : AtaAnswer) (e : Effect) (out : List ℕ) → AllowsAta station k h args a (replied e out) → is_edit_fault e ≡ false
+pub keeps_lists : (station : Station) (k : Option Sectors) (h : Header) (args : AtaArgs) (a : AtaAnswer) (e : Effect) (out : List ℕ)
+    → AllowsAta station k h args a (replied e out) → is_edit_fault e ≡ false
 keeps_lists station k h args a effect.None out allowed = refl
 keeps_lists station k h args a (effect.Wrote span) out allowed = refl
 keeps_lists station k h args a effect.Synced out allowed = refl

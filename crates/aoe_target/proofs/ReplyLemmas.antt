@@ -23,14 +23,16 @@ use Rattle.aoe_target.proofs.PieceLemmas.{data_in}
 use Rattle.aoe_target.proofs.SectorLemmas.{agrees_same, both_agree, put_same, spoil_agrees}
 
 -- header and registers, then the data, then the padding
-pub data_reply_is : (station : Station) (h : Header) (args : AtaArgs) (bytes begun whole out : List ℕ) → begun ≡ reply_head station h None ++ args_bytes (reply_of args Done) → whole ≡ begun ++ bytes → out ≡ padded whole
+pub data_reply_is : (station : Station) (h : Header) (args : AtaArgs) (bytes begun whole out : List ℕ)
+    → begun ≡ reply_head station h None ++ args_bytes (reply_of args Done) → whole ≡ begun ++ bytes → out ≡ padded whole
     → out ≡ data_reply station h args bytes
 unfolding spelled
 data_reply_is station h args bytes begun whole out begun_is whole_is out_is =
     out_is ∙ ap padded (whole_is ∙ ap (λ (l : List ℕ). l ++ bytes) begun_is ∙ append_assoc (reply_head station h None) (args_bytes (reply_of args Done)) bytes)
 
 -- the sectors that a read gave are the data of the reply
-pub gives_read : (station : Station) (k : Option Contents) (h : Header) (args : AtaArgs) (span : Span) (whole out : List ℕ) → take 36 whole ≡ reply_head station h None ++ args_bytes (reply_of args Done)
+pub gives_read : (station : Station) (k : Option Contents) (h : Header) (args : AtaArgs) (span : Span) (whole out : List ℕ)
+    → take 36 whole ≡ reply_head station h None ++ args_bytes (reply_of args Done)
     → length whole ≡ 36 + 512 * span.count → out ≡ padded whole → IfSome k (λ c. drop 36 whole ≡ take (512 * span.count) (drop (512 * span.at) c.bytes))
     → Gives station (option_map sectors_of k) h args span effect.None out
 gives_read station k h args span whole out front size out_is told =
@@ -42,20 +44,24 @@ gives_read station k h args span whole out front size out_is told =
       tells k (data_of span out) (drop 36 whole) bytes told,
     )
   where
-    tells : (k : Option Contents) (given read : List ℕ) → given ≡ read → IfSome k (λ c. read ≡ take (512 * span.count) (drop (512 * span.at) c.bytes)) → IfSome (option_map sectors_of k) (Tells span given)
+    tells : (k : Option Contents) (given read : List ℕ) → given ≡ read → IfSome k (λ c. read ≡ take (512 * span.count) (drop (512 * span.at) c.bytes))
+        → IfSome (option_map sectors_of k) (Tells span given)
     tells None given read same told = tt
     tells (Some c) given read same told = λ i low.
         ap (λ (l : List ℕ). sector l i) (same ∙ told) ∙ sector-read c.bytes span.at (512 * span.count) i (omega (arith, low))
 
 -- a write, done and failed
-pub put_leaves : (span : Span) (piece bytes : List ℕ) (sectors : ℕ) (old new : Option Contents) → piece ≡ bytes → length piece ≡ 512 * span.count → 1 ≤ span.count → span.at + span.count ≤ sectors
-    → IfSome old (HasShape sectors) → BothTell (Puts span.at piece) old new → BothTell Agrees (option_map sectors_of new) (option_map (puts span bytes) (option_map sectors_of old))
+pub put_leaves : (span : Span) (piece bytes : List ℕ) (sectors : ℕ) (old new : Option Contents) → piece ≡ bytes → length piece ≡ 512 * span.count
+    → 1 ≤ span.count → span.at + span.count ≤ sectors
+    → IfSome old (HasShape sectors) → BothTell (Puts span.at piece) old new
+    → BothTell Agrees (option_map sectors_of new) (option_map (puts span bytes) (option_map sectors_of old))
 put_leaves span piece bytes sectors old new same size some end shape told =
     let P : List ℕ → Type 0 = λ l. BothTell Agrees (option_map sectors_of new) (option_map (puts span l) (option_map sectors_of old)) in
     subst P same (both_agree (puts span piece) (Puts span.at piece) sectors old new shape told
     (λ x y whole put. agrees_same (sectors_of y) (puts span piece (sectors_of x)) (put_same span piece x y sectors size some end whole put)))
 
 pub spoil_leaves : (span : Span) (n sectors : ℕ) (old new : Option Contents) → n ≡ 512 * span.count → 1 ≤ span.count → span.at + span.count ≤ sectors
-    → IfSome old (HasShape sectors) → BothTell (MaySpoil span.at n) old new → BothTell Agrees (option_map sectors_of new) (option_map (spoils span) (option_map sectors_of old))
+    → IfSome old (HasShape sectors) → BothTell (MaySpoil span.at n) old new
+    → BothTell Agrees (option_map sectors_of new) (option_map (spoils span) (option_map sectors_of old))
 spoil_leaves span n sectors old new size some end shape told =
     both_agree (spoils span) (MaySpoil span.at n) sectors old new shape told (λ x y whole may. spoil_agrees span n x y sectors size some end whole may)

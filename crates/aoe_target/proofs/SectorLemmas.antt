@@ -24,7 +24,8 @@ within_span : (at n s : ℕ) → at ≤ s → s < at + n → (nat_le at s && nat
 within_span at n s low high = grind (arith, nat_tests)
 
 -- a sector is one of a span, or outside it
-pub by_span : (span : Span) (s : ℕ) (P : Bool → Type 0) → (span.at ≤ s → s < span.at + span.count → P true) → (IsOutside span.at span.count s → P false) → P (in_span span s)
+pub by_span : (span : Span) (s : ℕ) (P : Bool → Type 0) → (span.at ≤ s → s < span.at + span.count → P true) → (IsOutside span.at span.count s → P false)
+    → P (in_span span s)
 by_span span s P inside outside = elim (cases_lt s span.at) [
   | inl below ↦ subst P (sym (before_span span.at span.count s below)) (outside (inl below))
   | inr above ↦ elim (cases_lt s (span.at + span.count)) [
@@ -55,7 +56,8 @@ is_range at n count sectors e some end =
     record { some = omega arith; whole = omega arith; within = omega arith }
 
 -- the marks of a span
-marked : (old new : List Bool) (span : Span) (m : ℕ) → m ≡ span.count → new ≡ with_marks old span.at m → span.at + span.count ≤ length old → (s : ℕ) → is_loose new s ≡ (in_span span s || is_loose old s)
+marked : (old new : List Bool) (span : Span) (m : ℕ) → m ≡ span.count → new ≡ with_marks old span.at m → span.at + span.count ≤ length old → (s : ℕ)
+    → is_loose new s ≡ (in_span span s || is_loose old s)
 marked old new span m size e fits s =
     let P : ℕ → Type 0 = λ k. is_loose (with_marks old span.at k) s ≡ (in_span span s || is_loose old s) in
     ap (λ (l : List Bool). is_loose l s) e ∙ subst P (sym size)
@@ -64,17 +66,20 @@ marked old new span m size e fits s =
     (λ out. is_loose-with_marks_outside old span.at span.count fits s out))
 
 -- a write that is done
-pub put_same : (span : Span) (piece : List ℕ) (old new : Contents) (sectors : ℕ) → length piece ≡ 512 * span.count → 1 ≤ span.count → span.at + span.count ≤ sectors
+pub put_same : (span : Span) (piece : List ℕ) (old new : Contents) (sectors : ℕ) → length piece ≡ 512 * span.count → 1 ≤ span.count
+    → span.at + span.count ≤ sectors
     → HasShape sectors old → Puts span.at piece old new → Same (sectors_of new) (puts span piece (sectors_of old))
 put_same span piece old new sectors size some end shape put =
     let m : length piece / 512 ≡ span.count = omega (arith, size) in
-    let touch : Touches span.at (length piece / 512) old new = puts_touch span.at piece old new sectors shape (is_range span.at (length piece) span.count sectors size some end) put in
+    let touch : Touches span.at (length piece / 512) old new =
+    puts_touch span.at piece old new sectors shape (is_range span.at (length piece) span.count sectors size some end) put in
     record {
       known = λ s. by_span span s (λ t. Some (sector new.bytes s) ≡ cond t (Some (value_in span piece s)) (Some (sector old.bytes s)))
           (λ low high.
           let k : ℕ = s - span.at in
           let place : span.at + k ≡ s = omega arith in
-          let there : sector (with_piece old.bytes (512 * span.at) piece) (span.at + k) ≡ sector piece k = sector-with_piece old.bytes piece span.at k (omega (arith, shape.bytes, size)) (omega (arith, size)) in
+          let there : sector (with_piece old.bytes (512 * span.at) piece) (span.at + k) ≡ sector piece k =
+          sector-with_piece old.bytes piece span.at k (omega (arith, shape.bytes, size)) (omega (arith, size)) in
           let P : ℕ → Type 0 = λ i. sector (with_piece old.bytes (512 * span.at) piece) i ≡ sector piece k in
           ap Some (ap (λ (l : List ℕ). sector l s) put.bytes ∙ subst P place there))
           (λ out. let Q : ℕ → Type 0 = λ n. IsOutside span.at n s in ap Some (touch.same s (subst Q (sym m) out)));
@@ -104,7 +109,8 @@ spoil_same span n old new sectors size some end shape told may =
       exact = ap is_some may.settled;
     }
   where
-    first : (span : Span) (old new : Contents) (s : ℕ) → 512 * span.at + 512 ≤ length old.bytes → new.bytes ≡ with_piece old.bytes (512 * span.at) spoiled_sector
+    first : (span : Span) (old new : Contents) (s : ℕ) → 512 * span.at + 512 ≤ length old.bytes
+        → new.bytes ≡ with_piece old.bytes (512 * span.at) spoiled_sector
         → Some (sector new.bytes s) ≡ left_by_fault true (s == span.at) (Some (sector old.bytes s))
     first span old new s fits e = elim (cases_eq s span.at) [
       | inl here ↦
@@ -150,7 +156,8 @@ spoil_agrees span n old new sectors size some end shape may = at (is_some old.se
         unknown true s = tt
         unknown false s = tt
 
-settled_same : (x y : Option (List ℕ)) (now : List ℕ) → BothTell (λ _ settled. settled ≡ now) x y → is_some x ≡ true → (s : ℕ) → option_map (λ bytes. sector bytes s) y ≡ Some (sector now s)
+settled_same : (x y : Option (List ℕ)) (now : List ℕ) → BothTell (λ _ settled. settled ≡ now) x y → is_some x ≡ true → (s : ℕ)
+    → option_map (λ bytes. sector bytes s) y ≡ Some (sector now s)
 settled_same None None now told e s = absurd (no_truth (sym e))
 settled_same None (Some y) now told e s = absurd told
 settled_same (Some x) None now told e s = absurd told
@@ -193,8 +200,10 @@ may_settle_agrees old new e =
     }
 
 -- what a call leaves of contents, told or not
-pub both_agree : (g : Sectors → Sectors) (R : Contents → Contents → Type 0) (sectors : ℕ) (old new : Option Contents) → IfSome old (HasShape sectors) → BothTell R old new
-    → ((x y : Contents) → HasShape sectors x → R x y → Agrees (sectors_of y) (g (sectors_of x))) → BothTell Agrees (option_map sectors_of new) (option_map g (option_map sectors_of old))
+pub both_agree : (g : Sectors → Sectors) (R : Contents → Contents → Type 0) (sectors : ℕ) (old new : Option Contents) → IfSome old (HasShape sectors)
+    → BothTell R old new
+    → ((x y : Contents) → HasShape sectors x → R x y → Agrees (sectors_of y) (g (sectors_of x)))
+    → BothTell Agrees (option_map sectors_of new) (option_map g (option_map sectors_of old))
 both_agree g R sectors None None shape told each = tt
 both_agree g R sectors None (Some y) shape told each = absurd told
 both_agree g R sectors (Some x) None shape told each = absurd told

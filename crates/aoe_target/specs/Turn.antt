@@ -25,7 +25,8 @@ pub record Receives {S D : Type 0} (store : S → DiskState) (keep : D → DiskS
   pub log : Logs (store_calls f (verdict before.station before.keep.lists f)) (store before.store) (store after.store)
   pub idle : calls_store (verdict before.station before.keep.lists f) ≡ false → after.store ≡ before.store
   pub fault : is_faulty h ≡ true → Rose (store before.store).faults (store after.store).faults
-  pub edit : OnTrue (edits before.station before.keep.lists f (verdict before.station before.keep.lists f)) (Replaces (is_unkept h) (keep before.keep.disk) (keep after.keep.disk))
+  pub edit : OnTrue (edits before.station before.keep.lists f (verdict before.station before.keep.lists f))
+      (Replaces (is_unkept h) (keep before.keep.disk) (keep after.keep.disk))
   pub unedited : edits before.station before.keep.lists f (verdict before.station before.keep.lists f) ≡ false → after.keep ≡ before.keep
   pub edit_fault : is_unkept h ≡ true → Rose (keep before.keep.disk).faults (keep after.keep.disk).faults
 

@@ -49,7 +49,8 @@ fn begin_data(
 fn read_into<S: Store>(store: &mut S, span: Span, out: &mut Frame) -> Result<(), Failed>
     requires range { IsRange span.at (512 * span.count) (S.state store.old).sectors }
     requires len { length out.old.items ≡ 36 + 512 * span.count }
-    ensures reads { Reads span.at (512 * span.count) result (drop 36 out.new.items) (S.state store.old) (S.state store.new) }
+    ensures reads { Reads span.at (512 * span.count) result (drop 36 out.new.items)
+        (S.state store.old) (S.state store.new) }
     ensures front { take 36 out.new.items ≡ take 36 out.old.items }
     ensures len { length out.new.items ≡ 36 + 512 * span.count }
     ensures under { BothTell (ReadsUnder (is_err result)) (S.under store.old) (S.under store.new) }
@@ -73,8 +74,10 @@ fn give<S: Store>(
         result out.new.items }
     ensures same { (S.state store.new).contents ≡ (S.state store.old).contents }
     ensures call { IsRun 1 (is_fault result) (S.state store.old) (S.state store.new) }
-    ensures log { Logs (ata_calls [] (AtaAnswer.Give span)) (S.state store.old) (S.state store.new) }
-    ensures under { BothTell (ReadsUnder (is_fault result)) (S.under store.old) (S.under store.new) }
+    ensures log { Logs (ata_calls [] (AtaAnswer.Give span)) (S.state store.old)
+        (S.state store.new) }
+    ensures under { BothTell (ReadsUnder (is_fault result)) (S.under store.old)
+        (S.under store.new) }
 {
     begin_data(station, header, args, span.count, out);
     match read_into(store, span, out) {
@@ -101,10 +104,12 @@ fn verify<S: Store>(
     requires mounted { FitsStore station.now (S.state store.old) }
     requires range { InRange station.now.sectors station.now.max span }
     ensures done { OnOk result (Verifies station.now header.now args Effect.None out.new.items) }
-    ensures failed { OnErr result (Verifies station.now header.now args Effect.ReadFault out.new.items) }
+    ensures failed { OnErr result
+        (Verifies station.now header.now args Effect.ReadFault out.new.items) }
     ensures same { (S.state store.new).contents ≡ (S.state store.old).contents }
     ensures call { IsRun 1 (is_err result) (S.state store.old) (S.state store.new) }
-    ensures log { Logs (ata_calls [] (AtaAnswer.Verify span)) (S.state store.old) (S.state store.new) }
+    ensures log { Logs (ata_calls [] (AtaAnswer.Verify span)) (S.state store.old)
+        (S.state store.new) }
     ensures under { BothTell (ReadsUnder (is_err result)) (S.under store.old) (S.under store.new) }
 {
     begin_data(station, header, &args, span.count, out);
@@ -140,8 +145,10 @@ fn put<S: Store>(
     ensures leaves { Leaves frame.now (AtaAnswer.Put span) result out.new.items
         (S.state store.old).contents (S.state store.new).contents }
     ensures call { IsRun 1 (is_fault result) (S.state store.old) (S.state store.new) }
-    ensures log { Logs (ata_calls frame.now (AtaAnswer.Put span)) (S.state store.old) (S.state store.new) }
-    ensures under { BothTell (SpendsUnder span.count (is_fault result)) (S.under store.old) (S.under store.new) }
+    ensures log { Logs (ata_calls frame.now (AtaAnswer.Put span)) (S.state store.old)
+        (S.state store.new) }
+    ensures under { BothTell (SpendsUnder span.count (is_fault result)) (S.under store.old)
+        (S.under store.new) }
     ensures names { Names result wrote.new }
 {
     *wrote = span;
@@ -168,15 +175,19 @@ fn sync<S: Store>(
     args: AtaArgs,
     out: &mut Frame,
 ) -> Result<(), Failed>
-    ensures done { OnOk result (AnswersSync station.now header.now args Effect.Synced out.new.items) }
-    ensures failed { OnErr result (AnswersSync station.now header.now args Effect.SyncFault out.new.items) }
+    ensures done { OnOk result
+        (AnswersSync station.now header.now args Effect.Synced out.new.items) }
+    ensures failed { OnErr result
+        (AnswersSync station.now header.now args Effect.SyncFault out.new.items) }
     ensures kept { OnOk result (Leaves frame.now AtaAnswer.Sync Effect.Synced out.new.items
         (S.state store.old).contents (S.state store.new).contents) }
     ensures left { OnErr result (Leaves frame.now AtaAnswer.Sync Effect.SyncFault out.new.items
         (S.state store.old).contents (S.state store.new).contents) }
     ensures call { IsRun 1 (is_err result) (S.state store.old) (S.state store.new) }
-    ensures log { Logs (ata_calls frame.now AtaAnswer.Sync) (S.state store.old) (S.state store.new) }
-    ensures under { BothTell (FreesUnder (is_err result) (S.state store.old).contents) (S.under store.old) (S.under store.new) }
+    ensures log { Logs (ata_calls frame.now AtaAnswer.Sync) (S.state store.old)
+        (S.state store.new) }
+    ensures under { BothTell (FreesUnder (is_err result) (S.state store.old).contents)
+        (S.under store.old) (S.under store.new) }
 {
     match store.sync() {
         Ok(()) => {
@@ -203,7 +214,8 @@ pub(crate) fn serve<S: Store>(
     out: &mut Frame,
 ) -> Effect
     requires mounted { FitsStore station.now (S.state store.old) }
-    requires range { CanServe station.now.sectors station.now.max (drop 24 frame.now) decision.answer }
+    requires range { CanServe station.now.sectors station.now.max
+        (drop 24 frame.now) decision.answer }
     requires len { 24 ≤ length frame.now }
     ensures allowed { AllowsAta station.now (option_map sectors_of (S.state store.old).contents) header.now
         decision.args decision.answer (replied result out.new.items) }
@@ -211,11 +223,13 @@ pub(crate) fn serve<S: Store>(
         (S.state store.old).contents (S.state store.new).contents }
     ensures call { OnTrue (calls_for decision.answer)
         (IsRun 1 (is_fault result) (S.state store.old) (S.state store.new)) }
-    ensures log { Logs (ata_calls frame.now decision.answer) (S.state store.old) (S.state store.new) }
+    ensures log { Logs (ata_calls frame.now decision.answer) (S.state store.old)
+        (S.state store.new) }
     ensures under { TurnsUnder decision.answer (is_fault result) (S.state store.old).contents
         (S.under store.old) (S.under store.new) }
     ensures idle { calls_for decision.answer ≡ false → store.new ≡ store.old }
-    ensures fault { is_fault result ≡ true → Rose (S.state store.old).faults (S.state store.new).faults }
+    ensures fault { is_fault result ≡ true → Rose (S.state store.old).faults
+        (S.state store.new).faults }
     ensures names { Names result wrote.new }
 {
     let args = &decision.args;

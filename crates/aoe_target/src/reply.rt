@@ -26,7 +26,8 @@ const MAX_SHORT: usize = MIN_FRAME - HEADER_LEN;
 #[inline(never)]
 fn put_head_of(station: &Station, header: &HeaderView<'_>, code: Option<u8>, out: &mut [u8])
     requires { length out.old ≡ 24 }
-    ensures { out.new ≡ header_bytes (reply_header header.now station.now.id (reply_port station.now header.now) code) }
+    ensures { out.new ≡ header_bytes (reply_header header.now station.now.id
+        (reply_port station.now header.now) code) }
 {
     put_turned(header, station.id, &station.reply_port(header), code, out);
 }
@@ -127,7 +128,8 @@ pub(crate) fn refuse(
     out: &mut Frame,
 )
     requires { 24 ≤ length frame.now }
-    ensures { out.new.items ≡ spelled station.now header.now (Some error) (slice_range frame.now 24 60) }
+    ensures { out.new.items ≡ spelled station.now header.now (Some error)
+        (slice_range frame.now 24 60) }
 {
     reply(station, header, Some(error), repeated(frame), out);
 }
@@ -163,7 +165,8 @@ pub(crate) fn put_front(
     out: &mut [u8],
 )
     requires { 36 ≤ length out.old }
-    ensures front { take 36 out.new ≡ reply_head station.now header.now None ++ args_bytes (reply_of args.now outcome) }
+    ensures front { take 36 out.new ≡ reply_head station.now header.now None
+        ++ args_bytes (reply_of args.now outcome) }
     ensures len { length out.new ≡ length out.old }
 {
     let (head, rest) = out.split_at_mut(HEADER_LEN);

@@ -56,7 +56,8 @@ fn replace<D: Disk>(keep: &mut Keep<D>, next: &Lists) -> Result<(), Failed>
     ensures lists { OnOk result (keep.new.lists ≡ next.now) }
     ensures finds { OnOk result (AlwaysFinds (D.state keep.new.disk) next.now) }
     ensures stays { OnErr result (keep.new.lists ≡ keep.old.lists) }
-    ensures offered { OnErr result (FindsOffered (D.state keep.old.disk) (D.state keep.new.disk) keep.old.lists next.now) }
+    ensures offered { OnErr result (FindsOffered (D.state keep.old.disk)
+        (D.state keep.new.disk) keep.old.lists next.now) }
     ensures others { KeepsOthers (D.state keep.old.disk) (D.state keep.new.disk) }
     ensures run { IsRun 6 (is_err result) (D.state keep.old.disk) (D.state keep.new.disk) }
     ensures calls { ReplacesBy D.state next.now (is_err result) keep.old keep.new }
@@ -86,8 +87,10 @@ fn tell_step<D: Disk>(
     ensures empty { result ≡ Heard.Silent → out.new.items ≡ [] }
     ensures edit { OnTrue (is_change (step_of station.now keep.old.lists frame.now command))
         (Replaces (is_unkept result) (D.state keep.old.disk) (D.state keep.new.disk)) }
-    ensures idle { is_change (step_of station.now keep.old.lists frame.now command) ≡ false → keep.new ≡ keep.old }
-    ensures unkept { is_unkept result ≡ true → Rose (D.state keep.old.disk).faults (D.state keep.new.disk).faults }
+    ensures idle { is_change (step_of station.now keep.old.lists frame.now command) ≡ false
+        → keep.new ≡ keep.old }
+    ensures unkept { is_unkept result ≡ true → Rose (D.state keep.old.disk).faults
+        (D.state keep.new.disk).faults }
 {
     let answer = step(
         station,
@@ -135,7 +138,8 @@ fn empty_string(
     command: ListCommand,
 ) -> Option<[u8; 8]>
     requires { 24 ≤ length frame.now }
-    ensures { IfSome result (λ args. step_of station.now lists.now frame.now command ≡ reply_of args) }
+    ensures { IfSome result (λ args. step_of station.now lists.now frame.now command
+        ≡ reply_of args) }
 {
     match command {
         ListCommand::Config => empty_config_args(lists, &station.facts(), args_of(frame)),
@@ -165,8 +169,10 @@ fn tell<D: Disk>(
     ensures empty { result ≡ Heard.Silent → out.new.items ≡ [] }
     ensures edit { OnTrue (is_change (step_of station.now keep.old.lists frame.now command))
         (Replaces (is_unkept result) (D.state keep.old.disk) (D.state keep.new.disk)) }
-    ensures idle { is_change (step_of station.now keep.old.lists frame.now command) ≡ false → keep.new ≡ keep.old }
-    ensures unkept { is_unkept result ≡ true → Rose (D.state keep.old.disk).faults (D.state keep.new.disk).faults }
+    ensures idle { is_change (step_of station.now keep.old.lists frame.now command) ≡ false
+        → keep.new ≡ keep.old }
+    ensures unkept { is_unkept result ≡ true → Rose (D.state keep.old.disk).faults
+        (D.state keep.new.disk).faults }
 {
     match empty_string(station, keep.lists(), frame, command) {
         Some(args) => {
@@ -256,7 +262,8 @@ impl<S: Store, D: Disk> Target<S, D> {
             (S.state self.old.store) (S.state self.new.store) }
         ensures idle { calls_store (verdict self.old.station self.old.keep.lists frame.now) ≡ false
             → self.new.store ≡ self.old.store }
-        ensures fault { is_faulty result ≡ true → Rose (S.state self.old.store).faults (S.state self.new.store).faults }
+        ensures fault { is_faulty result ≡ true
+            → Rose (S.state self.old.store).faults (S.state self.new.store).faults }
         ensures under { MovesUnder (verdict self.old.station self.old.keep.lists frame.now) (is_faulty result)
             (S.state self.old.store).contents (S.under self.old.store) (S.under self.new.store) }
 
@@ -265,7 +272,8 @@ impl<S: Store, D: Disk> Target<S, D> {
             (Replaces (is_unkept result) (D.state self.old.keep.disk) (D.state self.new.keep.disk)) }
         ensures unedited { edits self.old.station self.old.keep.lists frame.now (verdict self.old.station self.old.keep.lists frame.now) ≡ false
             → self.new.keep ≡ self.old.keep }
-        ensures edit_fault { is_unkept result ≡ true → Rose (D.state self.old.keep.disk).faults (D.state self.new.keep.disk).faults }
+        ensures edit_fault { is_unkept result ≡ true
+            → Rose (D.state self.old.keep.disk).faults (D.state self.new.keep.disk).faults }
     {
         let mut span = Span { at: 0, count: 0 };
         heard_of(self.receive_apart(frame, out, &mut span), span)
@@ -275,8 +283,10 @@ impl<S: Store, D: Disk> Target<S, D> {
     /// room. The sectors of a write are put into `span`.
     #[inline(never)]
     fn receive_apart(&mut self, frame: &[u8], out: &mut Frame, span: &mut Span) -> Told
-        ensures receives { Receives S.state D.state self.old self.new frame.now (heard_as result span.new) out.new.items }
-        ensures under { TurnsDisk S.state S.under frame.now (heard_as result span.new) self.old self.new }
+        ensures receives { Receives S.state D.state self.old self.new frame.now
+            (heard_as result span.new) out.new.items }
+        ensures under { TurnsDisk S.state S.under frame.now
+            (heard_as result span.new) self.old self.new }
     {
         let heard = self.hear(frame, out, span);
         tell_of(heard)

@@ -28,7 +28,8 @@ module _ {q : Question} {request : List ℕ} {limit now : ℕ} {frame : List ℕ
       let open_yet = not-done l in
       record { turns = l.turns; turned = l.turned; goes_on = open_yet.1; ends = (open_yet.0, l.waits.2) }
 
-  asks-answered : {r : Reply} (o : Option Refusal) → Listens (Ok (Some r)) q request limit 0 now frame before.turns after.turns before.given after.given before.taken after.taken
+  asks-answered : {r : Reply} (o : Option Refusal)
+      → Listens (Ok (Some r)) q request limit 0 now frame before.turns after.turns before.given after.given before.taken after.taken
       → refusal_of q.subject r.answer (drop 24 frame) ≡ o → Asks (unless_refusing o (record { reply = r; args = drop 24 frame })) q request limit before after
   asks-answered None l e =
       let h = heard-one l in
@@ -38,7 +39,8 @@ module _ {q : Question} {request : List ℕ} {limit now : ℕ} {frame : List ℕ
       record { turns = h.turns; turned = h.turned; goes_on = h.goes_on; ends = (h.done, rw (h.says, e), h.took) }
 
   -- a response, that may refuse
-  pub asks-taken : {r : Reply} (result : Result Reply ToolRefusal) → Listens (Ok (Some r)) q request limit 0 now frame before.turns after.turns before.given after.given before.taken after.taken
+  pub asks-taken : {r : Reply} (result : Result Reply ToolRefusal) → Listens
+      (Ok (Some r)) q request limit 0 now frame before.turns after.turns before.given after.given before.taken after.taken
       → IfOk result (λ x. (x ≡ r) × (refusal_of q.subject r.answer (drop 24 frame) ≡ None))
       → IfErr result (λ e. unless_refusing (refusal_of q.subject r.answer (drop 24 frame)) (record { reply = r; args = drop 24 frame }) ≡ Err e)
       → Asks (with_args frame result) q request limit before after
@@ -55,16 +57,19 @@ said-by q limit [] = refl
 said-by q limit (r ∷ rs) =
     elim (refusal_of q.subject r.reply.answer r.args) as (λ o. args_by (unless_refusing o r) ≡ unless_refused o (args_of r)) [ None ↦ refl | Some refusal ↦ refl ]
 
-pub asks-one : {q : Question} {request : List ℕ} {limit : ℕ} {before after : LinkState} (result : Result Response ToolRefusal) → Asks result q request limit before after
+pub asks-one : {q : Question} {request : List ℕ} {limit : ℕ} {before after : LinkState} (result : Result Response ToolRefusal)
+    → Asks result q request limit before after
     → AsksOne (args_by result) q request limit before.turns after.turns before.given after.given before.taken after.taken
 asks-one {q} {request} {limit} {before} {after} result a = record { turns = a.turns; turned = a.turned; goes_on = a.goes_on; ends = by result a.ends }
   where
-    by : (x : Result Response ToolRefusal) → AskEnds x q request limit a.turns before.taken after.taken → Ends (args_by x) q request limit a.turns before.taken after.taken
+    by : (x : Result Response ToolRefusal) → AskEnds x q request limit a.turns before.taken after.taken
+        → Ends (args_by x) q request limit a.turns before.taken after.taken
     by (Err tool.LinkFault) e = e
     by _ e = (e.0, ap args_by e.1 ∙ said-by q limit (responses q a.turns), e.2)
 
 -- a question and a request by what they are
-pub asked-as : {r : Result Response ToolRefusal} {q q' : Question} {request request' : List ℕ} {limit : ℕ} {before after : LinkState} → q ≡ q' → request ≡ request'
+pub asked-as : {r : Result Response ToolRefusal} {q q' : Question} {request request' : List ℕ} {limit : ℕ} {before after : LinkState} → q ≡ q'
+    → request ≡ request'
     → Asks r q request limit before after → Asks r q' request' limit before after
 asked-as same frame a = rw (← same, ← frame) a
 

@@ -73,7 +73,8 @@ given-up dead now log (x ∷ xs) turn d there = elim (Contains-cons_cases x d xs
 
 -- so no success is among them
 module _ (dead now : ℕ) (log : List Event) (gave_up : List Done) (turn : GaveUpInTurn dead now log gave_up) (D : List Done) where
-  come-alone : (t : Ticket) (o : Outcome) → ((first last : Millis) → o ≡ outcome.GaveUp first last → ⊥) → Contains (gave_up ++ D) (record { ticket = t; outcome = o })
+  come-alone : (t : Ticket) (o : Outcome) → ((first last : Millis) → o ≡ outcome.GaveUp first last → ⊥)
+      → Contains (gave_up ++ D) (record { ticket = t; outcome = o })
       → Contains D (record { ticket = t; outcome = o })
   come-alone t o other there = elim (Contains-append_cases gave_up D (record { ticket = t; outcome = o }) there) [
     | inl given ↦ let g = given-up dead now log gave_up turn (record { ticket = t; outcome = o }) given in absurd (other g.0 g.1 g.2)
@@ -105,7 +106,8 @@ length-numbered n [] = refl
 length-numbered n (o ∷ ops) = ap suc (length-numbered (n + 1) ops)
 
 -- the next command is submitted
-front-next : (S all : List Submission) (s : Submission) (o : Op) (rest : List Op) → s.ticket.0 ≡ suc (length S) → o ≡ s.op → all ≡ reverse S ++ numbered (length S + 1) (o ∷ rest)
+front-next : (S all : List Submission) (s : Submission) (o : Op) (rest : List Op) → s.ticket.0 ≡ suc (length S) → o ≡ s.op
+    → all ≡ reverse S ++ numbered (length S + 1) (o ∷ rest)
     → all ≡ reverse (s ∷ S) ++ numbered (length (s ∷ S) + 1) rest
 front-next S all s o rest ticket is front =
     let n : length S + 1 ≡ s.ticket.0 = omega (arith, ticket) in
@@ -175,7 +177,8 @@ module _ (w : Bool) (at : ℕ) (P : List Part) where
   as-long parts e = sym (length-map parts (λ (p : Part). p.count)) ∙ ap (λ (l : List ℕ). length l) e ∙ length-map P (λ (p : Part). p.count)
 
   -- a command is under way
-  handed-so : {S : List Submission} {D : List Done} {c : Course} (s : Submission) → next_op c ≡ Some s.op → s.ticket.0 ≡ suc (length S) → IsSo S D c → IsSo (s ∷ S) D (handed s.ticket c)
+  handed-so : {S : List Submission} {D : List Done} {c : Course} (s : Submission) → next_op c ≡ Some s.op → s.ticket.0 ≡ suc (length S) → IsSo S D c
+      → IsSo (s ∷ S) D (handed s.ticket c)
   handed-so {S} {D} {c} s e ticket x = by c.phase refl e x.phase_is x.front
     where
       by : (p : Phase) → c.phase ≡ p → next_in p c ≡ Some s.op → PhaseIs c.block.parts p
@@ -211,7 +214,8 @@ module _ (w : Bool) (at : ℕ) (P : List Part) where
         where
           length-asked : numbered 1 (all_operations w P) ≡ reverse S ++ numbered (length S + 1) (op.Flush ∷ []) → length P + 1 ≡ length S + 1
           length-asked front =
-              let asked : length (numbered 1 (all_operations true P)) ≡ length (reverse S ++ numbered (length S + 1) (op.Flush ∷ [])) = ap (λ (l : List Submission). length l) (rw y.1 at front) in
+              let asked : length (numbered 1 (all_operations true P)) ≡ length (reverse S ++ numbered (length S + 1) (op.Flush ∷ [])) =
+              ap (λ (l : List Submission). length l) (rw y.1 at front) in
               omega (
                 arith,
                 asked,
@@ -223,7 +227,8 @@ module _ (w : Bool) (at : ℕ) (P : List Part) where
               )
       by (phase.Flushing flush) is next y front = absurd cc
 
-  submits-so : {S : List Submission} {D : List Done} (c : Course) (submits : List Submission) → AreNext (length S) c submits → IsSo S D c → IsSo (submits ++ S) D (submitted c submits)
+  submits-so : {S : List Submission} {D : List Done} (c : Course) (submits : List Submission) → AreNext (length S) c submits → IsSo S D c
+      → IsSo (submits ++ S) D (submitted c submits)
   submits-so c [] are x = x
   submits-so {S} c (s ∷ earlier) are x =
       handed-so s are.1 (omega (arith, are.3, length-append earlier S)) (submits-so c earlier are.0 x)
@@ -279,7 +284,8 @@ module _ (w : Bool) (at : ℕ) (P : List Part) where
     flushed : w ≡ true → Contains D (record { ticket = record { 0 = length c.block.parts + 1 }; outcome = outcome.Flushed })
     flushing : w ≡ true → (ticket : Ticket) × (c.phase ≡ phase.Flushing ticket)
 
-  over-so : (turns : ℕ) {S : List Submission} {D all : List Done} {c : Course} (d : Done) → Grown (d ∷ D) all → ending turns c d ≡ Some (Ok record {}) → IsSo S D c → Over all (after_done d c)
+  over-so : (turns : ℕ) {S : List Submission} {D all : List Done} {c : Course} (d : Done) → Grown (d ∷ D) all → ending turns c d ≡ Some (Ok record {})
+      → IsSo S D c → Over all (after_done d c)
   over-so turns {S} {D} {all} {c} d g e x = by c.phase refl (is-over (failure turns d.outcome) (is_over_in c.phase c d) e) x.phase_is
     where
       is-over : (o : Option ToolRefusal) (b : Bool) → ending_by o b ≡ Some (Ok record {}) → b ≡ true
@@ -309,7 +315,8 @@ module _ (w : Bool) (at : ℕ) (P : List Part) where
       by (phase.Flushing ticket) is over y =
           let both = and_parts _ _ over in
           let own : d.ticket.0 ≡ length c.block.parts + 1 = eqb-true d.ticket.0 ticket.0 both.0 ∙ y.1 in
-          let is_done : d ≡ record { ticket = record { 0 = length c.block.parts + 1 }; outcome = outcome.Flushed } = rw (← own, ← flushed d.outcome both.1) refl in
+          let is_done : d ≡ record { ticket = record { 0 = length c.block.parts + 1 }; outcome = outcome.Flushed } =
+          rw (← own, ← flushed d.outcome both.1) refl in
           record {
             ended = y.0;
             nothing = rw is refl;
@@ -336,7 +343,8 @@ module _ (w : Bool) (at : ℕ) (P : List Part) where
       by (Some end) is rest = (more next (done-so d x), λ ends. over-so turns d next (is ∙ ends) x)
 
   -- the outcomes of a turn
-  turn-so : (turns : ℕ) (c : Course) (rounds : List Round) (gave_up : List Done) → IsSo (submissions rounds) (outcomes rounds) c → let ds = dones (told rounds) gave_up in
+  turn-so : (turns : ℕ) (c : Course) (rounds : List Round) (gave_up : List Done) → IsSo (submissions rounds) (outcomes rounds) c
+      → let ds = dones (told rounds) gave_up in
       IsSo (submissions rounds) (came_in rounds gave_up) (after_dones turns c ds) × (end_by turns c ds ≡ Some (Ok record {}) → Over (came_in rounds gave_up) (after_dones turns c ds))
   turn-so turns c rounds gave_up x =
       dones-so turns (came_in rounds gave_up) c (dones (told rounds) gave_up) (more-came gave_up (outcomes rounds)) (dones-came rounds gave_up) x
@@ -351,12 +359,14 @@ module _ (w : Bool) (at : ℕ) (P : List Part) where
       turns
 
   -- a command that is asked for in a turn: it is the flush, or none was asked for
-  asked-next : (dead now : ℕ) (log : List Event) (r : Round) (rounds : List Round) (c : Course) (s : Submission) (before : List Submission) → GaveUpInTurn dead now log r.gave_up
+  asked-next : (dead now : ℕ) (log : List Event) (r : Round) (rounds : List Round) (c : Course) (s : Submission) (before : List Submission)
+      → GaveUpInTurn dead now log r.gave_up
       → r.submits ≡ s ∷ before → next_op c ≡ Some s.op → s.ticket.0 ≡ suc (length (before ++ submissions rounds))
       → IsSo (before ++ submissions rounds) (came_in rounds r.gave_up) c → Asked (r ∷ rounds) (handed s.ticket c)
   asked-next dead at_time log r rounds c s before gave same next ticket x = by c.phase refl next x.phase_is (handed-so s next ticket x).phase_is
     where
-      by : (p : Phase) → c.phase ≡ p → next_in p c ≡ Some s.op → PhaseIs c.block.parts p → PhaseIs (hand_in p s.ticket c).block.parts (hand_in p s.ticket c).phase
+      by : (p : Phase) → c.phase ≡ p → next_in p c ≡ Some s.op → PhaseIs c.block.parts p
+          → PhaseIs (hand_in p s.ticket c).block.parts (hand_in p s.ticket c).phase
           → Asked (r ∷ rounds) (hand_in p s.ticket c)
       by phase.Flush is next y z = λ flush e.
           let at_flush : op.Flush ≡ s.op = cc in
@@ -372,8 +382,10 @@ module _ (w : Bool) (at : ℕ) (P : List Part) where
           }
       by _ is next y z = λ flush e. absurd cc
 
-  asked-turn : (dead now : ℕ) (log : List Event) (r : Round) (rounds : List Round) (c : Course) (submits : List Submission) → GaveUpInTurn dead now log r.gave_up
-      → r.submits ≡ submits → AreNext (length (submissions rounds)) c submits → IsSo (submissions rounds) (came_in rounds r.gave_up) c → Asked rounds c → Asked (r ∷ rounds) (submitted c submits)
+  asked-turn : (dead now : ℕ) (log : List Event) (r : Round) (rounds : List Round) (c : Course) (submits : List Submission)
+      → GaveUpInTurn dead now log r.gave_up
+      → r.submits ≡ submits → AreNext (length (submissions rounds)) c submits → IsSo (submissions rounds) (came_in rounds r.gave_up) c → Asked rounds c
+      → Asked (r ∷ rounds) (submitted c submits)
   asked-turn dead at_time log r rounds c [] gave same next x asked = λ flush e.
       let y = asked flush e in
       record { later = r ∷ y.later; turn = y.turn; earlier = y.earlier; order = ap (λ rs. r ∷ rs) y.order; flushes = y.flushes; written = y.written }
@@ -476,7 +488,8 @@ fresh-so range d c fresh = record {
     parts : List Part
     parts = c.block.parts
 
-    front : (w : Bool) (bytes : List ℕ) (p : Phase) → p ≡ first_phase w bytes → joined parts ≡ bytes → numbered 1 (all_operations w parts) ≡ numbered 1 (to_ask w p parts)
+    front : (w : Bool) (bytes : List ℕ) (p : Phase) → p ≡ first_phase w bytes → joined parts ≡ bytes
+        → numbered 1 (all_operations w parts) ≡ numbered 1 (to_ask w p parts)
     front true [] p is e = rw (is, no-parts d.max parts fresh.cut.full fresh.cut.whole e) refl
     front true (b ∷ bytes) p is e = rw (is, all-wait parts fresh.cut.pending) refl
     front false bytes p is e = rw (is, all-wait parts fresh.cut.pending) refl
@@ -496,7 +509,8 @@ module _ {d : Device} {start : Course} {range : Range} (fresh : IsFresh range d 
   unasked flush is = absurd (not-flushing range.writes range.bytes flush (sym fresh.phase_is ∙ is))
 
   -- the parts are those of the range
-  are-parts : {rounds : List Round} {parts : List Part} → HasRun range.writes range.at start.block.parts rounds parts → (count : ℕ) → length range.bytes ≡ 512 * count → ArePartsOf range.at d.max count parts
+  are-parts : {rounds : List Round} {parts : List Part} → HasRun range.writes range.at start.block.parts rounds parts → (count : ℕ)
+      → length range.bytes ≡ 512 * count → ArePartsOf range.at d.max count parts
   are-parts {parts = parts} r count long = record {
     adjacent = r.adjacent;
     full = full-same d.max start.block.parts parts r.counts_are fresh.cut.full;
@@ -517,7 +531,8 @@ module _ {d : Device} {start : Course} {range : Range} (fresh : IsFresh range d 
         let so = (rounds-so range.writes range.at start.block.parts (host_of ask.port id d) ask.turns start x.runs.rounds (fresh-so range d start fresh) unasked x.runs.are).0 in
         (_, so.front)
 
-    ran-so : {c : Course} → (x : RunsAll (Ok c) ask id d start before after answers answers') → HasRun range.writes range.at start.block.parts x.runs.rounds x.last.block.parts
+    ran-so : {c : Course} → (x : RunsAll (Ok c) ask id d start before after answers answers')
+        → HasRun range.writes range.at start.block.parts x.runs.rounds x.last.block.parts
     ran-so x =
         let e = x.runs.ends in
         run-so range.writes range.at start.block.parts (host_of ask.port id d) ask.turns e.0 start x.last x.runs.rounds (fresh-so range d start fresh) unasked x.runs.are e.1 e.2
@@ -536,7 +551,8 @@ module _ {ask : Ask} {id : TargetId} {d : Device} {start c : Course} {before aft
         once = once-law x;
       })
 
-  pub write-law : (at : ℕ) (bytes : List ℕ) → IsFresh (write_of at bytes) d start → (x : RunsAll (Ok c) ask id d start before after answers answers') → HasWritten at d.max bytes x.runs.rounds
+  pub write-law : (at : ℕ) (bytes : List ℕ) → IsFresh (write_of at bytes) d start → (x : RunsAll (Ok c) ask id d start before after answers answers')
+      → HasWritten at d.max bytes x.runs.rounds
   write-law at bytes fresh x =
       let r = ran-so fresh x in
       let long = whole-long start.block.parts fresh.cut.whole in

@@ -36,7 +36,8 @@ abbrev waits : Part → Bool
 waits p = is_pending p.stage
 
 -- a fresh transfer fits its host
-pub fit-fresh : {range : Range} {c : Course} {d : Device} (port : Mac) (id : TargetId) → 0 < d.max → length range.bytes ≤ 16777216 → IsFresh range d c → AreUpTo 0 c.block.parts
+pub fit-fresh : {range : Range} {c : Course} {d : Device} (port : Mac) (id : TargetId) → 0 < d.max → length range.bytes ≤ 16777216 → IsFresh range d c
+    → AreUpTo 0 c.block.parts
     → IsFit (host_of port id d) c
 fit-fresh {range} {c} {d} port id some short fresh tickets = record { attached = refl; few = by c.phase; tickets = tickets }
   where
@@ -58,7 +59,8 @@ is-within a b not_not = grind arith
 
 -- a device was asked for, and then this was copied or not
 module _ {ask : Ask} {id : TargetId} {range : Range} {least : ℕ} (first : ℕ) {before mid after : LinkState} {answers later answers' : Option (List ℕ)}
-    {found : Result Device ToolRefusal} {result : Result Course ToolRefusal} (answered_is : Answers first least answers later) (finds : Finds found ask id first before mid) where
+    {found : Result Device ToolRefusal} {result : Result Course ToolRefusal} (answered_is : Answers first least answers later)
+    (finds : Finds found ask id first before mid) where
   pub copies : CopiesAt found result ask id range mid after later answers' → Copies result ask id range least before after answers answers'
   copies at = record {
     first = first;
@@ -81,6 +83,7 @@ module _ {ask : Ask} {id : TargetId} {d : Device} {host : Host} {start first las
       → MayRun (Ok last) ask id d start before after answers answers'
   ran-ok runs = inr (record { last = last; runs = rw (← start_is, ← host_is) runs; gives = refl })
 
-  pub ran-err : {e : ToolRefusal} → Runs (Err e) host ask.turns first last before.turns after.turns before.given after.given before.taken after.taken answers answers'
+  pub ran-err : {e : ToolRefusal}
+      → Runs (Err e) host ask.turns first last before.turns after.turns before.given after.given before.taken after.taken answers answers'
       → MayRun (Err e) ask id d start before after answers answers'
   ran-err runs = inr (record { last = last; runs = rw (← start_is, ← host_is) runs; gives = tt })

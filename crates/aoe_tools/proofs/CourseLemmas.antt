@@ -82,7 +82,8 @@ up-to-more last more [] below up = tt
 up-to-more last more (p ∷ parts) below up = ((λ ticket handed. omega (arith, below, up.0 ticket handed)), up-to-more last more parts below up.1)
 
 -- the tickets of a course stay in order
-pub up-to-handed : (last : ℕ) (ticket : Ticket) (c : Course) → ((last : ℕ) (ticket : Ticket) (parts : List Part) → AreUpTo last parts → last < ticket.0 → AreUpTo ticket.0 (hand ticket parts))
+pub up-to-handed : (last : ℕ) (ticket : Ticket) (c : Course)
+    → ((last : ℕ) (ticket : Ticket) (parts : List Part) → AreUpTo last parts → last < ticket.0 → AreUpTo ticket.0 (hand ticket parts))
     → AreUpTo last c.block.parts → last < ticket.0 → AreUpTo ticket.0 (handed ticket c).block.parts
 up-to-handed last ticket c law up below = elim c.phase as (λ p. AreUpTo ticket.0 (hand_in p ticket c).block.parts) [
   | phase.Parts ↦ law last ticket c.block.parts up below
@@ -135,7 +136,8 @@ left-done d c = by-done (λ x. left x ≤ left c) d c
 pub left-dones : (turns : ℕ) (c : Course) (dones : List Done) → left (after_dones turns c dones) ≤ left c
 left-dones turns c dones = dones-keep (λ x. left x ≤ left c) (λ d x below. omega (arith, below, left-done d x)) turns c dones (omega arith)
 
-pub up-to-dones : (last turns : ℕ) (c : Course) (dones : List Done) → ((last : ℕ) (block : Transfer) (done : Done) → AreUpTo last block.parts → AreUpTo last (settle block done).parts)
+pub up-to-dones : (last turns : ℕ) (c : Course) (dones : List Done)
+    → ((last : ℕ) (block : Transfer) (done : Done) → AreUpTo last block.parts → AreUpTo last (settle block done).parts)
     → AreUpTo last c.block.parts → AreUpTo last (after_dones turns c dones).block.parts
 up-to-dones last turns c dones law up =
     let P : Course → Type 0 = λ x. AreUpTo last x.block.parts in

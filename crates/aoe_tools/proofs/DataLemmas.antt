@@ -55,7 +55,8 @@ module _ {D D' : List Done} (w : Bool) (n : ℕ) (g : Grown D D') where
   so-more k at (p ∷ parts) x = (x.0, x.1, stage-more k p p.stage x.2, so-more (k + 1) (at + p.count) parts x.3)
 
 -- a part after an outcome that is a success
-success : (w : Bool) (p : Part) (o : Outcome) → is_success w p.count o ≡ true → IsWhole p → let q : Part = record p { bytes = bytes_after o p.bytes; stage = Ended } in
+success : (w : Bool) (p : Part) (o : Outcome) → is_success w p.count o ≡ true → IsWhole p
+    → let q : Part = record p { bytes = bytes_after o p.bytes; stage = Ended } in
     (o ≡ success_of w q) × IsWhole q × (w ≡ true → q.bytes ≡ p.bytes)
 success true p outcome.Written e whole = (refl, whole, λ writes. refl)
 success false p (outcome.Read read) e whole = (refl, eqb-true (length read) (512 * p.count) e, λ writes. absurd cc)
@@ -163,7 +164,8 @@ whole-long (p ∷ parts) whole =
     omega (arith, length-append p.bytes (joined parts), All-head IsWhole p parts whole, whole-long parts (All-tail IsWhole p parts whole))
 
 -- before any was submitted
-pub so-fresh : (w : Bool) (k at : ℕ) (parts : List Part) → 0 < k → AreAdjacent at parts → All IsWhole parts → All (λ p. p.stage ≡ Pending) parts → AreSo w 0 [] k at parts
+pub so-fresh : (w : Bool) (k at : ℕ) (parts : List Part) → 0 < k → AreAdjacent at parts → All IsWhole parts → All (λ p. p.stage ≡ Pending) parts
+    → AreSo w 0 [] k at parts
 so-fresh w k at [] some adjacent whole pending = tt
 so-fresh w k at (p ∷ parts) some adjacent whole pending = (
   adjacent.0,

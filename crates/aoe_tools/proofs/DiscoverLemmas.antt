@@ -39,7 +39,8 @@ pub record Finds (q : Question) (request : List ℕ) (now : ℕ) (found : List S
   pub found_is : found ≡ found_in (responses q turns)
   pub took : Added taken taken' (asked request (length turns))
 
-pub begun : {q : Question} {request : List ℕ} {start : ℕ} {given : Option (List Turn)} {taken : Option Frames} → Finds q request 0 [] start start given given taken taken
+pub begun : {q : Question} {request : List ℕ} {start : ℕ} {given : Option (List Turn)} {taken : Option Frames}
+    → Finds q request 0 [] start start given given taken taken
 begun {start = start} {given} {taken} = record {
   turns = [];
   turned = turned-nothing start given;
@@ -50,18 +51,21 @@ begun {start = start} {given} {taken} = record {
 
 module _ {q : Question} {request : List ℕ} {now : ℕ} {found : List Seen} {start mid : ℕ} {given given' : Option (List Turn)} {taken taken' : Option Frames}
     (s : Finds q request now found start mid given given' taken taken') where
-  took-then : (taken'' : Option Frames) (n m : ℕ) → m ≡ n + length s.turns → Added taken' taken'' (asked_from request now n) → Added taken taken'' (asked request m)
+  took-then : (taken'' : Option Frames) (n m : ℕ) → m ≡ n + length s.turns → Added taken' taken'' (asked_from request now n)
+      → Added taken taken'' (asked request m)
   took-then taken'' n m e took =
       let begins : now ≡ 0 + length s.turns = omega (arith, s.passed) in
       rw (asked-then request 0 (length s.turns) n m e)
       (Added-then taken taken' taken'' (asked request (length s.turns)) (asked_from request (0 + length s.turns) n) s.took (rw (← begins) took))
 
-  took-turns : (taken'' : Option Frames) (later : List Turn) → Added taken' taken'' (asked_from request now (length later)) → Added taken taken'' (asked request (length (later ++ s.turns)))
+  took-turns : (taken'' : Option Frames) (later : List Turn) → Added taken' taken'' (asked_from request now (length later))
+      → Added taken taken'' (asked request (length (later ++ s.turns)))
   took-turns taken'' later took = took-then taken'' (length later) (length (later ++ s.turns)) (length-append later s.turns) took
 
   module _ {limit then last : ℕ} {frame : List ℕ} {given'' : Option (List Turn)} {taken'' : Option Frames} where
     -- nobody answers any more
-    pub ends : {result : Result (List Seen) ToolRefusal} → result ≡ unless_none limit found → Listens (Ok None) q request limit now then frame mid last given' given'' taken' taken''
+    pub ends : {result : Result (List Seen) ToolRefusal} → result ≡ unless_none limit found
+        → Listens (Ok None) q request limit now then frame mid last given' given'' taken' taken''
         → Discovers result q request limit start last given given'' taken taken''
     ends {result} is l = record {
       turns = turns;
@@ -100,11 +104,13 @@ module _ {q : Question} {request : List ℕ} {now : ℕ} {found : List Seen} {st
     }
 
     -- the next device that answers is noted
-    pub goes-on : {r : Reply} {found' : List Seen} → found' ≡ noted found r.id r.source → Listens (Ok (Some r)) q request limit now then frame mid last given' given'' taken' taken''
+    pub goes-on : {r : Reply} {found' : List Seen} → found' ≡ noted found r.id r.source
+        → Listens (Ok (Some r)) q request limit now then frame mid last given' given'' taken' taken''
         → Finds q request then found' start last given given'' taken taken''
     goes-on {r} {found'} is l = at l.turns l.turned l.passed l.waits
       where
-        at : (later : List Turn) → Turned mid last given' given'' later → then ≡ now + length later → Waits (Ok (Some r)) q request limit now then frame later taken' taken''
+        at : (later : List Turn) → Turned mid last given' given'' later → then ≡ now + length later
+            → Waits (Ok (Some r)) q request limit now then frame later taken' taken''
             → Finds q request then found' start last given given'' taken taken''
         at [] turned passed waits = absurd waits
         at (t ∷ later) turned passed waits = record {
@@ -120,7 +126,8 @@ module _ {q : Question} {request : List ℕ} {now : ℕ} {found : List Seen} {st
         → Discovers (Err tool.NoMemory) q request limit start last given given'' taken taken''
     forgets {r} l = at l.turns l.turned l.passed l.waits
       where
-        at : (later : List Turn) → Turned mid last given' given'' later → then ≡ now + length later → Waits (Ok (Some r)) q request limit now then frame later taken' taken''
+        at : (later : List Turn) → Turned mid last given' given'' later → then ≡ now + length later
+            → Waits (Ok (Some r)) q request limit now then frame later taken' taken''
             → Discovers (Err tool.NoMemory) q request limit start last given given'' taken taken''
         at [] turned passed waits = absurd waits
         at (t ∷ later) turned passed waits = record {

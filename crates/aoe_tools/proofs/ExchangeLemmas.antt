@@ -41,7 +41,8 @@ module _ {host h1 : Host} {c c1 : Course} (s : SubmitsSome host h1 c c1) (filled
   filled1 = rw s.course at filled
 
   module _ {h2 h3 : Host} {c3 : Course} {finished : Bool} {start turned' : ℕ} {given given' : Option (List Turn)} {taken taken1 : Option Frames}
-      (f : SendsSome (Ok record {}) h1 h2 taken taken1) (h : HearsOne finished h2 h3 start turned' given given') (course : c3 ≡ c1) (empty : host.waiting ≡ []) where
+      (f : SendsSome (Ok record {}) h1 h2 taken taken1) (h : HearsOne finished h2 h3 start turned' given given') (course : c3 ≡ c1)
+      (empty : host.waiting ≡ []) where
     exchanged : (heard : Option Heard) × (finished ≡ is_heard heard) × Exchanged base log host.last_ticket c c3 h3 heard start turned' given given' taken taken1
     exchanged =
         let law = f.sends base log1 same1 (s.matches log m) tags1 in
@@ -81,7 +82,8 @@ module _ {host h1 : Host} {c c1 : Course} (s : SubmitsSome host h1 c c1) (filled
 
   -- the link failed
   pub broken : {h2 : Host} {taken taken1 : Option Frames} {result : Result Unit Failed} (f : SendsSome result h1 h2 taken taken1)
-      → Added taken taken1 (map (λ o. o.frame) f.sent) ⊎ Added taken taken1 (drop 1 (map (λ o. o.frame) f.sent)) → Broken base log host.last_ticket c taken taken1
+      → Added taken taken1 (map (λ o. o.frame) f.sent) ⊎ Added taken taken1 (drop 1 (map (λ o. o.frame) f.sent))
+      → Broken base log host.last_ticket c taken taken1
   broken f took = record {
     submits = s.submits;
     are = s.are;

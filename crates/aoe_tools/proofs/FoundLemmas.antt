@@ -48,12 +48,15 @@ ports-found (e ∷ entries) id named = elim (cases_Bool (same_id id e.0)) [
   | inr other ↦ rw (← named.0, other) (ports-found entries id named.1)
 ]
 
-pub ports-are : (entries : List Entry) (id : TargetId) {list : List Seen} {o : Option Seen} {ports : List Mac} → AreNamed entries → devices entries ≡ list → o ≡ lookup (same_id id) entries
+pub ports-are : (entries : List Entry) (id : TargetId) {list : List Seen} {o : Option Seen} {ports : List Mac} → AreNamed entries → devices entries ≡ list
+    → o ≡ lookup (same_id id) entries
     → ports ≡ unless_there o → ports ≡ ports_in list id
 ports-are entries id named view found is = is ∙ ap unless_there found ∙ rw view at (ports-found entries id named)
 
-pub noted-is : (entries : List Entry) {entries' : List Entry} {list : List Seen} (id : TargetId) (port : Mac) {before ports : ArrayVec Mac} → AreNamed entries → devices entries ≡ list
-    → before.items ≡ ports_in list id → ports.items ≡ with_port before.items port → entries' ≡ insert_entry same_id entries id (seen id ports.items) → devices entries' ≡ noted list id port
+pub noted-is : (entries : List Entry) {entries' : List Entry} {list : List Seen} (id : TargetId) (port : Mac) {before ports : ArrayVec Mac} → AreNamed entries
+    → devices entries ≡ list
+    → before.items ≡ ports_in list id → ports.items ≡ with_port before.items port → entries' ≡ insert_entry same_id entries id (seen id ports.items)
+    → devices entries' ≡ noted list id port
 noted-is entries id port {ports = ports} named view are is inserts =
     let places = rw are at is in
     rw (inserts, inserted entries (seen id ports.items) named, view, places)
@@ -64,7 +67,8 @@ value-set [] i d = refl
 value-set (e ∷ entries) zero d = refl
 value-set (e ∷ entries) (suc i) d = ap (λ l. e.1 ∷ l) (value-set entries i d)
 
-pub named-after : (entries : List Entry) (i : ℕ) (s d : Seen) → slice_get (devices entries) i ≡ Some s → d.id ≡ s.id → AreNamed entries → AreNamed (set_value_at entries i d)
+pub named-after : (entries : List Entry) (i : ℕ) (s d : Seen) → slice_get (devices entries) i ≡ Some s → d.id ≡ s.id → AreNamed entries
+    → AreNamed (set_value_at entries i d)
 named-after [] i s d at same named = tt
 named-after (e ∷ entries) zero s d at same named = (rw (same, ← (same_Some e.1 s at)) named.0, named.1)
 named-after (e ∷ entries) (suc i) s d at same named = (named.0, named-after entries i s d at same named.1)

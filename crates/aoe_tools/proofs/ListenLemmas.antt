@@ -24,13 +24,15 @@ pub record SoFar (q : Question) (request : List ℕ) (from now start turned' : �
   pub silent : responses q turns ≡ []
   pub took : Added taken taken' (asked_from request from (length turns))
 
-module _ {q : Question} {request : List ℕ} {from now start mid : ℕ} {given given' : Option (List Turn)} {taken taken' : Option Frames} (s : SoFar q request from now start mid given given' taken taken') where
+module _ {q : Question} {request : List ℕ} {from now start mid : ℕ} {given given' : Option (List Turn)} {taken taken' : Option Frames}
+    (s : SoFar q request from now start mid given given' taken taken') where
   took-more : (taken'' : Option Frames) → Added taken' taken'' (asked_at request now) → Added taken taken'' (asked_from request from (suc (length s.turns)))
   took-more taken'' took =
       Added-then taken taken' taken'' (asked_from request from (length s.turns)) (asked_at request (from + length s.turns)) s.took (rw (← s.passed) took)
 
   module _ {last : ℕ} {given'' : Option (List Turn)} {taken'' : Option Frames} {frame : List ℕ} where
-    pub goes-on : TakesTurn (Ok None) q request now frame mid last given' given'' taken' taken'' → SoFar q request from (now + 1) start last given given'' taken taken''
+    pub goes-on : TakesTurn (Ok None) q request now frame mid last given' given'' taken' taken''
+        → SoFar q request from (now + 1) start last given given'' taken taken''
     goes-on one =
         let (t, is, silent, took) = one.brings in
         record {

@@ -41,7 +41,8 @@ all-there : {X : Type 0} (P : X → Type 0) (xs : List X) (x : X) → All P xs �
 all-there P xs x all there = rw (← there.2) (all there.0 x there.1)
 
 -- commands change, but keep their tickets and outcomes
-once-mapped : {n : ℕ} {D : List Done} (f : HostCommand → HostCommand) (cs : List HostCommand) → ((c : HostCommand) → (f c).ticket ≡ c.ticket) → ((c : HostCommand) → c.done ≡ true → (f c).done ≡ true)
+once-mapped : {n : ℕ} {D : List Done} (f : HostCommand → HostCommand) (cs : List HostCommand) → ((c : HostCommand) → (f c).ticket ≡ c.ticket)
+    → ((c : HostCommand) → c.done ≡ true → (f c).done ≡ true)
     → OnceSo n cs D → OnceSo n (map f cs) D
 once-mapped {n} {D} f cs tickets keeps x = record {
   once = x.once;
@@ -97,7 +98,8 @@ once-gave-up dead now log [] turn x = x
 once-gave-up dead now log (d ∷ dones) turn x =
     let o = turn.1.0 in
     let from = sent-from (commands (ended dones log)) o turn.1.1.there in
-    let open_yet : from.0.done ≡ false = ap (λ (e : Outstanding). e.finished) (sym from.1.is) ∙ not-true o.finished (and_parts (not o.finished) _ turn.1.1.passes).0 in
+    let open_yet : from.0.done ≡ false =
+    ap (λ (e : Outstanding). e.finished) (sym from.1.is) ∙ not-true o.finished (and_parts (not o.finished) _ turn.1.1.passes).0 in
     let own : from.0.ticket ≡ d.ticket = ap (λ (e : Outstanding). e.ticket) (sym from.1.is) ∙ ap (λ (e : Done). e.ticket) (sym turn.1.2) in
     once-ended d.ticket d.outcome (commands (ended dones log)) from.0 from.1.there own open_yet (once-gave-up dead now log dones turn.0 x)
 
@@ -121,7 +123,8 @@ once-submits {D} n c (s ∷ earlier) log are x =
           (All-cons (λ (y : HostCommand). y.ticket.0 ≤ next) new [] (omega (arith, are.3)) (All-nil (λ (y : HostCommand). y.ticket.0 ≤ next)));
     }
   where
-    each-still : (k : ℕ) (cs : List HostCommand) (new : HostCommand) → suc k ≤ new.ticket.0 → (D : List Done) → All (λ (d : Done). d.ticket.0 ≤ k) D → All (IsDone cs) D → All (IsDone (cs ++ new ∷ [])) D
+    each-still : (k : ℕ) (cs : List HostCommand) (new : HostCommand) → suc k ≤ new.ticket.0 → (D : List Done) → All (λ (d : Done). d.ticket.0 ≤ k) D
+        → All (IsDone cs) D → All (IsDone (cs ++ new ∷ [])) D
     each-still k cs new later D given was i d below =
         λ y inside is. elim (Contains-append_cases cs (new ∷ []) y inside) [
           | inl before ↦ was i d below y before is
@@ -150,7 +153,8 @@ once-heard base log (came frame) (Some h) a x =
     once-ended h.ticket h.outcome (commands log) a.command a.there a.ticket (not-true a.command.done (answered-open a.host a.command frame a.answer a.answers)) x
 once-heard base log _ (Some h) hears x = absurd hears
 
-once-rounds : (base : Host) (turns : ℕ) (start : Course) (rounds : List Round) → AreRounds base turns start rounds → OnceSo (length (submissions rounds)) (commands (log_of rounds)) (outcomes rounds)
+once-rounds : (base : Host) (turns : ℕ) (start : Course) (rounds : List Round) → AreRounds base turns start rounds
+    → OnceSo (length (submissions rounds)) (commands (log_of rounds)) (outcomes rounds)
 once-rounds base turns start [] are = record {
   once = tt;
   ended_are = All-nil (IsDone []);
@@ -162,7 +166,8 @@ once-rounds base turns start (r ∷ rounds) are =
     let gave = once-gave-up base.dead _ _ r.gave_up are.2.gives_up.in_turn x in
     let asked = once-submits (length (submissions rounds)) _ r.submits _ are.2.submits gave in
     let heard = once-heard base _ r.brought r.heard are.2.hears (once-frames r.sent _ asked) in
-    let many : length (submissions rounds) + length r.submits ≡ length (r.submits ++ submissions rounds) = omega (arith, length-append r.submits (submissions rounds)) in
+    let many : length (submissions rounds) + length r.submits ≡ length (r.submits ++ submissions rounds) =
+    omega (arith, length-append r.submits (submissions rounds)) in
     rw (← many) heard
 
 pub once-law : {ask : Ask} {id : TargetId} {d : Device} {start : Course} {result : Result Course ToolRefusal} {before after : LinkState} {answers answers' : Option (List ℕ)}

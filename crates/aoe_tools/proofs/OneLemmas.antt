@@ -36,12 +36,14 @@ pub record Heard (q : Question) (request : List ℕ) (limit start last : ℕ) (g
 
 module _ {q : Question} {request : List ℕ} {limit now : ℕ} {frame : List ℕ} {start last : ℕ} {given given' : Option (List Turn)} {taken taken' : Option Frames} where
   -- the link failed before it ended
-  pub not-done : {e : Failed} (l : Listens (Err e) q request limit 0 now frame start last given given' taken taken') → (is_done q limit l.turns ≡ false) × GoesOn q limit l.turns
+  pub not-done : {e : Failed} (l : Listens (Err e) q request limit 0 now frame start last given given' taken taken')
+      → (is_done q limit l.turns ≡ false) × GoesOn q limit l.turns
   not-done l =
       let below : length l.turns < limit = omega (arith, l.passed, l.waits.1) in
       (waits-on q limit l.turns l.waits.0 below, went-on q limit l.turns l.waits.0 (omega (arith, below)))
 
-  pub heard-none : Listens (Ok None) q request limit 0 now frame start last given given' taken taken' → Heard q request limit start last given given' taken taken' []
+  pub heard-none : Listens (Ok None) q request limit 0 now frame start last given given' taken taken'
+      → Heard q request limit start last given given' taken taken' []
   heard-none l =
       let all : length l.turns ≡ limit = omega (arith, l.passed, l.waits.1) in
       record {
@@ -58,7 +60,8 @@ module _ {q : Question} {request : List ℕ} {limit now : ℕ} {frame : List ℕ
       → Heard q request limit start last given given' taken taken' (record { reply = r; args = drop 24 frame } ∷ [])
   heard-one {r} l = at l.turns l.turned l.passed l.waits
     where
-      at : (turns : List Turn) → Turned start last given given' turns → now ≡ 0 + length turns → Waits (Ok (Some r)) q request limit 0 now frame turns taken taken'
+      at : (turns : List Turn) → Turned start last given given' turns → now ≡ 0 + length turns
+          → Waits (Ok (Some r)) q request limit 0 now frame turns taken taken'
           → Heard q request limit start last given given' taken taken' (record { reply = r; args = drop 24 frame } ∷ [])
       at [] turned passed waits = absurd waits
       at (t ∷ turns) turned passed waits =

@@ -79,7 +79,8 @@ abbrev pub count_heard : Option Heard → ℕ
 count_heard None = 0
 count_heard (Some h) = 1
 
-open-heard : (base : Host) (log : List Event) (t : Turn) (heard : Option Heard) → Hears base log t heard → open_in (after_heard heard log) + count_heard heard ≤ open_in log
+open-heard : (base : Host) (log : List Event) (t : Turn) (heard : Option Heard) → Hears base log t heard
+    → open_in (after_heard heard log) + count_heard heard ≤ open_in log
 open-heard base log t None hears = omega arith
 open-heard base log (came frame) (Some h) a =
     let own : nat_eq a.command.ticket.0 h.ticket.0 ≡ true = rw a.ticket (eq-eqb h.ticket.0 h.ticket.0 refl) in
@@ -91,7 +92,8 @@ open-heard base log _ (Some h) hears = absurd hears
 abbrev pub to_do : Host → Course → ℕ
 to_do host c = length host.pending + left c
 
-less-to-do : {base : Host} {turns : ℕ} {start : Course} {rounds : List Round} {r : Round} {host host' : Host} {c c' : Course} → Running base turns start rounds host c
+less-to-do : {base : Host} {turns : ℕ} {start : Course} {rounds : List Round} {r : Round} {host host' : Host} {c c' : Course}
+    → Running base turns start rounds host c
     → Running base turns start (r ∷ rounds) host' c' → to_do host' c' + count_heard r.heard ≤ to_do host c
 less-to-do {base} {turns} {start} {rounds} {r} run more =
     let round : IsRound base turns (course_of turns start rounds) (told rounds) (log_of rounds) (length (submissions rounds)) r = more.rounds_are.2 in
@@ -138,7 +140,8 @@ pub record So (turns quiet : ℕ) (base host : Host) (start c : Course) (from tu
   pub told : Told answers answers' (nows_of rounds)
   pub quiet_is : quiet ≡ quiet_turns rounds
 
-pub begun : {turns : ℕ} {host : Host} {c : Course} {from : ℕ} {given : Option (List Turn)} {taken : Option Frames} {answers : Option (List ℕ)} → IsFit host c → Matches [] host → host.waiting ≡ []
+pub begun : {turns : ℕ} {host : Host} {c : Course} {from : ℕ} {given : Option (List Turn)} {taken : Option Frames} {answers : Option (List ℕ)} → IsFit host c
+    → Matches [] host → host.waiting ≡ []
     → host.last_ticket ≡ 0 → host.flight.last_tag ≡ 0 → So turns 0 host host c c from from given given taken taken answers answers
 begun {host = host} {from = from} {given} {taken} {answers} fit m waiting none untagged = record {
   rounds = [];
@@ -158,7 +161,8 @@ module _ {turns quiet : ℕ} {base host : Host} {start c : Course} {from turned'
   told-now : (now : ℕ) (later : Option (List ℕ)) → IfSome later (λ all. Added answers' later (now ∷ [])) → Told answers later (now ∷ nows_of s.rounds)
   told-now now later = told-then answers answers' later (nows_of s.rounds) now s.told
 
-  module _ (now : ℕ) {later : Option (List ℕ)} {c' : Course} {turned'' : ℕ} {given'' : Option (List Turn)} {taken'' : Option Frames} (ticks : IfSome later (λ all. Added answers' later (now ∷ []))) where
+  module _ (now : ℕ) {later : Option (List ℕ)} {c' : Course} {turned'' : ℕ} {given'' : Option (List Turn)} {taken'' : Option Frames}
+      (ticks : IfSome later (λ all. Added answers' later (now ∷ []))) where
     -- one more turn
     pub goes-on : {heard : Option Heard} {host' : Host} → TakesRound base turns start s.rounds now heard host' c' turned' turned'' given' given'' taken' taken''
         → So turns (quiet_by heard quiet) base host' start c' from turned'' given given'' taken taken'' answers later
@@ -177,7 +181,8 @@ module _ {turns quiet : ℕ} {base host : Host} {start c : Course} {from turned'
           smaller turns (to_do host c) (to_do host' c') quiet heard (rw t.heard_is at (less-to-do s.running t.running)) below,
         )
 
-    ran : {result : Result Unit ToolRefusal} → IsUnused turned' turned'' given' given'' → RunEnds result base turns start c' s.rounds (now ∷ nows_of s.rounds) taken' taken''
+    ran : {result : Result Unit ToolRefusal} → IsUnused turned' turned'' given' given''
+        → RunEnds result base turns start c' s.rounds (now ∷ nows_of s.rounds) taken' taken''
         → Runs result base turns start c' from turned'' given given'' taken taken'' answers later
     ran u ends = record {
       rounds = s.rounds;
@@ -203,7 +208,8 @@ module _ {turns quiet : ℕ} {base host : Host} {start c : Course} {from turned'
         → Runs (Err r) base turns start c' from turned'' given given'' taken taken'' answers later
     is-refused host' r t = at r (rw s.running.course at t)
       where
-        at : (r : ToolRefusal) → Turns (Err r) base turns start s.rounds now host' (course_of turns start s.rounds) c' turned' turned'' given' given'' taken' taken''
+        at : (r : ToolRefusal) → Turns (Err r) base turns start s.rounds now host'
+            (course_of turns start s.rounds) c' turned' turned'' given' given'' taken' taken''
             → Runs (Err r) base turns start c' from turned'' given given'' taken taken'' answers later
         at tool.LinkFault x = ran x.1 (now, x.0, refl)
         at tool.NoMemory x = ran x.2 (now, x.0, refl, x.1)

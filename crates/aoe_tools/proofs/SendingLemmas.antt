@@ -21,7 +21,8 @@ use Rattle.aoe_tools.specs.TransferSteps.{IsHeld, SendsSome}
 pub record Sending (n : ℕ) (host host' : Host) (before after : Option Frames) : Type 0 where
   pub sent : List Outgoing
   pub took : Added before after (map (λ o. o.frame) sent)
-  pub sends : (base : Host) (log : List Event) → IsSame base host → Matches log host → HasTags host.flight.last_tag (commands log) → AreSent base log sent × Matches (after_frames sent log) host'
+  pub sends : (base : Host) (log : List Event) → IsSame base host → Matches log host → HasTags host.flight.last_tag (commands log)
+      → AreSent base log sent × Matches (after_frames sent log) host'
       × HasTags host'.flight.last_tag (commands (after_frames sent log)) × (active (after_frames sent log) + n ≤ active log)
   pub held : IsHeld host host'
   pub waiting : host'.waiting ≡ host.waiting
@@ -53,7 +54,8 @@ module _ (host host' : Host) (frame : List ℕ) where
       (sent, record { next = next; frame_is = frame_is; path = path; sends = sends; tag = tag; held = held; waiting = waiting })
 
 -- nothing more may be sent by a host that is quiet
-silent : {base start host : Host} {log : List Event} → IsSame base start → IsHeld start host → Matches log host → IsQuiet host (commands log) → IsSilent base log
+silent : {base start host : Host} {log : List Event} → IsSame base start → IsHeld start host → Matches log host → IsQuiet host (commands log)
+    → IsSilent base log
 silent {base} {start} {host} same held m quiet = record { host = host; at = record { same = same-then base start host same held.same; time = m.time }; quiet = quiet }
 
 module _ {n : ℕ} {start host : Host} {before mid : Option Frames} (few : start.last_ticket ≤ 32769) (s : Sending n start host before mid) where
@@ -65,7 +67,8 @@ module _ {n : ℕ} {start host : Host} {before mid : Option Frames} (few : start
     out = record { sent = sent; frame = frame }
 
     next-law : (base : Host) (log : List Event) → IsSame base start → Matches log start → HasTags start.flight.last_tag (commands log)
-        → AreSent base log (out ∷ s.sent) × Matches (after_frames (out ∷ s.sent) log) host' × HasTags host'.flight.last_tag (commands (after_frames (out ∷ s.sent) log)) × (active (after_frames (out ∷ s.sent) log) + (n + 1) ≤ active log)
+        → AreSent base log (out ∷ s.sent) × Matches (after_frames (out ∷ s.sent) log) host'
+        × HasTags host'.flight.last_tag (commands (after_frames (out ∷ s.sent) log)) × (active (after_frames (out ∷ s.sent) log) + (n + 1) ≤ active log)
     next-law base log same m tags =
         let so_far = s.sends base log same m tags in
         let log' = after_frames s.sent log in
@@ -102,7 +105,8 @@ module _ {n : ℕ} {start host : Host} {before mid : Option Frames} (few : start
     }
 
   -- no frame is left
-  pub sends-all : {host' : Host} → ((log : List Event) → Matches log host → IsQuiet host (commands log)) → ((log : List Event) → Matches log host → Matches log host') → IsHeld host host'
+  pub sends-all : {host' : Host} → ((log : List Event) → Matches log host → IsQuiet host (commands log))
+      → ((log : List Event) → Matches log host → Matches log host') → IsHeld host host'
       → host'.waiting ≡ host.waiting → host'.flight.last_tag ≡ host.flight.last_tag → SendsSome (Ok record {}) start host' before mid
   sends-all quiet stays held waiting no_tag = record {
     sent = s.sent;
@@ -116,7 +120,8 @@ module _ {n : ℕ} {start host : Host} {before mid : Option Frames} (few : start
   }
 
 -- so many frames were sent that no command is left to be sent
-pub sends-full : {start host : Host} {before after : Option Frames} → start.last_ticket ≤ 32769 → Sending 32769 start host before after → SendsSome (Ok record {}) start host before after
+pub sends-full : {start host : Host} {before after : Option Frames} → start.last_ticket ≤ 32769 → Sending 32769 start host before after
+    → SendsSome (Ok record {}) start host before after
 sends-full {start} {host} few s = record {
   sent = s.sent;
   took = s.took;

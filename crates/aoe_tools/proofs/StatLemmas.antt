@@ -53,7 +53,8 @@ module _ {first : ℕ} {port : Mac} {limit start mid : ℕ} {given given' : Opti
 
   module _ {found found' : List Seen} {last : ℕ} {given'' : Option (List Turn)} {taken'' : Option Frames}
       (d : Discovers (Ok found) (finding_question first port) (finding_request first port) limit start mid given given' taken taken') where
-    pub visits-them : VisitsAll (Ok tt) first port limit found found' mid last given' given'' taken' taken'' → Stats (Ok found') first port limit start last given given'' taken taken''
+    pub visits-them : VisitsAll (Ok tt) first port limit found found' mid last given' given'' taken' taken''
+        → Stats (Ok found') first port limit start last given given'' taken taken''
     visits-them w =
         let list = found_in (responses (finding_question first port) d.turns) in
         record {
@@ -71,7 +72,8 @@ module _ {first : ℕ} {port : Mac} {limit start mid : ℕ} {given given' : Opti
         → Stats (Err tool.LinkFault) first port limit start last given given'' taken taken''
     visits-some {e} w = at w.visits w.turned w.ends
       where
-        at : (visits : List Visit) → Turned mid last given' given'' (visit_turns visits) → EndsVisits (Err e) first port limit found found' visits taken' taken''
+        at : (visits : List Visit) → Turned mid last given' given'' (visit_turns visits)
+            → EndsVisits (Err e) first port limit found found' visits taken' taken''
             → Stats (Err tool.LinkFault) first port limit start last given given'' taken taken''
         at [] turned ends = absurd ends.0
         at (v ∷ earlier) turned ends =

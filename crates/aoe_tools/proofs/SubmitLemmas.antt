@@ -22,7 +22,8 @@ pub as-many : (host host' : Host) → IsSame host host' → length host'.devices
 as-many host host' same =
     sym (length-map host'.devices (λ (d : Device). d.about)) ∙ ap (λ (l : List Attached). length l) same.devices ∙ length-map host.devices (λ (d : Device). d.about)
 
-pub submits-one : {host host' : Host} {c c' : Course} {op : Op} {ticket : Ticket} → IsFit host c → next_op c ≡ Some op → ticket.0 ≡ host.last_ticket + 1 → c' ≡ handed ticket c
+pub submits-one : {host host' : Host} {c c' : Course} {op : Op} {ticket : Ticket} → IsFit host c → next_op c ≡ Some op → ticket.0 ≡ host.last_ticket + 1
+    → c' ≡ handed ticket c
     → ((log : List Event) → Matches log host → Matches (Submits ticket (record { 0 = 0 }) op ∷ log) host')
     → IsSame host host' × (host'.clock ≡ host.clock) × (host'.last_ticket ≡ ticket.0) × (host'.waiting ≡ host.waiting)
     → host'.flight.last_tag ≡ host.flight.last_tag
@@ -47,7 +48,8 @@ submits-one {host} {host'} {c} {op = op} {ticket} fit next is after matches same
       });
     }
 
-pub submits-more : {start host host' : Host} {first c c' : Course} → SubmitsSome start host first c → c.under_way < 64 → SubmitsOne host host' c c' → SubmitsSome start host' first c'
+pub submits-more : {start host host' : Host} {first c c' : Course} → SubmitsSome start host first c → c.under_way < 64 → SubmitsOne host host' c c'
+    → SubmitsSome start host' first c'
 submits-more {start} {host} {host'} s few one =
     let is = s.course in
     record {

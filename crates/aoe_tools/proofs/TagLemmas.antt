@@ -34,7 +34,8 @@ pub tags-none : HasTags 0 []
 tags-none = record { few = omega arith; within = All-nil (HasTag 0) }
 
 -- a command that was submitted has no tag
-pub tags-submitted : {last : ℕ} (ticket : Ticket) (device : DeviceNo) (op : Op) (log : List Event) → HasTags last (commands log) → HasTags last (commands (Submits ticket device op ∷ log))
+pub tags-submitted : {last : ℕ} (ticket : Ticket) (device : DeviceNo) (op : Op) (log : List Event) → HasTags last (commands log)
+    → HasTags last (commands (Submits ticket device op ∷ log))
 tags-submitted {last} ticket device op log tags =
     let c = submitted ticket device op in
     record {
@@ -119,7 +120,8 @@ untaken last n (c ∷ cs) past all = by c.sends refl (All-head (HasTag last) c c
     P : Outstanding → Type 0
     P o = has_tag n o ≡ false
 
-    by : (s : Option Sending) → c.sends ≡ s → IfSome s (λ x. (0 < x.tag) × (x.tag ≤ last)) → All P (sent_of cs) → All P (cons_option (option_map (outstanding c) s) (sent_of cs))
+    by : (s : Option Sending) → c.sends ≡ s → IfSome s (λ x. (0 < x.tag) × (x.tag ≤ last)) → All P (sent_of cs)
+        → All P (cons_option (option_map (outstanding c) s) (sent_of cs))
     by None is has rest = rest
     by (Some s) is has rest = All-cons P (outstanding c s) (sent_of cs) other rest
       where
@@ -136,13 +138,15 @@ module _ (host : Host) (log : List Event) (m : Matches log host) (tags : HasTags
       list_any_none (has_tag n) (live_at host.flight host.clock) (All-filter (λ c. not (is_over host.flight.rest host.clock c)) P host.flight.commands kept)
 
   -- so the next tag is the next number
-  next-tag : (tag : ℕ) → host.flight.last_tag < 4294967295 → IsNextTag (live_at host.flight host.clock) host.flight.last_tag tag → tag ≡ host.flight.last_tag + 1
+  next-tag : (tag : ℕ) → host.flight.last_tag < 4294967295 → IsNextTag (live_at host.flight host.clock) host.flight.last_tag tag
+      → tag ≡ host.flight.last_tag + 1
   next-tag tag few n = by n.steps n.place n.passed
     where
       first : tag_after host.flight.last_tag 0 ≡ host.flight.last_tag + 1
       first = let small : nat_lt (host.flight.last_tag + 0) 4294967295 ≡ true = lt-ltb _ _ (omega (arith, few)) in rw small (omega arith)
 
-      by : (steps : ℕ) → tag ≡ tag_after host.flight.last_tag steps → ((k : ℕ) → k < steps → is_taken (live_at host.flight host.clock) (tag_after host.flight.last_tag k) ≡ true)
+      by : (steps : ℕ) → tag ≡ tag_after host.flight.last_tag steps
+          → ((k : ℕ) → k < steps → is_taken (live_at host.flight host.clock) (tag_after host.flight.last_tag k) ≡ true)
           → tag ≡ host.flight.last_tag + 1
       by zero place passed = place ∙ first
       by (suc steps) place passed = absurd (
@@ -155,7 +159,8 @@ module _ (host : Host) (log : List Event) (m : Matches log host) (tags : HasTags
   few-tags = omega (arith, tags.few, few-commands 0 host.last_ticket (commands log) (omega arith) m.tickets m.last)
 
   -- a frame that is sent has such a tag
-  pub tags-sent : (host' : Host) (sent : Sent) → host.last_ticket ≤ 32769 → IsNext host (commands log) sent → GivesTag sent.again host.flight host.clock sent.tag host'.flight
+  pub tags-sent : (host' : Host) (sent : Sent) → host.last_ticket ≤ 32769 → IsNext host (commands log) sent
+      → GivesTag sent.again host.flight host.clock sent.tag host'.flight
       → (0 < sent.tag) × (sent.tag ≤ 32769) × HasTags host'.flight.last_tag (commands (Sends sent.ticket sent.tag sent.path ∷ log))
   tags-sent host' sent few next gives = at sent.again next gives
     where

@@ -36,7 +36,8 @@ pub count-fewer : {A : Type 0} (p : A → Bool) (f : A → A) → ((x : A) → p
 count-fewer p f fewer [] = omega arith
 count-fewer p f fewer (x ∷ xs) = omega (arith, count-cons p (f x) (map f xs), count-cons p x xs, fewer-one (p (f x)) (p x) (fewer x), count-fewer p f fewer xs)
 
-pub count-one-fewer : {A : Type 0} (p : A → Bool) (f : A → A) → ((x : A) → p (f x) ≡ true → p x ≡ true) → (xs : List A) (c : A) → Contains xs c → p c ≡ true → p (f c) ≡ false
+pub count-one-fewer : {A : Type 0} (p : A → Bool) (f : A → A) → ((x : A) → p (f x) ≡ true → p x ≡ true) → (xs : List A) (c : A) → Contains xs c → p c ≡ true
+    → p (f c) ≡ false
     → count_by p (map f xs) + 1 ≤ count_by p xs
 count-one-fewer p f fewer [] c there passes fails = absurd (omega (arith, there.1))
 count-one-fewer p f fewer (x ∷ xs) c there passes fails = elim (Contains-cons_cases x c xs there) [
@@ -78,7 +79,8 @@ not-due now wait done some = elim (cases_Bool (nat_le wait (now - now))) [
   | inr is ↦ rw is (and_right (not done) false refl)
 ]
 
-sent-inactive : (now tag timeout : ℕ) (path : PathNo) (c : HostCommand) → 0 < timeout → active_by now c.done (Some (one_more tag (record { 0 = now }) path timeout c.sends)) ≡ false
+sent-inactive : (now tag timeout : ℕ) (path : PathNo) (c : HostCommand) → 0 < timeout
+    → active_by now c.done (Some (one_more tag (record { 0 = now }) path timeout c.sends)) ≡ false
 sent-inactive now tag timeout path c some = elim c.sends as (λ o. active_by now c.done (Some (one_more tag (record { 0 = now }) path timeout o)) ≡ false) [
   | None ↦ not-due now (wait_of timeout 1) c.done (some-wait timeout 1 some)
   | Some s ↦ not-due now (wait_of timeout (s.count + 1)) c.done (some-wait timeout (s.count + 1) some)
@@ -98,7 +100,8 @@ module _ (log : List Event) (ticket : Ticket) (tag : ℕ) (path : PathNo) where
   ]
 
   -- after a frame of an active command there is one less
-  pub active-sent : (c : HostCommand) → Contains (commands log) c → c.ticket ≡ ticket → is_active (clock log) c ≡ true → active (Sends ticket tag path ∷ log) + 1 ≤ active log
+  pub active-sent : (c : HostCommand) → Contains (commands log) c → c.ticket ≡ ticket → is_active (clock log) c ≡ true
+      → active (Sends ticket tag path ∷ log) + 1 ≤ active log
   active-sent c there is before =
       let own : nat_eq c.ticket.0 ticket.0 ≡ true = rw is (eq-eqb ticket.0 ticket.0 refl) in
       count-one-fewer (is_active (clock log)) (at_ticket ticket sends) fewer-active (commands log) c there before (rw own (inactive-sent c))
@@ -111,7 +114,8 @@ due-active now c o e = at c.sends e
     at (Some s) e = rw (← (same_Some _ _ e))
 
 -- what is sent next is active
-pub next-active : (host : Host) (log : List Event) (sent : Sent) → Matches log host → IsNext host (commands log) sent → active (Sends sent.ticket sent.tag sent.path ∷ log) + 1 ≤ active log
+pub next-active : (host : Host) (log : List Event) (sent : Sent) → Matches log host → IsNext host (commands log) sent
+    → active (Sends sent.ticket sent.tag sent.path ∷ log) + 1 ≤ active log
 next-active host log sent m next = at sent.again next
   where
     at : (b : Bool) → IsNextBy b host (commands log) sent → active (Sends sent.ticket sent.tag sent.path ∷ log) + 1 ≤ active log

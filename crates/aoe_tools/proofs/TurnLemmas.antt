@@ -103,7 +103,8 @@ module _ {host advanced h1 : Host} {now : ℕ} (a : Advanced host advanced now) 
       now-course = rw outcomes at after
 
       -- the link failed
-      breaks-turn : {taken taken' : Option Frames} → Broken base (after_tick now gave_up log) h1.last_ticket c1 taken taken' → Breaks base turns c (told rounds) log (length (submissions rounds)) now taken taken'
+      breaks-turn : {taken taken' : Option Frames} → Broken base (after_tick now gave_up log) h1.last_ticket c1 taken taken'
+          → Breaks base turns c (told rounds) log (length (submissions rounds)) now taken taken'
       breaks-turn broken =
           let b = rw now-course at broken in
           record {
@@ -119,7 +120,8 @@ module _ {host advanced h1 : Host} {now : ℕ} (a : Advanced host advanced now) 
           }
 
       -- the whole turn was taken
-      takes-turn : {c' : Course} {h' : Host} {heard : Option Heard} {from turned' : ℕ} {given given' : Option (List Turn)} {taken taken' : Option Frames} → quiet_turns rounds < turns
+      takes-turn : {c' : Course} {h' : Host} {heard : Option Heard} {from turned' : ℕ} {given given' : Option (List Turn)} {taken taken' : Option Frames}
+          → quiet_turns rounds < turns
           → Exchanged base (after_tick now gave_up log) h1.last_ticket c1 c' h' heard from turned' given given' taken taken'
           → TakesRound base turns start rounds now heard h' c' from turned' given given' taken taken'
       takes-turn {heard = heard} below exchanged =
@@ -153,12 +155,14 @@ module _ {host advanced h1 : Host} {now : ℕ} (a : Advanced host advanced now) 
           }
 
       -- what the second part of the turn came to, the turn came to
-      pub by-exchange : (result : Result Passed ToolRefusal) (c' : Course) (h' : Host) (from turned' : ℕ) (given given' : Option (List Turn)) (taken taken' : Option Frames) → quiet_turns rounds < turns
+      pub by-exchange : (result : Result Passed ToolRefusal) (c' : Course) (h' : Host) (from turned' : ℕ) (given given' : Option (List Turn))
+          (taken taken' : Option Frames) → quiet_turns rounds < turns
           → ((base : Host) (log : List Event) → IsSame base h1 → Matches log h1 → HasTags h1.flight.last_tag (commands log) → Exchanges result base log h1.last_ticket c1 c' h' from turned' given given' taken taken')
           → Turns result base turns start rounds now h' c c' from turned' given given' taken taken'
       by-exchange result c' h' from turned' given given' taken taken' below ex = by result (ex base (after_tick now gave_up log) same1 matches-tick tags-tick)
         where
-          by : (result : Result Passed ToolRefusal) → Exchanges result base (after_tick now gave_up log) h1.last_ticket c1 c' h' from turned' given given' taken taken'
+          by : (result : Result Passed ToolRefusal) → Exchanges result base
+              (after_tick now gave_up log) h1.last_ticket c1 c' h' from turned' given given' taken taken'
               → Turns result base turns start rounds now h' c c' from turned' given given' taken taken'
           by (Ok passed.Answered) x = (x.0, takes-turn below x.1)
           by (Ok passed.Quiet) x = takes-turn below x

@@ -23,7 +23,8 @@ use Rattle.aoe_tools.proofs.OneLemmas.{not-done, Heard}
 -- ---- one request
 
 module _ {q : Question} {request : List ℕ} {limit start last : ℕ} {given given' : Option (List Turn)} {taken taken' : Option Frames} where
-  pub page-heard : {came : List Response} {k : Known} → Heard q request limit start last given given' taken taken' came → k ≡ known came → AsksPage (Ok k) q request limit start last given given' taken taken'
+  pub page-heard : {came : List Response} {k : Known} → Heard q request limit start last given given' taken taken' came → k ≡ known came
+      → AsksPage (Ok k) q request limit start last given given' taken taken'
   page-heard h is = record { turns = h.turns; turned = h.turned; ends = ((h.done, h.goes_on), rw h.says is, h.took) }
 
   pub page-failed : {now : ℕ} {frame : List ℕ} {e : Failed} → Listens (Err e) q request limit 0 now frame start last given given' taken taken'
@@ -33,22 +34,26 @@ module _ {q : Question} {request : List ℕ} {limit start last : ℕ} {given giv
 -- ---- one device
 
 module _ {first : ℕ} {port : Mac} {limit i : ℕ} {found found' : List Seen} {start last : ℕ} {given given' : Option (List Turn)} {taken taken' : Option Frames} {s : Seen} {q : Question} {bytes : List ℕ}
-    (at : slice_get found i ≡ Some s) (q_is : q ≡ page_question first port (i + 1) s) (bytes_are : bytes ≡ request op.Identify s.id (first_port s.ports.items) port q.tag) where
-  pub visited : {k : Known} {x : Seen} → slice_get found i ≡ Some x → found' ≡ slice_set found i (with_known x k) → AsksPage (Ok k) q bytes limit start last given given' taken taken'
+    (at : slice_get found i ≡ Some s) (q_is : q ≡ page_question first port (i + 1) s)
+    (bytes_are : bytes ≡ request op.Identify s.id (first_port s.ports.items) port q.tag) where
+  pub visited : {k : Known} {x : Seen} → slice_get found i ≡ Some x → found' ≡ slice_set found i (with_known x k)
+      → AsksPage (Ok k) q bytes limit start last given given' taken taken'
       → VisitsOne (Ok tt) first port limit i found found' start last given given' taken taken'
   visited {k} {x} at_x is asks =
       let a = rw (bytes_are, q_is) at asks in
       let same : x ≡ s = same_Some _ _ (sym at_x ∙ at) in
       record { visit = record { device = s; turns = a.turns }; at = at; turned = a.turned; ends = (a.ends.0, rw (same, a.ends.1) at is, a.ends.2) }
 
-  pub visit-failed : {e : Failed} → AsksPage (Err e) q bytes limit start last given given' taken taken' → VisitsOne (Err e) first port limit i found found' start last given given' taken taken'
+  pub visit-failed : {e : Failed} → AsksPage (Err e) q bytes limit start last given given' taken taken'
+      → VisitsOne (Err e) first port limit i found found' start last given given' taken taken'
   visit-failed asks =
       let a = rw (bytes_are, q_is) at asks in
       record { visit = record { device = s; turns = a.turns }; at = at; turned = a.turned; ends = a.ends }
 
 -- ---- all of them
 
-pub took-front : (request : List ℕ) (n : ℕ) (before after : Option Frames) → TookSome request 0 n before after → TookFront (asked_at request n) (asked request n) before after
+pub took-front : (request : List ℕ) (n : ℕ) (before after : Option Frames) → TookSome request 0 n before after
+    → TookFront (asked_at request n) (asked request n) before after
 took-front request n before after t = elim (cases_lt n t.count) [
   | inl more ↦
       let one : t.count ≡ suc n = omega (arith, more, t.most) in
@@ -112,7 +117,8 @@ module _ {first : ℕ} {port : Mac} {limit i : ℕ} {found now : List Seen} {sta
   found-on v at = rw append_assoc (rw (rest-is v at) at s.found_is)
 
   module _ {now' : List Seen} {last : ℕ} {given'' : Option (List Turn)} {taken'' : Option Frames} where
-    pub goes-on : VisitsOne (Ok tt) first port limit i now now' mid last given' given'' taken' taken'' → Visiting first port limit (i + 1) found now' start last given given'' taken taken''
+    pub goes-on : VisitsOne (Ok tt) first port limit i now now' mid last given' given'' taken' taken''
+        → Visiting first port limit (i + 1) found now' start last given given'' taken taken''
     goes-on one =
         let v = one.visit in
         let now_is : now ≡ learned first port s.visits ++ v.device ∷ drop 1 s.rest = rw (rest-is v one.at) at s.now_is in
@@ -128,7 +134,8 @@ module _ {first : ℕ} {port : Mac} {limit i : ℕ} {found now : List Seen} {sta
           took = Added-then taken taken' taken'' (visit_asked first port s.visits) (asked (request_of first port s.visits v) (length v.turns)) s.took here.2;
         }
 
-    pub fails : {e : Failed} → VisitsOne (Err e) first port limit i now now' mid last given' given'' taken' taken'' → VisitsAll (Err e) first port limit found now' start last given given'' taken taken''
+    pub fails : {e : Failed} → VisitsOne (Err e) first port limit i now now' mid last given' given'' taken' taken''
+        → VisitsAll (Err e) first port limit found now' start last given given'' taken taken''
     fails one =
         let v = one.visit in
         let request = request_of first port s.visits v in

@@ -88,7 +88,8 @@ with_total found (Err e) = Err e
 -- once the device answered where it is, it is asked there how long it is
 abbrev pub FindsAt : Result (Mac × ℕ) ToolRefusal → Result Device ToolRefusal → Ask → TargetId → ℕ → LinkState → LinkState → Type 0
 FindsAt (Ok found) result ask id first mid after =
-    (page : Result Response ToolRefusal) × Asks page (page_question ask id first) (page_frame ask id first found.0) ask.turns mid after × (result ≡ with_total found (total_in page))
+    (page : Result Response ToolRefusal) × Asks page (page_question ask id first) (page_frame ask id first found.0) ask.turns mid after
+    × (result ≡ with_total found (total_in page))
 FindsAt (Err e) result ask id first mid after = (result ≡ Err e) × (after ≡ mid)
 
 -- a device is found by its response to a query config request to all, and by its page

@@ -70,7 +70,8 @@ pub record IsIdle (before after : LinkState) (answers answers' : Option (List �
 -- the turns of a transfer at a device, and how far it is after them
 pub record RunsAll (result : Result Course ToolRefusal) (ask : Ask) (id : TargetId) (d : Device) (start : Course) (before after : LinkState) (answers answers' : Option (List ℕ)) : Type 0 where
   pub last : Course
-  pub runs : Runs (end_of result) (host_of ask.port id d) ask.turns start last before.turns after.turns before.given after.given before.taken after.taken answers answers'
+  pub runs : Runs (end_of result)
+      (host_of ask.port id d) ask.turns start last before.turns after.turns before.given after.given before.taken after.taken answers answers'
   pub gives : IfOk result (λ c. c ≡ last)
 
 -- unless there is no memory for a host
@@ -84,7 +85,8 @@ NotBegun e range d =
     ((range.at + range.count ≤ d.total → ⊥) × (e ≡ tool.Refused refusal.Range)) ⊎ ((range.at + range.count ≤ d.total) × (e ≡ tool.NoMemory))
 
 -- once a device is found, what is to be copied is, where it has all of the sectors
-abbrev pub CopiesAt : Result Device ToolRefusal → Result Course ToolRefusal → Ask → TargetId → Range → LinkState → LinkState → Option (List ℕ) → Option (List ℕ) → Type 0
+abbrev pub CopiesAt : Result Device ToolRefusal → Result Course ToolRefusal → Ask → TargetId → Range → LinkState → LinkState → Option (List ℕ) → Option (List ℕ)
+    → Type 0
 CopiesAt (Err e) result ask id range before after answers answers' = (result ≡ Err e) × IsIdle before after answers answers'
 CopiesAt (Ok d) result ask id range before after answers answers' =
     ((e : ToolRefusal) × (result ≡ Err e) × NotBegun e range d × IsIdle before after answers answers')
@@ -108,7 +110,8 @@ TakesRead (Ok bytes) (Err e) before after = ⊥
 TakesRead (Err e) result before after = (result ≡ Err (copy.Tool e)) × (after ≡ before)
 
 -- the input is written and flushed; where none came, nothing is done
-abbrev pub Puts : Result (List ℕ) CopyRefusal → Result Unit CopyRefusal → Ask → TargetId → ℕ → ℕ → LinkState → LinkState → Option (List ℕ) → Option (List ℕ) → Type 0
+abbrev pub Puts : Result (List ℕ) CopyRefusal → Result Unit CopyRefusal → Ask → TargetId → ℕ → ℕ → LinkState → LinkState → Option (List ℕ) → Option (List ℕ)
+    → Type 0
 Puts (Ok bytes) result ask id at least before after answers answers' =
     (copied : Result Course ToolRefusal) × Copies copied ask id (write_of at bytes) least before after answers answers' × (result ≡ copied_as copied)
 Puts (Err e) result ask id at least before after answers answers' = (result ≡ Err e) × IsIdle before after answers answers'

@@ -20,5 +20,6 @@ abbrev pub Inputs : Result (List ℕ) CopyRefusal → Option (List ℕ) → Opti
 Inputs (Ok bytes) left left' = IsReadUpTo 16777216 left left' bytes × (length bytes ≤ 16777216) × (length bytes % 512 ≡ 0)
 Inputs (Err copy.Limit) left left' = (bytes : List ℕ) × IsReadUpTo 16777216 left left' bytes × (16777216 < length bytes)
 Inputs (Err (copy.Stream offset)) left left' =
-    (bytes : List ℕ) × IsReadUpTo 16777216 left left' bytes × (length bytes ≤ 16777216) × (length bytes % 512 ≢ 0) × (offset ≡ length bytes - length bytes % 512)
+    (bytes : List ℕ) × IsReadUpTo 16777216 left left' bytes × (length bytes ≤ 16777216) × (length bytes % 512 ≢ 0)
+    × (offset ≡ length bytes - length bytes % 512)
 Inputs (Err refusal) left left' = Unread refusal left left'

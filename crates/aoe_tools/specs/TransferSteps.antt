@@ -61,7 +61,8 @@ pub record IsHeld (host host' : Host) : Type 0 where
 pub record SendsSome (result : Result Unit Failed) (host host' : Host) (before after : Option (List (List ℕ))) : Type 0 where
   pub sent : List Outgoing
   pub took : TookBut result before after sent
-  pub sends : (base : Host) (log : List Event) → IsSame base host → Matches log host → HasTags host.flight.last_tag (commands log) → AreSent base log sent × Matches (after_frames sent log) host'
+  pub sends : (base : Host) (log : List Event) → IsSame base host → Matches log host → HasTags host.flight.last_tag (commands log)
+      → AreSent base log sent × Matches (after_frames sent log) host'
       × HasTags host'.flight.last_tag (commands (after_frames sent log)) × SilentIf result base (after_frames sent log)
   pub held : IsHeld host host'
   pub waiting : host'.waiting ≡ host.waiting
@@ -74,7 +75,8 @@ is_heard (Some h) = true
 pub record HearsOne (finished : Bool) (host host' : Host) (start turned' : ℕ) (given given' : Option (List Turn)) : Type 0 where
   pub brought : Turn
   pub turned : Turned start turned' given given' (brought ∷ [])
-  pub hears : (base : Host) (log : List Event) → IsSame base host → Matches log host → (heard : Option Heard) × Hears base log brought heard × Matches (after_heard heard log) host'
+  pub hears : (base : Host) (log : List Event) → IsSame base host → Matches log host
+      → (heard : Option Heard) × Hears base log brought heard × Matches (after_heard heard log) host'
       × (host'.waiting ≡ host.waiting ++ told_by heard) × (finished ≡ is_heard heard)
   pub held : IsHeld host host'
   pub tag : host'.flight.last_tag ≡ host.flight.last_tag
@@ -113,7 +115,8 @@ pub record IsUnused (start turned' : ℕ) (given given' : Option (List Turn)) : 
   pub turns : turned' ≡ start
   pub given_is : given' ≡ given
 
-abbrev pub Exchanges : Result Passed ToolRefusal → Host → List Event → ℕ → Course → Course → Host → ℕ → ℕ → Option (List Turn) → Option (List Turn) → Option (List (List ℕ)) → Option (List (List ℕ)) → Type 0
+abbrev pub Exchanges : Result Passed ToolRefusal → Host → List Event → ℕ → Course → Course → Host → ℕ → ℕ → Option (List Turn) → Option (List Turn)
+    → Option (List (List ℕ)) → Option (List (List ℕ)) → Type 0
 Exchanges (Ok passed.Answered) base log tickets c c' host' start turned' given given' taken taken' =
     (h : Heard) × Exchanged base log tickets c c' host' (Some h) start turned' given given' taken taken'
 Exchanges (Ok passed.Quiet) base log tickets c c' host' start turned' given given' taken taken' =
@@ -134,13 +137,15 @@ pub record TakesRound (base : Host) (turns : ℕ) (start : Course) (rounds : Lis
   pub turned : Turned from turned' given given' (round.brought ∷ [])
 
 -- what a turn came to
-abbrev pub Turns : Result Passed ToolRefusal → Host → ℕ → Course → List Round → ℕ → Host → Course → Course → ℕ → ℕ → Option (List Turn) → Option (List Turn) → Option (List (List ℕ)) → Option (List (List ℕ)) → Type 0
+abbrev pub Turns : Result Passed ToolRefusal → Host → ℕ → Course → List Round → ℕ → Host → Course → Course → ℕ → ℕ → Option (List Turn) → Option (List Turn)
+    → Option (List (List ℕ)) → Option (List (List ℕ)) → Type 0
 Turns (Ok passed.Answered) base turns start rounds now host' c c' from turned' given given' taken taken' =
     (h : Heard) × TakesRound base turns start rounds now (Some h) host' c' from turned' given given' taken taken'
 Turns (Ok passed.Quiet) base turns start rounds now host' c c' from turned' given given' taken taken' =
     TakesRound base turns start rounds now None host' c' from turned' given given' taken taken'
 Turns (Ok passed.Over) base turns start rounds now host' c c' from turned' given given' taken taken' =
-    (e : EndsBy (Ok record {}) base turns c (told rounds) (log_of rounds) now) × (c' ≡ after_dones turns c (dones (told rounds) e.gave_up)) × (taken' ≡ taken) × IsUnused from turned' given given'
+    (e : EndsBy (Ok record {}) base turns c (told rounds) (log_of rounds) now) × (c' ≡ after_dones turns c (dones (told rounds) e.gave_up)) × (taken' ≡ taken)
+    × IsUnused from turned' given given'
 Turns (Err tool.LinkFault) base turns start rounds now host' c c' from turned' given given' taken taken' =
     Breaks base turns c (told rounds) (log_of rounds) (length (submissions rounds)) now taken taken' × IsUnused from turned' given given'
 Turns (Err tool.NoMemory) base turns start rounds now host' c c' from turned' given given' taken taken' =

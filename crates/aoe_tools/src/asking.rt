@@ -20,7 +20,8 @@ const TURNS_BETWEEN: u32 = 10;
 
 /// Sends a request that has waited for `passed` turns, where it is time.
 fn send_due<L: Link>(request: &Frame, passed: u32, link: &mut L) -> Result<(), Failed>
-    ensures took { OnOk result (Added (L.taken link.old) (L.taken link.new) (asked_at request.now.items passed)) }
+    ensures took { OnOk result (Added (L.taken link.old) (L.taken link.new)
+        (asked_at request.now.items passed)) }
     ensures err { OnErr result (L.taken link.new ≡ L.taken link.old) }
     ensures given { L.given link.new ≡ L.given link.old }
     ensures turns { L.turns link.new ≡ L.turns link.old }
@@ -42,7 +43,9 @@ fn take_turn<L: Link>(
     link: &mut L,
     frame: &mut Frame,
 ) -> Result<Option<Reply>, Failed>
-    ensures turn { TakesTurn result question.now request.now.items passed frame.new.items (L.turns link.old) (L.turns link.new) (L.given link.old) (L.given link.new) (L.taken link.old) (L.taken link.new) }
+    ensures turn { TakesTurn result question.now request.now.items passed frame.new.items
+        (L.turns link.old) (L.turns link.new) (L.given link.old) (L.given link.new)
+        (L.taken link.old) (L.taken link.new) }
     ensures here { IfOk result (λ reply. IfSome reply (λ r. CanRead r.answer frame.new.items)) }
     ensures count { L.faults link.old ≤ L.faults link.new }
     ensures link { Blamed (is_err result ≡ true) (L.faults link.old) (L.faults link.new) }
@@ -116,8 +119,10 @@ fn refusal_of(subject: Subject, answer: Answer, args: &[u8]) -> Option<Refusal>
 
 /// A response, where it doesn't refuse.
 fn unless_refused(subject: Subject, reply: Reply, args: &[u8]) -> Result<Reply, ToolRefusal>
-    ensures accepted { IfOk result (λ r. (r ≡ reply) × (refusal_of subject reply.answer args.now ≡ None)) }
-    ensures refused { IfErr result (λ e. unless_refusing (refusal_of subject reply.answer args.now) (record { reply = reply; args = args.now }) ≡ Err e) }
+    ensures accepted { IfOk result (λ r. (r ≡ reply)
+        × (refusal_of subject reply.answer args.now ≡ None)) }
+    ensures refused { IfErr result (λ e. unless_refusing (refusal_of subject reply.answer args.now)
+        (record { reply = reply; args = args.now }) ≡ Err e) }
     ensures untold { result ≢ Err ToolRefusal.LinkFault }
 {
     match refusal_of(subject, reply.answer, args) {
@@ -134,10 +139,13 @@ pub(crate) fn ask<L: Link>(
     link: &mut L,
     frame: &mut Frame,
 ) -> Result<Reply, ToolRefusal>
-    ensures asks { Asks (with_args frame.new.items result) question.now request.now.items turns (record { turns = L.turns link.old; given = L.given link.old; taken = L.taken link.old }) (record { turns = L.turns link.new; given = L.given link.new; taken = L.taken link.new }) }
+    ensures asks { Asks (with_args frame.new.items result) question.now request.now.items turns
+        (record { turns = L.turns link.old; given = L.given link.old; taken = L.taken link.old })
+        (record { turns = L.turns link.new; given = L.given link.new; taken = L.taken link.new }) }
     ensures here { IfOk result (λ r. CanRead r.answer frame.new.items) }
     ensures count { L.faults link.old ≤ L.faults link.new }
-    ensures link { Blamed (result ≡ Err ToolRefusal.LinkFault) (L.faults link.old) (L.faults link.new) }
+    ensures link { Blamed (result ≡ Err ToolRefusal.LinkFault) (L.faults link.old)
+        (L.faults link.new) }
 {
     let mut passed = 0;
     match listen(question, request, turns, &mut passed, link, frame) {

@@ -32,7 +32,8 @@ fn course_of_read(
     requires max { device.now.max ≤ 2 }
     requires few { count ≤ 32768 }
     ensures fresh { IfOk result (λ c. IsFresh (read_of at count) device.now c) }
-    ensures fit { IfOk result (λ c. (port : Mac) (id : TargetId) → IsFit (host_of port id device.now) c) }
+    ensures fit { IfOk result (λ c. (port : Mac) (id : TargetId)
+        → IsFit (host_of port id device.now) c) }
     ensures refused { IfErr result (λ e. NotBegun e (read_of at count) device.now) }
 {
     ticket_law();
@@ -71,7 +72,8 @@ fn course_of_write(
     requires whole { length bytes % 512 ≡ 0 }
     requires few { length bytes ≤ 16777216 }
     ensures fresh { IfOk result (λ c. IsFresh (write_of at bytes) device.now c) }
-    ensures fit { IfOk result (λ c. (port : Mac) (id : TargetId) → IsFit (host_of port id device.now) c) }
+    ensures fit { IfOk result (λ c. (port : Mac) (id : TargetId)
+        → IsFit (host_of port id device.now) c) }
     ensures refused { IfErr result (λ e. NotBegun e (write_of at bytes) device.now) }
 {
     ticket_law();
@@ -102,9 +104,13 @@ fn run_all<L: Link, C: Clock>(
     requires some { 0 < device.now.max }
     requires max { device.now.max ≤ 2 }
     requires fit { (port : Mac) (id : TargetId) → IsFit (host_of port id device.now) course }
-    ensures runs { MayRun result ask.now id device.now course (record { turns = L.turns link.old; given = L.given link.old; taken = L.taken link.old }) (record { turns = L.turns link.new; given = L.given link.new; taken = L.taken link.new }) (C.answers clock.old) (C.answers clock.new) }
+    ensures runs { MayRun result ask.now id device.now course
+        (record { turns = L.turns link.old; given = L.given link.old; taken = L.taken link.old })
+        (record { turns = L.turns link.new; given = L.given link.new; taken = L.taken link.new })
+        (C.answers clock.old) (C.answers clock.new) }
     ensures count { L.faults link.old ≤ L.faults link.new }
-    ensures link { Blamed (result ≡ Err ToolRefusal.LinkFault) (L.faults link.old) (L.faults link.new) }
+    ensures link { Blamed (result ≡ Err ToolRefusal.LinkFault) (L.faults link.old)
+        (L.faults link.new) }
 {
     let mut transfer = match Transfer::new(alloc, ask.port, id, device, course) {
         Ok(transfer) => transfer,
@@ -129,9 +135,13 @@ fn read_all<L: Link, C: Clock>(
     clock: &mut C,
 ) -> Result<Course, ToolRefusal>
     requires { count ≤ 32768 }
-    ensures copies { Copies result ask.now id (read_of at count) (C.least clock.old) (record { turns = L.turns link.old; given = L.given link.old; taken = L.taken link.old }) (record { turns = L.turns link.new; given = L.given link.new; taken = L.taken link.new }) (C.answers clock.old) (C.answers clock.new) }
+    ensures copies { Copies result ask.now id (read_of at count) (C.least clock.old)
+        (record { turns = L.turns link.old; given = L.given link.old; taken = L.taken link.old })
+        (record { turns = L.turns link.new; given = L.given link.new; taken = L.taken link.new })
+        (C.answers clock.old) (C.answers clock.new) }
     ensures count { L.faults link.old ≤ L.faults link.new }
-    ensures link { Blamed (result ≡ Err ToolRefusal.LinkFault) (L.faults link.old) (L.faults link.new) }
+    ensures link { Blamed (result ≡ Err ToolRefusal.LinkFault) (L.faults link.old)
+        (L.faults link.new) }
 {
     let first = clock.now();
     let device = match look_up(ask, id, first, link) {
@@ -156,9 +166,13 @@ fn write_all<L: Link, C: Clock>(
 ) -> Result<Course, ToolRefusal>
     requires whole { length bytes % 512 ≡ 0 }
     requires few { length bytes ≤ 16777216 }
-    ensures copies { Copies result ask.now id (write_of at bytes) (C.least clock.old) (record { turns = L.turns link.old; given = L.given link.old; taken = L.taken link.old }) (record { turns = L.turns link.new; given = L.given link.new; taken = L.taken link.new }) (C.answers clock.old) (C.answers clock.new) }
+    ensures copies { Copies result ask.now id (write_of at bytes) (C.least clock.old)
+        (record { turns = L.turns link.old; given = L.given link.old; taken = L.taken link.old })
+        (record { turns = L.turns link.new; given = L.given link.new; taken = L.taken link.new })
+        (C.answers clock.old) (C.answers clock.new) }
     ensures count { L.faults link.old ≤ L.faults link.new }
-    ensures link { Blamed (result ≡ Err ToolRefusal.LinkFault) (L.faults link.old) (L.faults link.new) }
+    ensures link { Blamed (result ≡ Err ToolRefusal.LinkFault) (L.faults link.old)
+        (L.faults link.new) }
 {
     let first = clock.now();
     let device = match look_up(ask, id, first, link) {
@@ -191,9 +205,11 @@ pub fn get<L: Link, C: Clock, K: Sink>(
     ensures unread { result ≢ Err CopyRefusal.SourceFault }
     ensures unwritten { IfErr result (λ e. e ≢ CopyRefusal.SinkFault → sink.new ≡ sink.old) }
     ensures count { L.faults link.old ≤ L.faults link.new }
-    ensures link { Blamed (result ≡ Err (CopyRefusal.Tool ToolRefusal.LinkFault)) (L.faults link.old) (L.faults link.new) }
+    ensures link { Blamed (result ≡ Err (CopyRefusal.Tool ToolRefusal.LinkFault))
+        (L.faults link.old) (L.faults link.new) }
     ensures sink_count { K.faults sink.old ≤ K.faults sink.new }
-    ensures sink { Blamed (result ≡ Err CopyRefusal.SinkFault) (K.faults sink.old) (K.faults sink.new) }
+    ensures sink { Blamed (result ≡ Err CopyRefusal.SinkFault) (K.faults sink.old)
+        (K.faults sink.new) }
 {
     let course = match read_all(alloc, ask, id, at, count, link, clock) {
         Ok(course) => course,
@@ -222,9 +238,11 @@ pub fn put<L: Link, C: Clock, S: Source>(
         (S.left source.old) (S.left source.new) }
     ensures unwritten { result ≢ Err CopyRefusal.SinkFault }
     ensures count { L.faults link.old ≤ L.faults link.new }
-    ensures link { Blamed (result ≡ Err (CopyRefusal.Tool ToolRefusal.LinkFault)) (L.faults link.old) (L.faults link.new) }
+    ensures link { Blamed (result ≡ Err (CopyRefusal.Tool ToolRefusal.LinkFault))
+        (L.faults link.old) (L.faults link.new) }
     ensures source_count { S.faults source.old ≤ S.faults source.new }
-    ensures source { Blamed (result ≡ Err CopyRefusal.SourceFault) (S.faults source.old) (S.faults source.new) }
+    ensures source { Blamed (result ≡ Err CopyRefusal.SourceFault) (S.faults source.old)
+        (S.faults source.new) }
 {
     let sectors = match read_sectors(alloc, source) {
         Ok(sectors) => sectors,

@@ -38,9 +38,12 @@ fn find_all<L: Link>(
     turns: u32,
     link: &mut L,
 ) -> Result<Found, ToolRefusal>
-    ensures run { Discovers result question.now request.now.items turns (L.turns link.old) (L.turns link.new) (L.given link.old) (L.given link.new) (L.taken link.old) (L.taken link.new) }
+    ensures run { Discovers result question.now request.now.items turns (L.turns link.old)
+        (L.turns link.new) (L.given link.old) (L.given link.new) (L.taken link.old)
+        (L.taken link.new) }
     ensures count { L.faults link.old ≤ L.faults link.new }
-    ensures link { Blamed (result ≡ Err ToolRefusal.LinkFault) (L.faults link.old) (L.faults link.new) }
+    ensures link { Blamed (result ≡ Err ToolRefusal.LinkFault) (L.faults link.old)
+        (L.faults link.new) }
 {
     let mut found = Found::new(alloc);
     let mut frame = Frame::new();
@@ -67,9 +70,12 @@ pub(crate) fn find<L: Link>(
     ask: &Ask,
     link: &mut L,
 ) -> Result<Found, ToolRefusal>
-    ensures run { Discovers result (finding_question first ask.now.port) (finding_request first ask.now.port) ask.now.turns (L.turns link.old) (L.turns link.new) (L.given link.old) (L.given link.new) (L.taken link.old) (L.taken link.new) }
+    ensures run { Discovers result (finding_question first ask.now.port)
+        (finding_request first ask.now.port) ask.now.turns (L.turns link.old) (L.turns link.new)
+        (L.given link.old) (L.given link.new) (L.taken link.old) (L.taken link.new) }
     ensures count { L.faults link.old ≤ L.faults link.new }
-    ensures link { Blamed (result ≡ Err ToolRefusal.LinkFault) (L.faults link.old) (L.faults link.new) }
+    ensures link { Blamed (result ≡ Err ToolRefusal.LinkFault) (L.faults link.old)
+        (L.faults link.new) }
 {
     let question = ask.question(Subject::Config, None, first, 0);
     let mut request = Frame::new();
@@ -87,7 +93,8 @@ pub fn discover<L: Link, C: Clock>(
     ensures run { RunsDiscovery result ask.now
         (told C.least C.answers L.turns L.given L.taken clock.old clock.new link.old link.new) }
     ensures count { L.faults link.old ≤ L.faults link.new }
-    ensures link { Blamed (result ≡ Err ToolRefusal.LinkFault) (L.faults link.old) (L.faults link.new) }
+    ensures link { Blamed (result ≡ Err ToolRefusal.LinkFault) (L.faults link.old)
+        (L.faults link.new) }
 {
     find(alloc, clock.now(), ask, link)
 }

@@ -127,7 +127,8 @@ impl Found {
     /// Notes what a device said.
     pub(crate) fn learn(&mut self, i: usize, known: Known)
         requires { i < length self.old }
-        ensures { (s : Seen) × (slice_get self.old i ≡ Some s) × (self.new ≡ slice_set self.old i (with_known s known)) }
+        ensures { (s : Seen) × (slice_get self.old i ≡ Some s)
+            × (self.new ≡ slice_set self.old i (with_known s known)) }
     {
         match self.devices.get_index_mut(i) {
             Some(seen) => {

@@ -15,7 +15,8 @@ const LONGEST_INPUT: usize = 16_777_216;
 pub(crate) fn read_sectors<S: Source>(alloc: Global, source: &mut S) -> Result<Blob, CopyRefusal>
     ensures inputs { Inputs result (S.left source.old) (S.left source.new) }
     ensures count { S.faults source.old ≤ S.faults source.new }
-    ensures source { Blamed (result ≡ Err CopyRefusal.SourceFault) (S.faults source.old) (S.faults source.new) }
+    ensures source { Blamed (result ≡ Err CopyRefusal.SourceFault) (S.faults source.old)
+        (S.faults source.new) }
 {
     let input = match read_up_to(alloc, source, LONGEST_INPUT) {
         Ok(input) => input,

@@ -46,9 +46,12 @@ fn ask_one<L: Link>(
     turns: u32,
     link: &mut L,
 ) -> Result<Args, ToolRefusal>
-    ensures run { AsksOne result question.now request.now.items turns (L.turns link.old) (L.turns link.new) (L.given link.old) (L.given link.new) (L.taken link.old) (L.taken link.new) }
+    ensures run { AsksOne result question.now request.now.items turns (L.turns link.old)
+        (L.turns link.new) (L.given link.old) (L.given link.new) (L.taken link.old)
+        (L.taken link.new) }
     ensures count { L.faults link.old ≤ L.faults link.new }
-    ensures link { Blamed (result ≡ Err ToolRefusal.LinkFault) (L.faults link.old) (L.faults link.new) }
+    ensures link { Blamed (result ≡ Err ToolRefusal.LinkFault) (L.faults link.old)
+        (L.faults link.new) }
 {
     let mut frame = Frame::new();
     match ask(question, request, turns, link, &mut frame) {
@@ -72,7 +75,8 @@ pub fn cfg<L: Link, C: Clock>(
     ensures run { RunsConfig result ccmd text.now id ask.now
         (told C.least C.answers L.turns L.given L.taken clock.old clock.new link.old link.new) }
     ensures count { L.faults link.old ≤ L.faults link.new }
-    ensures link { Blamed (result ≡ Err ToolRefusal.LinkFault) (L.faults link.old) (L.faults link.new) }
+    ensures link { Blamed (result ≡ Err ToolRefusal.LinkFault) (L.faults link.old)
+        (L.faults link.new) }
 {
     let question = ask.question(Subject::Config, Some(id), clock.now(), 0);
     let mut request = Frame::new();
@@ -92,7 +96,8 @@ pub fn mask<L: Link, C: Clock>(
     ensures run { RunsMasks result (option_copied dirs.entry) id ask.now
         (told C.least C.answers L.turns L.given L.taken clock.old clock.new link.old link.new) }
     ensures count { L.faults link.old ≤ L.faults link.new }
-    ensures link { Blamed (result ≡ Err ToolRefusal.LinkFault) (L.faults link.old) (L.faults link.new) }
+    ensures link { Blamed (result ≡ Err ToolRefusal.LinkFault) (L.faults link.old)
+        (L.faults link.new) }
 {
     let question = ask.question(Subject::Masks, Some(id), clock.now(), 0);
     let mut request = Frame::new();
@@ -117,7 +122,8 @@ pub fn reserve<L: Link, C: Clock>(
     ensures run { RunsReserves result rcmd list.now id ask.now
         (told C.least C.answers L.turns L.given L.taken clock.old clock.new link.old link.new) }
     ensures count { L.faults link.old ≤ L.faults link.new }
-    ensures link { Blamed (result ≡ Err ToolRefusal.LinkFault) (L.faults link.old) (L.faults link.new) }
+    ensures link { Blamed (result ≡ Err ToolRefusal.LinkFault) (L.faults link.old)
+        (L.faults link.new) }
 {
     let question = ask.question(Subject::Reserve, Some(id), clock.now(), 0);
     let mut request = Frame::new();

@@ -50,7 +50,8 @@ fn find_port<L: Link>(
         × (result ≡ port_in r) }
     ensures max { IfOk result (λ found. (0 < found.1) × (found.1 ≤ 2)) }
     ensures count { L.faults link.old ≤ L.faults link.new }
-    ensures link { Blamed (result ≡ Err ToolRefusal.LinkFault) (L.faults link.old) (L.faults link.new) }
+    ensures link { Blamed (result ≡ Err ToolRefusal.LinkFault) (L.faults link.old)
+        (L.faults link.new) }
 {
     let question = ask_by.question(Subject::Config, Some(id), first, 0);
     let mut request = Frame::new();
@@ -74,7 +75,8 @@ fn find_total<L: Link>(
         × (result ≡ total_in r) }
     ensures bound { IfOk result (λ total. total < 2 ^ 48) }
     ensures count { L.faults link.old ≤ L.faults link.new }
-    ensures link { Blamed (result ≡ Err ToolRefusal.LinkFault) (L.faults link.old) (L.faults link.new) }
+    ensures link { Blamed (result ≡ Err ToolRefusal.LinkFault) (L.faults link.old)
+        (L.faults link.new) }
 {
     let question = ask_by.question(Subject::Page, Some(id), first, 1);
     let mut request = Frame::new();
@@ -100,11 +102,14 @@ pub(crate) fn look_up<L: Link>(
     first: u64,
     link: &mut L,
 ) -> Result<Device, ToolRefusal>
-    ensures finds { Finds result ask_by.now id first (record { turns = L.turns link.old; given = L.given link.old; taken = L.taken link.old }) (record { turns = L.turns link.new; given = L.given link.new; taken = L.taken link.new }) }
+    ensures finds { Finds result ask_by.now id first
+        (record { turns = L.turns link.old; given = L.given link.old; taken = L.taken link.old })
+        (record { turns = L.turns link.new; given = L.given link.new; taken = L.taken link.new }) }
     ensures max { IfOk result (λ d. (0 < d.max) × (d.max ≤ 2)) }
     ensures total { IfOk result (λ d. d.total < 2 ^ 48) }
     ensures count { L.faults link.old ≤ L.faults link.new }
-    ensures link { Blamed (result ≡ Err ToolRefusal.LinkFault) (L.faults link.old) (L.faults link.new) }
+    ensures link { Blamed (result ≡ Err ToolRefusal.LinkFault) (L.faults link.old)
+        (L.faults link.new) }
 {
     let (port, max) = match find_port(ask_by, id, first, link) {
         Ok(found) => found,

@@ -57,7 +57,8 @@ pub(crate) fn mask_request(
     out: &mut Frame,
 )
     requires { length dirs.now ≤ 64 }
-    ensures { out.new.items ≡ request (op.Masks edit (record { items = dirs.now })) id broadcast port tag }
+    ensures { out.new.items ≡ request (op.Masks edit
+        (record { items = dirs.now })) id broadcast port tag }
 {
     begin(2, id, port, tag, out);
     append_mask_args(edit, dirs, out);
@@ -75,7 +76,8 @@ pub(crate) fn reserve_request(
     out: &mut Frame,
 )
     requires { length list.now ≤ 64 }
-    ensures { out.new.items ≡ request (op.Reserve rcmd (record { items = list.now })) id broadcast port tag }
+    ensures { out.new.items ≡ request (op.Reserve rcmd
+        (record { items = list.now })) id broadcast port tag }
 {
     begin(3, id, port, tag, out);
     append_reserve_args(rcmd, list, out);

@@ -89,10 +89,12 @@ impl Transfer {
     /// Takes the outcomes that wait: how the transfer ends by one of them, where it does.
     fn take_all(&mut self, turns: u32) -> Option<Result<(), ToolRefusal>>
         ensures end { result ≡ end_by turns self.old.course self.old.host.waiting }
-        ensures course { UnlessFailed result (self.new.course ≡ after_dones turns self.old.course self.old.host.waiting) }
+        ensures course { UnlessFailed result (self.new.course
+            ≡ after_dones turns self.old.course self.old.host.waiting) }
         ensures host { self.new.host ≡ record self.old.host { waiting = self.new.host.waiting } }
         ensures all { IfNone result (self.new.host.waiting ≡ []) }
-        ensures matches { (log : List Event) → Matches log self.old.host → Matches log self.new.host }
+        ensures matches { (log : List Event) → Matches log self.old.host
+            → Matches log self.new.host }
     {
         'outcomes: while let Some(done) = self.host.take_done() {
             if let Some(end) = self.course.take(done, turns) {
@@ -106,7 +108,8 @@ impl Transfer {
     fn submit_next(&mut self) -> Result<bool, NoMemory>
         requires fit { IsFit self.old.host self.old.course }
         requires few { self.old.course.under_way < 64 }
-        ensures some { result ≡ Ok true → SubmitsOne self.old.host self.new.host self.old.course self.new.course }
+        ensures some { result ≡ Ok true
+            → SubmitsOne self.old.host self.new.host self.old.course self.new.course }
         ensures none { result ≡ Ok false → next_op self.old.course ≡ None }
         ensures unchanged { result ≢ Ok true → self.new ≡ self.old }
     {
@@ -144,7 +147,8 @@ impl Transfer {
     /// Sends frames as long as one may be sent.
     fn send_all<L: Link>(&mut self, link: &mut L, frame: &mut Frame) -> Result<(), Failed>
         requires { self.old.host.last_ticket ≤ 32769 }
-        ensures some { SendsSome result self.old.host self.new.host (L.taken link.old) (L.taken link.new) }
+        ensures some { SendsSome result self.old.host self.new.host (L.taken link.old)
+            (L.taken link.new) }
         ensures course { self.new.course ≡ self.old.course }
         ensures given { L.given link.new ≡ L.given link.old }
         ensures turns { L.turns link.new ≡ L.turns link.old }
@@ -165,10 +169,12 @@ impl Transfer {
 
     /// Takes what one turn of the link brings: whether it ended a command.
     fn hear<L: Link>(&mut self, link: &mut L, frame: &mut Frame) -> Result<bool, Failed>
-        ensures one { IfOk result (λ finished. HearsOne finished self.old.host self.new.host (L.turns link.old) (L.turns link.new) (L.given link.old) (L.given link.new)) }
+        ensures one { IfOk result (λ finished. HearsOne finished self.old.host self.new.host
+            (L.turns link.old) (L.turns link.new) (L.given link.old) (L.given link.new)) }
         ensures course { self.new.course ≡ self.old.course }
         ensures taken { L.taken link.new ≡ L.taken link.old }
-        ensures err { OnErr result (IsUnused (L.turns link.old) (L.turns link.new) (L.given link.old) (L.given link.new)) }
+        ensures err { OnErr result (IsUnused (L.turns link.old) (L.turns link.new)
+            (L.given link.old) (L.given link.new)) }
         ensures count { L.faults link.old ≤ L.faults link.new }
         ensures link { Blamed (is_err result ≡ true) (L.faults link.old) (L.faults link.new) }
     {
@@ -190,7 +196,8 @@ impl Transfer {
         ensures exchanges { (base : Host) (log : List Event) → IsSame base self.old.host → Matches log self.old.host → HasTags self.old.host.flight.last_tag (commands log)
             → Exchanges result base log self.old.host.last_ticket self.old.course self.new.course self.new.host (L.turns link.old) (L.turns link.new) (L.given link.old) (L.given link.new) (L.taken link.old) (L.taken link.new) }
         ensures count { L.faults link.old ≤ L.faults link.new }
-        ensures link { Blamed (result ≡ Err ToolRefusal.LinkFault) (L.faults link.old) (L.faults link.new) }
+        ensures link { Blamed (result ≡ Err ToolRefusal.LinkFault) (L.faults link.old)
+            (L.faults link.new) }
     {
         match self.submit_all() {
             Ok(()) => {}
@@ -219,7 +226,8 @@ impl Transfer {
         ensures turn { (base : Host) (start : Course) (rounds : List Round) → Running base turns start rounds self.old.host self.old.course → quiet_turns rounds < turns
             → Turns result base turns start rounds now self.new.host self.old.course self.new.course (L.turns link.old) (L.turns link.new) (L.given link.old) (L.given link.new) (L.taken link.old) (L.taken link.new) }
         ensures count { L.faults link.old ≤ L.faults link.new }
-        ensures link { Blamed (result ≡ Err ToolRefusal.LinkFault) (L.faults link.old) (L.faults link.new) }
+        ensures link { Blamed (result ≡ Err ToolRefusal.LinkFault) (L.faults link.old)
+            (L.faults link.new) }
     {
         ticket_law();
         self.host.advance(Millis(now));
@@ -242,9 +250,12 @@ impl Transfer {
         requires waiting { self.old.host.waiting ≡ [] }
         requires new { self.old.host.last_ticket ≡ 0 }
         requires untagged { self.old.host.flight.last_tag ≡ 0 }
-        ensures run { Runs result self.old.host turns self.old.course self.new.course (L.turns link.old) (L.turns link.new) (L.given link.old) (L.given link.new) (L.taken link.old) (L.taken link.new) (C.answers clock.old) (C.answers clock.new) }
+        ensures run { Runs result self.old.host turns self.old.course self.new.course
+            (L.turns link.old) (L.turns link.new) (L.given link.old) (L.given link.new)
+            (L.taken link.old) (L.taken link.new) (C.answers clock.old) (C.answers clock.new) }
         ensures count { L.faults link.old ≤ L.faults link.new }
-        ensures link { Blamed (result ≡ Err ToolRefusal.LinkFault) (L.faults link.old) (L.faults link.new) }
+        ensures link { Blamed (result ≡ Err ToolRefusal.LinkFault) (L.faults link.old)
+            (L.faults link.new) }
     {
         let mut frame = Frame::new();
         let mut quiet = 0;

@@ -78,7 +78,8 @@ fn first_port(ports: &[Mac]) -> Mac
 
 /// Makes `out` the request for the page of a device.
 fn page_request(seen: &Seen, port: Mac, tag: u32, out: &mut Frame)
-    ensures { out.new.items ≡ request op.Identify seen.now.id (first_port seen.now.ports.items) port tag }
+    ensures { out.new.items ≡ request op.Identify seen.now.id
+        (first_port seen.now.ports.items) port tag }
 {
     let remote = first_port(seen.ports.as_slice());
     write_request(&Op::Identify, seen.id, remote, port, tag, out);
@@ -91,7 +92,9 @@ fn ask_page<L: Link>(
     turns: u32,
     link: &mut L,
 ) -> Result<Known, Failed>
-    ensures run { AsksPage result question.now request.now.items turns (L.turns link.old) (L.turns link.new) (L.given link.old) (L.given link.new) (L.taken link.old) (L.taken link.new) }
+    ensures run { AsksPage result question.now request.now.items turns (L.turns link.old)
+        (L.turns link.new) (L.given link.old) (L.given link.new) (L.taken link.old)
+        (L.taken link.new) }
     ensures count { L.faults link.old ≤ L.faults link.new }
     ensures link { Blamed (is_err result ≡ true) (L.faults link.old) (L.faults link.new) }
 {
@@ -117,7 +120,9 @@ fn visit<L: Link>(
 ) -> Result<(), Failed>
     requires there { i < length found.old }
     requires number { i < 2 ^ 64 - 1 }
-    ensures run { VisitsOne result first ask.now.port ask.now.turns i found.old found.new (L.turns link.old) (L.turns link.new) (L.given link.old) (L.given link.new) (L.taken link.old) (L.taken link.new) }
+    ensures run { VisitsOne result first ask.now.port ask.now.turns i found.old found.new
+        (L.turns link.old) (L.turns link.new) (L.given link.old) (L.given link.new)
+        (L.taken link.old) (L.taken link.new) }
     ensures count { L.faults link.old ≤ L.faults link.new }
     ensures link { Blamed (is_err result ≡ true) (L.faults link.old) (L.faults link.new) }
 {
@@ -136,7 +141,9 @@ fn visit<L: Link>(
 
 /// Asks the devices for their pages, one after the other.
 fn visit_all<L: Link>(first: u64, ask: &Ask, found: &mut Found, link: &mut L) -> Result<(), Failed>
-    ensures run { VisitsAll result first ask.now.port ask.now.turns found.old found.new (L.turns link.old) (L.turns link.new) (L.given link.old) (L.given link.new) (L.taken link.old) (L.taken link.new) }
+    ensures run { VisitsAll result first ask.now.port ask.now.turns found.old found.new
+        (L.turns link.old) (L.turns link.new) (L.given link.old) (L.given link.new)
+        (L.taken link.old) (L.taken link.new) }
     ensures count { L.faults link.old ≤ L.faults link.new }
     ensures link { Blamed (is_err result ≡ true) (L.faults link.old) (L.faults link.new) }
 {
@@ -160,7 +167,8 @@ pub fn stat<L: Link, C: Clock>(
     ensures run { RunsStat result ask.now
         (told C.least C.answers L.turns L.given L.taken clock.old clock.new link.old link.new) }
     ensures count { L.faults link.old ≤ L.faults link.new }
-    ensures link { Blamed (result ≡ Err ToolRefusal.LinkFault) (L.faults link.old) (L.faults link.new) }
+    ensures link { Blamed (result ≡ Err ToolRefusal.LinkFault) (L.faults link.old)
+        (L.faults link.new) }
 {
     let first = clock.now();
     let mut found = match find(alloc, first, ask, link) {

@@ -18,7 +18,8 @@ type Seen<'a> = HashSet<(&'a [u8], u64)>;
 
 /// Whether the entry sends a frame of a command that was seen. From now on it was.
 fn sends_again<'a>(seen: &mut Seen<'a>, entry: &'a Entry) -> Result<bool, NoMemory>
-    ensures { IfOk result (λ again. (h : List Entry) → HasSent seen.old h → (again ≡ sends_again entry.now h) × HasSent seen.new (entry.now ∷ h)) }
+    ensures { IfOk result (λ again. (h : List Entry) → HasSent seen.old h
+        → (again ≡ sends_again entry.now h) × HasSent seen.new (entry.now ∷ h)) }
 {
     let Entry::Sent { host, ticket, .. } = entry else {
         return Ok(false);
@@ -29,7 +30,8 @@ fn sends_again<'a>(seen: &mut Seen<'a>, entry: &'a Entry) -> Result<bool, NoMemo
 
 /// How many frames come into the network where this becomes of one at a target.
 fn replies(fate: &Fate) -> u64
-    ensures frames { (dev : TargetId) (frame : ℕ) (h : List Entry) → length (frames (Arrived dev frame fate.now ∷ h)) ≡ length (frames h) + result }
+    ensures frames { (dev : TargetId) (frame : ℕ) (h : List Entry)
+        → length (frames (Arrived dev frame fate.now ∷ h)) ≡ length (frames h) + result }
     ensures one { result ≤ 1 }
 {
     match fate {
@@ -58,7 +60,8 @@ impl Summary {
     /// One thing more happened.
     fn count(&mut self, entry: &Entry, again: bool)
         requires { AreBelow u64.MAX self.old }
-        ensures { (events : ℕ) (h : List Entry) → self.old ≡ summary_of events h → again ≡ sends_again entry.now h → self.new ≡ summary_of events (entry.now ∷ h) }
+        ensures { (events : ℕ) (h : List Entry) → self.old ≡ summary_of events h
+            → again ≡ sends_again entry.now h → self.new ≡ summary_of events (entry.now ∷ h) }
     {
         match entry {
             Entry::Sent { .. } => {

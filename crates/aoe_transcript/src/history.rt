@@ -35,7 +35,8 @@ pub fn print_history(alloc: Global, history: &History) -> Result<Blob, NoMemory>
 /// Adds the lines of a history, and then the line of a summary.
 fn put_run(out: &mut Vec<u8>, history: &History, summary: &Summary) -> Result<(), NoMemory>
     requires { All CanPrint history.now }
-    ensures { OnOk result (out.new.items ≡ out.old.items ++ (history_text history.now ++ summary_text summary.now)) }
+    ensures { OnOk result (out.new.items ≡ out.old.items
+        ++ (history_text history.now ++ summary_text summary.now)) }
 {
     put_history(out, history)?;
     put_summary(out, summary)

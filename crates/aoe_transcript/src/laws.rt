@@ -17,7 +17,8 @@ pub fn runs_are_longest()
 
 /// The event line that stands in the line of a submission asks for what was submitted.
 pub fn submitted_lines_ask()
-    ensures { (host : ArrayVec ℕ) (dev : TargetId) (op : Op) → IsAsked op → op_of (asking host dev op) ≡ Some op }
+    ensures { (host : ArrayVec ℕ) (dev : TargetId) (op : Op) → IsAsked op
+        → op_of (asking host dev op) ≡ Some op }
 {}
 
 /// A lawful history can be printed if all that was submitted is what event lines ask for. The host

@@ -13,7 +13,8 @@ use aoe_target::Effect;
 
 /// Adds a word and sectors.
 fn put_span(out: &mut Vec<u8>, word: &[u8], span: Span) -> Result<(), NoMemory>
-    ensures { OnOk result (out.new.items ≡ out.old.items ++ (word.now ++ spaced (decimal span.at ∷ decimal span.count ∷ []))) }
+    ensures { OnOk result (out.new.items ≡ out.old.items
+        ++ (word.now ++ spaced (decimal span.at ∷ decimal span.count ∷ []))) }
 {
     put_count(out, word, span.at)?;
     put_count(out, b"", u64::from(span.count))
@@ -52,7 +53,8 @@ pub(crate) fn put_fate(out: &mut Vec<u8>, fate: &Fate) -> Result<(), NoMemory>
 
 /// Adds the registers of status and error.
 fn put_registers(out: &mut Vec<u8>, status: u8, error: u8) -> Result<(), NoMemory>
-    ensures { OnOk result (out.new.items ≡ out.old.items ++ spaced (pair_text status ∷ pair_text error ∷ [])) }
+    ensures { OnOk result (out.new.items ≡ out.old.items
+        ++ spaced (pair_text status ∷ pair_text error ∷ [])) }
 {
     put(out, b" ")?;
     put_pair(out, status)?;

@@ -16,7 +16,8 @@ use std::alloc::Global;
 
 /// Adds a word, a host and a number.
 fn put_of_host(out: &mut Vec<u8>, word: &[u8], host: &Name, n: u64) -> Result<(), NoMemory>
-    ensures { OnOk result (out.new.items ≡ out.old.items ++ spelled (word.now ∷ host.now.items ∷ decimal n ∷ [])) }
+    ensures { OnOk result (out.new.items ≡ out.old.items
+        ++ spelled (word.now ∷ host.now.items ∷ decimal n ∷ [])) }
 {
     put_named(out, word, host)?;
     put_count(out, b"", n)
@@ -24,7 +25,8 @@ fn put_of_host(out: &mut Vec<u8>, word: &[u8], host: &Name, n: u64) -> Result<()
 
 /// Adds a word and a device.
 fn put_of_device(out: &mut Vec<u8>, word: &[u8], dev: &TargetId) -> Result<(), NoMemory>
-    ensures { OnOk result (out.new.items ≡ out.old.items ++ spelled (word.now ∷ device_text dev.now ∷ [])) }
+    ensures { OnOk result (out.new.items ≡ out.old.items
+        ++ spelled (word.now ∷ device_text dev.now ∷ [])) }
 {
     put(out, word)?;
     put(out, b" ")?;
@@ -53,7 +55,8 @@ fn put_armed(
 
 /// Adds the line of a slot that lost its power, without its end.
 fn put_crashed(out: &mut Vec<u8>, dev: &TargetId, lists: &Lists) -> Result<(), NoMemory>
-    ensures { OnOk result (out.new.items ≡ out.old.items ++ spelled (codes "crashed" ∷ device_text dev.now ∷ lists_words lists.now)) }
+    ensures { OnOk result (out.new.items ≡ out.old.items
+        ++ spelled (codes "crashed" ∷ device_text dev.now ∷ lists_words lists.now)) }
 {
     put_of_device(out, b"crashed", dev)?;
     put_lists(out, lists)
@@ -70,7 +73,8 @@ fn put_took(out: &mut Vec<u8>, host: &Name, frame: u64, stale: bool) -> Result<(
 /// Adds the line of a refusal, without its end.
 fn put_refused(out: &mut Vec<u8>, host: &Name, refusal: SubmitRefusal) -> Result<(), NoMemory>
     requires { HasCause refusal }
-    ensures { OnOk result (out.new.items ≡ out.old.items ++ spelled (codes "refuse" ∷ host.now.items ∷ refusal_words refusal)) }
+    ensures { OnOk result (out.new.items ≡ out.old.items
+        ++ spelled (codes "refuse" ∷ host.now.items ∷ refusal_words refusal)) }
 {
     put_named(out, b"refuse", host)?;
     put_refusal(out, refusal)
@@ -78,7 +82,8 @@ fn put_refused(out: &mut Vec<u8>, host: &Name, refusal: SubmitRefusal) -> Result
 
 /// Adds the line of a command that ended, without its end.
 fn put_done(out: &mut Vec<u8>, host: &Name, ticket: u64, outcome: &Outcome) -> Result<(), NoMemory>
-    ensures { OnOk result (out.new.items ≡ out.old.items ++ spelled (codes "done" ∷ host.now.items ∷ decimal ticket ∷ outcome_words outcome.now)) }
+    ensures { OnOk result (out.new.items ≡ out.old.items
+        ++ spelled (codes "done" ∷ host.now.items ∷ decimal ticket ∷ outcome_words outcome.now)) }
 {
     put_of_host(out, b"done", host, ticket)?;
     put_outcome(out, outcome)
@@ -86,7 +91,8 @@ fn put_done(out: &mut Vec<u8>, host: &Name, ticket: u64, outcome: &Outcome) -> R
 
 /// Adds the line of a frame that a host sent, without its end.
 fn put_sent(out: &mut Vec<u8>, host: &Name, ticket: u64, frame: u64) -> Result<(), NoMemory>
-    ensures { OnOk result (out.new.items ≡ out.old.items ++ spelled (codes "sent" ∷ host.now.items ∷ decimal ticket ∷ decimal frame ∷ [])) }
+    ensures { OnOk result (out.new.items ≡ out.old.items
+        ++ spelled (codes "sent" ∷ host.now.items ∷ decimal ticket ∷ decimal frame ∷ [])) }
 {
     put_of_host(out, b"sent", host, ticket)?;
     put_count(out, b"", frame)
@@ -94,7 +100,8 @@ fn put_sent(out: &mut Vec<u8>, host: &Name, ticket: u64, frame: u64) -> Result<(
 
 /// Adds the line of a frame that came to a target, without its end.
 fn put_arrived(out: &mut Vec<u8>, dev: &TargetId, frame: u64, fate: &Fate) -> Result<(), NoMemory>
-    ensures { OnOk result (out.new.items ≡ out.old.items ++ spelled (codes "arrive" ∷ device_text dev.now ∷ decimal frame ∷ fate_words fate.now)) }
+    ensures { OnOk result (out.new.items ≡ out.old.items
+        ++ spelled (codes "arrive" ∷ device_text dev.now ∷ decimal frame ∷ fate_words fate.now)) }
 {
     put_of_device(out, b"arrive", dev)?;
     put_count(out, b"", frame)?;

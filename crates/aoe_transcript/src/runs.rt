@@ -10,7 +10,8 @@ use aoe_script::spelling::put_number;
 /// The first run, and what stands behind it.
 fn next_run(bytes: &[u8]) -> Option<(u8, usize, &[u8])>
     ensures none { IfNone result (longest_runs bytes.now ≡ []) }
-    ensures run { IfSome result (λ r. longest_runs bytes.now ≡ record { byte = r.0; count = r.1 } ∷ longest_runs r.2.now) }
+    ensures run { IfSome result (λ r. longest_runs bytes.now
+        ≡ record { byte = r.0; count = r.1 } ∷ longest_runs r.2.now) }
     ensures shorter { IfSome result (λ r. length r.2.now < length bytes.now) }
 {
     if bytes.is_empty() {
@@ -23,7 +24,8 @@ fn next_run(bytes: &[u8]) -> Option<(u8, usize, &[u8])>
 
 /// Adds a run.
 fn put_repeated(out: &mut Vec<u8>, byte: u8, count: usize) -> Result<(), NoMemory>
-    ensures { OnOk result (out.new.items ≡ out.old.items ++ repeated_text record { byte = byte; count = count }) }
+    ensures { OnOk result (out.new.items ≡ out.old.items
+        ++ repeated_text record { byte = byte; count = count }) }
 {
     put_pair(out, byte)?;
     put(out, b"*")?;

@@ -13,7 +13,8 @@ use aoe_script::spelling::{
 
 /// Adds a word and a device, each behind a space.
 fn put_asked(out: &mut Vec<u8>, word: &[u8], dev: &TargetId) -> Result<(), NoMemory>
-    ensures { OnOk result (out.new.items ≡ out.old.items ++ spaced (word.now ∷ device_text dev.now ∷ [])) }
+    ensures { OnOk result (out.new.items ≡ out.old.items
+        ++ spaced (word.now ∷ device_text dev.now ∷ [])) }
 {
     put(out, b" ")?;
     put(out, word)?;
@@ -32,7 +33,9 @@ fn put_read(out: &mut Vec<u8>, dev: &TargetId, span: Span) -> Result<(), NoMemor
 
 /// Adds the words of sectors that are written.
 fn put_write(out: &mut Vec<u8>, dev: &TargetId, at: u64, bytes: &Blob) -> Result<(), NoMemory>
-    ensures { OnOk result (out.new.items ≡ out.old.items ++ spaced (codes "write" ∷ device_text dev.now ∷ decimal at ∷ decimal (length bytes.now / 512) ∷ pair_text (slice_index bytes.now 0) ∷ [])) }
+    ensures { OnOk result (out.new.items ≡ out.old.items
+        ++ spaced (codes "write" ∷ device_text dev.now ∷ decimal at ∷ decimal
+        (length bytes.now / 512) ∷ pair_text (slice_index bytes.now 0) ∷ [])) }
 {
     let bytes = bytes.bytes();
     put_asked(out, b"write", dev)?;
@@ -50,7 +53,8 @@ pub(crate) fn put_submitted(
     dev: &TargetId,
     op: &Op,
 ) -> Result<(), NoMemory>
-    ensures { OnOk result (out.new.items ≡ out.old.items ++ spelled (submit_words ticket (event_words (asking host.now dev.now op.now)))) }
+    ensures { OnOk result (out.new.items ≡ out.old.items
+        ++ spelled (submit_words ticket (event_words (asking host.now dev.now op.now)))) }
 {
     put_named(out, b"submit", host)?;
     put_count(out, b"", ticket)?;

@@ -108,8 +108,10 @@ fn trouble_of(kind: ErrorKind) -> Trouble
 /// What an error of a call that sends to one peer means. Where the machine keeps a frame from a peer
 /// (EPERM, EACCES), can't send to its address (EINVAL) or has no room for it, that frame is lost.
 fn trouble_of_sending(error: &io::Error) -> Trouble
-    ensures interrupted { result ≡ Trouble.Interrupted ↔ (error_kind error.now ≡ ErrorKind.Interrupted) }
-    ensures lost { result ≡ Trouble.Lost ↔ IsTrue (is_lost_sending (error_kind error.now) (raw_os_error error.now)) }
+    ensures interrupted { result ≡ Trouble.Interrupted
+        ↔ (error_kind error.now ≡ ErrorKind.Interrupted) }
+    ensures lost { result ≡ Trouble.Lost ↔ IsTrue
+        (is_lost_sending (error_kind error.now) (raw_os_error error.now)) }
 {
     match error.kind() {
         ErrorKind::PermissionDenied | ErrorKind::InvalidInput => Trouble::Lost,
@@ -220,7 +222,8 @@ pub enum OpenRefusal {
 
 /// Why no socket was bound.
 fn refusal(error: &io::Error) -> OpenRefusal
-    ensures memory { result ≡ OpenRefusal.NoMemory ↔ (error_kind error.now ≡ ErrorKind.OutOfMemory) }
+    ensures memory { result ≡ OpenRefusal.NoMemory
+        ↔ (error_kind error.now ≡ ErrorKind.OutOfMemory) }
     ensures peers { result ≢ OpenRefusal.Peers }
 {
     match error.kind() {

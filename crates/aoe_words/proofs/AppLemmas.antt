@@ -59,7 +59,8 @@ next_argument start app app' xs i d r below is adds so_far =
     ap (λ a. added with_argument a (map argument (drop (i + 1) xs))) step ∙ sym (one_added argument with_argument app xs i d below) ∙ so_far
 
 -- one command more
-pub next_form : (start app app' sub : App) (xs : List (Bor Text × Bor (List (Bor Text × Place)))) (i : ℕ) (d : Bor Text × Bor (List (Bor Text × Place))) → i < length xs
+pub next_form : (start app app' sub : App) (xs : List (Bor Text × Bor (List (Bor Text × Place)))) (i : ℕ) (d : Bor Text × Bor (List (Bor Text × Place)))
+    → i < length xs
     → sub ≡ added with_argument (bare (get_or xs i d).0.now) (map argument (get_or xs i d).1.now) → app' ≡ with_subcommand app sub.top
     → added with_form app (map form (drop i xs)) ≡ start → added with_form app' (map form (drop (i + 1) xs)) ≡ start
 unfolding with_form

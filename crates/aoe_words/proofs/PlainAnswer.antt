@@ -29,7 +29,8 @@ plain_word x xs h =
     let parts = all_three (nat_lt 0 (length (x ∷ xs))) (nat_le (length (x ∷ xs)) 4096) (x == 45) h in
     rw (parts.0, parts.1) (simp parts.2 refl)
 
-module _ (x1 x2 x3 x4 : ℕ) (t1 t2 t3 t4 : Text) (p1 : is_plain (x1 ∷ t1) ≡ true) (p2 : is_plain (x2 ∷ t2) ≡ true) (p3 : is_plain (x3 ∷ t3) ≡ true) (p4 : is_plain (x4 ∷ t4) ≡ true) where
+module _ (x1 x2 x3 x4 : ℕ) (t1 t2 t3 t4 : Text) (p1 : is_plain (x1 ∷ t1) ≡ true) (p2 : is_plain (x2 ∷ t2) ≡ true) (p3 : is_plain (x3 ∷ t3) ≡ true)
+    (p4 : is_plain (x4 ∷ t4) ≡ true) where
   abbrev line : List Text
   line = codes "answer" ∷ (x1 ∷ t1) ∷ (x2 ∷ t2) ∷ (x3 ∷ t3) ∷ (x4 ∷ t4) ∷ []
 

@@ -24,11 +24,13 @@ module _ (c : List Rule) (h : Held) (p x : ℕ) (xs : Text) (plain : (x == 45) �
 
 -- a walk over plain words meets no fault but at their places
 module _ (s : Shape) (h : Held) (p x : ℕ) (xs : Text) (rest : List Text) (plain : (x == 45) ≡ false) where
-  pub fault_idle : walk_fault s [] (between h idle p) ((x ∷ xs) ∷ rest) ≡ or_else (step_fault s p h value) (walk_fault s [] (walked s.rules [] (between h idle p) (x ∷ xs)) rest)
+  pub fault_idle : walk_fault s [] (between h idle p) ((x ∷ xs) ∷ rest) ≡ or_else (step_fault s p h value)
+      (walk_fault s [] (walked s.rules [] (between h idle p) (x ∷ xs)) rest)
   unfolding walk_fault
   fault_idle = simp plain refl
 
-  pub fault_positional : walk_fault s [] (between h positional p) ((x ∷ xs) ∷ rest) ≡ or_else (step_fault s p h value) (walk_fault s [] (walked s.rules [] (between h positional p) (x ∷ xs)) rest)
+  pub fault_positional : walk_fault s [] (between h positional p) ((x ∷ xs) ∷ rest)
+      ≡ or_else (step_fault s p h value) (walk_fault s [] (walked s.rules [] (between h positional p) (x ∷ xs)) rest)
   unfolding walk_fault
   fault_positional = simp plain refl
 
@@ -61,7 +63,8 @@ pub top_walk : (w1 w2 w3 w4 : Text) → walk (built aoe_app).top.rules (names_of
 unfolding aoe_app walked
 top_walk w1 w2 w3 w4 = refl
 
-pub top_walk_fault : (w1 w2 w3 w4 : Text) → walk_fault (built aoe_app).top (names_of (built aoe_app)) (walk_from nothing_held) (codes "answer" ∷ w1 ∷ w2 ∷ w3 ∷ w4 ∷ []) ≡ []
+pub top_walk_fault : (w1 w2 w3 w4 : Text) → walk_fault (built aoe_app).top (names_of (built aoe_app)) (walk_from nothing_held)
+    (codes "answer" ∷ w1 ∷ w2 ∷ w3 ∷ w4 ∷ []) ≡ []
 unfolding aoe_app walked walk_fault
 top_walk_fault w1 w2 w3 w4 = refl
 

@@ -30,7 +30,8 @@ pub fifth : (texts : List Text) (n : ℕ) (ports : List Mac) (h : AreRead port_o
 fifth texts n ports h part at port e full = too_many texts (n + 1) (ports ++ port ∷ []) (one_more port_of texts n ports h part at port e) (omega (arith, h.as_many))
 
 -- all parts
-pub all_read : (texts : List Text) (n : ℕ) (ports : List Mac) → AreRead port_of texts n ports → n ≡ length texts → length ports ≤ 4 → Some ports ≡ up_to_four (each port_of texts)
+pub all_read : (texts : List Text) (n : ℕ) (ports : List Mac) → AreRead port_of texts n ports → n ≡ length texts → length ports ≤ 4
+    → Some ports ≡ up_to_four (each port_of texts)
 all_read texts n ports h end few =
     let test : nat_le (length ports) 4 ≡ true = grind (arith, nat_tests) in
     rw (each_read port_of texts n ports h end, test) refl
@@ -40,8 +41,10 @@ pub individual_ports : (texts : List Text) → IfSome (each port_of texts) (λ p
 individual_ports [] = (refl, refl)
 individual_ports (text ∷ texts) = go (mac_of text) (each port_of texts) (individual_ports texts)
   where
-    with_port : (b : Bool) (mac : Mac) → is_individual mac ≡ b → (o : Option (List Mac)) → IfSome o (λ ports. (list_all is_individual ports ≡ true) × (length ports ≡ length texts))
-        → IfSome (option_and_then (λ port. option_map (λ ports. port ∷ ports) o) (cond b (Some mac) None)) (λ ports. (list_all is_individual ports ≡ true) × (length ports ≡ length (text ∷ texts)))
+    with_port : (b : Bool) (mac : Mac) → is_individual mac ≡ b → (o : Option (List Mac))
+        → IfSome o (λ ports. (list_all is_individual ports ≡ true) × (length ports ≡ length texts))
+        → IfSome (option_and_then (λ port. option_map (λ ports. port ∷ ports) o) (cond b (Some mac) None))
+        (λ ports. (list_all is_individual ports ≡ true) × (length ports ≡ length (text ∷ texts)))
     with_port false mac e o h = tt
     with_port true mac e None h = tt
     with_port true mac e (Some ports) h = (rw (e, h.0) refl, ap suc h.1)
@@ -53,7 +56,8 @@ individual_ports (text ∷ texts) = go (mac_of text) (each port_of texts) (indiv
     go (Some mac) o h = with_port (is_individual mac) mac refl o h
 
 -- at most four of which none stands twice are the addresses of a station's ports
-pub are_ports : (text : Text) (ports : List Mac) → Some ports ≡ up_to_four (each port_of (slice_split (λ c. c == 44) text)) → all_unique ports ≡ true → ArePorts ports
+pub are_ports : (text : Text) (ports : List Mac) → Some ports ≡ up_to_four (each port_of (slice_split (λ c. c == 44) text)) → all_unique ports ≡ true
+    → ArePorts ports
 are_ports text ports e unique = go (each port_of (slice_split (λ c. c == 44) text)) (individual_ports (slice_split (λ c. c == 44) text)) e
   where
     checked : (few : Bool) (found : List Mac) → nat_le (length found) 4 ≡ few

@@ -172,7 +172,8 @@ fn command<'a>(
     name: &'a str,
     arguments: &[Argument],
 ) -> Result<Command<'a>, AllocError>
-    ensures app { IfOk result (λ r. app_of r ≡ added with_argument (bare name.entry.now) (map argument arguments.now)) }
+    ensures app { IfOk result (λ r. app_of r ≡ added with_argument (bare name.entry.now)
+        (map argument arguments.now)) }
     ensures local { IfOk result (λ r. (fields_of r).has_globals ≡ false) }
 {
     let mut command = bare(alloc, name);

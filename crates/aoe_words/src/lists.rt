@@ -55,7 +55,8 @@ fn is_list(words: &[&str]) -> bool
 
 /// The directives that words spell, one each: 1 to 64 of them.
 pub(crate) fn read_dirs(words: &[&str]) -> Option<ArrayVec<Dir, MAX_DIRS>>
-    ensures value { option_map (λ dirs. dirs.items) result ≡ listed dir_of (map (λ word. word.now) words.now) }
+    ensures value { option_map (λ dirs. dirs.items) result
+        ≡ listed dir_of (map (λ word. word.now) words.now) }
     ensures few { IfSome result (λ dirs. (1 ≤ length dirs.items) × (length dirs.items ≤ 64)) }
 {
     if !is_list(words) {
@@ -70,7 +71,8 @@ pub(crate) fn read_dirs(words: &[&str]) -> Option<ArrayVec<Dir, MAX_DIRS>>
 
 /// The addresses that words spell, one each: 1 to 64 of them.
 pub(crate) fn read_macs(words: &[&str]) -> Option<ArrayVec<Mac, MAX_DIRS>>
-    ensures value { option_map (λ macs. macs.items) result ≡ listed mac_of (map (λ word. word.now) words.now) }
+    ensures value { option_map (λ macs. macs.items) result
+        ≡ listed mac_of (map (λ word. word.now) words.now) }
     ensures few { IfSome result (λ macs. (1 ≤ length macs.items) × (length macs.items ≤ 64)) }
 {
     if !is_list(words) {

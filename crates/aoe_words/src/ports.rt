@@ -19,7 +19,8 @@ pub(crate) fn read_port(text: &[u8]) -> Option<Mac>
 
 /// The addresses of ports that the parts of a text spell, where they are four at most.
 fn each_port(text: &[u8]) -> Option<Ports>
-    ensures { option_map (λ ports. ports.items) result ≡ up_to_four (each port_of (slice_split (λ c. c == 44) text.now)) }
+    ensures { option_map (λ ports. ports.items) result
+        ≡ up_to_four (each port_of (slice_split (λ c. c == 44) text.now)) }
 {
     let mut ports = Ports::new();
     'parts: for part in text.split(|byte| *byte == b',') {

@@ -103,7 +103,8 @@ fn parsed<'a>(
     alloc: Global,
     words: &'a [String],
 ) -> Result<Option<(&'a str, ArgMatches<'a>)>, NoMemory>
-    ensures value { IfOk result (λ r. option_map (λ p. (p.0.now, rows_of (found_of p.1))) r ≡ parsed (map string_bytes words.entry.now)) }
+    ensures value { IfOk result (λ r. option_map (λ p. (p.0.now, rows_of (found_of p.1))) r
+        ≡ parsed (map string_bytes words.entry.now)) }
     ensures words { list_all is_word (map string_bytes words.entry.now) ≡ false → result ≡ Ok None }
 {
     if !are_words(words) {
@@ -267,8 +268,10 @@ fn command_of(name: &str, found: &ArgMatches) -> Option<Command>
 
 /// The command that the arguments spell, with what clap found for it.
 fn spelled<'a>(alloc: Global, words: &'a [String]) -> Result<Option<Found<'a>>, NoMemory>
-    ensures value { IfOk result (λ r. option_map (λ s. (s.command, rows_of (found_of s.matches))) r ≡ spelled (map string_bytes words.entry.now)) }
-    ensures fits { IfOk result (λ r. IfSome r (λ s. Fits (rows_of (found_of s.matches)) s.command)) }
+    ensures value { IfOk result (λ r. option_map (λ s. (s.command, rows_of (found_of s.matches))) r
+        ≡ spelled (map string_bytes words.entry.now)) }
+    ensures fits { IfOk result (λ r. IfSome r (λ s. Fits
+        (rows_of (found_of s.matches)) s.command)) }
     ensures words { list_all is_word (map string_bytes words.entry.now) ≡ false → result ≡ Ok None }
 {
     let Some((name, matches)) = parsed(alloc, words)? else {
@@ -285,8 +288,10 @@ fn spelled<'a>(alloc: Global, words: &'a [String]) -> Result<Option<Found<'a>>, 
 pub fn read_words(alloc: Global, words: &[String]) -> Result<Option<Command>, NoMemory>
     ensures command { IfOk result (λ r. r ≡ command (map string_bytes words.now)) }
     ensures range { IfOk result (λ r. IfSome r IsInRange) }
-    ensures files { IfOk result (λ r. IfSome r (λ c. length (file_names (map string_bytes words.now)) ≡ file_count c)) }
-    ensures links { IfOk result (λ r. IfSome r (λ c. length (port_words (map string_bytes words.now)) ≡ link_count c)) }
+    ensures files { IfOk result (λ r. IfSome r
+        (λ c. length (file_names (map string_bytes words.now)) ≡ file_count c)) }
+    ensures links { IfOk result (λ r. IfSome r
+        (λ c. length (port_words (map string_bytes words.now)) ≡ link_count c)) }
     ensures words { list_all is_word (map string_bytes words.now) ≡ false → result ≡ Ok None }
 {
     match spelled(alloc, words)? {
@@ -297,7 +302,8 @@ pub fn read_words(alloc: Global, words: &[String]) -> Result<Option<Command>, No
 
 /// Copies of texts.
 fn copies(alloc: Global, texts: &[&str]) -> Result<Vec<String>, NoMemory>
-    ensures { IfOk result (λ names. map string_bytes names.items ≡ map (λ text. text.now) texts.now) }
+    ensures { IfOk result (λ names. map string_bytes names.items
+        ≡ map (λ text. text.now) texts.now) }
 {
     let mut names = Vec::new(alloc);
     'texts: for text in texts {
@@ -308,7 +314,8 @@ fn copies(alloc: Global, texts: &[&str]) -> Result<Vec<String>, NoMemory>
 
 /// The names of the files that a command works on.
 fn files_in(alloc: Global, found: &Found) -> Result<Vec<String>, NoMemory>
-    ensures { IfOk result (λ names. map string_bytes names.items ≡ files_of found.now.command (rows_of (found_of found.now.matches))) }
+    ensures { IfOk result (λ names. map string_bytes names.items
+        ≡ files_of found.now.command (rows_of (found_of found.now.matches))) }
 {
     match found.command {
         Command::Answer(_) | Command::Serve(_) => match texts(&found.matches, "files") {
@@ -322,7 +329,8 @@ fn files_in(alloc: Global, found: &Found) -> Result<Vec<String>, NoMemory>
 /// The names of the files that `answer` or `serve` works on, in their order; none for the other
 /// commands and where the arguments spell no command.
 pub fn files_of(alloc: Global, words: &[String]) -> Result<Vec<String>, NoMemory>
-    ensures { IfOk result (λ names. map string_bytes names.items ≡ file_names (map string_bytes words.now)) }
+    ensures { IfOk result (λ names. map string_bytes names.items
+        ≡ file_names (map string_bytes words.now)) }
 {
     match spelled(alloc, words)? {
         Some(found) => files_in(alloc, &found),
@@ -342,7 +350,8 @@ fn port_words(alloc: Global, local: &str, peers: &str) -> Result<PortWords, NoMe
 
 /// The texts of links, each its own end and its peers.
 fn all_links(alloc: Global, ends: &[(&str, &str)]) -> Result<Vec<PortWords>, NoMemory>
-    ensures { IfOk result (λ links. links.items ≡ map (λ end. record { local = end.0.now; peers = end.1.now }) ends.now) }
+    ensures { IfOk result (λ links. links.items
+        ≡ map (λ end. record { local = end.0.now; peers = end.1.now }) ends.now) }
 {
     let mut links = Vec::new(alloc);
     'ends: for (local, peers) in ends {
@@ -353,7 +362,8 @@ fn all_links(alloc: Global, ends: &[(&str, &str)]) -> Result<Vec<PortWords>, NoM
 
 /// The ends of the links that a command works on.
 fn links_in(alloc: Global, found: &Found) -> Result<Vec<PortWords>, NoMemory>
-    ensures { IfOk result (λ links. links.items ≡ links_of found.now.command (rows_of (found_of found.now.matches))) }
+    ensures { IfOk result (λ links. links.items
+        ≡ links_of found.now.command (rows_of (found_of found.now.matches))) }
 {
     match found.command {
         Command::Answer(_) | Command::Replay | Command::Soak(_) => Ok(Vec::new(alloc)),

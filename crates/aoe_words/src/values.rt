@@ -26,28 +26,32 @@ pub(crate) struct NumberOption {
 
 /// The text of a word or an option.
 pub(crate) fn text<'a>(found: &ArgMatches<'a>, id: &str) -> Option<&'a str>
-    ensures { option_map (λ text. text.now) result ≡ first_of id.now (rows_of (found_of found.now)) }
+    ensures { option_map (λ text. text.now) result
+        ≡ first_of id.now (rows_of (found_of found.now)) }
 {
     found.get_str(id)
 }
 
 /// The texts of words that go to one argument, where there is one.
 pub(crate) fn texts<'b, 'a>(found: &'b ArgMatches<'a>, id: &str) -> Option<&'b [&'a str]>
-    ensures { option_map (λ texts. map (λ text. text.now) texts.now) result ≡ all_of id.now (rows_of (found_of found.now)) }
+    ensures { option_map (λ texts. map (λ text. text.now) texts.now) result
+        ≡ all_of id.now (rows_of (found_of found.now)) }
 {
     found.get_strs(id)
 }
 
 /// The texts of the ends of a link: its own, and its peers.
 pub(crate) fn link<'a>(found: &ArgMatches<'a>) -> Option<(&'a str, &'a str)>
-    ensures { option_map (λ ends. record { local = ends.0.now; peers = ends.1.now }) result ≡ link (rows_of (found_of found.now)) }
+    ensures { option_map (λ ends. record { local = ends.0.now; peers = ends.1.now }) result
+        ≡ link (rows_of (found_of found.now)) }
 {
     Some((text(found, "local")?, text(found, "peers")?))
 }
 
 /// The number up to `most` that a word spells.
 pub(crate) fn number(found: &ArgMatches, id: &str, most: u64) -> Option<u64>
-    ensures value { result ≡ given id.now (λ text. number_of text most) (rows_of (found_of found.now)) }
+    ensures value { result ≡ given id.now (λ text. number_of text most)
+        (rows_of (found_of found.now)) }
     ensures bound { IfSome result (λ n. n ≤ most) }
 {
     read_number(text(found, id)?.as_bytes(), most)
@@ -64,7 +68,8 @@ fn number_within(text: &[u8], least: u32, most: u32) -> Option<u32>
 
 /// The number from `least` to `most` that a word spells.
 pub(crate) fn number_from(found: &ArgMatches, id: &str, least: u32, most: u32) -> Option<u32>
-    ensures value { result ≡ given id.now (number_within least most) (rows_of (found_of found.now)) }
+    ensures value { result ≡ given id.now (number_within least most)
+        (rows_of (found_of found.now)) }
     ensures bounds { IfSome result (λ n. (least ≤ n) × (n ≤ most)) }
 {
     number_within(text(found, id)?.as_bytes(), least, most)
@@ -74,7 +79,9 @@ pub(crate) fn number_from(found: &ArgMatches, id: &str, least: u32, most: u32) -
 pub(crate) fn number_or(found: &ArgMatches, id: &str, option: &NumberOption) -> Option<u32>
     requires least { option.now.least ≤ option.now.default }
     requires most { option.now.default ≤ option.now.most }
-    ensures value { result ≡ given_or id.now (number_within option.now.least option.now.most) option.now.default (rows_of (found_of found.now)) }
+    ensures value { result
+        ≡ given_or id.now (number_within option.now.least option.now.most) option.now.default
+        (rows_of (found_of found.now)) }
     ensures bounds { IfSome result (λ n. (option.now.least ≤ n) × (n ≤ option.now.most)) }
 {
     match text(found, id) {
@@ -106,7 +113,8 @@ fn default_ports() -> Ports
 
 /// The addresses of ports.
 pub(crate) fn ports_or_default(found: &ArgMatches, id: &str) -> Option<Ports>
-    ensures value { option_map (λ ports. ports.items) result ≡ given_or id.now ports_of (default_port ∷ []) (rows_of (found_of found.now)) }
+    ensures value { option_map (λ ports. ports.items) result
+        ≡ given_or id.now ports_of (default_port ∷ []) (rows_of (found_of found.now)) }
     ensures ports { IfSome result (λ ports. ArePorts ports.items) }
 {
     match text(found, id) {

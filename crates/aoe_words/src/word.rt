@@ -22,7 +22,8 @@ fn place_of(byte: u8, text: &[u8]) -> Option<usize>
 
 /// What follows the two hyphens of an option.
 fn option_text(word: &[u8]) -> Option<&[u8]>
-    ensures { option_map (λ text. text.now) result ≡ option_and_then (strip_byte 45) (strip_byte 45 word.now) }
+    ensures { option_map (λ text. text.now) result
+        ≡ option_and_then (strip_byte 45) (strip_byte 45 word.now) }
 {
     match word {
         [b'-', b'-', text @ ..] => Some(text),

@@ -94,7 +94,8 @@ fn life_of(script: &Script) -> Millis
 
 /// What a line says of the shelf with a name.
 fn shelf_in(line: &Setup, wanted: &Name) -> Option<ShelfLine>
-    ensures { MatchOption result (is_shelf_named wanted.now line.now ≡ false) (λ x. line.now ≡ Setup.Shelf wanted.now x.major x.ports x.mtu) }
+    ensures { MatchOption result (is_shelf_named wanted.now line.now ≡ false)
+        (λ x. line.now ≡ Setup.Shelf wanted.now x.major x.ports x.mtu) }
 {
     match line {
         Setup::Shelf {
@@ -119,7 +120,8 @@ fn shelf_in(line: &Setup, wanted: &Name) -> Option<ShelfLine>
 
 /// What the first line of the shelf with a name says.
 fn shelf_named(script: &Script, wanted: &Name) -> Option<ShelfLine>
-    ensures found { find (is_shelf_named wanted.now) script.now.setups ≡ option_map (λ x. Setup.Shelf wanted.now x.major x.ports x.mtu) result }
+    ensures found { find (is_shelf_named wanted.now) script.now.setups
+        ≡ option_map (λ x. Setup.Shelf wanted.now x.major x.ports x.mtu) result }
     ensures words { IfSome result (λ x. (x.major ≤ 65534) × (1500 ≤ x.mtu) × (x.mtu ≤ 9000)) }
 {
     'lines: for i in 0..script.setups() {
@@ -132,7 +134,8 @@ fn shelf_named(script: &Script, wanted: &Name) -> Option<ShelfLine>
 
 /// What a line says of the slot with a number.
 fn slot_at(line: &Setup, wanted: &Name, number: u64) -> Option<SlotLine>
-    ensures { MatchOption result (is_slot wanted.now number line.now ≡ false) (λ x. line.now ≡ Setup.Slot wanted.now number x.sectors x.room) }
+    ensures { MatchOption result (is_slot wanted.now number line.now ≡ false)
+        (λ x. line.now ≡ Setup.Slot wanted.now number x.sectors x.room) }
 {
     match line {
         Setup::Slot {
@@ -157,7 +160,8 @@ fn slot_at(line: &Setup, wanted: &Name, number: u64) -> Option<SlotLine>
 
 /// What the line of a shelf's slot with a number says.
 fn slot_numbered(script: &Script, wanted: &Name, number: u64) -> Option<SlotLine>
-    ensures found { find (is_slot wanted.now number) script.now.setups ≡ option_map (λ x. Setup.Slot wanted.now number x.sectors x.room) result }
+    ensures found { find (is_slot wanted.now number) script.now.setups
+        ≡ option_map (λ x. Setup.Slot wanted.now number x.sectors x.room) result }
     ensures number { IfSome result (λ x. number ≤ 254) }
 {
     'lines: for i in 0..script.setups() {
@@ -208,9 +212,11 @@ fn attached_to(script: &Script, host: &Name, line: &Setup) -> Option<Attached>
 /// Attaches a host to a device, where there is one.
 fn attach(host: &mut NamedHost, known: Option<Attached>) -> Result<(), NoMemory>
     requires can { IfSome known (λ d. CanAttach d host.old.core.devices) }
-    ensures devices { OnOk result (map (λ d. d.about) host.new.core.devices ≡ map (λ d. d.about) host.old.core.devices ++ option_to_list known) }
+    ensures devices { OnOk result (map (λ d. d.about) host.new.core.devices
+        ≡ map (λ d. d.about) host.old.core.devices ++ option_to_list known) }
     ensures rest { OnOk result (host.new ≡ record host.old { core = record host.old.core { devices = host.new.core.devices } }) }
-    ensures matches { OnOk result ((log : List LogEvent) → Matches log host.old.core → Matches log host.new.core) }
+    ensures matches { OnOk result ((log : List LogEvent) → Matches log host.old.core
+        → Matches log host.new.core) }
 {
     match known {
         Some(d) => host.attach(d.id, &d.remotes, d.total, d.max),
@@ -231,8 +237,10 @@ fn host_line(name: &Name, ports: &Ports, room: Option<u64>, dead: Option<u64>) -
 
 /// The host of a line, attached to its devices.
 fn build_host(alloc: Global, script: &Script, line: HostLine) -> Result<NamedHost, NoMemory>
-    requires { (k : ℕ) × (slice_get script.now.setups k ≡ Some (Setup.Host line.name line.ports line.room line.dead)) }
-    ensures { IfOk result (λ x. IsSettled (setup_of script.now.setups) (host_of script.now.setups line.name line.ports.items line.room line.dead) [] x) }
+    requires { (k : ℕ) × (slice_get script.now.setups k
+        ≡ Some (Setup.Host line.name line.ports line.room line.dead)) }
+    ensures { IfOk result (λ x. IsSettled (setup_of script.now.setups)
+        (host_of script.now.setups line.name line.ports.items line.room line.dead) [] x) }
 {
     let count = script.setups();
     let life = life_of(script);
@@ -290,7 +298,8 @@ fn add_slot(shelf: &mut MemoryRack, alloc: Global, slot: Option<SlotLine>) -> Re
         ++ option_to_list (option_map (λ x. slot_with shelf.old.shelf.major shelf.old.shelf.ports shelf.old.shelf.mtu x.minor x.sectors x.room) slot)) [] shelf.new) }
     ensures stations { OnOk result (map (λ t. t.station) shelf.new.shelf.targets ≡ map (λ t. t.station) shelf.old.shelf.targets
         ++ map (λ s. s.station) (option_to_list (option_map (λ x. slot_with shelf.old.shelf.major shelf.old.shelf.ports shelf.old.shelf.mtu x.minor x.sectors x.room) slot))) }
-    ensures rest { OnOk result (shelf.new.shelf ≡ record shelf.old.shelf { targets = shelf.new.shelf.targets }) }
+    ensures rest { OnOk result (shelf.new.shelf
+        ≡ record shelf.old.shelf { targets = shelf.new.shelf.targets }) }
 {
     match slot {
         Some(x) => shelf.add(alloc, x.minor as u8, x.sectors, small_room(x.room)),
@@ -305,9 +314,11 @@ fn build_shelf(
     name: &Name,
     line: ShelfLine,
 ) -> Result<MemoryRack, NoMemory>
-    requires { (k : ℕ) × (slice_get script.now.setups k ≡ Some (Setup.Shelf name.now line.major line.ports line.mtu)) }
+    requires { (k : ℕ) × (slice_get script.now.setups k
+        ≡ Some (Setup.Shelf name.now line.major line.ports line.mtu)) }
     ensures number { IfOk result (λ x. x.shelf.major ≡ line.major) }
-    ensures serves { IfOk result (λ x. Serves (shelf_of (setup_of script.now.setups) line.major) [] x) }
+    ensures serves { IfOk result (λ x. Serves (shelf_of
+        (setup_of script.now.setups) line.major) [] x) }
 {
     let count = script.setups();
     let ports = copy_of(&line.ports);
@@ -331,7 +342,8 @@ pub(crate) struct Builder<'a> {
 impl Builder<'_> {
     /// Records the place of a station.
     fn place(&mut self, name: &Name, ports: &Ports, at: At) -> Result<(), NoMemory>
-        ensures places { OnOk result (self.new.places.items ≡ self.old.places.items ++ record { name = name.now; ports = ports.now; at = at } ∷ []) }
+        ensures places { OnOk result (self.new.places.items ≡ self.old.places.items
+            ++ record { name = name.now; ports = ports.now; at = at } ∷ []) }
         ensures sim { self.new.sim ≡ self.old.sim }
         ensures script { self.new.script ≡ self.old.script }
     {
@@ -345,7 +357,8 @@ impl Builder<'_> {
 
     /// Adds a shelf behind the others.
     fn add_shelf(&mut self, name: &Name, ports: &Ports, shelf: MemoryRack) -> Result<(), NoMemory>
-        ensures shelves { OnOk result (self.new.sim.shelves.items ≡ self.old.sim.shelves.items ++ shelf ∷ []) }
+        ensures shelves { OnOk result (self.new.sim.shelves.items ≡ self.old.sim.shelves.items
+            ++ shelf ∷ []) }
         ensures places { OnOk result (self.new.places.items ≡ self.old.places.items
             ++ record { name = name.now; ports = ports.now; at = At.Shelf (length self.old.sim.shelves.items) } ∷ []) }
         ensures hosts { self.new.sim.hosts ≡ self.old.sim.hosts }
@@ -361,7 +374,8 @@ impl Builder<'_> {
 
     /// Adds a host behind the others.
     fn add_host(&mut self, name: &Name, ports: &Ports, host: NamedHost) -> Result<(), NoMemory>
-        ensures hosts { OnOk result (self.new.sim.hosts.items ≡ self.old.sim.hosts.items ++ host ∷ []) }
+        ensures hosts { OnOk result (self.new.sim.hosts.items ≡ self.old.sim.hosts.items
+            ++ host ∷ []) }
         ensures places { OnOk result (self.new.places.items ≡ self.old.places.items
             ++ record { name = name.now; ports = ports.now; at = At.Host (length self.old.sim.hosts.items) } ∷ []) }
         ensures shelves { self.new.sim.shelves ≡ self.old.sim.shelves }
@@ -379,7 +393,8 @@ impl Builder<'_> {
     fn build(&mut self, alloc: Global, i: usize) -> Result<(), NoMemory>
         requires there { i < length self.old.script.now.setups }
         requires built { IsBuilt self.old.script.now.setups i self.old.sim self.old.places.items }
-        ensures built { OnOk result (IsBuilt self.old.script.now.setups (i + 1) self.new.sim self.new.places.items) }
+        ensures built { OnOk result (IsBuilt self.old.script.now.setups
+            (i + 1) self.new.sim self.new.places.items) }
         ensures script { self.new.script ≡ self.old.script }
     {
         let script = self.script;
@@ -437,7 +452,8 @@ impl<'a> Builder<'a> {
     pub(crate) fn new(alloc: Global, script: &'a Script) -> Result<Builder<'a>, NoMemory>
         ensures network { IsNetwork (setup_of script.now.setups) (majors_of script.now.setups) }
         ensures staged { IfOk result (λ r. IsStaged script.now r.places.items r.sim 1) }
-        ensures ready { IfOk result (λ r. IsReady (setup_of script.now.setups) (majors_of script.now.setups) r.sim) }
+        ensures ready { IfOk result (λ r. IsReady (setup_of script.now.setups)
+            (majors_of script.now.setups) r.sim) }
         ensures entries { IfOk result (λ r. r.sim.run.entries ≡ []) }
         ensures script { IfOk result (λ r. r.script.now ≡ script.now) }
     {

@@ -31,7 +31,8 @@ impl Place {
     /// Whether the station gets a frame with this destination and this source. Both are shorter
     /// than an address where the frame ends there.
     pub(crate) fn gets(&self, destination: &[u8], source: &[u8]) -> bool
-        ensures { result ≡ is_for (record { 0 = destination.now }) (record { 0 = source.now }) self.now.ports.items }
+        ensures { result ≡ is_for (record { 0 = destination.now })
+            (record { 0 = source.now }) self.now.ports.items }
     {
         if destination == BROADCAST.0.as_slice() {
             !has(&self.ports, source)
@@ -42,7 +43,8 @@ impl Place {
 }
 
 fn place_named<'a>(places: &'a [Place], name: &Name) -> Option<&'a Place>
-    ensures { option_map (λ place. place.now) result ≡ find (λ place. same place.name name.now) places.now }
+    ensures { option_map (λ place. place.now) result
+        ≡ find (λ place. same place.name name.now) places.now }
 {
     places.iter().find(|place| place.name == *name)
 }

@@ -135,7 +135,8 @@ pub(crate) fn plan_of(
     requires range { is_event event.now ≡ true }
     ensures planned { IfOk result (λ plan. (lines : List Line) → Knows lines places.now sim.now → CanCome lines (setup_of lines) event.now
         → IsSomeAnd plan (IsPlanned lines sim.now event.now)) }
-    ensures memory { OnErr result ((lines : List Line) (cursor : ℕ) (h : List Entry) → ComesSome (setup_of lines) lines event.now cursor h h) }
+    ensures memory { OnErr result ((lines : List Line) (cursor : ℕ) (h : List Entry)
+        → ComesSome (setup_of lines) lines event.now cursor h h) }
 {
     match event {
         Event::Tick { ms } => Ok(Some(Plan::One(Act::Tick { ms: *ms }))),

@@ -27,7 +27,9 @@ fn part(frame: &[u8], from: usize, to: usize) -> &[u8]
 impl Sim {
     /// Whether a frame can be handed over and is for a station.
     fn is_for(&self, number: FrameNo, place: &Place) -> bool
-        ensures { result ≡ option_map_or (λ f. is_for (fields f).dst (fields f).src place.now.ports.items) (arriving self.now.run.life self.now.run.entries number.0) false }
+        ensures { result ≡ option_map_or (λ f. is_for (fields f).dst
+            (fields f).src place.now.ports.items)
+            (arriving self.now.run.life self.now.run.entries number.0) false }
     {
         match self.run.fetch(number) {
             Some(frame) => place.gets(part(frame, 0, 6), part(frame, 6, 12)),

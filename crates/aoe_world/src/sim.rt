@@ -39,8 +39,10 @@ pub(crate) struct Sim {
 
 /// The slot with a minor.
 fn slot_with(shelf: &MemoryRack, minor: u8) -> Option<usize>
-    ensures found { IfSome result (λ i. IsSomeAnd (slice_get shelf.now.shelf.targets i) (λ t. t.station.id.minor ≡ minor)) }
-    ensures none { IfNone result ((i : ℕ) → IfSome (slice_get shelf.now.shelf.targets i) (λ t. t.station.id.minor ≢ minor)) }
+    ensures found { IfSome result (λ i. IsSomeAnd (slice_get shelf.now.shelf.targets i)
+        (λ t. t.station.id.minor ≡ minor)) }
+    ensures none { IfNone result ((i : ℕ) → IfSome (slice_get shelf.now.shelf.targets i)
+        (λ t. t.station.id.minor ≢ minor)) }
 {
     'slots: for slot in 0..shelf.count() {
         if shelf.id(slot).minor == minor {
@@ -100,8 +102,10 @@ impl Sim {
 
     fn submit(&mut self, host: usize, dev: TargetId, op: Op) -> Result<(), NetRefusal>
         requires there { host < length self.old.hosts.items }
-        requires attached { IfSome (slice_get self.old.hosts.items host) (λ x. is_some (position (λ d. same_id d.about.id dev) x.core.devices) ≡ true) }
-        requires few { IfSome (slice_get self.old.hosts.items host) (λ x. x.core.last_ticket < 2 ^ 64 - 1) }
+        requires attached { IfSome (slice_get self.old.hosts.items host)
+            (λ x. is_some (position (λ d. same_id d.about.id dev) x.core.devices) ≡ true) }
+        requires few { IfSome (slice_get self.old.hosts.items host)
+            (λ x. x.core.last_ticket < 2 ^ 64 - 1) }
         requires allowed { CanSubmit op }
         ensures { (s : Setup) (majors : List ℕ) (name : ArrayVec ℕ) → IsNetwork s majors → IsReady s majors self.old
             → IsAt s majors (At.Host host) (HostStation name) → IsEntered result s majors (Submit name dev op) self.old self.new }
@@ -136,7 +140,8 @@ impl Sim {
         mode: Option<Loss>,
     ) -> Result<(), NetRefusal>
         requires shelf { shelf < length self.old.shelves.items }
-        requires slot { IfSome (slice_get self.old.shelves.items shelf) (λ x. slot < length x.shelf.targets) }
+        requires slot { IfSome (slice_get self.old.shelves.items shelf)
+            (λ x. slot < length x.shelf.targets) }
         requires from_one { 0 < k }
         requires most { k ≤ 1000 }
         ensures { (s : Setup) (majors : List ℕ) → IsNetwork s majors → IsReady s majors self.old
@@ -183,8 +188,10 @@ impl Sim {
 
     /// Makes the frame with a number the one that is handed over, where it can be.
     fn fetch(&mut self, number: FrameNo) -> bool
-        ensures fetched { result ≡ true → arriving self.old.run.life self.old.run.entries number.0 ≡ Some self.new.frame.items }
-        ensures none { result ≡ false → arriving self.old.run.life self.old.run.entries number.0 ≡ None }
+        ensures fetched { result ≡ true → arriving self.old.run.life self.old.run.entries number.0
+            ≡ Some self.new.frame.items }
+        ensures none { result ≡ false → arriving self.old.run.life self.old.run.entries number.0
+            ≡ None }
         ensures same { self.new ≡ record self.old { frame = self.new.frame } }
     {
         let Some(frame) = self.run.fetch(number) else {
@@ -216,14 +223,16 @@ impl Sim {
 
     /// The place of the shelf with a number.
     fn shelf_with(&self, major: u16) -> Option<usize>
-        ensures { result ≡ position (λ shelf. nat_eq shelf.shelf.major major) self.now.shelves.items }
+        ensures { result ≡ position
+            (λ shelf. nat_eq shelf.shelf.major major) self.now.shelves.items }
     {
         self.shelves.iter().position(|shelf| shelf.major() == major)
     }
 
     /// The place of the shelf of a slot, and in it that of the slot.
     pub(crate) fn slot_of(&self, dev: TargetId) -> Option<(usize, usize)>
-        ensures shelf { IfSome result (λ at. position (λ shelf. nat_eq shelf.shelf.major dev.major) self.now.shelves.items ≡ Some at.0) }
+        ensures shelf { IfSome result (λ at. position
+            (λ shelf. nat_eq shelf.shelf.major dev.major) self.now.shelves.items ≡ Some at.0) }
         ensures slot { IfSome result (λ at. IsSomeAnd (slice_get self.now.shelves.items at.0)
             (λ x. IsSomeAnd (slice_get x.shelf.targets at.1) (λ t. t.station.id.minor ≡ dev.minor))) }
         ensures none { IfNone result (MatchOption (position (λ shelf. nat_eq shelf.shelf.major dev.major) self.now.shelves.items) (Unit {0})

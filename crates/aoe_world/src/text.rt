@@ -14,9 +14,11 @@ pub fn read_text<S: Source>(alloc: Global, source: &mut S) -> Result<Vec<u8>, Re
     ensures read { IfOk result (λ text. IsRead (S.left source.old) (S.left source.new) text.items) }
     ensures unread { IfErr result (λ end. Unread end (S.left source.old) (S.left source.new)) }
     ensures count { S.faults source.old ≤ S.faults source.new }
-    ensures source_fault { result ≡ Err ReplayEnd.SourceFault → Rose (S.faults source.old) (S.faults source.new) }
+    ensures source_fault { result ≡ Err ReplayEnd.SourceFault
+        → Rose (S.faults source.old) (S.faults source.new) }
     ensures no_fault { OnOk result (S.faults source.new ≡ S.faults source.old) }
-    ensures untold { IfErr result (λ end. end ≢ ReplayEnd.SourceFault → S.faults source.new ≡ S.faults source.old) }
+    ensures untold { IfErr result (λ end. end ≢ ReplayEnd.SourceFault
+        → S.faults source.new ≡ S.faults source.old) }
     ensures one_fault { S.faults source.new ≤ S.faults source.old + 1 }
 {
     match read_up_to(alloc, source, LONGEST_TEXT) {

@@ -27,10 +27,12 @@ fn write_run<K: Sink>(
     sink: &mut K,
 ) -> ReplayEnd
     requires { All CanPrint history.now }
-    ensures writes { TakesText result (K.held sink.old) (K.held sink.new) (part_text part script_events history.now) }
+    ensures writes { TakesText result (K.held sink.old) (K.held sink.new)
+        (part_text part script_events history.now) }
     ensures leaves { LeavesSink result sink.old sink.new }
     ensures count { K.faults sink.old ≤ K.faults sink.new }
-    ensures sink_fault { result ≡ ReplayEnd.SinkFault → Rose (K.faults sink.old) (K.faults sink.new) }
+    ensures sink_fault { result ≡ ReplayEnd.SinkFault
+        → Rose (K.faults sink.old) (K.faults sink.new) }
     ensures sink_no_fault { result ≢ ReplayEnd.SinkFault → K.faults sink.new ≡ K.faults sink.old }
     ensures sink_one_fault { K.faults sink.new ≤ K.faults sink.old + 1 }
 {
@@ -49,7 +51,8 @@ fn run_script<K: Sink>(alloc: Global, part: Part, script: &Script, sink: &mut K)
     ensures runs { RunsTo part result script.now (K.held sink.old) (K.held sink.new) }
     ensures leaves { LeavesSink result sink.old sink.new }
     ensures count { K.faults sink.old ≤ K.faults sink.new }
-    ensures sink_fault { result ≡ ReplayEnd.SinkFault → Rose (K.faults sink.old) (K.faults sink.new) }
+    ensures sink_fault { result ≡ ReplayEnd.SinkFault
+        → Rose (K.faults sink.old) (K.faults sink.new) }
     ensures sink_no_fault { result ≢ ReplayEnd.SinkFault → K.faults sink.new ≡ K.faults sink.old }
     ensures sink_one_fault { K.faults sink.new ≤ K.faults sink.old + 1 }
 {
@@ -65,13 +68,17 @@ fn run_script<K: Sink>(alloc: Global, part: Part, script: &Script, sink: &mut K)
 
 /// Reads a script from the source, to its end, and runs it.
 fn replay_script<S: Source, K: Sink>(alloc: Global, source: &mut S, sink: &mut K) -> ReplayEnd
-    ensures replayed { Replayed result (S.left source.old) (S.left source.new) (K.held sink.old) (K.held sink.new) }
+    ensures replayed { Replayed result (S.left source.old) (S.left source.new) (K.held sink.old)
+        (K.held sink.new) }
     ensures unwritten { LeavesSink result sink.old sink.new }
     ensures source_count { S.faults source.old ≤ S.faults source.new }
     ensures sink_count { K.faults sink.old ≤ K.faults sink.new }
-    ensures source_fault { result ≡ ReplayEnd.SourceFault → Rose (S.faults source.old) (S.faults source.new) }
-    ensures sink_fault { result ≡ ReplayEnd.SinkFault → Rose (K.faults sink.old) (K.faults sink.new) }
-    ensures source_no_fault { result ≢ ReplayEnd.SourceFault → S.faults source.new ≡ S.faults source.old }
+    ensures source_fault { result ≡ ReplayEnd.SourceFault
+        → Rose (S.faults source.old) (S.faults source.new) }
+    ensures sink_fault { result ≡ ReplayEnd.SinkFault
+        → Rose (K.faults sink.old) (K.faults sink.new) }
+    ensures source_no_fault { result ≢ ReplayEnd.SourceFault
+        → S.faults source.new ≡ S.faults source.old }
     ensures source_one_fault { S.faults source.new ≤ S.faults source.old + 1 }
     ensures sink_no_fault { result ≢ ReplayEnd.SinkFault → K.faults sink.new ≡ K.faults sink.old }
     ensures sink_one_fault { K.faults sink.new ≤ K.faults sink.old + 1 }
@@ -89,17 +96,23 @@ fn replay_script<S: Source, K: Sink>(alloc: Global, source: &mut S, sink: &mut K
 /// Reads the source to its end as the text of a script of at most 16,777,216 bytes, runs the script,
 /// and writes the text of the run to the sink when the last event is done.
 pub fn replay<S: Source, K: Sink>(alloc: Global, source: &mut S, sink: &mut K) -> ReplayEnd
-    ensures replayed { Replayed result (S.left source.old) (S.left source.new) (K.held sink.old) (K.held sink.new) }
+    ensures replayed { Replayed result (S.left source.old) (S.left source.new) (K.held sink.old)
+        (K.held sink.new) }
     ensures unwritten { LeavesSink result sink.old sink.new }
     ensures source_count { S.faults source.old ≤ S.faults source.new }
     ensures sink_count { K.faults sink.old ≤ K.faults sink.new }
-    ensures source_fault { result ≡ ReplayEnd.SourceFault → Rose (S.faults source.old) (S.faults source.new) }
-    ensures sink_fault { result ≡ ReplayEnd.SinkFault → Rose (K.faults sink.old) (K.faults sink.new) }
-    ensures source_no_fault { result ≢ ReplayEnd.SourceFault → S.faults source.new ≡ S.faults source.old }
+    ensures source_fault { result ≡ ReplayEnd.SourceFault
+        → Rose (S.faults source.old) (S.faults source.new) }
+    ensures sink_fault { result ≡ ReplayEnd.SinkFault
+        → Rose (K.faults sink.old) (K.faults sink.new) }
+    ensures source_no_fault { result ≢ ReplayEnd.SourceFault
+        → S.faults source.new ≡ S.faults source.old }
     ensures source_one_fault { S.faults source.new ≤ S.faults source.old + 1 }
     ensures sink_no_fault { result ≢ ReplayEnd.SinkFault → K.faults sink.new ≡ K.faults sink.old }
     ensures sink_one_fault { K.faults sink.new ≤ K.faults sink.old + 1 }
-    ensures replays { (text : List ℕ) → S.left source.old ≡ Some text → refusal text ≡ None → IsFaultless (S.faults source.old) (S.faults source.new) → IsFaultless (K.faults sink.old) (K.faults sink.new) → HasRun result (script_of text) }
+    ensures replays { (text : List ℕ) → S.left source.old ≡ Some text → refusal text ≡ None
+        → IsFaultless (S.faults source.old) (S.faults source.new)
+        → IsFaultless (K.faults sink.old) (K.faults sink.new) → HasRun result (script_of text) }
 {
     replay_script(alloc, source, sink)
 }
@@ -112,10 +125,12 @@ pub fn soak<K: Sink>(alloc: Global, seed: u16, count: u32, sink: &mut K) -> Repl
     ensures sums { Sums result (soaked seed count) (K.held sink.old) (K.held sink.new) }
     ensures unwritten { LeavesSink result sink.old sink.new }
     ensures sink_count { K.faults sink.old ≤ K.faults sink.new }
-    ensures sink_fault { result ≡ ReplayEnd.SinkFault → Rose (K.faults sink.old) (K.faults sink.new) }
+    ensures sink_fault { result ≡ ReplayEnd.SinkFault
+        → Rose (K.faults sink.old) (K.faults sink.new) }
     ensures sink_no_fault { result ≢ ReplayEnd.SinkFault → K.faults sink.new ≡ K.faults sink.old }
     ensures sink_one_fault { K.faults sink.new ≤ K.faults sink.old + 1 }
-    ensures runs { IsFaultless (K.faults sink.old) (K.faults sink.new) → HasRun result (soaked seed count) }
+    ensures runs { IsFaultless (K.faults sink.old) (K.faults sink.new)
+        → HasRun result (soaked seed count) }
 {
     match aoe_soak::soak(alloc, seed, count) {
         Ok(script) => run_script(alloc, Part::Summary, &script, sink),

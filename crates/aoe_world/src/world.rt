@@ -148,15 +148,18 @@ impl World<'_> {
     pub fn step(&mut self, event: &Event) -> Result<(), WorldRefusal>
         requires good { event_why self.old.lines event.now ≡ None }
         requires few { self.old.events < 50000 }
-        ensures refused { IfSome self.old.refused (λ refusal. (result ≡ Err refusal) × (self.new ≡ self.old)) }
+        ensures refused { IfSome self.old.refused
+            (λ refusal. (result ≡ Err refusal) × (self.new ≡ self.old)) }
         ensures comes { OnOk result (Comes (setup_of self.old.lines) self.old.lines event.now self.old.cursor self.old.entries self.new.cursor self.new.entries) }
         ensures begins { IfNone self.old.refused (OnErr result (ComesSome (setup_of self.old.lines) self.old.lines event.now self.old.cursor self.old.entries self.new.entries)) }
         ensures why { IfNone self.old.refused (IfErr result (λ refusal. IsRefusedAt (setup_of self.old.lines) (ComesSome (setup_of self.old.lines) self.old.lines event.now self.old.cursor self.old.entries) self.new.entries refusal)) }
-        ensures stays { IfErr result (λ refusal. (self.new.refused ≡ Some refusal) × IsCounted (setup_of self.new.lines) self.new.entries refusal) }
+        ensures stays { IfErr result (λ refusal. (self.new.refused ≡ Some refusal)
+            × IsCounted (setup_of self.new.lines) self.new.entries refusal) }
         ensures lawful { IsLawful (setup_of self.new.lines) self.new.entries }
         ensures reading { HasReadLaw (setup_of self.new.lines) self.new.entries }
         ensures room { IsWithin (frames self.new.entries) }
-        ensures events { OnOk result ((self.new.events ≡ self.old.events + 1) × (self.new.refused ≡ None)) }
+        ensures events { OnOk result ((self.new.events ≡ self.old.events + 1)
+            × (self.new.refused ≡ None)) }
         ensures uncounted { OnErr result (self.new.events ≡ self.old.events) }
         ensures lines { self.new.lines ≡ self.old.lines }
     {

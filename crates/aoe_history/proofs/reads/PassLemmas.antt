@@ -66,7 +66,8 @@ module _ {s : Setup} {host : HostSetup} {h : List Entry} (run : HasHost s host h
       was = was-alone host slot h dev k fate sct al
 
       by-act : (x : IsHere s.life slot h dev k fate sct)
-          → Act (verdict_after slot h x.frame) x.frame fate sct (known_after slot h sct) (known_after slot n sct) (marked_after slot h sct) (marked_after slot n sct)
+          → Act (verdict_after slot h x.frame) x.frame fate sct (known_after slot h sct) (known_after slot n sct) (marked_after slot h sct)
+          (marked_after slot n sct)
           → marked_after slot n sct ≡ false
       by-act x (showed shown p q a b) = q ∙ m was.0
       by-act x (put span v p q a b) = absurd (beside c _ fl asks (writer run slot there sct k x.frame span x.fresh (rw x.bytes at (was.1 (rw (x.is, a) refl))) v))

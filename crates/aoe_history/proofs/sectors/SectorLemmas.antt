@@ -91,5 +91,6 @@ module _ {flying active : ℕ → Type 0} {wr : ℕ → Option (List ℕ)} {land
 
   -- a crash, by the sector's mark and safety
   pub crashes : (left : Option (List ℕ))
-      → Sector flying active wr landed (if mark then left else holds) false alone safe ((not safe && mark) || spoiled) (if (not safe && mark) then None else may)
+      → Sector flying active wr landed (if mark then left else holds) false alone safe ((not safe && mark) || spoiled)
+      (if (not safe && mark) then None else may)
   crashes left = grind (arith, calm)

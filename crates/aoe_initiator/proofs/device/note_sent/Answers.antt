@@ -9,7 +9,8 @@ use Rattle.aoe_initiator.proofs.device.note_sent.Goals as goal
 pub returns-clause-route : goal.returns-clause-route
 returns-clause-route c =
     let d : Device = c.index_mut-device.result.now in
-    let there : slice_get c.args.devices.now.items c.args.device.0 ≡ Some d = slice_get_read c.args.devices.now.items (length c.args.devices.now.items) c.args.device.0 d refl c.requires.inside c.index_mut-device.ensures.value in
+    let there : slice_get c.args.devices.now.items c.args.device.0 ≡ Some d =
+    slice_get_read c.args.devices.now.items (length c.args.devices.now.items) c.args.device.0 d refl c.requires.inside c.index_mut-device.ensures.value in
     let r = c.route.ensures.route in
     rw there (record { next = r.next; inside = r.inside; target = r.target; pair = r.pair; timeout = r.timeout })
 

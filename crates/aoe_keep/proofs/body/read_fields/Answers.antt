@@ -21,7 +21,8 @@ returns-then-not-are_zeros c = no_zeros c.args.format c.args.turn c.args.config 
 
 pub returns : goal.returns
 returns c =
-    let s : Settings = record { config = c.try_extend_from_slice.new.self.items; masks = c.in_ok-masks.masks.items; reserves = c.in_ok-reserves.reserves.items } in
+    let s : Settings =
+    record { config = c.try_extend_from_slice.new.self.items; masks = c.in_ok-masks.masks.items; reserves = c.in_ok-reserves.reserves.items } in
     let is : s ≡ fields_of c.args.config c.args.masks c.args.reserves c.args.rest.now = all_fields c.args.format c.args.turn c.args.config c.args.masks c.args.reserves c.args.rest.now s (search rules)
     (c.in_ok-masks.ensures.0 ∙ ap (λ (l : List ℕ). addresses (first_chunks 6 c.args.masks l)) (take_rest c.args.rest.now c.args.config))
     (c.in_ok-reserves.ensures.0 ∙ ap (λ (l : List ℕ). addresses (first_chunks 6 c.args.reserves l)) (take_rest c.args.rest.now (c.args.config + 6 * c.args.masks))) in (

@@ -20,7 +20,8 @@ module _ (sectors count turns : ℕ) (text : List ℕ) (old new : Outside) where
       → text ≡ script_text script → script_of text ≡ script → refusal text ≡ None → Lives size commands turns (Ok script.events) old new → Recorded
   recorded script size commands same_size same_count setups text_is reads accepted lives =
       let whole : ScriptLines = record { setups = stations sectors; events = script.events } in
-      let same : script ≡ whole = ap (λ (lines : List _). let s : ScriptLines = record { setups = lines; events = script.events } in s) (setups ∙ ap stations same_size) in
+      let same : script ≡ whole =
+      ap (λ (lines : List _). let s : ScriptLines = record { setups = lines; events = script.events } in s) (setups ∙ ap stations same_size) in
       record {
         events = script.events;
         text_is = text_is ∙ ap script_text same;

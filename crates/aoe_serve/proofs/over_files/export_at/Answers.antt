@@ -17,7 +17,8 @@ returns-in-Err-mount-clause-link_blame g c =
 
 pub unmount-requires : goal.unmount-requires
 unmount-requires g c =
-    let ran : length c.run-end.new.shelf.targets ≡ length c.mount.new.shelf.targets = run-count _ c.args.plan c.run-end.result _ _ g.D.Disk.state c.mount.new.shelf.targets c.run-end.new.shelf.targets c.run-end.ensures.run in
+    let ran : length c.run-end.new.shelf.targets ≡ length c.mount.new.shelf.targets =
+    run-count _ c.args.plan c.run-end.result _ _ g.D.Disk.state c.mount.new.shelf.targets c.run-end.new.shelf.targets c.run-end.ensures.run in
     omega (arith, c.sync_each-unsynced.ensures.count, ran, c.in-Ok-mount.ensures.count, c.mount.auto.disks)
 
 pub returns-clause-ran : goal.returns-clause-ran
@@ -25,7 +26,8 @@ returns-clause-ran g c =
     let D = g.row.D.Denot in
     let state = g.D.Disk.state in
     let synced = c.sync_each-unsynced.ensures.syncs in
-    let ran : length c.run-end.new.shelf.targets ≡ length c.mount.new.shelf.targets = run-count _ c.args.plan c.run-end.result _ _ state c.mount.new.shelf.targets c.run-end.new.shelf.targets c.run-end.ensures.run in
+    let ran : length c.run-end.new.shelf.targets ≡ length c.mount.new.shelf.targets =
+    run-count _ c.args.plan c.run-end.result _ _ state c.mount.new.shelf.targets c.run-end.new.shelf.targets c.run-end.ensures.run in
     exported state _ _ _ _ _ _ _ _ _ _ _ _ c.mount.new.shelf.targets c.sync_each-unsynced.new.shelf.targets
     (sym c.requires.most) (ap (λ (r : Rack (AnyStore D) D). named r.major r.ports r.mtu) c.in-Ok.ensures)
     (c.sync_each-unsynced.ensures.count ∙ ran) c.in-Ok-mount.ensures.seated c.unmount.ensures.back

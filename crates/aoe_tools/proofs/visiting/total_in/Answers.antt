@@ -7,7 +7,8 @@ use Rattle.aoe_initiator.specs.declared.response.Answer.TheVariants as answer
 use Rattle.aoe_tools.specs.Page.{total_in}
 use Rattle.aoe_tools.proofs.visiting.total_in.Goals as goal
 
-page-in : (a : Answer) (len : ℕ) (args page : List ℕ) (result : Option ℕ) → a ≡ answer.Data len → CanFill a args 512 → page ≡ take 512 (take (length args - 12) (drop 12 args)) → result ≡ declared page
+page-in : (a : Answer) (len : ℕ) (args page : List ℕ) (result : Option ℕ) → a ≡ answer.Data len → CanFill a args 512
+    → page ≡ take 512 (take (length args - 12) (drop 12 args)) → result ≡ declared page
     → result ≡ total_in a args
 page-in a len args page result is fill same reads =
     let fills : (512 ≡ len) × (12 + len ≤ length args) = rw is at fill in

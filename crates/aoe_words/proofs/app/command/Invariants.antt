@@ -6,6 +6,7 @@ use Rattle.aoe_words.proofs.app.command.Given as goal
 
 abbrev pub invariant-arguments : goal.invariant-arguments
 invariant-arguments l = record {
-  app : added with_argument (app_of l.command) (map argument (drop l.argument-index l.arguments)) ≡ added with_argument (bare l.fn.name) (map argument l.arguments);
+  app : added with_argument (app_of l.command) (map argument (drop l.argument-index l.arguments))
+      ≡ added with_argument (bare l.fn.name) (map argument l.arguments);
   local : (out-Command l.command).has_globals ≡ false;
 }

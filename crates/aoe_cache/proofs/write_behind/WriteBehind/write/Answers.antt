@@ -8,7 +8,8 @@ fits-requires-clause-buffer g c = buffer_more (g.D.Disk.state c.args.self.now.di
 
 pub put-requires-clause-room : goal.put-requires-clause-room
 put-requires-clause-room g c =
-    let fits : length (with_written c.args.at (length c.args.piece.now / 512) c.args.piece.now (held_of c.args.self.now.buffer)) ≤ c.args.self.now.room = (c.fits.ensures c.args.piece.now).0 c.if-not-fits.false in
+    let fits : length (with_written c.args.at (length c.args.piece.now / 512) c.args.piece.now (held_of c.args.self.now.buffer)) ≤ c.args.self.now.room =
+    (c.fits.ensures c.args.piece.now).0 c.if-not-fits.false in
     put_room c.args.piece.now c.requires.range c.requires.behind.buffer c.args.self.now.room c.requires.behind.places fits
 
 pub returns-clause-behind : goal.returns-clause-behind

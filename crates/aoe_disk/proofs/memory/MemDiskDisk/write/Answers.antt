@@ -11,7 +11,8 @@ use Rattle.aoe_disk.proofs.memory.MemDiskDisk.write.Goals as goal
 pub invariant_of-self : goal.invariant_of-self
 invariant_of-self c =
     let count : length c.self.inside.loose.items ≡ length c.args.self.now.loose = ap (λ m. length m.loose) c.self.view_is in
-    let range : IsRange c.args.at (length c.args.piece.now) (length c.self.inside.loose.items) = subst (λ (n : ℕ). IsRange c.args.at (length c.args.piece.now) n) (sym count) c.requires in
+    let range : IsRange c.args.at (length c.args.piece.now) (length c.self.inside.loose.items) =
+    subst (λ (n : ℕ). IsRange c.args.at (length c.args.piece.now) n) (sym count) c.requires in
     let loose = stored_marks _ _ _ _ c.args.at (length c.args.piece.now / 512) c.self.inside.loose.ok.0 c.deref_mut.ensures.value c.mark.ensures range.within in
     let bytes = stored_piece _ _ _ spoiled_sector _ (512 * c.args.at) c.self.inside.bytes.ok.0 c.deref_mut-then-spoils.ensures.value c.spoil_at.ensures (sector_fits _ _ _ _ _ c.self.invariant c.args.at c.args.piece.now range _ _ c.fails-spoils.ensures.arming) in
     rw (loose, bytes) (memory_spoiled _ _ _ _ _ c.self.invariant c.args.at c.args.piece.now range _ _ c.fails-spoils.ensures.arming)
@@ -19,7 +20,8 @@ invariant_of-self c =
 pub returns-then-spoils-clause-writes : goal.returns-then-spoils-clause-writes
 returns-then-spoils-clause-writes c =
     let count : length c.self.inside.loose.items ≡ length c.args.self.now.loose = ap (λ m. length m.loose) c.self.view_is in
-    let range : IsRange c.args.at (length c.args.piece.now) (length c.self.inside.loose.items) = subst (λ (n : ℕ). IsRange c.args.at (length c.args.piece.now) n) (sym count) c.requires in
+    let range : IsRange c.args.at (length c.args.piece.now) (length c.self.inside.loose.items) =
+    subst (λ (n : ℕ). IsRange c.args.at (length c.args.piece.now) n) (sym count) c.requires in
     let loose = stored_marks _ _ _ _ c.args.at (length c.args.piece.now / 512) c.self.inside.loose.ok.0 c.deref_mut.ensures.value c.mark.ensures range.within in
     let bytes = stored_piece _ _ _ spoiled_sector _ (512 * c.args.at) c.self.inside.bytes.ok.0 c.deref_mut-then-spoils.ensures.value c.spoil_at.ensures (sector_fits _ _ _ _ _ c.self.invariant c.args.at c.args.piece.now range _ _ c.fails-spoils.ensures.arming) in
     let moves = subst (λ b. MovesOn 1 b c.self.inside.meter.faults c.fails-spoils.new.self.faults (schedule_of c.self.inside.meter.arming c.self.inside.meter.out) (schedule_of c.fails-spoils.new.self.arming c.fails-spoils.new.self.out)) c.if-spoils.true c.fails-spoils.ensures.moves in
@@ -29,7 +31,8 @@ returns-then-spoils-clause-writes c =
 pub invariant_of-self-2 : goal.invariant_of-self-2
 invariant_of-self-2 c =
     let count : length c.self.inside.loose.items ≡ length c.args.self.now.loose = ap (λ m. length m.loose) c.self.view_is in
-    let range : IsRange c.args.at (length c.args.piece.now) (length c.self.inside.loose.items) = subst (λ (n : ℕ). IsRange c.args.at (length c.args.piece.now) n) (sym count) c.requires in
+    let range : IsRange c.args.at (length c.args.piece.now) (length c.self.inside.loose.items) =
+    subst (λ (n : ℕ). IsRange c.args.at (length c.args.piece.now) n) (sym count) c.requires in
     let loose = stored_marks _ _ _ _ c.args.at (length c.args.piece.now / 512) c.self.inside.loose.ok.0 c.deref_mut.ensures.value c.mark.ensures range.within in
     let bytes = stored_piece _ _ _ c.args.piece.now _ (512 * c.args.at) c.self.inside.bytes.ok.0 c.deref_mut-2.ensures.value c.write_at.ensures (piece_fits _ _ _ _ _ c.self.invariant c.args.at c.args.piece.now range _ _ c.fails-spoils.ensures.arming) in
     rw (loose, bytes) (memory_put _ _ _ _ _ c.self.invariant c.args.at c.args.piece.now range _ _ c.fails-spoils.ensures.arming)
@@ -37,7 +40,8 @@ invariant_of-self-2 c =
 pub returns-clause-writes : goal.returns-clause-writes
 returns-clause-writes c =
     let count : length c.self.inside.loose.items ≡ length c.args.self.now.loose = ap (λ m. length m.loose) c.self.view_is in
-    let range : IsRange c.args.at (length c.args.piece.now) (length c.self.inside.loose.items) = subst (λ (n : ℕ). IsRange c.args.at (length c.args.piece.now) n) (sym count) c.requires in
+    let range : IsRange c.args.at (length c.args.piece.now) (length c.self.inside.loose.items) =
+    subst (λ (n : ℕ). IsRange c.args.at (length c.args.piece.now) n) (sym count) c.requires in
     let loose = stored_marks _ _ _ _ c.args.at (length c.args.piece.now / 512) c.self.inside.loose.ok.0 c.deref_mut.ensures.value c.mark.ensures range.within in
     let bytes = stored_piece _ _ _ c.args.piece.now _ (512 * c.args.at) c.self.inside.bytes.ok.0 c.deref_mut-2.ensures.value c.write_at.ensures (piece_fits _ _ _ _ _ c.self.invariant c.args.at c.args.piece.now range _ _ c.fails-spoils.ensures.arming) in
     let moves = subst (λ b. MovesOn 1 b c.self.inside.meter.faults c.fails-spoils.new.self.faults (schedule_of c.self.inside.meter.arming c.self.inside.meter.out) (schedule_of c.fails-spoils.new.self.arming c.fails-spoils.new.self.out)) c.if-spoils.false c.fails-spoils.ensures.moves in

@@ -44,7 +44,8 @@ invariant_of-self-2 c =
     let kept = values c.forget.new.self in
     let sound = sound-live c.self.inside.rest.0 c.args.now.0 c.forget.ensures.values c.forget.ensures.capacity c.self.invariant.0 in
     let later = time-of (values c.self.inside.commands) c.self.view_is c.args.now.0 c.requires in
-    let past = past-live c.self.inside.latest.0 c.self.inside.rest.0 c.args.now.0 (values c.self.inside.commands) kept c.forget.ensures.values later c.self.invariant.1 in
+    let past =
+    past-live c.self.inside.latest.0 c.self.inside.rest.0 c.args.now.0 (values c.self.inside.commands) kept c.forget.ensures.values later c.self.invariant.1 in
     let new = launched c.args.ticket c.launch-tag.result c.args.now c.args.path c.args.wait in (
       sound-new new (values c.launch-tag.new.self) c.launch-tag.ensures.values c.launch-tag.ensures.tag.free
           c.launch-tag.ensures.capacity (omega (arith, c.len.ensures, c.if-len-self.false)) sound,

@@ -14,7 +14,8 @@ invariant_of-self c =
     let rooms = ap (λ (o : OrderTable). o.room) c.self.view_is in
     let long = ap (λ (l : List Entry). length l) same in
     let place = c.place-place.result in
-    let items : c.insert.new.self.items ≡ insert xs place c.args.entry = done-ok c.insert.result _ _ _ c.insert.ensures.items c.insert.ensures.full (search rules) in
+    let items : c.insert.new.self.items ≡ insert xs place c.args.entry =
+    done-ok c.insert.result _ _ _ c.insert.ensures.items c.insert.ensures.full (search rules) in
     let behind = all-behind c.args.entry t.entries place c.place-place.ensures.order (c.is_at.ensures.out c.if-not-is_at.true) in
     record {
       order = rw (items, same) (ordered-insert c.args.entry t.entries place c.place-place.ensures.order c.place-place.ensures.bound c.place-place.ensures.low behind);

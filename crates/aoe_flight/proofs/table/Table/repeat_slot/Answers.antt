@@ -8,7 +8,8 @@ insert-requires c =
     let i = c.self.invariant in
     let at = rw (← c.self.view_is) at c.requires.there in
     let out = c.remove.ensures in
-    let gone = removed c.self.inside.dues c.remove.new.self (by_due c.args.slot c.args.command) _ c.by_due.ensures out.shorter out.length out.kept out.only out.room in
+    let gone =
+    removed c.self.inside.dues c.remove.new.self (by_due c.args.slot c.args.command) _ c.by_due.ensures out.shorter out.length out.kept out.only out.room in
     let less = gone.fewer (i.has_dues.all c.args.slot c.args.command at (flies-true c.args.command c.requires.flies)) in
     omega (arith, less, out.room, i.dues_room.fits, i.dues_room.room, i.fits)
 

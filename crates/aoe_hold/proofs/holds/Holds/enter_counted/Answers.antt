@@ -66,7 +66,8 @@ invariant_of-self-2 g c =
     let up = ascending-filter (λ (d : Command). not (is_past life latest d)) held c.self.invariant.0.0 in
     let most = up_to-filter (λ (d : Command). not (is_past life latest d)) _ held c.self.invariant.0.1 in
     let index = index-reserved c.make_room.new.timed c.make_room.new.ready made.timed made.ready made.timed_more made.ready_more c.self.invariant.1 in
-    let queues = held-reserved c.make_room.new.timed c.make_room.new.ready c.make_room.new.blocked made.timed made.ready made.blocked made.blocked_more c.self.invariant.3 in
+    let queues =
+    held-reserved c.make_room.new.timed c.make_room.new.ready c.make_room.new.blocked made.timed made.ready made.blocked made.blocked_more c.self.invariant.3 in
     let queued = rw seen at (c.queue.ensures life latest c.look_all-commands.result.now c.keeper_of-keeper.ensures) in
     let keeps = rw made.commands at c.forget-self-inside.ensures.keys in
     let widens = rw (c.look_all-commands.ensures.value ∙ dropped) at c.kept-extent.ensures in

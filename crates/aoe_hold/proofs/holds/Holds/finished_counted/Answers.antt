@@ -18,7 +18,8 @@ pub invariant_of-self : goal.invariant_of-self
 invariant_of-self g c =
     let held = c.self.inside.commands.items in
     let seen = c.look_all-commands.ensures.value in
-    let found : position (λ (d : Command). nat_eq d.ticket.0 c.args.ticket.0) c.self.inside.commands.items ≡ Some c.in-Some.at = rw seen at (sym c.place_of.ensures ∙ c.in-Some.is) in
+    let found : position (λ (d : Command). nat_eq d.ticket.0 c.args.ticket.0) c.self.inside.commands.items ≡ Some c.in-Some.at =
+    rw seen at (sym c.place_of.ensures ∙ c.in-Some.is) in
     let at = stands-read c.args.ticket.0 c.self.inside.commands.items c.in-Some.at none_command c.self.invariant.0.0 found in
     let read : c.finished-ended.result ≡ stage_finished (get_or c.look_all-commands.result.now c.in-Some.at none_command).stage = search rules in
     let is = rw seen at read in
@@ -43,7 +44,8 @@ pub release-requires : goal.release-requires
 release-requires g c =
     let held = c.self.inside.commands.items in
     let seen = c.look_all-commands.ensures.value in
-    let found : position (λ (d : Command). nat_eq d.ticket.0 c.args.ticket.0) c.self.inside.commands.items ≡ Some c.in-Some.at = rw seen at (sym c.place_of.ensures ∙ c.in-Some.is) in
+    let found : position (λ (d : Command). nat_eq d.ticket.0 c.args.ticket.0) c.self.inside.commands.items ≡ Some c.in-Some.at =
+    rw seen at (sym c.place_of.ensures ∙ c.in-Some.is) in
     let at = stands-read c.args.ticket.0 c.self.inside.commands.items c.in-Some.at none_command c.self.invariant.0.0 found in
     let read : c.finished-ended.result ≡ stage_finished (get_or c.look_all-commands.result.now c.in-Some.at none_command).stage = search rules in
     let is = rw seen at read in
@@ -63,7 +65,8 @@ release-requires g c =
 pub returns-in-Some-clause-value : goal.returns-in-Some-clause-value
 returns-in-Some-clause-value g c =
     let seen = c.look_all-commands.ensures.value in
-    let found : position (λ (d : Command). nat_eq d.ticket.0 c.args.ticket.0) c.self.inside.commands.items ≡ Some c.in-Some.at = rw seen at (sym c.place_of.ensures ∙ c.in-Some.is) in
+    let found : position (λ (d : Command). nat_eq d.ticket.0 c.args.ticket.0) c.self.inside.commands.items ≡ Some c.in-Some.at =
+    rw seen at (sym c.place_of.ensures ∙ c.in-Some.is) in
     let at = stands-read c.args.ticket.0 c.self.inside.commands.items c.in-Some.at none_command c.self.invariant.0.0 found in
     let read : c.finished-ended.result ≡ stage_finished (get_or c.look_all-commands.result.now c.in-Some.at none_command).stage = search rules in
     let is = rw seen at read in
@@ -74,7 +77,8 @@ returns-in-Some-clause-value g c =
 pub returns-in-Some-clause-recalls : goal.returns-in-Some-clause-recalls
 returns-in-Some-clause-recalls g c =
     let seen = c.look_all-commands.ensures.value in
-    let found : position (λ (d : Command). nat_eq d.ticket.0 c.args.ticket.0) c.self.inside.commands.items ≡ Some c.in-Some.at = rw seen at (sym c.place_of.ensures ∙ c.in-Some.is) in
+    let found : position (λ (d : Command). nat_eq d.ticket.0 c.args.ticket.0) c.self.inside.commands.items ≡ Some c.in-Some.at =
+    rw seen at (sym c.place_of.ensures ∙ c.in-Some.is) in
     let at = stands-read c.args.ticket.0 c.self.inside.commands.items c.in-Some.at none_command c.self.invariant.0.0 found in
     let read : c.finished-ended.result ≡ stage_finished (get_or c.look_all-commands.result.now c.in-Some.at none_command).stage = search rules in
     let is = rw seen at read in
@@ -86,7 +90,8 @@ pub returns-clause-value : goal.returns-clause-value
 returns-clause-value g c =
     let held = c.self.inside.commands.items in
     let none : c.place_of.result ≡ None = search rules in
-    let missing : position (λ (d : Command). nat_eq d.ticket.0 c.args.ticket.0) held ≡ None = rw c.look_all-commands.ensures.value at (sym c.place_of.ensures ∙ none) in
+    let missing : position (λ (d : Command). nat_eq d.ticket.0 c.args.ticket.0) held ≡ None =
+    rw c.look_all-commands.ensures.value at (sym c.place_of.ensures ∙ none) in
     let value = finish-value c.self.view_is c.args.ticket.0 in
     sym c.self.view_is ∙ rw (stage-missing c.args.ticket.0 stage_finished held missing) at value
 
@@ -94,14 +99,16 @@ pub returns-clause-recalls : goal.returns-clause-recalls
 returns-clause-recalls g c = λ entered recalls.
     let held = c.self.inside.commands.items in
     let none : c.place_of.result ≡ None = search rules in
-    let missing : position (λ (d : Command). nat_eq d.ticket.0 c.args.ticket.0) held ≡ None = rw c.look_all-commands.ensures.value at (sym c.place_of.ensures ∙ none) in
+    let missing : position (λ (d : Command). nat_eq d.ticket.0 c.args.ticket.0) held ≡ None =
+    rw c.look_all-commands.ensures.value at (sym c.place_of.ensures ∙ none) in
     let after = finish-recalls c.self.view_is c.args.ticket.0 entered recalls in
     rw (← c.self.view_is) (rw (stage-missing c.args.ticket.0 stage_finished held missing) at after)
 
 pub count_gone-self-inside-requires : goal.count_gone-self-inside-requires
 count_gone-self-inside-requires g c =
     let seen = c.look_all-commands.ensures.value in
-    let found : position (λ (d : Command). nat_eq d.ticket.0 c.args.ticket.0) c.self.inside.commands.items ≡ Some c.in-Some.at = rw seen at (sym c.place_of.ensures ∙ c.in-Some.is) in
+    let found : position (λ (d : Command). nat_eq d.ticket.0 c.args.ticket.0) c.self.inside.commands.items ≡ Some c.in-Some.at =
+    rw seen at (sym c.place_of.ensures ∙ c.in-Some.is) in
     let at = stands-read c.args.ticket.0 c.self.inside.commands.items c.in-Some.at none_command c.self.invariant.0.0 found in
     let read : c.finished-ended.result ≡ stage_finished (get_or c.look_all-commands.result.now c.in-Some.at none_command).stage = search rules in
     let is = rw seen at read in

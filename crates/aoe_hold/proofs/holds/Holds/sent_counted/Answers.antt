@@ -22,7 +22,8 @@ invariant_of-self g c =
     let sent = stage_sent c.args.now in
     let held = c.self.inside.commands.items in
     let seen = c.look_all-commands.ensures.value in
-    let found : position (λ (d : Command). nat_eq d.ticket.0 c.args.ticket.0) c.self.inside.commands.items ≡ Some c.in-Some.at = rw seen at (sym c.place_of.ensures ∙ c.in-Some.is) in
+    let found : position (λ (d : Command). nat_eq d.ticket.0 c.args.ticket.0) c.self.inside.commands.items ≡ Some c.in-Some.at =
+    rw seen at (sym c.place_of.ensures ∙ c.in-Some.is) in
     let at = stands-read c.args.ticket.0 c.self.inside.commands.items c.in-Some.at none_command c.self.invariant.0.0 found in
     let read : c.sent-stage.result ≡ stage_sent c.args.now (get_or c.look_all-commands.result.now c.in-Some.at none_command).stage = search rules in
     let is = rw seen at read in
@@ -52,11 +53,14 @@ invariant_of-self-in_default g c =
     let ticket = c.args.ticket.0 in
     let held = c.self.inside.commands.items in
     let none : c.place_of.result ≡ None = search rules in
-    let missing : position (λ (d : Command). nat_eq d.ticket.0 c.args.ticket.0) held ≡ None = rw c.look_all-commands.ensures.value at (sym c.place_of.ensures ∙ none) in
+    let missing : position (λ (d : Command). nat_eq d.ticket.0 c.args.ticket.0) held ≡ None =
+    rw c.look_all-commands.ensures.value at (sym c.place_of.ensures ∙ none) in
     let same = stage-missing ticket (stage_sent c.args.now) held missing in
-    let stay = leaves-missing ticket held c.self.inside.timed.waiters c.self.inside.ready.waiters c.self.inside.blocked.waiters c.self.invariant.3.all missing in
+    let stay =
+    leaves-missing ticket held c.self.inside.timed.waiters c.self.inside.ready.waiters c.self.inside.blocked.waiters c.self.invariant.3.all missing in
     let later = time-of c.self.view_is c.args.now.0 c.requires.time in
-    let index = index-sent c.self.inside.unsent ticket c.args.now c.self.inside.timed c.self.inside.ready later (omega arith) stay.0 stay.1 refl refl c.self.invariant.1 in
+    let index =
+    index-sent c.self.inside.unsent ticket c.args.now c.self.inside.timed c.self.inside.ready later (omega arith) stay.0 stay.1 refl refl c.self.invariant.1 in
     let queues = held-gone c.self.inside.unsent ticket c.args.now c.self.inside.timed c.self.inside.ready c.self.inside.blocked (omega arith) stay.0 stay.1 stay.2 refl c.self.invariant.3 in (
       c.self.invariant.0,
       rw same at index,
@@ -70,7 +74,8 @@ invariant_of-self-in_default g c =
 pub leave-requires : goal.leave-requires
 leave-requires g c =
     let seen = c.look_all-commands.ensures.value in
-    let found : position (λ (d : Command). nat_eq d.ticket.0 c.args.ticket.0) c.self.inside.commands.items ≡ Some c.in-Some.at = rw seen at (sym c.place_of.ensures ∙ c.in-Some.is) in
+    let found : position (λ (d : Command). nat_eq d.ticket.0 c.args.ticket.0) c.self.inside.commands.items ≡ Some c.in-Some.at =
+    rw seen at (sym c.place_of.ensures ∙ c.in-Some.is) in
     let at = stands-read c.args.ticket.0 c.self.inside.commands.items c.in-Some.at none_command c.self.invariant.0.0 found in
     let read_first : c.is_unsent-first.result ≡ is_unsent (get_or c.look_all-commands.result.now c.in-Some.at none_command) = search rules in
     let first_is = rw seen at read_first in
@@ -79,7 +84,8 @@ leave-requires g c =
 pub returns-in-Some-clause-value : goal.returns-in-Some-clause-value
 returns-in-Some-clause-value g c =
     let seen = c.look_all-commands.ensures.value in
-    let found : position (λ (d : Command). nat_eq d.ticket.0 c.args.ticket.0) c.self.inside.commands.items ≡ Some c.in-Some.at = rw seen at (sym c.place_of.ensures ∙ c.in-Some.is) in
+    let found : position (λ (d : Command). nat_eq d.ticket.0 c.args.ticket.0) c.self.inside.commands.items ≡ Some c.in-Some.at =
+    rw seen at (sym c.place_of.ensures ∙ c.in-Some.is) in
     let at = stands-read c.args.ticket.0 c.self.inside.commands.items c.in-Some.at none_command c.self.invariant.0.0 found in
     let read : c.sent-stage.result ≡ stage_sent c.args.now (get_or c.look_all-commands.result.now c.in-Some.at none_command).stage = search rules in
     let is = rw seen at read in
@@ -92,7 +98,8 @@ returns-in-Some-clause-value g c =
 pub returns-in-Some-clause-recalls : goal.returns-in-Some-clause-recalls
 returns-in-Some-clause-recalls g c =
     let seen = c.look_all-commands.ensures.value in
-    let found : position (λ (d : Command). nat_eq d.ticket.0 c.args.ticket.0) c.self.inside.commands.items ≡ Some c.in-Some.at = rw seen at (sym c.place_of.ensures ∙ c.in-Some.is) in
+    let found : position (λ (d : Command). nat_eq d.ticket.0 c.args.ticket.0) c.self.inside.commands.items ≡ Some c.in-Some.at =
+    rw seen at (sym c.place_of.ensures ∙ c.in-Some.is) in
     let at = stands-read c.args.ticket.0 c.self.inside.commands.items c.in-Some.at none_command c.self.invariant.0.0 found in
     let read : c.sent-stage.result ≡ stage_sent c.args.now (get_or c.look_all-commands.result.now c.in-Some.at none_command).stage = search rules in
     let is = rw seen at read in
@@ -104,8 +111,10 @@ pub returns-clause-value : goal.returns-clause-value
 returns-clause-value g c =
     let held = c.self.inside.commands.items in
     let none : c.place_of.result ≡ None = search rules in
-    let missing : position (λ (d : Command). nat_eq d.ticket.0 c.args.ticket.0) held ≡ None = rw c.look_all-commands.ensures.value at (sym c.place_of.ensures ∙ none) in
-    let stay = leaves-missing c.args.ticket.0 held c.self.inside.timed.waiters c.self.inside.ready.waiters c.self.inside.blocked.waiters c.self.invariant.3.all missing in
+    let missing : position (λ (d : Command). nat_eq d.ticket.0 c.args.ticket.0) held ≡ None =
+    rw c.look_all-commands.ensures.value at (sym c.place_of.ensures ∙ none) in
+    let stay =
+    leaves-missing c.args.ticket.0 held c.self.inside.timed.waiters c.self.inside.ready.waiters c.self.inside.blocked.waiters c.self.invariant.3.all missing in
     let value = send-value c.self.view_is c.args.ticket.0 c.args.now _
     (ap (λ (l : List Waiter). map ticket_of l) stay.1 ∙ tickets-filter c.args.ticket.0 c.self.inside.ready.waiters) in
     rw (stage-missing c.args.ticket.0 (stage_sent c.args.now) held missing) at value
@@ -114,6 +123,7 @@ pub returns-clause-recalls : goal.returns-clause-recalls
 returns-clause-recalls g c = λ entered recalls.
     let held = c.self.inside.commands.items in
     let none : c.place_of.result ≡ None = search rules in
-    let missing : position (λ (d : Command). nat_eq d.ticket.0 c.args.ticket.0) held ≡ None = rw c.look_all-commands.ensures.value at (sym c.place_of.ensures ∙ none) in
+    let missing : position (λ (d : Command). nat_eq d.ticket.0 c.args.ticket.0) held ≡ None =
+    rw c.look_all-commands.ensures.value at (sym c.place_of.ensures ∙ none) in
     let after = send-recalls c.self.view_is c.args.ticket.0 c.args.now c.requires.time entered recalls in
     rw (stage-missing c.args.ticket.0 (stage_sent c.args.now) held missing) at after

@@ -26,7 +26,8 @@ expired-smaller c =
     let closes = c.give_up.ensures.2 in
     let inside = get-within c.expired.self.pending c.in-Some-place_of.at closes.command closes.there in
     let left : c.give_up.new.self.pending ≡ remove c.expired.self.pending c.in-Some-place_of.at = ap (λ (h : Host). h.pending) closes.after in
-    let fewer : length c.give_up.new.self.pending < length c.expired.self.pending = omega (arith, length-remove c.expired.self.pending c.in-Some-place_of.at inside, ap (λ (l : List Pending). length l) left) in
+    let fewer : length c.give_up.new.self.pending < length c.expired.self.pending =
+    omega (arith, length-remove c.expired.self.pending c.in-Some-place_of.at inside, ap (λ (l : List Pending). length l) left) in
     fewer
 
 pub expired-preserved : goal.expired-preserved

@@ -49,7 +49,8 @@ pub returns-in_err-path-clause-none : goal.returns-in_err-path-clause-none
 returns-in_err-path-clause-none c =
     let there : place c.in_ok-ticket.ticket c.self.inside.pending.items ≡ Some c.in_ok-at.at =
     sym c.place_of.ensures ∙ c.in_ok-at.was in
-    let inside : c.in_ok-at.at < length c.self.inside.pending.items = placed-inside (λ (q : Pending). nat_eq q.ticket.0 c.in_ok-ticket.ticket.0) c.self.inside.pending.items c.in_ok-at.at there in
+    let inside : c.in_ok-at.at < length c.self.inside.pending.items =
+    placed-inside (λ (q : Pending). nat_eq q.ticket.0 c.in_ok-ticket.ticket.0) c.self.inside.pending.items c.in_ok-at.at there in
     let p = get-there c.self.inside.pending.items c.in_ok-at.at inside in
     let hears : is_response c.args.self.now c.in_ok-header.header ≡ true = sym c.hears.ensures ∙ c.if-not-hears.false in
     if-none c.from_residual-in_err-path.result c.args.self.now c.args.frame.now (λ log m.
@@ -58,7 +59,8 @@ returns-in_err-path-clause-none c =
 pub returns-in_err-answer-clause-none : goal.returns-in_err-answer-clause-none
 returns-in_err-answer-clause-none c =
     let is : head c.args.frame.now ≡ Some c.in_ok-header.header = search rules in
-    let none : answer c.index.result.now.op c.in_ok-header.header (drop 24 c.args.frame.now) ≡ None = rw (← (take_rest c.args.frame.now 24)) (sym c.read_answer.ensures.value ∙ c.in_err-answer.was) in
+    let none : answer c.index.result.now.op c.in_ok-header.header (drop 24 c.args.frame.now) ≡ None =
+    rw (← (take_rest c.args.frame.now 24)) (sym c.read_answer.ensures.value ∙ c.in_err-answer.was) in
     if-none c.from_residual-in_err-answer.result c.args.self.now c.args.frame.now (λ log m.
     let found = flyer (commands log) c.in_ok-header.header.tag c.in_ok-ticket.ticket (c.in_ok-ticket.ensures.flying_sent (sent_of (commands log)) (rw (← c.self.view_is) at m.sent)) in
     none-says c.args.self.now log c.args.frame.now c.in_ok-header.header c.in_ok-ticket.ticket c.in_ok-at.at c.index.result.now found.0 m is (rw (← c.self.view_is) c.in_ok-ticket.ensures.only) found.1
@@ -66,13 +68,15 @@ returns-in_err-answer-clause-none c =
 
 pub returns-clause-fills : goal.returns-clause-fills
 returns-clause-fills c =
-    let fills : CanFill c.in_ok-answer.answer (drop 24 c.args.frame.now) (data_len c.index.result.now.op) = rw (← (take_rest c.args.frame.now 24)) c.in_ok-answer.ensures.here in
+    let fills : CanFill c.in_ok-answer.answer (drop 24 c.args.frame.now) (data_len c.index.result.now.op) =
+    rw (← (take_rest c.args.frame.now 24)) c.in_ok-answer.ensures.here in
     rw (read (goal.at.returns-clause-fills c).After-index) fills
 
 pub returns-clause-some : goal.returns-clause-some
 returns-clause-some c = λ log m.
     let is : head c.args.frame.now ≡ Some c.in_ok-header.header = search rules in
-    let given : answer c.index.result.now.op c.in_ok-header.header (drop 24 c.args.frame.now) ≡ Some c.in_ok-answer.answer = rw (← (take_rest c.args.frame.now 24)) (sym c.read_answer.ensures.value ∙ c.in_ok-answer.was) in
+    let given : answer c.index.result.now.op c.in_ok-header.header (drop 24 c.args.frame.now) ≡ Some c.in_ok-answer.answer =
+    rw (← (take_rest c.args.frame.now 24)) (sym c.read_answer.ensures.value ∙ c.in_ok-answer.was) in
     let hears : is_response c.args.self.now c.in_ok-header.header ≡ true = sym c.hears.ensures ∙ c.if-not-hears.false in
     let found = flyer (commands log) c.in_ok-header.header.tag c.in_ok-ticket.ticket (c.in_ok-ticket.ensures.flying_sent (sent_of (commands log)) (rw (← c.self.view_is) at m.sent)) in
     found-answer c.args.self.now log c.args.frame.now c.in_ok-header.header c.in_ok-ticket.ticket c.in_ok-at.at c.index.result.now found.0 c.in_ok-path.path c.in_ok-answer.answer c.is_from.result m is found.1

@@ -20,7 +20,8 @@ into_outcome-requires c =
     let p : Pending = c.close-command.result in
     let P : Host → Type 0 = λ h. place c.args.heard.ticket h.pending ≡ Some c.args.heard.at in
     let inside : c.args.heard.at < length c.self.inside.pending.items = placed-inside (λ (q : Pending). nat_eq q.ticket.0 c.args.heard.ticket.0) c.self.inside.pending.items c.args.heard.at (subst P (sym c.self.view_is) c.requires.there) in
-    let there : slice_get c.self.inside.pending.items c.args.heard.at ≡ Some p = slice_get_read c.self.inside.pending.items (length c.self.inside.pending.items) c.args.heard.at p refl inside c.close-command.ensures.command in
+    let there : slice_get c.self.inside.pending.items c.args.heard.at ≡ Some p =
+    slice_get_read c.self.inside.pending.items (length c.self.inside.pending.items) c.args.heard.at p refl inside c.close-command.ensures.command in
     let F : Host → Type 0 = λ h. IfSome (slice_get h.pending c.args.heard.at) (λ (q : Pending). CanFill c.args.heard.answer c.args.args.now (data_len q.op)) in
     let Q : Option Pending → Type 0 = λ o. IfSome o (λ (q : Pending). CanFill c.args.heard.answer c.args.args.now (data_len q.op)) in
     let R : Pending → Type 0 = λ q. IsSendable (length c.self.inside.devices.items) q in
@@ -53,5 +54,6 @@ pub returns-clause-ticket : goal.returns-clause-ticket
 returns-clause-ticket c =
     let p : Pending = c.close-command.result in
     let inside : c.args.heard.at < length c.self.inside.pending.items = placed-inside (λ (q : Pending). nat_eq q.ticket.0 c.args.heard.ticket.0) c.self.inside.pending.items c.args.heard.at (rw (← c.self.view_is) at c.requires.there) in
-    let there : slice_get c.self.inside.pending.items c.args.heard.at ≡ Some p = slice_get_read c.self.inside.pending.items (length c.self.inside.pending.items) c.args.heard.at p refl inside c.close-command.ensures.command in
+    let there : slice_get c.self.inside.pending.items c.args.heard.at ≡ Some p =
+    slice_get_read c.self.inside.pending.items (length c.self.inside.pending.items) c.args.heard.at p refl inside c.close-command.ensures.command in
     rw (← c.self.view_is) (rw there refl)

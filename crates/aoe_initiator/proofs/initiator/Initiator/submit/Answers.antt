@@ -27,7 +27,8 @@ invariant_of-self-2 c =
     let changed : set c.self.inside.devices.items c.args.device.0 (record { about = c.index_mut.result.now.about; holds = c.enter.new.self; paths = c.index_mut.result.now.paths }) ≡ change_at c.args.device.0 (device_entered command) c.self.inside.devices.items =
     rw entered (set-change_at c.self.inside.devices.items c.args.device.0 c.index_mut.result.now (device_entered command) inside c.index_mut.ensures.value) in
     let p : Pending = record { ticket = record { 0 = c.self.inside.last_ticket.0 + 1 }; device = c.args.device; op = c.args.op; room = c.in-Ok.room } in
-    let pushed : c.push_back_reserved.new.self.items ≡ c.self.inside.pending.items ++ p ∷ [] = c.push_back_reserved.ensures.items ∙ ap (λ (l : List Pending). l ++ p ∷ []) c.make_room.ensures.pending in
+    let pushed : c.push_back_reserved.new.self.items ≡ c.self.inside.pending.items ++ p ∷ [] =
+    c.push_back_reserved.ensures.items ∙ ap (λ (l : List Pending). l ++ p ∷ []) c.make_room.ensures.pending in
     let kept = ap (λ (l : List Pending). length l) c.make_room.ensures.pending in
     let waiting = ap length c.make_room.ensures.done in
     sound-submitted _ c.self.inside.clock.0 c.self.inside.last_ticket.0 (c.self.inside.last_ticket.0 + 1) c.args.device.0 _ c.self.inside.devices.items _ command c.self.inside.pending.items c.push_back_reserved.new.self.items p c.self.inside.done.items c.make_room.new.done.items _ _
@@ -42,7 +43,8 @@ returns-clause-matches c = λ log m.
     let changed : set c.self.inside.devices.items c.args.device.0 (record { about = c.index_mut.result.now.about; holds = c.enter.new.self; paths = c.index_mut.result.now.paths }) ≡ change_at c.args.device.0 (device_entered command) c.self.inside.devices.items =
     rw entered (set-change_at c.self.inside.devices.items c.args.device.0 c.index_mut.result.now (device_entered command) inside c.index_mut.ensures.value) in
     let p : Pending = record { ticket = record { 0 = c.self.inside.last_ticket.0 + 1 }; device = c.args.device; op = c.args.op; room = c.in-Ok.room } in
-    let pushed : c.push_back_reserved.new.self.items ≡ c.self.inside.pending.items ++ p ∷ [] = c.push_back_reserved.ensures.items ∙ ap (λ (l : List Pending). l ++ p ∷ []) c.make_room.ensures.pending in
+    let pushed : c.push_back_reserved.new.self.items ≡ c.self.inside.pending.items ++ p ∷ [] =
+    c.push_back_reserved.ensures.items ∙ ap (λ (l : List Pending). l ++ p ∷ []) c.make_room.ensures.pending in
     matches-submitted log _ _ (record { 0 = c.self.inside.last_ticket.0 + 1 }) c.args.device c.args.op c.in-Ok.room (rw (← c.self.view_is) at m) refl inside (rw (changed, pushed, c.make_room.ensures.done) refl)
 
 pub returns-clause-same : goal.returns-clause-same

@@ -10,12 +10,14 @@ use Rattle.aoe_live.proofs.recorder.Recorder.line.Goals as goal
 
 pub pass_on-requires-clause-told : goal.pass_on-requires-clause-told
 pass_on-requires-clause-told g c =
-    let tail = line-tail c.args.self.now.sectors c.args.event c.args.self.now.world.entries c.record.new.self.world.entries c.requires.recorded c.in-Ok.ensures.comes in
+    let tail =
+    line-tail c.args.self.now.sectors c.args.event c.args.self.now.world.entries c.record.new.self.world.entries c.requires.recorded c.in-Ok.ensures.comes in
     looked-within c.args.self.now.world.entries c.record.new.self.world.entries tail.0 c.record.new.self.told tail.1 (ap (λ (r : Recorder). r.told) c.in-Ok.ensures.rest ∙ c.requires.kept.told)
 
 pub pass_on-requires-clause-tally : goal.pass_on-requires-clause-tally
 pass_on-requires-clause-tally g c =
-    let tail = line-tail c.args.self.now.sectors c.args.event c.args.self.now.world.entries c.record.new.self.world.entries c.requires.recorded c.in-Ok.ensures.comes in
+    let tail =
+    line-tail c.args.self.now.sectors c.args.event c.args.self.now.world.entries c.record.new.self.world.entries c.requires.recorded c.in-Ok.ensures.comes in
     ap (λ (r : Recorder). r.tally) c.in-Ok.ensures.rest ∙ c.requires.kept.tally
     ∙ sym (ap tally_of (looked-at c.args.self.now.world.entries c.record.new.self.world.entries tail.0 c.record.new.self.told tail.1 (ap (λ (r : Recorder). r.told) c.in-Ok.ensures.rest ∙ c.requires.kept.told)))
 

@@ -64,7 +64,8 @@ returns-clause-steps g c =
     let n = c.ticks.counter in
     let rest = c.args.ms % 10000000 in
     let n_is : c.args.ms / 10000000 ≡ n = omega (arith, c.ticks.auto.counter-end, c.ticks-test.false) in
-    let part : ticks c.args.ms ≡ whole n ++ (Tick rest ∷ [] ++ []) = ticks-some c.args.ms c.if-rest-eq0.false ∙ ap (λ k. whole k ++ (Tick rest ∷ [] ++ [])) n_is in
+    let part : ticks c.args.ms ≡ whole n ++ (Tick rest ∷ [] ++ []) =
+    ticks-some c.args.ms c.if-rest-eq0.false ∙ ap (λ k. whole k ++ (Tick rest ∷ [] ++ [])) n_is in
     let before = links g.L.Link.turns g.L.Link.given g.L.Link.taken c.args.one.now c.args.two.now in
     let mid = links g.L.Link.turns g.L.Link.given g.L.Link.taken c.ticks.one c.ticks.two in
     let after = links g.L.Link.turns g.L.Link.given g.L.Link.taken c.line-2.new.one c.line-2.new.two in

@@ -25,7 +25,8 @@ pub returns-clause-run : goal.returns-clause-run
 returns-clause-run c =
     let at : ℕ = c.first_from-at.result in
     let n : ℕ = c.run_from-n.result in
-    let size : length c.args.self.now ≡ c.self.inside.len = omega (arith, ap length c.self.view_is, length-bits_of c.self.inside.words.items c.self.inside.len) in
+    let size : length c.args.self.now ≡ c.self.inside.len =
+    omega (arith, ap length c.self.view_is, length-bits_of c.self.inside.words.items c.self.inside.len) in
     let first = c.first_from-at.ensures.set (omega (arith, c.first_from-at.ensures.within, c.if-at-self.false)) in
     let e : at + 0 ≡ at = omega arith in
     record {

@@ -38,5 +38,6 @@ returns c =
     rw (← c.deref.ensures.value) (c.in_ok-frame.ensures.lookup.3.0, c.in_ok-frame.ensures.lookup.1) in
     let sent : frames_of kept ≡ c.args.self.now.sent = ap (λ (net : Network). net.sent) c.self.view_is in
     let some = found kept c.args.no.0 c.in_ok-index.index frame c.in_ok-index.ensures.0 c.in_ok-index.ensures.1 read.0 read.1 in
-    let young : c.args.now.0 - frame.birth.0 ≤ c.args.self.now.life = ltb-false c.args.self.now.life (c.args.now.0 - frame.birth.0) (sym c.has_expired.ensures ∙ c.if-has_expired.false) in
+    let young : c.args.now.0 - frame.birth.0 ≤ c.args.self.now.life =
+    ltb-false c.args.self.now.life (c.args.now.0 - frame.birth.0) (sym c.has_expired.ensures ∙ c.if-has_expired.false) in
     ap (λ (bytes : List ℕ). Some bytes) c.bytes.ensures ∙ fresh c.args.self.now c.args.no.0 c.args.now.0 (frame_of frame) (rw (← sent) some) young

@@ -18,8 +18,10 @@ returns-then-eq-clause-equal c =
     let kept = c.self.inside.frames.items in
     let frame = c.index.result.now in
     let sent : frames_of kept ≡ c.args.self.now.sent = ap (λ (net : Network). net.sent) c.self.view_is in
-    let inside : c.loop-index.index - 1 < length kept = omega (arith, c.loop-index.auto.index, c.len-index.ensures, c.self.inside.frames.ok.0, c.loop-index-test.true) in
-    let some = found kept (c.loop-index.index - 1 + 1) (c.loop-index.index - 1) frame (omega (arith, c.loop-index-test.true)) (omega arith) inside c.index.ensures in
+    let inside : c.loop-index.index - 1 < length kept =
+    omega (arith, c.loop-index.auto.index, c.len-index.ensures, c.self.inside.frames.ok.0, c.loop-index-test.true) in
+    let some =
+    found kept (c.loop-index.index - 1 + 1) (c.loop-index.index - 1) frame (omega (arith, c.loop-index-test.true)) (omega arith) inside c.index.ensures in
     let given : c.bytes.result.now ≡ (frame_of frame).bytes = c.bytes.ensures in
     let same : c.bytes.result.now ≡ c.args.frame.now = (bytes_eq-Decides c.bytes.result.now c.args.frame.now).0 (sym c.eq.ensures ∙ c.if-eq.true) in
     is-number c.args.self.now c.args.frame.now (c.loop-index.index - 1 + 1) (frame_of frame) (rw (← sent) some) (sym given ∙ same)
@@ -32,10 +34,12 @@ loop-index-preserved c =
     let kept = c.self.inside.frames.items in
     let frame = c.index.result.now in
     let sent : frames_of kept ≡ c.args.self.now.sent = ap (λ (net : Network). net.sent) c.self.view_is in
-    let inside : c.loop-index.index - 1 < length kept = omega (arith, c.loop-index.auto.index, c.len-index.ensures, c.self.inside.frames.ok.0, c.loop-index-test.true) in
+    let inside : c.loop-index.index - 1 < length kept =
+    omega (arith, c.loop-index.auto.index, c.len-index.ensures, c.self.inside.frames.ok.0, c.loop-index-test.true) in
     let some = found kept c.loop-index.index (c.loop-index.index - 1) frame (omega (arith, c.loop-index-test.true)) (omega arith) inside c.index.ensures in
     let given : c.bytes.result.now ≡ (frame_of frame).bytes = c.bytes.ensures in
-    let other : c.bytes.result.now ≡ c.args.frame.now → ⊥ = not_from_Decides c.eq.result (rw c.eq.ensures (bytes_eq-Decides c.bytes.result.now c.args.frame.now)) c.if-eq.false in
+    let other : c.bytes.result.now ≡ c.args.frame.now → ⊥ =
+    not_from_Decides c.eq.result (rw c.eq.ensures (bytes_eq-Decides c.bytes.result.now c.args.frame.now)) c.if-eq.false in
     not-here c.args.self.now c.args.frame.now c.loop-index.index (frame_of frame) (rw (← sent) some) (λ same. other (given ∙ same)) c.loop-index.invariant
 
 pub returns-clause-none : goal.returns-clause-none

@@ -12,7 +12,8 @@ pub returns-in_default-clause-value : goal.returns-in_default-clause-value
 returns-in_default-clause-value c =
     let paths = c.self.inside.paths.items in
     let past : length paths ≤ c.args.p.0 = search rules in
-    let marks : length (map (λ (path : PathState). path.missed) paths) ≤ c.args.p.0 = omega (arith, past, length-map paths (λ (path : PathState). path.missed)) in
+    let marks : length (map (λ (path : PathState). path.missed) paths) ≤ c.args.p.0 =
+    omega (arith, past, length-map paths (λ (path : PathState). path.missed)) in
     let trips : length (map (λ (path : PathState). path.trips) paths) ≤ c.args.p.0 = omega (arith, past, length-map paths (λ (path : PathState). path.trips)) in
     rw (← c.self.view_is, set_past (map (λ (path : PathState). path.missed) paths) c.args.p.0 false marks, set_past (map (λ (path : PathState). path.trips) paths) c.args.p.0 _ trips) refl
 

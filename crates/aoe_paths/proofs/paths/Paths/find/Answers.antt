@@ -21,8 +21,10 @@ pub returns-clause-pair : goal.returns-clause-pair
 returns-clause-pair c =
     let locals : c.deref.result.now ≡ c.args.self.now.locals = c.deref.ensures.0 ∙ ap (λ (table : PathTable). table.locals) c.self.view_is in
     let remotes : c.deref-2.result.now ≡ c.args.self.now.remotes = c.deref-2.ensures.0 ∙ ap (λ (table : PathTable). table.remotes) c.self.view_is in
-    let here : slice_get c.args.self.now.locals c.in_ok-local.local ≡ Some c.args.local = rw (← locals) (port-found c.deref.result.now c.args.local c.in_ok-local.local (sym c.in_ok-local.ensures)) in
-    let there : slice_get c.args.self.now.remotes c.in_ok-remote.remote ≡ Some c.args.remote = rw (← remotes) (port-found c.deref-2.result.now c.args.remote c.in_ok-remote.remote (sym c.in_ok-remote.ensures)) in
+    let here : slice_get c.args.self.now.locals c.in_ok-local.local ≡ Some c.args.local =
+    rw (← locals) (port-found c.deref.result.now c.args.local c.in_ok-local.local (sym c.in_ok-local.ensures)) in
+    let there : slice_get c.args.self.now.remotes c.in_ok-remote.remote ≡ Some c.args.remote =
+    rw (← remotes) (port-found c.deref-2.result.now c.args.remote c.in_ok-remote.remote (sym c.in_ok-remote.ensures)) in
     let count : c.len.result ≡ length c.args.self.now.remotes = c.len.ensures.value ∙ ap (λ (table : PathTable). length table.remotes) c.self.view_is in
     pair-of-number c.args.self.now c.in_ok-local.local c.in_ok-remote.remote _ c.args.local c.args.remote (ap (λ (n : ℕ). c.in_ok-local.local * n + c.in_ok-remote.remote) count) here there
 
@@ -30,8 +32,10 @@ pub returns-clause-only : goal.returns-clause-only
 returns-clause-only c = λ q claim.
     let locals : c.deref.result.now ≡ c.args.self.now.locals = c.deref.ensures.0 ∙ ap (λ (table : PathTable). table.locals) c.self.view_is in
     let remotes : c.deref-2.result.now ≡ c.args.self.now.remotes = c.deref-2.ensures.0 ∙ ap (λ (table : PathTable). table.remotes) c.self.view_is in
-    let here : slice_get c.args.self.now.locals c.in_ok-local.local ≡ Some c.args.local = rw (← locals) (port-found c.deref.result.now c.args.local c.in_ok-local.local (sym c.in_ok-local.ensures)) in
-    let there : slice_get c.args.self.now.remotes c.in_ok-remote.remote ≡ Some c.args.remote = rw (← remotes) (port-found c.deref-2.result.now c.args.remote c.in_ok-remote.remote (sym c.in_ok-remote.ensures)) in
+    let here : slice_get c.args.self.now.locals c.in_ok-local.local ≡ Some c.args.local =
+    rw (← locals) (port-found c.deref.result.now c.args.local c.in_ok-local.local (sym c.in_ok-local.ensures)) in
+    let there : slice_get c.args.self.now.remotes c.in_ok-remote.remote ≡ Some c.args.remote =
+    rw (← remotes) (port-found c.deref-2.result.now c.args.remote c.in_ok-remote.remote (sym c.in_ok-remote.ensures)) in
     let count : c.len.result ≡ length c.args.self.now.remotes = c.len.ensures.value ∙ ap (λ (table : PathTable). length table.remotes) c.self.view_is in
     let locals_differ : IsDistinct c.args.self.now.locals = rw (← locals, c.deref.ensures.0) c.self.invariant.locals_differ in
     let remotes_differ : IsDistinct c.args.self.now.remotes = rw (← remotes, c.deref-2.ensures.0) c.self.invariant.remotes_differ in

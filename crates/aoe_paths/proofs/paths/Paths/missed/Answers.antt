@@ -12,7 +12,8 @@ pub returns-in_default-clause-value : goal.returns-in_default-clause-value
 returns-in_default-clause-value c =
     let paths = c.self.inside.paths.items in
     let past : length paths ≤ c.args.p.0 = search rules in
-    let marks : length (map (λ (path : PathState). path.missed) paths) ≤ c.args.p.0 = omega (arith, past, length-map paths (λ (path : PathState). path.missed)) in
+    let marks : length (map (λ (path : PathState). path.missed) paths) ≤ c.args.p.0 =
+    omega (arith, past, length-map paths (λ (path : PathState). path.missed)) in
     rw (← c.self.view_is, set_past (map (λ (path : PathState). path.missed) paths) c.args.p.0 true marks) refl
 
 pub returns-in_default-clause-recalls : goal.returns-in_default-clause-recalls
@@ -24,7 +25,8 @@ pub returns-clause-value : goal.returns-clause-value
 returns-clause-value c =
     let paths = c.self.inside.paths.items in
     let marks = marks-set paths c.args.p.0 c.miss.new.self in
-    let trips = trips-missed paths c.args.p.0 c.in-Some.path.now c.miss.new.self c.in-Some.ensures.item.1 (ap (λ (path : PathState). path.trips) c.miss.ensures) in
+    let trips =
+    trips-missed paths c.args.p.0 c.in-Some.path.now c.miss.new.self c.in-Some.ensures.item.1 (ap (λ (path : PathState). path.trips) c.miss.ensures) in
     rw (← c.self.view_is, marks, trips, c.miss.ensures) refl
 
 pub returns-clause-recalls : goal.returns-clause-recalls

@@ -70,7 +70,8 @@ returns-in-Refused-clause-receives g c =
 
 pub returns-in-Lists-clause-receives : goal.returns-in-Lists-clause-receives
 returns-in-Lists-clause-receives g c =
-    let v = judged_is _ _ (Lists c.in-Lists.command) c.in-Some.ensures.there c.in-Some.ensures.fields c.args_of.ensures c.lists.ensures c.in-Lists.ensures.verdict in
+    let v =
+    judged_is _ _ (Lists c.in-Lists.command) c.in-Some.ensures.there c.in-Some.ensures.fields c.args_of.ensures c.lists.ensures c.in-Lists.ensures.verdict in
     let old : Mounted _ _ = record { station = c.self.inside.station; keep = c.self.inside.keep; store = c.self.inside.store } in
     let new : Mounted _ _ = record { station = c.self.inside.station; keep = c.tell.new.keep; store = c.self.inside.store } in
     let calls = by_it g.S.Store.state g.D.Disk.state _ c.tell.result old new (Lists c.in-Lists.command) v
@@ -133,7 +134,8 @@ returns-in-Refused-clause-under g c =
 
 pub returns-in-Lists-clause-under : goal.returns-in-Lists-clause-under
 returns-in-Lists-clause-under g c =
-    let v = judged_is _ _ (Lists c.in-Lists.command) c.in-Some.ensures.there c.in-Some.ensures.fields c.args_of.ensures c.lists.ensures c.in-Lists.ensures.verdict in
+    let v =
+    judged_is _ _ (Lists c.in-Lists.command) c.in-Some.ensures.there c.in-Some.ensures.fields c.args_of.ensures c.lists.ensures c.in-Lists.ensures.verdict in
     rw (← c.self.view_is, v) refl
 
 pub returns-in-Ata-clause-under : goal.returns-in-Ata-clause-under

@@ -4,7 +4,9 @@ use Rattle.aoe_tools.proofs.transfer.Transfer.run.Given as goal
 
 abbrev pub invariant-turns : goal.invariant-turns
 invariant-turns g l = record {
-  so : So l.turns l.quiet l.fn.self.host l.self.host l.fn.self.course l.self.course (g.L.Link.turns l.fn.link) (g.L.Link.turns l.link) (g.L.Link.given l.fn.link) (g.L.Link.given l.link) (g.L.Link.taken l.fn.link) (g.L.Link.taken l.link) (g.C.Clock.answers l.fn.clock) (g.C.Clock.answers l.clock);
+  so : So l.turns l.quiet l.fn.self.host l.self.host l.fn.self.course l.self.course (g.L.Link.turns l.fn.link) (g.L.Link.turns l.link)
+      (g.L.Link.given l.fn.link) (g.L.Link.given l.link) (g.L.Link.taken l.fn.link) (g.L.Link.taken l.link) (g.C.Clock.answers l.fn.clock)
+      (g.C.Clock.answers l.clock);
   within : l.quiet ≤ l.turns;
   faults : g.L.Link.faults l.link ≡ g.L.Link.faults l.fn.link;
 }

@@ -8,5 +8,6 @@ use Rattle.aoe_world.proofs.sim.Sim.skip.Given as goal
 
 abbrev pub invariant-skipped : goal.invariant-skipped
 invariant-skipped l =
-    (s : Setup) (majors : List ℕ) → IsNetwork s majors → IsReady s majors l.fn.self → 1 ≤ l.fn.cursor → l.fn.cursor ≤ suc (length (frames l.fn.self.run.entries))
+    (s : Setup) (majors : List ℕ) → IsNetwork s majors → IsReady s majors l.fn.self → 1 ≤ l.fn.cursor
+    → l.fn.cursor ≤ suc (length (frames l.fn.self.run.entries))
     → Passing s majors losses l.counter l.fn.cursor l.cursor l.fn.self l.self
