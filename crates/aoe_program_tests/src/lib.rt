@@ -11,6 +11,8 @@ mod base;
 #[cfg(test)]
 mod checks;
 #[cfg(test)]
+mod pcap;
+#[cfg(test)]
 mod streams;
 #[cfg(test)]
 mod udp;

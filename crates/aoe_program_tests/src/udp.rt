@@ -57,14 +57,22 @@ fn sends(link: &mut UdpLink, bytes: &[u8]) -> bool {
 }
 
 #[test]
-fn drops_long_datagrams(rt: HostRuntime) -> Result<(), Fail> {
+fn drops_what_is_no_frame(rt: HostRuntime) -> Result<(), Fail> {
     let (mut one, address) = bound(&rt)?;
     let mut two = UdpLink::open(&rt, rt.alloc(), ANY, address.as_bytes())?;
-    // The longest frame; two datagrams that are none, and no silence; and a frame again.
-    let (frame, long) = ([7u8; MAX_FRAME], [7u8; MAX_FRAME + 1]);
+    // The longest frame; a datagram that is too long, one of another type, one that is too short
+    // for a type, and an empty one, which are no silence; and a frame again.
+    let (mut frame, mut long) = ([7u8; MAX_FRAME], [7u8; MAX_FRAME + 1]);
+    frame[12..14].copy_from_slice(b"\x88\xa2");
+    long[12..14].copy_from_slice(b"\x88\xa2");
     let are_sent = sends(&mut two, &frame)
         && sends(&mut two, &long)
-        && sends(&mut two, &long)
+        && sends(
+            &mut two,
+            b"\xff\xff\xff\xff\xff\xff\x02\0\0\0\0\x0a\x08\x06",
+        )
+        && sends(&mut two, b"\xff\xff\xff\xff\xff\xff\x02\0\0\0\0\x0a\x88")
+        && sends(&mut two, b"")
         && sends(&mut two, QUERY);
     assert!(rt; are_sent && brings(&mut one, &frame) && brings_last(&mut one, QUERY));
     Ok(())
