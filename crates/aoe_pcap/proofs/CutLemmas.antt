@@ -7,7 +7,8 @@ use Rattle.aoe_pcap.specs.declared.reader.Record.{Record}
 use Rattle.aoe_pcap.specs.Capture.{GaveRecord, IsCut, claimed, kind, record_head}
 use Rattle.aoe_pcap.proofs.RecordLemmas.{claimed-is, length-record_head}
 
-pub cut-bytes : (big : Bool) (a b : Option (List ℕ)) (s f c o : ℕ) → c < 2 ^ 32 → Gave a b (record_head big s f c o) → IfSome b (λ left. length left < c) → IfSome a (IsCut big)
+pub cut-bytes : (big : Bool) (a b : Option (List ℕ)) (s f c o : ℕ) → c < 2 ^ 32 → Gave a b (record_head big s f c o)
+    → IfSome b (λ left. length left < c) → IfSome a (IsCut big)
 cut-bytes big None b s f c o small gave short = tt
 cut-bytes big (Some x) None s f c o small gave short = absurd (cc)
 cut-bytes big (Some x) (Some y) s f c o small gave short =
@@ -18,7 +19,8 @@ cut-bytes big (Some x) (Some y) s f c o small gave short =
     record { begun = λ e. omega (arith, long, ap length e); cut = inr (inr (omega (arith, long, claim, short))) }
 
 -- a source that gave the numbers of a record and then its bytes gave the record
-pub gave-record : (big : Bool) (a b c : Option (List ℕ)) (s f n o : ℕ) (bytes frame : List ℕ) (came : Record) → s < 2 ^ 32 → f < 2 ^ 32 → o < 2 ^ 32 → n ≤ 262144 → length bytes ≡ n
+pub gave-record : (big : Bool) (a b c : Option (List ℕ)) (s f n o : ℕ) (bytes frame : List ℕ) (came : Record)
+    → s < 2 ^ 32 → f < 2 ^ 32 → o < 2 ^ 32 → n ≤ 262144 → length bytes ≡ n
     → Gave a b (record_head big s f n o) → Gave b c bytes → came ≡ kind n o → frame ≡ (if nat_lt 9018 n then [] else bytes) → GaveRecord big a c came frame
 gave-record big a b c s f n o bytes frame came ss sf so few long first second kind_is frame_is =
     let P : ℕ → Type 0 = λ m. Gave a b (record_head big s f m o) in

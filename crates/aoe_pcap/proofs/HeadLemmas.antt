@@ -23,8 +23,18 @@ pub record Marks (big : Bool) (f : List ℕ) (nanoseconds : Bool) : Type 0 where
 marks-of : (big nanoseconds : Bool) (zone accuracy snap_length : ℕ)
     → Marks big (head_bytes (record { big = big; nanoseconds = nanoseconds; zone = zone; accuracy = accuracy; snap_length = snap_length })) nanoseconds
 unfolding head_bytes half half_of word word_of
-marks-of true nanoseconds zone accuracy snap_length = record { magic_is = word-back true (magic nanoseconds) (magic-small nanoseconds); major_is = refl; minor_is = refl; link_is = refl }
-marks-of false nanoseconds zone accuracy snap_length = record { magic_is = word-back false (magic nanoseconds) (magic-small nanoseconds); major_is = refl; minor_is = refl; link_is = refl }
+marks-of true nanoseconds zone accuracy snap_length = record {
+  magic_is = word-back true (magic nanoseconds) (magic-small nanoseconds);
+  major_is = refl;
+  minor_is = refl;
+  link_is = refl;
+}
+marks-of false nanoseconds zone accuracy snap_length = record {
+  magic_is = word-back false (magic nanoseconds) (magic-small nanoseconds);
+  major_is = refl;
+  minor_is = refl;
+  link_is = refl;
+}
 
 pub marks : (h : FileHead) → Marks h.big (head_bytes h) h.nanoseconds
 marks h = marks-of h.big h.nanoseconds h.zone h.accuracy h.snap_length
@@ -57,14 +67,16 @@ known-magic false = refl
 
 -- a header passes the tests
 pub head-known : (h : FileHead) (big : Bool) (f : List ℕ) (m major minor link : ℕ) → h.big ≡ big → f ≡ head_bytes h → m ≡ word_of big (take 4 f)
-    → major ≡ half_of big (take 2 (drop 4 f)) → minor ≡ half_of big (take 2 (drop 6 f)) → link ≡ word_of big (take 4 (drop 20 f)) → known m major minor link ≡ true
+    → major ≡ half_of big (take 2 (drop 4 f)) → minor ≡ half_of big (take 2 (drop 6 f)) → link ≡ word_of big (take 4 (drop 20 f))
+    → known m major minor link ≡ true
 head-known h big f m major minor link order bytes m_is major_is minor_is link_is =
     let P : Bool → Type 0 = λ b. Marks b (head_bytes h) h.nanoseconds in
     let Q : List ℕ → Type 0 = λ f. Marks big f h.nanoseconds in
     let is : Marks big f h.nanoseconds = subst Q (sym bytes) (subst P order (marks h)) in
     rw (m_is ∙ is.magic_is, major_is ∙ is.major_is, minor_is ∙ is.minor_is, link_is ∙ is.link_is) (known-magic h.nanoseconds)
 
-pieces : (f : List ℕ) → take 24 f ≡ take 4 f ++ take 2 (drop 4 f) ++ take 2 (drop 6 f) ++ take 4 (drop 8 f) ++ take 4 (drop 12 f) ++ take 4 (drop 16 f) ++ take 4 (drop 20 f)
+pieces : (f : List ℕ)
+    → take 24 f ≡ take 4 f ++ take 2 (drop 4 f) ++ take 2 (drop 6 f) ++ take 4 (drop 8 f) ++ take 4 (drop 12 f) ++ take 4 (drop 16 f) ++ take 4 (drop 20 f)
 pieces f =
     let six : take 6 f ≡ take 4 f ++ take 2 (drop 4 f) = take-add 4 2 f in
     let eight : take 8 f ≡ take 6 f ++ take 2 (drop 6 f) = take-add 6 2 f in
@@ -86,18 +98,26 @@ pub record Spelled (big : Bool) (f : List ℕ) : Type 0 where
   pub bytes : f ≡ head_bytes head
 
 pub known-head : (big : Bool) (f : List ℕ) (m major minor link : ℕ) → length f ≡ 24 → All (λ b. b < 2 ^ 8) f → known m major minor link ≡ true
-    → m ≡ word_of big (take 4 f) → major ≡ half_of big (take 2 (drop 4 f)) → minor ≡ half_of big (take 2 (drop 6 f)) → link ≡ word_of big (take 4 (drop 20 f)) → Spelled big f
+    → m ≡ word_of big (take 4 f) → major ≡ half_of big (take 2 (drop 4 f)) → minor ≡ half_of big (take 2 (drop 6 f))
+    → link ≡ word_of big (take 4 (drop 20 f)) → Spelled big f
 unfolding head_bytes
 known-head big f m major minor link long small e m_is major_is minor_is link_is =
     let t = tested m major minor link e in
     let small_at : (k n i : ℕ) → get_or (take n (drop k f)) i 0 < 256 = λ k n i. part-small f n k small i in
-    let magic_bytes : word big (magic t.nanoseconds) ≡ take 4 f = ap (word big) (sym t.magic_is ∙ m_is) ∙ (word-again big (take 4 f) (piece-long f 0 4 (omega (arith, long))) (small_at 0 4)) in
-    let major_bytes : half big 2 ≡ take 2 (drop 4 f) = ap (half big) (sym t.major_is ∙ major_is) ∙ (half-again big (take 2 (drop 4 f)) (piece-long f 4 2 (omega (arith, long))) (small_at 4 2)) in
-    let minor_bytes : half big 4 ≡ take 2 (drop 6 f) = ap (half big) (sym t.minor_is ∙ minor_is) ∙ (half-again big (take 2 (drop 6 f)) (piece-long f 6 2 (omega (arith, long))) (small_at 6 2)) in
-    let zone_bytes : word big (word_of big (take 4 (drop 8 f))) ≡ take 4 (drop 8 f) = word-again big (take 4 (drop 8 f)) (piece-long f 8 4 (omega (arith, long))) (small_at 8 4) in
-    let accuracy_bytes : word big (word_of big (take 4 (drop 12 f))) ≡ take 4 (drop 12 f) = word-again big (take 4 (drop 12 f)) (piece-long f 12 4 (omega (arith, long))) (small_at 12 4) in
-    let snap_bytes : word big (word_of big (take 4 (drop 16 f))) ≡ take 4 (drop 16 f) = word-again big (take 4 (drop 16 f)) (piece-long f 16 4 (omega (arith, long))) (small_at 16 4) in
-    let link_bytes : word big 1 ≡ take 4 (drop 20 f) = ap (word big) (sym t.link_is ∙ link_is) ∙ (word-again big (take 4 (drop 20 f)) (piece-long f 20 4 (omega (arith, long))) (small_at 20 4)) in
+    let magic_bytes : word big (magic t.nanoseconds) ≡ take 4 f =
+    ap (word big) (sym t.magic_is ∙ m_is) ∙ (word-again big (take 4 f) (piece-long f 0 4 (omega (arith, long))) (small_at 0 4)) in
+    let major_bytes : half big 2 ≡ take 2 (drop 4 f) =
+    ap (half big) (sym t.major_is ∙ major_is) ∙ (half-again big (take 2 (drop 4 f)) (piece-long f 4 2 (omega (arith, long))) (small_at 4 2)) in
+    let minor_bytes : half big 4 ≡ take 2 (drop 6 f) =
+    ap (half big) (sym t.minor_is ∙ minor_is) ∙ (half-again big (take 2 (drop 6 f)) (piece-long f 6 2 (omega (arith, long))) (small_at 6 2)) in
+    let zone_bytes : word big (word_of big (take 4 (drop 8 f))) ≡ take 4 (drop 8 f) =
+    word-again big (take 4 (drop 8 f)) (piece-long f 8 4 (omega (arith, long))) (small_at 8 4) in
+    let accuracy_bytes : word big (word_of big (take 4 (drop 12 f))) ≡ take 4 (drop 12 f) =
+    word-again big (take 4 (drop 12 f)) (piece-long f 12 4 (omega (arith, long))) (small_at 12 4) in
+    let snap_bytes : word big (word_of big (take 4 (drop 16 f))) ≡ take 4 (drop 16 f) =
+    word-again big (take 4 (drop 16 f)) (piece-long f 16 4 (omega (arith, long))) (small_at 16 4) in
+    let link_bytes : word big 1 ≡ take 4 (drop 20 f) =
+    ap (word big) (sym t.link_is ∙ link_is) ∙ (word-again big (take 4 (drop 20 f)) (piece-long f 20 4 (omega (arith, long))) (small_at 20 4)) in
     let all : f ≡ take 24 f = sym (take_all 24 f (omega (arith, long))) in
     record {
       head = record {
@@ -153,7 +173,8 @@ first_byte false true = 77
 first_byte false false = 212
 
 first-byte : (big nanoseconds : Bool) (zone accuracy snap_length : ℕ)
-    → get_or (head_bytes (record { big = big; nanoseconds = nanoseconds; zone = zone; accuracy = accuracy; snap_length = snap_length })) 0 0 ≡ first_byte big nanoseconds
+    → get_or (head_bytes (record { big = big; nanoseconds = nanoseconds; zone = zone; accuracy = accuracy; snap_length = snap_length })) 0 0
+    ≡ first_byte big nanoseconds
 unfolding head_bytes word half
 first-byte true true zone accuracy snap_length = refl
 first-byte true false zone accuracy snap_length = refl
@@ -181,12 +202,23 @@ record Others (big : Bool) (f : List ℕ) (zone accuracy snap_length : ℕ) : Ty
   snap_is : word_of big (take 4 (drop 16 f)) ≡ snap_length
 
 others : (big nanoseconds : Bool) (zone accuracy snap_length : ℕ) → zone < 2 ^ 32 → accuracy < 2 ^ 32 → snap_length < 2 ^ 32
-    → Others big (head_bytes (record { big = big; nanoseconds = nanoseconds; zone = zone; accuracy = accuracy; snap_length = snap_length })) zone accuracy snap_length
+    → Others big
+    (head_bytes (record { big = big; nanoseconds = nanoseconds; zone = zone; accuracy = accuracy; snap_length = snap_length }))
+    zone accuracy snap_length
 unfolding head_bytes half word word_of
-others true nanoseconds zone accuracy snap_length z a s = record { zone_is = word-back true zone z; accuracy_is = word-back true accuracy a; snap_is = word-back true snap_length s }
-others false nanoseconds zone accuracy snap_length z a s = record { zone_is = word-back false zone z; accuracy_is = word-back false accuracy a; snap_is = word-back false snap_length s }
+others true nanoseconds zone accuracy snap_length z a s = record {
+  zone_is = word-back true zone z;
+  accuracy_is = word-back true accuracy a;
+  snap_is = word-back true snap_length s;
+}
+others false nanoseconds zone accuracy snap_length z a s = record {
+  zone_is = word-back false zone z;
+  accuracy_is = word-back false accuracy a;
+  snap_is = word-back false snap_length s;
+}
 
-same-fields : (h g : FileHead) → h.big ≡ g.big → h.nanoseconds ≡ g.nanoseconds → h.zone ≡ g.zone → h.accuracy ≡ g.accuracy → h.snap_length ≡ g.snap_length → h ≡ g
+same-fields : (h g : FileHead) → h.big ≡ g.big → h.nanoseconds ≡ g.nanoseconds → h.zone ≡ g.zone
+    → h.accuracy ≡ g.accuracy → h.snap_length ≡ g.snap_length → h ≡ g
 same-fields h g b n z a s =
     let of : Bool → Bool → ℕ → ℕ → ℕ → FileHead = λ b n z a s. record { big = b; nanoseconds = n; zone = z; accuracy = a; snap_length = s } in
     let all : of h.big h.nanoseconds h.zone h.accuracy h.snap_length ≡ of g.big g.nanoseconds g.zone g.accuracy g.snap_length = rw (b, n, z, a, s) refl in
@@ -195,7 +227,8 @@ same-fields h g b n z a s =
 pub one-head : (h g : FileHead) → IsHead h → IsHead g → head_bytes h ≡ head_bytes g → h ≡ g
 one-head h g h_is g_is e =
     let firsts : first_byte h.big h.nanoseconds ≡ first_byte g.big g.nanoseconds =
-    sym (first-byte h.big h.nanoseconds h.zone h.accuracy h.snap_length) ∙ ap (λ f. get_or f 0 0) e ∙ first-byte g.big g.nanoseconds g.zone g.accuracy g.snap_length in
+    sym (first-byte h.big h.nanoseconds h.zone h.accuracy h.snap_length) ∙ ap (λ f. get_or f 0 0) e
+    ∙ first-byte g.big g.nanoseconds g.zone g.accuracy g.snap_length in
     let order : h.big ≡ g.big = same-order h.big g.big h.nanoseconds g.nanoseconds firsts in
     let one = others h.big h.nanoseconds h.zone h.accuracy h.snap_length h_is.zone h_is.accuracy h_is.snap_length in
     let two = others g.big g.nanoseconds g.zone g.accuracy g.snap_length g_is.zone g_is.accuracy g_is.snap_length in

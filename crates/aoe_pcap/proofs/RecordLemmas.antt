@@ -30,8 +30,18 @@ record Numbers (big : Bool) (f : List ℕ) (seconds fraction captured original :
 
 numbers : (big : Bool) (s f c o : ℕ) → s < 2 ^ 32 → f < 2 ^ 32 → c < 2 ^ 32 → o < 2 ^ 32 → Numbers big (record_head big s f c o) s f c o
 unfolding record_head word word_of
-numbers true s f c o ss sf sc so = record { seconds_is = word-back true s ss; fraction_is = word-back true f sf; captured_is = word-back true c sc; original_is = word-back true o so }
-numbers false s f c o ss sf sc so = record { seconds_is = word-back false s ss; fraction_is = word-back false f sf; captured_is = word-back false c sc; original_is = word-back false o so }
+numbers true s f c o ss sf sc so = record {
+  seconds_is = word-back true s ss;
+  fraction_is = word-back true f sf;
+  captured_is = word-back true c sc;
+  original_is = word-back true o so;
+}
+numbers false s f c o ss sf sc so = record {
+  seconds_is = word-back false s ss;
+  fraction_is = word-back false f sf;
+  captured_is = word-back false c sc;
+  original_is = word-back false o so;
+}
 
 -- what a record claims
 pub claimed-is : (big : Bool) (s f c o : ℕ) (rest : List ℕ) → c < 2 ^ 32 → claimed big (record_head big s f c o ++ rest) ≡ c
@@ -82,25 +92,33 @@ same-packet p q s f o c =
     let all : of p.seconds p.fraction p.original p.captured ≡ of q.seconds q.fraction q.original q.captured = rw (s, f, o, c) refl in
     all
 
-pub one-record : (big : Bool) (p q : Packet) (rest other : List ℕ) → IsPacket p → IsPacket q → packet_bytes big p ++ rest ≡ packet_bytes big q ++ other → Same p q rest other
+pub one-record : (big : Bool) (p q : Packet) (rest other : List ℕ) → IsPacket p → IsPacket q
+    → packet_bytes big p ++ rest ≡ packet_bytes big q ++ other → Same p q rest other
 one-record big p q rest other p_is q_is e =
     let front : Packet → List ℕ = λ r. record_head big r.seconds r.fraction (length r.captured) r.original in
-    let fronts = length-record_head big p.seconds p.fraction (length p.captured) p.original ∙ sym (length-record_head big q.seconds q.fraction (length q.captured) q.original) in
-    let split : front p ++ (p.captured ++ rest) ≡ front q ++ (q.captured ++ other) = sym (append_assoc (front p) p.captured rest) ∙ e ∙ append_assoc (front q) q.captured other in
+    let fronts =
+    length-record_head big p.seconds p.fraction (length p.captured) p.original
+    ∙ sym (length-record_head big q.seconds q.fraction (length q.captured) q.original) in
+    let split : front p ++ (p.captured ++ rest) ≡ front q ++ (q.captured ++ other) =
+    sym (append_assoc (front p) p.captured rest) ∙ e ∙ append_assoc (front q) q.captured other in
     let parts = same-front (front p) (front q) (p.captured ++ rest) (q.captured ++ other) fronts split in
     let one = numbers big p.seconds p.fraction (length p.captured) p.original p_is.seconds p_is.fraction (omega (arith, p_is.captured)) p_is.original in
     let two = numbers big q.seconds q.fraction (length q.captured) q.original q_is.seconds q_is.fraction (omega (arith, q_is.captured)) q_is.original in
-    let at : (k : ℕ) → word_of big (take 4 (drop k (front p))) ≡ word_of big (take 4 (drop k (front q))) = λ k. ap (λ f. word_of big (take 4 (drop k f))) parts.0 in
+    let at : (k : ℕ) → word_of big (take 4 (drop k (front p))) ≡ word_of big (take 4 (drop k (front q))) =
+    λ k. ap (λ f. word_of big (take 4 (drop k f))) parts.0 in
     let bytes = same-front p.captured q.captured rest other (sym one.captured_is ∙ at 8 ∙ two.captured_is) parts.1 in
     record {
-      packet = same-packet p q (sym one.seconds_is ∙ at 0 ∙ two.seconds_is) (sym one.fraction_is ∙ at 4 ∙ two.fraction_is) (sym one.original_is ∙ at 12 ∙ two.original_is) bytes.0;
+      packet = same-packet p q (sym one.seconds_is ∙ at 0 ∙ two.seconds_is) (sym one.fraction_is ∙ at 4 ∙ two.fraction_is)
+          (sym one.original_is ∙ at 12 ∙ two.original_is) bytes.0;
       behind = bytes.1;
     }
 
 one-list : (big : Bool) (ps qs : List Packet) → All IsPacket ps → All IsPacket qs → flat_map (packet_bytes big) ps ≡ flat_map (packet_bytes big) qs → ps ≡ qs
 one-list big [] [] all each e = refl
-one-list big [] (q ∷ qs) all each e = absurd (omega (arith, length-packet big q, length-append (packet_bytes big q) (flat_map (packet_bytes big) qs), ap length e))
-one-list big (p ∷ ps) [] all each e = absurd (omega (arith, length-packet big p, length-append (packet_bytes big p) (flat_map (packet_bytes big) ps), ap length e))
+one-list big [] (q ∷ qs) all each e =
+    absurd (omega (arith, length-packet big q, length-append (packet_bytes big q) (flat_map (packet_bytes big) qs), ap length e))
+one-list big (p ∷ ps) [] all each e =
+    absurd (omega (arith, length-packet big p, length-append (packet_bytes big p) (flat_map (packet_bytes big) ps), ap length e))
 one-list big (p ∷ ps) (q ∷ qs) all each e =
     let s = one-record big p q (flat_map (packet_bytes big) ps) (flat_map (packet_bytes big) qs) (All-head IsPacket p ps all) (All-head IsPacket q qs each) e in
     let rest = one-list big ps qs (All-tail IsPacket p ps all) (All-tail IsPacket q qs each) s.behind in
@@ -120,7 +138,9 @@ pub record-whole : (big : Bool) (p : Packet) (rest : List ℕ) → IsPacket p �
 record-whole big p rest is cut =
     let front = record_head big p.seconds p.fraction (length p.captured) p.original in
     let P : List ℕ → Type 0 = λ f. claimed big f ≡ length p.captured in
-    let claim : P (packet_bytes big p ++ rest) = subst P (sym (append_assoc front p.captured rest)) (claimed-is big p.seconds p.fraction (length p.captured) p.original (p.captured ++ rest) (omega (arith, is.captured))) in
+    let claim : P (packet_bytes big p ++ rest) =
+    subst P (sym (append_assoc front p.captured rest))
+    (claimed-is big p.seconds p.fraction (length p.captured) p.original (p.captured ++ rest) (omega (arith, is.captured))) in
     let long = length-packet big p in
     let more = length-append (packet_bytes big p) rest in
     elim cut.cut [

@@ -80,7 +80,8 @@ impl Head {
     /// Whether the bytes are the header of a file in this byte order.
     fn begins(self, bytes: &[u8]) -> bool
         requires { length bytes.now ≡ 24 }
-        ensures yes { OnTrue result ((h : FileHead) × IsHead h × (h.big ≡ self.big) × (bytes.now ≡ head_bytes h)) }
+        ensures yes { OnTrue result ((h : FileHead) × IsHead h × (h.big ≡ self.big)
+            × (bytes.now ≡ head_bytes h)) }
         ensures no { OnFalse result ((h : FileHead) → h.big ≡ self.big → bytes.now ≢ head_bytes h) }
     {
         is_known(
@@ -94,7 +95,8 @@ impl Head {
 
 /// Whether a file with this magic number, version and link type is read.
 fn is_known(magic: u32, major: u16, minor: u16, link: u32) -> bool
-    ensures { result ≡ (((magic == 0xa1b2c3d4) || (magic == 0xa1b23c4d)) && (major == 2) && (minor == 4) && (link == 1)) }
+    ensures { result ≡ (((magic == 0xa1b2c3d4) || (magic == 0xa1b23c4d))
+        && (major == 2) && (minor == 4) && (link == 1)) }
 {
     (magic == MICROSECONDS || magic == NANOSECONDS)
         && major == MAJOR
@@ -105,7 +107,8 @@ fn is_known(magic: u32, major: u16, minor: u16, link: u32) -> bool
 /// What the bytes of a header say, or `None` where they are none.
 fn head_of(bytes: &[u8]) -> Option<Head>
     requires { length bytes.now ≡ 24 }
-    ensures head { IfSome result (λ head. (h : FileHead) × IsHead h × (h.big ≡ head.big) × (bytes.now ≡ head_bytes h)) }
+    ensures head { IfSome result (λ head. (h : FileHead) × IsHead h × (h.big ≡ head.big)
+        × (bytes.now ≡ head_bytes h)) }
     ensures none { IfNone result ((h : FileHead) → bytes.now ≢ head_bytes h) }
 {
     let big = Head { big: true };
@@ -121,11 +124,15 @@ fn head_of(bytes: &[u8]) -> Option<Head>
 
 /// Takes the header of a file.
 pub fn read_head<S: Source>(source: &mut S) -> Result<Head, PcapRefusal>
-    ensures head { IfOk result (λ head. (h : FileHead) × IsHead h × (h.big ≡ head.big) × Gave (S.left source.old) (S.left source.new) (head_bytes h)) }
-    ensures bad_header { result ≡ Err PcapRefusal.BadHeader → IfSome (S.left source.old) BeginsNoHead }
+    ensures head { IfOk result (λ head. (h : FileHead) × IsHead h × (h.big ≡ head.big)
+        × Gave (S.left source.old) (S.left source.new) (head_bytes h)) }
+    ensures bad_header { result ≡ Err PcapRefusal.BadHeader
+        → IfSome (S.left source.old) BeginsNoHead }
     ensures no_record { (n : ℕ) → result ≢ Err (PcapRefusal.BadRecord n) }
-    ensures source_fault { result ≡ Err PcapRefusal.SourceFault → Rose (S.faults source.old) (S.faults source.new) }
-    ensures no_fault { result ≢ Err PcapRefusal.SourceFault → S.faults source.new ≡ S.faults source.old }
+    ensures source_fault { result ≡ Err PcapRefusal.SourceFault
+        → Rose (S.faults source.old) (S.faults source.new) }
+    ensures no_fault { result ≢ Err PcapRefusal.SourceFault
+        → S.faults source.new ≡ S.faults source.old }
     ensures one_fault { S.faults source.new ≤ S.faults source.old + 1 }
     ensures taken { OnErr result (GaveSome (S.left source.old) (S.left source.new)) }
     ensures count { S.faults source.old ≤ S.faults source.new }

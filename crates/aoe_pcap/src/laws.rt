@@ -6,13 +6,15 @@ ghost use Rattle.aoe_pcap.specs.declared.reader.Record.TheVariants.{Whole};
 
 /// A law: a file has one header and one list of packets.
 pub fn capture_has_one_list_of_packets()
-    ensures { (bytes : List ℕ) (h g : FileHead) (ps qs : List Packet) → IsCapture bytes h ps → IsCapture bytes g qs → (h ≡ g) × (ps ≡ qs) }
+    ensures { (bytes : List ℕ) (h g : FileHead) (ps qs : List Packet)
+        → IsCapture bytes h ps → IsCapture bytes g qs → (h ≡ g) × (ps ≡ qs) }
 {}
 
 /// A law: bytes that begin with a record aren't at an end and aren't cut, so that each answer of
 /// `next_record` comes exactly where its clause holds.
 pub fn record_begins_no_cut_capture()
-    ensures { (big : Bool) (p : Packet) (rest : List ℕ) → IsPacket p → (packet_bytes big p ++ rest ≢ []) × (IsCut big (packet_bytes big p ++ rest) → ⊥) }
+    ensures { (big : Bool) (p : Packet) (rest : List ℕ) → IsPacket p
+        → (packet_bytes big p ++ rest ≢ []) × (IsCut big (packet_bytes big p ++ rest) → ⊥) }
 {}
 
 /// A law: the header that is written, and the record of each frame behind it, are a file that has a
@@ -20,6 +22,8 @@ pub fn record_begins_no_cut_capture()
 /// written.
 pub fn written_capture_reads_back()
     ensures capture { (frames : List (List ℕ)) → All (λ f. length f ≤ 9018) frames
-        → IsCapture (head_bytes written_head ++ flat_map (λ f. packet_bytes false (packet_of f)) frames) written_head (map packet_of frames) }
-    ensures whole { (f : List ℕ) → length f ≤ 9018 → (kind (length f) (length f) ≡ Whole) × (frame_of f ≡ f) }
+        → IsCapture (head_bytes written_head ++ flat_map (λ f. packet_bytes false (packet_of f)) frames)
+        written_head (map packet_of frames) }
+    ensures whole { (f : List ℕ) → length f ≤ 9018
+        → (kind (length f) (length f) ≡ Whole) × (frame_of f ≡ f) }
 {}

@@ -1,7 +1,7 @@
 //! Capture files of Ethernet: classic pcap, as tcpdump writes it by `-w`, read and written.
 //!
-//! [`read_head`] takes the header of a file from a source, and then [`next_record`] one record after
-//! the other, until [`Record::End`]. [`write_head`] and [`write_record`] make the bytes of a file.
+//! [`read_head`] takes the header of a file from a source, and then [`next_record`] one record
+//! after the other, until [`Record::End`]. [`write_head`] and [`write_record`] make the bytes of a file.
 //!
 //! Either byte order is read, with times in microseconds or nanoseconds; pcapng isn't, nor another
 //! link type than Ethernet. No call takes memory, whatever length a file claims.

@@ -90,13 +90,18 @@ fn read_lengths<S: Source>(
 ) -> Result<Option<Lengths>, PcapRefusal>
     ensures few { IfOk result (λ came. IfSome came (λ lengths. lengths.captured ≤ 262144)) }
     ensures fits { IfOk result (λ came. IfSome came (λ lengths. lengths.original < 2 ^ 32)) }
-    ensures gave { IfOk result (λ came. IfSome came (λ lengths. (seconds : ℕ) × (fraction : ℕ) × (seconds < 2 ^ 32) × (fraction < 2 ^ 32)
-        × Gave (S.left source.old) (S.left source.new) (record_head head.now.big seconds fraction lengths.captured lengths.original))) }
-    ensures end { result ≡ Ok None → IsEnded (S.left source.old) × (S.left source.new ≡ S.left source.old) }
-    ensures bad_record { (n : ℕ) → result ≡ Err (PcapRefusal.BadRecord n) → (n ≡ number) × IfSome (S.left source.old) (IsCut head.now.big) }
+    ensures gave { IfOk result (λ came. IfSome came (λ lengths. (seconds : ℕ) × (fraction : ℕ)
+        × (seconds < 2 ^ 32) × (fraction < 2 ^ 32) × Gave (S.left source.old) (S.left source.new)
+        (record_head head.now.big seconds fraction lengths.captured lengths.original))) }
+    ensures end { result ≡ Ok None
+        → IsEnded (S.left source.old) × (S.left source.new ≡ S.left source.old) }
+    ensures bad_record { (n : ℕ) → result ≡ Err (PcapRefusal.BadRecord n)
+        → (n ≡ number) × IfSome (S.left source.old) (IsCut head.now.big) }
     ensures no_header { result ≢ Err PcapRefusal.BadHeader }
-    ensures source_fault { result ≡ Err PcapRefusal.SourceFault → Rose (S.faults source.old) (S.faults source.new) }
-    ensures no_fault { result ≢ Err PcapRefusal.SourceFault → S.faults source.new ≡ S.faults source.old }
+    ensures source_fault { result ≡ Err PcapRefusal.SourceFault
+        → Rose (S.faults source.old) (S.faults source.new) }
+    ensures no_fault { result ≢ Err PcapRefusal.SourceFault
+        → S.faults source.new ≡ S.faults source.old }
     ensures one_fault { S.faults source.new ≤ S.faults source.old + 1 }
     ensures taken { OnErr result (GaveSome (S.left source.old) (S.left source.new)) }
     ensures count { S.faults source.old ≤ S.faults source.new }
@@ -118,7 +123,8 @@ fn read_lengths<S: Source>(
 /// Reads past the next `count` bytes of the source, through `out`, which is empty then: false where
 /// the input ends before.
 fn skip<S: Source>(source: &mut S, count: usize, out: &mut Frame) -> Result<bool, Failed>
-    ensures passed { result ≡ Ok true → (bytes : List ℕ) × (length bytes ≡ count) × Gave (S.left source.old) (S.left source.new) bytes }
+    ensures passed { result ≡ Ok true → (bytes : List ℕ) × (length bytes ≡ count)
+        × Gave (S.left source.old) (S.left source.new) bytes }
     ensures empty { result ≡ Ok true → out.new.items ≡ [] }
     ensures short { result ≡ Ok false → IfSome (S.left source.old) (λ left. length left < count) }
     ensures taken { GaveSome (S.left source.old) (S.left source.new) }
@@ -143,7 +149,8 @@ fn skip<S: Source>(source: &mut S, count: usize, out: &mut Frame) -> Result<bool
 /// Makes `out` the next `count` bytes of the source, or empty where they are more than a frame has:
 /// false where the input ends before.
 fn read_captured<S: Source>(source: &mut S, count: usize, out: &mut Frame) -> Result<bool, Failed>
-    ensures captured { result ≡ Ok true → (bytes : List ℕ) × (length bytes ≡ count) × Gave (S.left source.old) (S.left source.new) bytes
+    ensures captured { result ≡ Ok true → (bytes : List ℕ) × (length bytes ≡ count)
+        × Gave (S.left source.old) (S.left source.new) bytes
         × (out.new.items ≡ (if nat_lt 9018 count then [] else bytes)) }
     ensures short { result ≡ Ok false → IfSome (S.left source.old) (λ left. length left < count) }
     ensures taken { GaveSome (S.left source.old) (S.left source.new) }
@@ -167,13 +174,18 @@ pub fn next_record<S: Source>(
     number: u32,
     out: &mut Frame,
 ) -> Result<Record, PcapRefusal>
-    ensures gave { IfOk result (λ came. came ≢ Record.End → GaveRecord head.now.big (S.left source.old) (S.left source.new) came out.new.items) }
-    ensures end { result ≡ Ok Record.End → IsEnded (S.left source.old) × (S.left source.new ≡ S.left source.old) }
+    ensures gave { IfOk result (λ came. came ≢ Record.End
+        → GaveRecord head.now.big (S.left source.old) (S.left source.new) came out.new.items) }
+    ensures end { result ≡ Ok Record.End
+        → IsEnded (S.left source.old) × (S.left source.new ≡ S.left source.old) }
     ensures kept { result ≡ Ok Record.End → out.new.items ≡ out.old.items }
-    ensures bad_record { (n : ℕ) → result ≡ Err (PcapRefusal.BadRecord n) → (n ≡ number) × IfSome (S.left source.old) (IsCut head.now.big) }
+    ensures bad_record { (n : ℕ) → result ≡ Err (PcapRefusal.BadRecord n)
+        → (n ≡ number) × IfSome (S.left source.old) (IsCut head.now.big) }
     ensures no_header { result ≢ Err PcapRefusal.BadHeader }
-    ensures source_fault { result ≡ Err PcapRefusal.SourceFault → Rose (S.faults source.old) (S.faults source.new) }
-    ensures no_fault { result ≢ Err PcapRefusal.SourceFault → S.faults source.new ≡ S.faults source.old }
+    ensures source_fault { result ≡ Err PcapRefusal.SourceFault
+        → Rose (S.faults source.old) (S.faults source.new) }
+    ensures no_fault { result ≢ Err PcapRefusal.SourceFault
+        → S.faults source.new ≡ S.faults source.old }
     ensures one_fault { S.faults source.new ≤ S.faults source.old + 1 }
     ensures taken { OnErr result (GaveSome (S.left source.old) (S.left source.new)) }
     ensures count { S.faults source.old ≤ S.faults source.new }

@@ -9,7 +9,11 @@ pieces-preserved g c =
     let whole = c.in-Ok-true.is ∙ ap Ok c.in-Ok-true.field-0-test in
     let long : length piece ≡ c.min-piece.result = c.fill_frame.ensures.length whole in
     record {
-      so_far = (before.0 ++ piece, omega (arith, before.1, long, length-append before.0 piece), Gave-then _ _ _ before.0 piece before.2 (c.fill_frame.ensures.gave whole));
+      so_far = (
+        before.0 ++ piece,
+        omega (arith, before.1, long, length-append before.0 piece),
+        Gave-then _ _ _ before.0 piece before.2 (c.fill_frame.ensures.gave whole),
+      );
       count = c.in-Ok-true.ensures.no_fault ∙ c.pieces.invariant.count;
     }
 

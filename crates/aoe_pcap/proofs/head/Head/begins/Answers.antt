@@ -8,7 +8,8 @@ pub returns-clause-yes : goal.returns-clause-yes
 returns-clause-yes c = OnTrue_from c.is_known.result _ (λ yes.
     let bytes = c.args.bytes.now in
     let small = All-from_get_or (λ b. b < 2 ^ 8) bytes 0 (λ i _. omega (arith, c.type_inv.bytes i)) in
-    let s = known-head c.args.self.big bytes _ _ _ _ c.requires small (sym c.is_known.ensures ∙ yes) c.word_at.ensures c.half_at.ensures c.half_at-2.ensures c.word_at-2.ensures in
+    let s = known-head c.args.self.big bytes _ _ _ _ c.requires small (sym c.is_known.ensures ∙ yes)
+    c.word_at.ensures c.half_at.ensures c.half_at-2.ensures c.word_at-2.ensures in
     (s.head, s.fits, s.order, s.bytes))
 
 pub returns-clause-no : goal.returns-clause-no
