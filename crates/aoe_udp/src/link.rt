@@ -51,8 +51,8 @@ fn read_address(text: &[u8]) -> Option<SocketAddr>
     SocketAddr::parse_ascii(text).ok()
 }
 
-/// The addresses that a text spells, joined by commas. All of it is read, so that want of memory never
-/// hides a text that spells none.
+/// The addresses that a text spells, joined by commas. All of it is read, so that want of memory
+/// never hides a text that spells none.
 #[tactic(auto, using(crate::proofs::AddressLemmas::none_read))]
 fn read_peers(alloc: Global, text: &[u8]) -> Result<Vec<SocketAddr>, OpenRefusal>
     ensures spelled { OnOk result (ArePeers text.now) }
@@ -105,13 +105,14 @@ fn trouble_of(kind: ErrorKind) -> Trouble
     }
 }
 
-/// What an error of a call that sends to one peer means. Where the machine keeps a frame from a peer
-/// (EPERM, EACCES), can't send to its address (EINVAL) or has no room for it, that frame is lost.
+/// What an error of a call that sends to one peer means. Where the machine keeps a frame from a
+/// peer (EPERM, EACCES), can't send to its address (EINVAL) or has no room for it, that frame is
+/// lost.
 fn trouble_of_sending(error: &io::Error) -> Trouble
     ensures interrupted { result ≡ Trouble.Interrupted
         ↔ (error_kind error.now ≡ ErrorKind.Interrupted) }
-    ensures lost { result ≡ Trouble.Lost ↔ IsTrue
-        (is_lost_sending (error_kind error.now) (raw_os_error error.now)) }
+    ensures lost { result ≡ Trouble.Lost
+        ↔ IsTrue (is_lost_sending (error_kind error.now) (raw_os_error error.now)) }
 {
     match error.kind() {
         ErrorKind::PermissionDenied | ErrorKind::InvalidInput => Trouble::Lost,
@@ -140,8 +141,8 @@ fn is_frame(datagram: &[u8]) -> bool
         && datagram[13] == AOE_TYPE[1]
 }
 
-/// Whether a turn in which something came that is no frame is over: as long after the first such thing
-/// as a call waits, and where the clock can't be read.
+/// Whether a turn in which something came that is no frame is over: as long after the first such
+/// thing as a call waits, and where the clock can't be read.
 fn is_over(rt: &HostRuntime, begun: &mut Option<Instant>) -> bool {
     let Ok(now) = Instant::now(rt) else {
         return true;
