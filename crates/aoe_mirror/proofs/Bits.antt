@@ -1,7 +1,7 @@
 -- Marks as the bits of words.
 use mir.Val.{bool_byte}
 use Rattle.std.proofs.Common.{◌≡◌, ◌≢◌, ℕ, zero, suc, ◌+◌, ◌-◌, ◌*◌, ◌/◌, ◌%◌, ◌^◌, ◌<◌, ◌≤◌, ◌⊎◌, Bool, true, false, not, cond, eqb, List, [], ◌∷◌, ◌++◌, length, replicate, take, drop, get_or, set, refl, sym, ◌∙◌, ap, inl, inr, arith, ext_get_or, length-set, get_or-set_same, get_or-set_other, eq-eqb, ne_eqb}
-use Rattle.std.proofs.lemmas.List.{append-nil, append_assoc, length-append, length-drop, length-take-le, take-append-drop, get_or_append_left, get_or-append_right, get_or-take, get_or-drop, length-replicate, get_or-replicate, get_or_past}
+use Rattle.std.proofs.lemmas.List.{append_assoc, length-append, length-drop, length-take-le, get_or_append_left, get_or-append_right, get_or-take, get_or-drop, length-replicate, get_or-replicate, get_or_past}
 use Rattle.std.proofs.lemmas.List.FromFn.{length-map-range_with_len, get_or-map-range_with_len}
 use Rattle.std.proofs.lemmas.Bool.{cases_Bool, cases_eq, cases_lt}
 use Rattle.std.proofs.lemmas.Nat.{one_shl, pow_pos}
@@ -189,9 +189,6 @@ clear_more marks at n k le clear more = λ s low high. elim (cases_lt s k) [
 ]
 
 -- marks put to one value one after another
-
-pub each_none : (marks : List Bool) (at : ℕ) (value : Bool) → at ≤ length marks → with_each marks at 0 value ≡ marks
-each_none marks at value le = let e : at + 0 ≡ at = omega arith in rw (e, append-nil, take-append-drop) refl
 
 module _ (marks : List Bool) (at n : ℕ) (value : Bool) (fits : at + n ≤ length marks) where
   front_each : length (take at marks) ≡ at

@@ -1,16 +1,16 @@
--- What a crash of all three disks leaves, and a mirror that is mounted.
+-- What a crash of all three disks leaves, and a mark disk that is read.
 use mir.Val.{bool_byte}
-use Rattle.std.proofs.Common.{◌≡◌, ◌≤◌, ◌<◌, ◌*◌, ◌==◌, ◌⊎◌, ℕ, Bool, true, false, Some, IfSome, List, [], length, take, drop, replicate, get_or, is_err, refl, sym, ap, ◌∙◌, inl, inr, arith, eq-eqb, if◌then◌else◌}
-use Rattle.std.proofs.lemmas.Bool.{both_ways, cases_Bool, cases_lt}
-use Rattle.std.proofs.lemmas.List.{drop_all, get_or-replicate, get_or-take, length-replicate}
-use Rattle.aoe_disk.specs.State.{CanLeave, Contents, DiskState, HasShape, IsDisk, BothTell, is_loose, sector}
+use Rattle.std.proofs.Common.{◌≡◌, ◌≤◌, ◌*◌, ◌==◌, ◌⊎◌, ℕ, Bool, true, false, Some, List, take, drop, get_or, is_err, refl, sym, ap, ◌∙◌, inl, inr, arith, eq-eqb, if◌then◌else◌}
+use Rattle.std.proofs.lemmas.Bool.{both_ways, cases_Bool}
+use Rattle.std.proofs.lemmas.List.{get_or-take}
+use Rattle.aoe_disk.specs.State.{CanLeave, Contents, DiskState, BothTell, is_loose, sector}
 use Rattle.aoe_disk.specs.Calls.{IsRun, Reads, SyncsTo}
 use Rattle.aoe_disk.specs.Sectors.{Calms}
 use Rattle.aoe_disk.proofs.Runs.{run_then}
 use Rattle.aoe_mirror.specs.Sides.{Agree, IsMirror, Names, Pair, Survives, both, named, reopened, seen}
 use Rattle.aoe_mirror.specs.Calls.{Answer}
 use Rattle.aoe_mirror.specs.Mirror.{ReadsMark}
-use Rattle.aoe_mirror.proofs.Told.{and_if, both_if, if_mono}
+use Rattle.aoe_mirror.proofs.Told.{and_if, if_mono}
 use Rattle.aoe_mirror.proofs.Whole.{Fit, seen_at}
 use Rattle.aoe_mirror.proofs.Quiet.{parts_in}
 use Rattle.aoe_mirror.proofs.Steps.{fit_of}
@@ -32,8 +32,7 @@ module _ (p : Pair) (m : IsMirror p) (sides : Contents × Contents) (mark : Cont
   agree : Agree p.settled p.stale sides
   agree = rw told at m.agree
 
-  parts : (s : ℕ) → is_loose (seen p.stale sides).loose s ≡ false → (is_loose sides.0.loose s ≡ false)
-      × ((is_loose sides.1.loose s ≡ false) ⊎ (is_loose p.stale s ≡ true))
+  parts : (s : ℕ) → is_loose (seen p.stale sides).loose s ≡ false → (is_loose sides.0.loose s ≡ false) × ((is_loose sides.1.loose s ≡ false) ⊎ (is_loose p.stale s ≡ true))
   parts s off = parts_in (is_loose sides.0.loose s) (is_loose sides.1.loose s) (is_loose p.stale s) (sym (seen_at p.lead.sectors p.stale sides s fit) ∙ off)
 
   from_lead : CanLeave (seen p.stale sides) one
@@ -66,35 +65,6 @@ module _ (p : Pair) (m : IsMirror p) (sides : Contents × Contents) (mark : Cont
 
 pub survives : (p : Pair) → IsMirror p → Survives p
 survives p m = λ sides mark one two three told marked lead follower left. survives_so p m sides mark one two three told marked lead follower left
-
--- MOUNTING
-
-past_end : (bytes : List ℕ) (n s : ℕ) → length bytes ≡ 512 * n → n ≤ s → sector bytes s ≡ []
-past_end bytes n s size le = rw (drop_all (512 * s) bytes (omega arith)) refl
-
-agree_stale : (n : ℕ) (settled : Bool) (sides : Contents × Contents) → settled ≡ true → Fit n (replicate n true) sides → Agree settled (replicate n true) sides
-agree_stale n settled sides is fit = record {
-  same = λ s off. elim (cases_lt s n) [
-    | inl within ↦ absurd (both_ways _ off (get_or-replicate n s true false within))
-    | inr past ↦ past_end sides.1.bytes n s fit.follower.bytes past ∙ sym (past_end sides.0.bytes n s fit.lead.bytes past)
-  ];
-  unsettled = λ isnt s on. absurd (both_ways settled isnt is);
-}
-
-pub mounted_mirror : (lead follower mark : DiskState) (side : ℕ) (stale : List Bool) → IsDisk lead → IsDisk follower → IsDisk mark
-    → follower.sectors ≡ lead.sectors → 0 < mark.sectors → side ≤ 1 → IfSome mark.contents (Names side) → stale ≡ replicate lead.sectors true
-    → IsMirror (record { lead = lead; follower = follower; mark = mark; side = side; stale = stale; settled = true })
-mounted_mirror lead follower mark side stale dl df dm size room le names e =
-    let shape : IfSome follower.contents (HasShape lead.sectors) = rw size at df.shape in
-    rw e (record {
-      lead = dl;
-      follower = df;
-      size = size;
-      mark = record { disk = dm; room = room; side = le; named = λ _. names };
-      marks = length-replicate lead.sectors true;
-      agree = if_mono (λ (sides : Contents × Contents). HasShape lead.sectors sides.0 × HasShape lead.sectors sides.1) (Agree true (replicate lead.sectors true)) (both lead.contents follower.contents) (both_if (HasShape lead.sectors) (HasShape lead.sectors) lead.contents follower.contents dl.shape shape)
-          (λ sides h. agree_stale lead.sectors true sides refl (record { lead = h.0; follower = h.1; marks = length-replicate lead.sectors true }));
-    })
 
 -- the mark disk, synced and read
 
