@@ -1,5 +1,5 @@
 -- What a run over two links is, and how it ends.
-use Rattle.std.specs.Prelude.{ℕ, ◌≡◌, Bool, true, false, List, [], ◌∷◌, Option, Result, Ok, Err, IfOk, nat_le, if◌then◌else◌}
+use Rattle.std.specs.Prelude.{ℕ, ◌≡◌, Bool, true, false, List, [], ◌∷◌, None, Option, Result, Ok, Err, IfOk, nat_le, if◌then◌else◌}
 use Rattle.aoe_io.specs.Bytes.{Took, TookSome}
 use Rattle.aoe_io.specs.Link.{Turn}
 use Rattle.aoe_live.specs.Stations.{stations}
@@ -7,7 +7,7 @@ use Rattle.aoe_live.specs.Rounds.{wire}
 use Rattle.aoe_live.specs.Whole.{outside, Lives, Outside}
 use Rattle.aoe_live.specs.declared.refusal.LiveRefusal.{LiveRefusal}
 use Rattle.aoe_live.specs.declared.refusal.LiveRefusal.TheVariants as refusal
-use Rattle.aoe_script.specs.Lines.{script_of}
+use Rattle.aoe_script.specs.Lines.{refusal as text_refusal, script_of}
 use Rattle.aoe_script.specs.Print.{script_text}
 use Rattle.aoe_script.specs.declared.event.Event.{Event}
 use Rattle.aoe_words.specs.declared.command.Live.{Live}
@@ -50,9 +50,10 @@ WritesScript sectors status.SinkFault (Ok events) held held' = TookSome held hel
 WritesScript sectors s (Ok events) held held' = ⊥
 WritesScript sectors s (Err r) held held' = (s ≡ live_status r) × (held' ≡ held)
 
--- a replay of it runs these lines
-abbrev pub ReadsBack : ℕ → List Event → Type 0
-ReadsBack sectors events = script_of (recorded sectors events) ≡ record { setups = stations sectors; events = events }
+-- a replay takes it, and runs these lines
+pub record ReadsBack (sectors : ℕ) (events : List Event) : Type 0 where
+  pub accepted : text_refusal (recorded sectors events) ≡ None
+  pub spells : script_of (recorded sectors events) ≡ record { setups = stations sectors; events = events }
 
 -- a run over two links and a clock: it ended so, and a sink took what was recorded
 pub record RunsLive (asked : Live) (s : Status) (held held' : Option (List ℕ)) (old new : Outside) : Type 0 where

@@ -1,5 +1,6 @@
 //! The call that the program makes.
 ghost use Rattle.std.specs.Prelude.{◌≡◌, ◌≢◌, ◌≤◌, ◌<◌, ◌+◌, ◌↔◌, ◌⊎◌, List, ℕ, false, true, All, length, map, string_bytes, IfSome, IsSome, None, Some};
+ghost use Rattle.std.specs.List.{list_all};
 ghost use Rattle.aoe_io.specs.Stream.{stream, IsFrame};
 ghost use Rattle.aoe_lists.specs.Settings.{Settings};
 ghost use Rattle.aoe_serve.specs.Exporting.{AtFirst, CanExport};
@@ -7,7 +8,7 @@ ghost use Rattle.aoe_world.specs.Replay.{IsFaultless};
 ghost use Rattle.aoe_script.specs.Lines.{refusal, script_of};
 ghost use Rattle.aoe_soak.specs.Soak.{soaked};
 ghost use Rattle.aoe_tools.specs.Runs.{told};
-ghost use Rattle.aoe_words.specs.Words.{CanSoak, IsInRange, command, file_count, file_names, link_count, port_words};
+ghost use Rattle.aoe_words.specs.Words.{CanSoak, IsInRange, command, file_count, file_names, is_word, link_count, port_words};
 ghost use Rattle.aoe_words.specs.declared.command.Answer.{Answer as Answers};
 ghost use Rattle.aoe_words.specs.declared.command.Serve.{Serve as Serves};
 ghost use Rattle.aoe_words.specs.declared.command.Get.{Get as Gets};
@@ -201,6 +202,7 @@ pub fn aoe<S: Source, K: Sink, D: Disk + Drop, L: Link, C: Clock>(
     requires there { All IsSome disks.old }
     requires links { length links.old ≡ length (port_words (map string_bytes words.now)) }
     ensures usage { (result ≡ Status.Usage) ↔ (command (map string_bytes words.now) ≡ None) × (result ≢ Status.NoMemory) }
+    ensures words { list_all is_word (map string_bytes words.now) ≡ false → result ≡ Status.Usage }
     ensures unchanged { result ≡ Status.Usage → (source.new ≡ source.old) × (sink.new ≡ sink.old) × (disks.new ≡ disks.old) × (links.new ≡ links.old) }
 
     // A keep is refused, or the run is one of the shelf law, or the history of a script is lawful and read as was written.

@@ -4,7 +4,7 @@ use Rattle.aoe_io.specs.Bytes.{Took, TookSome}
 use Rattle.aoe_live.specs.Whole.{Lives, Outside}
 use Rattle.aoe_live.specs.declared.refusal.LiveRefusal.{LiveRefusal}
 use Rattle.aoe_live.specs.declared.refusal.LiveRefusal.TheVariants as refusal
-use Rattle.aoe_script.specs.Lines.{script_of}
+use Rattle.aoe_script.specs.Lines.{refusal as text_refusal, script_of}
 use Rattle.aoe_script.specs.declared.event.Event.{Event}
 use Rattle.aoe_words.specs.declared.command.Live.{Live}
 use Rattle.aoe.specs.Live.{live_status, ReadsBack, RunsLive, WritesScript}
@@ -47,13 +47,13 @@ pub returns-in-Ok-give_all-clause-run : goal.returns-in-Ok-give_all-clause-run
 returns-in-Ok-give_all-clause-run g c =
     let s = c.in-Ok.ensures.script in
     let took = subst (λ (text : List ℕ). Took (g.K.Sink.held c.args.sink.now) (g.K.Sink.held c.give_all.new.sink) text) (c.bytes.ensures ∙ s.1) c.in-Ok-give_all.ensures.all in
-    ran _ _ (Ok s.0) _ _ _ _ _ c.from-sectors.ensures (sym (ap script_of s.1) ∙ s.2) s.3 took
+    ran _ _ (Ok s.0) _ _ _ _ _ c.from-sectors.ensures (record { accepted = sym (ap text_refusal s.1) ∙ s.3; spells = sym (ap script_of s.1) ∙ s.2 }) s.4 took
 
 pub returns-clause-run : goal.returns-clause-run
 returns-clause-run g c =
     let s = c.in-Ok.ensures.script in
     let took = subst (λ (text : List ℕ). TookSome (g.K.Sink.held c.args.sink.now) (g.K.Sink.held c.give_all.new.sink) text) (c.bytes.ensures ∙ s.1) c.in-Err-give_all.ensures.some in
-    ran _ _ (Ok s.0) _ _ _ _ _ c.from-sectors.ensures (sym (ap script_of s.1) ∙ s.2) s.3 took
+    ran _ _ (Ok s.0) _ _ _ _ _ c.from-sectors.ensures (record { accepted = sym (ap text_refusal s.1) ∙ s.3; spells = sym (ap script_of s.1) ∙ s.2 }) s.4 took
 
 pub returns-in-Err-clause-links : goal.returns-in-Err-clause-links
 returns-in-Err-clause-links g c =
