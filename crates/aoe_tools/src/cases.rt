@@ -13,8 +13,10 @@ ghost use Rattle.aoe_tools.specs.TransferRun.{AreRounds, Round};
 /// behind it a lower one, so that it waits for no write; bytes that no response brought.
 pub fn wrong_copies()
     ensures one_ticket { (base : Host) (turns : ℕ) (start : Course) (r : Round) (first second : Op)
-        → AreRounds base turns start (r ∷ []) → r.submits ≡ submission 1 second ∷ submission 1 first ∷ [] → ⊥ }
+        → AreRounds base turns start (r ∷ [])
+        → r.submits ≡ submission 1 second ∷ submission 1 first ∷ [] → ⊥ }
     ensures early_flush { (base : Host) (turns : ℕ) (start : Course) (r : Round) (bytes : List ℕ)
-        → AreRounds base turns start (r ∷ []) → r.submits ≡ submission 2 (op.Write 0 bytes) ∷ [] → ⊥ }
+        → AreRounds base turns start (r ∷ [])
+        → r.submits ≡ submission 2 (op.Write 0 bytes) ∷ [] → ⊥ }
     ensures unanswered { (max : ℕ) (bytes : List ℕ) → HasRead 7 max 1 (unanswered ∷ []) bytes → ⊥ }
 {}

@@ -15,19 +15,32 @@ ghost use Rattle.aoe_tools.specs.TransferRun.{submissions};
 /// has, one for each part and for a write the flush behind them, in their order and with the
 /// tickets 1, 2, 3 and so on; and each of them has one outcome at most.
 pub fn submitted_law()
-    ensures asked { (ask : Ask) (id : TargetId) (d : Device) (range : Range) (start : Course) (result : Result Course ToolRefusal) (before after : LinkState) (answers answers' : Option (List ℕ))
-        → IsFresh range d start → (x : RunsAll result ask id d start before after answers answers')
-        → IsFront (reverse (submissions x.runs.rounds)) (numbered 1 (all_operations range.writes start.block.parts)) }
-    ensures once { (ask : Ask) (id : TargetId) (d : Device) (start : Course) (result : Result Course ToolRefusal) (before after : LinkState) (answers answers' : Option (List ℕ))
-        → (x : RunsAll result ask id d start before after answers answers') → AreOfDistinct (outcomes x.runs.rounds) }
+    ensures asked { (ask : Ask) (id : TargetId) (d : Device) (range : Range) (start : Course)
+        (result : Result Course ToolRefusal)
+        (before after : LinkState) (answers answers' : Option (List ℕ))
+        → IsFresh range d start
+        → (x : RunsAll result ask id d start before after answers answers')
+        → IsFront (reverse (submissions x.runs.rounds))
+        (numbered 1 (all_operations range.writes start.block.parts)) }
+    ensures once { (ask : Ask) (id : TargetId) (d : Device) (start : Course)
+        (result : Result Course ToolRefusal)
+        (before after : LinkState) (answers answers' : Option (List ℕ))
+        → (x : RunsAll result ask id d start before after answers answers')
+        → AreOfDistinct (outcomes x.runs.rounds) }
 {}
 
 /// A law: where a read is all done, each part was asked for once, and the bytes are those of the
 /// responses, in order; where a write is, each part was acknowledged, and then the flush, which was
 /// submitted once all parts were.
 pub fn copied_law()
-    ensures read { (ask : Ask) (id : TargetId) (d : Device) (at count : ℕ) (start c : Course) (before after : LinkState) (answers answers' : Option (List ℕ))
-        → IsFresh (read_of at count) d start → (x : RunsAll (Ok c) ask id d start before after answers answers') → HasRead at d.max count x.runs.rounds (joined c.block.parts) }
-    ensures write { (ask : Ask) (id : TargetId) (d : Device) (at : ℕ) (bytes : List ℕ) (start c : Course) (before after : LinkState) (answers answers' : Option (List ℕ))
-        → IsFresh (write_of at bytes) d start → (x : RunsAll (Ok c) ask id d start before after answers answers') → HasWritten at d.max bytes x.runs.rounds }
+    ensures read { (ask : Ask) (id : TargetId) (d : Device) (at count : ℕ) (start c : Course)
+        (before after : LinkState) (answers answers' : Option (List ℕ))
+        → IsFresh (read_of at count) d start
+        → (x : RunsAll (Ok c) ask id d start before after answers answers')
+        → HasRead at d.max count x.runs.rounds (joined c.block.parts) }
+    ensures write { (ask : Ask) (id : TargetId) (d : Device) (at : ℕ) (bytes : List ℕ)
+        (start c : Course) (before after : LinkState) (answers answers' : Option (List ℕ))
+        → IsFresh (write_of at bytes) d start
+        → (x : RunsAll (Ok c) ask id d start before after answers answers')
+        → HasWritten at d.max bytes x.runs.rounds }
 {}
