@@ -118,6 +118,9 @@ module _ (ports : List PortKind) (vid : ℕ) where
       at true q is = place-carried (destination_of i.frame) (i ∷ inputs) q is
       at false q is = cc
 
+  pub going-carried : (inputs : List Passing) (i : Passing) → vlan_at ports i ≡ Some vid → All (λ q. carries_at vid (slice_get ports q) ≡ true) (going ports inputs i)
+  going-carried inputs i e k d below = (going-goes inputs i e k d below).0
+
   outputs-go : (i : Passing) (to : List ℕ) → All (Goes i.port) to → All (λ o. Goes i.port o.port) (given_in ports i to (Some vid))
   outputs-go i [] all = All-nil (λ (o : Passing). Goes i.port o.port)
   outputs-go i (q ∷ to) all =

@@ -55,6 +55,10 @@ taught own = map (λ a. (a, latest a own)) (learnt own)
 abbrev pub HasLearnt : Knowing → List Passing → Type 0
 HasLearnt switch inputs = (vid : ℕ) → IfSome (stations_of vid switch.tables) (λ stations. stations ≡ taught (inputs_of switch.ports vid inputs))
 
+-- there are inputs from which it learnt
+abbrev pub CanHaveLearnt : Knowing → Type 0
+CanHaveLearnt switch = (inputs : List Passing) × HasLearnt switch inputs
+
 -- each VLAN of a port has a table
 abbrev pub AreCovered : List PortKind → List Table → Type 0
 AreCovered ports tables = (vid : ℕ) → list_any (carries vid) ports ≡ true → IsSome (stations_of vid tables)

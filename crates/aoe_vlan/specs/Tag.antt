@@ -1,6 +1,6 @@
 -- The VLAN of a frame at a port, and the frame with a tag and without one (IEEE 802.1Q).
 use Rattle.std.specs.Prelude.{ℕ, ◌≡◌, ◌≤◌, true, ◌+◌, ◌*◌, ◌/◌, ◌%◌, ◌==◌, ◌&&◌, Bool, List, ◌∷◌, ◌++◌, length, take, drop, slice_index, nat_le, Option, Some, None, if◌then◌else◌}
-use Rattle.std.specs.List.{list_any, slice_range}
+use Rattle.std.specs.List.{list_all, list_any, slice_range}
 use Rattle.std.specs.Int.{w16, to_be_bytes}
 use Rattle.aoe_base.specs.Addresses.{is_individual, source_of}
 use Rattle.aoe_base.specs.declared.address.Mac.{Mac}
@@ -61,6 +61,14 @@ abbrev pub formed : PortKind → ℕ → List ℕ → List ℕ
 formed (Access number) vid frame = bare frame
 formed (Trunk numbers) vid frame = tagged (mark frame) vid (bare frame)
 
--- each number of the port is that of a VLAN: 0 and 4095 are none (IEEE 802.1Q, "Reserved VID values")
+-- a number of a VLAN: 0 and 4095 are none (IEEE 802.1Q, "Reserved VID values")
+abbrev pub is_vid : ℕ → Bool
+is_vid vid = nat_le 1 vid && nat_le vid 4094
+
+-- each number of the port is that of a VLAN
+abbrev pub is_numbered : PortKind → Bool
+is_numbered (Access vid) = is_vid vid
+is_numbered (Trunk numbers) = list_all is_vid numbers.items
+
 abbrev pub IsNumbered : PortKind → Type 0
 IsNumbered kind = (vid : ℕ) → carries vid kind ≡ true → (1 ≤ vid) × (vid ≤ 4094)

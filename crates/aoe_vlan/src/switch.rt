@@ -1,7 +1,8 @@
 //! The switch.
-ghost use Rattle.std.specs.Prelude.{◌≡◌, ◌<◌, ◌≤◌, ◌+◌, ◌==◌, ℕ, List, [], ◌∷◌, ◌++◌, All, length, IfOk, IsSome, None, OnOk, position, slice_get, true, if◌then◌else◌};
+ghost use Rattle.std.specs.Prelude.{◌≡◌, ◌<◌, ◌≤◌, ◌+◌, ◌==◌, ℕ, List, [], ◌∷◌, ◌++◌, All, length, IfOk, IfSome, IsSome, None, OnOk, position, slice_get, true, if◌then◌else◌};
+ghost use Rattle.std.specs.List.{list_all};
 ghost use Rattle.aoe_base.specs.Addresses.{is_individual, source_of};
-ghost use Rattle.aoe_vlan.specs.Tag.{IsNumbered, carries, destination_of, is_frame};
+ghost use Rattle.aoe_vlan.specs.Tag.{carries, destination_of, is_frame, is_numbered};
 ghost use Rattle.aoe_vlan.specs.Switched.{Passing, carries_at, formed_at, going, is_other, others, passing, toward, vlan_at};
 ghost use Rattle.aoe_vlan.specs.Tables.{HasLearnt, AreBlank, AreKept, found_in, learnt_in, stations_of};
 ghost use Rattle.arrayvec.specs.ArrayVec.{array_vec_len};
@@ -9,7 +10,7 @@ ghost use Rattle.arrayvec.specs.ArrayVec.{array_vec_len};
 use crate::port::PortKind;
 use crate::table::Table;
 use crate::tag::{Tagged, destination, put_bare, put_tagged, source};
-use aoe_base::{Mac, NoMemory};
+use aoe_base::NoMemory;
 use arrayvec::ArrayVec;
 use std::alloc::Global;
 use std::marker::Model;
@@ -21,6 +22,7 @@ pub const MAX_PORTS: usize = 16;
 pub type PortNumbers = ArrayVec<u8, MAX_PORTS>;
 
 /// Where a frame goes.
+#[derive(Debug, Drop)]
 pub struct Going {
     /// The VLAN that it is of.
     pub vid: Option<u16>,
@@ -40,7 +42,7 @@ pub struct Switch {
 
 impl Model for Switch {
     ghost use Rattle.std.specs.Prelude.{◌≤◌, length, All};
-    ghost use Rattle.aoe_vlan.specs.Tables.{AreCovered, Knowing};
+    ghost use Rattle.aoe_vlan.specs.Tables.{AreCovered, CanHaveLearnt, Knowing};
     ghost use Rattle.aoe_vlan.specs.Tag.{IsNumbered};
 
     ghost Value = { Knowing };
@@ -48,7 +50,8 @@ impl Model for Switch {
     ghost view = { λ s. record { ports = s.ports.items; tables = s.tables.items } };
 
     ghost invariant = { λ s. (length s.ports.items ≤ 16) × All IsNumbered s.ports.items
-        × AreCovered s.ports.items s.tables.items };
+        × AreCovered s.ports.items s.tables.items
+        × CanHaveLearnt record { ports = s.ports.items; tables = s.tables.items } };
 }
 
 /// Where the table of the VLAN stands.
@@ -117,7 +120,7 @@ impl Switch {
     /// ports.
     pub fn new(alloc: Global, ports: &[PortKind]) -> Result<Switch, NoMemory>
         requires few { length ports.now ≤ 16 }
-        requires numbers { All IsNumbered ports.now }
+        requires numbers { list_all is_numbered ports.now ≡ true }
         ensures ports { IfOk result (λ switch. switch.ports ≡ ports.now) }
         ensures nothing { IfOk result (λ switch. HasLearnt switch []) }
     {
@@ -131,6 +134,13 @@ impl Switch {
             ports: copies,
             tables,
         })
+    }
+
+    /// How many ports there are.
+    pub fn count(&self) -> usize
+        ensures { result ≡ length self.now.ports }
+    {
+        self.ports.len()
     }
 
     // Whether a port is one of a VLAN and another than `port`.
@@ -176,6 +186,9 @@ impl Switch {
             → result.ports.items ≡ going self.old.ports inputs (passing port frame.now) }
         ensures learnt { (inputs : List Passing) → HasLearnt self.old inputs
             → HasLearnt self.new (passing port frame.now ∷ inputs) }
+        ensures members { IfSome result.vid
+            (λ vid. All (λ q. carries_at vid (slice_get self.old.ports q) ≡ true) result.ports.items) }
+        ensures whole { IfSome result.vid (λ vid. is_frame frame.now ≡ true) }
         ensures same_ports { self.new.ports ≡ self.old.ports }
     {
         let Some(vid) = self.ports[port].vlan_of(frame) else {

@@ -5,6 +5,7 @@ use Rattle.std.proofs.lemmas.List.{take_all, take_more}
 use Rattle.aoe_vlan.specs.Tables.{AreBlank, Table}
 use Rattle.aoe_vlan.specs.Tag.{IsNumbered, carries}
 use Rattle.aoe_vlan.specs.declared.port.PortKind.{PortKind}
+use Rattle.aoe_vlan.proofs.PortLemmas.{all-numbered}
 use Rattle.aoe_vlan.proofs.TableLemmas.{covers-all, covers-more, covers-none}
 use Rattle.aoe_vlan.proofs.switch.Switch.new.Goals as goal
 
@@ -24,8 +25,9 @@ pub invariant_of-result : goal.invariant_of-result
 invariant_of-result c =
     let all : c.ports.copies.items ≡ c.args.ports.now = c.ports.invariant.0 ∙ take_all c.ports.port-index c.args.ports.now c.ports-test.false in (
       omega (arith, ap length all, c.requires.few),
-      subst (λ (l : List PortKind). All IsNumbered l) (sym all) c.requires.numbers,
+      subst (λ (l : List PortKind). All IsNumbered l) (sym all) (all-numbered c.args.ports.now c.requires.numbers),
       λ vid e. covers-all carries c.args.ports.now c.ports.port-index c.ports.tables.items c.ports-test.false c.ports.invariant.2 vid (ap (λ (l : List PortKind). list_any (carries vid) l) (sym all) ∙ e),
+      ([], c.ports.invariant.1),
     )
 
 pub returns-clause-ports : goal.returns-clause-ports

@@ -1,10 +1,11 @@
-use Rattle.std.proofs.Common.{◌<◌, List, ◌∷◌, None, cond, length, sym, ap, subst, ◌∙◌, arith}
+use Rattle.std.proofs.Common.{◌≡◌, ℕ, true, slice_get, ◌<◌, List, ◌∷◌, None, cond, length, sym, ap, subst, ◌∙◌, arith}
 use Rattle.aoe_base.specs.Addresses.{is_individual}
 use Rattle.aoe_vlan.specs.Tag.{destination_of}
-use Rattle.std.specs.Prelude.{IsSome}
-use Rattle.aoe_vlan.specs.Switched.{Passing, going, vlan_at}
+use Rattle.std.specs.Prelude.{All, IsSome}
+use Rattle.aoe_vlan.specs.Switched.{Passing, carries_at, going, vlan_at}
 use Rattle.aoe_vlan.specs.Tables.{HasLearnt, Knowing, Table, found_in, stations_of}
-use Rattle.aoe_vlan.proofs.TakeLemmas.{any-there, some-kept, takes-going, takes-some, vlan-there}
+use Rattle.aoe_vlan.proofs.TakeLemmas.{any-there, some-kept, takes-going, takes-some, vlan-frame, vlan-there}
+use Rattle.aoe_vlan.proofs.LawLemmas.{going-carried}
 use Rattle.aoe_vlan.proofs.switch.Switch.take.Goals as goal
 
 pub learn-place-requires-clause-table : goal.learn-place-requires-clause-table
@@ -14,7 +15,17 @@ learn-place-requires-clause-table c =
 
 pub invariant_of-self : goal.invariant_of-self
 invariant_of-self c =
-    (c.self.invariant.0, c.self.invariant.1, λ w any. subst (λ (l : List Table). IsSome (stations_of w l)) (sym c.learn-place.ensures.tables) (some-kept c.in-Some.vid w _ c.args.port c.self.inside.tables.items (c.self.invariant.2 w any)))
+    let s = c.self.inside in
+    let lt : c.args.port < length s.ports.items = omega (arith, c.requires, ap (λ (k : Knowing). length k.ports) c.self.view_is) in
+    let i : Passing = record { port = c.args.port; frame = c.args.frame.now } in
+    let there = vlan-there s.ports.items c.args.port c.index.result.now c.args.frame.now c.in-Some.vid lt c.index.ensures (sym c.vlan_of.ensures ∙ c.in-Some.is) in
+    let before = c.self.invariant.3 in
+    let after = takes-some s.ports.items s.tables.items before.0 i before.1 c.in-Some.vid there in (
+      c.self.invariant.0,
+      c.self.invariant.1,
+      λ w any. subst (λ (l : List Table). IsSome (stations_of w l)) (sym c.learn-place.ensures.tables) (some-kept c.in-Some.vid w _ c.args.port s.tables.items (c.self.invariant.2 w any)),
+      (i ∷ before.0, subst (λ (l : List Table). HasLearnt record { ports = s.ports.items; tables = l } (i ∷ before.0)) (sym c.learn-place.ensures.tables) after),
+    )
 
 pub returns-clause-vid : goal.returns-clause-vid
 returns-clause-vid c =
@@ -45,3 +56,22 @@ returns-clause-learnt c = λ inputs learnt w.
     let before = subst (λ (k : Knowing). HasLearnt k inputs) (sym c.self.view_is) learnt in
     let after = takes-some s.ports.items s.tables.items inputs i before c.in-Some.vid there in
     subst (λ (l : List Table). HasLearnt record { ports = s.ports.items; tables = l } (i ∷ inputs)) (sym c.learn-place.ensures.tables) after w
+
+pub returns-clause-whole : goal.returns-clause-whole
+returns-clause-whole c = vlan-frame c.index.result.now c.args.frame.now c.in-Some.vid (sym c.vlan_of.ensures ∙ c.in-Some.is)
+
+pub returns-clause-members : goal.returns-clause-members
+returns-clause-members c =
+    let s = c.self.inside in
+    let lt : c.args.port < length s.ports.items = omega (arith, c.requires, ap (λ (k : Knowing). length k.ports) c.self.view_is) in
+    let i : Passing = record { port = c.args.port; frame = c.args.frame.now } in
+    let kind = c.index.result.now in
+    let is = sym c.vlan_of.ensures ∙ c.in-Some.is in
+    let there = vlan-there s.ports.items c.args.port kind c.args.frame.now c.in-Some.vid lt c.index.ensures is in
+    let table = c.self.invariant.2 c.in-Some.vid (any-there s.ports.items c.args.port kind c.args.frame.now c.in-Some.vid lt c.index.ensures is) in
+    let before = c.self.invariant.3 in
+    let place = ap (λ l. cond (is_individual (destination_of i.frame)) (found_in c.in-Some.vid l (destination_of i.frame)) None) c.learn-place.ensures.tables in
+    let to : c.toward.result.items ≡ going s.ports.items before.0 i =
+    c.toward.ensures ∙ takes-going s.ports.items s.tables.items before.0 i before.1 c.in-Some.vid there c.learn-place.result table (c.learn-place.ensures.place ∙ place) in
+    let goes = subst (λ (l : List ℕ). All (λ q. carries_at c.in-Some.vid (slice_get s.ports.items q) ≡ true) l) (sym to) (going-carried s.ports.items c.in-Some.vid before.0 i there) in
+    subst (λ (k : Knowing). All (λ q. carries_at c.in-Some.vid (slice_get k.ports q) ≡ true) c.toward.result.items) c.self.view_is goes
