@@ -51,7 +51,8 @@ behind-frames [] fs rest came all e = record { few = omega arith; is = sym e }
 behind-frames (a ∷ h) fs rest came all e =
     let before : Behind (length h) fs (framed a.frame ++ rest) = behind-frames h fs (framed a.frame ++ rest) (all-front (frames h) a.frame came) all
     (e ∙ ap (λ (t : List ℕ). t ++ rest) (stream-frame (frames h) a.frame) ∙ append_assoc (stream (frames h)) (framed a.frame) rest) in
-    let first : First rest (drop (length h) fs) = first-frame a.frame rest (drop (length h) fs) (all-last (frames h) a.frame came) (All-drop IsFrame (length h) fs all) before.is in
+    let first : First rest (drop (length h) fs) =
+    first-frame a.frame rest (drop (length h) fs) (all-last (frames h) a.frame came) (All-drop IsFrame (length h) fs all) before.is in
     record {
       few = omega (arith, first.some, length-drop (length h) fs);
       is = first.behind ∙ ap stream (drop-drop 1 (length h) fs ∙ ap (λ (n : ℕ). drop n fs) (add-one (length h)));
@@ -109,20 +110,23 @@ no-fault before after fine rose = let more = rose fine.room in omega (arith, fin
 
 module _ {D S K L : Type 0} (state : D → DiskState) (t : Tells S K L) (s : Status) (a b : Outside S K L) (disks disks' : List (Option D))
     (fine : (slot : ℕ) → OnSlot (λ file file' _ _. IsFaultless (state file).faults (state file').faults) slot disks disks') where
-  answers-by : (e : RunEnd) (old new : List Slot) (fs : List (List ℕ)) → HasRun t plan.Answer e a b old new → s ≡ ended_by e → t.left a.source ≡ Some (stream fs) → All IsFrame fs → length fs < 4294967295
+  answers-by : (e : RunEnd) (old new : List Slot) (fs : List (List ℕ)) → HasRun t plan.Answer e a b old new → s ≡ ended_by e
+      → t.left a.source ≡ Some (stream fs) → All IsFrame fs → length fs < 4294967295
       → s ≢ status.SourceFault → s ≢ status.SinkFault → s ≡ status.Ok
   answers-by (end.Served e) old new fs ran is left_is all few source sink = absurd ran
   answers-by (end.Answered e) old new fs ran is left_is all few source sink =
       let P : Option (List ℕ) → Type 0 = λ l. Answered e l (t.left b.source) (t.held a.sink) (t.held b.sink) old new in
       is ∙ answered-whole e (t.left b.source) (t.held a.sink) (t.held b.sink) old new fs (subst P left_is ran.answered) all few (λ x. source (is ∙ x)) (λ x. sink (is ∙ x))
 
-  pub answers : (asked : Answers) (fs : List (List ℕ)) → Ran state (Answer asked) t s a b disks disks' → t.left a.source ≡ Some (stream fs) → All IsFrame fs → length fs < 4294967295
+  pub answers : (asked : Answers) (fs : List (List ℕ)) → Ran state (Answer asked) t s a b disks disks' → t.left a.source ≡ Some (stream fs) → All IsFrame fs
+      → length fs < 4294967295
       → s ≢ status.SourceFault → s ≢ status.SinkFault → s ≡ status.Ok
   answers asked fs r left_is all few source sink =
       let synced = all-synced state _ _ _ t plan.Answer r.exported a b disks disks' r.run fine in
       answers-by r.exported.end r.run.first r.run.run.middle fs r.run.run.ran (r.ends ∙ all-synced-same (ended_by r.exported.end) r.exported.unsynced synced) left_is all few source sink
 
-  serves-by : (e : RunEnd) (limit idle : ℕ) (old new : List Slot) → HasRun t (plan.Serve limit idle) e a b old new → s ≡ ended_by e → s ≢ status.LinkFault 0 → s ≡ status.Ok
+  serves-by : (e : RunEnd) (limit idle : ℕ) (old new : List Slot) → HasRun t (plan.Serve limit idle) e a b old new → s ≡ ended_by e → s ≢ status.LinkFault 0
+      → s ≡ status.Ok
   serves-by (end.Answered e) limit idle old new ran is link = absurd ran
   serves-by (end.Served serve.Ended) limit idle old new ran is link = is
   serves-by (end.Served serve.LinkFault) limit idle old new ran is link = absurd (link is)
@@ -133,7 +137,8 @@ module _ {D S K L : Type 0} (state : D → DiskState) (t : Tells S K L) (s : Sta
       serves-by r.exported.end asked.frames asked.idle r.run.first r.run.run.middle r.run.run.ran (r.ends ∙ all-synced-same (ended_by r.exported.end) r.exported.unsynced synced) link
 
 -- a link that didn't fail isn't told as one that did
-pub link-fine : {L : Type 0} (faults : L → ℕ) (links links' : List L) → AtFirst (λ a b. IsFaultless (faults a) (faults b)) links links' → AtFirst (λ a b. Rose (faults a) (faults b)) links links' → 0 < length links → ⊥
+pub link-fine : {L : Type 0} (faults : L → ℕ) (links links' : List L) → AtFirst (λ a b. IsFaultless (faults a) (faults b)) links links'
+    → AtFirst (λ a b. Rose (faults a) (faults b)) links links' → 0 < length links → ⊥
 link-fine faults [] links' fine rose some = omega (arith, some)
 link-fine faults (l ∷ links) [] fine rose some = fine
 link-fine faults (l ∷ links) (l' ∷ links') fine rose some = no-fault (faults l) (faults l') fine.0 rose.0

@@ -37,7 +37,8 @@ pub record Stands {D : Type 0} (state : D → DiskState) (first last : List Slot
   pub kept : BothTell KeepsSettled b.device.store.contents (state file').contents
   pub mounted : HasMounted (state keep) a.device.keep a.device.lists
 
-stands-first : {D : Type 0} (state : D → DiskState) (most : ℕ) (name : ℕ → Station) (a b : Slot) (first last : List Slot) (file file' keep keep' : D) → IsOver state most name file file' keep keep' a b
+stands-first : {D : Type 0} (state : D → DiskState) (most : ℕ) (name : ℕ → Station) (a b : Slot) (first last : List Slot) (file file' keep keep' : D)
+    → IsOver state most name file file' keep keep' a b
     → Stands state (a ∷ first) (b ∷ last) 0 file file' keep keep'
 stands-first state most name a b first last file file' keep keep' over = record {
   a = a;
@@ -50,7 +51,8 @@ stands-first state most name a b first last file file' keep keep' over = record 
   mounted = over.mounted;
 }
 
-stands-then : {D : Type 0} (state : D → DiskState) (x y : Slot) (first last : List Slot) (slot : ℕ) (file file' keep keep' : D) → Stands state first last slot file file' keep keep'
+stands-then : {D : Type 0} (state : D → DiskState) (x y : Slot) (first last : List Slot) (slot : ℕ) (file file' keep keep' : D)
+    → Stands state first last slot file file' keep keep'
     → Stands state (x ∷ first) (y ∷ last) (suc slot) file file' keep keep'
 stands-then state x y first last slot file file' keep keep' s = record { a = s.a; b = s.b; at_first = s.at_first; at_last = s.at_last; faults = s.faults; faults_back = s.faults_back; kept = s.kept; mounted = s.mounted }
 
@@ -60,8 +62,10 @@ record Over {D : Type 0} (state : D → DiskState) (disks disks' : List (Option 
   stands : (slot : ℕ) → OnSlot (Stands state first last slot) slot disks disks'
   has : (slot : ℕ) → slot < length first → Disks slot disks disks'
 
-over-then : {D : Type 0} (state : D → DiskState) (most : ℕ) (name : ℕ → Station) (a b : Slot) (first last : List Slot) (file file' keep keep' : D) (disks disks' : List (Option D))
-    → IsOver state most name file file' keep keep' a b → Over state disks disks' first last → Over state (Some file ∷ Some keep ∷ disks) (Some file' ∷ Some keep' ∷ disks') (a ∷ first) (b ∷ last)
+over-then : {D : Type 0} (state : D → DiskState) (most : ℕ) (name : ℕ → Station) (a b : Slot) (first last : List Slot) (file file' keep keep' : D)
+    (disks disks' : List (Option D))
+    → IsOver state most name file file' keep keep' a b → Over state disks disks' first last
+    → Over state (Some file ∷ Some keep ∷ disks) (Some file' ∷ Some keep' ∷ disks') (a ∷ first) (b ∷ last)
 over-then state most name a b first last file file' keep keep' disks disks' over rest = record { count = omega (arith, rest.count); stands = stand; has = disk }
   where
     stand : (slot : ℕ) → OnSlot (Stands state (a ∷ first) (b ∷ last) slot) slot (Some file ∷ Some keep ∷ disks) (Some file' ∷ Some keep' ∷ disks')
@@ -73,7 +77,8 @@ over-then state most name a b first last file file' keep keep' disks disks' over
     disk zero below = disks-first file file' keep keep' disks disks'
     disk (suc slot) below = disks-then slot (Some file) (Some keep) (Some file') (Some keep') disks disks' (rest.has slot (omega (arith, below)))
 
-over : {D : Type 0} (state : D → DiskState) (most : ℕ) (name : ℕ → ℕ → Station) (minor : ℕ) (disks disks' : List (Option D)) (first last : List Slot) → OverFiles state most name minor disks disks' first last → Over state disks disks' first last
+over : {D : Type 0} (state : D → DiskState) (most : ℕ) (name : ℕ → ℕ → Station) (minor : ℕ) (disks disks' : List (Option D)) (first last : List Slot)
+    → OverFiles state most name minor disks disks' first last → Over state disks disks' first last
 over state most name minor (Some f ∷ Some k ∷ disks) (Some f' ∷ Some k' ∷ disks') (a ∷ first) (b ∷ last) x = over-then state most (name minor) a b first last f f' k k' disks disks' x.0 (over state most name (minor + 1) disks disks' first last x.1)
 over state most name minor (Some f ∷ Some k ∷ disks) (Some f' ∷ Some k' ∷ disks') (a ∷ first) [] x = absurd x
 over state most name minor (Some f ∷ Some k ∷ disks) (Some f' ∷ Some k' ∷ disks') [] last x = absurd x
@@ -188,7 +193,8 @@ module _ {D S K L : Type 0} (state : D → DiskState) (most : ℕ) (name : ℕ �
         counted = subst P s.faults is.store_faults;
       }
 
-  rose-in : (slot : ℕ) (file file' : D) → is_err (get_or x.run.results slot (Ok tt)) ≡ true → LastSync slot file file' → Rose (state file).faults (state file').faults
+  rose-in : (slot : ℕ) (file file' : D) → is_err (get_or x.run.results slot (Ok tt)) ≡ true → LastSync slot file file'
+      → Rose (state file).faults (state file').faults
   rose-in slot file file' failed l =
       subst (λ (n : ℕ). Rose (state file).faults n) l.back (rose_then (state file).faults l.count l.before.faults l.after.faults l.counted l.sync.call.later (sync-failed (get_or x.run.results slot (Ok tt)) l.before l.after failed l.sync))
 

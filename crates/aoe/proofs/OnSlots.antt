@@ -14,12 +14,14 @@ keep-behind : {X : Type 0} (x y : X) (xs : List X) (slot : ℕ) → slice_get (x
 keep-behind x y xs slot = let same : 2 * suc slot + 1 ≡ suc (suc (2 * slot + 1)) = omega arith in ap (slice_get (x ∷ y ∷ xs)) same
 
 module _ {D : Type 0} (R : D → D → D → D → Type 0) where
-  pub on-first : (file file' keep keep' : D) (disks disks' : List (Option D)) → R file file' keep keep' → OnSlot R 0 (Some file ∷ Some keep ∷ disks) (Some file' ∷ Some keep' ∷ disks')
+  pub on-first : (file file' keep keep' : D) (disks disks' : List (Option D)) → R file file' keep keep'
+      → OnSlot R 0 (Some file ∷ Some keep ∷ disks) (Some file' ∷ Some keep' ∷ disks')
   on-first file file' keep keep' disks disks' r f f' k k' ef ef' ek ek' =
       subst (λ (x : D). R x f' k k') (same-disk file f ef) (subst (λ (x : D). R file x k k') (same-disk file' f' ef')
       (subst (λ (x : D). R file file' x k') (same-disk keep k ek) (subst (λ (x : D). R file file' keep x) (same-disk keep' k' ek') r)))
 
-  pub on-then : (slot : ℕ) (x y x' y' : Option D) (disks disks' : List (Option D)) → OnSlot R slot disks disks' → OnSlot R (suc slot) (x ∷ y ∷ disks) (x' ∷ y' ∷ disks')
+  pub on-then : (slot : ℕ) (x y x' y' : Option D) (disks disks' : List (Option D)) → OnSlot R slot disks disks'
+      → OnSlot R (suc slot) (x ∷ y ∷ disks) (x' ∷ y' ∷ disks')
   on-then slot x y x' y' disks disks' on f f' k k' ef ef' ek ek' =
       on f f' k k' (sym (file-behind x y disks slot) ∙ ef) (sym (file-behind x' y' disks' slot) ∙ ef') (sym (keep-behind x y disks slot) ∙ ek) (sym (keep-behind x' y' disks' slot) ∙ ek')
 
@@ -28,7 +30,8 @@ module _ {D : Type 0} (R : D → D → D → D → Type 0) where
   on-none slot [] disks' empty f f' k k' ef ef' ek ek' = absurd cc
   on-none slot (d ∷ disks) disks' empty f f' k k' ef ef' ek ek' = absurd (omega (arith, empty))
 
-pub on-map : {D : Type 0} (R T : D → D → D → D → Type 0) (slot : ℕ) (disks disks' : List (Option D)) → ((f f' k k' : D) → R f f' k k' → T f f' k k') → OnSlot R slot disks disks' → OnSlot T slot disks disks'
+pub on-map : {D : Type 0} (R T : D → D → D → D → Type 0) (slot : ℕ) (disks disks' : List (Option D)) → ((f f' k k' : D) → R f f' k k' → T f f' k k')
+    → OnSlot R slot disks disks' → OnSlot T slot disks disks'
 on-map R T slot disks disks' m on f f' k k' ef ef' ek ek' = m f f' k k' (on f f' k k' ef ef' ek ek')
 
 -- a slot's disks, before and after
@@ -42,10 +45,12 @@ pub record Disks {D : Type 0} (slot : ℕ) (disks disks' : List (Option D)) : Ty
   pub keep_is : slice_get disks (keep_at slot) ≡ Some (Some keep)
   pub keep_is' : slice_get disks' (keep_at slot) ≡ Some (Some keep')
 
-pub disks-first : {D : Type 0} (file file' keep keep' : D) (disks disks' : List (Option D)) → Disks 0 (Some file ∷ Some keep ∷ disks) (Some file' ∷ Some keep' ∷ disks')
+pub disks-first : {D : Type 0} (file file' keep keep' : D) (disks disks' : List (Option D))
+    → Disks 0 (Some file ∷ Some keep ∷ disks) (Some file' ∷ Some keep' ∷ disks')
 disks-first file file' keep keep' disks disks' = record { file = file; file' = file'; keep = keep; keep' = keep'; file_is = refl; file_is' = refl; keep_is = refl; keep_is' = refl }
 
-pub disks-then : {D : Type 0} (slot : ℕ) (x y x' y' : Option D) (disks disks' : List (Option D)) → Disks slot disks disks' → Disks (suc slot) (x ∷ y ∷ disks) (x' ∷ y' ∷ disks')
+pub disks-then : {D : Type 0} (slot : ℕ) (x y x' y' : Option D) (disks disks' : List (Option D)) → Disks slot disks disks'
+    → Disks (suc slot) (x ∷ y ∷ disks) (x' ∷ y' ∷ disks')
 disks-then slot x y x' y' disks disks' d = record {
   file = d.file;
   file' = d.file';

@@ -88,7 +88,8 @@ live-not-refused s e = grind (arith, e)
 -- What became of a keep.
 
 pub data KeepIs {D : Type 0} (state : D → DiskState) (s : Status) (slot : ℕ) (keep keep' : D) : Type 0 where
-  is_mounted : (after : DiskState) (lists : Settings) → HasMounted (state keep) after lists → ((k : ℕ) → refused_slot s ≡ Some k → slot < k) → KeepIs state s slot keep keep'
+  is_mounted : (after : DiskState) (lists : Settings) → HasMounted (state keep) after lists → ((k : ℕ) → refused_slot s ≡ Some k → slot < k)
+      → KeepIs state s slot keep keep'
   is_refused : (r : MountRefusal) → IsRefused state keep r keep' → s ≡ refused_as slot r → KeepIs state s slot keep keep'
   is_behind : (k : ℕ) → refused_slot s ≡ Some k → k < slot → KeepIs state s slot keep keep'
   no_memory : s ≡ status.NoMemory → KeepIs state s slot keep keep'
@@ -102,7 +103,8 @@ pub data Given {D : Type 0} (state : D → DiskState) (refused : ℕ) (r : Mount
   here : slot ≡ refused → IsRefused state keep r keep' → Given state refused r slot keep keep'
   behind : refused < slot → Given state refused r slot keep keep'
 
-given-then : {D : Type 0} (state : D → DiskState) (refused : ℕ) (r : MountRefusal) (slot : ℕ) (keep keep' : D) → Given state refused r slot keep keep' → Given state (suc refused) r (suc slot) keep keep'
+given-then : {D : Type 0} (state : D → DiskState) (refused : ℕ) (r : MountRefusal) (slot : ℕ) (keep keep' : D) → Given state refused r slot keep keep'
+    → Given state (suc refused) r (suc slot) keep keep'
 given-then state refused r slot keep keep' (before below lists mounted) = before (omega (arith, below)) lists mounted
 given-then state refused r slot keep keep' (here is why) = here (omega (arith, is)) why
 given-then state refused r slot keep keep' (behind above) = behind (omega (arith, above))
@@ -112,14 +114,16 @@ pub record Backed {D : Type 0} (state : D → DiskState) (refused : ℕ) (r : Mo
   pub within : keep_at refused < length disks
   pub each : (slot : ℕ) → OnSlot (λ _ _ keep keep'. Given state refused r slot keep keep') slot disks disks'
 
-backed-here : {D : Type 0} (state : D → DiskState) (r : MountRefusal) (f f' k k' : D) (disks disks' : List (Option D)) → IsRefused state k r k' → Backed state 0 r (Some f ∷ Some k ∷ disks) (Some f' ∷ Some k' ∷ disks')
+backed-here : {D : Type 0} (state : D → DiskState) (r : MountRefusal) (f f' k k' : D) (disks disks' : List (Option D)) → IsRefused state k r k'
+    → Backed state 0 r (Some f ∷ Some k ∷ disks) (Some f' ∷ Some k' ∷ disks')
 backed-here state r f f' k k' disks disks' why = record { within = omega arith; each = at }
   where
     at : (slot : ℕ) → OnSlot (λ _ _ keep keep'. Given state 0 r slot keep keep') slot (Some f ∷ Some k ∷ disks) (Some f' ∷ Some k' ∷ disks')
     at zero = on-first (λ _ _ keep keep'. Given state 0 r 0 keep keep') f f' k k' disks disks' (here refl why)
     at (suc slot) = λ _ _ keep keep' _ _ _ _. behind (omega arith)
 
-backed-then : {D : Type 0} (state : D → DiskState) (refused : ℕ) (r : MountRefusal) (f f' k k' : D) (disks disks' : List (Option D)) (lists : Settings) → HasMounted (state k) (state k') lists
+backed-then : {D : Type 0} (state : D → DiskState) (refused : ℕ) (r : MountRefusal) (f f' k k' : D) (disks disks' : List (Option D)) (lists : Settings)
+    → HasMounted (state k) (state k') lists
     → Backed state refused r disks disks' → Backed state (suc refused) r (Some f ∷ Some k ∷ disks) (Some f' ∷ Some k' ∷ disks')
 backed-then state refused r f f' k k' disks disks' lists mounted b = record { within = omega (arith, b.within); each = at }
   where
@@ -130,7 +134,8 @@ backed-then state refused r f f' k k' disks disks' lists mounted b = record { wi
         (on-map (λ _ _ keep keep'. Given state refused r slot keep keep') (λ _ _ keep keep'. Given state (suc refused) r (suc slot) keep keep') slot disks disks'
         (λ _ _ keep keep' g. given-then state refused r slot keep keep' g) (b.each slot))
 
-pub backed : {D : Type 0} (state : D → DiskState) (refused : ℕ) (r : MountRefusal) (disks disks' : List (Option D)) → GivesBack state refused r disks disks' → Backed state refused r disks disks'
+pub backed : {D : Type 0} (state : D → DiskState) (refused : ℕ) (r : MountRefusal) (disks disks' : List (Option D)) → GivesBack state refused r disks disks'
+    → Backed state refused r disks disks'
 backed state zero r (Some f ∷ Some k ∷ disks) (Some f' ∷ Some k' ∷ disks') back = backed-here state r f f' k k' disks disks' back.0.why
 backed state (suc refused) r (Some f ∷ Some k ∷ disks) (Some f' ∷ Some k' ∷ disks') back = backed-then state refused r f f' k k' disks disks' back.0.lists back.0.mounted (backed state refused r disks disks' back.1)
 backed state zero r (Some f ∷ Some k ∷ disks) (Some f' ∷ None ∷ disks') back = absurd back
@@ -228,7 +233,8 @@ module _ {D : Type 0} (state : D → DiskState) (s : Status) (slot : ℕ) (keep 
   pub small-of : (sectors : ℕ) → KeepIs state s slot keep keep' → (s ≡ status.KeepSmall (keep_at slot) sectors) ↔ IsSmall (state keep) s slot sectors
   small-of sectors is = (small-to sectors is, small-from sectors is)
 
-  bad-to : (c : Contents) → (state keep).contents ≡ Some c → (k : ℕ) → KeepIs state s slot keep keep' → s ≡ status.KeepBad (keep_at slot) k → IsBad (state keep) c s slot k
+  bad-to : (c : Contents) → (state keep).contents ≡ Some c → (k : ℕ) → KeepIs state s slot keep keep' → s ≡ status.KeepBad (keep_at slot) k
+      → IsBad (state keep) c s slot k
   bad-to c told k (is_mounted after lists m later) e = absurd (omega (arith, later slot (bad-slot k e)))
   bad-to c told k (is_behind j is below) e = absurd (omega (arith, told-as j (bad-slot k e) is, below))
   bad-to c told k (no_memory is) e = absurd cc
@@ -239,7 +245,8 @@ module _ {D : Type 0} (state : D → DiskState) (s : Status) (slot : ℕ) (keep 
       let bad : found c.bytes ≡ Err n = told-of (λ a. found a.bytes ≡ Err n) c (state keep).contents (state keep').contents why.1 told in
       (why.0, bad ∙ ap Err same, front-false (bad-slot k e), λ f. cc, λ f. cc)
 
-  bad-from : (c : Contents) → (state keep).contents ≡ Some c → (k : ℕ) → KeepIs state s slot keep keep' → IsBad (state keep) c s slot k → s ≡ status.KeepBad (keep_at slot) k
+  bad-from : (c : Contents) → (state keep).contents ≡ Some c → (k : ℕ) → KeepIs state s slot keep keep' → IsBad (state keep) c s slot k
+      → s ≡ status.KeepBad (keep_at slot) k
   bad-from c told k (is_mounted after lists m later) bad =
       absurd (found-one c lists k (told-of (λ a. found a.bytes ≡ Ok lists) c (state keep).contents after.contents m.mounts.stands told) bad.1)
   bad-from c told k (is_behind j is below) bad = absurd (not-both (refused_before slot s) (behind-true j is below) bad.2)
@@ -250,16 +257,19 @@ module _ {D : Type 0} (state : D → DiskState) (s : Status) (slot : ℕ) (keep 
       let same : n ≡ k = same-bad c n k (told-of (λ a. found a.bytes ≡ Err n) c (state keep).contents (state keep').contents why.1 told) bad.1 in
       is ∙ ap (λ (j : ℕ). status.KeepBad (keep_at slot) j) same
 
-  bad-told : (k : ℕ) (o : Option Contents) → (state keep).contents ≡ o → KeepIs state s slot keep keep' → IfSome o (λ c. (s ≡ status.KeepBad (keep_at slot) k) ↔ IsBad (state keep) c s slot k)
+  bad-told : (k : ℕ) (o : Option Contents) → (state keep).contents ≡ o → KeepIs state s slot keep keep'
+      → IfSome o (λ c. (s ≡ status.KeepBad (keep_at slot) k) ↔ IsBad (state keep) c s slot k)
   bad-told k None told is = tt
   bad-told k (Some c) told is = (bad-to c told k is, bad-from c told k is)
 
   -- a keep is refused as bad exactly where its sectors were read and hold no lists
-  pub bad-of : (k : ℕ) → KeepIs state s slot keep keep' → IfSome (state keep).contents (λ c. (s ≡ status.KeepBad (keep_at slot) k) ↔ IsBad (state keep) c s slot k)
+  pub bad-of : (k : ℕ) → KeepIs state s slot keep keep' → IfSome (state keep).contents
+      (λ c. (s ≡ status.KeepBad (keep_at slot) k) ↔ IsBad (state keep) c s slot k)
   bad-of k is = bad-told k (state keep).contents refl is
 
   -- a keep that holds lists is mounted where its disk doesn't fail
-  pub mounted-of : (lists : Settings) → KeepIs state s slot keep keep' → HasLists (state keep) lists → IsFaultless (state keep).faults (state keep').faults → refused_slot s ≡ Some slot → ⊥
+  pub mounted-of : (lists : Settings) → KeepIs state s slot keep keep' → HasLists (state keep) lists → IsFaultless (state keep).faults (state keep').faults
+      → refused_slot s ≡ Some slot → ⊥
   mounted-of lists (is_mounted after found m later) has fine e = omega (arith, later slot e)
   mounted-of lists (is_behind k is below) has fine e = omega (arith, told-as k e is, below)
   mounted-of lists (no_memory is) has fine e = cc
@@ -271,7 +281,8 @@ module _ {D : Type 0} (state : D → DiskState) (s : Status) (slot : ℕ) (keep 
 -- What the status says of the last syncs.
 
 -- the slot whose last sync failed
-unsynced-disk : (end : RunEnd) (unsynced : Option ℕ) (disk : ℕ) → status.DiskFault disk ≡ after_syncs (ended_by end) unsynced → (slot : ℕ) × (unsynced ≡ Some slot) × (disk ≡ file_at slot)
+unsynced-disk : (end : RunEnd) (unsynced : Option ℕ) (disk : ℕ) → status.DiskFault disk ≡ after_syncs (ended_by end) unsynced
+    → (slot : ℕ) × (unsynced ≡ Some slot) × (disk ≡ file_at slot)
 unsynced-disk (Answered answer.Ended) None disk e = absurd cc
 unsynced-disk (Answered answer.Ended) (Some k) disk e = (k, refl, cc)
 unsynced-disk (Answered answer.SourceFault) unsynced disk e = absurd cc
@@ -332,7 +343,8 @@ data Runs {D S K L : Type 0} (state : D → DiskState) (t : Tells S K L) (s : St
   over_files : (rack : Rack) (p : Plan) → RanFiles state rack p t s a b disks disks' → Runs state t s a b disks disks'
   over_none : length disks ≡ 0 → ((disk : ℕ) → s ≢ status.DiskFault disk) → Runs state t s a b disks disks'
 
-runs-of : {D S K L : Type 0} (state : D → DiskState) (command : Command) (t : Tells S K L) (s : Status) (a b : Outside S K L) (disks disks' : List (Option D)) → length disks ≡ file_count command
+runs-of : {D S K L : Type 0} (state : D → DiskState) (command : Command) (t : Tells S K L) (s : Status) (a b : Outside S K L) (disks disks' : List (Option D))
+    → length disks ≡ file_count command
     → Ran state command t s a b disks disks' → Runs state t s a b disks disks'
 runs-of state (command.Answer answer) t s a b disks disks' count run = over_files _ _ run
 runs-of state (command.Serve serve) t s a b disks disks' count run = over_files _ _ run
@@ -376,7 +388,8 @@ module _ {D S K L : Type 0} (state : D → DiskState) (command : Command) (t : T
           on-map (λ _ _ keep keep'. Given state n r.refusal slot keep keep') (λ _ _ keep keep'. KeepIs state s slot keep keep') slot disks disks'
           (λ _ _ keep keep' g. at n r is keep keep' g) ((backed state n r.refusal disks disks' r.back).each slot)
         where
-          at : (n : ℕ) (r : Refused state s n disks disks') → refused_slot s ≡ Some n → (keep keep' : D) → Given state n r.refusal slot keep keep' → KeepIs state s slot keep keep'
+          at : (n : ℕ) (r : Refused state s n disks disks') → refused_slot s ≡ Some n → (keep keep' : D) → Given state n r.refusal slot keep keep'
+              → KeepIs state s slot keep keep'
           at n r is keep keep' (before below lists m) = is_mounted (state keep') lists m (λ k e. omega (arith, some-one (refused_slot s) n k is e, below))
           at n r is keep keep' (here same why) = is_refused r.refusal why (r.ends ∙ ap (λ (j : ℕ). refused_as j r.refusal) (sym same))
           at n r is keep keep' (behind above) = is_behind n is above
@@ -385,11 +398,13 @@ module _ {D S K L : Type 0} (state : D → DiskState) (command : Command) (t : T
   keep-fault slot e = on-map (λ _ _ keep keep'. KeepIs state s slot keep keep') (λ _ _ keep keep'. Rose (state keep).faults (state keep').faults) slot disks disks'
       (λ _ _ keep keep' is. fault-of state s slot keep keep' is e) (keep-is slot)
 
-  pub keep-small : (slot sectors : ℕ) → OnSlot (λ _ _ keep _. (s ≡ status.KeepSmall (keep_at slot) sectors) ↔ IsSmall (state keep) s slot sectors) slot disks disks'
+  pub keep-small : (slot sectors : ℕ)
+      → OnSlot (λ _ _ keep _. (s ≡ status.KeepSmall (keep_at slot) sectors) ↔ IsSmall (state keep) s slot sectors) slot disks disks'
   keep-small slot sectors = on-map (λ _ _ keep keep'. KeepIs state s slot keep keep') (λ _ _ keep _. (s ≡ status.KeepSmall (keep_at slot) sectors) ↔ IsSmall (state keep) s slot sectors) slot disks disks'
       (λ _ _ keep keep' is. small-of state s slot keep keep' sectors is) (keep-is slot)
 
-  pub keep-bad : (slot bad : ℕ) → OnSlot (λ _ _ keep _. IfSome (state keep).contents (λ c. (s ≡ status.KeepBad (keep_at slot) bad) ↔ IsBad (state keep) c s slot bad)) slot disks disks'
+  pub keep-bad : (slot bad : ℕ)
+      → OnSlot (λ _ _ keep _. IfSome (state keep).contents (λ c. (s ≡ status.KeepBad (keep_at slot) bad) ↔ IsBad (state keep) c s slot bad)) slot disks disks'
   keep-bad slot bad = on-map (λ _ _ keep keep'. KeepIs state s slot keep keep') (λ _ _ keep _. IfSome (state keep).contents (λ c. (s ≡ status.KeepBad (keep_at slot) bad) ↔ IsBad (state keep) c s slot bad)) slot disks disks'
       (λ _ _ keep keep' is. bad-of state s slot keep keep' bad is) (keep-is slot)
 
@@ -432,7 +447,8 @@ module _ {D S K L : Type 0} (state : D → DiskState) (command : Command) (t : T
 
 -- Which command it was.
 
-pub ran-of : {D S K L : Type 0} (state : D → DiskState) (t : Tells S K L) (s : Status) (a b : Outside S K L) (disks disks' : List (Option D)) (o o' : Option Command) (command : Command) → o ≡ Some command → o ≡ o'
+pub ran-of : {D S K L : Type 0} (state : D → DiskState) (t : Tells S K L) (s : Status) (a b : Outside S K L) (disks disks' : List (Option D))
+    (o o' : Option Command) (command : Command) → o ≡ Some command → o ≡ o'
     → (refused_slot s ≡ None → s ≢ status.NoMemory → Ran state command t s a b disks disks')
     → IfSome o' (λ asked. refused_slot s ≡ None → s ≢ status.NoMemory → Ran state asked t s a b disks disks')
 ran-of state t s a b disks disks' o o' command is same run =
@@ -441,7 +457,8 @@ ran-of state t s a b disks disks' o o' command is same run =
 pub same-command : (o o' : Option Command) (command asked : Command) → o ≡ Some command → o ≡ o' → o' ≡ Some asked → command ≡ asked
 same-command o o' command asked is same spelled = let both : (let x : Option Command = Some command in x) ≡ Some asked = sym is ∙ same ∙ spelled in cc
 
-pub ran-as : {D S K L : Type 0} (state : D → DiskState) (t : Tells S K L) (s : Status) (a b : Outside S K L) (disks disks' : List (Option D)) (o o' : Option Command) (command asked : Command) → o ≡ Some command → o ≡ o' → o' ≡ Some asked
+pub ran-as : {D S K L : Type 0} (state : D → DiskState) (t : Tells S K L) (s : Status) (a b : Outside S K L) (disks disks' : List (Option D))
+    (o o' : Option Command) (command asked : Command) → o ≡ Some command → o ≡ o' → o' ≡ Some asked
     → Ran state command t s a b disks disks' → Ran state asked t s a b disks disks'
 ran-as state t s a b disks disks' o o' command asked is same spelled run =
     subst (λ (x : Command). Ran state x t s a b disks disks') (same-command o o' command asked is same spelled) run

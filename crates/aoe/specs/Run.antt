@@ -50,7 +50,8 @@ pub record RanSoak {K : Type 0} (held : K → Option (List ℕ)) (asked : Soak) 
   pub ends : s ≡ replayed_as end
 
 -- a run of a command: over files, of the script that the source gives, of the script of `soak`, or of a tool
-abbrev pub Ran : {D S K L : Type 0} → (D → DiskState) → Command → Tells S K L → Status → Outside S K L → Outside S K L → List (Option D) → List (Option D) → Type 0
+abbrev pub Ran : {D S K L : Type 0} → (D → DiskState) → Command → Tells S K L → Status → Outside S K L → Outside S K L → List (Option D) → List (Option D)
+    → Type 0
 Ran state (command.Answer answer) t s a b disks disks' = RanFiles state (answer_plan answer).0 (answer_plan answer).1 t s a b disks disks'
 Ran state (command.Serve serve) t s a b disks disks' = RanFiles state (serve_plan serve).0 (serve_plan serve).1 t s a b disks disks'
 Ran state command.Replay t s a b disks disks' = RanScript t.left t.held s a.source b.source a.sink b.sink × (b.links ≡ a.links) × (disks' ≡ disks)

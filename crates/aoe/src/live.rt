@@ -50,7 +50,8 @@ pub(crate) fn run_live<K: Sink, L: Link, C: Clock>(
         (ends C.answers L.turns L.given L.taken one.old two.old clock.old) (ends C.answers L.turns L.given L.taken one.new two.new clock.new) }
     ensures leaves { result ≢ Status.Ok → result ≢ Status.SinkFault → sink.new ≡ sink.old }
     ensures status { is_live_status result ≡ true }
-    ensures links { AreBlamed result (L.faults one.old) (L.faults one.new) (L.faults two.old) (L.faults two.new) }
+    ensures links { AreBlamed result (L.faults one.old) (L.faults one.new) (L.faults two.old)
+        (L.faults two.new) }
     ensures sink { Blamed (result ≡ Status.SinkFault) (K.faults sink.old) (K.faults sink.new) }
 {
     let sectors = u64::from(asked.sectors);

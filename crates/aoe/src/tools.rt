@@ -57,7 +57,8 @@ fn say_found<L: Link, C: Clock>(
 ) -> Result<Blob, ToolRefusal>
     ensures run { SaysFound asking result
         (told C.least C.answers L.turns L.given L.taken clock.old clock.new link.old link.new) }
-    ensures link { Blamed (result ≡ Err ToolRefusal.LinkFault) (L.faults link.old) (L.faults link.new) }
+    ensures link { Blamed (result ≡ Err ToolRefusal.LinkFault) (L.faults link.old)
+        (L.faults link.new) }
 {
     let given = discover(alloc, &ask_of(asking), link, clock)?;
     said(print_found(alloc, &given))
@@ -72,7 +73,8 @@ fn say_stat<L: Link, C: Clock>(
 ) -> Result<Blob, ToolRefusal>
     ensures run { SaysStat asking result
         (told C.least C.answers L.turns L.given L.taken clock.old clock.new link.old link.new) }
-    ensures link { Blamed (result ≡ Err ToolRefusal.LinkFault) (L.faults link.old) (L.faults link.new) }
+    ensures link { Blamed (result ≡ Err ToolRefusal.LinkFault) (L.faults link.old)
+        (L.faults link.new) }
 {
     let given = stat(alloc, &ask_of(asking), link, clock)?;
     said(print_stat(alloc, &given))
@@ -88,7 +90,8 @@ fn say_config<L: Link, C: Clock>(
     requires { asked.now.ccmd ≤ 4 }
     ensures run { SaysConfig asked.now result
         (told C.least C.answers L.turns L.given L.taken clock.old clock.new link.old link.new) }
-    ensures link { Blamed (result ≡ Err ToolRefusal.LinkFault) (L.faults link.old) (L.faults link.new) }
+    ensures link { Blamed (result ≡ Err ToolRefusal.LinkFault) (L.faults link.old)
+        (L.faults link.new) }
 {
     let given = cfg(
         &ask_of(asked.asking),
@@ -110,7 +113,8 @@ fn say_masks<L: Link, C: Clock>(
 ) -> Result<Blob, ToolRefusal>
     ensures run { SaysMasks asked.now result
         (told C.least C.answers L.turns L.given L.taken clock.old clock.new link.old link.new) }
-    ensures link { Blamed (result ≡ Err ToolRefusal.LinkFault) (L.faults link.old) (L.faults link.new) }
+    ensures link { Blamed (result ≡ Err ToolRefusal.LinkFault) (L.faults link.old)
+        (L.faults link.new) }
 {
     let given = mask(&ask_of(asked.asking), asked.id, dirs_of(asked), link, clock)?;
     said(print_masks(alloc, &given))
@@ -126,7 +130,8 @@ fn say_reserves<L: Link, C: Clock>(
     requires { asked.now.rcmd ≤ 2 }
     ensures run { SaysReserves asked.now result
         (told C.least C.answers L.turns L.given L.taken clock.old clock.new link.old link.new) }
-    ensures link { Blamed (result ≡ Err ToolRefusal.LinkFault) (L.faults link.old) (L.faults link.new) }
+    ensures link { Blamed (result ≡ Err ToolRefusal.LinkFault) (L.faults link.old)
+        (L.faults link.new) }
 {
     let given = reserve(
         &ask_of(asked.asking),
@@ -149,7 +154,8 @@ fn say<L: Link, C: Clock>(
     requires { CanAsk tool.now }
     ensures run { Says tool.now result
         (told C.least C.answers L.turns L.given L.taken clock.old clock.new link.old link.new) }
-    ensures link { Blamed (result ≡ Err ToolRefusal.LinkFault) (L.faults link.old) (L.faults link.new) }
+    ensures link { Blamed (result ≡ Err ToolRefusal.LinkFault) (L.faults link.old)
+        (L.faults link.new) }
 {
     match tool {
         Tool::Discover(asking) => say_found(alloc, *asking, link, clock),
@@ -258,7 +264,8 @@ pub(crate) fn run_put<S: Source, L: Link, C: Clock>(
         (told C.least C.answers L.turns L.given L.taken clock.old clock.new link.old link.new) }
     ensures status { is_copy_status result ≡ true }
     ensures unwritten { result ≢ Status.SinkFault }
-    ensures source { Blamed (result ≡ Status.SourceFault) (S.faults source.old) (S.faults source.new) }
+    ensures source { Blamed (result ≡ Status.SourceFault) (S.faults source.old)
+        (S.faults source.new) }
     ensures link { Blamed (result ≡ Status.LinkFault 0) (L.faults link.old) (L.faults link.new) }
     ensures alone { (port : ℕ) → result ≡ Status.LinkFault port → port ≡ 0 }
 {

@@ -50,14 +50,19 @@ fn run_files<S: Source, K: Sink, D: Disk + Drop, L: Link>(
         record { left = S.left; held = K.held; turns = L.turns; given = L.given; taken = L.taken } result
         record { source = source.old; sink = sink.old; links = links.old } record { source = source.new; sink = sink.new; links = links.new }
         disks.old disks.new }
-    ensures refused { (slot : ℕ) → refused_slot result ≡ Some slot → Refused D.state result slot disks.old disks.new }
-    ensures unread { IsSome (refused_slot result) → (source.new ≡ source.old) × (sink.new ≡ sink.old) × (links.new ≡ links.old) }
-    ensures memory { result ≡ Status.NoMemory → (source.new ≡ source.old) × (sink.new ≡ sink.old) × (disks.new ≡ disks.old) × (links.new ≡ links.old) }
+    ensures refused { (slot : ℕ) → refused_slot result ≡ Some slot
+        → Refused D.state result slot disks.old disks.new }
+    ensures unread { IsSome (refused_slot result)
+        → (source.new ≡ source.old) × (sink.new ≡ sink.old) × (links.new ≡ links.old) }
+    ensures memory { result ≡ Status.NoMemory → (source.new ≡ source.old) × (sink.new ≡ sink.old)
+        × (disks.new ≡ disks.old) × (links.new ≡ links.old) }
     ensures usage { result ≢ Status.Usage }
     ensures there { All IsSome disks.new }
-    ensures source { Blamed (result ≡ Status.SourceFault) (S.faults source.old) (S.faults source.new) }
+    ensures source { Blamed (result ≡ Status.SourceFault) (S.faults source.old)
+        (S.faults source.new) }
     ensures sink { Blamed (result ≡ Status.SinkFault) (K.faults sink.old) (K.faults sink.new) }
-    ensures first { AtFirst (λ a b. Blamed (result ≡ Status.LinkFault 0) (L.faults a) (L.faults b)) links.old links.new }
+    ensures first { AtFirst (λ a b. Blamed (result ≡ Status.LinkFault 0) (L.faults a)
+        (L.faults b)) links.old links.new }
     ensures alone { (link : ℕ) → result ≡ Status.LinkFault link → link ≡ 0 }
 {
     match export(alloc, rack, plan, source, sink, disks, links) {
@@ -75,7 +80,8 @@ fn run_script<S: Source, K: Sink>(alloc: Global, source: &mut S, sink: &mut K) -
     ensures links { (link : ℕ) → result ≢ Status.LinkFault link }
     ensures usage { result ≢ Status.Usage }
     ensures memory { result ≡ Status.NoMemory → sink.new ≡ sink.old }
-    ensures source { Blamed (result ≡ Status.SourceFault) (S.faults source.old) (S.faults source.new) }
+    ensures source { Blamed (result ≡ Status.SourceFault) (S.faults source.old)
+        (S.faults source.new) }
     ensures sink { Blamed (result ≡ Status.SinkFault) (K.faults sink.old) (K.faults sink.new) }
     ensures replays { (text : List ℕ) → S.left source.old ≡ Some text → refusal text ≡ None
         → IsFaultless (S.faults source.old) (S.faults source.new) → IsFaultless (K.faults sink.old) (K.faults sink.new) → HasReplayed (script_of text) result }
@@ -94,7 +100,8 @@ fn run_soak<K: Sink>(alloc: Global, asked: Soak, sink: &mut K) -> Status
     ensures source { result ≢ Status.SourceFault }
     ensures memory { result ≡ Status.NoMemory → sink.new ≡ sink.old }
     ensures sink { Blamed (result ≡ Status.SinkFault) (K.faults sink.old) (K.faults sink.new) }
-    ensures soaks { IsFaultless (K.faults sink.old) (K.faults sink.new) → HasReplayed (soaked asked.seed asked.count) result }
+    ensures soaks { IsFaultless (K.faults sink.old) (K.faults sink.new)
+        → HasReplayed (soaked asked.seed asked.count) result }
 {
     replayed_as(soak(alloc, asked.seed, asked.count, sink))
 }
@@ -117,9 +124,13 @@ fn run_command<S: Source, K: Sink, D: Disk + Drop, L: Link, C: Clock>(
         record { left = S.left; held = K.held; turns = L.turns; given = L.given; taken = L.taken } result
         record { source = source.old; sink = sink.old; links = links.old } record { source = source.new; sink = sink.new; links = links.new }
         disks.old disks.new }
-    ensures refused { (slot : ℕ) → refused_slot result ≡ Some slot → Refused D.state result slot disks.old disks.new }
-    ensures unread { IsSome (refused_slot result) → (source.new ≡ source.old) × (sink.new ≡ sink.old) × (links.new ≡ links.old) }
-    ensures memory { result ≡ Status.NoMemory → (reads_input (Some command) ≡ false → source.new ≡ source.old) × (sink.new ≡ sink.old) × (disks.new ≡ disks.old) × (uses_clock (Some command) ≡ false → links.new ≡ links.old) }
+    ensures refused { (slot : ℕ) → refused_slot result ≡ Some slot
+        → Refused D.state result slot disks.old disks.new }
+    ensures unread { IsSome (refused_slot result)
+        → (source.new ≡ source.old) × (sink.new ≡ sink.old) × (links.new ≡ links.old) }
+    ensures memory { result ≡ Status.NoMemory → (reads_input (Some command) ≡ false
+        → source.new ≡ source.old) × (sink.new ≡ sink.old) × (disks.new ≡ disks.old)
+        × (uses_clock (Some command) ≡ false → links.new ≡ links.old) }
     ensures asks { (tool : Tool) → command ≡ Command.Ask tool → Asked K.held (λ a b. told C.least C.answers L.turns L.given L.taken clock.old clock.new a b) tool result sink.old sink.new links.old links.new }
     ensures gets { (asked : Gets) → command ≡ Command.Get asked → IsGot K.held (λ a b. told C.least C.answers L.turns L.given L.taken clock.old clock.new a b) asked result sink.old sink.new links.old links.new }
     ensures puts { (asked : Puts) → command ≡ Command.Put asked → IsPut S.left (λ a b. told C.least C.answers L.turns L.given L.taken clock.old clock.new a b) asked result source.old source.new links.old links.new }
@@ -129,11 +140,17 @@ fn run_command<S: Source, K: Sink, D: Disk + Drop, L: Link, C: Clock>(
     ensures clock { uses_clock (Some command) ≡ false → clock.new ≡ clock.old }
     ensures usage { result ≢ Status.Usage }
     ensures there { All IsSome disks.new }
-    ensures source { Blamed (result ≡ Status.SourceFault) (S.faults source.old) (S.faults source.new) }
+    ensures source { Blamed (result ≡ Status.SourceFault) (S.faults source.old)
+        (S.faults source.new) }
     ensures sink { Blamed (result ≡ Status.SinkFault) (K.faults sink.old) (K.faults sink.new) }
-    ensures first { is_live (Some command) ≡ false → AtFirst (λ a b. Blamed (result ≡ Status.LinkFault 0) (L.faults a) (L.faults b)) links.old links.new }
-    ensures alone { is_live (Some command) ≡ false → (link : ℕ) → result ≡ Status.LinkFault link → link ≡ 0 }
-    ensures soaks { (asked : Soaks) → command ≡ Command.Soak asked → IsFaultless (K.faults sink.old) (K.faults sink.new) → HasReplayed (soaked asked.seed asked.count) result }
+    ensures first { is_live (Some command) ≡ false
+        → AtFirst (λ a b. Blamed (result ≡ Status.LinkFault 0) (L.faults a)
+        (L.faults b)) links.old links.new }
+    ensures alone { is_live (Some command) ≡ false → (link : ℕ) → result ≡ Status.LinkFault link
+        → link ≡ 0 }
+    ensures soaks { (asked : Soaks) → command ≡ Command.Soak asked
+        → IsFaultless (K.faults sink.old) (K.faults sink.new)
+        → HasReplayed (soaked asked.seed asked.count) result }
     ensures replays { (text : List ℕ) → command ≡ Command.Replay → S.left source.old ≡ Some text → refusal text ≡ None
         → IsFaultless (S.faults source.old) (S.faults source.new) → IsFaultless (K.faults sink.old) (K.faults sink.new) → HasReplayed (script_of text) result }
 {
@@ -201,27 +218,35 @@ pub fn aoe<S: Source, K: Sink, D: Disk + Drop, L: Link, C: Clock>(
     requires count { length disks.old ≡ length (file_names (map string_bytes words.now)) }
     requires there { All IsSome disks.old }
     requires links { length links.old ≡ length (port_words (map string_bytes words.now)) }
-    ensures usage { (result ≡ Status.Usage) ↔ (command (map string_bytes words.now) ≡ None) × (result ≢ Status.NoMemory) }
+    ensures usage { (result ≡ Status.Usage) ↔ (command (map string_bytes words.now) ≡ None)
+        × (result ≢ Status.NoMemory) }
     ensures words { list_all is_word (map string_bytes words.now) ≡ false → result ≡ Status.Usage }
-    ensures unchanged { result ≡ Status.Usage → (source.new ≡ source.old) × (sink.new ≡ sink.old) × (disks.new ≡ disks.old) × (links.new ≡ links.old) }
+    ensures unchanged { result ≡ Status.Usage → (source.new ≡ source.old) × (sink.new ≡ sink.old)
+        × (disks.new ≡ disks.old) × (links.new ≡ links.old) }
 
     // A keep is refused, or the run is one of the shelf law, or the history of a script is lawful and read as was written.
-    ensures refused { (slot : ℕ) → refused_slot result ≡ Some slot → Refused D.state result slot disks.old disks.new }
-    ensures unread { IsSome (refused_slot result) → (source.new ≡ source.old) × (sink.new ≡ sink.old) × (links.new ≡ links.old) }
+    ensures refused { (slot : ℕ) → refused_slot result ≡ Some slot
+        → Refused D.state result slot disks.old disks.new }
+    ensures unread { IsSome (refused_slot result)
+        → (source.new ≡ source.old) × (sink.new ≡ sink.old) × (links.new ≡ links.old) }
     ensures run { IfSome (command (map string_bytes words.now)) (λ asked. refused_slot result ≡ None → result ≢ Status.NoMemory → Ran D.state asked
         record { left = S.left; held = K.held; turns = L.turns; given = L.given; taken = L.taken } result
         record { source = source.old; sink = sink.old; links = links.old } record { source = source.new; sink = sink.new; links = links.new }
         disks.old disks.new) }
-    ensures settled { exports (command (map string_bytes words.now)) ≡ true → (slot : ℕ) → result ≡ Status.Ok → OnSlot (λ _ file' _ _. IfSome (D.state file').contents NothingLoose) slot disks.old disks.new }
+    ensures settled { exports (command (map string_bytes words.now)) ≡ true → (slot : ℕ)
+        → result ≡ Status.Ok → OnSlot (λ _ file' _ _. IfSome
+        (D.state file').contents NothingLoose) slot disks.old disks.new }
     ensures there { All IsSome disks.new }
 
     // When a fault is told: an object whose fault isn't told had none, and one whose fault is told had one, since the first trouble ends
     // the run. Of a command that exports files as slots, the faults of files and keeps, and when a keep is refused.
-    ensures source { Blamed (result ≡ Status.SourceFault) (S.faults source.old) (S.faults source.new) }
+    ensures source { Blamed (result ≡ Status.SourceFault) (S.faults source.old)
+        (S.faults source.new) }
     ensures sink { Blamed (result ≡ Status.SinkFault) (K.faults sink.old) (K.faults sink.new) }
     ensures link { is_live (command (map string_bytes words.now)) ≡ false
         → AtFirst (λ a b. Blamed (result ≡ Status.LinkFault 0) (L.faults a) (L.faults b)) links.old links.new }
-    ensures one_link { is_live (command (map string_bytes words.now)) ≡ false → (link : ℕ) → result ≡ Status.LinkFault link → link ≡ 0 }
+    ensures one_link { is_live (command (map string_bytes words.now)) ≡ false → (link : ℕ)
+        → result ≡ Status.LinkFault link → link ≡ 0 }
     ensures disk_fault { (disk : ℕ) → result ≡ Status.DiskFault disk → disk < length disks.old }
     ensures file_fault { exports (command (map string_bytes words.now)) ≡ true → (slot : ℕ) → result ≡ Status.DiskFault (file_at slot)
         → OnSlot (λ file file' _ _. Rose (D.state file).faults (D.state file').faults) slot disks.old disks.new }
@@ -245,7 +270,8 @@ pub fn aoe<S: Source, K: Sink, D: Disk + Drop, L: Link, C: Clock>(
         ⊎ AtBoth (λ one one' two two'. RunsLive asked result (K.held sink.old) (K.held sink.new)
         (ends C.answers L.turns L.given L.taken one two clock.old) (ends C.answers L.turns L.given L.taken one' two' clock.new)
         × AreBlamed result (L.faults one) (L.faults one') (L.faults two) (L.faults two')) links.old links.new }
-    ensures clock { uses_clock (command (map string_bytes words.now)) ≡ false → clock.new ≡ clock.old }
+    ensures clock { uses_clock (command (map string_bytes words.now)) ≡ false
+        → clock.new ≡ clock.old }
 
     // With no fault keeps that hold lists are mounted, and then a stream of frames is answered to its end, and a link is served;
     // and a script with no bad line is run.

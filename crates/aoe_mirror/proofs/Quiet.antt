@@ -79,7 +79,8 @@ in_from x y z l f = elim f [
     flat true = refl
     flat false = refl
 
-module _ (sectors : ℕ) (stale stale' : List Bool) (p q : Contents × Contents) (fit : Fit sectors stale p) (lead : Calms p.0 q.0) (follower : Calms p.1 q.1) (grows : Grows stale stale') where
+module _ (sectors : ℕ) (stale stale' : List Bool) (p q : Contents × Contents) (fit : Fit sectors stale p) (lead : Calms p.0 q.0) (follower : Calms p.1 q.1)
+    (grows : Grows stale stale') where
   lead_size : length q.0.loose ≡ length stale'
   lead_size = lead.marks ∙ fit.lead.marks ∙ sym (grows.size ∙ fit.marks)
 
@@ -114,7 +115,8 @@ module _ (sectors : ℕ) (stale stale' : List Bool) (p q : Contents × Contents)
   }
 
 -- nothing is loose where both sides are quiet, or the follower is stale
-pub none_seen : (sectors : ℕ) (stale' : List Bool) (q : Contents × Contents) → length q.0.loose ≡ length stale' → length q.1.loose ≡ length stale' → ((s : ℕ) → is_loose q.0.loose s ≡ false)
+pub none_seen : (sectors : ℕ) (stale' : List Bool) (q : Contents × Contents) → length q.0.loose ≡ length stale' → length q.1.loose ≡ length stale'
+    → ((s : ℕ) → is_loose q.0.loose s ≡ false)
     → ((s : ℕ) → s < length stale' → (is_loose q.1.loose s ≡ false) ⊎ (is_loose stale' s ≡ true)) → (s : ℕ) → is_loose (seen stale' q).loose s ≡ false
 none_seen sectors stale' q l f lead follower s = loose_at stale' q.0.loose q.1.loose s l f ∙ in_from (is_loose q.0.loose s) (is_loose q.1.loose s) (is_loose stale' s) (lead s) (elim (cases_lt s (length stale')) [
   | inl within ↦ follower s within

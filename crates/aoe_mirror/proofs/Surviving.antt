@@ -32,7 +32,8 @@ module _ (p : Pair) (m : IsMirror p) (sides : Contents × Contents) (mark : Cont
   agree : Agree p.settled p.stale sides
   agree = rw told at m.agree
 
-  parts : (s : ℕ) → is_loose (seen p.stale sides).loose s ≡ false → (is_loose sides.0.loose s ≡ false) × ((is_loose sides.1.loose s ≡ false) ⊎ (is_loose p.stale s ≡ true))
+  parts : (s : ℕ) → is_loose (seen p.stale sides).loose s ≡ false → (is_loose sides.0.loose s ≡ false)
+      × ((is_loose sides.1.loose s ≡ false) ⊎ (is_loose p.stale s ≡ true))
   parts s off = parts_in (is_loose sides.0.loose s) (is_loose sides.1.loose s) (is_loose p.stale s) (sym (seen_at p.lead.sectors p.stale sides s fit) ∙ off)
 
   from_lead : CanLeave (seen p.stale sides) one

@@ -19,7 +19,8 @@ length-loose_of stale lead follower = length-map-range_with_len (is_loose_in sta
 past_all : (stale lead follower : List Bool) (s : ℕ) → length lead ≤ s → length follower ≤ s → is_loose_in stale lead follower s ≡ false
 past_all stale lead follower s l f = rw (get_or_past lead s false l, get_or_past follower s false f) refl
 
-pub loose_at : (stale lead follower : List Bool) (s : ℕ) → length lead ≡ length stale → length follower ≡ length stale → is_loose (loose_of stale lead follower) s ≡ is_loose_in stale lead follower s
+pub loose_at : (stale lead follower : List Bool) (s : ℕ) → length lead ≡ length stale → length follower ≡ length stale
+    → is_loose (loose_of stale lead follower) s ≡ is_loose_in stale lead follower s
 unfolding loose_of
 loose_at stale lead follower s l f = elim (cases_lt s (length stale)) [
   | inl within ↦ get_or-map-range_with_len (is_loose_in stale lead follower) 0 (length stale) s s false within (omega arith)
@@ -35,7 +36,8 @@ pub record Fit (n : ℕ) (stale : List Bool) (sides : Contents × Contents) : Ty
 pub seen_shape : (n : ℕ) (stale : List Bool) (sides : Contents × Contents) → Fit n stale sides → HasShape n (seen stale sides)
 seen_shape n stale sides fit = record { bytes = fit.lead.bytes; marks = length-loose_of stale sides.0.loose sides.1.loose ∙ fit.marks; settled = tt }
 
-pub seen_at : (n : ℕ) (stale : List Bool) (sides : Contents × Contents) (s : ℕ) → Fit n stale sides → is_loose (seen stale sides).loose s ≡ is_loose_in stale sides.0.loose sides.1.loose s
+pub seen_at : (n : ℕ) (stale : List Bool) (sides : Contents × Contents) (s : ℕ) → Fit n stale sides
+    → is_loose (seen stale sides).loose s ≡ is_loose_in stale sides.0.loose sides.1.loose s
 seen_at n stale sides s fit = loose_at stale sides.0.loose sides.1.loose s (fit.lead.marks ∙ sym fit.marks) (fit.follower.marks ∙ sym fit.marks)
 
 -- a list of marks that is as it was outside a range
@@ -58,13 +60,15 @@ beside_refl at n c = record { size = refl; marks = same_marks_refl at n c.loose;
 pub same_marks_each : (marks : List Bool) (at n : ℕ) (value : Bool) → at + n ≤ length marks → SameMarks at n marks (with_each marks at n value)
 same_marks_each marks at n value fits = record { size = length-with_each marks at n value fits; same = with_each_outside marks at n value fits }
 
-pub puts_beside : (at : ℕ) (piece : List ℕ) (old new : Contents) (sectors : ℕ) → HasShape sectors old → IsRange at (length piece) sectors → Puts at piece old new → Beside at (length piece / 512) old new
+pub puts_beside : (at : ℕ) (piece : List ℕ) (old new : Contents) (sectors : ℕ) → HasShape sectors old → IsRange at (length piece) sectors
+    → Puts at piece old new → Beside at (length piece / 512) old new
 puts_beside at piece old new sectors shape range puts =
     let touch = puts_touch at piece old new sectors shape range puts in
     let fits : at + length piece / 512 ≤ length old.loose = omega (arith, shape.marks, range.within) in
     record { size = touch.size; marks = rw puts.loose (same_marks_each old.loose at (length piece / 512) true fits); same = touch.same }
 
-pub spoils_beside : (at n : ℕ) (old new : Contents) (sectors : ℕ) → HasShape sectors old → IsRange at n sectors → Spoils at n old new → Beside at (n / 512) old new
+pub spoils_beside : (at n : ℕ) (old new : Contents) (sectors : ℕ) → HasShape sectors old → IsRange at n sectors → Spoils at n old new
+    → Beside at (n / 512) old new
 spoils_beside at n old new sectors shape range spoils =
     let touch = spoils_touch at n old new sectors shape range spoils in
     let fits : at + n / 512 ≤ length old.loose = omega (arith, shape.marks, range.within) in
@@ -82,7 +86,8 @@ cases_range at n s = elim (cases_lt s at) [
 -- A WRITE: the lead's sectors were written, and the follower's or not
 
 module _ (sectors at n : ℕ) (stale stale' : List Bool) (old new : Contents × Contents) (fit : Fit sectors stale old) (fits : at + n ≤ sectors)
-    (lead : Beside at n old.0 new.0) (loose : new.0.loose ≡ with_marks old.0.loose at n) (follower : Beside at n old.1 new.1) (marks : SameMarks at n stale stale') where
+    (lead : Beside at n old.0 new.0) (loose : new.0.loose ≡ with_marks old.0.loose at n) (follower : Beside at n old.1 new.1)
+    (marks : SameMarks at n stale stale') where
   written_inside : (s : ℕ) → at ≤ s → s < at + n → is_loose new.0.loose s ≡ true
   written_inside s low high = ap (λ l. is_loose l s) loose ∙ is_loose-with_marks_inside old.0.loose at n (omega (arith, fit.lead.marks)) s low high
 
@@ -103,7 +108,8 @@ module _ (sectors at n : ℕ) (stale stale' : List Bool) (old new : Contents × 
       ])
 
   -- the sides agree as before, where they do within the range
-  pub agree_written : (settled : Bool) → Agree settled stale old → ((s : ℕ) → at ≤ s → s < at + n → is_loose stale' s ≡ false → sector new.1.bytes s ≡ sector new.0.bytes s) → Agree settled stale' new
+  pub agree_written : (settled : Bool) → Agree settled stale old
+      → ((s : ℕ) → at ≤ s → s < at + n → is_loose stale' s ≡ false → sector new.1.bytes s ≡ sector new.0.bytes s) → Agree settled stale' new
   agree_written settled agree inside = record {
     same = λ s off. elim (cases_range at n s) [
       | inl out ↦ follower.same s out ∙ agree.same s (sym (marks.same s out) ∙ off) ∙ sym (lead.same s out)
@@ -116,7 +122,8 @@ module _ (sectors at n : ℕ) (stale stale' : List Bool) (old new : Contents × 
   }
 
 -- a piece that stands on both sides
-pub same_piece : (at : ℕ) (piece : List ℕ) (sectors : ℕ) (a b a' b' : Contents) → HasShape sectors a → HasShape sectors b → IsRange at (length piece) sectors → a'.bytes ≡ with_piece a.bytes (512 * at) piece → b'.bytes ≡ with_piece b.bytes (512 * at) piece
+pub same_piece : (at : ℕ) (piece : List ℕ) (sectors : ℕ) (a b a' b' : Contents) → HasShape sectors a → HasShape sectors b → IsRange at (length piece) sectors
+    → a'.bytes ≡ with_piece a.bytes (512 * at) piece → b'.bytes ≡ with_piece b.bytes (512 * at) piece
     → (s : ℕ) → at ≤ s → s < at + length piece / 512 → sector b'.bytes s ≡ sector a'.bytes s
 same_piece at piece sectors a b a' b' sa sb range ea eb s low high =
     let k : ℕ = s - at in

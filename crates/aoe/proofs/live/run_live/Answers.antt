@@ -32,7 +32,8 @@ unwritten sectors (refusal.Full frames bytes) held = (refl, refl)
 unwritten sectors refusal.TooMany held = (refl, refl)
 
 -- the status tells of a link what the refusal told
-told : {T : Type 0} (s : Status) (r : LiveRefusal) (link : ℕ) → s ≡ live_status r → (s ≡ status.LinkFault link) ↔ ((let o : Result T LiveRefusal = Err r in o) ≡ Err (refusal.LinkFault link))
+told : {T : Type 0} (s : Status) (r : LiveRefusal) (link : ℕ) → s ≡ live_status r
+    → (s ≡ status.LinkFault link) ↔ ((let o : Result T LiveRefusal = Err r in o) ≡ Err (refusal.LinkFault link))
 told s r link is = (λ e. grind (arith, is, e), λ e. grind (arith, is, e))
 
 pub returns-in-Err-clause-run : goal.returns-in-Err-clause-run
