@@ -17,4 +17,6 @@ mod streams;
 #[cfg(test)]
 mod udp;
 #[cfg(test)]
+mod vlan;
+#[cfg(test)]
 mod words;
