@@ -64,7 +64,8 @@ module _ (ports : List PortKind) (vid : ℕ) where
       by None e = cc
       by (Some kind) e = vlan-carries kind i.frame vid e
 
-  latest-carried : (a : Mac) (own : List Passing) → All (λ i. vlan_at ports i ≡ Some vid) own → holds (sources own) a ≡ true → carries_at vid (slice_get ports (latest a own)) ≡ true
+  latest-carried : (a : Mac) (own : List Passing) → All (λ i. vlan_at ports i ≡ Some vid) own → holds (sources own) a ≡ true
+      → carries_at vid (slice_get ports (latest a own)) ≡ true
   latest-carried a [] all there = absurd (true≢false (sym there))
   latest-carried a (i ∷ own) all there = elim (cases_Bool (same_address (source_of i.frame) a)) [
     | inl same ↦ rw same (carried i (all 0 i (omega arith)))
@@ -114,11 +115,13 @@ module _ (ports : List PortKind) (vid : ℕ) where
       let o : Option ℕ = cond (is_individual a) (place (inputs_of ports vid (i ∷ inputs)) a) None in
       subst (λ (l : List ℕ). All (Goes i.port) l) (ap (λ v. going_in ports inputs i v) (sym e)) (toward-goes i.port o (at (is_individual a)))
     where
-      at : (t : Bool) (q : ℕ) → cond t (place (inputs_of ports vid (i ∷ inputs)) (destination_of i.frame)) None ≡ Some q → carries_at vid (slice_get ports q) ≡ true
+      at : (t : Bool) (q : ℕ) → cond t (place (inputs_of ports vid (i ∷ inputs)) (destination_of i.frame)) None ≡ Some q
+          → carries_at vid (slice_get ports q) ≡ true
       at true q is = place-carried (destination_of i.frame) (i ∷ inputs) q is
       at false q is = cc
 
-  pub going-carried : (inputs : List Passing) (i : Passing) → vlan_at ports i ≡ Some vid → All (λ q. carries_at vid (slice_get ports q) ≡ true) (going ports inputs i)
+  pub going-carried : (inputs : List Passing) (i : Passing) → vlan_at ports i ≡ Some vid
+      → All (λ q. carries_at vid (slice_get ports q) ≡ true) (going ports inputs i)
   going-carried inputs i e k d below = (going-goes inputs i e k d below).0
 
   outputs-go : (i : Passing) (to : List ℕ) → All (Goes i.port) to → All (λ o. Goes i.port o.port) (given_in ports i to (Some vid))

@@ -100,7 +100,8 @@ module _ (a : Mac) (p : ℕ) (f : Mac → ℕ) where
       same-test : (l : List Mac) → (nat_lt (length (with f l)) 256 || list_any (same_address a) (keys_of (with f l))) ≡ (nat_lt (length l) 256 || holds l a)
       same-test l i = nat_lt (length-map {B = Mac × ℕ} l (λ b. (b, f b)) i) 256 || (ap (list_any (same_address a)) (keys-with f l) ∙ any-holds l a) i
 
-  moved-there : (list : List Mac) → all_unique list ≡ true → holds (take 256 list) a ≡ true → moved (with f (take 256 list)) a p ≡ with put (take 256 (more list))
+  moved-there : (list : List Mac) → all_unique list ≡ true → holds (take 256 list) a ≡ true
+      → moved (with f (take 256 list)) a p ≡ with put (take 256 (more list))
   moved-there list unique there =
       let whole : more list ≡ list = elim (cases_Bool (holds list a)) [
         | inl is ↦ rw is refl

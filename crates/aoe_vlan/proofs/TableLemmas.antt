@@ -34,13 +34,15 @@ moved-full es a p full absent = rw (le-ltb (length es) 256 full, absent) refl
 -- the table of a VLAN among all
 
 -- the first table of a VLAN
-pub stations-first : (vid : ℕ) (ts : List Table) (i : ℕ) (d : Table) → i < length ts → nat_eq (get_or ts i d).vid vid ≡ true → ((k : ℕ) → k < i → nat_eq (get_or ts k d).vid vid ≡ false)
+pub stations-first : (vid : ℕ) (ts : List Table) (i : ℕ) (d : Table) → i < length ts → nat_eq (get_or ts i d).vid vid ≡ true
+    → ((k : ℕ) → k < i → nat_eq (get_or ts k d).vid vid ≡ false)
     → stations_of vid ts ≡ Some (get_or ts i d).stations
 stations-first vid [] i d lt same before = absurd (omega arith)
 stations-first vid (t ∷ ts) zero d lt same before = rw same refl
 stations-first vid (t ∷ ts) (suc i) d lt same before = rw (before 0 (omega arith)) (stations-first vid ts i d (omega (arith, lt)) same (λ k below. before (suc k) (omega (arith, below))))
 
-pub learnt-first : (vid : ℕ) (a : Mac) (p : ℕ) (ts : List Table) (i : ℕ) (d : Table) → i < length ts → nat_eq (get_or ts i d).vid vid ≡ true → ((k : ℕ) → k < i → nat_eq (get_or ts k d).vid vid ≡ false)
+pub learnt-first : (vid : ℕ) (a : Mac) (p : ℕ) (ts : List Table) (i : ℕ) (d : Table) → i < length ts → nat_eq (get_or ts i d).vid vid ≡ true
+    → ((k : ℕ) → k < i → nat_eq (get_or ts k d).vid vid ≡ false)
     → slice_set ts i (record (get_or ts i d) { stations = moved (get_or ts i d).stations a p }) ≡ learnt_in vid a p ts
 learnt-first vid a p [] i d lt same before = absurd (omega arith)
 learnt-first vid a p (t ∷ ts) zero d lt same before = rw same refl
@@ -152,7 +154,8 @@ Covers test xs i ts = (vid : ℕ) → list_any (test vid) (take i xs) ≡ true �
 pub covers-none : {A : Type 0} (test : ℕ → A → Bool) (xs : List A) (ts : List Table) → Covers test xs 0 ts
 covers-none test xs ts vid e = absurd (cc)
 
-pub covers-more : {A : Type 0} (test : ℕ → A → Bool) (xs : List A) (i : ℕ) (x d : A) (ts us : List Table) → i < length xs → get_or xs i d ≡ x → AreKept ts us → ((vid : ℕ) → test vid x ≡ true → IsSome (stations_of vid us)) → Covers test xs i ts
+pub covers-more : {A : Type 0} (test : ℕ → A → Bool) (xs : List A) (i : ℕ) (x d : A) (ts us : List Table) → i < length xs → get_or xs i d ≡ x
+    → AreKept ts us → ((vid : ℕ) → test vid x ≡ true → IsSome (stations_of vid us)) → Covers test xs i ts
     → Covers test xs (i + 1) us
 covers-more test xs i x d ts us lt is kept one covers vid e =
     let grown : take (i + 1) xs ≡ take i xs ++ x ∷ [] = take_more xs i d lt ∙ ap (λ y. take i xs ++ y ∷ []) is in
@@ -165,5 +168,6 @@ covers-more test xs i x d ts us lt is kept one covers vid e =
       ]
     ]
 
-pub covers-all : {A : Type 0} (test : ℕ → A → Bool) (xs : List A) (i : ℕ) (ts : List Table) → length xs ≤ i → Covers test xs i ts → (vid : ℕ) → list_any (test vid) xs ≡ true → IsSome (stations_of vid ts)
+pub covers-all : {A : Type 0} (test : ℕ → A → Bool) (xs : List A) (i : ℕ) (ts : List Table) → length xs ≤ i → Covers test xs i ts → (vid : ℕ)
+    → list_any (test vid) xs ≡ true → IsSome (stations_of vid ts)
 covers-all test xs i ts end covers vid e = covers vid (ap (λ l. list_any (test vid) l) (take_all i xs end) ∙ e)

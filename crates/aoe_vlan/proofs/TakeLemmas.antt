@@ -37,7 +37,8 @@ by-carries (Trunk vs) (Some n) vid e = elim (cases_Bool (carries n (Trunk vs))) 
 pub vlan-carries : (kind : PortKind) (frame : List ℕ) (vid : ℕ) → vlan_of kind frame ≡ Some vid → carries vid kind ≡ true
 vlan-carries kind frame vid e = by-carries kind (tag_number frame) vid (ap (λ t. cond t (vlan_by kind (tag_number frame)) None) (sym (vlan-frame kind frame vid e)) ∙ e)
 
-pub any-at : (ports : List PortKind) (port : ℕ) (kind : PortKind) (vid : ℕ) → slice_get ports port ≡ Some kind → carries vid kind ≡ true → list_any (carries vid) ports ≡ true
+pub any-at : (ports : List PortKind) (port : ℕ) (kind : PortKind) (vid : ℕ) → slice_get ports port ≡ Some kind → carries vid kind ≡ true
+    → list_any (carries vid) ports ≡ true
 any-at [] port kind vid at is = cc
 any-at (k ∷ ports) zero kind vid at is =
     let same : kind ≡ k = cc in
@@ -99,7 +100,9 @@ module _ (ports : List PortKind) (tables : List Table) (inputs : List Passing) (
         stations-same vid (source_of i.frame) i.port tables ∙ ap (λ o. option_map (λ s. moved s (source_of i.frame) i.port) o) (the-one (stations_of vid tables) _ some (learnt vid)) in
         ap (λ o. option_and_then (λ s. found s a) o) there ∙ ap (λ s. found s a) own-taught ∙ found-taught (inputs_of ports vid (i ∷ inputs)) a
 
-    pub takes-going : (at : Option ℕ) → IsSome (stations_of vid tables) → at ≡ cond (is_individual (destination_of i.frame)) (found_in vid now (destination_of i.frame)) None → toward ports vid i.port at ≡ going ports inputs i
+    pub takes-going : (at : Option ℕ) → IsSome (stations_of vid tables)
+        → at ≡ cond (is_individual (destination_of i.frame)) (found_in vid now (destination_of i.frame)) None
+        → toward ports vid i.port at ≡ going ports inputs i
     takes-going at some is =
         let a : Mac = destination_of i.frame in
         let placed : at ≡ cond (is_individual a) (place (inputs_of ports vid (i ∷ inputs)) a) None = is ∙ ap (λ o. cond (is_individual a) o None) (takes-place some a) in
@@ -107,10 +110,12 @@ module _ (ports : List PortKind) (tables : List Table) (inputs : List Passing) (
 
 -- a port and the VLAN of a frame there
 
-pub vlan-there : (ports : List PortKind) (port : ℕ) (kind : PortKind) (frame : List ℕ) (vid : ℕ) → port < length ports → kind ≡ get_or ports port kind → vlan_of kind frame ≡ Some vid → vlan_at ports record { port = port; frame = frame } ≡ Some vid
+pub vlan-there : (ports : List PortKind) (port : ℕ) (kind : PortKind) (frame : List ℕ) (vid : ℕ) → port < length ports → kind ≡ get_or ports port kind
+    → vlan_of kind frame ≡ Some vid → vlan_at ports record { port = port; frame = frame } ≡ Some vid
 vlan-there ports port kind frame vid lt is e = ap (λ o. option_and_then (λ k. vlan_of k frame) o) (slice_get_read ports (length ports) port kind refl lt is) ∙ e
 
-pub any-there : (ports : List PortKind) (port : ℕ) (kind : PortKind) (frame : List ℕ) (vid : ℕ) → port < length ports → kind ≡ get_or ports port kind → vlan_of kind frame ≡ Some vid → list_any (carries vid) ports ≡ true
+pub any-there : (ports : List PortKind) (port : ℕ) (kind : PortKind) (frame : List ℕ) (vid : ℕ) → port < length ports → kind ≡ get_or ports port kind
+    → vlan_of kind frame ≡ Some vid → list_any (carries vid) ports ≡ true
 any-there ports port kind frame vid lt is e = any-at ports port kind vid (slice_get_read ports (length ports) port kind refl lt is) (vlan-carries kind frame vid e)
 
 -- a table stays
