@@ -1,5 +1,5 @@
-//! Tests of the shelf's crates by their public calls: lists, a disk, a store, a cache, a keep, a target,
-//! a shelf, and the loops that serve it.
+//! Tests of the shelf's crates by their public calls: lists, a disk, a store, a cache, a mirror, a keep, a
+//! target, a shelf, and the loops that serve it.
 //!
 //! They stand beside the crates, since a crate with tests inside it is proved once more with them.
 #![tactic(auto)]
@@ -12,6 +12,8 @@ mod disk;
 mod keep;
 #[cfg(test)]
 mod lists;
+#[cfg(test)]
+mod mirror;
 #[cfg(test)]
 mod serve;
 #[cfg(test)]

@@ -1,0 +1,109 @@
+use aoe_disk::MemDisk;
+use aoe_mirror::{Mirror, MirrorRefusal};
+use aoe_store::Store;
+use std::alloc::Global;
+use std::test::Fail;
+
+/// What is done to a mirror of 16 sectors, or what it then has.
+#[derive(Clone, Copy)]
+enum Step {
+    /// Fills a sector with a byte.
+    Fills(u64, u8),
+    /// The first and the last byte of a sector.
+    Has(u64, [u8; 2]),
+    /// Copies a run of stale sectors, after which so many are stale.
+    Copies(u64),
+    Syncs,
+    /// The side that leads, and how many sectors of the other one are stale.
+    Leads(u8, u64),
+    /// The disk that is said to have failed in the latest sync.
+    Failed(Option<u8>),
+}
+
+/// The first and the last byte of a sector, where the read is Ok.
+fn ends(mirror: &mut Mirror<MemDisk>, at: u64) -> Option<[u8; 2]> {
+    let mut out = [0; 512];
+    if at >= mirror.sectors() || mirror.read(at, &mut out).is_err() {
+        return None;
+    }
+    Some([out[0], out[511]])
+}
+
+/// Whether a step goes as it is to.
+fn goes(mirror: &mut Mirror<MemDisk>, step: Step) -> bool {
+    match step {
+        Step::Fills(at, byte) => at < mirror.sectors() && mirror.write(at, &[byte; 512]).is_ok(),
+        Step::Has(at, bytes) => ends(mirror, at) == Some(bytes),
+        Step::Copies(left) => mirror.resync() == Ok(left),
+        Step::Syncs => mirror.sync().is_ok(),
+        Step::Leads(side, stale) => mirror.lead() == side && mirror.stale() == stale,
+        Step::Failed(disk) => mirror.failed() == disk,
+    }
+}
+
+/// Whether all steps go as they are to.
+fn all_go(mirror: &mut Mirror<MemDisk>, steps: &[Step]) -> bool {
+    for step in steps {
+        if !goes(mirror, *step) {
+            return false;
+        }
+    }
+    true
+}
+
+/// Two sides of 16 zero sectors, of each of which the call with this number fails, and a mark disk.
+fn mirror(alloc: Global, one: u32, two: u32) -> Result<Mirror<MemDisk>, Fail> {
+    let mut first = MemDisk::new(alloc, 16)?;
+    let mut second = MemDisk::new(alloc, 16)?;
+    first.fail_at(one.max(1));
+    second.fail_at(two.max(1));
+    match Mirror::mount(alloc, first, second, MemDisk::new(alloc, 1)?) {
+        Ok(mirror) => Ok(mirror),
+        Err((refusal, _, _, _)) => Err(refusal.into()),
+    }
+}
+
+/// Why these many sectors aren't a mirror: of the sides and of the mark disk.
+fn refused(alloc: Global, sectors: [u64; 3]) -> Result<Option<MirrorRefusal>, Fail> {
+    let one = MemDisk::new(alloc, sectors[0].min(16))?;
+    let two = MemDisk::new(alloc, sectors[1].min(16))?;
+    let mark = MemDisk::new(alloc, sectors[2].min(16))?;
+    match Mirror::mount(alloc, one, two, mark) {
+        Ok(_) => Ok(None),
+        Err((refusal, _, _, _)) => Ok(Some(refusal)),
+    }
+}
+
+#[test]
+fn outlives_a_failure_of_either_side(rt: HostRuntime) -> Result<(), Fail> {
+    let steps = [
+        Step::Leads(0, 16),
+        Step::Copies(0),
+        Step::Fills(3, 0x5a),
+        Step::Leads(1, 1),
+        Step::Has(3, [0x5a, 0x5a]),
+        Step::Copies(0),
+        Step::Has(3, [0x5a, 0x5a]),
+        Step::Failed(None),
+        Step::Syncs,
+        Step::Failed(None),
+    ];
+    let mut mirror = mirror(rt.alloc(), 2, 6)?;
+    assert!(rt; all_go(&mut mirror, &steps));
+    Ok(())
+}
+
+#[test]
+fn refuses_what_is_no_mirror(rt: HostRuntime) -> Result<(), Fail> {
+    let unequal = MirrorRefusal::Unequal {
+        first: 16,
+        second: 15,
+    };
+    let sides = refused(rt.alloc(), [16, 15, 1])?;
+    let mark = refused(rt.alloc(), [16, 16, 0])?;
+    let both = refused(rt.alloc(), [16, 15, 0])?;
+    assert!(rt;
+        sides == Some(unequal) && mark == Some(MirrorRefusal::NoMark) && both == Some(unequal)
+    );
+    Ok(())
+}
