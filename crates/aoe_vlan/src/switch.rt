@@ -187,7 +187,8 @@ impl Switch {
         ensures learnt { (inputs : List Passing) → HasLearnt self.old inputs
             → HasLearnt self.new (passing port frame.now ∷ inputs) }
         ensures members { IfSome result.vid
-            (λ vid. All (λ q. carries_at vid (slice_get self.old.ports q) ≡ true) result.ports.items) }
+            (λ vid. All (λ q. carries_at vid (slice_get self.old.ports q)
+            ≡ true) result.ports.items) }
         ensures whole { IfSome result.vid (λ vid. is_frame frame.now ≡ true) }
         ensures same_ports { self.new.ports ≡ self.old.ports }
     {
@@ -224,8 +225,8 @@ impl Switch {
         }
     }
 
-    /// Makes `out` a frame of the VLAN as the port gives it: without a tag at a port of one VLAN, and
-    /// with the VLAN's tag on a trunk.
+    /// Makes `out` a frame of the VLAN as the port gives it: without a tag at a port of one VLAN,
+    /// and with the VLAN's tag on a trunk.
     pub fn form(&self, port: usize, vid: u16, frame: &[u8], out: &mut Tagged)
         requires port { carries_at vid (slice_get self.now.ports port) ≡ true }
         requires frame { is_frame frame.now ≡ true }
