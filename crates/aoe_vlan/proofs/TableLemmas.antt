@@ -140,7 +140,8 @@ module _ (vid : ℕ) (a : Mac) (p : ℕ) (ts : List Table) (i : ℕ) (r new : Ta
   pub place-found : (u : Table) (dest : Mac) → u ≡ get_or (slice_set ts i new) i u → found u.stations dest ≡ found_in vid (slice_set ts i new) dest
   place-found u dest at =
       let now : u ≡ new = at ∙ get_or-set_at ts i i new u refl at-first.0 in
-      let before : stations_of vid ts ≡ Some r.stations = stations-first vid ts i r at-first.0 at-first.1 at-first.2 ∙ ap (λ (t : Table). Some t.stations) (sym is) in
+      let before : stations_of vid ts ≡ Some r.stations =
+      stations-first vid ts i r at-first.0 at-first.1 at-first.2 ∙ ap (λ (t : Table). Some t.stations) (sym is) in
       let after : stations_of vid (slice_set ts i new) ≡ Some u.stations =
       ap (λ l. stations_of vid l) learnt-found ∙ stations-same vid a p ts ∙ ap (λ o. option_map (λ s. moved s a p) o) before
       ∙ ap (λ (t : Table). Some t.stations) (sym (now ∙ learnt)) in
@@ -159,7 +160,8 @@ pub covers-more : {A : Type 0} (test : ℕ → A → Bool) (xs : List A) (i : �
     → Covers test xs (i + 1) us
 covers-more test xs i x d ts us lt is kept one covers vid e =
     let grown : take (i + 1) xs ≡ take i xs ++ x ∷ [] = take_more xs i d lt ∙ ap (λ y. take i xs ++ y ∷ []) is in
-    let any : (list_any (test vid) (take i xs) || (test vid x || false)) ≡ true = sym (list_any-append (test vid) (take i xs) (x ∷ [])) ∙ ap (λ l. list_any (test vid) l) (sym grown) ∙ e in
+    let any : (list_any (test vid) (take i xs) || (test vid x || false)) ≡ true =
+    sym (list_any-append (test vid) (take i xs) (x ∷ [])) ∙ ap (λ l. list_any (test vid) l) (sym grown) ∙ e in
     elim (cases_Bool (list_any (test vid) (take i xs))) [
       | inl there ↦ kept vid (covers vid there)
       | inr none ↦ elim (cases_Bool (test vid x)) [

@@ -68,7 +68,8 @@ the-one : (o : Option Stations) (t : Stations) → IsSome o → IfSome o (λ s. 
 the-one None t some is = absurd (cc)
 the-one (Some s) t some is = ap (λ (x : Stations). Some x) is
 
-module _ (ports : List PortKind) (tables : List Table) (inputs : List Passing) (i : Passing) (learnt : HasLearnt record { ports = ports; tables = tables } inputs) where
+module _ (ports : List PortKind) (tables : List Table) (inputs : List Passing) (i : Passing)
+    (learnt : HasLearnt record { ports = ports; tables = tables } inputs) where
   pub takes-none : vlan_at ports i ≡ None → HasLearnt record { ports = ports; tables = tables } (i ∷ inputs)
   takes-none e w = subst (λ (l : List Passing). IfSome (stations_of w tables) (λ s. s ≡ taught l)) (inputs-none ports inputs i w e) (learnt w)
 
@@ -105,7 +106,8 @@ module _ (ports : List PortKind) (tables : List Table) (inputs : List Passing) (
         → toward ports vid i.port at ≡ going ports inputs i
     takes-going at some is =
         let a : Mac = destination_of i.frame in
-        let placed : at ≡ cond (is_individual a) (place (inputs_of ports vid (i ∷ inputs)) a) None = is ∙ ap (λ o. cond (is_individual a) o None) (takes-place some a) in
+        let placed : at ≡ cond (is_individual a) (place (inputs_of ports vid (i ∷ inputs)) a) None =
+        is ∙ ap (λ o. cond (is_individual a) o None) (takes-place some a) in
         ap (λ o. toward ports vid i.port o) placed ∙ ap (λ o. going_in ports inputs i o) (sym e)
 
 -- a port and the VLAN of a frame there

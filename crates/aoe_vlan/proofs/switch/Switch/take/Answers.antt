@@ -18,7 +18,8 @@ invariant_of-self c =
     let s = c.self.inside in
     let lt : c.args.port < length s.ports.items = omega (arith, c.requires, ap (λ (k : Knowing). length k.ports) c.self.view_is) in
     let i : Passing = record { port = c.args.port; frame = c.args.frame.now } in
-    let there = vlan-there s.ports.items c.args.port c.index.result.now c.args.frame.now c.in-Some.vid lt c.index.ensures (sym c.vlan_of.ensures ∙ c.in-Some.is) in
+    let there =
+    vlan-there s.ports.items c.args.port c.index.result.now c.args.frame.now c.in-Some.vid lt c.index.ensures (sym c.vlan_of.ensures ∙ c.in-Some.is) in
     let before = c.self.invariant.3 in
     let after = takes-some s.ports.items s.tables.items before.0 i before.1 c.in-Some.vid there in (
       c.self.invariant.0,
@@ -52,7 +53,8 @@ returns-clause-learnt c = λ inputs learnt w.
     let s = c.self.inside in
     let lt : c.args.port < length s.ports.items = omega (arith, c.requires, ap (λ (k : Knowing). length k.ports) c.self.view_is) in
     let i : Passing = record { port = c.args.port; frame = c.args.frame.now } in
-    let there = vlan-there s.ports.items c.args.port c.index.result.now c.args.frame.now c.in-Some.vid lt c.index.ensures (sym c.vlan_of.ensures ∙ c.in-Some.is) in
+    let there =
+    vlan-there s.ports.items c.args.port c.index.result.now c.args.frame.now c.in-Some.vid lt c.index.ensures (sym c.vlan_of.ensures ∙ c.in-Some.is) in
     let before = subst (λ (k : Knowing). HasLearnt k inputs) (sym c.self.view_is) learnt in
     let after = takes-some s.ports.items s.tables.items inputs i before c.in-Some.vid there in
     subst (λ (l : List Table). HasLearnt record { ports = s.ports.items; tables = l } (i ∷ inputs)) (sym c.learn-place.ensures.tables) after w

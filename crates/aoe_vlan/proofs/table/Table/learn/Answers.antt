@@ -20,7 +20,8 @@ returns-in-Some c =
 pub returns-else-len-lt-MAX_STATIONS : goal.returns-else-len-lt-MAX_STATIONS
 returns-else-len-lt-MAX_STATIONS c =
     let es = c.self.inside.stations.entries in
-    let absent : list_any (same_address c.args.address) (keys_of es) ≡ false = sym (is_some-lookup (same_address c.args.address) es) ∙ sym c.get_index_of.ensures.found ∙ ap is_some c.in_default.is in
+    let absent : list_any (same_address c.args.address) (keys_of es) ≡ false =
+    sym (is_some-lookup (same_address c.args.address) es) ∙ sym c.get_index_of.ensures.found ∙ ap is_some c.in_default.is in
     sym c.self.view_is
     ∙ (λ i. record { vid = c.self.inside.vid; stations = moved-full es c.args.address c.args.port (omega (arith, c.if-len-lt-MAX_STATIONS.false, c.len.ensures.len)) absent i })
     ∙ ap (λ (u : Table). record { vid = u.vid; stations = moved u.stations c.args.address c.args.port }) c.self.view_is
