@@ -1,8 +1,9 @@
 //! Numbers and steps.
 use crate::checks::holds;
-use aoe_base::{Steps, read_number};
+use aoe_base::{Failed, NoMemory, Steps, read_number};
 use std::marker::Brand;
 use std::mem::size_of;
+use std::test::Fail;
 
 #[test]
 fn reads_numbers(rt: HostRuntime) {
@@ -24,4 +25,13 @@ fn reads_numbers(rt: HostRuntime) {
 #[test]
 fn steps_have_no_bytes(rt: HostRuntime) {
     assert!(rt; size_of::<Steps<Brand>>() == 0);
+}
+
+#[test]
+fn says_what_is_missing(rt: HostRuntime) -> Result<(), Fail> {
+    let memory = format!(in rt.alloc(); "{NoMemory}")?;
+    let answer = format!(in rt.alloc(); "{Failed}")?;
+    holds(&rt, memory.as_str() == "no memory", "memory");
+    holds(&rt, answer.as_str() == "failed", "answer");
+    Ok(())
 }

@@ -1,3 +1,4 @@
+use crate::checks::holds;
 use aoe_base::Failed;
 use aoe_frame::Frame;
 use aoe_io::{
@@ -117,6 +118,23 @@ fn joined_links_give_what_the_other_took(rt: HostRuntime) -> Result<(), Fail> {
             goes(&mut two, *turn, bytes)
         };
         assert!(rt; has_gone);
+    }
+    Ok(())
+}
+
+#[test]
+fn says_why_no_frame_comes(rt: HostRuntime) -> Result<(), Fail> {
+    let cases = [
+        (StreamRefusal::SourceFault, "source fault"),
+        (StreamRefusal::Stream { offset: 0 }, "bad stream at byte 0"),
+        (
+            StreamRefusal::Stream { offset: u64::MAX },
+            "bad stream at byte 18446744073709551615",
+        ),
+    ];
+    for (refusal, text) in &cases {
+        let told = format!(in rt.alloc(); "{refusal}")?;
+        holds(&rt, told.as_str() == *text, text);
     }
     Ok(())
 }
