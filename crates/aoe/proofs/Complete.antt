@@ -116,14 +116,16 @@ module _ {D S K L : Type 0} (state : D → DiskState) (t : Tells S K L) (s : Sta
   answers-by (end.Served e) old new fs ran is left_is all few source sink = absurd ran
   answers-by (end.Answered e) old new fs ran is left_is all few source sink =
       let P : Option (List ℕ) → Type 0 = λ l. Answered e l (t.left b.source) (t.held a.sink) (t.held b.sink) old new in
-      is ∙ answered-whole e (t.left b.source) (t.held a.sink) (t.held b.sink) old new fs (subst P left_is ran.answered) all few (λ x. source (is ∙ x)) (λ x. sink (is ∙ x))
+      is ∙ answered-whole e (t.left b.source) (t.held a.sink) (t.held b.sink) old new fs (subst P left_is ran.answered) all few (λ x. source (is ∙ x))
+      (λ x. sink (is ∙ x))
 
   pub answers : (asked : Answers) (fs : List (List ℕ)) → Ran state (Answer asked) t s a b disks disks' → t.left a.source ≡ Some (stream fs) → All IsFrame fs
       → length fs < 4294967295
       → s ≢ status.SourceFault → s ≢ status.SinkFault → s ≡ status.Ok
   answers asked fs r left_is all few source sink =
       let synced = all-synced state _ _ _ t plan.Answer r.exported a b disks disks' r.run fine in
-      answers-by r.exported.end r.run.first r.run.run.middle fs r.run.run.ran (r.ends ∙ all-synced-same (ended_by r.exported.end) r.exported.unsynced synced) left_is all few source sink
+      answers-by r.exported.end r.run.first r.run.run.middle fs r.run.run.ran
+      (r.ends ∙ all-synced-same (ended_by r.exported.end) r.exported.unsynced synced) left_is all few source sink
 
   serves-by : (e : RunEnd) (limit idle : ℕ) (old new : List Slot) → HasRun t (plan.Serve limit idle) e a b old new → s ≡ ended_by e → s ≢ status.LinkFault 0
       → s ≡ status.Ok
@@ -134,7 +136,8 @@ module _ {D S K L : Type 0} (state : D → DiskState) (t : Tells S K L) (s : Sta
   pub serves : (asked : Serves) → Ran state (Serve asked) t s a b disks disks' → s ≢ status.LinkFault 0 → s ≡ status.Ok
   serves asked r link =
       let synced = all-synced state _ _ _ t (plan.Serve asked.frames asked.idle) r.exported a b disks disks' r.run fine in
-      serves-by r.exported.end asked.frames asked.idle r.run.first r.run.run.middle r.run.run.ran (r.ends ∙ all-synced-same (ended_by r.exported.end) r.exported.unsynced synced) link
+      serves-by r.exported.end asked.frames asked.idle r.run.first r.run.run.middle r.run.run.ran
+      (r.ends ∙ all-synced-same (ended_by r.exported.end) r.exported.unsynced synced) link
 
 -- a link that didn't fail isn't told as one that did
 pub link-fine : {L : Type 0} (faults : L → ℕ) (links links' : List L) → AtFirst (λ a b. IsFaultless (faults a) (faults b)) links links'

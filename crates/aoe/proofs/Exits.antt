@@ -69,7 +69,8 @@ over-then : {D : Type 0} (state : D → DiskState) (most : ℕ) (name : ℕ → 
 over-then state most name a b first last file file' keep keep' disks disks' over rest = record { count = omega (arith, rest.count); stands = stand; has = disk }
   where
     stand : (slot : ℕ) → OnSlot (Stands state (a ∷ first) (b ∷ last) slot) slot (Some file ∷ Some keep ∷ disks) (Some file' ∷ Some keep' ∷ disks')
-    stand zero = on-first (Stands state (a ∷ first) (b ∷ last) 0) file file' keep keep' disks disks' (stands-first state most name a b first last file file' keep keep' over)
+    stand zero = on-first (Stands state (a ∷ first) (b ∷ last) 0) file file' keep keep' disks disks'
+        (stands-first state most name a b first last file file' keep keep' over)
     stand (suc slot) = on-then (Stands state (a ∷ first) (b ∷ last) (suc slot)) slot (Some file) (Some keep) (Some file') (Some keep') disks disks'
         (on-map (Stands state first last slot) (Stands state (a ∷ first) (b ∷ last) (suc slot)) slot disks disks' (stands-then state a b first last slot) (rest.stands slot))
 
@@ -79,7 +80,8 @@ over-then state most name a b first last file file' keep keep' disks disks' over
 
 over : {D : Type 0} (state : D → DiskState) (most : ℕ) (name : ℕ → ℕ → Station) (minor : ℕ) (disks disks' : List (Option D)) (first last : List Slot)
     → OverFiles state most name minor disks disks' first last → Over state disks disks' first last
-over state most name minor (Some f ∷ Some k ∷ disks) (Some f' ∷ Some k' ∷ disks') (a ∷ first) (b ∷ last) x = over-then state most (name minor) a b first last f f' k k' disks disks' x.0 (over state most name (minor + 1) disks disks' first last x.1)
+over state most name minor (Some f ∷ Some k ∷ disks) (Some f' ∷ Some k' ∷ disks') (a ∷ first) (b ∷ last) x = over-then state most
+    (name minor) a b first last f f' k k' disks disks' x.0 (over state most name (minor + 1) disks disks' first last x.1)
 over state most name minor (Some f ∷ Some k ∷ disks) (Some f' ∷ Some k' ∷ disks') (a ∷ first) [] x = absurd x
 over state most name minor (Some f ∷ Some k ∷ disks) (Some f' ∷ Some k' ∷ disks') [] last x = absurd x
 over state most name minor (Some f ∷ Some k ∷ disks) (Some f' ∷ None ∷ disks') first last x = absurd x

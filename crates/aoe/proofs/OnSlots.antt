@@ -23,7 +23,8 @@ module _ {D : Type 0} (R : D → D → D → D → Type 0) where
   pub on-then : (slot : ℕ) (x y x' y' : Option D) (disks disks' : List (Option D)) → OnSlot R slot disks disks'
       → OnSlot R (suc slot) (x ∷ y ∷ disks) (x' ∷ y' ∷ disks')
   on-then slot x y x' y' disks disks' on f f' k k' ef ef' ek ek' =
-      on f f' k k' (sym (file-behind x y disks slot) ∙ ef) (sym (file-behind x' y' disks' slot) ∙ ef') (sym (keep-behind x y disks slot) ∙ ek) (sym (keep-behind x' y' disks' slot) ∙ ek')
+      on f f' k k' (sym (file-behind x y disks slot) ∙ ef) (sym (file-behind x' y' disks' slot) ∙ ef') (sym (keep-behind x y disks slot) ∙ ek)
+      (sym (keep-behind x' y' disks' slot) ∙ ek')
 
   -- where there are no disks there are none of a slot
   pub on-none : (slot : ℕ) (disks disks' : List (Option D)) → length disks ≡ 0 → OnSlot R slot disks disks'

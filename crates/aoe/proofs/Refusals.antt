@@ -137,7 +137,9 @@ backed-then state refused r f f' k k' disks disks' lists mounted b = record { wi
 pub backed : {D : Type 0} (state : D → DiskState) (refused : ℕ) (r : MountRefusal) (disks disks' : List (Option D)) → GivesBack state refused r disks disks'
     → Backed state refused r disks disks'
 backed state zero r (Some f ∷ Some k ∷ disks) (Some f' ∷ Some k' ∷ disks') back = backed-here state r f f' k k' disks disks' back.0.why
-backed state (suc refused) r (Some f ∷ Some k ∷ disks) (Some f' ∷ Some k' ∷ disks') back = backed-then state refused r f f' k k' disks disks' back.0.lists back.0.mounted (backed state refused r disks disks' back.1)
+backed state (suc refused) r (Some f ∷ Some k ∷ disks)
+    (Some f' ∷ Some k' ∷ disks') back = backed-then state refused r f f' k k' disks disks' back.0.lists back.0.mounted
+    (backed state refused r disks disks' back.1)
 backed state zero r (Some f ∷ Some k ∷ disks) (Some f' ∷ None ∷ disks') back = absurd back
 backed state zero r (Some f ∷ Some k ∷ disks) (Some f' ∷ []) back = absurd back
 backed state zero r (Some f ∷ Some k ∷ disks) (None ∷ disks') back = absurd back
@@ -273,7 +275,8 @@ module _ {D : Type 0} (state : D → DiskState) (s : Status) (slot : ℕ) (keep 
   mounted-of lists (is_mounted after found m later) has fine e = omega (arith, later slot e)
   mounted-of lists (is_behind k is below) has fine e = omega (arith, told-as k e is, below)
   mounted-of lists (no_memory is) has fine e = cc
-  mounted-of lists (is_refused refusal.Failed why is) has fine e = let more : (state keep).faults < (state keep').faults = why.2.run.cause fine.room in omega (arith, more, fine.same)
+  mounted-of lists (is_refused refusal.Failed why is) has fine e = let more : (state keep).faults <
+      (state keep').faults = why.2.run.cause fine.room in omega (arith, more, fine.same)
   mounted-of lists (is_refused (refusal.TooSmall n) why is) has fine e = omega (arith, has.room, why.0, why.1)
   mounted-of lists (is_refused (refusal.BadKeep n) why is) has fine e =
       found-one has.contents lists n has.stand (told-of (λ a. found a.bytes ≡ Err n) has.contents (state keep).contents (state keep').contents why.1 has.told)
@@ -395,21 +398,25 @@ module _ {D S K L : Type 0} (state : D → DiskState) (command : Command) (t : T
           at n r is keep keep' (behind above) = is_behind n is above
 
   pub keep-fault : (slot : ℕ) → s ≡ status.DiskFault (keep_at slot) → OnSlot (λ _ _ keep keep'. Rose (state keep).faults (state keep').faults) slot disks disks'
-  keep-fault slot e = on-map (λ _ _ keep keep'. KeepIs state s slot keep keep') (λ _ _ keep keep'. Rose (state keep).faults (state keep').faults) slot disks disks'
+  keep-fault slot e = on-map (λ _ _ keep keep'. KeepIs state s slot keep keep')
+      (λ _ _ keep keep'. Rose (state keep).faults (state keep').faults) slot disks disks'
       (λ _ _ keep keep' is. fault-of state s slot keep keep' is e) (keep-is slot)
 
   pub keep-small : (slot sectors : ℕ)
       → OnSlot (λ _ _ keep _. (s ≡ status.KeepSmall (keep_at slot) sectors) ↔ IsSmall (state keep) s slot sectors) slot disks disks'
-  keep-small slot sectors = on-map (λ _ _ keep keep'. KeepIs state s slot keep keep') (λ _ _ keep _. (s ≡ status.KeepSmall (keep_at slot) sectors) ↔ IsSmall (state keep) s slot sectors) slot disks disks'
+  keep-small slot sectors = on-map (λ _ _ keep keep'. KeepIs state s slot keep keep')
+      (λ _ _ keep _. (s ≡ status.KeepSmall (keep_at slot) sectors) ↔ IsSmall (state keep) s slot sectors) slot disks disks'
       (λ _ _ keep keep' is. small-of state s slot keep keep' sectors is) (keep-is slot)
 
   pub keep-bad : (slot bad : ℕ)
       → OnSlot (λ _ _ keep _. IfSome (state keep).contents (λ c. (s ≡ status.KeepBad (keep_at slot) bad) ↔ IsBad (state keep) c s slot bad)) slot disks disks'
-  keep-bad slot bad = on-map (λ _ _ keep keep'. KeepIs state s slot keep keep') (λ _ _ keep _. IfSome (state keep).contents (λ c. (s ≡ status.KeepBad (keep_at slot) bad) ↔ IsBad (state keep) c s slot bad)) slot disks disks'
+  keep-bad slot bad = on-map (λ _ _ keep keep'. KeepIs state s slot keep keep')
+      (λ _ _ keep _. IfSome (state keep).contents (λ c. (s ≡ status.KeepBad (keep_at slot) bad) ↔ IsBad (state keep) c s slot bad)) slot disks disks'
       (λ _ _ keep keep' is. bad-of state s slot keep keep' bad is) (keep-is slot)
 
   pub mounted : (slot : ℕ) (lists : Settings) → OnSlot (λ _ _ keep keep'. HasLists (state keep) lists → IsFaultless (state keep).faults (state keep').faults → refused_slot s ≢ Some slot) slot disks disks'
-  mounted slot lists = on-map (λ _ _ keep keep'. KeepIs state s slot keep keep') (λ _ _ keep keep'. HasLists (state keep) lists → IsFaultless (state keep).faults (state keep').faults → refused_slot s ≢ Some slot) slot disks disks'
+  mounted slot lists = on-map (λ _ _ keep keep'. KeepIs state s slot keep keep')
+      (λ _ _ keep keep'. HasLists (state keep) lists → IsFaultless (state keep).faults (state keep').faults → refused_slot s ≢ Some slot) slot disks disks'
       (λ _ _ keep keep' is has fine e. mounted-of state s slot keep keep' lists is has fine e) (keep-is slot)
 
   -- the disk of a fault is there
@@ -436,14 +443,16 @@ module _ {D S K L : Type 0} (state : D → DiskState) (command : Command) (t : T
     where
       over : Runs state t s a b disks disks' → OnSlot (λ file file' _ _. Rose (state file).faults (state file').faults) slot disks disks'
       over (over_none empty fine) = absurd (fine (file_at slot) e)
-      over (over_files rack p r) = unsynced-rose state _ _ _ t _ r.exported a b disks disks' r.run slot (unsynced-at r.exported.end r.exported.unsynced slot (sym e ∙ r.ends))
+      over (over_files rack p r) = unsynced-rose state _ _ _ t _ r.exported a b disks disks' r.run slot
+          (unsynced-at r.exported.end r.exported.unsynced slot (sym e ∙ r.ends))
 
   pub settled : (slot : ℕ) → s ≡ status.Ok → OnSlot (λ _ file' _ _. IfSome (state file').contents NothingLoose) slot disks disks'
   settled slot e = over (runs (ap refused_slot e) (λ f. cc))
     where
       over : Runs state t s a b disks disks' → OnSlot (λ _ file' _ _. IfSome (state file').contents NothingLoose) slot disks disks'
       over (over_none empty fine) = on-none (λ _ file' _ _. IfSome (state file').contents NothingLoose) slot disks disks' empty
-      over (over_files rack p r) = all-settled state _ _ _ t _ r.exported a b disks disks' r.run slot (synced-at r.exported.end r.exported.unsynced (sym e ∙ r.ends))
+      over (over_files rack p r) = all-settled state _ _ _ t _ r.exported a b disks disks' r.run slot
+          (synced-at r.exported.end r.exported.unsynced (sym e ∙ r.ends))
 
 -- Which command it was.
 

@@ -1,5 +1,6 @@
 //! A file or a block device as a disk. It tells nothing of its content.
-ghost use Rattle.std.specs.Prelude.{◌≡◌, ◌<◌, ◌≤◌, ◌+◌, ◌^◌, IfOk, IsErr, IsTrue, None, OnErr, is_ok, length};
+ghost use Rattle.std.specs.Prelude.{◌≡◌, ◌<◌, ◌≤◌, ◌+◌, ◌^◌, ◌==◌, ◌&&◌, not, if◌then◌else◌, IfOk, IsErr, IsTrue, None, Some, OnErr, is_ok, length};
+ghost use Rattle.aoe_keep.specs.Content.{may_hold_keep as may_hold};
 ghost use Rattle.aoe_base.specs.Faults.{Rose};
 ghost use Rattle.aoe_disk.specs.Calls.{IsRange};
 ghost use Rattle.aoe_disk.specs.State.{DiskState};
@@ -60,6 +61,21 @@ impl From<TryLockError> for FileRefusal {
     }
 }
 
+/// Why a file, or a device, with these bytes at its beginning isn't taken for a keep.
+fn doubt_of(image: &[u8; KEEP_LEN], is_file: bool, len: u64) -> Option<KeepDoubt>
+    ensures { result ≡ (if is_file && not (len == 8192) then Some KeepDoubt.Size
+        else if may_hold image.now then None else Some KeepDoubt.Content) }
+{
+    if is_file && len != KEEP_LEN as u64 {
+        return Some(KeepDoubt::Size);
+    }
+    if may_hold_keep(image) {
+        None
+    } else {
+        Some(KeepDoubt::Content)
+    }
+}
+
 /// The whole sectors of a file or a block device; a rest at its end is none. Each failure is counted.
 #[derive(Drop)]
 pub struct FileDisk {
@@ -98,22 +114,16 @@ impl FileDisk {
 
     /// Why the file isn't taken for a keep, where it isn't. A keep's first change would destroy what
     /// else it holds. One that is too small is refused when it is mounted.
-    pub fn keep_doubt(&self) -> Option<KeepDoubt> {
+    pub fn keep_doubt(&self) -> Option<KeepDoubt>
+        ensures small { self.now.sectors < 16 → result ≡ None }
+    {
         if self.sectors < KEEP_SECTORS {
             return None;
         }
         let mut image = [0; KEEP_LEN];
-        let (Ok(metadata), Ok(())) = (self.file.metadata(), self.file.read_exact_at(&mut image, 0))
-        else {
-            return Some(KeepDoubt::Unread);
-        };
-        if metadata.is_file() && metadata.len() != KEEP_LEN as u64 {
-            return Some(KeepDoubt::Size);
-        }
-        if may_hold_keep(&image) {
-            None
-        } else {
-            Some(KeepDoubt::Content)
+        match (self.file.metadata(), self.file.read_exact_at(&mut image, 0)) {
+            (Ok(metadata), Ok(())) => doubt_of(&image, metadata.is_file(), metadata.len()),
+            _ => Some(KeepDoubt::Unread),
         }
     }
 

@@ -55,7 +55,8 @@ fits : (last : ℕ) → last < 256 → All IsAddress (record { 0 = 2 ∷ 0 ∷ 0
 fits last small =
     let mac : Mac = record { 0 = 2 ∷ 0 ∷ 0 ∷ 0 ∷ 0 ∷ last ∷ [] } in
     let bytes : All IsByte (2 ∷ 0 ∷ 0 ∷ 0 ∷ 0 ∷ last ∷ []) =
-    All-from_recursion IsByte (2 ∷ 0 ∷ 0 ∷ 0 ∷ 0 ∷ last ∷ []) (omega arith, (omega arith, (omega arith, (omega arith, (omega arith, (omega (arith, small), tt)))))) in
+    All-from_recursion IsByte (2 ∷ 0 ∷ 0 ∷ 0 ∷ 0 ∷ last ∷ [])
+    (omega arith, (omega arith, (omega arith, (omega arith, (omega arith, (omega (arith, small), tt)))))) in
     let address : IsAddress mac = record { six = refl; bytes = bytes } in
     All-from_recursion IsAddress (mac ∷ []) (address, tt)
 

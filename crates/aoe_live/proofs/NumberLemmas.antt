@@ -43,12 +43,14 @@ newly n number h m same is count = (omega (arith, same, is), omega (arith, same,
 
 by-host : (s : Setup) (e : Entry) (h : List Entry) (f : List ℕ) (n : ℕ) → MayCome s h e → matching f (frame_by sender.Host e) ≡ Some n → IsOne n (e ∷ h)
 by-host s (Sent host ticket number bytes) h f n may is =
-    newly n number h (Sent host ticket number bytes ∷ h) (matching-number f (record { number = number; bytes = bytes }) n is) (sent-number s h (host_called s host) ticket number bytes may) refl
+    newly n number h (Sent host ticket number bytes ∷ h) (matching-number f (record { number = number; bytes = bytes }) n is)
+    (sent-number s h (host_called s host) ticket number bytes may) refl
 by-host s _ h f n may is = absurd cc
 
 by-shelf : (s : Setup) (e : Entry) (h : List Entry) (f : List ℕ) (n : ℕ) → MayCome s h e → matching f (frame_by sender.Shelf e) ≡ Some n → IsOne n (e ∷ h)
 by-shelf s (Arrived dev frame (Replied effect number bytes)) h f n may is =
-    newly n number h (Arrived dev frame (Replied effect number bytes) ∷ h) (matching-number f (record { number = number; bytes = bytes }) n is) (reply-number s h (slot_of s dev) frame (Replied effect number bytes) may) refl
+    newly n number h (Arrived dev frame (Replied effect number bytes) ∷ h) (matching-number f (record { number = number; bytes = bytes }) n is)
+    (reply-number s h (slot_of s dev) frame (Replied effect number bytes) may) refl
 by-shelf s _ h f n may is = absurd cc
 
 by : (x : Sender) (s : Setup) (e : Entry) (h : List Entry) (f : List ℕ) (n : ℕ) → MayCome s h e → matching f (frame_by x e) ≡ Some n → IsOne n (e ∷ h)

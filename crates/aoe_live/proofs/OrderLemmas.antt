@@ -109,7 +109,8 @@ one-keeps s lines _ a b h m t comes = absurd cc
 
 plays-keep : (s : Setup) (lines : List Line) (es : List Event) (a b : ℕ) (h m : List Entry) → ArePassive es → Plays s lines es a h b m → Keeps (times es) h m
 plays-keep s lines [] a b h m p x = keeps-none h m x.1
-plays-keep s lines (e ∷ es) a b h m p x = keeps-then (takes e) (times es) h x.1 m (one-keeps s lines e a x.0 h x.1 p.0 x.2) (plays-keep s lines es x.0 b x.1 m p.1 x.3)
+plays-keep s lines (e ∷ es) a b h m p x = keeps-then (takes e) (times es) h x.1 m (one-keeps s lines e a x.0 h x.1 p.0 x.2)
+    (plays-keep s lines es x.0 b x.1 m p.1 x.3)
 
 passive-append : (xs ys : List Event) → ArePassive xs → ArePassive ys → ArePassive (xs ++ ys)
 passive-append [] ys p q = q
@@ -217,7 +218,8 @@ module _ (sectors count : ℕ) (h m : List Entry) (o : InOrder sectors count h) 
             record {
               asked = subst P (sym subs) (this, o.asked);
               few = omega (arith, n, begun, next);
-              each_done = λ ticket some below. ap (has_outcome ticket) a.tail ∙ has-more a.new h ticket (earlier ticket some (omega (arith, n, below)) begun same);
+              each_done = λ ticket some below. ap (has_outcome ticket) a.tail
+                  ∙ has-more a.new h ticket (earlier ticket some (omega (arith, n, below)) begun same);
             }
       ]
     where

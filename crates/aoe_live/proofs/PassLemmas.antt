@@ -42,8 +42,10 @@ passed-one h told i e tally tally' one a b two c d at p is first second =
     let Q : List Entry → Type 0 = λ l. Carries sender.Host (drop (length h - told) h) l two d in
     record {
       tally_is = is ∙ ap (noted e) p.tally_is ∙ sym (ap tally_of at);
-      carries_one = subst P (sym at) (carries-then sender.Shelf (drop (length h - told) h) before (e ∷ before) one a b p.carries_one (carries-one sender.Shelf e before a b first));
-      carries_two = subst Q (sym at) (carries-then sender.Host (drop (length h - told) h) before (e ∷ before) two c d p.carries_two (carries-one sender.Host e before c d second));
+      carries_one = subst P (sym at)
+          (carries-then sender.Shelf (drop (length h - told) h) before (e ∷ before) one a b p.carries_one (carries-one sender.Shelf e before a b first));
+      carries_two = subst Q (sym at)
+          (carries-then sender.Host (drop (length h - told) h) before (e ∷ before) two c d p.carries_two (carries-one sender.Host e before c d second));
     }
 
 -- the entries that were looked at before a line are those before it

@@ -65,9 +65,11 @@ module _ (sectors : ℕ) (script : ScriptLines) (old : Stepped) (event : Event) 
       → ComesSome (setup_of old.lines) old.lines event old.cursor old.entries k
       → IsRefusedAt (setup_of old.lines) (ComesSome (setup_of old.lines) old.lines event old.cursor old.entries) k refusal
       → Fails sectors (refusal_of refusal) script.events event old.entries k
-  fails-at few NoMemory k lines same sound begins why = let T : List Line → Type 0 = λ l. IsSound (setup_of l) k in (few, inl (begun k begins), subst T (same ∙ f.lines) sound)
+  fails-at few NoMemory k lines same sound begins why = let T : List Line
+      → Type 0 = λ l. IsSound (setup_of l) k in (few, inl (begun k begins), subst T (same ∙ f.lines) sound)
   fails-at few (NetFull frames bytes) k lines same sound begins why =
       let R : List Line → Type 0 = λ l. IsRefusedAt (setup_of l) (ComesSome (setup_of l) l event old.cursor old.entries) k (NetFull frames bytes) in
-      let S : ℕ → Type 0 = λ c. IsRefusedAt (setup_of (stations sectors)) (ComesSome (setup_of (stations sectors)) (stations sectors) event c old.entries) k (NetFull frames bytes) in
+      let S : ℕ → Type 0 = λ c. IsRefusedAt (setup_of (stations sectors)) (ComesSome (setup_of (stations sectors)) (stations sectors) event c old.entries) k
+      (NetFull frames bytes) in
       let T : List Line → Type 0 = λ l. IsSound (setup_of l) k in
       (begun k begins, subst S f.cursor (subst R f.lines why), subst T (same ∙ f.lines) sound)

@@ -129,8 +129,10 @@ module _ {sectors count turns quiet : ℕ} {last : Option ℕ} {h : List Entry} 
             record { lines = t.lines; turn = subst P (ms_is ∙ ap (λ k. now - k) (g.last_is now)) t.turn; events_are = t.lines_are; finishes = t.finishes_is },
           );
           sound = sound;
-          turned_one = turned-then old.one.turns mid.one.turns new.one.turns old.one.given mid.one.given new.one.given (map (λ (r : Round). r.one) g.rounds) (t.first ∷ []) g.came.turned_one t.over.turned_one;
-          turned_two = turned-then old.two.turns mid.two.turns new.two.turns old.two.given mid.two.given new.two.given (map (λ (r : Round). r.two) g.rounds) (t.second ∷ []) g.came.turned_two t.over.turned_two;
+          turned_one = turned-then old.one.turns mid.one.turns new.one.turns old.one.given mid.one.given new.one.given (map (λ (r : Round). r.one) g.rounds)
+              (t.first ∷ []) g.came.turned_one t.over.turned_one;
+          turned_two = turned-then old.two.turns mid.two.turns new.two.turns old.two.given mid.two.given new.two.given (map (λ (r : Round). r.two) g.rounds)
+              (t.second ∷ []) g.came.turned_two t.over.turned_two;
           took_one = t.over.carries_one old.one.taken g.came.took_one;
           took_two = t.over.carries_two old.two.taken g.came.took_two;
           told = told-then old.answers mid.answers new.answers (map (λ (r : Round). r.now) g.rounds) now g.came.told asked;

@@ -51,7 +51,8 @@ module _ (f s f' s' : List Turn) (xs ys : List Event) (p q r : Recorder) (k l m 
     (next : Recorded f' s' ys q r l m) where
   pub recorded-then : Recorded (f' ++ f) (s' ++ s) (xs ++ ys) p r k m
   recorded-then = record {
-    come = come-then p.sectors xs ys p.world.entries q.world.entries r.world.entries first.come (come-as q.sectors p.sectors ys q.world.entries r.world.entries same next.come);
+    come = come-then p.sectors xs ys p.world.entries q.world.entries r.world.entries first.come
+        (come-as q.sectors p.sectors ys q.world.entries r.world.entries same next.come);
     lines_are = next.lines_are ∙ ap (λ l. l ++ ys) first.lines_are ∙ append_assoc p.script.events xs ys;
     over = over-then f s f' s' p.world.entries q.world.entries r.world.entries k.one l.one m.one k.two l.two m.two first.over next.over;
   }
@@ -169,7 +170,8 @@ Standing = List Turn → List Turn → List Entry → List Event → Event → T
 -- what stands so behind the lines of a part stands so in all
 abbrev pub Moves : ℕ → Standing → Standing → (f s : List Turn) → List Event → List Entry → Type 0
 Moves sectors S S' f s xs m =
-    (first second : List Turn) (n : List Entry) (lines : List Event) (next : Event) → LinesCome sectors lines m n → S first second n lines next → S' (first ++ f) (second ++ s) n (xs ++ lines) next
+    (first second : List Turn) (n : List Entry) (lines : List Event) (next : Event) → LinesCome sectors lines m n → S first second n lines next
+    → S' (first ++ f) (second ++ s) n (xs ++ lines) next
 
 module _ (S S' : Standing) (f s : List Turn) (xs : List Event) (p q r : Recorder) (k l m : Links) (same : q.sectors ≡ p.sectors) (same_count : q.commands ≡ p.commands) (first : Recorded f s xs p q k l)
     (moves : Moves p.sectors S S' f s xs q.world.entries) where
@@ -208,7 +210,8 @@ module _ (S S' : Standing) (f s : List Turn) (xs : List Event) (p q r : Recorder
 pub stands-among : (part xs ys rest lines : List Event) (next : Event) → part ≡ xs ++ (ys ++ rest) → StandsIn ys lines next → StandsIn part (xs ++ lines) next
 stands-among part xs ys rest lines next is s = record {
   behind = s.behind ++ rest;
-  part_is = is ∙ ap (λ l. xs ++ (l ++ rest)) s.part_is ∙ ap (λ l. xs ++ l) (append_assoc lines (next ∷ s.behind) rest) ∙ sym (append_assoc xs lines (next ∷ (s.behind ++ rest)));
+  part_is = is ∙ ap (λ l. xs ++ (l ++ rest)) s.part_is ∙ ap (λ l. xs ++ l) (append_assoc lines (next ∷ s.behind) rest)
+      ∙ sym (append_assoc xs lines (next ∷ (s.behind ++ rest)));
 }
 
 pub among-moves : (sectors : ℕ) (part xs ys rest : List Event) (m : List Entry) → part ≡ xs ++ (ys ++ rest) → Moves sectors (Among ys) (Among part) [] [] xs m

@@ -28,7 +28,8 @@ spaced-length [] = refl
 spaced-length (w ∷ ws) = length-append (32 ∷ w) (spaced ws) ∙ ap (λ n. suc (length w) + n) (spaced-length ws)
 
 line-length : (first : Text) (ws : List Text) → length (line_text (first ∷ ws)) ≡ (length first + sized ws) + 1
-line-length first ws = length-append (first ++ spaced ws) (10 ∷ []) ∙ ap (λ n. n + 1) (length-append first (spaced ws) ∙ ap (λ n. length first + n) (spaced-length ws))
+line-length first ws = length-append (first ++ spaced ws) (10 ∷ [])
+    ∙ ap (λ n. n + 1) (length-append first (spaced ws) ∙ ap (λ n. length first + n) (spaced-length ws))
 
 number-short : (n : ℕ) → n < 2 ^ 32 → length (decimal n) ≤ 10
 number-short n small = length-decimal-le 10 n (omega arith) (omega (arith, small)) (omega (arith, small))
@@ -78,7 +79,8 @@ module _ (sectors count i : ℕ) (some : 1 ≤ sectors) (most : sectors ≤ 6553
   pub command-short : IsShort (command sectors count i)
   command-short = go (i == count) (i % 2 == 0)
     where
-      go : (last write : Bool) → IsShort (if last then Flush host_a device else if write then Write host_a device (i % sectors) 1 (i % 256) else Read host_a device ((i - 1) % sectors) 1)
+      go : (last write : Bool) → IsShort
+          (if last then Flush host_a device else if write then Write host_a device (i % sectors) 1 (i % 256) else Read host_a device ((i - 1) % sectors) 1)
       go true write = flush-short
       go false true = write-short (i % sectors) (i % 256) (within i)
       go false false = read-short ((i - 1) % sectors) (within (i - 1))

@@ -97,7 +97,8 @@ module _ (p q : Recorder) (k k' l : Links) (first : Turn) (asked : OverLinks (fi
   pub exchange-fails-first : {T U : Type 0} (x : LiveRefusal) → Steps {T = T} (handing sender.Host first p.world.entries) (Err x) p q k' l
       → Exchanges {T = U} (Err x) p q k l
   exchange-fails-first x d =
-      fails-behind (Among (handing sender.Host first p.world.entries)) (InExchange p.sectors p.world.entries) (first ∷ []) [] [] p p q k k' l refl refl (recorded-asked p k k' (first ∷ []) [] asked)
+      fails-behind (Among (handing sender.Host first p.world.entries)) (InExchange p.sectors p.world.entries) (first ∷ []) [] [] p p q k k' l refl refl
+      (recorded-asked p k k' (first ∷ []) [] asked)
       (first-moves p.sectors first p.world.entries) _ _ x d
 
   module _ (one : Recorded [] [] (handing sender.Host first p.world.entries) p q k' l) (same : q.sectors ≡ p.sectors) (same_count : q.commands ≡ p.commands) (r : Recorder) (l' m : Links) (second : Turn)
@@ -177,7 +178,8 @@ module _ (sectors sectors' count ms : ℕ) (same : sectors' ≡ sectors) (h m : 
 
 -- of the same stations, commands and outcomes
 asking-as : (s s' count count' : ℕ) (t t' : Tally) → s ≡ s' → count ≡ count' → t ≡ t' → asking s count t ≡ asking s' count' t'
-asking-as s s' count count' t t' same same_count same_tally = ap (λ n. asking n count t) same ∙ ap (λ n. asking s' n t) same_count ∙ ap (asking s' count') same_tally
+asking-as s s' count count' t t' same same_count same_tally = ap (λ n. asking n count t) same ∙ ap (λ n. asking s' n t) same_count
+    ∙ ap (asking s' count') same_tally
 
 module _ (turns ms : ℕ) (a b : Recorder) (k l : Links) where
   abbrev Ends : LiveRefusal → Recorder → Links → Type 0
@@ -215,7 +217,8 @@ module _ (turns ms : ℕ) (a b : Recorder) (k l : Links) where
         pub ask-fails : {T : Type 0} (r : LiveRefusal) → Steps {T = T} part (Err r) c d m n → Ends r d n
         ask-fails {T} r s =
             let e : Does {T = T} (Unit {0}) (InTurn a.sectors a.commands ms a.world.entries) (Err r) a d k n =
-            fails-behind (Among part) (InTurn a.sectors a.commands ms a.world.entries) (x.first ∷ []) (x.second ∷ []) (ticks ms ++ x.lines) a c d k m n (same' ∙ same) (same_count' ∙ same_count) behind-exchange
+            fails-behind (Among part) (InTurn a.sectors a.commands ms a.world.entries) (x.first ∷ []) (x.second ∷ []) (ticks ms ++ x.lines) a c d k m n
+            (same' ∙ same) (same_count' ∙ same_count) behind-exchange
             (asking-moves a.sectors b.sectors a.commands ms same a.world.entries b.world.entries time.come goes_on x.first x.second x.lines c.world.entries exchange part part-is) _ _ r s in
             ends-by a.sectors a.commands turns ms r a.script.events a.world.entries d.world.entries k.one n.one k.two n.two e.why e.stops
 
@@ -239,7 +242,8 @@ module _ (turns ms : ℕ) (a b : Recorder) (k l : Links) where
                 to_shelf = exchange.to_shelf;
                 to_host = exchange.to_host;
                 asks = subst P part-is (subst Q (same' ∙ same) asks.come);
-                lines_are = append_assoc (ticks ms) x.lines part ∙ ap (λ l. ticks ms ++ (l ++ part)) exchange.lines_are ∙ ap (λ l. ticks ms ++ ((handing sender.Host x.first b.world.entries ++ handing sender.Shelf x.second exchange.asked) ++ l)) part-is;
+                lines_are = append_assoc (ticks ms) x.lines part ∙ ap (λ l. ticks ms ++ (l ++ part)) exchange.lines_are
+                    ∙ ap (λ l. ticks ms ++ ((handing sender.Host x.first b.world.entries ++ handing sender.Shelf x.second exchange.asked) ++ l)) part-is;
               };
               lines_are = all.lines_are;
               finishes_is = finishes_is;

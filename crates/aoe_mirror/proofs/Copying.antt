@@ -64,7 +64,8 @@ module _ (sectors at n : ℕ) (settled : Bool) (stale : List Bool) (run : IsFirs
       marks = length-loose_of stale q.0.loose q.1.loose ∙ sym (length-loose_of stale p.0.loose p.1.loose);
       kept = λ s off.
           let was = parts_in (is_loose p.0.loose s) (is_loose p.1.loose s) (is_loose stale s) (sym (seen_at sectors stale p s fit) ∙ off) in
-          loose_at stale q.0.loose q.1.loose s lead_size touched_size ∙ in_from (is_loose q.0.loose s) (is_loose q.1.loose s) (is_loose stale s) (loose_lead s ∙ was.0) (elim (cases_Bool (is_loose stale s)) [
+          loose_at stale q.0.loose q.1.loose s lead_size touched_size
+          ∙ in_from (is_loose q.0.loose s) (is_loose q.1.loose s) (is_loose stale s) (loose_lead s ∙ was.0) (elim (cases_Bool (is_loose stale s)) [
             | inl on ↦ inr on
             | inr isnt ↦ elim was.1 [
               | inl quiet ↦ inl (t.2.kept s (t.1.marks.same s (outside_run s isnt) ∙ quiet))
@@ -121,7 +122,8 @@ module _ (sectors at n : ℕ) (settled : Bool) (stale : List Bool) (run : IsFirs
     put_lead_size = ap (λ (c : Contents). length c.loose) lead ∙ fit.lead.marks ∙ sym (rest_size ∙ fit.marks)
 
     put_follower_size : length q.1.loose ≡ length rest
-    put_follower_size = ap length put.2.loose ∙ length-replicate (length put.0.loose) false ∙ beside.marks.size ∙ fit.follower.marks ∙ sym (rest_size ∙ fit.marks)
+    put_follower_size = ap length put.2.loose ∙ length-replicate (length put.0.loose) false ∙ beside.marks.size ∙ fit.follower.marks
+        ∙ sym (rest_size ∙ fit.marks)
 
     pub seen_put : Calms (seen stale p) (seen rest q)
     seen_put = record {
@@ -129,7 +131,8 @@ module _ (sectors at n : ℕ) (settled : Bool) (stale : List Bool) (run : IsFirs
       marks = length-loose_of rest q.0.loose q.1.loose ∙ rest_size ∙ sym (length-loose_of stale p.0.loose p.1.loose);
       kept = λ s off.
           let was = parts_in (is_loose p.0.loose s) (is_loose p.1.loose s) (is_loose stale s) (sym (seen_at sectors stale p s fit) ∙ off) in
-          loose_at rest q.0.loose q.1.loose s put_lead_size put_follower_size ∙ in_from (is_loose q.0.loose s) (is_loose q.1.loose s) (is_loose rest s) (loose_lead s ∙ was.0) (inl (settles_kept put.0 q.1 put.2 s));
+          loose_at rest q.0.loose q.1.loose s put_lead_size put_follower_size
+          ∙ in_from (is_loose q.0.loose s) (is_loose q.1.loose s) (is_loose rest s) (loose_lead s ∙ was.0) (inl (settles_kept put.0 q.1 put.2 s));
     }
 
 -- THE DISKS
@@ -159,7 +162,8 @@ module _ (old : Pair) (m : IsMirror old) (at n : ℕ) (run : IsFirstRun old.stal
         → (failed ≡ false → stale ≡ with_each old.stale at n false) → Copies failed old copied
     copies_by failed agree calm why done = record {
       mirror = copied_mirror agree;
-      run = run_shown old copied m (copied_mirror agree) l.sectors (omega (arith, l.later, f.later)) failed (told_tells Calms (shown old).contents (shown copied).contents calm) (λ e. (why e).1.0);
+      run = run_shown old copied m (copied_mirror agree) l.sectors (omega (arith, l.later, f.later)) failed
+          (told_tells Calms (shown old).contents (shown copied).contents calm) (λ e. (why e).1.0);
       calm = calm;
       side = refl;
       counts = counts_same old copied refl l.later f.later (omega arith);
@@ -190,7 +194,9 @@ module _ (old : Pair) (m : IsMirror old) (at n : ℕ) (run : IsFirstRun old.stal
   put_copies piece whole given told =
       let pairs = told_both (λ (a b : Contents). b ≡ a) (Put at piece) old.lead.contents lead.contents old.follower.contents follower.contents told_lead told in
       let H : Contents × Contents → Type 0 = λ p. Holds old p × ((piece ≡ take (512 * n) (drop (512 * at) p.0.bytes)) × Unit {0}) in
-      let holds : IfSome (both old.lead.contents old.follower.contents) H = and_if (Holds old) (λ (p : Contents × Contents). (piece ≡ take (512 * n) (drop (512 * at) p.0.bytes)) × Unit {0}) (both old.lead.contents old.follower.contents) (holds_of old m)
+      let holds : IfSome (both old.lead.contents old.follower.contents) H = and_if (Holds old)
+      (λ (p : Contents × Contents). (piece ≡ take (512 * n) (drop (512 * at) p.0.bytes)) × Unit {0}) (both old.lead.contents old.follower.contents)
+      (holds_of old m)
       (both_if (λ (c : Contents). piece ≡ take (512 * n) (drop (512 * at) c.bytes)) (λ _. Unit {0}) old.lead.contents old.follower.contents given (if_any old.follower.contents)) in
       copies_by (with_each old.stale at n false) (length-with_each old.stale at n false run.within) false
       (told_if (λ (p q : Contents × Contents). (q.0 ≡ p.0) × Put at piece p.1 q.1) H (Agree old.settled (with_each old.stale at n false)) (both old.lead.contents old.follower.contents) (both lead.contents follower.contents) pairs holds
@@ -227,7 +233,8 @@ module _ {T : Type 0} (old : Pair) (m : IsMirror old) (at n : ℕ) (run : IsFirs
 
   beside_written : (r : Answer) (written : DiskState) → WritesTo at c.piece r old.follower written
       → BothTell (Beside at n) old.follower.contents written.contents
-  beside_written r written w = told_with (Writes at c.piece r) (Beside at n) (HasShape old.lead.sectors) old.follower.contents written.contents w.contents (rw m.size at m.follower.shape)
+  beside_written r written w = told_with (Writes at c.piece r) (Beside at n) (HasShape old.lead.sectors) old.follower.contents written.contents w.contents
+      (rw m.size at m.follower.shape)
       (λ a b shape t. rw count at (beside_by at c.piece r a b old.lead.sectors shape piece_range t))
 
   -- the lead wasn't read
@@ -236,7 +243,8 @@ module _ {T : Type 0} (old : Pair) (m : IsMirror old) (at n : ℕ) (run : IsFirs
   lead_fell bad = OnTrue_at bad c.read.call.cause
 
   unread_copies : is_err c.answer ≡ true → Copies true old (record old { lead = c.looked })
-  unread_copies bad = touched_copies old m at n run c.looked old.follower lead_later c.read.same (record { disk = m.follower; sectors = refl; later = omega arith })
+  unread_copies bad = touched_copies old m at n run c.looked old.follower lead_later c.read.same
+      (record { disk = m.follower; sectors = refl; later = omega arith })
       (told_mono (λ (x y : Contents). y ≡ x) (Touched at n) old.follower.contents old.follower.contents (told_same old.follower.contents) (λ x y e. rw e (x, beside_refl at n x, calm_refl x)))
       (rose_part old.lead.faults c.looked.faults (shown old).faults (shown (record old { lead = c.looked })).faults (lead_fell bad) (omega arith) (omega arith), inl (lead_same old (record old { lead = c.looked }) refl (lead_fell bad)))
 
@@ -257,14 +265,16 @@ module _ {T : Type 0} (old : Pair) (m : IsMirror old) (at n : ℕ) (run : IsFirs
 
   synced_touched : (w : WritesCopy at c.piece result (record old { lead = c.looked }) mid) (reply : Answer) → SyncsTo reply w.written mid.follower
       → BothTell (Touched at n) old.follower.contents mid.follower.contents
-  synced_touched w reply s = told_then (Beside at n) (Syncs reply) (Touched at n) old.follower.contents w.written.contents mid.follower.contents (beside_written w.answer w.written w.write) s.contents (λ x y z t u. (y, t, calm_by reply y z u))
+  synced_touched w reply s = told_then (Beside at n) (Syncs reply) (Touched at n) old.follower.contents w.written.contents mid.follower.contents
+      (beside_written w.answer w.written w.write) s.contents (λ x y z t u. (y, t, calm_by reply y z u))
 
   synced_fell : (w : WritesCopy at c.piece result (record old { lead = c.looked }) mid) (reply : Answer) → SyncsTo reply w.written mid.follower
       → is_err reply ≡ true → Rose old.follower.faults mid.follower.faults
   synced_fell w reply s bad = rose_from old.follower.faults w.written.faults mid.follower.faults w.write.call.later s.call.later (OnTrue_at bad s.call.cause)
 
   write_touched : (w : WritesCopy at c.piece result (record old { lead = c.looked }) mid) → BothTell (Touched at n) old.follower.contents w.written.contents
-  write_touched w = told_mono (Beside at n) (Touched at n) old.follower.contents w.written.contents (beside_written w.answer w.written w.write) (λ x y t. (y, t, calm_refl y))
+  write_touched w = told_mono (Beside at n) (Touched at n) old.follower.contents w.written.contents (beside_written w.answer w.written w.write)
+      (λ x y t. (y, t, calm_refl y))
 
   write_later : (w : WritesCopy at c.piece result (record old { lead = c.looked }) mid) → Later old.follower w.written
   write_later w = record { disk = w.write.call.after; sectors = w.write.call.sectors; later = w.write.call.later }
@@ -300,7 +310,9 @@ module _ {T : Type 0} (old : Pair) (m : IsMirror old) (at n : ℕ) (run : IsFirs
 
   put_told : (w : WritesCopy at c.piece result (record old { lead = c.looked }) mid) (reply : Answer) → is_err w.answer ≡ false → is_err reply ≡ false
       → SyncsTo reply w.written mid.follower → BothTell (Put at c.piece) old.follower.contents mid.follower.contents
-  put_told w reply ok done s = told_then (Writes at c.piece w.answer) (Syncs reply) (Put at c.piece) old.follower.contents w.written.contents mid.follower.contents w.write.contents s.contents (λ x y z t u. (y, put_by at c.piece w.answer x y ok t, settled_by reply y z done u))
+  put_told w reply ok done s = told_then (Writes at c.piece w.answer) (Syncs reply)
+      (Put at c.piece) old.follower.contents w.written.contents mid.follower.contents w.write.contents s.contents
+      (λ x y z t u. (y, put_by at c.piece w.answer x y ok t, settled_by reply y z done u))
 
   pub done_copies : is_err result ≡ false → Copies false old (record mid { stale = with_each mid.stale at n false })
   done_copies done = elim c.rest [

@@ -33,7 +33,8 @@ pub calm_may : (a b : Contents) → a.settled ≡ None → b.settled ≡ None �
 calm_may a b na nb t = record { bytes = t.bytes; marks = t.marks; fewer = t.kept; settled = nb ∙ sym na; exact = λ some. let no : false ≡ true = rw na at some in cc }
 
 pub none_loose : (marks : List Bool) (n : ℕ) → length marks ≡ n → ((s : ℕ) → is_loose marks s ≡ false) → marks ≡ replicate n false
-none_loose marks n size clear = ext_get_or false marks (replicate n false) (size ∙ sym (length-replicate n false)) (λ s _. clear s ∙ sym (is_loose-replicate n s))
+none_loose marks n size clear = ext_get_or false marks (replicate n false) (size ∙ sym (length-replicate n false))
+    (λ s _. clear s ∙ sym (is_loose-replicate n s))
 
 pub calm_settles : (a b : Contents) → a.settled ≡ None → b.settled ≡ None → Calms a b → ((s : ℕ) → is_loose b.loose s ≡ false) → Settles a b
 calm_settles a b na nb t clear = record { bytes = t.bytes; loose = none_loose b.loose (length a.loose) t.marks clear; settled = rw (na, nb) tt }
@@ -118,7 +119,8 @@ module _ (sectors : ℕ) (stale stale' : List Bool) (p q : Contents × Contents)
 pub none_seen : (sectors : ℕ) (stale' : List Bool) (q : Contents × Contents) → length q.0.loose ≡ length stale' → length q.1.loose ≡ length stale'
     → ((s : ℕ) → is_loose q.0.loose s ≡ false)
     → ((s : ℕ) → s < length stale' → (is_loose q.1.loose s ≡ false) ⊎ (is_loose stale' s ≡ true)) → (s : ℕ) → is_loose (seen stale' q).loose s ≡ false
-none_seen sectors stale' q l f lead follower s = loose_at stale' q.0.loose q.1.loose s l f ∙ in_from (is_loose q.0.loose s) (is_loose q.1.loose s) (is_loose stale' s) (lead s) (elim (cases_lt s (length stale')) [
-  | inl within ↦ follower s within
-  | inr past ↦ inl (get_or_past q.1.loose s false (omega arith))
-])
+none_seen sectors stale' q l f lead follower s = loose_at stale' q.0.loose q.1.loose s l f
+    ∙ in_from (is_loose q.0.loose s) (is_loose q.1.loose s) (is_loose stale' s) (lead s) (elim (cases_lt s (length stale')) [
+      | inl within ↦ follower s within
+      | inr past ↦ inl (get_or_past q.1.loose s false (omega arith))
+    ])

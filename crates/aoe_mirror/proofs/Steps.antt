@@ -18,7 +18,8 @@ pub fit_of : (p : Pair) → IsMirror p → IfSome (both p.lead.contents p.follow
 fit_of p m =
     let follower : IfSome p.follower.contents (HasShape p.lead.sectors) = rw m.size at m.follower.shape in
     if_mono (λ sides. HasShape p.lead.sectors sides.0 × HasShape p.lead.sectors sides.1) (Fit p.lead.sectors p.stale) (both p.lead.contents p.follower.contents)
-    (both_if (HasShape p.lead.sectors) (HasShape p.lead.sectors) p.lead.contents p.follower.contents m.lead.shape follower) (λ sides h. record { lead = h.0; follower = h.1; marks = m.marks })
+    (both_if (HasShape p.lead.sectors) (HasShape p.lead.sectors) p.lead.contents p.follower.contents m.lead.shape follower)
+    (λ sides h. record { lead = h.0; follower = h.1; marks = m.marks })
 
 abbrev pub Holds : Pair → Contents × Contents → Type 0
 Holds p sides = Fit p.lead.sectors p.stale sides × Agree p.settled p.stale sides
@@ -29,7 +30,8 @@ holds_of p m = and_if (Fit p.lead.sectors p.stale) (Agree p.settled p.stale) (bo
 pub shown_disk : (p : Pair) → IsMirror p → IsDisk (shown p)
 shown_disk p m = record {
   bound = m.lead.bound;
-  shape = map_if (Fit p.lead.sectors p.stale) (HasShape p.lead.sectors) (seen p.stale) (both p.lead.contents p.follower.contents) (fit_of p m) (seen_shape p.lead.sectors p.stale);
+  shape = map_if (Fit p.lead.sectors p.stale) (HasShape p.lead.sectors) (seen p.stale) (both p.lead.contents p.follower.contents) (fit_of p m)
+      (seen_shape p.lead.sectors p.stale);
   schedule = tt;
 }
 
@@ -85,7 +87,8 @@ settled_mirror failed old new m s =
       size = m.size;
       mark = subst IsMark s.is s.named;
       marks = m.marks;
-      agree = if_mono (Agree old.settled old.stale) (Agree new.settled old.stale) (both old.lead.contents old.follower.contents) m.agree (λ sides a. record { same = a.same; unsettled = λ off. a.unsettled (s.was off) });
+      agree = if_mono (Agree old.settled old.stale) (Agree new.settled old.stale) (both old.lead.contents old.follower.contents) m.agree
+          (λ sides a. record { same = a.same; unsettled = λ off. a.unsettled (s.was off) });
     })
 
 -- what settling leaves of what is seen
@@ -119,16 +122,19 @@ turned_mirror p m whole = record {
   size = sym m.size;
   mark = record { disk = m.mark.disk; room = m.mark.room; side = omega arith; named = λ e. cc };
   marks = m.marks ∙ sym m.size;
-  agree = rw (both_swap p.lead.contents p.follower.contents) (map_if (Holds p) (Agree false p.stale) (λ (s : Contents × Contents). (s.1, s.0)) (both p.lead.contents p.follower.contents) (holds_of p m)
+  agree = rw (both_swap p.lead.contents p.follower.contents)
+      (map_if (Holds p) (Agree false p.stale) (λ (s : Contents × Contents). (s.1, s.0)) (both p.lead.contents p.follower.contents) (holds_of p m)
       (λ sides h. agree_swapped p.lead.sectors p.stale sides h.0 (λ s. count_none p.stale s whole) p.settled false h.1));
 }
 
 pub turned_shown : (p : Pair) → IsMirror p → count_of p.stale ≡ 0 → (shown (turned p)).contents ≡ (shown p).contents
-turned_shown p m whole = rw (both_swap p.lead.contents p.follower.contents) (map_turned (Holds p) (seen p.stale) (λ (s : Contents × Contents). (s.1, s.0)) (both p.lead.contents p.follower.contents) (holds_of p m)
+turned_shown p m whole = rw (both_swap p.lead.contents p.follower.contents)
+    (map_turned (Holds p) (seen p.stale) (λ (s : Contents × Contents). (s.1, s.0)) (both p.lead.contents p.follower.contents) (holds_of p m)
     (λ sides h. seen_swapped p.lead.sectors p.stale sides h.0 (λ s. count_none p.stale s whole) p.settled h.1))
 
 pub shown_if : (p : Pair) → IsMirror p → IfSome (shown p).contents (λ (c : Contents). HasShape p.lead.sectors c × (c.settled ≡ None))
-shown_if p m = map_if (Fit p.lead.sectors p.stale) (λ (c : Contents). HasShape p.lead.sectors c × (c.settled ≡ None)) (seen p.stale) (both p.lead.contents p.follower.contents) (fit_of p m) (λ sides f. (seen_shape p.lead.sectors p.stale sides f, refl))
+shown_if p m = map_if (Fit p.lead.sectors p.stale) (λ (c : Contents). HasShape p.lead.sectors c × (c.settled ≡ None)) (seen p.stale)
+    (both p.lead.contents p.follower.contents) (fit_of p m) (λ sides f. (seen_shape p.lead.sectors p.stale sides f, refl))
 
 -- NO COUNT FALLS
 
@@ -156,7 +162,9 @@ pub counts_then : (a b c : Pair) → Counts a b → Counts b c → Counts a c
 counts_then a b c t u = λ k le. let x = t k le in let y = u k le in omega arith
 
 pub settled_counts : (failed : Bool) (old new : Pair) → SettlesLead failed old new → Counts old new
-settled_counts failed old new s = counts_same old new (settled_side failed old new s) (let e : new.lead.faults ≡ old.lead.faults = ap (λ (p : Pair). p.lead.faults) s.is in omega arith) (let e : new.follower.faults ≡ old.follower.faults = ap (λ (p : Pair). p.follower.faults) s.is in omega arith) s.mark.later
+settled_counts failed old new s = counts_same old new (settled_side failed old new s)
+    (let e : new.lead.faults ≡ old.lead.faults = ap (λ (p : Pair). p.lead.faults) s.is in omega arith)
+    (let e : new.follower.faults ≡ old.follower.faults = ap (λ (p : Pair). p.follower.faults) s.is in omega arith) s.mark.later
 
 -- what failed before failed after
 pub lead_later : (old mid new : Pair) → old.side ≤ 1 → Counts mid new → LeadFailed old mid → LeadFailed old new

@@ -22,7 +22,8 @@ first_byte : (bytes : List ℕ) → get_or bytes 0 0 ≡ get_or (sector bytes 0)
 first_byte bytes = sym (get_or-take 512 bytes 0 0 (omega arith))
 
 names_same : (mark : Contents) (image : List ℕ) → is_loose mark.loose 0 ≡ false → CanLeave mark image → named image ≡ named mark.bytes
-names_same mark image kept leave = ap (λ (b : ℕ). if b == 0xa7 then 1 else 0) (first_byte image ∙ ap (λ (l : List ℕ). get_or l 0 0) (leave.kept 0 kept) ∙ sym (first_byte mark.bytes))
+names_same mark image kept leave = ap (λ (b : ℕ). if b == 0xa7 then 1 else 0)
+    (first_byte image ∙ ap (λ (l : List ℕ). get_or l 0 0) (leave.kept 0 kept) ∙ sym (first_byte mark.bytes))
 
 module _ (p : Pair) (m : IsMirror p) (sides : Contents × Contents) (mark : Contents) (one two three : List ℕ) (told : both p.lead.contents p.follower.contents ≡ Some sides) (marked : p.mark.contents ≡ Some mark)
     (lead : CanLeave sides.0 one) (follower : CanLeave sides.1 two) (left : CanLeave mark three) where

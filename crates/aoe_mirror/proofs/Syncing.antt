@@ -25,14 +25,19 @@ Quiet c = (s : ℕ) → is_loose c.loose s ≡ false
 pub sync_ok : {T E : Type 0} (result : Result T E) (old new : Pair) → IsMirror old → IsMirror new → is_err result ≡ false
     → BothTell Calms (shown old).contents (shown new).contents → IfSome (shown new).contents Quiet
     → BothTell (Syncs result) (shown old).contents (shown new).contents
-sync_ok {T = T} {E = E} (Ok v) old new m n ok told quiet = told_ends Calms (Syncs {T = T} {E = E} (Ok v)) (λ (a : Contents). HasShape old.lead.sectors a × (a.settled ≡ None)) (λ (b : Contents). Quiet b × (HasShape new.lead.sectors b × (b.settled ≡ None))) (shown old).contents (shown new).contents told (shown_if old m)
-    (and_if Quiet (λ (b : Contents). HasShape new.lead.sectors b × (b.settled ≡ None)) (shown new).contents quiet (shown_if new n)) (λ a b h k t. calm_settles a b h.1 k.1.1 t k.0)
+sync_ok {T = T} {E = E} (Ok v) old new m n ok told quiet = told_ends Calms (Syncs {T = T} {E = E} (Ok v))
+    (λ (a : Contents). HasShape old.lead.sectors a × (a.settled ≡ None)) (λ (b : Contents). Quiet b × (HasShape new.lead.sectors b × (b.settled ≡ None)))
+    (shown old).contents (shown new).contents told (shown_if old m)
+    (and_if Quiet (λ (b : Contents). HasShape new.lead.sectors b × (b.settled ≡ None)) (shown new).contents quiet (shown_if new n))
+    (λ a b h k t. calm_settles a b h.1 k.1.1 t k.0)
 sync_ok (Err e) old new m n ok told quiet = cc
 
 pub sync_err : {T E : Type 0} (result : Result T E) (old new : Pair) → IsMirror old → IsMirror new → is_err result ≡ true
     → BothTell Calms (shown old).contents (shown new).contents → BothTell (Syncs result) (shown old).contents (shown new).contents
 sync_err (Ok v) old new m n bad told = cc
-sync_err {T = T} {E = E} (Err e) old new m n bad told = told_ends Calms (Syncs {T = T} {E = E} (Err e)) (λ (a : Contents). HasShape old.lead.sectors a × (a.settled ≡ None)) (λ (b : Contents). HasShape new.lead.sectors b × (b.settled ≡ None)) (shown old).contents (shown new).contents told (shown_if old m) (shown_if new n) (λ a b h k t. calm_may a b h.1 k.1 t)
+sync_err {T = T} {E = E} (Err e) old new m n bad told = told_ends Calms (Syncs {T = T} {E = E} (Err e))
+    (λ (a : Contents). HasShape old.lead.sectors a × (a.settled ≡ None)) (λ (b : Contents). HasShape new.lead.sectors b × (b.settled ≡ None))
+    (shown old).contents (shown new).contents told (shown_if old m) (shown_if new n) (λ a b h k t. calm_may a b h.1 k.1 t)
 
 -- CALLS THAT CHANGE NO BYTE
 
@@ -69,11 +74,14 @@ module _ (old : Pair) (m : IsMirror old) (settled : old.settled ≡ true) (lead 
     size = f.sectors ∙ m.size ∙ sym l.sectors;
     mark = record { disk = m.mark.disk; room = m.mark.room; side = m.mark.side; named = m.mark.named };
     marks = grows.size ∙ m.marks ∙ sym l.sectors;
-    agree = told_if Calm (Holds old) (Agree old.settled stale) (both old.lead.contents old.follower.contents) (both lead.contents follower.contents) told_calm (holds_of old m) (λ p q h t. agree_calm old.lead.sectors old.stale stale p q h.0 t.0 t.1 grows old.settled settled h.1);
+    agree = told_if Calm (Holds old) (Agree old.settled stale) (both old.lead.contents old.follower.contents)
+        (both lead.contents follower.contents) told_calm (holds_of old m)
+        (λ p q h t. agree_calm old.lead.sectors old.stale stale p q h.0 t.0 t.1 grows old.settled settled h.1);
   }
 
   pub calmed_calm : BothTell Calms (shown old).contents (shown calmed).contents
-  calmed_calm = told_map Calm Calms (Holds old) (seen old.stale) (seen stale) (both old.lead.contents old.follower.contents) (both lead.contents follower.contents) told_calm (holds_of old m) (λ p q h t. seen_calm old.lead.sectors old.stale stale p q h.0 t.0 t.1 grows)
+  calmed_calm = told_map Calm Calms (Holds old) (seen old.stale) (seen stale) (both old.lead.contents old.follower.contents)
+      (both lead.contents follower.contents) told_calm (holds_of old m) (λ p q h t. seen_calm old.lead.sectors old.stale stale p q h.0 t.0 t.1 grows)
 
   pub calmed_quiet : IfSome lead.contents Quiet → (IfSome follower.contents Quiet ⊎ ((s : ℕ) → s < length stale → is_loose stale s ≡ true))
       → IfSome (shown calmed).contents Quiet
@@ -92,7 +100,8 @@ pub blame_lead : (old new : Pair) (k : ℕ) → old.side ≤ 1 → k ≡ old.sid
 blame_lead old new k le is failed = rw is (omega arith, rw (ne_eqb old.side 2 (λ e. absurd (omega arith)), eq-eqb old.side old.side refl) failed)
 
 pub blame_follower : (old new : Pair) (k : ℕ) → old.side ≤ 1 → k ≡ 1 - old.side → FollowerFailed old new → Blames (Some k) old new
-blame_follower old new k le is failed = rw is (omega arith, rw (ne_eqb (1 - old.side) 2 (λ e. absurd (omega arith)), ne_eqb (1 - old.side) old.side (λ e. absurd (omega arith))) failed)
+blame_follower old new k le is failed = rw is
+    (omega arith, rw (ne_eqb (1 - old.side) 2 (λ e. absurd (omega arith)), ne_eqb (1 - old.side) old.side (λ e. absurd (omega arith))) failed)
 
 pub blame_lowest : (old new : Pair) (k : ℕ) → old.side ≤ 1 → k ≡ 0 → LeadFailed old new → FollowerFailed old new → Blames (Some k) old new
 blame_lowest old new k le is lead follower = elim (cases_lt 0 old.side) [
@@ -121,20 +130,27 @@ module _ (old : Pair) (m : IsMirror old) (settled : old.settled ≡ true) (lead 
     through_stale = if is_err f.answer then replicate (length old.stale) true else old.stale
 
     abbrev through_pair : Pair
-    through_pair = calmed old m settled lead f.synced through_stale (synced_later r old.lead lead sync) (synced_later f.answer old.follower f.synced f.sync) (grows_if (is_err f.answer) old.stale) (synced_calm r old.lead lead sync) (synced_calm f.answer old.follower f.synced f.sync)
+    through_pair = calmed old m settled lead f.synced through_stale (synced_later r old.lead lead sync) (synced_later f.answer old.follower f.synced f.sync)
+        (grows_if (is_err f.answer) old.stale) (synced_calm r old.lead lead sync) (synced_calm f.answer old.follower f.synced f.sync)
 
     through_is_mirror : IsMirror through_pair
-    through_is_mirror = calmed_mirror old m settled lead f.synced through_stale (synced_later r old.lead lead sync) (synced_later f.answer old.follower f.synced f.sync) (grows_if (is_err f.answer) old.stale) (synced_calm r old.lead lead sync) (synced_calm f.answer old.follower f.synced f.sync)
+    through_is_mirror = calmed_mirror old m settled lead f.synced through_stale (synced_later r old.lead lead sync)
+        (synced_later f.answer old.follower f.synced f.sync) (grows_if (is_err f.answer) old.stale) (synced_calm r old.lead lead sync)
+        (synced_calm f.answer old.follower f.synced f.sync)
 
     through_is_calm : BothTell Calms (shown old).contents (shown through_pair).contents
-    through_is_calm = calmed_calm old m settled lead f.synced through_stale (synced_later r old.lead lead sync) (synced_later f.answer old.follower f.synced f.sync) (grows_if (is_err f.answer) old.stale) (synced_calm r old.lead lead sync) (synced_calm f.answer old.follower f.synced f.sync)
+    through_is_calm = calmed_calm old m settled lead f.synced through_stale (synced_later r old.lead lead sync)
+        (synced_later f.answer old.follower f.synced f.sync) (grows_if (is_err f.answer) old.stale) (synced_calm r old.lead lead sync)
+        (synced_calm f.answer old.follower f.synced f.sync)
 
     other_quiet : (b : Bool) → is_err f.answer ≡ b → IfSome f.synced.contents Quiet ⊎ ((s : ℕ) → s < length through_stale → is_loose through_stale s ≡ true)
     other_quiet true is = inr (all_if (is_err f.answer) old.stale is)
     other_quiet false is = inl (synced_quiet f.answer old.follower f.synced is f.sync)
 
     through_is_quiet : IfSome (shown through_pair).contents Quiet
-    through_is_quiet = calmed_quiet old m settled lead f.synced through_stale (synced_later r old.lead lead sync) (synced_later f.answer old.follower f.synced f.sync) (grows_if (is_err f.answer) old.stale) (synced_calm r old.lead lead sync) (synced_calm f.answer old.follower f.synced f.sync)
+    through_is_quiet = calmed_quiet old m settled lead f.synced through_stale (synced_later r old.lead lead sync)
+        (synced_later f.answer old.follower f.synced f.sync) (grows_if (is_err f.answer) old.stale) (synced_calm r old.lead lead sync)
+        (synced_calm f.answer old.follower f.synced f.sync)
         (synced_quiet r old.lead lead ok sync) (other_quiet (is_err f.answer) refl)
 
     follower_fell : is_err f.answer ≡ true → FollowerFailed old through_pair
@@ -143,7 +159,8 @@ module _ (old : Pair) (m : IsMirror old) (settled : old.settled ≡ true) (lead 
     through_by : {T E : Type 0} (result : Result T E) → is_err result ≡ false → MirrorSyncs result old through_pair
     through_by result done = record {
       mirror = through_is_mirror;
-      syncs = synced old through_pair m through_is_mirror sync.call.sectors (omega (arith, sync.call.later, f.sync.call.later)) result (sync_ok result old through_pair m through_is_mirror done through_is_calm through_is_quiet) (λ bad. absurd (both_ways (is_err result) done bad));
+      syncs = synced old through_pair m through_is_mirror sync.call.sectors (omega (arith, sync.call.later, f.sync.call.later)) result
+          (sync_ok result old through_pair m through_is_mirror done through_is_calm through_is_quiet) (λ bad. absurd (both_ways (is_err result) done bad));
       keeps = record { later = omega arith; stale = λ s was now. inr (follower_fell (newly_if (is_err f.answer) old.stale s was now)); lead = inl refl };
       counts = counts_same old through_pair refl sync.call.later f.sync.call.later (omega arith);
       cause = λ bad. absurd (both_ways (is_err result) done bad);
@@ -162,13 +179,16 @@ module _ (old : Pair) (m : IsMirror old) (settled : old.settled ≡ true) (lead 
     fell = OnTrue_at bad sync.call.cause
 
     abbrev eased : Pair
-    eased = calmed old m settled lead old.follower old.stale (synced_later r old.lead lead sync) (same_later old.follower m.follower) (grows_refl old.stale) (synced_calm r old.lead lead sync) (same_calm old.follower)
+    eased = calmed old m settled lead old.follower old.stale (synced_later r old.lead lead sync) (same_later old.follower m.follower) (grows_refl old.stale)
+        (synced_calm r old.lead lead sync) (same_calm old.follower)
 
     eased_mirror : IsMirror eased
-    eased_mirror = calmed_mirror old m settled lead old.follower old.stale (synced_later r old.lead lead sync) (same_later old.follower m.follower) (grows_refl old.stale) (synced_calm r old.lead lead sync) (same_calm old.follower)
+    eased_mirror = calmed_mirror old m settled lead old.follower old.stale (synced_later r old.lead lead sync) (same_later old.follower m.follower)
+        (grows_refl old.stale) (synced_calm r old.lead lead sync) (same_calm old.follower)
 
     eased_calm : BothTell Calms (shown old).contents (shown eased).contents
-    eased_calm = calmed_calm old m settled lead old.follower old.stale (synced_later r old.lead lead sync) (same_later old.follower m.follower) (grows_refl old.stale) (synced_calm r old.lead lead sync) (same_calm old.follower)
+    eased_calm = calmed_calm old m settled lead old.follower old.stale (synced_later r old.lead lead sync) (same_later old.follower m.follower)
+        (grows_refl old.stale) (synced_calm r old.lead lead sync) (same_calm old.follower)
 
     -- and leads on
 
@@ -178,7 +198,9 @@ module _ (old : Pair) (m : IsMirror old) (settled : old.settled ≡ true) (lead 
     stays_by : {T E : Type 0} (result : Result T E) → is_err result ≡ true → 0 < count_of old.stale → MirrorSyncs result old eased
     stays_by result failed stale = record {
       mirror = eased_mirror;
-      syncs = synced old eased m eased_mirror sync.call.sectors (omega (arith, sync.call.later)) result (sync_err result old eased m eased_mirror failed eased_calm) (λ _. rose_part old.lead.faults lead.faults (shown old).faults (shown eased).faults fell (omega arith) (omega arith));
+      syncs = synced old eased m eased_mirror sync.call.sectors (omega (arith, sync.call.later)) result
+          (sync_err result old eased m eased_mirror failed eased_calm)
+          (λ _. rose_part old.lead.faults lead.faults (shown old).faults (shown eased).faults fell (omega arith) (omega arith));
       keeps = record { later = omega arith; stale = λ s was now. absurd (both_ways (is_loose old.stale s) was now); lead = inl refl };
       counts = counts_same old eased refl sync.call.later (omega arith) (omega arith);
       cause = λ _. inl (stays_failed, stale);
@@ -219,7 +241,8 @@ module _ (old : Pair) (m : IsMirror old) (settled : old.settled ≡ true) (lead 
           let later = t.settles.mark.later in
           record {
             mirror = mid_mirror;
-            syncs = synced old t.mid m mid_mirror (ap (λ (d : DiskState). d.sectors) mid_lead ∙ m.size) (omega (arith, faults, later, sync.call.later)) result (sync_err result old t.mid m mid_mirror failed mid_calm)
+            syncs = synced old t.mid m mid_mirror (ap (λ (d : DiskState). d.sectors) mid_lead ∙ m.size)
+                (omega (arith, faults, later, sync.call.later)) result (sync_err result old t.mid m mid_mirror failed mid_calm)
                 (λ _. rose_part old.lead.faults lead.faults (shown old).faults (shown t.mid).faults fell (omega arith) (omega (arith, faults, later)));
             keeps = record { later = later; stale = λ _ was now. inl mid_failed; lead = inr mid_failed };
             counts = counts_moved old t.mid m.mark.side mid_side (rw mid_follower sync.call.later) (rw mid_lead (omega arith)) later;
@@ -231,18 +254,25 @@ module _ (old : Pair) (m : IsMirror old) (settled : old.settled ≡ true) (lead 
         last_stale = replicate (length t.mid.stale) true
 
         abbrev last : Pair
-        last = calmed t.mid mid_mirror settled_mid x.synced t.mid.follower last_stale (synced_later x.answer t.mid.lead x.synced x.sync) (same_later t.mid.follower mid_mirror.follower) (grows_all t.mid.stale) (synced_calm x.answer t.mid.lead x.synced x.sync) (same_calm t.mid.follower)
+        last = calmed t.mid mid_mirror settled_mid x.synced t.mid.follower last_stale (synced_later x.answer t.mid.lead x.synced x.sync)
+            (same_later t.mid.follower mid_mirror.follower) (grows_all t.mid.stale) (synced_calm x.answer t.mid.lead x.synced x.sync)
+            (same_calm t.mid.follower)
 
         last_mirror : IsMirror last
-        last_mirror = calmed_mirror t.mid mid_mirror settled_mid x.synced t.mid.follower last_stale (synced_later x.answer t.mid.lead x.synced x.sync) (same_later t.mid.follower mid_mirror.follower) (grows_all t.mid.stale) (synced_calm x.answer t.mid.lead x.synced x.sync) (same_calm t.mid.follower)
+        last_mirror = calmed_mirror t.mid mid_mirror settled_mid x.synced t.mid.follower last_stale (synced_later x.answer t.mid.lead x.synced x.sync)
+            (same_later t.mid.follower mid_mirror.follower) (grows_all t.mid.stale) (synced_calm x.answer t.mid.lead x.synced x.sync)
+            (same_calm t.mid.follower)
 
         last_calm : BothTell Calms (shown old).contents (shown last).contents
         last_calm = told_then Calms Calms Calms (shown old).contents (shown t.mid).contents (shown last).contents mid_calm
             (calmed_calm t.mid mid_mirror settled_mid x.synced t.mid.follower last_stale (synced_later x.answer t.mid.lead x.synced x.sync) (same_later t.mid.follower mid_mirror.follower) (grows_all t.mid.stale) (synced_calm x.answer t.mid.lead x.synced x.sync) (same_calm t.mid.follower)) calm_then
 
         last_quiet : is_err x.answer ≡ false → IfSome (shown last).contents Quiet
-        last_quiet ok = calmed_quiet t.mid mid_mirror settled_mid x.synced t.mid.follower last_stale (synced_later x.answer t.mid.lead x.synced x.sync) (same_later t.mid.follower mid_mirror.follower) (grows_all t.mid.stale) (synced_calm x.answer t.mid.lead x.synced x.sync) (same_calm t.mid.follower)
-            (synced_quiet x.answer t.mid.lead x.synced ok x.sync) (inr (λ s lt. get_or-replicate (length t.mid.stale) s true false (omega (arith, length-replicate (length t.mid.stale) true))))
+        last_quiet ok = calmed_quiet t.mid mid_mirror settled_mid x.synced t.mid.follower last_stale (synced_later x.answer t.mid.lead x.synced x.sync)
+            (same_later t.mid.follower mid_mirror.follower) (grows_all t.mid.stale) (synced_calm x.answer t.mid.lead x.synced x.sync)
+            (same_calm t.mid.follower)
+            (synced_quiet x.answer t.mid.lead x.synced ok x.sync)
+            (inr (λ s lt. get_or-replicate (length t.mid.stale) s true false (omega (arith, length-replicate (length t.mid.stale) true))))
 
         last_lead_failed : LeadFailed old last
         last_lead_failed = lead_moved old last m.mark.side mid_side (rw mid_follower fell)
@@ -263,7 +293,8 @@ module _ (old : Pair) (m : IsMirror old) (settled : old.settled ≡ true) (lead 
             let three = ap (λ (d : DiskState). d.faults) mid_follower in
             record {
               mirror = last_mirror;
-              syncs = synced old last m last_mirror (x.sync.call.sectors ∙ ap (λ (d : DiskState). d.sectors) mid_lead ∙ m.size) (omega (arith, later, one, two, three, sync.call.later)) result (last_syncs result (is_err x.answer) refl is)
+              syncs = synced old last m last_mirror (x.sync.call.sectors ∙ ap (λ (d : DiskState). d.sectors) mid_lead ∙ m.size)
+                  (omega (arith, later, one, two, three, sync.call.later)) result (last_syncs result (is_err x.answer) refl is)
                   (λ _. rose_part old.lead.faults lead.faults (shown old).faults (shown last).faults fell (omega arith) (omega (arith, later, one, two, three)));
               keeps = record { later = later; stale = λ _ was now. inl last_lead_failed; lead = inr last_lead_failed };
               counts = counts_moved old last m.mark.side mid_side (rw mid_follower sync.call.later) (rw mid_lead at one) later;
@@ -306,7 +337,8 @@ unsettled_syncs {T = T} {E = E} e old mid m s =
     let faults = settled_faults true old mid s in
     record {
       mirror = mirror;
-      syncs = synced old mid m mirror (settled_sectors true old mid s) (omega (arith, faults, s.mark.later)) (Err e) (same_syncs {T = T} {E = E} (Err e) old mid m mirror refl (settled_shown true old mid s))
+      syncs = synced old mid m mirror (settled_sectors true old mid s) (omega (arith, faults, s.mark.later)) (Err e)
+          (same_syncs {T = T} {E = E} (Err e) old mid m mirror refl (settled_shown true old mid s))
           (λ _. rose_part old.mark.faults mid.mark.faults (shown old).faults (shown mid).faults (s.cause refl) (omega arith) (omega (arith, faults)));
       keeps = record { later = s.mark.later; stale = λ k was is. let same = settled_stale true old mid s in absurd (both_ways (is_loose old.stale k) was (rw same at is)); lead = inl (settled_side true old mid s) };
       counts = settled_counts true old mid s;
@@ -358,12 +390,16 @@ pub copied_syncs : {T E S F : Type 0} (v : T) (w : S) (failed : Bool) (old mid n
     → Copies failed mid new → MirrorSyncs {T = T} {E = E} (Ok v) old new
 copied_syncs {T = T} {E = E} {S = S} {F = F} v w failed old mid new m s c =
     let later : (shown old).faults ≤ (shown new).faults = let a = s.syncs.call.later in let b = c.run.later in omega arith in
-    let calm : BothTell Calms (shown old).contents (shown new).contents = told_then Calms Calms Calms (shown old).contents (shown mid).contents (shown new).contents
+    let calm : BothTell Calms (shown old).contents (shown new).contents = told_then Calms Calms Calms (shown old).contents (shown mid).contents
+    (shown new).contents
     (told_mono (Syncs {T = S} {E = F} (Ok w)) Calms (shown old).contents (shown mid).contents s.syncs.contents (λ a b t. settles_calm a b t)) c.calm calm_then in
-    let quiet : IfSome (shown new).contents Quiet = told_if Calms Quiet Quiet (shown mid).contents (shown new).contents c.calm (told_to (Syncs {T = S} {E = F} (Ok w)) Quiet (shown old).contents (shown mid).contents s.syncs.contents (λ a b t. settles_kept a b t)) (λ a b h t k. t.kept k (h k)) in
+    let quiet : IfSome (shown new).contents Quiet = told_if Calms Quiet Quiet (shown mid).contents (shown new).contents c.calm
+    (told_to (Syncs {T = S} {E = F} (Ok w)) Quiet (shown old).contents (shown mid).contents s.syncs.contents (λ a b t. settles_kept a b t))
+    (λ a b h t k. t.kept k (h k)) in
     record {
       mirror = c.mirror;
-      syncs = synced old new m c.mirror (c.run.sectors ∙ s.syncs.call.sectors) later (Ok v) (sync_ok {T = T} {E = E} (Ok v) old new m c.mirror refl calm quiet) (λ e. cc);
+      syncs = synced old new m c.mirror (c.run.sectors ∙ s.syncs.call.sectors) later (Ok v)
+          (sync_ok {T = T} {E = E} (Ok v) old new m c.mirror refl calm quiet) (λ e. cc);
       keeps = record {
         later = let a = s.keeps.later in let b = c.counts 2 (omega arith) in omega arith;
         stale = λ k was now. elim (cases_Bool (is_loose mid.stale k)) [

@@ -101,7 +101,8 @@ module _ (sectors at n : ℕ) (stale stale' : List Bool) (old new : Contents × 
       let size = length-loose_of stale old.0.loose old.1.loose in
       let room : at + n ≤ length seen_loose = omega (arith, size, fit.marks) in
       ext_get_or false _ _ (length-loose_of stale' new.0.loose new.1.loose ∙ marks.size ∙ sym size ∙ sym (length-with_marks seen_loose at n room)) (λ s _.
-      loose_at stale' new.0.loose new.1.loose s (lead.marks.size ∙ fit.lead.marks ∙ sym (marks.size ∙ fit.marks)) (follower.marks.size ∙ fit.follower.marks ∙ sym (marks.size ∙ fit.marks))
+      loose_at stale' new.0.loose new.1.loose s (lead.marks.size ∙ fit.lead.marks ∙ sym (marks.size ∙ fit.marks))
+      (follower.marks.size ∙ fit.follower.marks ∙ sym (marks.size ∙ fit.marks))
       ∙ elim (cases_range at n s) [
         | inl out ↦ same_in s out ∙ sym (loose_at stale old.0.loose old.1.loose s (fit.lead.marks ∙ sym fit.marks) (fit.follower.marks ∙ sym fit.marks)) ∙ sym (is_loose-with_marks_outside seen_loose at n room s out)
         | inr in_range ↦ rw (written_inside s in_range.0 in_range.1) (sym (is_loose-with_marks_inside seen_loose at n room s in_range.0 in_range.1))
@@ -150,7 +151,8 @@ module _ (sectors : ℕ) (stale : List Bool) (sides : Contents × Contents) (fit
 
   loose_swapped : loose_of stale sides.1.loose sides.0.loose ≡ loose_of stale sides.0.loose sides.1.loose
   loose_swapped = ext_get_or false _ _ (length-loose_of stale sides.1.loose sides.0.loose ∙ sym (length-loose_of stale sides.0.loose sides.1.loose)) (λ s _.
-      seen_at sectors stale swapped s fit_swapped ∙ rw (whole s) (or_swap (is_loose sides.1.loose s) (is_loose sides.0.loose s)) ∙ sym (seen_at sectors stale sides s fit))
+      seen_at sectors stale swapped s fit_swapped ∙ rw (whole s) (or_swap (is_loose sides.1.loose s) (is_loose sides.0.loose s))
+      ∙ sym (seen_at sectors stale sides s fit))
 
   pub seen_swapped : (settled : Bool) → Agree settled stale sides → seen stale swapped ≡ seen stale sides
   seen_swapped settled agree =

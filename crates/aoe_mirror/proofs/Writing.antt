@@ -81,18 +81,23 @@ module _ (at : ℕ) (piece : List ℕ) (old : Pair) (m : IsMirror old) (range : 
     Through p q = Puts at piece p.0 q.0 × Writes at piece answer p.1 q.1
 
     told : BothTell Through (both old.lead.contents old.follower.contents) (both lead.contents written.contents)
-    told = told_both (Puts at piece) (Writes at piece answer) old.lead.contents lead.contents old.follower.contents written.contents (told_mono (Writes at piece r) (Puts at piece) old.lead.contents lead.contents w.contents (λ a b. put_by at piece r a b ok)) f.contents
+    told = told_both (Puts at piece) (Writes at piece answer) old.lead.contents lead.contents old.follower.contents written.contents
+        (told_mono (Writes at piece r) (Puts at piece) old.lead.contents lead.contents w.contents (λ a b. put_by at piece r a b ok)) f.contents
 
     agree_through : (p q : Contents × Contents) → Holds old p → Through p q → Agree old.settled through.stale q
     agree_through p q h t = agree_written old.lead.sectors at (length piece / 512) old.stale through.stale p q h.0 range.within
-        (puts_beside at piece p.0 q.0 old.lead.sectors h.0.lead range t.0) t.0.loose (beside_by at piece answer p.1 q.1 old.lead.sectors h.0.follower range t.1) (same_marks_each old.stale at (length piece / 512) (is_err answer) fits)
+        (puts_beside at piece p.0 q.0 old.lead.sectors h.0.lead range t.0) t.0.loose
+        (beside_by at piece answer p.1 q.1 old.lead.sectors h.0.follower range t.1)
+        (same_marks_each old.stale at (length piece / 512) (is_err answer) fits)
         old.settled h.1 (inside_by answer p q h.0 t.0 t.1)
 
     put_through : (p q : Contents × Contents) → Holds old p → Through p q → Puts at piece (seen old.stale p) (seen through.stale q)
     put_through p q h t = record {
       bytes = t.0.bytes;
       loose = loose_written old.lead.sectors at (length piece / 512) old.stale through.stale p q h.0 range.within
-          (puts_beside at piece p.0 q.0 old.lead.sectors h.0.lead range t.0) t.0.loose (beside_by at piece answer p.1 q.1 old.lead.sectors h.0.follower range t.1) (same_marks_each old.stale at (length piece / 512) (is_err answer) fits);
+          (puts_beside at piece p.0 q.0 old.lead.sectors h.0.lead range t.0) t.0.loose
+          (beside_by at piece answer p.1 q.1 old.lead.sectors h.0.follower range t.1)
+          (same_marks_each old.stale at (length piece / 512) (is_err answer) fits);
       settled = refl;
     }
 
@@ -103,11 +108,13 @@ module _ (at : ℕ) (piece : List ℕ) (old : Pair) (m : IsMirror old) (range : 
       size = f.call.sectors ∙ m.size ∙ sym w.call.sectors;
       mark = record { disk = m.mark.disk; room = m.mark.room; side = m.mark.side; named = m.mark.named };
       marks = length-with_each old.stale at (length piece / 512) (is_err answer) fits ∙ m.marks ∙ sym w.call.sectors;
-      agree = told_if Through (Holds old) (Agree old.settled through.stale) (both old.lead.contents old.follower.contents) (both lead.contents written.contents) told (holds_of old m) agree_through;
+      agree = told_if Through (Holds old) (Agree old.settled through.stale) (both old.lead.contents old.follower.contents)
+          (both lead.contents written.contents) told (holds_of old m) agree_through;
     }
 
     pub through_puts : BothTell (Puts at piece) (shown old).contents (shown through).contents
-    through_puts = told_map Through (Puts at piece) (Holds old) (seen old.stale) (seen through.stale) (both old.lead.contents old.follower.contents) (both lead.contents written.contents) told (holds_of old m) put_through
+    through_puts = told_map Through (Puts at piece) (Holds old) (seen old.stale) (seen through.stale) (both old.lead.contents old.follower.contents)
+        (both lead.contents written.contents) told (holds_of old m) put_through
 
     follower_failed : is_err answer ≡ true → FollowerFailed old through
     follower_failed bad = follower_same old through m.mark.side refl (OnTrue_at bad f.call.cause)
@@ -172,17 +179,20 @@ module _ (at : ℕ) (piece : List ℕ) (old : Pair) (m : IsMirror old) (range : 
 
       agree_halted : (p q : Contents × Contents) → Holds old p → Halted p q → Agree old.settled halted.stale q
       agree_halted p q h t = agree_written old.lead.sectors at (length piece / 512) old.stale halted.stale p q h.0 range.within
-          (spoils_beside at (length piece) p.0 q.0 old.lead.sectors h.0.lead range t.0) t.0.loose t.1 (same_marks_each old.stale at (length piece / 512) true fits)
+          (spoils_beside at (length piece) p.0 q.0 old.lead.sectors h.0.lead range t.0) t.0.loose t.1
+          (same_marks_each old.stale at (length piece / 512) true fits)
           old.settled h.1 (λ s low high off. absurd (both_ways _ off (with_each_inside old.stale at (length piece / 512) true fits s low high)))
 
       spoil_halted : (p q : Contents × Contents) → Holds old p → Halted p q → MaySpoil at (length piece) (seen old.stale p) (seen halted.stale q)
-      spoil_halted p q h t = spoils_may_spoil at (length piece) (seen old.stale p) (seen halted.stale q) old.lead.sectors (seen_shape old.lead.sectors old.stale p h.0) range (record {
-        bytes = t.0.bytes;
-        loose = loose_written old.lead.sectors at (length piece / 512) old.stale halted.stale p q h.0 range.within
-            (spoils_beside at (length piece) p.0 q.0 old.lead.sectors h.0.lead range t.0) t.0.loose t.1 (same_marks_each old.stale at (length piece / 512) true fits);
-        settled = refl;
-        exact = λ some. let e : false ≡ true = some in cc;
-      })
+      spoil_halted p q h t = spoils_may_spoil at (length piece) (seen old.stale p) (seen halted.stale q) old.lead.sectors
+          (seen_shape old.lead.sectors old.stale p h.0) range (record {
+            bytes = t.0.bytes;
+            loose = loose_written old.lead.sectors at (length piece / 512) old.stale halted.stale p q h.0 range.within
+                (spoils_beside at (length piece) p.0 q.0 old.lead.sectors h.0.lead range t.0) t.0.loose t.1
+                (same_marks_each old.stale at (length piece / 512) true fits);
+            settled = refl;
+            exact = λ some. let e : false ≡ true = some in cc;
+          })
 
       pub halted_mirror : IsMirror halted
       halted_mirror = record {
@@ -191,11 +201,13 @@ module _ (at : ℕ) (piece : List ℕ) (old : Pair) (m : IsMirror old) (range : 
         size = after_later.sectors ∙ m.size ∙ sym w.call.sectors;
         mark = record { disk = m.mark.disk; room = m.mark.room; side = m.mark.side; named = m.mark.named };
         marks = length-with_each old.stale at (length piece / 512) true fits ∙ m.marks ∙ sym w.call.sectors;
-        agree = told_if Halted (Holds old) (Agree old.settled halted.stale) (both old.lead.contents old.follower.contents) (both lead.contents after.contents) told_halted (holds_of old m) agree_halted;
+        agree = told_if Halted (Holds old) (Agree old.settled halted.stale) (both old.lead.contents old.follower.contents)
+            (both lead.contents after.contents) told_halted (holds_of old m) agree_halted;
       }
 
       halted_spoils : BothTell (MaySpoil at (length piece)) (shown old).contents (shown halted).contents
-      halted_spoils = told_map Halted (MaySpoil at (length piece)) (Holds old) (seen old.stale) (seen halted.stale) (both old.lead.contents old.follower.contents) (both lead.contents after.contents) told_halted (holds_of old m) spoil_halted
+      halted_spoils = told_map Halted (MaySpoil at (length piece)) (Holds old) (seen old.stale) (seen halted.stale)
+          (both old.lead.contents old.follower.contents) (both lead.contents after.contents) told_halted (holds_of old m) spoil_halted
 
       lead_failed : LeadFailed old halted
       lead_failed = lead_same old halted refl lead_rose
@@ -259,7 +271,8 @@ module _ (at : ℕ) (piece : List ℕ) (old : Pair) (m : IsMirror old) (range : 
   pub swapped_writes : {T E : Type 0} (result : Result T E) → is_err result ≡ failed → MirrorWrites at piece result old new
   swapped_writes result is = record {
     mirror = new_mirror;
-    stores = stored old new m new_mirror (settled_sectors failed mid new settles ∙ s.write.call.sectors ∙ m.size) (let f = settled_faults failed mid new settles in omega (arith, f, w.call.later, s.write.call.later, settles.mark.later)) at piece result
+    stores = stored old new m new_mirror (settled_sectors failed mid new settles ∙ s.write.call.sectors ∙ m.size)
+        (let f = settled_faults failed mid new settles in omega (arith, f, w.call.later, s.write.call.later, settles.mark.later)) at piece result
         (told_with (Puts at piece) (Stores at piece result) (λ (a : Contents). HasShape old.lead.sectors a × (a.settled ≡ None)) (shown old).contents (shown new).contents new_puts (shown_if old m) (stores_by result))
         (λ _. let f = settled_faults failed mid new settles in rose_part old.lead.faults lead.faults (shown old).faults (shown new).faults lead_fell (omega arith) (omega (arith, f, s.write.call.later, settles.mark.later)));
     keeps = record { later = settles.mark.later; stale = λ _ was now. inl swap_lead_failed; lead = inr swap_lead_failed };

@@ -50,8 +50,10 @@ told_unsettled (Some x) (Some y) told = may_settle_agrees x y told
 synced_sectors : (synced : Result (Unit {0}) Failed) (old new : DiskState) (k : State) → SyncsTo synced old new
     → BothTell Agrees (option_map sectors_of old.contents) k.sectors
     → BothTell Agrees (option_map sectors_of new.contents) (after_last synced k).sectors
-synced_sectors (Ok done) old new k sync agree = both_settle (option_map sectors_of new.contents) (option_map sectors_of old.contents) k.sectors (told_settled old.contents new.contents sync.contents) agree
-synced_sectors (Err failed) old new k sync agree = both_then (option_map sectors_of new.contents) (option_map sectors_of old.contents) k.sectors (told_unsettled old.contents new.contents sync.contents) agree
+synced_sectors (Ok done) old new k sync agree = both_settle (option_map sectors_of new.contents) (option_map sectors_of old.contents) k.sectors
+    (told_settled old.contents new.contents sync.contents) agree
+synced_sectors (Err failed) old new k sync agree = both_then (option_map sectors_of new.contents) (option_map sectors_of old.contents) k.sectors
+    (told_unsettled old.contents new.contents sync.contents) agree
 
 same_lists : (synced : Result (Unit {0}) Failed) (k : State) → (after_last synced k).lists ≡ k.lists
 same_lists (Ok done) k = refl
@@ -120,7 +122,8 @@ ends_after a m b h synced finds served sync =
     record {
       holds = at_end;
       outlives = outlived b.device (after_last synced (left_by a.station (state_of a.device) h)) (at_end (state_of a.device) (first_state a.device finds));
-      disk_outlives = λ disk kept. outlived_under b.device (after_last synced (left_by a.station (state_of a.device) h)) disk (at_end (state_of a.device) (first_state a.device finds)) kept;
+      disk_outlives = λ disk kept. outlived_under b.device (after_last synced (left_by a.station (state_of a.device) h)) disk
+          (at_end (state_of a.device) (first_state a.device finds)) kept;
     }
 
 -- the slot that stands at a place
@@ -151,14 +154,16 @@ each_ends old middle new arrivals results finds served synced = record {
   count = synced.slots.count ∙ served.slots.count;
   each = λ i a b ea eb.
       let m = there middle i (omega (arith, slice_get_within new i b eb, synced.slots.count)) in
-      ends_after a m.slot b (at_slot i arrivals) (get_or results i (Ok tt)) (finds i a ea) (served.slots.each i a m.slot ea m.is) (synced.slots.each i m.slot b m.is eb);
+      ends_after a m.slot b (at_slot i arrivals) (get_or results i (Ok tt)) (finds i a ea) (served.slots.each i a m.slot ea m.is)
+      (synced.slots.each i m.slot b m.is eb);
 }
 
 pub run_ends : {S K L : Type 0} (t : Tells S K L) (p : Plan) (e : RunEnd) (a b : Outside S K L) (old middle new : List Slot)
     (results : List (Result (Unit {0}) Failed))
     (ran : HasRun t p e a b old middle) → FindsAll old → SyncsEach results middle new
     → EachSlot (λ i x y. EndsAfter (at_slot i (arrivals_in t p e a b old middle ran)) (get_or results i (Ok tt)) x y) old new
-run_ends t p e a b old middle new results ran finds synced = each_ends old middle new (arrivals_in t p e a b old middle ran) results finds (served_in t p e a b old middle ran) synced
+run_ends t p e a b old middle new results ran finds synced = each_ends old middle new (arrivals_in t p e a b old middle ran) results finds
+    (served_in t p e a b old middle ran) synced
 
 finds_first : (s x : Slot) → AlwaysFinds s.device.keep s.device.lists → (let o : Option Slot = Some s in o) ≡ Some x → AlwaysFinds x.device.keep x.device.lists
 finds_first s x finds e = let same : s ≡ x = cc in subst (λ (y : Slot). AlwaysFinds y.device.keep y.device.lists) same finds
@@ -166,8 +171,10 @@ finds_first s x finds e = let same : s ≡ x = cc in subst (λ (y : Slot). Alway
 -- every crash finds the lists of a slot over a keep that was mounted
 pub over_finds : {D : Type 0} (state : D → DiskState) (most : ℕ) (name : ℕ → ℕ → Station) (minor : ℕ) (disks disks' : List (Option D)) (first last : List Slot)
     → OverFiles state most name minor disks disks' first last → FindsAll first
-over_finds state most name minor (Some f ∷ Some k ∷ disks) (Some f' ∷ Some k' ∷ disks') (a ∷ first) (b ∷ last) over zero s e = finds_first a s over.0.mounted.finds e
-over_finds state most name minor (Some f ∷ Some k ∷ disks) (Some f' ∷ Some k' ∷ disks') (a ∷ first) (b ∷ last) over (suc i) s e = over_finds state most name (minor + 1) disks disks' first last over.1 i s e
+over_finds state most name minor (Some f ∷ Some k ∷ disks) (Some f' ∷ Some k' ∷ disks') (a ∷ first)
+    (b ∷ last) over zero s e = finds_first a s over.0.mounted.finds e
+over_finds state most name minor (Some f ∷ Some k ∷ disks) (Some f' ∷ Some k' ∷ disks') (a ∷ first) (b ∷ last) over (suc i) s e = over_finds state most name
+    (minor + 1) disks disks' first last over.1 i s e
 over_finds state most name minor (Some f ∷ Some k ∷ disks) (Some f' ∷ Some k' ∷ disks') (a ∷ first) [] over i s e = absurd over
 over_finds state most name minor (Some f ∷ Some k ∷ disks) (Some f' ∷ Some k' ∷ disks') [] last over i s e = absurd over
 over_finds state most name minor (Some f ∷ Some k ∷ disks) (Some f' ∷ None ∷ disks') first last over i s e = absurd over

@@ -86,8 +86,10 @@ module _ {D : Type 0} (state : D → DiskState) (most : ℕ) where
 -- a keep in front of these disks was refused
 refused-front : {D : Type 0} (state : D → DiskState) (n : ℕ) (refusal : MountRefusal) (disks disks' behind : List (Option D))
     → GivesBack state n refusal disks disks' → GivesBack state n refusal (disks ++ behind) (disks' ++ behind)
-refused-front state zero refusal (Some f ∷ Some k ∷ disks) (Some f' ∷ Some k' ∷ disks') behind back = (back.0, ap (λ (xs : List (Option _)). xs ++ behind) back.1)
-refused-front state (suc n) refusal (Some f ∷ Some k ∷ disks) (Some f' ∷ Some k' ∷ disks') behind back = (back.0, refused-front state n refusal disks disks' behind back.1)
+refused-front state zero refusal (Some f ∷ Some k ∷ disks)
+    (Some f' ∷ Some k' ∷ disks') behind back = (back.0, ap (λ (xs : List (Option _)). xs ++ behind) back.1)
+refused-front state (suc n) refusal (Some f ∷ Some k ∷ disks)
+    (Some f' ∷ Some k' ∷ disks') behind back = (back.0, refused-front state n refusal disks disks' behind back.1)
 refused-front state zero refusal (Some f ∷ Some k ∷ disks) (Some f' ∷ None ∷ disks') behind back = absurd back
 refused-front state zero refusal (Some f ∷ Some k ∷ disks) (Some f' ∷ []) behind back = absurd back
 refused-front state zero refusal (Some f ∷ Some k ∷ disks) (None ∷ disks') behind back = absurd back
@@ -218,7 +220,8 @@ over-files state most name minor disks disks' (a ∷ first) [] count seated back
 over-files {D} state most name minor disks disks' (a ∷ first) (b ∷ last) count (file, keep, others, is, s, seated) (file', keep', others', is', l, back) =
     let P : List (Option D) → Type 0 =
     λ xs. OverFiles state most name minor xs disks' (slots_of (any_state state) state (a ∷ first)) (slots_of (any_state state) state (b ∷ last)) in
-    let Q : List (Option D) → Type 0 = λ xs. OverFiles state most name minor (Some file ∷ Some keep ∷ others) xs (slots_of (any_state state) state (a ∷ first)) (slots_of (any_state state) state (b ∷ last)) in
+    let Q : List (Option D) → Type 0 = λ xs. OverFiles state most name minor (Some file ∷ Some keep ∷ others) xs
+    (slots_of (any_state state) state (a ∷ first)) (slots_of (any_state state) state (b ∷ last)) in
     subst P (sym is) (subst Q (sym is') (
       record {
         station = s.station ∙ ap (name minor) (over-sectors state most file);
@@ -236,7 +239,8 @@ pub run-count : {D S K L : Type 0} (t : Tells S K L) (p : Plan) (e : RunEnd) (a 
     → HasRun t p e a b (slots_of (any_state state) state old) (slots_of (any_state state) state new) → length new ≡ length old
 run-count t p e a b state old new ran =
     let f = slot_of (any_state state) state in
-    sym (length-map new f) ∙ (served_in t p e a b (slots_of (any_state state) state old) (slots_of (any_state state) state new) ran).slots.count ∙ length-map old f
+    sym (length-map new f) ∙ (served_in t p e a b (slots_of (any_state state) state old) (slots_of (any_state state) state new) ran).slots.count
+    ∙ length-map old f
 
 -- a shelf was given these slots, ran, and gave them back
 pub exported : {D S K L : Type 0} (state : D → DiskState) (most most' : ℕ) (name name' : ℕ → ℕ → Station) (minor : ℕ) (t : Tells S K L) (p : Plan)
@@ -249,7 +253,8 @@ exported {D} state most most' name name' minor t p e a b disks disks' first last
     let over = over-files state most' name' minor disks disks' first last count seated back in
     let first_slots = slots_of (any_state state) state first in
     let last_slots = slots_of (any_state state) state last in
-    subst (λ (m : ℕ). IsExported state m name minor t p e a b disks disks') room (subst (λ (n : ℕ → ℕ → Station). IsExported state most' n minor t p e a b disks disks') same (record {
+    subst (λ (m : ℕ). IsExported state m name minor t p e a b disks disks') room
+    (subst (λ (n : ℕ → ℕ → Station). IsExported state most' n minor t p e a b disks disks') same (record {
       first = first_slots;
       last = last_slots;
       over = over;

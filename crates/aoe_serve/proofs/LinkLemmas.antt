@@ -86,7 +86,8 @@ module _ (limit idle : ℕ) (turns : List Turn) (count : ℕ) (counted : length 
   -- while it waits
   waits : (n : ℕ) → n < idle → is_over limit idle (replicate n quiet ++ turns) ≡ false
   waits n short =
-      none_of (nat_eq (length (came_in (replicate n quiet ++ turns))) limit) (nat_eq (quiet_since (replicate n quiet ++ turns)) idle) (has_ended (replicate n quiet ++ turns))
+      none_of (nat_eq (length (came_in (replicate n quiet ++ turns))) limit) (nat_eq (quiet_since (replicate n quiet ++ turns)) idle)
+      (has_ended (replicate n quiet ++ turns))
       (less_not_equal (length (came_in (replicate n quiet ++ turns))) limit (omega (arith, ap length (came_quiet n turns), counted, few)))
       (less_not_equal (quiet_since (replicate n quiet ++ turns)) idle (omega (arith, quiet_count n turns loud, short)))
       (not_ended n turns going)
@@ -207,14 +208,17 @@ module _ (limit idle start now later : ℕ) (given0 given given' : Option (List 
   s = subst (λ (o : Option Frames). SoFar limit idle start now given0 given taken0 o old mid count) (sym same) before
 
   pub by_silence : AfterWait (Ok Quiet) idle f now later given given' → Served end.Ended limit idle start later given0 given' taken0 waiting old mid
-  by_silence w = falls_silent limit idle start now given0 given taken0 waiting old mid count few s later given' (subst (λ (l : List Turn). Turned now later given given' l) w.1 w.2)
+  by_silence w = falls_silent limit idle start now given0 given taken0 waiting old mid count few s later given'
+      (subst (λ (l : List Turn). Turned now later given given' l) w.1 w.2)
 
   pub by_end : AfterWait (Ok Ended) idle f now later given given' → Served end.Ended limit idle start later given0 given' taken0 waiting old mid
-  by_end w = link_ends limit idle start now given0 given taken0 waiting old mid count few s later given' w.1.0 w.1.1 (subst (λ (l : List Turn). Turned now later given given' l) w.1.2 w.2)
+  by_end w = link_ends limit idle start now given0 given taken0 waiting old mid count few s later given' w.1.0 w.1.1
+      (subst (λ (l : List Turn). Turned now later given given' l) w.1.2 w.2)
 
   pub by_failure : (e : Failed) → AfterWait (Err e) idle f now later given given'
       → Served end.LinkFault limit idle start later given0 given' taken0 waiting old mid
-  by_failure e w = link_fails limit idle start now given0 given taken0 waiting old mid count few s later given' w.1.0 w.1.1 (subst (λ (l : List Turn). Turned now later given given' l) w.1.2 w.2)
+  by_failure e w = link_fails limit idle start now given0 given taken0 waiting old mid count few s later given' w.1.0 w.1.1
+      (subst (λ (l : List Turn). Turned now later given given' l) w.1.2 w.2)
 
   module _ (last : ℕ) (given'' : Option (List Turn)) (taken' : Option Frames) (new : List Slot) (result : Outcome) (m n : ℕ) (w : AfterWait (Ok Frame) idle f now later given given')
       (r : Round (LinkTook result waiting taken' given' given'' later last m n) f mid new) where

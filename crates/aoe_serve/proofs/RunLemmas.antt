@@ -50,15 +50,18 @@ served_slot a b c f fate h s m = record {
   station = m.station ∙ s.station;
   lawful = λ k hk. ((step k hk).allowed, s.lawful k hk);
   holds = λ k hk. (step k hk).holds;
-  store_faults = counted-step a.device.store.faults (count_failed store_failed h) b.device.store.faults c.device.store.faults (store_failed fate) s.store_faults m.store_later m.store_fault;
-  keep_faults = counted-step a.device.keep.faults (count_failed keep_failed h) b.device.keep.faults c.device.keep.faults (keep_failed fate) s.keep_faults m.keep_later m.keep_fault;
+  store_faults = counted-step a.device.store.faults (count_failed store_failed h) b.device.store.faults c.device.store.faults
+      (store_failed fate) s.store_faults m.store_later m.store_fault;
+  keep_faults = counted-step a.device.keep.faults (count_failed keep_failed h) b.device.keep.faults c.device.keep.faults
+      (keep_failed fate) s.keep_faults m.keep_later m.keep_fault;
 }
   where
     step : (k : State) → Holds a.device k → IsStep a.station (left_by a.station k h) f fate c.device
     step k hk = subst (λ (st : Station). IsStep st (left_by a.station k h) f fate c.device) s.station (m.step (left_by a.station k h) (s.holds k hk))
 
 unserved : (a b : Slot) → a ≡ b → IsServed a b []
-unserved a b e = subst (λ (x : Slot). IsServed a x []) e (record { station = refl; lawful = λ k hk. tt; holds = λ k hk. hk; store_faults = omega arith; keep_faults = omega arith })
+unserved a b e = subst (λ (x : Slot). IsServed a x []) e
+    (record { station = refl; lawful = λ k hk. tt; holds = λ k hk. hk; store_faults = omega arith; keep_faults = omega arith })
 
 pub served_begun : (old : List Slot) → AreServed old old []
 served_begun old = record { rounds = tt; slots = record { count = refl; each = λ i a b ea eb. unserved a b (same_Some a b (sym ea ∙ eb)) } }
@@ -122,7 +125,8 @@ goes_on left0 left left' held0 held held' old now new offset count n l m f s n_i
       count_is = omega (arith, s.count_is);
       offset_is = omega (arith, s.offset_is, ap length (stream-frame (frames h) f), length-append (stream (frames h)) (framed f), n_is);
       gave = subst P (sym (stream-frame (frames h) f)) (Gave-then left0 left left' (stream (frames h)) (framed f) s.gave gave);
-      took = subst Q (sym (stream-append (replies h) (replies_of r.fates))) (Took-then held0 held held' (stream (replies h)) (stream (replies_of r.fates)) s.took r.took.writes);
+      took = subst Q (sym (stream-append (replies h) (replies_of r.fates)))
+          (Took-then held0 held held' (stream (replies h)) (stream (replies_of r.fates)) s.took r.took.writes);
     }
 
 length-stream : (fs : List (List ℕ)) → All IsFrame fs → length (stream fs) ≤ 9020 * length fs

@@ -33,7 +33,8 @@ module _ {S D : Type 0} (store : S → DiskState) (keep : D → DiskState) (resu
         syncs = λ a b ea eb.
             let first : f c.before ≡ a = same_Some (f c.before) a (sym (slice_get-map f old slot ∙ ap (option_map f) c.found) ∙ ea) in
             let second : f c.after ≡ b = same_Some (f c.after) b (sym (slice_get-map f new slot ∙ ap (option_map f) (get-after slot _ old new c)) ∙ eb) in
-            subst (λ (x : Slot). SyncsSlot result x b) first (subst (λ (x : Slot). SyncsSlot result (f c.before) x) second (syncs_from c.before c.after c.change));
+            subst (λ (x : Slot). SyncsSlot result x b) first
+            (subst (λ (x : Slot). SyncsSlot result (f c.before) x) second (syncs_from c.before c.after c.change));
         others = λ i other. slice_get-map f new i ∙ ap (option_map f) (get-other slot _ old new c i other) ∙ sym (slice_get-map f old i);
       }
 
@@ -55,11 +56,13 @@ module _ (old now new : List Slot) (results : List (Result (Unit {0}) Failed)) (
         | inl before ↦
             let same : slice_get new i ≡ slice_get now i = m.others i (λ e. omega (arith, e, before)) in
             let less : i < length results = omega (arith, before, at) in
-            subst (λ (r : Result (Unit {0}) Failed). SyncsSlot r a b) (sym (get_or_append_left results (result ∷ []) (Ok tt) i less)) (p.done i a b less ea (sym same ∙ eb))
+            subst (λ (r : Result (Unit {0}) Failed). SyncsSlot r a b) (sym (get_or_append_left results (result ∷ []) (Ok tt) i less))
+            (p.done i a b less ea (sym same ∙ eb))
         | inr after ↦
             let is : s ≡ i = omega (arith, after, below, at, length-append results (result ∷ [])) in
             let here : slice_get now s ≡ Some a = p.rest s (omega (arith, at)) ∙ ap (slice_get old) is ∙ ea in
-            subst (λ (r : Result (Unit {0}) Failed). SyncsSlot r a b) (sym (get_or_at results result [] (Ok tt) i (at ∙ is))) (m.syncs a b here (ap (slice_get new) is ∙ eb))
+            subst (λ (r : Result (Unit {0}) Failed). SyncsSlot r a b) (sym (get_or_at results result [] (Ok tt) i (at ∙ is)))
+            (m.syncs a b here (ap (slice_get new) is ∙ eb))
       ]
 
   pub partly_then : Partly old new (results ++ result ∷ [])
@@ -92,9 +95,11 @@ first_then [] (Ok done) = refl
 first_then [] (Err failed) = refl
 first_then (Err failed ∷ results) (Ok done) = refl
 first_then (Err failed ∷ results) (Err more) = refl
-first_then (Ok done ∷ results) result = ap (option_map (λ slot. slot + 1)) (first_then results result) ∙ later (first_failed results) result (length results) ∙ ap (first_of (option_map (λ slot. slot + 1) (first_failed results)) result) (omega arith)
+first_then (Ok done ∷ results) result = ap (option_map (λ slot. slot + 1)) (first_then results result)
+    ∙ later (first_failed results) result (length results) ∙ ap (first_of (option_map (λ slot. slot + 1) (first_failed results)) result) (omega arith)
 
 pub first-more : (results : List (Result (Unit {0}) Failed)) (result : Result (Unit {0}) Failed) (n : ℕ) (first more : Option ℕ)
     → first ≡ first_failed results → length results ≡ n → more ≡ first_of first result n → more ≡ first_failed (results ++ result ∷ [])
 first-more results result n first more one count two =
-    two ∙ ap (λ (o : Option ℕ). first_of o result n) one ∙ ap (λ (k : ℕ). first_of (first_failed results) result k) (sym count) ∙ sym (first_then results result)
+    two ∙ ap (λ (o : Option ℕ). first_of o result n) one ∙ ap (λ (k : ℕ). first_of (first_failed results) result k) (sym count)
+    ∙ sym (first_then results result)

@@ -83,7 +83,8 @@ module _ {S D : Type 0} (store : S → DiskState) (keep : D → DiskState) (f : 
         ap (λ (l : List (Mounted S D)). slice_get l slot) c.others ∙ get_set_same old slot c.after (slice_get_within old slot c.before c.found) in
         let second : slot_of store keep c.after ≡ b =
         same_Some (slot_of store keep c.after) b (sym (slice_get-map (slot_of store keep) new slot ∙ ap (option_map (slot_of store keep)) there) ∙ eb) in
-        subst (λ (x : Slot). Meets x b f (fate_of h out)) first (subst (λ (x : Slot). Meets (slot_of store keep c.before) x f (fate_of h out)) second (meets_from c.before c.after c.change));
+        subst (λ (x : Slot). Meets x b f (fate_of h out)) first
+        (subst (λ (x : Slot). Meets (slot_of store keep c.before) x f (fate_of h out)) second (meets_from c.before c.after c.change));
     others = λ i other.
         slice_get-map (slot_of store keep) new i
         ∙ ap (option_map (slot_of store keep)) (ap (λ (l : List (Mounted S D)). slice_get l i) c.others ∙ get_set_other old slot i c.after other)

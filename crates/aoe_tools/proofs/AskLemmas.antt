@@ -55,7 +55,8 @@ args_by (Err e) = Err e
 said-by : (q : Question) (limit : ℕ) (rs : List Response) → args_by (answered q limit rs) ≡ said q limit rs
 said-by q limit [] = refl
 said-by q limit (r ∷ rs) =
-    elim (refusal_of q.subject r.reply.answer r.args) as (λ o. args_by (unless_refusing o r) ≡ unless_refused o (args_of r)) [ None ↦ refl | Some refusal ↦ refl ]
+    elim (refusal_of q.subject r.reply.answer r.args) as
+    (λ o. args_by (unless_refusing o r) ≡ unless_refused o (args_of r)) [ None ↦ refl | Some refusal ↦ refl ]
 
 pub asks-one : {q : Question} {request : List ℕ} {limit : ℕ} {before after : LinkState} (result : Result Response ToolRefusal)
     → Asks result q request limit before after

@@ -114,7 +114,8 @@ front-next S all s o rest ticket is front =
     let one : record { ticket = record { 0 = length S + 1 }; op = o } ≡ s = rw (n, is) refl in
     let more : length S + 1 + 1 ≡ length (s ∷ S) + 1 = omega arith in
     let there : all ≡ reverse S ++ s ∷ numbered (length (s ∷ S) + 1) rest = rw (one, more) at front in
-    there ∙ sym (append_assoc (reverse S) (s ∷ []) (numbered (length (s ∷ S) + 1) rest)) ∙ ap (λ l. l ++ numbered (length (s ∷ S) + 1) rest) (sym (reverse-append (s ∷ []) S))
+    there ∙ sym (append_assoc (reverse S) (s ∷ []) (numbered (length (s ∷ S) + 1) rest))
+    ∙ ap (λ l. l ++ numbered (length (s ∷ S) + 1) rest) (sym (reverse-append (s ∷ []) S))
 
 operations-cons : (w : Bool) (p : Part) (parts : List Part) → all_operations w (p ∷ parts) ≡ op_of w p ∷ all_operations w parts
 operations-cons true p parts = refl
@@ -345,7 +346,8 @@ module _ (w : Bool) (at : ℕ) (P : List Part) where
   -- the outcomes of a turn
   turn-so : (turns : ℕ) (c : Course) (rounds : List Round) (gave_up : List Done) → IsSo (submissions rounds) (outcomes rounds) c
       → let ds = dones (told rounds) gave_up in
-      IsSo (submissions rounds) (came_in rounds gave_up) (after_dones turns c ds) × (end_by turns c ds ≡ Some (Ok record {}) → Over (came_in rounds gave_up) (after_dones turns c ds))
+      IsSo (submissions rounds) (came_in rounds gave_up)
+      (after_dones turns c ds) × (end_by turns c ds ≡ Some (Ok record {}) → Over (came_in rounds gave_up) (after_dones turns c ds))
   turn-so turns c rounds gave_up x =
       dones-so turns (came_in rounds gave_up) c (dones (told rounds) gave_up) (more-came gave_up (outcomes rounds)) (dones-came rounds gave_up) x
 
@@ -390,7 +392,8 @@ module _ (w : Bool) (at : ℕ) (P : List Part) where
       let y = asked flush e in
       record { later = r ∷ y.later; turn = y.turn; earlier = y.earlier; order = ap (λ rs. r ∷ rs) y.order; flushes = y.flushes; written = y.written }
   asked-turn dead at_time log r rounds c (s ∷ before) gave same next x asked =
-      asked-next dead at_time log r rounds (submitted c before) s before gave same next.1 (omega (arith, next.3, length-append before (submissions rounds))) (submits-so c before next.0 x)
+      asked-next dead at_time log r rounds (submitted c before) s before gave same next.1 (omega (arith, next.3, length-append before (submissions rounds)))
+      (submits-so c before next.0 x)
 
   rounds-so : (base : Host) (turns : ℕ) (start : Course) (rounds : List Round) → IsSo [] [] start → Asked [] start → AreRounds base turns start rounds
       → IsSo (submissions rounds) (outcomes rounds) (course_of turns start rounds) × Asked rounds (course_of turns start rounds)
@@ -402,7 +405,8 @@ module _ (w : Bool) (at : ℕ) (P : List Part) where
       let before = rounds-so base turns start rounds x unasked are.0 in
       let now = (turn-so turns c rounds r.gave_up before.0).0 in (
         more (more-came (told_by r.heard) (came_in rounds r.gave_up)) (submits-so (after_dones turns c ds) r.submits are.2.submits now),
-        asked-turn base.dead _ _ r rounds (after_dones turns c ds) r.submits are.2.gives_up.in_turn refl are.2.submits now (asked-dones turns rounds c ds before.1),
+        asked-turn base.dead _ _ r rounds (after_dones turns c ds) r.submits are.2.gives_up.in_turn refl are.2.submits now
+            (asked-dones turns rounds c ds before.1),
       )
 
   -- each part was asked for once and has its success; and where they were written the flush is behind them
@@ -434,7 +438,8 @@ module _ (w : Bool) (at : ℕ) (P : List Part) where
       let x = rw (← is) at ended.0 in
       let over = rw (← is) at (ended.1 e.by) in
       let laid = laid-so w (length (submissions rounds)) all 1 at c.block.parts x.parts in
-      let each = have-alone base.dead _ _ e.gave_up e.gives_up.in_turn (outcomes rounds) w 1 c.block.parts (each-so w (length (submissions rounds)) all 1 at c.block.parts x.parts over.ended) in
+      let each = have-alone base.dead _ _ e.gave_up e.gives_up.in_turn (outcomes rounds) w 1 c.block.parts
+      (each-so w (length (submissions rounds)) all 1 at c.block.parts x.parts over.ended) in
       let front = rw (over.nothing, append-nil (reverse (submissions rounds))) at x.front in
       let asked = rw (← is) at (asked-dones turns rounds last (dones (told rounds) e.gave_up) before.1) in
       record {
@@ -535,7 +540,8 @@ module _ {d : Device} {start : Course} {range : Range} (fresh : IsFresh range d 
         → HasRun range.writes range.at start.block.parts x.runs.rounds x.last.block.parts
     ran-so x =
         let e = x.runs.ends in
-        run-so range.writes range.at start.block.parts (host_of ask.port id d) ask.turns e.0 start x.last x.runs.rounds (fresh-so range d start fresh) unasked x.runs.are e.1 e.2
+        run-so range.writes range.at start.block.parts (host_of ask.port id d) ask.turns e.0 start x.last x.runs.rounds
+        (fresh-so range d start fresh) unasked x.runs.are e.1 e.2
 
 module _ {ask : Ask} {id : TargetId} {d : Device} {start c : Course} {before after : LinkState} {answers answers' : Option (List ℕ)} where
   pub read-law : (at count : ℕ) → IsFresh (read_of at count) d start → (x : RunsAll (Ok c) ask id d start before after answers answers')

@@ -119,7 +119,8 @@ module _ (w : Bool) (n : ℕ) (D : List Done) where
               let ok = success w p d.outcome well whole in
               let now : Part = record p { bytes = bytes_after d.outcome p.bytes; stage = Ended } in
               let is : d ≡ record { ticket = record { 0 = k }; outcome = success_of w now } =
-              ap {B = Done} (λ t. record { ticket = t; outcome = d.outcome }) own.0 ∙ ap {B = Done} (λ o. record { ticket = record { 0 = k }; outcome = o }) ok.0 in
+              ap {B = Done} (λ t. record { ticket = t; outcome = d.outcome }) own.0
+              ∙ ap {B = Done} (λ o. record { ticket = record { 0 = k }; outcome = o }) ok.0 in
               rw (mine, well) (refl, refl, ok.1, ((0, omega arith, is), own.1), ok.2)
           | inr badly ↦ rw (mine, badly) (refl, refl, whole, own.1, λ writes. refl)
         ]

@@ -21,7 +21,8 @@ with-then (Some r) rs earlier = refl
 
 responses-then : (q : Question) (later turns : List Turn) → responses q (later ++ turns) ≡ responses q later ++ responses q turns
 responses-then q [] turns = refl
-responses-then q (t ∷ later) turns = ap (with_response (brought q t)) (responses-then q later turns) ∙ with-then (brought q t) (responses q later) (responses q turns)
+responses-then q (t ∷ later) turns = ap (with_response (brought q t)) (responses-then q later turns)
+    ∙ with-then (brought q t) (responses q later) (responses q turns)
 
 pub asked-then : (request : List ℕ) (from k n m : ℕ) → m ≡ n + k → asked_from request from m ≡ asked_from request (from + k) n ++ asked_from request from k
 asked-then request from k zero m e = ap (asked_from request from) (omega (arith, e))

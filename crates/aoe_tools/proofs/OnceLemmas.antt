@@ -48,7 +48,8 @@ once-mapped {n} {D} f cs tickets keeps x = record {
   once = x.once;
   ended_are = All-weaker (IsDone cs) (IsDone (map f cs)) still D x.ended_are;
   given = x.given;
-  below = All-map (λ (c : HostCommand). c.ticket.0 ≤ n) f cs (All-weaker (λ (c : HostCommand). c.ticket.0 ≤ n) (λ c. (f c).ticket.0 ≤ n) (λ c less. rw (tickets c) less) cs x.below);
+  below = All-map (λ (c : HostCommand). c.ticket.0 ≤ n) f cs
+      (All-weaker (λ (c : HostCommand). c.ticket.0 ≤ n) (λ c. (f c).ticket.0 ≤ n) (λ c less. rw (tickets c) less) cs x.below);
 }
   where
     still : (d : Done) → IsDone cs d → IsDone (map f cs) d
@@ -150,7 +151,8 @@ once-heard : {n : ℕ} {D : List Done} (base : Host) (log : List Event) (t : Tur
     → OnceSo n (commands (after_heard heard log)) (told_by heard ++ D)
 once-heard base log t None hears x = x
 once-heard base log (came frame) (Some h) a x =
-    once-ended h.ticket h.outcome (commands log) a.command a.there a.ticket (not-true a.command.done (answered-open a.host a.command frame a.answer a.answers)) x
+    once-ended h.ticket h.outcome (commands log) a.command a.there a.ticket
+    (not-true a.command.done (answered-open a.host a.command frame a.answer a.answers)) x
 once-heard base log _ (Some h) hears x = absurd hears
 
 once-rounds : (base : Host) (turns : ℕ) (start : Course) (rounds : List Round) → AreRounds base turns start rounds

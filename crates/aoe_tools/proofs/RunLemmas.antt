@@ -64,12 +64,14 @@ open-frames [] log = refl
 open-frames (o ∷ earlier) log =
     let before = after_frames earlier log in
     let f = at_ticket o.sent.ticket (after_send o.sent.tag (record { 0 = clock before }) o.sent.path (λ n. timeout_on (path_log before n) o.sent.path.0)) in
-    let same = λ (c : HostCommand). elim (cases_Bool (nat_eq c.ticket.0 o.sent.ticket.0)) as (λ x. unended (f c) ≡ unended c) [ inl own ↦ rw own | inr other ↦ rw other ] in
+    let same = λ (c : HostCommand). elim (cases_Bool (nat_eq c.ticket.0 o.sent.ticket.0)) as
+    (λ x. unended (f c) ≡ unended c) [ inl own ↦ rw own | inr other ↦ rw other ] in
     count-map unended f (commands before) ∙ count-alike (λ c. unended (f c)) unended same (commands before) ∙ open-frames earlier log
 
 -- a command that is answered had no outcome
 pub answered-open : (host : Host) (c : HostCommand) (frame : List ℕ) (says : Answer) → answer_to host c frame ≡ Some says → unended c ≡ true
-answered-open host c frame says e = option_and_then_some (λ h. cond (is_answered host c h) (answer c.op h (drop 24 frame)) None) (head frame) says e (λ h is found.
+answered-open host c frame says e = option_and_then_some (λ h. cond (is_answered host c h) (answer c.op h (drop 24 frame)) None) (head frame) says e
+    (λ h is found.
     elim (cases_Bool (is_answered host c h)) [
       | inl answers ↦ (and_parts _ _ (and_parts _ _ (and_parts _ _ answers).0).1).0
       | inr other ↦ absurd (let none = rw other at found in cc)

@@ -85,6 +85,7 @@ module _ {first : ℕ} {port : Mac} {limit start mid : ℕ} {given given' : Opti
               turned = turned-then start mid last given given' given'' d.turns (visit_turns visits) d.turned turned;
               ends = (
                 (d.ends.0, here.0),
-                front-then taken taken' taken'' (asked (finding_request first port) (length d.turns)) (visit_asks first port visits) (visit_asked first port visits) d.ends.2 here.1,
+                front-then taken taken' taken'' (asked (finding_request first port) (length d.turns)) (visit_asks first port visits)
+                    (visit_asked first port visits) d.ends.2 here.1,
               );
             }

@@ -20,7 +20,8 @@ use Rattle.aoe_tools.specs.TransferSteps.{SubmitsOne, SubmitsSome}
 -- as many devices as before
 pub as-many : (host host' : Host) → IsSame host host' → length host'.devices ≡ length host.devices
 as-many host host' same =
-    sym (length-map host'.devices (λ (d : Device). d.about)) ∙ ap (λ (l : List Attached). length l) same.devices ∙ length-map host.devices (λ (d : Device). d.about)
+    sym (length-map host'.devices (λ (d : Device). d.about)) ∙ ap (λ (l : List Attached). length l) same.devices
+    ∙ length-map host.devices (λ (d : Device). d.about)
 
 pub submits-one : {host host' : Host} {c c' : Course} {op : Op} {ticket : Ticket} → IsFit host c → next_op c ≡ Some op → ticket.0 ≡ host.last_ticket + 1
     → c' ≡ handed ticket c

@@ -133,7 +133,8 @@ module _ (host : Host) (log : List Event) (m : Matches log host) (tags : HasTags
   free n past =
       let P : Outstanding → Type 0 = λ o. has_tag n o ≡ false in
       let sent = untaken host.flight.last_tag n (commands log) past tags.within in
-      let none = all-none (has_tag n) (live host.flight.rest host.flight.latest (sent_of (commands log))) (All-filter (λ c. not (is_over host.flight.rest host.flight.latest c)) P (sent_of (commands log)) sent) in
+      let none = all-none (has_tag n) (live host.flight.rest host.flight.latest (sent_of (commands log)))
+      (All-filter (λ c. not (is_over host.flight.rest host.flight.latest c)) P (sent_of (commands log)) sent) in
       let kept = none-all (has_tag n) host.flight.commands (m.sent (has_tag n) ∙ none) in
       list_any_none (has_tag n) (live_at host.flight host.clock) (All-filter (λ c. not (is_over host.flight.rest host.clock c)) P host.flight.commands kept)
 

@@ -91,7 +91,8 @@ module _ (log : List Event) (ticket : Ticket) (tag : ℕ) (path : PathNo) where
   sends = after_send tag (record { 0 = clock log }) path (λ n. timeout_on (path_log log n) path.0)
 
   inactive-sent : (c : HostCommand) → is_active (clock log) (sends c) ≡ false
-  inactive-sent c = sent-inactive (clock log) tag (timeout_on (path_log log c.device.0) path.0) path c (some-timeout (trips_on (path_log log c.device.0) path.0))
+  inactive-sent c = sent-inactive (clock log) tag (timeout_on (path_log log c.device.0) path.0) path c
+      (some-timeout (trips_on (path_log log c.device.0) path.0))
 
   fewer-active : (c : HostCommand) → is_active (clock log) (at_ticket ticket sends c) ≡ true → is_active (clock log) c ≡ true
   fewer-active c is = elim (cases_Bool (nat_eq c.ticket.0 ticket.0)) [

@@ -35,7 +35,8 @@ retold-same is = rw is (record { ports = refl; life = refl; room = refl; dead = 
 pub record Advanced (host advanced : Host) (now : ℕ) : Type 0 where
   pub gives_up : (gave_up : List Done) × (advanced.waiting ≡ host.waiting ++ reverse gave_up)
       × ((log : List Event) → Matches log host → GaveUpInTurn host.dead advanced.clock (Advances (record { 0 = now }) ∷ log) gave_up
-      × All (λ o. is_expired host.dead advanced.clock o ≡ false) (sent_of (commands (after_tick now gave_up log))) × Matches (after_tick now gave_up log) advanced)
+      × All (λ o. is_expired host.dead advanced.clock o ≡ false) (sent_of (commands (after_tick now gave_up log))) × Matches
+      (after_tick now gave_up log) advanced)
   pub clock_is : advanced.clock ≡ max host.clock now
   pub same : IsSame host advanced
   pub last : advanced.last_ticket ≡ host.last_ticket

@@ -44,7 +44,8 @@ module _ (ports : List PortKind) (vid : ℕ) where
   given-alone : (inputs : List Passing) (i : Passing) → vlan_at ports i ≡ Some vid → given ports inputs i ≡ given ports (inputs_of ports vid inputs) i
   given-alone inputs i e =
       let to : going ports inputs i ≡ going ports (inputs_of ports vid inputs) i =
-      ap (λ o. going_in ports inputs i o) e ∙ ap (λ own. goes_to ports vid own i) (sym (inputs-alone inputs i)) ∙ ap (λ o. going_in ports (inputs_of ports vid inputs) i o) (sym e) in
+      ap (λ o. going_in ports inputs i o) e ∙ ap (λ own. goes_to ports vid own i) (sym (inputs-alone inputs i))
+      ∙ ap (λ o. going_in ports (inputs_of ports vid inputs) i o) (sym e) in
       ap (λ to. given_in ports i to (vlan_at ports i)) to
 
   pub independent : (inputs : List Passing) → switched_from ports vid inputs ≡ switched ports (inputs_of ports vid inputs)
@@ -131,7 +132,8 @@ module _ (ports : List PortKind) (vid : ℕ) where
 
   pub stays-in : (inputs : List Passing) (i : Passing) → vlan_at ports i ≡ Some vid → All (λ o. Goes i.port o.port) (given ports inputs i)
   stays-in inputs i e =
-      subst (λ (l : List Passing). All (λ (o : Passing). Goes i.port o.port) l) (ap (λ v. given_in ports i (going ports inputs i) v) (sym e)) (outputs-go i (going ports inputs i) (going-goes inputs i e))
+      subst (λ (l : List Passing). All (λ (o : Passing). Goes i.port o.port) l) (ap (λ v. given_in ports i (going ports inputs i) v) (sym e))
+      (outputs-go i (going ports inputs i) (going-goes inputs i e))
 
 -- a port of one VLAN
 

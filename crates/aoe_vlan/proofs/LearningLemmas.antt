@@ -107,7 +107,8 @@ module _ (a : Mac) (p : ℕ) (f : Mac → ℕ) where
         | inl is ↦ rw is refl
         | inr n ↦ absurd (true≢false (sym there ∙ holds-take 256 list a n))
       ] in
-      is-put (take 256 list) (or_right _ _ there) ∙ insert-there (take 256 list) (unique-take 256 list unique) there ∙ ap (λ l. with put (take 256 l)) (sym whole)
+      is-put (take 256 list) (or_right _ _ there) ∙ insert-there (take 256 list) (unique-take 256 list unique) there
+      ∙ ap (λ l. with put (take 256 l)) (sym whole)
 
   moved-few : (list : List Mac) → holds (take 256 list) a ≡ false → length list < 256 → moved (with f (take 256 list)) a p ≡ with put (take 256 (more list))
   moved-few list absent few =
@@ -115,7 +116,8 @@ module _ (a : Mac) (p : ℕ) (f : Mac → ℕ) where
       let new : holds list a ≡ false = ap (λ l. holds l a) (sym all) ∙ absent in
       let one : more list ≡ list ++ a ∷ [] = rw new refl in
       let whole : take 256 (list ++ a ∷ []) ≡ list ++ a ∷ [] = take_all 256 (list ++ a ∷ []) (omega (arith, few, length-append list (a ∷ []))) in
-      ap (λ l. moved (with f l) a p) all ∙ is-put list (or_left _ _ (lt-ltb (length list) 256 few)) ∙ insert-new list new ∙ ap (with put) (sym whole) ∙ ap (λ l. with put (take 256 l)) (sym one)
+      ap (λ l. moved (with f l) a p) all ∙ is-put list (or_left _ _ (lt-ltb (length list) 256 few)) ∙ insert-new list new ∙ ap (with put) (sym whole)
+      ∙ ap (λ l. with put (take 256 l)) (sym one)
 
   moved-many : (list : List Mac) → holds (take 256 list) a ≡ false → 256 ≤ length list → moved (with f (take 256 list)) a p ≡ with put (take 256 (more list))
   moved-many list absent many =

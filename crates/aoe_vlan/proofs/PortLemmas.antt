@@ -24,16 +24,20 @@ pub others-more : (ports : List PortKind) (vid port n : ℕ)
     → others-below ports vid port (n + 1) ≡ others-below ports vid port n ++ cond (is_other ports vid port n) (n ∷ []) []
 others-more ports vid port n =
     let test : ℕ → Bool = is_other ports vid port in
-    ap (λ (m : ℕ). filter test (range_with_len 0 m)) (add-one n) ∙ ap (filter test) (range-more 0 n) ∙ filter-append test (range_with_len 0 n) ((0 + n) ∷ []) ∙ ap (λ (m : ℕ). filter test (range_with_len 0 n) ++ cond (test m) (m ∷ []) []) (omega arith)
+    ap (λ (m : ℕ). filter test (range_with_len 0 m)) (add-one n) ∙ ap (filter test) (range-more 0 n)
+    ∙ filter-append test (range_with_len 0 n) ((0 + n) ∷ [])
+    ∙ ap (λ (m : ℕ). filter test (range_with_len 0 n) ++ cond (test m) (m ∷ []) []) (omega arith)
 
 pub others-with : (ports : List PortKind) (vid port n : ℕ) (list : List ℕ) → is_other ports vid port n ≡ true → list ≡ others-below ports vid port n
     → list ++ n ∷ [] ≡ others-below ports vid port (n + 1)
-others-with ports vid port n list is all = ap (λ (l : List ℕ). l ++ n ∷ []) all ∙ ap (λ t. others-below ports vid port n ++ cond t (n ∷ []) []) (sym is) ∙ sym (others-more ports vid port n)
+others-with ports vid port n list is all = ap (λ (l : List ℕ). l ++ n ∷ []) all ∙ ap (λ t. others-below ports vid port n ++ cond t (n ∷ []) []) (sym is)
+    ∙ sym (others-more ports vid port n)
 
 pub others-without : (ports : List PortKind) (vid port n : ℕ) (list : List ℕ) → is_other ports vid port n ≡ false → list ≡ others-below ports vid port n
     → list ≡ others-below ports vid port (n + 1)
 others-without ports vid port n list other all =
-    all ∙ sym (append-nil (others-below ports vid port n)) ∙ ap (λ t. others-below ports vid port n ++ cond t (n ∷ []) []) (sym other) ∙ sym (others-more ports vid port n)
+    all ∙ sym (append-nil (others-below ports vid port n)) ∙ ap (λ t. others-below ports vid port n ++ cond t (n ∷ []) []) (sym other)
+    ∙ sym (others-more ports vid port n)
 
 -- the numbers of ports
 

@@ -39,7 +39,8 @@ pub stations-first : (vid : ℕ) (ts : List Table) (i : ℕ) (d : Table) → i <
     → stations_of vid ts ≡ Some (get_or ts i d).stations
 stations-first vid [] i d lt same before = absurd (omega arith)
 stations-first vid (t ∷ ts) zero d lt same before = rw same refl
-stations-first vid (t ∷ ts) (suc i) d lt same before = rw (before 0 (omega arith)) (stations-first vid ts i d (omega (arith, lt)) same (λ k below. before (suc k) (omega (arith, below))))
+stations-first vid (t ∷ ts) (suc i) d lt same before = rw (before 0 (omega arith))
+    (stations-first vid ts i d (omega (arith, lt)) same (λ k below. before (suc k) (omega (arith, below))))
 
 pub learnt-first : (vid : ℕ) (a : Mac) (p : ℕ) (ts : List Table) (i : ℕ) (d : Table) → i < length ts → nat_eq (get_or ts i d).vid vid ≡ true
     → ((k : ℕ) → k < i → nat_eq (get_or ts k d).vid vid ≡ false)
@@ -47,7 +48,8 @@ pub learnt-first : (vid : ℕ) (a : Mac) (p : ℕ) (ts : List Table) (i : ℕ) (
 learnt-first vid a p [] i d lt same before = absurd (omega arith)
 learnt-first vid a p (t ∷ ts) zero d lt same before = rw same refl
 learnt-first vid a p (t ∷ ts) (suc i) d lt same before =
-    rw (before 0 (omega arith)) (ap (λ (l : List Table). t ∷ l) (learnt-first vid a p ts i d (omega (arith, lt)) same (λ k below. before (suc k) (omega (arith, below)))))
+    rw (before 0 (omega arith))
+    (ap (λ (l : List Table). t ∷ l) (learnt-first vid a p ts i d (omega (arith, lt)) same (λ k below. before (suc k) (omega (arith, below)))))
 
 pub there-first : (vid : ℕ) (ts : List Table) (i : ℕ) → position (λ t. nat_eq t.vid vid) ts ≡ Some i → IsSome (stations_of vid ts)
 there-first vid [] i e = absurd (cc)

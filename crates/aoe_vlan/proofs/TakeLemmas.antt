@@ -35,7 +35,8 @@ by-carries (Trunk vs) (Some n) vid e = elim (cases_Bool (carries n (Trunk vs))) 
 ]
 
 pub vlan-carries : (kind : PortKind) (frame : List ℕ) (vid : ℕ) → vlan_of kind frame ≡ Some vid → carries vid kind ≡ true
-vlan-carries kind frame vid e = by-carries kind (tag_number frame) vid (ap (λ t. cond t (vlan_by kind (tag_number frame)) None) (sym (vlan-frame kind frame vid e)) ∙ e)
+vlan-carries kind frame vid e = by-carries kind (tag_number frame) vid
+    (ap (λ t. cond t (vlan_by kind (tag_number frame)) None) (sym (vlan-frame kind frame vid e)) ∙ e)
 
 pub any-at : (ports : List PortKind) (port : ℕ) (kind : PortKind) (vid : ℕ) → slice_get ports port ≡ Some kind → carries vid kind ≡ true
     → list_any (carries vid) ports ≡ true
@@ -83,7 +84,8 @@ module _ (ports : List PortKind) (tables : List Table) (inputs : List Passing) (
     own-learnt : IfSome (stations_of vid now) (λ s. s ≡ taught (inputs_of ports vid (i ∷ inputs)))
     own-learnt =
         let mapped = if-mapped (λ s. moved s (source_of i.frame) i.port) _ (stations_of vid tables) (learnt vid) in
-        subst (λ (o : Option Stations). IfSome o (λ s. s ≡ taught (inputs_of ports vid (i ∷ inputs)))) (sym (stations-same vid (source_of i.frame) i.port tables))
+        subst (λ (o : Option Stations). IfSome o (λ s. s ≡ taught (inputs_of ports vid (i ∷ inputs))))
+        (sym (stations-same vid (source_of i.frame) i.port tables))
         (subst (λ (t : Stations). IfSome (option_map (λ s. moved s (source_of i.frame) i.port) (stations_of vid tables)) (λ s. s ≡ t)) own-taught mapped)
 
     pub takes-some : HasLearnt record { ports = ports; tables = now } (i ∷ inputs)
@@ -91,14 +93,16 @@ module _ (ports : List PortKind) (tables : List Table) (inputs : List Passing) (
       | inl same ↦ subst (λ (v : ℕ). IfSome (stations_of v now) (λ s. s ≡ taught (inputs_of ports v (i ∷ inputs)))) same own-learnt
       | inr other ↦
           let apart = ne_eqb vid w other in
-          subst (λ (o : Option Stations). IfSome o (λ s. s ≡ taught (inputs_of ports w (i ∷ inputs)))) (sym (stations-other vid w (source_of i.frame) i.port tables apart))
+          subst (λ (o : Option Stations). IfSome o (λ s. s ≡ taught (inputs_of ports w (i ∷ inputs))))
+          (sym (stations-other vid w (source_of i.frame) i.port tables apart))
           (subst (λ (l : List Passing). IfSome (stations_of w tables) (λ s. s ≡ taught l)) (inputs-other ports inputs i vid w e apart) (learnt w))
     ]
 
     pub takes-place : IsSome (stations_of vid tables) → (a : Mac) → found_in vid now a ≡ place (inputs_of ports vid (i ∷ inputs)) a
     takes-place some a =
         let there : stations_of vid now ≡ Some (moved (taught (inputs_of ports vid inputs)) (source_of i.frame) i.port) =
-        stations-same vid (source_of i.frame) i.port tables ∙ ap (λ o. option_map (λ s. moved s (source_of i.frame) i.port) o) (the-one (stations_of vid tables) _ some (learnt vid)) in
+        stations-same vid (source_of i.frame) i.port tables ∙ ap (λ o. option_map (λ s. moved s (source_of i.frame) i.port) o)
+        (the-one (stations_of vid tables) _ some (learnt vid)) in
         ap (λ o. option_and_then (λ s. found s a) o) there ∙ ap (λ s. found s a) own-taught ∙ found-taught (inputs_of ports vid (i ∷ inputs)) a
 
     pub takes-going : (at : Option ℕ) → IsSome (stations_of vid tables)
@@ -118,7 +122,8 @@ vlan-there ports port kind frame vid lt is e = ap (λ o. option_and_then (λ k. 
 
 pub any-there : (ports : List PortKind) (port : ℕ) (kind : PortKind) (frame : List ℕ) (vid : ℕ) → port < length ports → kind ≡ get_or ports port kind
     → vlan_of kind frame ≡ Some vid → list_any (carries vid) ports ≡ true
-any-there ports port kind frame vid lt is e = any-at ports port kind vid (slice_get_read ports (length ports) port kind refl lt is) (vlan-carries kind frame vid e)
+any-there ports port kind frame vid lt is e = any-at ports port kind vid (slice_get_read ports (length ports) port kind refl lt is)
+    (vlan-carries kind frame vid e)
 
 -- a table stays
 pub some-kept : (vid w : ℕ) (a : Mac) (p : ℕ) (ts : List Table) → IsSome (stations_of w ts) → IsSome (stations_of w (learnt_in vid a p ts))

@@ -47,13 +47,15 @@ returns-in-Err-clause-run g c =
 pub returns-in-Ok-give_all-clause-run : goal.returns-in-Ok-give_all-clause-run
 returns-in-Ok-give_all-clause-run g c =
     let s = c.in-Ok.ensures.script in
-    let took = subst (λ (text : List ℕ). Took (g.K.Sink.held c.args.sink.now) (g.K.Sink.held c.give_all.new.sink) text) (c.bytes.ensures ∙ s.1) c.in-Ok-give_all.ensures.all in
+    let took = subst (λ (text : List ℕ). Took (g.K.Sink.held c.args.sink.now) (g.K.Sink.held c.give_all.new.sink) text)
+    (c.bytes.ensures ∙ s.1) c.in-Ok-give_all.ensures.all in
     ran _ _ (Ok s.0) _ _ _ _ _ c.from-sectors.ensures (record { accepted = sym (ap text_refusal s.1) ∙ s.3; spells = sym (ap script_of s.1) ∙ s.2 }) s.4 took
 
 pub returns-clause-run : goal.returns-clause-run
 returns-clause-run g c =
     let s = c.in-Ok.ensures.script in
-    let took = subst (λ (text : List ℕ). TookSome (g.K.Sink.held c.args.sink.now) (g.K.Sink.held c.give_all.new.sink) text) (c.bytes.ensures ∙ s.1) c.in-Err-give_all.ensures.some in
+    let took = subst (λ (text : List ℕ). TookSome (g.K.Sink.held c.args.sink.now) (g.K.Sink.held c.give_all.new.sink) text)
+    (c.bytes.ensures ∙ s.1) c.in-Err-give_all.ensures.some in
     ran _ _ (Ok s.0) _ _ _ _ _ c.from-sectors.ensures (record { accepted = sym (ap text_refusal s.1) ∙ s.3; spells = sym (ap script_of s.1) ∙ s.2 }) s.4 took
 
 pub returns-in-Err-clause-links : goal.returns-in-Err-clause-links

@@ -42,30 +42,38 @@ pub returns-in-Ok-Some-clause-one_link : goal.returns-in-Ok-Some-clause-one_link
 returns-in-Ok-Some-clause-one_link g c alone = c.run_command.ensures.alone (same-live _ _ _ c.in-Ok-Some.field-0-is c.in-Ok-Some.ensures.command alone)
 
 pub returns-in-Ok-Some-clause-settled : goal.returns-in-Ok-Some-clause-settled
-returns-in-Ok-Some-clause-settled g c exported slot e = settled _ _ _ _ _ _ _ _ c.run_command.ensures.run c.run_command.ensures.refused (c.requires.count ∙ counted _ _ _ c.in-Ok-Some.field-0-is c.in-Ok-Some.ensures.files) slot e
+returns-in-Ok-Some-clause-settled g c exported slot e = settled _ _ _ _ _ _ _ _ c.run_command.ensures.run c.run_command.ensures.refused
+    (c.requires.count ∙ counted _ _ _ c.in-Ok-Some.field-0-is c.in-Ok-Some.ensures.files) slot e
 
 pub returns-in-Ok-Some-clause-disk_fault : goal.returns-in-Ok-Some-clause-disk_fault
-returns-in-Ok-Some-clause-disk_fault g c disk e = disk-within _ _ _ _ _ _ _ _ c.run_command.ensures.run c.run_command.ensures.refused (c.requires.count ∙ counted _ _ _ c.in-Ok-Some.field-0-is c.in-Ok-Some.ensures.files) disk e
+returns-in-Ok-Some-clause-disk_fault g c disk e = disk-within _ _ _ _ _ _ _ _ c.run_command.ensures.run c.run_command.ensures.refused
+    (c.requires.count ∙ counted _ _ _ c.in-Ok-Some.field-0-is c.in-Ok-Some.ensures.files) disk e
 
 pub returns-in-Ok-Some-clause-file_fault : goal.returns-in-Ok-Some-clause-file_fault
-returns-in-Ok-Some-clause-file_fault g c exported slot e = file-fault _ _ _ _ _ _ _ _ c.run_command.ensures.run c.run_command.ensures.refused (c.requires.count ∙ counted _ _ _ c.in-Ok-Some.field-0-is c.in-Ok-Some.ensures.files) slot e
+returns-in-Ok-Some-clause-file_fault g c exported slot e = file-fault _ _ _ _ _ _ _ _ c.run_command.ensures.run c.run_command.ensures.refused
+    (c.requires.count ∙ counted _ _ _ c.in-Ok-Some.field-0-is c.in-Ok-Some.ensures.files) slot e
 
 pub returns-in-Ok-Some-clause-keep_fault : goal.returns-in-Ok-Some-clause-keep_fault
-returns-in-Ok-Some-clause-keep_fault g c exported slot e = keep-fault _ _ _ _ _ _ _ _ c.run_command.ensures.run c.run_command.ensures.refused (c.requires.count ∙ counted _ _ _ c.in-Ok-Some.field-0-is c.in-Ok-Some.ensures.files) slot e
+returns-in-Ok-Some-clause-keep_fault g c exported slot e = keep-fault _ _ _ _ _ _ _ _ c.run_command.ensures.run c.run_command.ensures.refused
+    (c.requires.count ∙ counted _ _ _ c.in-Ok-Some.field-0-is c.in-Ok-Some.ensures.files) slot e
 
 pub returns-in-Ok-Some-clause-keep_small : goal.returns-in-Ok-Some-clause-keep_small
-returns-in-Ok-Some-clause-keep_small g c exported slot sectors = keep-small _ _ _ _ _ _ _ _ c.run_command.ensures.run c.run_command.ensures.refused (c.requires.count ∙ counted _ _ _ c.in-Ok-Some.field-0-is c.in-Ok-Some.ensures.files) slot sectors
+returns-in-Ok-Some-clause-keep_small g c exported slot sectors = keep-small _ _ _ _ _ _ _ _ c.run_command.ensures.run c.run_command.ensures.refused
+    (c.requires.count ∙ counted _ _ _ c.in-Ok-Some.field-0-is c.in-Ok-Some.ensures.files) slot sectors
 
 pub returns-in-Ok-Some-clause-keep_bad : goal.returns-in-Ok-Some-clause-keep_bad
-returns-in-Ok-Some-clause-keep_bad g c exported slot bad = keep-bad _ _ _ _ _ _ _ _ c.run_command.ensures.run c.run_command.ensures.refused (c.requires.count ∙ counted _ _ _ c.in-Ok-Some.field-0-is c.in-Ok-Some.ensures.files) slot bad
+returns-in-Ok-Some-clause-keep_bad g c exported slot bad = keep-bad _ _ _ _ _ _ _ _ c.run_command.ensures.run c.run_command.ensures.refused
+    (c.requires.count ∙ counted _ _ _ c.in-Ok-Some.field-0-is c.in-Ok-Some.ensures.files) slot bad
 
 pub returns-in-Ok-Some-clause-mounted : goal.returns-in-Ok-Some-clause-mounted
-returns-in-Ok-Some-clause-mounted g c exported slot lists = mounted _ _ _ _ _ _ _ _ c.run_command.ensures.run c.run_command.ensures.refused (c.requires.count ∙ counted _ _ _ c.in-Ok-Some.field-0-is c.in-Ok-Some.ensures.files) slot lists
+returns-in-Ok-Some-clause-mounted g c exported slot lists = mounted _ _ _ _ _ _ _ _ c.run_command.ensures.run c.run_command.ensures.refused
+    (c.requires.count ∙ counted _ _ _ c.in-Ok-Some.field-0-is c.in-Ok-Some.ensures.files) slot lists
 
 pub returns-in-Ok-Some-clause-answers : goal.returns-in-Ok-Some-clause-answers
 returns-in-Ok-Some-clause-answers g c asked fs is unrefused some_memory left_is all few source sink fine =
     let r = ran-as _ _ _ _ _ _ _ _ _ _ _ c.in-Ok-Some.field-0-is c.in-Ok-Some.ensures.command is (c.run_command.ensures.run unrefused some_memory) in
-    answers _ _ _ _ _ _ _ fine asked fs r left_is all few (λ e. no-fault _ _ source (c.run_command.ensures.source.cause e)) (λ e. no-fault _ _ sink (c.run_command.ensures.sink.cause e))
+    answers _ _ _ _ _ _ _ fine asked fs r left_is all few (λ e. no-fault _ _ source (c.run_command.ensures.source.cause e))
+    (λ e. no-fault _ _ sink (c.run_command.ensures.sink.cause e))
 
 pub returns-in-Ok-Some-clause-serves : goal.returns-in-Ok-Some-clause-serves
 returns-in-Ok-Some-clause-serves g c asked is unrefused some_memory link fine =

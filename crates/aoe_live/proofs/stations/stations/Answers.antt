@@ -6,7 +6,8 @@ use Rattle.aoe_live.proofs.stations.stations.Goals as goal
 
 pub returns-in-Ok : goal.returns-in-Ok
 returns-in-Ok c =
-    c.in-Ok.ensures.script ∙ ap script_of (c.as_slice.ensures.value ∙ c.in_ok-text.ensures) ∙ c.printed_script_reads_back.ensures.reads _ (is-script c.args.sectors c.requires.some c.requires.most)
+    c.in-Ok.ensures.script ∙ ap script_of (c.as_slice.ensures.value ∙ c.in_ok-text.ensures)
+    ∙ c.printed_script_reads_back.ensures.reads _ (is-script c.args.sectors c.requires.some c.requires.most)
 
 pub memory_alone-requires : goal.memory_alone-requires
 memory_alone-requires c =

@@ -4,8 +4,11 @@ use Rattle.aoe_mirror.proofs.mirror.read_mark.Goals as goal
 
 pub returns-clause-reads : goal.returns-clause-reads
 returns-clause-reads g c =
-    mark_reads (g.D.Disk.state c.args.disk.now) (g.D.Disk.state c.sync.new.self) (g.D.Disk.state c.read.new.self) c.sync.result c.read.result c.read.new.out c.sync.ensures (ap is_err c.in_default.is) c.read.ensures c.from.result (ap is_err c.in_default-read.is) c.from.ensures
+    mark_reads (g.D.Disk.state c.args.disk.now) (g.D.Disk.state c.sync.new.self)
+    (g.D.Disk.state c.read.new.self) c.sync.result c.read.result c.read.new.out c.sync.ensures (ap is_err c.in_default.is) c.read.ensures c.from.result
+    (ap is_err c.in_default-read.is) c.from.ensures
 
 pub returns-clause-calm : goal.returns-clause-calm
 returns-clause-calm g c =
-    mark_calm (g.D.Disk.state c.args.disk.now) (g.D.Disk.state c.sync.new.self) (g.D.Disk.state c.read.new.self) c.sync.result c.read.result c.read.new.out c.sync.ensures (ap is_err c.in_default.is) c.read.ensures
+    mark_calm (g.D.Disk.state c.args.disk.now) (g.D.Disk.state c.sync.new.self)
+    (g.D.Disk.state c.read.new.self) c.sync.result c.read.result c.read.new.out c.sync.ensures (ap is_err c.in_default.is) c.read.ensures

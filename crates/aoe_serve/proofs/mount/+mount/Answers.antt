@@ -27,7 +27,8 @@ returns-in-Err-seat-clause-refused g t c =
     let D = g.row.D.Denot in
     let back =
     subst (λ (r : Rack (AnyStore D) D). AreBack g.D.Disk.state g.M.Most.most c.unmount.new.disks r.targets) c.in-Err-seat.ensures.same c.unmount.ensures.back in
-    refused-then _ _ _ _ _ _ _ c.split_at_mut-others.ensures.value c.take_pair-file.ensures _ _ _ _ _ _ _ _ _ _ _ c.in-Ok-mount.ensures.seated back (sym c.count-slot.ensures.count)
+    refused-then _ _ _ _ _ _ _ c.split_at_mut-others.ensures.value c.take_pair-file.ensures _ _ _ _ _ _ _ _ _ _ _ c.in-Ok-mount.ensures.seated back
+    (sym c.count-slot.ensures.count)
     c.in-Ok.ensures.store c.in-Err-seat.ensures.store c.close-in-Err-seat.ensures.file c.put_pair-in-Err-seat.ensures c.in-Err-seat.ensures.refused
 
 pub returns-in-Err-seat-clause-there : goal.returns-in-Err-seat-clause-there

@@ -13,7 +13,8 @@ returns-in-Err-mount-clause-link_count g c = same-first (λ a b. g.L.Link.faults
 
 pub returns-in-Err-mount-clause-link_blame : goal.returns-in-Err-mount-clause-link_blame
 returns-in-Err-mount-clause-link_blame g c =
-    same-first (λ a b. Blamed ⊥ (g.L.Link.faults a) (g.L.Link.faults b)) (λ x. record { cause = λ e. absurd e; no_fault = λ e. refl; one_fault = omega arith }) c.args.links.now
+    same-first (λ a b. Blamed ⊥ (g.L.Link.faults a) (g.L.Link.faults b))
+    (λ x. record { cause = λ e. absurd e; no_fault = λ e. refl; one_fault = omega arith }) c.args.links.now
 
 pub unmount-requires : goal.unmount-requires
 unmount-requires g c =

@@ -13,7 +13,8 @@ returns-in-Ok-Quiet-clause-run g c =
 
 pub returns-in-Ok-Ended-clause-run : goal.returns-in-Ok-Ended-clause-run
 returns-in-Ok-Ended-clause-run g c =
-    by_end c.args.frames c.args.idle _ _ _ _ _ _ _ _ _ _ _ c.frames.count c.frames-test.true c.wait.new.out.items c.frames.invariant.0 c.wait.ensures.taken (rw c.in-Ok-Ended.field-0-is at c.in-Ok-Ended.ensures.waited)
+    by_end c.args.frames c.args.idle _ _ _ _ _ _ _ _ _ _ _ c.frames.count c.frames-test.true c.wait.new.out.items c.frames.invariant.0 c.wait.ensures.taken
+    (rw c.in-Ok-Ended.field-0-is at c.in-Ok-Ended.ensures.waited)
 
 pub returns-in-Err-clause-run : goal.returns-in-Err-clause-run
 returns-in-Err-clause-run g c =
@@ -23,7 +24,8 @@ pub returns-in-Err-round-clause-run : goal.returns-in-Err-round-clause-run
 returns-in-Err-round-clause-run g c =
     let L = g.L.Link in
     by_break c.args.frames c.args.idle _ _ _ _ _ _ _ _ _ _ _ c.frames.count c.frames-test.true c.wait.new.out.items c.frames.invariant.0 c.wait.ensures.taken _ _ _ _ c.round.result _ _
-    (rw c.in-Ok-Frame.field-0-is at c.in-Ok-Frame.ensures.waited) (rw c.as_slice.ensures.value at c.round.ensures.round) c.in-Err-round.field-0 c.in-Err-round.is
+    (rw c.in-Ok-Frame.field-0-is at c.in-Ok-Frame.ensures.waited)
+    (rw c.as_slice.ensures.value at c.round.ensures.round) c.in-Err-round.field-0 c.in-Err-round.is
 
 pub frames-preserved : goal.frames-preserved
 frames-preserved g c =

@@ -14,9 +14,11 @@ returns-in-Ok-Frame-clause-waited g c =
     let mid = g.L.Link.turns c.turns.link in
     let last = g.L.Link.turns c.recv.new.self in
     let one : Turned mid last (g.L.Link.given c.turns.link) (g.L.Link.given c.recv.new.self) (t ∷ []) =
-    turned-by mid last (g.L.Link.given c.turns.link) (g.L.Link.given c.recv.new.self) t (rw c.in-Ok-Frame.field-0-is at c.in-Ok-Frame.ensures.gave) c.recv.ensures.passing c.in-Ok-Frame.ensures.turns in
+    turned-by mid last (g.L.Link.given c.turns.link) (g.L.Link.given c.recv.new.self) t
+    (rw c.in-Ok-Frame.field-0-is at c.in-Ok-Frame.ensures.gave) c.recv.ensures.passing c.in-Ok-Frame.ensures.turns in
     let all : Turned start last (g.L.Link.given c.args.link.now) (g.L.Link.given c.recv.new.self) (t ∷ replicate n quiet) =
-    turned-then start mid last (g.L.Link.given c.args.link.now) (g.L.Link.given c.turns.link) (g.L.Link.given c.recv.new.self) (replicate n quiet) (t ∷ []) c.turns.invariant.0 one in
+    turned-then start mid last (g.L.Link.given c.args.link.now) (g.L.Link.given c.turns.link) (g.L.Link.given c.recv.new.self) (replicate n quiet)
+    (t ∷ []) c.turns.invariant.0 one in
     (t ∷ replicate n quiet, (n, omega (arith, c.turns-test.true), refl), all)
 
 pub returns-in-Ok-Ended-clause-waited : goal.returns-in-Ok-Ended-clause-waited
@@ -27,7 +29,9 @@ returns-in-Ok-Ended-clause-waited g c =
     let mid = g.L.Link.turns c.turns.link in
     let last = g.L.Link.turns c.recv.new.self in
     let one : Turned mid last (g.L.Link.given c.turns.link) (g.L.Link.given c.recv.new.self) (t ∷ []) =
-    turned-by mid last (g.L.Link.given c.turns.link) (g.L.Link.given c.recv.new.self) t (rw c.in-Ok-Ended.field-0-is at c.in-Ok-Ended.ensures.gave) c.recv.ensures.passing c.in-Ok-Ended.ensures.turns in
+    turned-by mid last (g.L.Link.given c.turns.link) (g.L.Link.given c.recv.new.self) t
+    (rw c.in-Ok-Ended.field-0-is at c.in-Ok-Ended.ensures.gave) c.recv.ensures.passing c.in-Ok-Ended.ensures.turns in
     let all : Turned start last (g.L.Link.given c.args.link.now) (g.L.Link.given c.recv.new.self) (t ∷ replicate n quiet) =
-    turned-then start mid last (g.L.Link.given c.args.link.now) (g.L.Link.given c.turns.link) (g.L.Link.given c.recv.new.self) (replicate n quiet) (t ∷ []) c.turns.invariant.0 one in
+    turned-then start mid last (g.L.Link.given c.args.link.now) (g.L.Link.given c.turns.link) (g.L.Link.given c.recv.new.self) (replicate n quiet)
+    (t ∷ []) c.turns.invariant.0 one in
     (t ∷ replicate n quiet, (n, omega (arith, c.turns-test.true), refl), all)

@@ -24,7 +24,8 @@ slots-preserved g c =
         s.0 ++ m.0 ∷ [],
         omega (arith, length-append s.0 (m.0 ∷ []), s.1),
         partly_then _ _ _ c.args.frame.now s.0 m.0 c.slots.slot s.1 s.2 m.1,
-        subst P (sym (replies-on s.0 m.0)) (takes_on g.O.Outlet.took law.more law.over c.slots.given c.meet-given.result _ _ _ (replies_of s.0) (reply_of m.0) s.3 m.2),
+        subst P (sym (replies-on s.0 m.0))
+            (takes_on g.O.Outlet.took law.more law.over c.slots.given c.meet-given.result _ _ _ (replies_of s.0) (reply_of m.0) s.3 m.2),
       ),
       rest_then c.args.shelf.now c.slots.shelf c.meet-given.new.shelf i.1 c.meet-given.ensures.rest,
       c.meet-given.ensures.len ∙ i.2,

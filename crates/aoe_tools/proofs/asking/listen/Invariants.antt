@@ -4,7 +4,8 @@ use Rattle.aoe_tools.proofs.asking.listen.Given as goal
 
 abbrev pub invariant-turns : goal.invariant-turns
 invariant-turns g l =
-    SoFar l.question l.request.items l.initial.passed l.passed (g.L.Link.turns l.initial.link) (g.L.Link.turns l.link) (g.L.Link.given l.initial.link) (g.L.Link.given l.link) (g.L.Link.taken l.initial.link) (g.L.Link.taken l.link)
+    SoFar l.question l.request.items l.initial.passed l.passed (g.L.Link.turns l.initial.link) (g.L.Link.turns l.link) (g.L.Link.given l.initial.link)
+    (g.L.Link.given l.link) (g.L.Link.taken l.initial.link) (g.L.Link.taken l.link)
     × (l.passed ≤ l.limit)
     × (g.L.Link.faults l.link ≡ g.L.Link.faults l.initial.link)
 

@@ -8,7 +8,8 @@ use Rattle.aoe_tools.proofs.copy.course_of_read.Goals as goal
 pub returns-in-Ok-clause-fresh : goal.returns-in-Ok-clause-fresh
 returns-in-Ok-clause-fresh c =
     let e = c.in-Ok.ensures in
-    let fresh : IsFresh (read_of c.args.at c.args.count) c.args.device.now (record { block = c.in-Ok.block; flushes = false; phase = phase.Parts; under_way = 0 }) = record {
+    let fresh : IsFresh (read_of c.args.at c.args.count) c.args.device.now
+    (record { block = c.in-Ok.block; flushes = false; phase = phase.Parts; under_way = 0 }) = record {
       cut = e.cut;
       write = e.read;
       flushes = refl;

@@ -6,7 +6,8 @@ use Rattle.aoe_tools.proofs.copy.course_of_write.Goals as goal
 pub returns-in-Ok-clause-fresh : goal.returns-in-Ok-clause-fresh
 returns-in-Ok-clause-fresh c =
     let e = c.in-Ok.ensures in
-    let fresh : IsFresh (write_of c.args.at c.args.bytes) c.args.device.now (record { block = c.in-Ok.block; flushes = true; phase = c.first_phase-phase.result; under_way = 0 }) = record {
+    let fresh : IsFresh (write_of c.args.at c.args.bytes) c.args.device.now
+    (record { block = c.in-Ok.block; flushes = true; phase = c.first_phase-phase.result; under_way = 0 }) = record {
       cut = e.cut;
       write = e.write;
       flushes = refl;

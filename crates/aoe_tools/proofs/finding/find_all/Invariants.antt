@@ -4,7 +4,8 @@ use Rattle.aoe_tools.proofs.finding.find_all.Given as goal
 
 abbrev pub invariant-responses : goal.invariant-responses
 invariant-responses g l =
-    Finds l.question l.request.items l.passed l.found (g.L.Link.turns l.initial.link) (g.L.Link.turns l.link) (g.L.Link.given l.initial.link) (g.L.Link.given l.link) (g.L.Link.taken l.initial.link) (g.L.Link.taken l.link)
+    Finds l.question l.request.items l.passed l.found (g.L.Link.turns l.initial.link) (g.L.Link.turns l.link) (g.L.Link.given l.initial.link)
+    (g.L.Link.given l.link) (g.L.Link.taken l.initial.link) (g.L.Link.taken l.link)
     × (l.passed ≤ l.turns)
     × (g.L.Link.faults l.link ≡ g.L.Link.faults l.initial.link)
 

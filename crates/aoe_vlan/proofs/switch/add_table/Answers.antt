@@ -9,12 +9,14 @@ returns-then-is_some-clause-there c = there-some c.args.vid c.args.tables.now.it
 
 pub returns-clause-blank : goal.returns-clause-blank
 returns-clause-blank c =
-    subst (λ (l : List Table). AreBlank l) (sym c.in_ok-push.ensures.items) (blank-more c.args.tables.now.items c.in_ok-new.field-0 c.requires.blank (ap (λ (t : Table). t.stations) c.in_ok-new.ensures))
+    subst (λ (l : List Table). AreBlank l) (sym c.in_ok-push.ensures.items)
+    (blank-more c.args.tables.now.items c.in_ok-new.field-0 c.requires.blank (ap (λ (t : Table). t.stations) c.in_ok-new.ensures))
 
 pub returns-clause-there : goal.returns-clause-there
 returns-clause-there c =
     let t = c.in_ok-new.field-0 in
-    let there = subst (λ (vid : ℕ). IsSome (stations_of vid (c.args.tables.now.items ++ t ∷ []))) (ap (λ (u : Table). u.vid) c.in_ok-new.ensures) (there-more c.args.tables.now.items t) in
+    let there = subst (λ (vid : ℕ). IsSome (stations_of vid (c.args.tables.now.items ++ t ∷ []))) (ap (λ (u : Table). u.vid) c.in_ok-new.ensures)
+    (there-more c.args.tables.now.items t) in
     subst (λ (l : List Table). IsSome (stations_of c.args.vid l)) (sym c.in_ok-push.ensures.items) there
 
 pub returns-clause-kept : goal.returns-clause-kept

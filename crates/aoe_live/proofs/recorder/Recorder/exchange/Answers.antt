@@ -37,6 +37,7 @@ returns-clause-exchanges g c =
     let over_too = asked-two q.world.entries mid.two asked_too.two mid.one second c.in-Ok-recv.ensures.gave c.recv-2.ensures.passing c.in-Ok-recv.ensures.turns c.recv-2.ensures.taken in
     let same = ap (λ bytes. handing sender.Host (turn_of c.in-Ok.got bytes) p.world.entries) c.as_slice.ensures.value in
     let same_too = ap (λ bytes. handing sender.Shelf (turn_of c.in-Ok-recv.got bytes) q.world.entries) c.as_slice-2.ensures.value in
-    exchange-does p q before asked mid first over (recorded-as _ _ _ (handing sender.Host first p.world.entries) p q asked mid same c.in-Ok-hand.ensures.steps.whole)
+    exchange-does p q before asked mid first over
+    (recorded-as _ _ _ (handing sender.Host first p.world.entries) p q asked mid same c.in-Ok-hand.ensures.steps.whole)
     c.in-Ok-hand.ensures.steps.sectors c.in-Ok-hand.ensures.steps.commands r asked_too after second over_too c.hand-2.result
     (steps-as c.hand-2.result _ (handing sender.Shelf second q.world.entries) q r asked_too after same_too c.hand-2.ensures.steps)

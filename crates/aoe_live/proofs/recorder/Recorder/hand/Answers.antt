@@ -27,10 +27,12 @@ line-requires-clause-good g c =
     let most = f.sound.room.few in
     elim c.match-sender.branch [
       | in-Host w ↦
-          ap (λ name. event_why (stations sectors) (Deliver c.in-Some.frame name)) (c.named-station.ensures ∙ ap (λ letter. record { items = letter ∷ [] }) w.named-is)
+          ap (λ name. event_why (stations sectors) (Deliver c.in-Some.frame name))
+          (c.named-station.ensures ∙ ap (λ letter. record { items = letter ∷ [] }) w.named-is)
           ∙ shelf-good sectors c.in-Some.frame one.0 (omega (arith, one.1, most))
       | in-Shelf w ↦
-          ap (λ name. event_why (stations sectors) (Deliver c.in-Some.frame name)) (c.named-station.ensures ∙ ap (λ letter. record { items = letter ∷ [] }) w.named-is)
+          ap (λ name. event_why (stations sectors) (Deliver c.in-Some.frame name))
+          (c.named-station.ensures ∙ ap (λ letter. record { items = letter ∷ [] }) w.named-is)
           ∙ host-good sectors c.in-Some.frame one.0 (omega (arith, one.1, most))
     ]
 
@@ -55,6 +57,8 @@ returns-clause-steps g c =
       | in-Host w ↦ c.named-station.ensures ∙ ap (λ letter. record { items = letter ∷ [] }) w.named-is ∙ sym (ap receiver w.in-Host.is)
       | in-Shelf w ↦ c.named-station.ensures ∙ ap (λ letter. record { items = letter ∷ [] }) w.named-is ∙ sym (ap receiver w.in-Shelf.is)
     ] in
-    steps-as c.line.result (Deliver c.in-Some.frame c.named-station.result ∷ []) (handing s (turn_of c.args.got c.args.frame.now) h) c.args.self.now c.line.new.self
-    (links g.L.Link.turns g.L.Link.given g.L.Link.taken c.args.one.now c.args.two.now) (links g.L.Link.turns g.L.Link.given g.L.Link.taken c.line.new.one c.line.new.two)
+    steps-as c.line.result (Deliver c.in-Some.frame c.named-station.result ∷ [])
+    (handing s (turn_of c.args.got c.args.frame.now) h) c.args.self.now c.line.new.self
+    (links g.L.Link.turns g.L.Link.given g.L.Link.taken c.args.one.now c.args.two.now)
+    (links g.L.Link.turns g.L.Link.given g.L.Link.taken c.line.new.one c.line.new.two)
     (ap (λ x. Deliver c.in-Some.frame x ∷ []) station ∙ sym part) c.line.ensures.steps

@@ -12,7 +12,8 @@ pub pass_on-requires-clause-told : goal.pass_on-requires-clause-told
 pass_on-requires-clause-told g c =
     let tail =
     line-tail c.args.self.now.sectors c.args.event c.args.self.now.world.entries c.record.new.self.world.entries c.requires.recorded c.in-Ok.ensures.comes in
-    looked-within c.args.self.now.world.entries c.record.new.self.world.entries tail.0 c.record.new.self.told tail.1 (ap (λ (r : Recorder). r.told) c.in-Ok.ensures.rest ∙ c.requires.kept.told)
+    looked-within c.args.self.now.world.entries c.record.new.self.world.entries tail.0 c.record.new.self.told tail.1
+    (ap (λ (r : Recorder). r.told) c.in-Ok.ensures.rest ∙ c.requires.kept.told)
 
 pub pass_on-requires-clause-tally : goal.pass_on-requires-clause-tally
 pass_on-requires-clause-tally g c =
@@ -23,7 +24,8 @@ pass_on-requires-clause-tally g c =
 
 pub returns-in-Err-clause-steps : goal.returns-in-Err-clause-steps
 returns-in-Err-clause-steps g c =
-    line-fails c.in-Err.refusal c.args.event c.args.self.now c.record.new.self (links g.L.Link.turns g.L.Link.given g.L.Link.taken c.args.one.now c.args.two.now)
+    line-fails c.in-Err.refusal c.args.event c.args.self.now c.record.new.self
+    (links g.L.Link.turns g.L.Link.given g.L.Link.taken c.args.one.now c.args.two.now)
     (ap (λ (r : Recorder). r.sectors) c.in-Err.ensures.rest) (ap (λ (r : Recorder). r.commands) c.in-Err.ensures.rest) c.in-Err.ensures.fails
 
 pub returns-clause-steps : goal.returns-clause-steps
@@ -34,7 +36,8 @@ returns-clause-steps g c =
     let tail = line-tail p.sectors c.args.event p.world.entries q.world.entries c.requires.recorded c.in-Ok.ensures.comes in
     let told = ap (λ (x : Recorder). x.told) c.in-Ok.ensures.rest ∙ c.requires.kept.told in
     let all = ap (λ (x : Recorder). x.world.entries) c.pass_on.ensures.rest in
-    line-comes-on p q r (links g.L.Link.turns g.L.Link.given g.L.Link.taken c.args.one.now c.args.two.now) (links g.L.Link.turns g.L.Link.given g.L.Link.taken c.pass_on.new.one c.pass_on.new.two) c.args.event
+    line-comes-on p q r (links g.L.Link.turns g.L.Link.given g.L.Link.taken c.args.one.now c.args.two.now)
+    (links g.L.Link.turns g.L.Link.given g.L.Link.taken c.pass_on.new.one c.pass_on.new.two) c.args.event
     tail.0 tail.1 told c.in-Ok.ensures.rest c.pass_on.ensures.rest c.in-Ok.ensures.comes c.in-Ok.ensures.line
     c.pass_on.ensures.turns_one c.pass_on.ensures.given_one c.pass_on.ensures.turns_two c.pass_on.ensures.given_two
     c.pass_on.result

@@ -33,7 +33,9 @@ returns-in-Err-clause-steps g c =
     let i = c.ticks.invariant in
     let at = ticks-at c.args.ms c.ticks.counter c.ticks-test.true in
     fails-behind (Among (Tick 10000000 ∷ [])) (Among (ticks c.args.ms)) [] [] (whole c.ticks.counter) p q c.line.new.self
-    (links g.L.Link.turns g.L.Link.given g.L.Link.taken c.args.one.now c.args.two.now) (links g.L.Link.turns g.L.Link.given g.L.Link.taken c.ticks.one c.ticks.two) (links g.L.Link.turns g.L.Link.given g.L.Link.taken c.line.new.one c.line.new.two)
+    (links g.L.Link.turns g.L.Link.given g.L.Link.taken c.args.one.now c.args.two.now)
+    (links g.L.Link.turns g.L.Link.given g.L.Link.taken c.ticks.one c.ticks.two)
+    (links g.L.Link.turns g.L.Link.given g.L.Link.taken c.line.new.one c.line.new.two)
     i.sectors i.commands i.recorded (among-moves p.sectors (ticks c.args.ms) (whole c.ticks.counter) (Tick 10000000 ∷ []) at.0 q.world.entries at.1) _ _ c.in-Err.refusal c.in-Err.ensures.steps
 
 pub ticks-preserved : goal.ticks-preserved
@@ -47,7 +49,8 @@ ticks-preserved g c =
     let after = links g.L.Link.turns g.L.Link.given g.L.Link.taken c.line.new.one c.line.new.two in
     record {
       kept = e.kept;
-      recorded = recorded-as [] [] (whole c.ticks.counter ++ Tick 10000000 ∷ []) (whole (c.ticks.counter + 1)) p r before after (replicate_more c.ticks.counter (Tick 10000000))
+      recorded = recorded-as [] [] (whole c.ticks.counter ++ Tick 10000000 ∷ []) (whole (c.ticks.counter + 1)) p r before after
+          (replicate_more c.ticks.counter (Tick 10000000))
           (recorded-then [] [] [] [] (whole c.ticks.counter) (Tick 10000000 ∷ []) p q r before (links g.L.Link.turns g.L.Link.given g.L.Link.taken c.ticks.one c.ticks.two) after i.sectors i.recorded e.steps.whole);
       sectors = e.steps.sectors ∙ i.sectors;
       commands = e.steps.commands ∙ i.commands;

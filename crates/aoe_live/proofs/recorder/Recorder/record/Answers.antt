@@ -6,7 +6,8 @@ pub returns-in-Ok-push-clause-follows : goal.returns-in-Ok-push-clause-follows
 returns-in-Ok-push-clause-follows c =
     follows-on c.args.self.now.sectors c.args.self.now.script c.args.self.now.world c.args.event c.requires.follows c.requires.recorded c.step.new.self
     c.in-Ok.ensures.comes c.push.new.self c.in-Ok-push.ensures.ok c.in-Ok.ensures.lines c.in-Ok.ensures.events.0 c.in-Ok.ensures.events.1
-    (omega (arith, c.if-count-ge-MAX_EVENTS.false, c.count.ensures.count)) c.requires.short (record { lawful = c.in-Ok.ensures.lawful; reading = c.in-Ok.ensures.reading; room = c.in-Ok.ensures.room })
+    (omega (arith, c.if-count-ge-MAX_EVENTS.false, c.count.ensures.count)) c.requires.short
+    (record { lawful = c.in-Ok.ensures.lawful; reading = c.in-Ok.ensures.reading; room = c.in-Ok.ensures.room })
 
 pub returns-in-Ok-push-clause-comes : goal.returns-in-Ok-push-clause-comes
 returns-in-Ok-push-clause-comes c =

@@ -28,7 +28,8 @@ returns-in-Err-clause-lives g c =
     let two_after = wire (g.L.Link.turns c.turn.new.two) (g.L.Link.given c.turn.new.two) (g.L.Link.taken c.turn.new.two) in
     is-refused _ i.going (omega (arith, c.turns-test.true)) c.now-now.result c.now-now.ensures.told
     c.since-ms.result c.since-ms.ensures (not-before c.turns.last (g.C.Clock.least c.turns.clock) c.now-now.result i.later c.now-now.ensures.least)
-    c.in-Err.refusal c.turn.new.self.world.entries (ends-as c.turns.self.sectors c.args.self.now.sectors c.turns.self.commands c.args.self.now.commands c.args.turns c.since-ms.result
+    c.in-Err.refusal c.turn.new.self.world.entries
+    (ends-as c.turns.self.sectors c.args.self.now.sectors c.turns.self.commands c.args.self.now.commands c.args.turns c.since-ms.result
     c.in-Err.refusal c.turns.self.script.events c.turns.self.world.entries c.turn.new.self.world.entries one one_after two two_after i.sectors i.commands c.in-Err.ensures.ends)
 
 pub returns-then-is_over-clause-lives : goal.returns-then-is_over-clause-lives
@@ -66,7 +67,8 @@ turns-preserved g c =
           c.quiet_after-quiet.result c.quiet_after-quiet.ensures
           (over-as c.turn.new.self.commands c.args.self.now.commands c.turn.new.self.tally (tally_of c.turn.new.self.world.entries) c.is_over.result
           c.is_over.ensures (c.in-Ok.ensures.commands ∙ i.commands) c.in-Ok.ensures.kept.tally ∙ c.if-is_over.false);
-      within = quiet-within c.turns.quiet c.args.turns c.quiet_after-quiet.result c.in-Ok.finishes (omega (arith, c.turns-test.true)) c.quiet_after-quiet.ensures;
+      within = quiet-within c.turns.quiet c.args.turns c.quiet_after-quiet.result c.in-Ok.finishes
+          (omega (arith, c.turns-test.true)) c.quiet_after-quiet.ensures;
       later = c.now-now.ensures.later;
       sectors = c.in-Ok.ensures.sectors ∙ i.sectors;
       commands = c.in-Ok.ensures.commands ∙ i.commands;

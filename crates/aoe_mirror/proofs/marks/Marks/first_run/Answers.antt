@@ -12,7 +12,8 @@ pub returns-then-at-self-clause-run : goal.returns-then-at-self-clause-run
 returns-then-at-self-clause-run c =
     let front : IsClear c.args.self.now 0 c.first_from-at.result =
     clear_front c.args.self.now c.self.inside.lowest c.first_from-at.result (rw c.self.view_is at c.self.invariant.lowest) c.first_from-at.ensures.clear in
-    none_through c.args.self.now (λ s low high. front s low (omega (arith, c.if-at-self.true, ap length c.self.view_is, length-bits_of c.self.inside.words.items c.self.inside.len)))
+    none_through c.args.self.now
+    (λ s low high. front s low (omega (arith, c.if-at-self.true, ap length c.self.view_is, length-bits_of c.self.inside.words.items c.self.inside.len)))
 
 pub invariant_of-self : goal.invariant_of-self
 invariant_of-self c =

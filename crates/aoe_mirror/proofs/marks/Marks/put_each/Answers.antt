@@ -21,7 +21,8 @@ invariant_of-self c =
     let whole : c.each.s - c.args.at ≡ n = omega arith in
     let off : c.args.value ≡ false = c.if-not-value.true in
     let is : bits_of m.words.items m.len ≡ with_each c.args.self.now c.args.at n false =
-    c.self.view_is ∙ c.each.invariant ∙ ap (λ (k : ℕ). with_each c.args.self.now c.args.at k c.args.value) whole ∙ ap (λ (v : Bool). with_each c.args.self.now c.args.at n v) off in
+    c.self.view_is ∙ c.each.invariant ∙ ap (λ (k : ℕ). with_each c.args.self.now c.args.at k c.args.value) whole
+    ∙ ap (λ (v : Bool). with_each c.args.self.now c.args.at n v) off in
     let size = length-with_each c.args.self.now c.args.at n false c.requires.within in
     let long = length-bits_of m.words.items m.len in
     let same = ap length is in

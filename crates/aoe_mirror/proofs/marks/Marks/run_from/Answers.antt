@@ -10,4 +10,5 @@ pub contains-requires : goal.contains-requires
 contains-requires c = rw (← c.self.view_is) (omega (arith, length-bits_of c.self.inside.words.items c.self.inside.len))
 
 pub returns-else-at-n-clause-longest : goal.returns-else-at-n-clause-longest
-returns-else-at-n-clause-longest c = λ _. get_or_past c.args.self.now (c.args.at + c.run.n) false (omega (arith, ap length c.self.view_is, length-bits_of c.self.inside.words.items c.self.inside.len))
+returns-else-at-n-clause-longest c = λ _. get_or_past c.args.self.now (c.args.at + c.run.n) false
+    (omega (arith, ap length c.self.view_is, length-bits_of c.self.inside.words.items c.self.inside.len))

@@ -5,13 +5,15 @@ use Rattle.aoe_mirror.proofs.Copying.{copy_blames, done_copies, failed_copies, n
 use Rattle.aoe_mirror.proofs.sides.Sides.resync.Goals as goal
 
 pub returns-in_default-clause-copies : goal.returns-in_default-clause-copies
-returns-in_default-clause-copies g c = rw c.first_run.ensures.same (none_copies (pair_of g.D.Disk.state c.args.self.now) c.requires.mirror c.in_default.ensures.run)
+returns-in_default-clause-copies g c = rw c.first_run.ensures.same
+    (none_copies (pair_of g.D.Disk.state c.args.self.now) c.requires.mirror c.in_default.ensures.run)
 
 pub returns-in-Err-clause-copies : goal.returns-in-Err-clause-copies
 returns-in-Err-clause-copies g c =
     let size : length (take (512 * c.in-Some.n) c.args.scratch.now) ≡ 512 * c.in-Some.n =
     length-take-le (512 * c.in-Some.n) c.args.scratch.now (omega (arith, c.in-Some.ensures.run.most, c.requires.scratch)) in
-    failed_copies (pair_of g.D.Disk.state c.args.self.now) c.requires.mirror c.in-Some.at c.in-Some.n c.in-Some.ensures.run c.copy_run.result (pair_of g.D.Disk.state c.copy_run.new.self) (rw (size, c.first_run.ensures.same) at c.copy_run.ensures) (ap is_err c.in-Err.is)
+    failed_copies (pair_of g.D.Disk.state c.args.self.now) c.requires.mirror c.in-Some.at c.in-Some.n c.in-Some.ensures.run c.copy_run.result
+    (pair_of g.D.Disk.state c.copy_run.new.self) (rw (size, c.first_run.ensures.same) at c.copy_run.ensures) (ap is_err c.in-Err.is)
 
 pub returns-in-Err-clause-blames : goal.returns-in-Err-clause-blames
 returns-in-Err-clause-blames g c =

@@ -6,11 +6,15 @@ use Rattle.aoe_mirror.proofs.sides.Sides.sync_both.Goals as goal
 
 pub returns-in-Ok-clause-syncs : goal.returns-in-Ok-clause-syncs
 returns-in-Ok-clause-syncs g c =
-    through_syncs (pair_of g.D.Disk.state c.args.self.now) c.requires.mirror c.requires.settled (g.D.Disk.state c.sync.new.self) c.sync.result c.sync.ensures (ap is_err c.in-Ok.is) c.sync_follower.result (pair_of g.D.Disk.state c.sync_follower.new.self) c.sync_follower.ensures _ refl
+    through_syncs (pair_of g.D.Disk.state c.args.self.now) c.requires.mirror c.requires.settled
+    (g.D.Disk.state c.sync.new.self) c.sync.result c.sync.ensures (ap is_err c.in-Ok.is) c.sync_follower.result
+    (pair_of g.D.Disk.state c.sync_follower.new.self) c.sync_follower.ensures _ refl
 
 pub returns-in-Ok-clause-blames : goal.returns-in-Ok-clause-blames
 returns-in-Ok-clause-blames g c =
-    through_blames (pair_of g.D.Disk.state c.args.self.now) c.requires.mirror c.requires.settled (g.D.Disk.state c.sync.new.self) c.sync.result c.sync.ensures (ap is_err c.in-Ok.is) c.sync_follower.result (pair_of g.D.Disk.state c.sync_follower.new.self) c.sync_follower.ensures
+    through_blames (pair_of g.D.Disk.state c.args.self.now) c.requires.mirror c.requires.settled
+    (g.D.Disk.state c.sync.new.self) c.sync.result c.sync.ensures (ap is_err c.in-Ok.is) c.sync_follower.result
+    (pair_of g.D.Disk.state c.sync_follower.new.self) c.sync_follower.ensures
 
 pub returns-in-Ok-sync_other-clause-syncs : goal.returns-in-Ok-sync_other-clause-syncs
 returns-in-Ok-sync_other-clause-syncs g c =

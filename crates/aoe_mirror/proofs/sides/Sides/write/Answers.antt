@@ -4,8 +4,10 @@ use Rattle.aoe_mirror.proofs.sides.Sides.write.Goals as goal
 
 pub returns-in-Err : goal.returns-in-Err
 returns-in-Err g c =
-    unsettled_err c.args.at c.args.piece.now _ (pair_of g.D.Disk.state c.args.self.now) (pair_of g.D.Disk.state c.settle.new.self) c.requires.mirror c.in-Err.ensures
+    unsettled_err c.args.at c.args.piece.now _ (pair_of g.D.Disk.state c.args.self.now)
+    (pair_of g.D.Disk.state c.settle.new.self) c.requires.mirror c.in-Err.ensures
 
 pub returns-in-Ok : goal.returns-in-Ok
 returns-in-Ok g c =
-    settled_writes c.args.at c.args.piece.now c.write_both.result (pair_of g.D.Disk.state c.args.self.now) (pair_of g.D.Disk.state c.settle.new.self) (pair_of g.D.Disk.state c.write_both.new.self) c.requires.mirror c.in-Ok.ensures c.write_both.ensures
+    settled_writes c.args.at c.args.piece.now c.write_both.result (pair_of g.D.Disk.state c.args.self.now) (pair_of g.D.Disk.state c.settle.new.self)
+    (pair_of g.D.Disk.state c.write_both.new.self) c.requires.mirror c.in-Ok.ensures c.write_both.ensures

@@ -18,9 +18,11 @@ returns-in-Err-hear-clause-exchanges g c = λ base log same m tags.
 pub returns-in-Ok-true-clause-exchanges : goal.returns-in-Ok-true-clause-exchanges
 returns-in-Ok-true-clause-exchanges g c = λ base log same m tags.
     rw c.hear.ensures.taken (exchanged-answer c.submit_all.ensures.some c.in-Ok.ensures.filled same m tags c.in-Ok-send_all.ensures.some
-    (rw (c.send_all.ensures.given, c.send_all.ensures.turns) at c.in-Ok-true.ensures.one) (c.hear.ensures.course ∙ c.send_all.ensures.course) c.requires.waiting c.in-Ok-true.field-0-test)
+    (rw (c.send_all.ensures.given, c.send_all.ensures.turns) at c.in-Ok-true.ensures.one)
+    (c.hear.ensures.course ∙ c.send_all.ensures.course) c.requires.waiting c.in-Ok-true.field-0-test)
 
 pub returns-in-Ok-false-clause-exchanges : goal.returns-in-Ok-false-clause-exchanges
 returns-in-Ok-false-clause-exchanges g c = λ base log same m tags.
     rw c.hear.ensures.taken (exchanged-quiet c.submit_all.ensures.some c.in-Ok.ensures.filled same m tags c.in-Ok-send_all.ensures.some
-    (rw (c.send_all.ensures.given, c.send_all.ensures.turns) at c.in-Ok-false.ensures.one) (c.hear.ensures.course ∙ c.send_all.ensures.course) c.requires.waiting c.in-Ok-false.field-0-test)
+    (rw (c.send_all.ensures.given, c.send_all.ensures.turns) at c.in-Ok-false.ensures.one)
+    (c.hear.ensures.course ∙ c.send_all.ensures.course) c.requires.waiting c.in-Ok-false.field-0-test)

@@ -39,7 +39,8 @@ returns-in-Some-Err-clause-turn g c = λ base start rounds run below.
     record { gives_up = a.gives_up; clock_is = a.clock; same = a.same; last = a.last; tag = a.no_tag } in
     let end = rw c.in-Some-Err.field-0-is at c.in-Some-Err.ensures.end in
     refused-turn base c.take_all.new.self.host c.args.turns start c.args.self.now.course c.take_all.new.self.course rounds c.args.now _ _ _ c.in-Some-Err.refusal
-    (of-outcome c.args.turns c.args.self.now.course c.advance.new.self.waiting c.in-Some-Err.refusal (sym end)) (ends-turn adv c.take_all.ensures.host run c.take_all.ensures.matches (Err c.in-Some-Err.refusal) end)
+    (of-outcome c.args.turns c.args.self.now.course c.advance.new.self.waiting c.in-Some-Err.refusal (sym end))
+    (ends-turn adv c.take_all.ensures.host run c.take_all.ensures.matches (Err c.in-Some-Err.refusal) end)
 
 pub returns-in-Some-Err-clause-link : goal.returns-in-Some-Err-clause-link
 returns-in-Some-Err-clause-link g c =

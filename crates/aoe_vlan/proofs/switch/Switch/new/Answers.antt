@@ -16,9 +16,11 @@ pub ports-preserved : goal.ports-preserved
 ports-preserved c =
     let ports = c.args.ports.now in
     let port = c.port-item.result in (
-      c.in_ok-push.ensures.items ∙ (λ j. c.ports.invariant.0 j ++ (c.copy.ensures ∙ c.port-item.is) j ∷ []) ∙ sym (take_more ports c.ports.port-index port c.ports-test.true),
+      c.in_ok-push.ensures.items ∙ (λ j. c.ports.invariant.0 j ++ (c.copy.ensures ∙ c.port-item.is) j ∷ [])
+          ∙ sym (take_more ports c.ports.port-index port c.ports-test.true),
       c.in_ok-add_tables.ensures.blank,
-      covers-more carries ports c.ports.port-index port port c.ports.tables.items c.add_tables.new.tables.items c.ports-test.true (sym c.port-item.is) c.in_ok-add_tables.ensures.kept c.in_ok-add_tables.ensures.there c.ports.invariant.2,
+      covers-more carries ports c.ports.port-index port port c.ports.tables.items c.add_tables.new.tables.items c.ports-test.true
+          (sym c.port-item.is) c.in_ok-add_tables.ensures.kept c.in_ok-add_tables.ensures.there c.ports.invariant.2,
     )
 
 pub invariant_of-result : goal.invariant_of-result
@@ -26,7 +28,8 @@ invariant_of-result c =
     let all : c.ports.copies.items ≡ c.args.ports.now = c.ports.invariant.0 ∙ take_all c.ports.port-index c.args.ports.now c.ports-test.false in (
       omega (arith, ap length all, c.requires.few),
       subst (λ (l : List PortKind). All IsNumbered l) (sym all) (all-numbered c.args.ports.now c.requires.numbers),
-      λ vid e. covers-all carries c.args.ports.now c.ports.port-index c.ports.tables.items c.ports-test.false c.ports.invariant.2 vid (ap (λ (l : List PortKind). list_any (carries vid) l) (sym all) ∙ e),
+      λ vid e. covers-all carries c.args.ports.now c.ports.port-index c.ports.tables.items c.ports-test.false c.ports.invariant.2 vid
+          (ap (λ (l : List PortKind). list_any (carries vid) l) (sym all) ∙ e),
       ([], c.ports.invariant.1),
     )
 

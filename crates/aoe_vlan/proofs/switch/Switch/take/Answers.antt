@@ -24,14 +24,16 @@ invariant_of-self c =
     let after = takes-some s.ports.items s.tables.items before.0 i before.1 c.in-Some.vid there in (
       c.self.invariant.0,
       c.self.invariant.1,
-      λ w any. subst (λ (l : List Table). IsSome (stations_of w l)) (sym c.learn-place.ensures.tables) (some-kept c.in-Some.vid w _ c.args.port s.tables.items (c.self.invariant.2 w any)),
+      λ w any. subst (λ (l : List Table). IsSome (stations_of w l)) (sym c.learn-place.ensures.tables)
+          (some-kept c.in-Some.vid w _ c.args.port s.tables.items (c.self.invariant.2 w any)),
       (i ∷ before.0, subst (λ (l : List Table). HasLearnt record { ports = s.ports.items; tables = l } (i ∷ before.0)) (sym c.learn-place.ensures.tables) after),
     )
 
 pub returns-clause-vid : goal.returns-clause-vid
 returns-clause-vid c =
     let lt : c.args.port < length c.self.inside.ports.items = omega (arith, c.requires, ap (λ (k : Knowing). length k.ports) c.self.view_is) in
-    let there = vlan-there c.self.inside.ports.items c.args.port c.index.result.now c.args.frame.now c.in-Some.vid lt c.index.ensures (sym c.vlan_of.ensures ∙ c.in-Some.is) in
+    let there = vlan-there c.self.inside.ports.items c.args.port c.index.result.now c.args.frame.now c.in-Some.vid lt c.index.ensures
+    (sym c.vlan_of.ensures ∙ c.in-Some.is) in
     let i : Passing = record { port = c.args.port; frame = c.args.frame.now } in
     sym there ∙ ap (λ (k : Knowing). vlan_at k.ports i) c.self.view_is
 
@@ -46,7 +48,8 @@ returns-clause-ports c = λ inputs learnt.
     let table = c.self.invariant.2 c.in-Some.vid (any-there s.ports.items c.args.port kind c.args.frame.now c.in-Some.vid lt c.index.ensures is) in
     let before = subst (λ (k : Knowing). HasLearnt k inputs) (sym c.self.view_is) learnt in
     let place = ap (λ l. cond (is_individual (destination_of i.frame)) (found_in c.in-Some.vid l (destination_of i.frame)) None) c.learn-place.ensures.tables in
-    c.toward.ensures ∙ takes-going s.ports.items s.tables.items inputs i before c.in-Some.vid there c.learn-place.result table (c.learn-place.ensures.place ∙ place) ∙ ap (λ (k : Knowing). going k.ports inputs i) c.self.view_is
+    c.toward.ensures ∙ takes-going s.ports.items s.tables.items inputs i before c.in-Some.vid there c.learn-place.result table
+    (c.learn-place.ensures.place ∙ place) ∙ ap (λ (k : Knowing). going k.ports inputs i) c.self.view_is
 
 pub returns-clause-learnt : goal.returns-clause-learnt
 returns-clause-learnt c = λ inputs learnt w.
@@ -74,6 +77,8 @@ returns-clause-members c =
     let before = c.self.invariant.3 in
     let place = ap (λ l. cond (is_individual (destination_of i.frame)) (found_in c.in-Some.vid l (destination_of i.frame)) None) c.learn-place.ensures.tables in
     let to : c.toward.result.items ≡ going s.ports.items before.0 i =
-    c.toward.ensures ∙ takes-going s.ports.items s.tables.items before.0 i before.1 c.in-Some.vid there c.learn-place.result table (c.learn-place.ensures.place ∙ place) in
-    let goes = subst (λ (l : List ℕ). All (λ q. carries_at c.in-Some.vid (slice_get s.ports.items q) ≡ true) l) (sym to) (going-carried s.ports.items c.in-Some.vid before.0 i there) in
+    c.toward.ensures ∙ takes-going s.ports.items s.tables.items before.0 i before.1 c.in-Some.vid there c.learn-place.result table
+    (c.learn-place.ensures.place ∙ place) in
+    let goes = subst (λ (l : List ℕ). All (λ q. carries_at c.in-Some.vid (slice_get s.ports.items q) ≡ true) l) (sym to)
+    (going-carried s.ports.items c.in-Some.vid before.0 i there) in
     subst (λ (k : Knowing). All (λ q. carries_at c.in-Some.vid (slice_get k.ports q) ≡ true) c.toward.result.items) c.self.view_is goes
