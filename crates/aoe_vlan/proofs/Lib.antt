@@ -1,5 +1,7 @@
 mod LawLemmas
 mod LearningLemmas
+mod PieceLemmas
 mod PortLemmas
+mod RunLemmas
 mod TableLemmas
 mod TakeLemmas

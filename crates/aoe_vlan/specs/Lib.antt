@@ -1,3 +1,4 @@
 pub mod Tag
 pub mod Switched
 pub mod Tables
+pub mod Running

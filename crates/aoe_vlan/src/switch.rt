@@ -4,13 +4,15 @@ ghost use Rattle.std.specs.List.{list_all};
 ghost use Rattle.aoe_base.specs.Addresses.{is_individual, source_of};
 ghost use Rattle.aoe_vlan.specs.Tag.{carries, destination_of, is_frame, is_numbered};
 ghost use Rattle.aoe_vlan.specs.Switched.{Passing, carries_at, formed_at, going, is_other, others, passing, toward, vlan_at};
+ghost use Rattle.aoe_vlan.specs.Running.{piece};
 ghost use Rattle.aoe_vlan.specs.Tables.{HasLearnt, AreBlank, AreKept, found_in, learnt_in, stations_of};
 ghost use Rattle.arrayvec.specs.ArrayVec.{array_vec_len};
 
+use crate::over_stream::Piece;
 use crate::port::PortKind;
 use crate::table::Table;
-use crate::tag::{Tagged, destination, put_bare, put_tagged, source};
-use aoe_base::NoMemory;
+use crate::tag::{TAG_LEN, Tagged, bare_len, destination, put_bare, put_tagged, source};
+use aoe_base::{NoMemory, append};
 use arrayvec::ArrayVec;
 use std::alloc::Global;
 use std::marker::Model;
@@ -234,5 +236,32 @@ impl Switch {
     {
         out.clear();
         self.append_form(port, vid, frame, out);
+    }
+
+    // How many bytes a frame of the VLAN has as the port gives it.
+    fn formed_len(&self, port: usize, vid: u16, frame: &[u8]) -> usize
+        requires port { carries_at vid (slice_get self.now.ports port) ≡ true }
+        requires frame { is_frame frame.now ≡ true }
+        ensures len { result ≡ length (formed_at (slice_get self.now.ports port) vid frame.now) }
+        ensures short { result ≤ 9022 }
+    {
+        let len = bare_len(frame);
+        match &self.ports[port] {
+            PortKind::Access(_) => len,
+            PortKind::Trunk(_) => len + TAG_LEN,
+        }
+    }
+
+    /// Makes `out` what stands on a stream for a frame of the VLAN as the port gives it.
+    pub(crate) fn put_piece(&self, port: u8, vid: u16, frame: &[u8], out: &mut Piece)
+        requires port { carries_at vid (slice_get self.now.ports port) ≡ true }
+        requires frame { is_frame frame.now ≡ true }
+        ensures { out.new.items
+            ≡ piece (passing port (formed_at (slice_get self.now.ports port) vid frame.now)) }
+    {
+        let [high, low] = (self.formed_len(usize::from(port), vid, frame) as u16).to_be_bytes();
+        out.clear();
+        append(out, &[port, high, low]);
+        self.append_form(usize::from(port), vid, frame, out);
     }
 }

@@ -25,10 +25,10 @@ pub type Tagged = ArrayVec<u8, MAX_TAGGED>;
 const TAG_AT: usize = 12;
 
 /// How many bytes the tag has.
-const TAG_LEN: usize = 4;
+pub(crate) const TAG_LEN: usize = 4;
 
 /// The least length of a frame without a tag: two addresses and a type.
-const MIN_BARE: usize = 14;
+pub(crate) const MIN_BARE: usize = 14;
 
 /// Whether a tag stands behind the addresses.
 fn has_tag(frame: &[u8]) -> bool
@@ -94,6 +94,20 @@ pub(crate) fn tag_number(frame: &[u8]) -> Option<u16>
         Some(control(frame) % 4096)
     } else {
         None
+    }
+}
+
+/// How many bytes the frame has without its tag.
+#[tactic(auto, unfolding(crate::specs::Tag::is_frame))]
+pub(crate) fn bare_len(frame: &[u8]) -> usize
+    requires { is_frame frame.now ≡ true }
+    ensures len { result ≡ length (bare frame.now) }
+    ensures short { result ≤ 9018 }
+{
+    if has_tag(frame) {
+        frame.len() - TAG_LEN
+    } else {
+        frame.len()
     }
 }
 
