@@ -90,11 +90,11 @@ fn frames_go_where_their_vlan_is(rt: HostRuntime) -> Result<(), Fail> {
 const AT_0: &[u8] = b"\0\0\x0f\xff\xff\xff\xff\xff\xff\x02\0\0\0\0\x0a\x88\xa2\x10";
 
 /// What it gives: the frame at port 1, and with a tag at port 3.
-const FROM_0: &[u8] = b"\x01\0\x0f\xff\xff\xff\xff\xff\xff\x02\0\0\0\0\x0a\x88\xa2\x10\x03\0\x13\xff\xff\xff\xff\xff\xff\x02\0\0\0\0\x0a\x81\0\0\x0a\x88\xa2\x10";
+const FROM_0: &[u8] =
+    b"\x01\0\x0f\xff\xff\xff\xff\xff\xff\x02\0\0\0\0\x0a\x88\xa2\x10\x03\0\x13\xff\xff\xff\xff\xff\xff\x02\0\0\0\0\x0a\x81\0\0\x0a\x88\xa2\x10";
 
 /// From station 0b to 0a, with priority 5 on VLAN 10, at port 3.
-const AT_3: &[u8] =
-    b"\x03\0\x13\x02\0\0\0\0\x0a\x02\0\0\0\0\x0b\x81\0\xa0\x0a\x88\xa2\x11";
+const AT_3: &[u8] = b"\x03\0\x13\x02\0\0\0\0\x0a\x02\0\0\0\0\x0b\x81\0\xa0\x0a\x88\xa2\x11";
 
 /// What it gives once 0a is learnt at port 0.
 const FROM_3: &[u8] = b"\0\0\x0f\x02\0\0\0\0\x0a\x02\0\0\0\0\x0b\x88\xa2\x11";
@@ -112,10 +112,26 @@ fn frames_of_a_stream_go_where_their_vlan_is(rt: HostRuntime) -> Result<(), Fail
         (OTHER_AT_3, SwitchEnd::Ended, b""),
         (b"", SwitchEnd::Ended, b""),
         (b"\x04", SwitchEnd::Stream { offset: 0 }, b""),
-        (b"\x04\0\x0e..............", SwitchEnd::Stream { offset: 0 }, b""),
-        (b"\0\0\x0d.............", SwitchEnd::Stream { offset: 0 }, b""),
-        (b"\0\x23\x3f...............", SwitchEnd::Stream { offset: 0 }, b""),
-        (b"\0\0\x0f..............", SwitchEnd::Stream { offset: 0 }, b""),
+        (
+            b"\x04\0\x0e..............",
+            SwitchEnd::Stream { offset: 0 },
+            b"",
+        ),
+        (
+            b"\0\0\x0d.............",
+            SwitchEnd::Stream { offset: 0 },
+            b"",
+        ),
+        (
+            b"\0\x23\x3f...............",
+            SwitchEnd::Stream { offset: 0 },
+            b"",
+        ),
+        (
+            b"\0\0\x0f..............",
+            SwitchEnd::Stream { offset: 0 },
+            b"",
+        ),
     ];
     let mut switch = Switch::new(rt.alloc(), &ports())?;
     for (input, end, output) in &runs {

@@ -56,7 +56,8 @@ Stops Limit ports n taken behind left = (n ≡ 4294967295) × (left ≡ behind)
 abbrev pub FailedToWrite : List PortKind → List Passing → List Passing → Option (List ℕ) → Option (List ℕ) → Type 0
 FailedToWrite ports before [] held held' = ⊥
 FailedToWrite ports before (i ∷ inputs) held held' =
-    (middle : Option (List ℕ)) × Took held middle (pieces (switched_behind ports before inputs)) × TookSome middle held' (given_bytes ports (inputs ++ before) i)
+    (middle : Option (List ℕ)) × Took held middle (pieces (switched_behind ports before inputs))
+    × TookSome middle held' (given_bytes ports (inputs ++ before) i)
 
 -- what the sink took of what the inputs give: all, but where it failed
 abbrev pub Writes : SwitchEnd → List PortKind → List Passing → List Passing → Option (List ℕ) → Option (List ℕ) → Type 0

@@ -31,4 +31,5 @@ returns-in-Err-clause-run g c = λ before learnt.
 
 pub returns-clause-run : goal.returns-clause-run
 returns-clause-run g c = λ before learnt.
-    limited c.args.switch.now c.frames.switch before _ _ _ _ c.frames.offset c.frames.count (omega (arith, c.frames-test.false, c.frames.auto.count-end)) (c.frames.invariant.so_far before learnt)
+    limited c.args.switch.now c.frames.switch before _ _ _ _ c.frames.offset c.frames.count (omega (arith, c.frames-test.false, c.frames.auto.count-end))
+    (c.frames.invariant.so_far before learnt)
